@@ -1,0 +1,69 @@
+-- The catalogue and the relations (document 01, "Catalogue and relations").
+use Prim.Native.Nat.{ℕ, zero, suc, _+_, _*_}
+use mathlib.Core.Bool.{Bool, true, false, _&&_, _||_}
+use mathlib.Core.List.{List, [], _∷_, map}
+use lib.Dec.{eqb, leb}
+use lib.IntN.{ℤ, pos}
+use lib.ListN.{length, getD, drop}
+use Rattle.model.specs.Lists.{total}
+use Rattle.model.specs.Encoding.{Read, fail, ok, then, byte, need, readOr}
+use Rattle.model.specs.Meaning.{Tuple, Rows}
+
+-- kind 48 is a stored relation, 49 a workspace
+pub record Relation : Type 0 where
+  pub stored : Bool
+  pub attributes : ℕ
+  pub rows : ℕ
+
+-- attributes 1 to 16, rows 0 to 1,024, low byte first
+unfoldable pub readCatalogue : ℕ → List ℕ → Read (List Relation)
+readCatalogue zero r = fail
+readCatalogue (suc n) [] = ok [] []
+readCatalogue (suc n) (k ∷ r) =
+    need (eqb k 48 || eqb k 49) (byte r λ w r. need (leb 1 w && leb w 16) (byte r λ a r. byte r λ b r. need (leb (a + 256 * b) 1024)
+    (then (readCatalogue n r) λ xs r. ok (record { stored = eqb k 48; attributes = w; rows = a + 256 * b } ∷ xs) r)))
+
+unfoldable pub catalogueRead : List ℕ → Read (List Relation)
+catalogueRead bs = readCatalogue (suc (length bs)) bs
+
+unfoldable pub catalogueOf : List ℕ → List Relation
+catalogueOf bs = readOr [] (catalogueRead bs)
+
+-- how many values the relations have in all
+unfoldable pub valueCount : List Relation → ℕ
+valueCount cat = total (λ (x : Relation). x .rows * x .attributes) cat
+
+-- a collection's relations, kinds and columns: all that checks 20 to 40 see of it
+pub record Form : Type 0 where
+  pub stored : Bool
+  pub attributes : ℕ
+
+abbrev pub Shape : Type 0
+Shape = List Form
+
+unfoldable pub shapeOf : List Relation → Shape
+shapeOf cat = map (λ (x : Relation). record { stored = x .stored; attributes = x .attributes }) cat
+
+unfoldable pub attributesAt : Shape → ℕ → ℕ
+attributesAt [] r = 0
+attributesAt (x ∷ xs) zero = x .attributes
+attributesAt (x ∷ xs) (suc r) = attributesAt xs r
+
+unfoldable pub storedAt : Shape → ℕ → Bool
+storedAt [] r = true
+storedAt (x ∷ xs) zero = x .stored
+storedAt (x ∷ xs) (suc r) = storedAt xs r
+
+-- values: row after row, relation after relation
+unfoldable pub tuplesOf : ℕ → ℕ → List ℤ → List Tuple
+tuplesOf zero w vs = []
+tuplesOf (suc n) w vs = (λ a. getD vs a (pos 0)) ∷ tuplesOf n w (drop w vs)
+
+unfoldable pub tuplesAt : List Relation → List ℤ → ℕ → List Tuple
+tuplesAt [] vs r = []
+tuplesAt (x ∷ xs) vs zero = tuplesOf (x .rows) (x .attributes) vs
+tuplesAt (x ∷ xs) vs (suc r) = tuplesAt xs (drop (x .rows * x .attributes) vs) r
+
+-- every variable runs over all rows of its relation
+abbrev pub allRows : (ℕ → List Tuple) → Rows
+allRows D v r = D r

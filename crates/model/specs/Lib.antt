@@ -1,0 +1,13 @@
+-- Definitions, in the order in which a reader of document 01 meets them.
+pub mod Lists
+pub mod Kinds
+pub mod Syntax
+pub mod Encoding
+pub mod Meaning
+pub mod Catalogue
+pub mod Permits
+pub mod Rewriting
+pub mod Scope
+pub mod Checks
+pub mod Calls
+pub mod Shelf

@@ -1,0 +1,127 @@
+-- What a query means (document 01, "Meaning").
+use Prim.Native.Nat.{ℕ, zero, suc, _+_, _*_}
+use mathlib.Core.Bool.{Bool, true, false, not, cond, _&&_, _||_}
+use mathlib.Core.List.{List, [], _∷_, _++_, map}
+use lib.IntN.{ℤ, pos, _+ℤ_, _*ℤ_, _-ℤ_}
+use lib.Signed.{ltZ, leZ, quotZ}
+use lib.ListN.{length}
+use lib.Dec.{ltb, eqb}
+use Rattle.model.specs.Lists.{update, filter, any, concatMap}
+use Rattle.model.specs.Syntax.{Condition, Term, TRUE, FALSE, NOT, AND, OR, COMPARE, SOME, CONSTANT, ATTRIBUTE, AGGREGATE, Binding, Query}
+
+-- a tuple: the value of each attribute
+abbrev pub Tuple : Type 0
+Tuple = ℕ → ℤ
+
+-- an assignment: the tuple of each variable
+abbrev pub Assignment : Type 0
+Assignment = ℕ → Tuple
+
+-- the rows that a variable over a relation runs through, in order
+abbrev pub Rows : Type 0
+Rows = ℕ → ℕ → List Tuple
+
+-- a value, exact: numerator over denominator
+pub record Ratio : Type 0 where
+  pub numerator : ℤ
+  pub denominator : ℕ
+
+abbrev pub whole : ℤ → Ratio
+whole z = record { numerator = z; denominator = 1 }
+
+-- a constant: 4 bytes, two's complement, low first
+unfoldable pub signed : ℕ → ℕ → ℕ → ℕ → ℤ
+signed a b c d =
+    let n = a + 256 * b + 65536 * c + 16777216 * d in
+    cond (ltb n 2147483648) (pos n) (pos n -ℤ pos 4294967296)
+
+unfoldable pub sum : List ℤ → ℤ
+sum [] = pos 0
+sum (x ∷ xs) = x +ℤ sum xs
+
+-- the value that no other beats; the first argument says when the second value beats the first
+unfoldable pub bestFrom : (ℤ → ℤ → Bool) → ℤ → List ℤ → ℤ
+bestFrom beaten m [] = m
+bestFrom beaten m (x ∷ xs) = bestFrom beaten (cond (beaten m x) x m) xs
+
+unfoldable pub best : (ℤ → ℤ → Bool) → List ℤ → ℤ
+best beaten [] = pos 0
+best beaten (x ∷ xs) = bestFrom beaten x xs
+
+-- AVE, exact: sum over count
+unfoldable pub average : List ℤ → Ratio
+average [] = whole (pos 0)
+average (x ∷ xs) = record { numerator = sum (x ∷ xs); denominator = length (x ∷ xs) }
+
+-- the aggregates: 1 COUNT, 2 SUM, 3 AVE, 4 MAX, 5 MIN; over no rows each is 0
+unfoldable pub aggregate : ℕ → List ℤ → Ratio
+aggregate f xs =
+    cond (eqb f 1) (whole (pos (length xs)))
+    (cond (eqb f 2) (whole (sum xs))
+    (cond (eqb f 3) (average xs)
+    (cond (eqb f 4) (whole (best ltZ xs)) (whole (best (λ a b. ltZ b a) xs)))))
+
+-- the operators: 1 =, 2 ≠, 3 <, 4 ≤, 5 >, 6 ≥; fractions are compared exactly
+unfoldable pub compare : ℕ → Ratio → Ratio → Bool
+compare o x y =
+    let a = x .numerator *ℤ pos (y .denominator) in
+    let b = y .numerator *ℤ pos (x .denominator) in
+    cond (eqb o 1) (leZ a b && leZ b a)
+    (cond (eqb o 2) (not (leZ a b && leZ b a))
+    (cond (eqb o 3) (ltZ a b)
+    (cond (eqb o 4) (leZ a b)
+    (cond (eqb o 5) (ltZ b a) (leZ b a)))))
+
+-- whether a condition holds, and the value of a term
+unfoldable mutual
+  pub holds : Condition → Rows → Assignment → Bool
+  holds TRUE R e = true
+  holds FALSE R e = false
+  holds (NOT c) R e = not (holds c R e)
+  holds (AND c d) R e = holds c R e && holds d R e
+  holds (OR c d) R e = holds c R e || holds d R e
+  holds (COMPARE o s t) R e = compare o (value s R e) (value t R e)
+  holds (SOME v r c) R e = any (λ x. holds c R (update e v x)) (R v r)
+
+  pub value : Term → Rows → Assignment → Ratio
+  value (CONSTANT a b c d) R e = whole (signed a b c d)
+  value (ATTRIBUTE v a) R e = whole (e v a)
+  value (AGGREGATE f v r a c) R e = aggregate f (map (λ (x : Tuple). x a) (filter (λ x. holds c R (update e v x)) (R v r)))
+
+-- the odometer: first row first, the last RANGE fastest; with no RANGE, one assignment
+unfoldable pub assignments : List Binding → Rows → Assignment → List Assignment
+assignments [] R e = e ∷ []
+assignments (b ∷ bs) R e = concatMap (λ x. assignments bs R (update e (b .variable) x)) (R (b .variable) (b .relation))
+
+-- no variable is bound yet
+abbrev pub unbound : Assignment
+unbound v a = pos 0
+
+-- a target's cell: the quotient rounded toward zero
+abbrev pub cell : Ratio → ℤ
+cell x = quotZ (x .numerator) (pos (x .denominator))
+
+unfoldable pub targetRow : List Term → Rows → Assignment → List ℤ
+targetRow ts R e = map (λ t. cell (value t R e)) ts
+
+unfoldable pub sameRow : List ℤ → List ℤ → Bool
+sameRow [] [] = true
+sameRow [] (y ∷ ys) = false
+sameRow (x ∷ xs) [] = false
+sameRow (x ∷ xs) (y ∷ ys) = leZ x y && leZ y x && sameRow xs ys
+
+-- a row equal to an earlier one is dropped; `rows` are those so far, in order of first meeting
+unfoldable pub addRow : List (List ℤ) → List ℤ → List (List ℤ)
+addRow rows x = elim (any (sameRow x) rows) [ true ↦ rows | false ↦ rows ++ (x ∷ []) ]
+
+unfoldable pub addRows : List (List ℤ) → List (List ℤ) → List (List ℤ)
+addRows rows [] = rows
+addRows rows (x ∷ xs) = addRows (addRow rows x) xs
+
+-- the assignments that meet the condition
+unfoldable pub qualifying : Query → Rows → List Assignment
+qualifying q R = filter (holds (q .condition) R) (assignments (q .ranges) R unbound)
+
+-- the answer: distinct rows of target values, in order of first meeting
+unfoldable pub answers : Query → Rows → List (List ℤ)
+answers q R = addRows [] (map (targetRow (q .targets) R) (qualifying q R))
