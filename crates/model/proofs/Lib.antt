@@ -1,1 +1,4 @@
+pub mod Tests
+pub mod Lists
+pub mod Reading
 pub mod Shelf

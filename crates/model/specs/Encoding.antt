@@ -1,12 +1,12 @@
 -- The bytes of queries and permits: records in prefix order, children after their parent (document 01, "Questions").
 use Prim.Native.Nat.{ℕ, zero, suc}
-use mathlib.Core.Bool.{Bool, true, false, _&&_, _||_}
+use mathlib.Core.Bool.{Bool, true, false, _||_}
 use mathlib.Core.List.{List, [], _∷_}
 use mathlib.Core.Option.{Option, none, some}
 use lib.Dec.{eqb, leb}
 use lib.ListN.{length}
 use Rattle.model.specs.Kinds.{Kind, k-range, k-true, k-false, k-not, k-and, k-or, k-compare, k-some, k-constant, k-attribute, k-aggregate, k-stored, k-workspace, k-permit, kindOf}
-use Rattle.model.specs.Syntax.{Condition, Term, TRUE, FALSE, NOT, AND, OR, COMPARE, SOME, CONSTANT, ATTRIBUTE, AGGREGATE, Binding, Query, Permit}
+use Rattle.model.specs.Syntax.{Condition, Term, TRUE, FALSE, NOT, AND, OR, COMPARE, SOME, CONSTANT, ATTRIBUTE, AGGREGATE, Binding, Query, Permit, isOperator, isFunction}
 
 -- written: the bytes of a condition or a term, before the bytes `r`
 unfoldable mutual
@@ -59,12 +59,6 @@ byte (b ∷ r) k = k b r
 abbrev pub need : {B : Type 0} → Bool → Read B → Read B
 need true g = g
 need false g = fail
-
-abbrev pub isOperator : ℕ → Bool
-isOperator o = leb 1 o && leb o 6
-
-abbrev pub isFunction : ℕ → Bool
-isFunction f = leb 1 f && leb f 5
 
 -- what follows a kind byte, given the readers of the children
 module _ (condition : List ℕ → Read Condition) (term : List ℕ → Read Term) where

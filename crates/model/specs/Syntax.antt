@@ -1,7 +1,10 @@
 -- Queries and permits as trees (document 01, "Questions" and "Permits and the rewriting").
-use Prim.Native.Nat.{ℕ, suc, _+_, _*_, max}
-use mathlib.Core.Bool.{Bool}
+use Prim.Native.Nat.{ℕ, suc, _≤_, max}
+use mathlib.Core.Bool.{Bool, true, _&&_}
 use mathlib.Core.List.{List, [], _∷_, _++_, map}
+use mathlib.Core.Path.{_≡_}
+use lib.Dec.{leb}
+use lib.ListN.{length}
 use Rattle.model.specs.Lists.{concatMap}
 
 mutual
@@ -46,6 +49,44 @@ pub record Permit : Type 0 where
   pub low : ℕ
   pub high : ℕ
   pub condition : Condition
+
+-- known operators and functions
+abbrev pub isOperator : ℕ → Bool
+isOperator o = leb 1 o && leb o 6
+
+abbrev pub isFunction : ℕ → Bool
+isFunction f = leb 1 f && leb f 5
+
+-- well formed: operators and functions are known, targets are attributes or aggregates, and there is a target
+unfoldable mutual
+  pub WellFormed : Condition → Type 0
+  WellFormed TRUE = Unit
+  WellFormed FALSE = Unit
+  WellFormed (NOT c) = WellFormed c
+  WellFormed (AND c d) = WellFormed c × WellFormed d
+  WellFormed (OR c d) = WellFormed c × WellFormed d
+  WellFormed (COMPARE o s t) = (isOperator o ≡ true) × WellFormedT s × WellFormedT t
+  WellFormed (SOME v r c) = WellFormed c
+
+  pub WellFormedT : Term → Type 0
+  WellFormedT (CONSTANT a b c d) = Unit
+  WellFormedT (ATTRIBUTE v a) = Unit
+  WellFormedT (AGGREGATE f v r a c) = (isFunction f ≡ true) × WellFormed c
+
+unfoldable pub Targets : List Term → Type 0
+Targets [] = Unit
+Targets (CONSTANT a b c d ∷ ts) = ⊥
+Targets (ATTRIBUTE v a ∷ ts) = Targets ts
+Targets (AGGREGATE f v r a c ∷ ts) = WellFormedT (AGGREGATE f v r a c) × Targets ts
+
+pub record WellFormedQ (q : Query) : Type 0 where
+  pub some-target : 1 ≤ length (q .targets)
+  pub targets : Targets (q .targets)
+  pub condition : WellFormed (q .condition)
+
+unfoldable pub WellFormedPs : List Permit → Type 0
+WellFormedPs [] = Unit
+WellFormedPs (p ∷ ps) = WellFormed (p .condition) × WellFormedPs ps
 
 -- the bindings, in byte order
 unfoldable mutual

@@ -1,0 +1,106 @@
+-- Laws of the list functions.
+use Prim.Native.Nat.{ℕ, zero, suc, _+_}
+use native.Mathlib.Nat.{add-assoc}
+use native.Mathlib.Omega.{arith}
+use mathlib.Core.Bool.{Bool, true, false, cond, _&&_, _||_}
+use mathlib.Core.List.{List, [], _∷_, _++_, map, map-append, append-assoc}
+use mathlib.Core.Path.{_≡_, refl, sym, _∙_, ap}
+use Rattle.model.specs.Lists.{consIf, filter, any, concatMap, total}
+
+module _ {A : Type 0} (f g : A → Bool) where
+  pub any-filter : (xs : List A) → any (λ x. f x && g x) xs ≡ any f (filter g xs)
+  unfolding any filter
+  any-filter [] = refl
+  any-filter (x ∷ xs) = go (f x) (g x) refl refl (any-filter xs)
+    where
+      go : (a b : Bool) → f x ≡ a → g x ≡ b → any (λ x. f x && g x) xs ≡ any f (filter g xs) → (f x && g x) || any (λ x. f x && g x) xs ≡ any f (consIf (g x) x (filter g xs))
+      go true true p q h = rw (p, q, p)
+      go true false p q h = rw (p, q, h)
+      go false true p q h = rw (p, q, p, h)
+      go false false p q h = rw (p, q, h)
+
+  pub filter-filter : (xs : List A) → filter (λ x. f x && g x) xs ≡ filter f (filter g xs)
+  unfolding filter
+  filter-filter [] = refl
+  filter-filter (x ∷ xs) = go (f x) (g x) refl refl (filter-filter xs)
+    where
+      go : (a b : Bool) → f x ≡ a → g x ≡ b → filter (λ x. f x && g x) xs ≡ filter f (filter g xs) → consIf (f x && g x) x (filter (λ x. f x && g x) xs) ≡ filter f (consIf (g x) x (filter g xs))
+      go true true p q h = rw (p, q, p, h)
+      go true false p q h = rw (p, q, h)
+      go false true p q h = rw (p, q, p, h)
+      go false false p q h = rw (p, q, h)
+
+module _ {A B : Type 0} (f : A → B) (g : B → Bool) where
+  pub any-map : (xs : List A) → any g (map f xs) ≡ any (λ x. g (f x)) xs
+  unfolding any
+  any-map [] = refl
+  any-map (x ∷ xs) = ap (λ b. g (f x) || b) (any-map xs)
+
+  pub filter-map : (xs : List A) → filter g (map f xs) ≡ map f (filter (λ x. g (f x)) xs)
+  unfolding filter
+  filter-map [] = refl
+  filter-map (x ∷ xs) = go (g (f x)) (filter-map xs)
+    where
+      go : (a : Bool) → filter g (map f xs) ≡ map f (filter (λ x. g (f x)) xs) → consIf a (f x) (filter g (map f xs)) ≡ map f (consIf a x (filter (λ x. g (f x)) xs))
+      go true h = ap (λ l. f x ∷ l) h
+      go false h = h
+
+  pub concatMap-map : {C : Type 0} (h : B → List C) (xs : List A) → concatMap h (map f xs) ≡ concatMap (λ x. h (f x)) xs
+  unfolding concatMap
+  concatMap-map h [] = refl
+  concatMap-map h (x ∷ xs) = ap (λ l. h (f x) ++ l) (concatMap-map h xs)
+
+module _ {A : Type 0} (p : A → Bool) where
+  pub filter-append : (xs ys : List A) → filter p (xs ++ ys) ≡ filter p xs ++ filter p ys
+  unfolding filter
+  filter-append [] ys = refl
+  filter-append (x ∷ xs) ys = go (p x) (filter-append xs ys)
+    where
+      go : (b : Bool) → filter p (xs ++ ys) ≡ filter p xs ++ filter p ys → consIf b x (filter p (xs ++ ys)) ≡ consIf b x (filter p xs) ++ filter p ys
+      go true h = ap (λ l. x ∷ l) h
+      go false h = h
+
+  pub filter-concatMap : {B : Type 0} (h : B → List A) (xs : List B) → filter p (concatMap h xs) ≡ concatMap (λ x. filter p (h x)) xs
+  unfolding concatMap filter
+  filter-concatMap h [] = refl
+  filter-concatMap h (x ∷ xs) = filter-append (h x) (concatMap h xs) ∙ ap (λ l. filter p (h x) ++ l) (filter-concatMap h xs)
+
+  -- a test that does not look at the element
+  pub filter-const : (b : Bool) (xs : List A) → filter (λ x. p x && b) xs ≡ cond b (filter p xs) []
+  unfolding filter
+  filter-const true [] = refl
+  filter-const false [] = refl
+  filter-const true (x ∷ xs) = go (p x) (filter-const true xs)
+    where
+      go : (b : Bool) → filter (λ x. p x && true) xs ≡ filter p xs → consIf (b && true) x (filter (λ x. p x && true) xs) ≡ consIf b x (filter p xs)
+      go true h = ap (λ l. x ∷ l) h
+      go false h = h
+  filter-const false (x ∷ xs) = go (p x) (filter-const false xs)
+    where
+      go : (b : Bool) → filter (λ x. p x && false) xs ≡ [] → consIf (b && false) x (filter (λ x. p x && false) xs) ≡ []
+      go true h = h
+      go false h = h
+
+  pub concatMap-filter : {B : Type 0} (h : A → List B) (xs : List A) → concatMap (λ x. cond (p x) (h x) []) xs ≡ concatMap h (filter p xs)
+  unfolding concatMap filter
+  concatMap-filter h [] = refl
+  concatMap-filter h (x ∷ xs) = go (p x) (concatMap-filter h xs)
+    where
+      go : (b : Bool) → concatMap (λ x. cond (p x) (h x) []) xs ≡ concatMap h (filter p xs) → cond b (h x) [] ++ concatMap (λ x. cond (p x) (h x) []) xs ≡ concatMap h (consIf b x (filter p xs))
+      go true e = ap (λ l. h x ++ l) e
+      go false e = e
+
+pub map-concatMap : {A B C : Type 0} (g : B → C) (h : A → List B) (xs : List A) → map g (concatMap h xs) ≡ concatMap (λ x. map g (h x)) xs
+unfolding concatMap
+map-concatMap g h [] = refl
+map-concatMap g h (x ∷ xs) = map-append g (h x) (concatMap h xs) ∙ ap (λ l. map g (h x) ++ l) (map-concatMap g h xs)
+
+pub total-append : {A : Type 0} (f : A → ℕ) (xs ys : List A) → total f (xs ++ ys) ≡ total f xs + total f ys
+unfolding total
+total-append f [] ys = omega arith
+total-append f (x ∷ xs) ys = omega (arith, total-append f xs ys)
+
+pub concatMap-append : {A B : Type 0} (f : A → List B) (xs ys : List A) → concatMap f (xs ++ ys) ≡ concatMap f xs ++ concatMap f ys
+unfolding concatMap
+concatMap-append f [] ys = refl
+concatMap-append f (x ∷ xs) ys = ap (λ l. f x ++ l) (concatMap-append f xs ys) ∙ sym (append-assoc (f x) (concatMap f xs) (concatMap f ys))
