@@ -5,7 +5,7 @@ use native.Mathlib.Omega.{arith}
 use mathlib.Core.Bool.{Bool, true, false, cond, _&&_, _||_}
 use mathlib.Core.List.{List, [], _∷_, _++_, map, map-append, append-assoc}
 use mathlib.Core.Path.{_≡_, refl, sym, _∙_, ap}
-use Rattle.model.specs.Lists.{consIf, filter, any, concatMap, total}
+use Rattle.model.specs.Lists.{consIf, filter, any, concatMap, total, Every}
 
 module _ {A : Type 0} (f g : A → Bool) where
   pub any-filter : (xs : List A) → any (λ x. f x && g x) xs ≡ any f (filter g xs)
@@ -104,3 +104,33 @@ pub concatMap-append : {A B : Type 0} (f : A → List B) (xs ys : List A) → co
 unfolding concatMap
 concatMap-append f [] ys = refl
 concatMap-append f (x ∷ xs) ys = ap (λ l. f x ++ l) (concatMap-append f xs ys) ∙ sym (append-assoc (f x) (concatMap f xs) (concatMap f ys))
+
+module _ {A : Type 0} where
+  pub every-append : (P : A → Type 0) (xs ys : List A) → Every P (xs ++ ys) → Every P xs × Every P ys
+  unfolding Every
+  every-append P [] ys h = (tt, h)
+  every-append P (x ∷ xs) ys h = let i = every-append P xs ys (h .1) in ((h .0, i .0), i .1)
+
+  pub every-join : (P : A → Type 0) (xs ys : List A) → Every P xs → Every P ys → Every P (xs ++ ys)
+  unfolding Every
+  every-join P [] ys h k = k
+  every-join P (x ∷ xs) ys h k = (h .0, every-join P xs ys (h .1) k)
+
+  pub every-map : (P Q : A → Type 0) (f : (x : A) → P x → Q x) (xs : List A) → Every P xs → Every Q xs
+  unfolding Every
+  every-map P Q f [] h = tt
+  every-map P Q f (x ∷ xs) h = (f x (h .0), every-map P Q f xs (h .1))
+
+  pub every-both : (P Q : A → Type 0) (xs : List A) → Every P xs → Every Q xs → Every (λ x. P x × Q x) xs
+  unfolding Every
+  every-both P Q [] h k = tt
+  every-both P Q (x ∷ xs) h k = ((h .0, k .0), every-both P Q xs (h .1) (k .1))
+
+  pub every-filter : (P : A → Type 0) (t : A → Bool) (xs : List A) → Every P xs → Every P (filter t xs)
+  unfolding Every filter
+  every-filter P t [] h = tt
+  every-filter P t (x ∷ xs) h = go (t x) (every-filter P t xs (h .1))
+    where
+      go : (b : Bool) → Every P (filter t xs) → Every P (consIf b x (filter t xs))
+      go true k = (h .0, k)
+      go false k = k

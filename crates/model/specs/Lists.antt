@@ -50,3 +50,8 @@ indexOf a (x ∷ xs) = cond (eqb a x) 0 (suc (indexOf a xs))
 unfoldable pub below : ℕ → List ℕ
 below zero = []
 below (suc n) = below n ++ (n ∷ [])
+
+-- P of every element
+unfoldable pub Every : {A : Type 0} → (A → Type 0) → List A → Type 0
+Every P [] = Unit
+Every P (x ∷ xs) = P x × Every P xs
