@@ -5,4 +5,7 @@ pub mod Sizes
 pub mod ReadingQueries
 pub mod Scoping
 pub mod Renaming
+pub mod Permitted
+pub mod Cut
+pub mod NonInterference
 pub mod Shelf
