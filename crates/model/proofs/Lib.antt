@@ -8,4 +8,5 @@ pub mod Renaming
 pub mod Permitted
 pub mod Cut
 pub mod NonInterference
+pub mod Limits
 pub mod Shelf
