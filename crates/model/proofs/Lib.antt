@@ -9,4 +9,5 @@ pub mod Permitted
 pub mod Cut
 pub mod NonInterference
 pub mod Limits
+pub mod Numbering
 pub mod Shelf
