@@ -10,4 +10,7 @@ pub mod Cut
 pub mod NonInterference
 pub mod Limits
 pub mod Numbering
+pub mod Reaching
+pub mod Passed
+pub mod Accepted
 pub mod Shelf

@@ -299,5 +299,5 @@ module _ (G : Guards) (good : (v r : ℕ) → Good (G v r)) where
       record { deep = omega arith; long = omega arith; many = omega arith; well = record { some-target = omega (arith, i .all, w .some-target); targets = i .read (w .targets); condition = l .read (j .read (w .condition)) } }
 
   -- 1,024 bytes, 32 levels and 8 variables give 17,216 bytes, 62 levels and 200 variables
-  pub within : (q p : Query) → FitsQ q p → sizeQ q ≤ 1024 → levelsQ q ≤ 32 → bindsQ q ≤ 8 → (sizeQ p ≤ 17216) × (levelsQ p ≤ 62) × (bindsQ p ≤ 200)
-  within q p f a b c = omega arith
+  pub within-plain : (q p : Query) → FitsQ q p → sizeQ q ≤ 1024 → levelsQ q ≤ 32 → bindsQ q ≤ 8 → (sizeQ p ≤ 17216) × (levelsQ p ≤ 62) × (bindsQ p ≤ 200)
+  within-plain q p f a b c = omega arith

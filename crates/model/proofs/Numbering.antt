@@ -16,7 +16,7 @@ use Rattle.model.specs.Rewriting.{rename, renameT, newNumber, copyFor, d
 use Rattle.model.specs.Scope.{boundOnce}
 use Rattle.model.proofs.Tests.{clash, and-inv, or-no, not-yes}
 use Rattle.model.proofs.Lists.{filter-append, every-append, every-map}
-use Rattle.model.proofs.Renaming.{Sane}
+use Rattle.model.proofs.Renaming.{Sane, length-variables}
 use Rattle.model.proofs.Permitted.{Low, Sound, SaneGuard}
 use Rattle.model.proofs.Limits.{newFor-append, newFor-cons}
 
@@ -114,10 +114,6 @@ mutual
   rename-variablesT ρ (CONSTANT a b c d) = refl
   rename-variablesT ρ (ATTRIBUTE v a) = refl
   rename-variablesT ρ (AGGREGATE f v r a c) = ap (λ l. ρ v ∷ l) (rename-variables ρ c)
-
-length-variables : (bs : List Binding) → length (variables bs) ≡ length bs
-length-variables [] = refl
-length-variables (b ∷ bs) = ap suc (length-variables bs)
 
 copy-run : (c : Condition) (v n : ℕ) → unique (0 ∷ variables (bindings c)) ≡ true → variables (bindings (copyFor c v n)) ≡ run n (length (bindings c))
 unfolding copyFor newNumber unique

@@ -6,7 +6,7 @@ use mathlib.Core.Option.{Option, none, some}
 use mathlib.Core.Path.{_≡_, refl, sym, _∙_, ap, ap₂, fun-ext}
 use native.Mathlib.Omega.{arith}
 use lib.Dec.{eqb}
-use lib.IntN.{ℤ}
+use lib.ListN.{length}
 use borrow.Author.Tests.{eq-eqb, ne-eqb, eqb-true, eqb-false}
 use Rattle.model.specs.Lists.{update, filter, any, contains, unique, indexOf, Every}
 use Rattle.model.specs.Syntax.{Condition, Term, TRUE, FALSE, NOT, AND, OR, COMPARE, SOME, CONSTANT, ATTRIBUTE, AGGREGATE, Binding, bindings, bindingsT, variables}
@@ -86,6 +86,10 @@ pub every-other : (v : ℕ) (bs : List Binding) → contains v (variables bs) �
 unfolding Every contains any
 every-other v [] h = tt
 every-other v (b ∷ bs) h = let i = or-no (eqb v (b .variable)) (contains v (variables bs)) h in (eqb-false v (b .variable) (i .0), every-other v bs (i .1))
+
+pub length-variables : (bs : List Binding) → length (variables bs) ≡ length bs
+length-variables [] = refl
+length-variables (b ∷ bs) = ap suc (length-variables bs)
 
 -- what check 22 gives of a permit over relation r
 pub record Sane (sh : Shape) (r : ℕ) (c : Condition) : Type 0 where
