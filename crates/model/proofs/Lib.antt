@@ -13,4 +13,6 @@ pub mod Numbering
 pub mod Reaching
 pub mod Passed
 pub mod Accepted
+pub mod Grounds
+pub mod Demands
 pub mod Shelf

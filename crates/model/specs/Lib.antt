@@ -10,4 +10,5 @@ pub mod Rewriting
 pub mod Scope
 pub mod Checks
 pub mod Calls
+pub mod Demands
 pub mod Shelf

@@ -1,0 +1,118 @@
+-- The three demands, as statements over ask and evaluate. proofs/Demands.antt proves each of them.
+use Prim.Native.Nat.{ℕ, suc, _*_, _/_, _<_, _≤_}
+use mathlib.Core.Bool.{Bool, true, false, _&&_}
+use mathlib.Core.List.{List, [], _∷_, _++_, map}
+use mathlib.Core.Path.{_≡_}
+use lib.Dec.{eqb}
+use lib.IntN.{ℤ}
+use lib.ListN.{length, take, drop}
+use Rattle.model.specs.Lists.{any, concatMap, Every}
+use Rattle.model.specs.Syntax.{Binding, Query, Permit, WellFormedQ, WellFormedPs, bindingsQ}
+use Rattle.model.specs.Encoding.{encodeQuery, encodePermits, ok, readQuery, queryOf, permitsOf, permitsRead}
+use Rattle.model.specs.Meaning.{answers}
+use Rattle.model.specs.Catalogue.{catalogueOf, shapeOf, tuplesAt, allRows}
+use Rattle.model.specs.Permits.{usedOf, Guards, guardsOf, permitted, cut}
+use Rattle.model.specs.Rewriting.{rewriteQuery}
+use Rattle.model.specs.Checks.{Check, keeperChecks, shapeChecks, askChecks, evaluateChecks, refusal}
+use Rattle.model.specs.Calls.{Answer, Outcome, refuse, give, evaluate, ask}
+
+-- the guards of a call, the rewritten query, and the rows that a query gives over a collection
+abbrev pub guardsIn : List ℕ → List ℕ → Query → Guards
+guardsIn cb pb q = guardsOf (shapeOf (catalogueOf cb)) (permitsOf pb) q
+
+abbrev pub rewrittenOf : List ℕ → List ℕ → List ℕ → Query
+rewrittenOf cb pb qb = rewriteQuery (guardsIn cb pb (queryOf qb)) (queryOf qb)
+
+abbrev pub rowsOf : List ℕ → List ℤ → Query → List (List ℤ)
+rowsOf cb vs q = answers q (allRows (tuplesAt (catalogueOf cb) vs))
+
+abbrev pub columnsOf : List ℕ → ℕ
+columnsOf qb = length (queryOf qb .targets)
+
+-- the check with number n fails
+unfoldable pub fails : List Check → ℕ → Bool
+fails cs n = any (λ (c : Check). c .0 && eqb (c .1) n) cs
+
+-- the ground of a refusal: check n fails, and all lower ones pass
+pub record Ground (cs : List Check) (n : ℕ) : Type 0 where
+  pub failing : fails cs n ≡ true
+  pub lower : (m : ℕ) → m < n → fails cs m ≡ false
+
+abbrev pub Passes : List Check → Type 0
+Passes cs = (m : ℕ) → fails cs m ≡ false
+
+-- DEMAND 1, as far as definitions go: each number has its exact ground, and a refusal other than 41 leaves all as it was
+pub record Demand1 : Type 0 where
+  -- a refusal is its number with zero counts, both buffers unchanged
+  pub untouched : (cb : List ℕ) (vs : List ℤ) (pb qb rewritten : List ℕ) (cells : List ℤ) (n : ℕ)
+      → ask cb vs pb qb rewritten cells .answer .number ≡ n → 1 ≤ n → n < 41
+      → ask cb vs pb qb rewritten cells ≡ record { answer = refuse n cells; count = 0; rewritten = rewritten }
+  -- 10 to 40: check n fails and all lower ones pass, and the other way round
+  pub ground : (cb : List ℕ) (vs : List ℤ) (pb qb rewritten : List ℕ) (cells : List ℤ) (n : ℕ)
+      → ask cb vs pb qb rewritten cells .answer .number ≡ n → 1 ≤ n → n < 41 → Ground (askChecks cb vs pb qb (length rewritten)) n
+  pub grounded : (cb : List ℕ) (vs : List ℤ) (pb qb rewritten : List ℕ) (cells : List ℤ) (n : ℕ)
+      → Ground (askChecks cb vs pb qb (length rewritten)) n → ask cb vs pb qb rewritten cells .answer .number ≡ n
+  -- 41: all checks pass and more distinct rows than whole rows fit, and the other way round
+  pub short : (cb : List ℕ) (vs : List ℤ) (pb qb rewritten : List ℕ) (cells : List ℤ)
+      → ask cb vs pb qb rewritten cells .answer .number ≡ 41
+      → Passes (askChecks cb vs pb qb (length rewritten)) × (length cells / columnsOf qb < length (rowsOf cb vs (rewrittenOf cb pb qb)))
+  pub shorted : (cb : List ℕ) (vs : List ℤ) (pb qb rewritten : List ℕ) (cells : List ℤ)
+      → Passes (askChecks cb vs pb qb (length rewritten)) → length cells / columnsOf qb < length (rowsOf cb vs (rewrittenOf cb pb qb))
+      → ask cb vs pb qb rewritten cells .answer .number ≡ 41
+  -- at 41 the buffer holds the first rows that fit, the count is theirs, the other cells are unchanged; the rest is as if accepted
+  pub short-answer : (cb : List ℕ) (vs : List ℤ) (pb qb rewritten : List ℕ) (cells : List ℤ)
+      → ask cb vs pb qb rewritten cells .answer .number ≡ 41
+      → let m = length cells / columnsOf qb in let bs = encodeQuery (rewrittenOf cb pb qb) in
+      ask cb vs pb qb rewritten cells
+      ≡ record {
+        answer = record { number = 41; rows = m; columns = columnsOf qb; cells = concatMap (λ r. r) (take m (rowsOf cb vs (rewrittenOf cb pb qb))) ++ drop (m * columnsOf qb) cells };
+        count = length bs;
+        rewritten = bs ++ drop (length bs) rewritten;
+      }
+  -- the plain evaluator: the same of its own checks
+  pub plain-untouched : (cb : List ℕ) (vs : List ℤ) (qb : List ℕ) (cells : List ℤ) (n : ℕ)
+      → evaluate cb vs qb cells .number ≡ n → 1 ≤ n → n < 41 → evaluate cb vs qb cells ≡ refuse n cells
+  pub plain-ground : (cb : List ℕ) (vs : List ℤ) (qb : List ℕ) (cells : List ℤ) (n : ℕ)
+      → evaluate cb vs qb cells .number ≡ n → 1 ≤ n → n < 41 → Ground (evaluateChecks cb vs qb) n
+  pub plain-grounded : (cb : List ℕ) (vs : List ℤ) (qb : List ℕ) (cells : List ℤ) (n : ℕ)
+      → Ground (evaluateChecks cb vs qb) n → evaluate cb vs qb cells .number ≡ n
+
+-- DEMAND 2
+pub record Demand2 : Type 0 where
+  -- whatever passes the reader is the bytes of exactly one query, and the other way round
+  pub query-bytes : (bs : List ℕ) (q : Query) (r : List ℕ) → readQuery bs ≡ ok q r → (bs ≡ encodeQuery q) × WellFormedQ q × (r ≡ [])
+  pub bytes-query : (q : Query) → WellFormedQ q → readQuery (encodeQuery q) ≡ ok q []
+  pub permit-bytes : (bs : List ℕ) (ps : List Permit) (r : List ℕ) → permitsRead bs ≡ ok ps r → WellFormedPs ps × (bs ≡ encodePermits ps)
+  -- once the checks pass: the rewritten bytes are those of steps 1 to 4, the rows those of its meaning
+  pub rewriting : (cb : List ℕ) (vs : List ℤ) (pb qb rewritten : List ℕ) (cells : List ℤ)
+      → Passes (askChecks cb vs pb qb (length rewritten))
+      → let p = rewrittenOf cb pb qb in let bs = encodeQuery p in
+      ask cb vs pb qb rewritten cells ≡ record { answer = give (columnsOf qb) (rowsOf cb vs p) cells; count = length bs; rewritten = bs ++ drop (length bs) rewritten }
+  -- and equally those of the query over the permitted rows
+  pub permitted-rows : (cb : List ℕ) (vs : List ℤ) (pb qb rewritten : List ℕ)
+      → Passes (askChecks cb vs pb qb (length rewritten))
+      → rowsOf cb vs (rewrittenOf cb pb qb) ≡ answers (queryOf qb) (permitted (tuplesAt (catalogueOf cb) vs) (guardsIn cb pb (queryOf qb)))
+  -- put to the plain evaluator, the rewritten query is accepted and gives the same number, rows, columns and cells
+  pub again : (cb : List ℕ) (vs : List ℤ) (pb qb rewritten : List ℕ) (cells : List ℤ)
+      → Passes (askChecks cb vs pb qb (length rewritten))
+      → let o = ask cb vs pb qb rewritten cells in evaluate cb vs (take (o .count) (o .rewritten)) cells ≡ o .answer
+  -- the largest rewritten query has 17,216 bytes
+  pub bounded : (cb : List ℕ) (vs : List ℤ) (pb qb rewritten : List ℕ) (cells : List ℤ) → ask cb vs pb qb rewritten cells .count ≤ 17216
+
+-- a collection that draws neither 10 nor 11
+abbrev pub Kept : List ℕ → List ℤ → Type 0
+Kept cb vs = refusal (keeperChecks cb vs) ≡ 0
+
+-- a variable's permitted rows, cut to S
+abbrev pub permittedCut : List ℕ → List ℤ → List ℕ → Query → Binding → List (List ℤ)
+permittedCut cb vs pb q b = map (cut (usedOf q (b .variable))) (permitted (tuplesAt (catalogueOf cb) vs) (guardsIn cb pb q) (b .variable) (b .relation))
+
+-- DEMAND 3: for any permits and query, refused ones included, two collections alike in the premises give the same outcome,
+-- both buffers to their ends
+abbrev pub Demand3 : Type 0
+Demand3 = (cb cb′ : List ℕ) (vs vs′ : List ℤ) (pb qb rewritten : List ℕ) (cells : List ℤ)
+    -- neither collection draws 10 or 11; both have the same relations, kinds and columns
+    → Kept cb vs → Kept cb′ vs′ → shapeOf (catalogueOf cb) ≡ shapeOf (catalogueOf cb′)
+    -- unless the call is refused with a number from 20 to 40, each variable of the query has the same permitted rows, cut to S
+    → (let n = ask cb vs pb qb rewritten cells .answer .number in ((20 ≤ n) × (n ≤ 40) → ⊥) → Every (λ b. permittedCut cb vs pb (queryOf qb) b ≡ permittedCut cb′ vs′ pb (queryOf qb) b) (bindingsQ (queryOf qb)))
+    → ask cb vs pb qb rewritten cells ≡ ask cb′ vs′ pb qb rewritten cells
