@@ -16,3 +16,4 @@ pub mod Accepted
 pub mod Grounds
 pub mod Demands
 pub mod Shelf
+pub mod Largest

@@ -31,7 +31,6 @@ module _ (sh : Shape) (limit : ℕ) where
     InScopeT (ATTRIBUTE v a) σ = (r : ℕ) × (σ v ≡ some r) × (a < attributesAt sh r)
     InScopeT (AGGREGATE f v r a c) σ = (v < limit) × (r < length sh) × (a < attributesAt sh r) × InScope c (update nobody v (some r))
 
-
 module _ (sh : Shape) (limit : ℕ) where
   att-fact : (o : Option ℕ) (a : ℕ) → knownAttribute sh o a ≡ true → (r : ℕ) × (o ≡ some r) × (a < attributesAt sh r)
   unfolding knownAttribute
@@ -114,4 +113,3 @@ module _ (sh : Shape) (limit : ℕ) (R : Rows) where
     alike-value (CONSTANT x y z w) σ e e′ k h = refl
     alike-value (ATTRIBUTE v a) σ e e′ k h = ap (λ (row : Tuple). whole (row a)) (h v (k .0) (k .1))
     alike-value (AGGREGATE f v r a c) σ e e′ k h = ap (λ (p : Tuple → Bool). aggregate f (map (λ (row : Tuple). row a) (filter p (R v r)))) (fun-ext λ row. alike-holds c (update nobody v (some r)) (update e v row) (update e′ v row) (k .3) (alike-upd nobody e e′ v r row (alike-nobody e e′)))
-

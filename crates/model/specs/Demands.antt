@@ -14,7 +14,7 @@ use Rattle.model.specs.Catalogue.{catalogueOf, shapeOf, tuplesAt, allRow
 use Rattle.model.specs.Permits.{usedOf, Guards, guardsOf, permitted, cut}
 use Rattle.model.specs.Rewriting.{rewriteQuery}
 use Rattle.model.specs.Checks.{Check, keeperChecks, shapeChecks, askChecks, evaluateChecks, refusal}
-use Rattle.model.specs.Calls.{Answer, Outcome, refuse, give, evaluate, ask}
+use Rattle.model.specs.Calls.{Answer, Outcome, give, evaluate, ask}
 
 -- the guards of a call, the rewritten query, and the rows that a query gives over a collection
 abbrev pub guardsIn : List ℕ → List ℕ → Query → Guards
@@ -46,7 +46,7 @@ pub record Demand1 : Type 0 where
   -- a refusal is its number with zero counts, both buffers unchanged
   pub untouched : (cb : List ℕ) (vs : List ℤ) (pb qb rewritten : List ℕ) (cells : List ℤ) (n : ℕ)
       → ask cb vs pb qb rewritten cells .answer .number ≡ n → 1 ≤ n → n < 41
-      → ask cb vs pb qb rewritten cells ≡ record { answer = refuse n cells; count = 0; rewritten = rewritten }
+      → ask cb vs pb qb rewritten cells ≡ record { answer = record { number = n; rows = 0; columns = 0; cells = cells }; count = 0; rewritten = rewritten }
   -- 10 to 40: check n fails and all lower ones pass, and the other way round
   pub ground : (cb : List ℕ) (vs : List ℤ) (pb qb rewritten : List ℕ) (cells : List ℤ) (n : ℕ)
       → ask cb vs pb qb rewritten cells .answer .number ≡ n → 1 ≤ n → n < 41 → Ground (askChecks cb vs pb qb (length rewritten)) n
@@ -71,7 +71,7 @@ pub record Demand1 : Type 0 where
       }
   -- the plain evaluator: the same of its own checks
   pub plain-untouched : (cb : List ℕ) (vs : List ℤ) (qb : List ℕ) (cells : List ℤ) (n : ℕ)
-      → evaluate cb vs qb cells .number ≡ n → 1 ≤ n → n < 41 → evaluate cb vs qb cells ≡ refuse n cells
+      → evaluate cb vs qb cells .number ≡ n → 1 ≤ n → n < 41 → evaluate cb vs qb cells ≡ record { number = n; rows = 0; columns = 0; cells = cells }
   pub plain-ground : (cb : List ℕ) (vs : List ℤ) (qb : List ℕ) (cells : List ℤ) (n : ℕ)
       → evaluate cb vs qb cells .number ≡ n → 1 ≤ n → n < 41 → Ground (evaluateChecks cb vs qb) n
   pub plain-grounded : (cb : List ℕ) (vs : List ℤ) (qb : List ℕ) (cells : List ℤ) (n : ℕ)

@@ -12,3 +12,4 @@ pub mod Checks
 pub mod Calls
 pub mod Demands
 pub mod Shelf
+pub mod Largest

@@ -4,7 +4,7 @@ use mathlib.Core.List.{List, [], _∷_, _++_}
 use lib.IntN.{ℤ, pos, negsuc}
 use lib.ListN.{length, drop, replicate}
 use Rattle.model.specs.Lists.{concatMap}
-use Rattle.model.specs.Calls.{Answer, Outcome, refuse}
+use Rattle.model.specs.Calls.{Answer, Outcome}
 
 -- EMPLOYEE (NAME, DEPT, SALARY, MANAGER) is relation 0, DEPARTMENT (DEPT, FLOOR#, #EMP, SALES) is 1
 abbrev pub company : List ℕ
@@ -100,7 +100,7 @@ askExamples =
     record {
       permits = jones;
       query = 1 ∷ 0 ∷ 0 ∷ 33 ∷ 0 ∷ 1 ∷ 33 ∷ 0 ∷ 2 ∷ 16 ∷ [];
-      outcome = record { answer = refuse 33 lentCells; count = 0; rewritten = lentBytes };
+      outcome = record { answer = record { number = 33; rows = 0; columns = 0; cells = lentCells }; count = 0; rewritten = lentBytes };
     } ∷
     -- a DEPARTMENT query over DEPT: 1, 2, 3
     record {
