@@ -1,0 +1,29 @@
+use Rattle.model.specs.Meaning as M
+use Rattle.numbers.specs.Numbers as N
+use Rattle.numbers.proofs.Laws.{small-whole}
+use native.Mathlib.Omega.{arith}
+use mir.Facts.{toZ-ofZ}
+use mir.Syntax.{w64}
+use lib.IntN.{ℤ}
+use Rattle.numbers.proofs.Signed.{abs32}
+use mathlib.Core.Path.{_≡_, ap, _∙_}
+use borrow.Author.Needs.{needs}
+use Rattle.numbers.proofs.whole.Statement.{statement}
+use Rattle.numbers.proofs.whole.Tie as tie
+
+wide-requires : tie.Need-wide-requires
+wide-requires c κs = search needs
+
+over-requires : tie.Need-over-requires
+over-requires c κs = search needs
+
+returns : tie.Need-returns
+returns c =
+    let args = c .before .before .args in
+    let fits = c .before .before .fits in
+    let wide = c .before .wide in
+    let e : c .over .result ≡ N.represent (M.whole (args .x)) = c .over .ensures ∙ ap (λ (y : ℤ). N.represent (M.whole y)) (toZ-ofZ {w = w64} (record { sfits = wide .ok }) ∙ wide .ensures .0 ∙ toZ-ofZ (fits .x)) in
+    (e, rw e (small-whole (args .x) (omega (arith, abs32 (args .x) (fits .x .sfits)))))
+
+pub whole-spec : {M : Type 1} → statement M
+whole-spec = tie.close (tie.spec wide-requires over-requires returns)

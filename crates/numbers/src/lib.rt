@@ -1,0 +1,180 @@
+// Exact values of terms, their comparison, and what an aggregate takes.
+ghost use mathlib.Core.Path.{_≡_};
+ghost use mathlib.Core.List.{[]};
+ghost use Prim.Native.Nat.{ℕ, _+_, _*_, _≤_, _<_};
+ghost use lib.IntN.{pos, natAbs, _*ℤ_, _+ℤ_};
+ghost use lib.Signed.{quotZ};
+ghost use Rattle.model.specs.Meaning as M;
+ghost use Rattle.numbers.specs.Numbers as N;
+
+// A value: numerator over denominator, which is positive.
+pub struct Ratio {
+    pub numerator: i64,
+    pub denominator: i64,
+}
+
+// What an aggregate has taken so far.
+pub struct Accumulator {
+    pub count: u64,
+    pub sum: i64,
+    pub max: i64,
+    pub min: i64,
+}
+
+fn wide(x: i32) -> i64
+    ensures { λ r. ⌜ r ≡ x ⌝ }
+    ensures { λ r. ⌜ natAbs r ≤ 2147483648 ⌝ }
+{
+    x as i64
+}
+
+fn over(a: i64, b: i64) -> Ratio
+    ensures { λ r. ⌜ r ≡ record { numerator = a; denominator = b } ⌝ }
+{
+    Ratio {
+        numerator: a,
+        denominator: b,
+    }
+}
+
+// A constant's or an attribute's value.
+pub fn whole(x: i32) -> Ratio
+    ensures { λ r. ⌜ r ≡ N.represent (M.whole x) ⌝ }
+    ensures { λ r. ⌜ N.Small r ⌝ }
+{
+    over(wide(x), 1)
+}
+
+fn product(a: i64, b: i64) -> i64
+    requires { ⌜ (natAbs a ≤ 140735340871680) × (natAbs b ≤ 65535) ⌝ }
+    ensures { λ r. ⌜ r ≡ a *ℤ b ⌝ }
+{
+    a * b
+}
+
+fn ordered(operator: u8, a: i64, b: i64) -> bool
+    ensures { λ r. ⌜ r ≡ N.ordered operator a b ⌝ }
+{
+    match operator {
+        1 => if a <= b { b <= a } else { false },
+        2 => if a <= b { !(b <= a) } else { true },
+        3 => a < b,
+        4 => a <= b,
+        5 => b < a,
+        _ => b <= a,
+    }
+}
+
+// Compares exactly, by cross products.
+pub fn compare(operator: u8, x: Ratio, y: Ratio) -> bool
+    requires { ⌜ N.Small x × N.Small y ⌝ }
+    ensures { λ r. ⌜ r ≡ M.compare operator (N.ratioOf x) (N.ratioOf y) ⌝ }
+{
+    ordered(
+        operator,
+        product(x.numerator, y.denominator),
+        product(y.numerator, x.denominator),
+    )
+}
+
+fn quotient(a: i64, b: i64) -> i64
+    requires { ⌜ (natAbs a ≤ 140735340871680) × (0 < natAbs b) ⌝ }
+    ensures { λ r. ⌜ r ≡ quotZ a b ⌝ }
+{
+    a / b
+}
+
+// The cell of a target, rounded toward zero.
+pub fn cell(x: Ratio) -> i64
+    requires { ⌜ N.Small x ⌝ }
+    ensures { λ r. ⌜ r ≡ M.cell (N.ratioOf x) ⌝ }
+{
+    quotient(x.numerator, x.denominator)
+}
+
+fn plus(a: i64, b: i64) -> i64
+    requires { ⌜ natAbs a + natAbs b ≤ 140735340871680 ⌝ }
+    ensures { λ r. ⌜ r ≡ a +ℤ b ⌝ }
+{
+    a + b
+}
+
+fn larger(count: u64, a: i64, b: i64) -> i64
+    ensures { λ r. ⌜ r ≡ N.larger count a b ⌝ }
+{
+    if count == 0 {
+        return b;
+    }
+    if a < b { b } else { a }
+}
+
+fn smaller(count: u64, a: i64, b: i64) -> i64
+    ensures { λ r. ⌜ r ≡ N.smaller count a b ⌝ }
+{
+    if count == 0 {
+        return b;
+    }
+    if b < a { b } else { a }
+}
+
+// No value yet.
+pub fn empty() -> Accumulator
+    ensures { λ r. ⌜ r ≡ N.accumulatorOf [] ⌝ }
+{
+    Accumulator {
+        count: 0,
+        sum: 0,
+        max: 0,
+        min: 0,
+    }
+}
+
+// One value more.
+pub fn add(a: Accumulator, x: i32) -> Accumulator
+    requires { ⌜ N.Bounded a × (a .count < 65535) ⌝ }
+    ensures { λ r. ⌜ r ≡ N.added a x ⌝ }
+    ensures { λ r. ⌜ N.Bounded r ⌝ }
+{
+    let value = wide(x);
+    let sum = plus(a.sum, value);
+    let max = larger(a.count, a.max, value);
+    let min = smaller(a.count, a.min, value);
+    Accumulator {
+        count: a.count + 1,
+        sum,
+        max,
+        min,
+    }
+}
+
+fn counted(n: u64) -> i64
+    requires { ⌜ n ≤ 65535 ⌝ }
+    ensures { λ r. ⌜ r ≡ pos n ⌝ }
+{
+    n as i64
+}
+
+fn average(count: u64, sum: i64) -> Ratio
+    requires { ⌜ count ≤ 65535 ⌝ }
+    ensures { λ r. ⌜ r ≡ N.represent (N.averageOf count sum) ⌝ }
+{
+    if count == 0 {
+        return over(0, 1);
+    }
+    over(sum, counted(count))
+}
+
+// The value of an aggregate over the values taken.
+pub fn finish(function: u8, a: Accumulator) -> Ratio
+    requires { ⌜ N.Bounded a × (a .count ≤ 65535) ⌝ }
+    ensures { λ r. ⌜ r ≡ N.represent (N.finished function a) ⌝ }
+    ensures { λ r. ⌜ N.Small r ⌝ }
+{
+    match function {
+        1 => over(counted(a.count), 1),
+        2 => over(a.sum, 1),
+        3 => average(a.count, a.sum),
+        4 => over(a.max, 1),
+        _ => over(a.min, 1),
+    }
+}
