@@ -1,0 +1,255 @@
+-- One level of the evaluation as an equation, and what a loop over rows keeps.
+use mathlib.Core.Path.{_≡_, refl, sym, ap, ap₂, _∙_, fun-ext, subst, subst₂}
+use mathlib.Core.Bool.{Bool, true, false, not, cond, _&&_, _||_}
+use mathlib.Core.List.{List, [], _∷_, _++_, map}
+use Prim.Native.Nat.{ℕ, zero, suc, _+_, _-_, _*_, _≤_, _<_}
+use native.Mathlib.Nat.{mul-le-mul}
+use native.Mathlib.Omega.{arith}
+use native.Mathlib.Numerals.{sub-one}
+use lib.Dec.{eqb}
+use lib.IntN.{ℤ, pos}
+use lib.ListN.{length, getD, set, drop, length-set}
+use lib.Seq.{set-set, set-getD, getD-set-same, getD-set-other}
+use borrow.Author.Tests.{eq-eqb, ne-eqb, eqb-true, eqb-false}
+use denote.Enum.Declared.{tagOf, declared}
+use types.Run.{OneOf, miss}
+use Rattle.model.specs.Lists.{update, filter, any}
+use Rattle.model.proofs.Tests.{not-yes, not-no}
+use Rattle.model.specs.Syntax.{Condition, Term, TRUE, FALSE, NOT, AND, OR, COMPARE, SOME, CONSTANT, ATTRIBUTE, AGGREGATE}
+use Rattle.model.specs.Meaning.{Tuple, Assignment, Ratio, whole, signed, compare, aggregate, holds, value}
+use Rattle.kinds.proofs.Record.{enum}
+use Rattle.kinds.specs.Tables.{recordLength}
+use Rattle.kinds.specs.Record.{recordAt}
+use Rattle.kinds.specs.declared.Record.{Record}
+use Rattle.kinds.specs.declared.Record.the-variants as R
+use Rattle.numbers.specs.declared.Accumulator.{Accumulator}
+use Rattle.numbers.specs.Numbers.{Bounded, accumulatorOf, added, Accumulates}
+use Rattle.numbers.proofs.Laws.{starts, continues, counts}
+use Rattle.catalogue.specs.Layout.{tupleAt, tuplesIn, attributesOf, rowsOf, baseOf, offsets, kept}
+use Rattle.catalogue.proofs.Loops.{any-none, any-found, any-left, kept-start, kept-hit, kept-miss, kept-length}
+use Rattle.sizes.specs.Decode.{first, second, conditionBy, termBy, nothing, decode, decodeT}
+use Rattle.evaluator.specs.Evaluation.{assigned, rowsIn, holdsAt, valueAt, holdsOn, valuesOn}
+
+-- a variable's place set: the assignment with its tuple there
+pub assigned-set : (vs : List ℤ) (e : List ℕ) (v p : ℕ) → v < length e → assigned vs (set e v p) ≡ update (assigned vs e) v (tupleAt vs p)
+assigned-set vs e v p h = fun-ext λ w. go w (eqb w v) refl
+  where
+    go : (w : ℕ) (b : Bool) → eqb w v ≡ b → assigned vs (set e v p) w ≡ update (assigned vs e) v (tupleAt vs p) w
+    go w true k = rw k (ap (tupleAt vs) (ap (λ (i : ℕ). getD (set e v p) i 0) (eqb-true w v k) ∙ getD-set-same e v p 0 h))
+    go w false k = rw k (ap (tupleAt vs) (getD-set-other e v w p 0 (eqb-false w v k)))
+
+module _ (cb : List ℕ) (vs : List ℤ) (e q z : List ℕ) where
+  pub holds-zero : (l : ℕ) → l ≡ 0 → false ≡ holdsAt l q z cb vs e
+  unfolding holdsAt decode holds
+  holds-zero l h = rw h
+
+  pub value-zero : (l : ℕ) → l ≡ 0 → whole (pos 0) ≡ valueAt l q z cb vs e
+  unfolding valueAt decode holds signed
+  value-zero l h = rw h
+
+  -- by the record that q starts with
+  holds-is : (l : ℕ) (r : Record) → (l ≡ 0 → ⊥) → r ≡ recordAt q
+      → holds (conditionBy r (λ x y. decode (l - 1) x y) (λ x y. decodeT (l - 1) x y) q z) (rowsIn cb vs) (assigned vs e) ≡ holdsAt l q z cb vs e
+  unfolding holdsAt decode
+  holds-is zero r h k = absurd (h refl)
+  holds-is (suc l) r h k = rw (sub-one, k)
+
+  value-is : (l : ℕ) (r : Record) → (l ≡ 0 → ⊥) → r ≡ recordAt q
+      → value (termBy r (λ x y. decode (l - 1) x y) q z) (rowsIn cb vs) (assigned vs e) ≡ valueAt l q z cb vs e
+  unfolding valueAt decode
+  value-is zero r h k = absurd (h refl)
+  value-is (suc l) r h k = rw (sub-one, k)
+
+  -- the parts that the code hands on
+  module _ (l k a : ℕ) (r : Record) (nz : l ≡ 0 → ⊥) (ek : k ≡ getD q 0 0) (ea : a ≡ recordLength k) (er : r ≡ recordAt q) where
+    at-first : a ≡ first q
+    at-first = ea ∙ ap recordLength ek
+
+    pub true-is : r ≡ R.True → true ≡ holdsAt l q z cb vs e
+    unfolding holds
+    true-is h = holds-is l R.True nz (sym h ∙ er)
+
+    module _ (x y : List ℕ) (ex : x ≡ drop a q) (ey : y ≡ drop a z) where
+      child : holdsAt (l - 1) x y cb vs e ≡ holds (decode (l - 1) (drop (first q) q) (drop (first q) z)) (rowsIn cb vs) (assigned vs e)
+      unfolding holdsAt
+      child = ap₂ (λ (u w : List ℕ). holds (decode (l - 1) u w) (rowsIn cb vs) (assigned vs e)) (ex ∙ ap (λ n. drop n q) at-first) (ey ∙ ap (λ n. drop n z) at-first)
+
+      childT : valueAt (l - 1) x y cb vs e ≡ value (decodeT (l - 1) (drop (first q) q) (drop (first q) z)) (rowsIn cb vs) (assigned vs e)
+      unfolding valueAt
+      childT = ap₂ (λ (u w : List ℕ). value (decodeT (l - 1) u w) (rowsIn cb vs) (assigned vs e)) (ex ∙ ap (λ n. drop n q) at-first) (ey ∙ ap (λ n. drop n z) at-first)
+
+      pub not-is : (b : Bool) → r ≡ R.Not → b ≡ holdsAt (l - 1) x y cb vs e → not b ≡ holdsAt l q z cb vs e
+      unfolding holds
+      not-is b h eb = ap not (eb ∙ child) ∙ holds-is l R.Not nz (sym h ∙ er)
+
+      pub and-no : (b : Bool) → r ≡ R.And → b ≡ holdsAt (l - 1) x y cb vs e → not b ≡ true → false ≡ holdsAt l q z cb vs e
+      unfolding holds
+      and-no b h eb f = let g = sym child ∙ sym eb ∙ not-yes b f in sym (rw g) ∙ holds-is l R.And nz (sym h ∙ er)
+
+      pub or-yes : (b : Bool) → r ≡ R.Or → b ≡ holdsAt (l - 1) x y cb vs e → b ≡ true → true ≡ holdsAt l q z cb vs e
+      unfolding holds
+      or-yes b h eb f = let g = sym child ∙ sym eb ∙ f in sym (rw g) ∙ holds-is l R.Or nz (sym h ∙ er)
+
+      pub some-is : (v r′ : ℕ) (b : Bool) → r ≡ R.Some v r′ → b ≡ any (holdsOn (l - 1) x y cb vs e v) (tuplesIn cb vs r′) → b ≡ holdsAt l q z cb vs e
+      unfolding holds holdsOn
+      some-is v r′ b h eb =
+          eb ∙ ap₂ (λ (u w : List ℕ). any (λ t. holds (decode (l - 1) u w) (rowsIn cb vs) (update (assigned vs e) v t)) (tuplesIn cb vs r′)) (ex ∙ ap (λ n. drop n q) at-first) (ey ∙ ap (λ n. drop n z) at-first)
+          ∙ holds-is l (R.Some v r′) nz (sym h ∙ er)
+
+      pub aggregate-is : (f v r′ t : ℕ) (u : Ratio) → r ≡ R.Aggregate f v r′ t → u ≡ aggregate f (valuesOn (l - 1) x y cb vs e v r′ t) → u ≡ valueAt l q z cb vs e
+      unfolding holds holdsOn valuesOn
+      aggregate-is f v r′ t u h eu =
+          eu ∙ ap₂ (λ (m w : List ℕ). aggregate f (map (λ (s : Tuple). s t) (filter (λ s. holds (decode (l - 1) m w) (rowsIn cb vs) (update (assigned vs e) v s)) (tuplesIn cb vs r′)))) (ex ∙ ap (λ n. drop n q) at-first) (ey ∙ ap (λ n. drop n z) at-first)
+          ∙ value-is l (R.Aggregate f v r′ t) nz (sym h ∙ er)
+
+      -- the second child
+      module _ (s b : ℕ) (u w : List ℕ) (es : s ≡ getD z a 0) (eb : b ≡ a + s) (eu : u ≡ drop b q) (ew : w ≡ drop b z) where
+        at-second : b ≡ second q z
+        at-second = eb ∙ ap (λ n. a + n) es ∙ ap (λ n. n + getD z n 0) at-first
+
+        next : holdsAt (l - 1) u w cb vs e ≡ holds (decode (l - 1) (drop (second q z) q) (drop (second q z) z)) (rowsIn cb vs) (assigned vs e)
+        unfolding holdsAt
+        next = ap₂ (λ (m n : List ℕ). holds (decode (l - 1) m n) (rowsIn cb vs) (assigned vs e)) (eu ∙ ap (λ n. drop n q) at-second) (ew ∙ ap (λ n. drop n z) at-second)
+
+        nextT : valueAt (l - 1) u w cb vs e ≡ value (decodeT (l - 1) (drop (second q z) q) (drop (second q z) z)) (rowsIn cb vs) (assigned vs e)
+        unfolding valueAt
+        nextT = ap₂ (λ (m n : List ℕ). value (decodeT (l - 1) m n) (rowsIn cb vs) (assigned vs e)) (eu ∙ ap (λ n. drop n q) at-second) (ew ∙ ap (λ n. drop n z) at-second)
+
+        pub and-yes : (c d : Bool) (e₁ : List ℕ) → r ≡ R.And → c ≡ holdsAt (l - 1) x y cb vs e → not c ≡ false → e₁ ≡ e → d ≡ holdsAt (l - 1) u w cb vs e₁ → d ≡ holdsAt l q z cb vs e
+        unfolding holds
+        and-yes c d e₁ h ec f ee ed =
+            let g = sym child ∙ sym ec ∙ not-no c f in
+            ed ∙ ap (holdsAt (l - 1) u w cb vs) ee ∙ next ∙ sym (rw g) ∙ holds-is l R.And nz (sym h ∙ er)
+
+        pub or-no : (c d : Bool) (e₁ : List ℕ) → r ≡ R.Or → c ≡ holdsAt (l - 1) x y cb vs e → c ≡ false → e₁ ≡ e → d ≡ holdsAt (l - 1) u w cb vs e₁ → d ≡ holdsAt l q z cb vs e
+        unfolding holds
+        or-no c d e₁ h ec f ee ed =
+            let g = sym child ∙ sym ec ∙ f in
+            ed ∙ ap (holdsAt (l - 1) u w cb vs) ee ∙ next ∙ sym (rw g) ∙ holds-is l R.Or nz (sym h ∙ er)
+
+        pub compare-is : (o : ℕ) (c d : Ratio) (e₁ : List ℕ) (t : Bool) → r ≡ R.Compare o → c ≡ valueAt (l - 1) x y cb vs e → e₁ ≡ e → d ≡ valueAt (l - 1) u w cb vs e₁ → t ≡ compare o c d → t ≡ holdsAt l q z cb vs e
+        unfolding holds
+        compare-is o c d e₁ t h ec ee ed et =
+            et ∙ ap₂ (compare o) (ec ∙ childT) (ed ∙ ap (valueAt (l - 1) u w cb vs) ee ∙ nextT) ∙ holds-is l (R.Compare o) nz (sym h ∙ er)
+
+  pub constant-is : (l a b c d : ℕ) (r : Record) (t : ℤ) → (l ≡ 0 → ⊥) → r ≡ recordAt q → r ≡ R.Constant a b c d → t ≡ signed a b c d → whole t ≡ valueAt l q z cb vs e
+  unfolding holds
+  constant-is l a b c d r t nz er h et = ap whole et ∙ value-is l (R.Constant a b c d) nz (sym h ∙ er)
+
+  pub attribute-is : (l v a p : ℕ) (r : Record) (t : ℤ) → (l ≡ 0 → ⊥) → r ≡ recordAt q → r ≡ R.Attribute v a → p ≡ getD e v 0 → t ≡ getD vs (p + a) (pos 0) → whole t ≡ valueAt l q z cb vs e
+  unfolding holds
+  attribute-is l v a p r t nz er h ep et = ap whole (et ∙ ap (λ n. getD vs (n + a) (pos 0)) ep) ∙ value-is l (R.Attribute v a) nz (sym h ∙ er)
+
+-- other records are no condition, and no term
+rest-condition : (f : List ℕ → List ℕ → Condition) (g : List ℕ → List ℕ → Term) (q z : List ℕ) (r : Record) → OneOf (0 ∷ 2 ∷ 8 ∷ 9 ∷ 10 ∷ 11 ∷ 12 ∷ 13 ∷ 14 ∷ 15 ∷ []) (tagOf (declared enum) r) → conditionBy r f g q z ≡ FALSE
+rest-condition f g q z (R.Range v r) h = refl
+rest-condition f g q z R.True h = absurd (miss (0 ∷ 2 ∷ 8 ∷ 9 ∷ 10 ∷ 11 ∷ 12 ∷ 13 ∷ 14 ∷ 15 ∷ []) 1 tt h)
+rest-condition f g q z R.False h = refl
+rest-condition f g q z R.Not h = absurd (miss (0 ∷ 2 ∷ 8 ∷ 9 ∷ 10 ∷ 11 ∷ 12 ∷ 13 ∷ 14 ∷ 15 ∷ []) 3 tt h)
+rest-condition f g q z R.And h = absurd (miss (0 ∷ 2 ∷ 8 ∷ 9 ∷ 10 ∷ 11 ∷ 12 ∷ 13 ∷ 14 ∷ 15 ∷ []) 4 tt h)
+rest-condition f g q z R.Or h = absurd (miss (0 ∷ 2 ∷ 8 ∷ 9 ∷ 10 ∷ 11 ∷ 12 ∷ 13 ∷ 14 ∷ 15 ∷ []) 5 tt h)
+rest-condition f g q z (R.Compare o) h = absurd (miss (0 ∷ 2 ∷ 8 ∷ 9 ∷ 10 ∷ 11 ∷ 12 ∷ 13 ∷ 14 ∷ 15 ∷ []) 6 tt h)
+rest-condition f g q z (R.Some v r) h = absurd (miss (0 ∷ 2 ∷ 8 ∷ 9 ∷ 10 ∷ 11 ∷ 12 ∷ 13 ∷ 14 ∷ 15 ∷ []) 7 tt h)
+rest-condition f g q z (R.Constant a b c d) h = refl
+rest-condition f g q z (R.Attribute v a) h = refl
+rest-condition f g q z (R.Aggregate k v r a) h = refl
+rest-condition f g q z (R.Stored a b c) h = refl
+rest-condition f g q z (R.Workspace a b c) h = refl
+rest-condition f g q z (R.Permit a b c) h = refl
+rest-condition f g q z R.Unknown h = refl
+rest-condition f g q z R.Short h = refl
+
+rest-term : (f : List ℕ → List ℕ → Condition) (q z : List ℕ) (r : Record) → OneOf (0 ∷ 1 ∷ 2 ∷ 3 ∷ 4 ∷ 5 ∷ 6 ∷ 7 ∷ 11 ∷ 12 ∷ 13 ∷ 14 ∷ 15 ∷ []) (tagOf (declared enum) r) → termBy r f q z ≡ nothing
+rest-term f q z (R.Range v r) h = refl
+rest-term f q z R.True h = refl
+rest-term f q z R.False h = refl
+rest-term f q z R.Not h = refl
+rest-term f q z R.And h = refl
+rest-term f q z R.Or h = refl
+rest-term f q z (R.Compare o) h = refl
+rest-term f q z (R.Some v r) h = refl
+rest-term f q z (R.Constant a b c d) h = absurd (miss (0 ∷ 1 ∷ 2 ∷ 3 ∷ 4 ∷ 5 ∷ 6 ∷ 7 ∷ 11 ∷ 12 ∷ 13 ∷ 14 ∷ 15 ∷ []) 8 tt h)
+rest-term f q z (R.Attribute v a) h = absurd (miss (0 ∷ 1 ∷ 2 ∷ 3 ∷ 4 ∷ 5 ∷ 6 ∷ 7 ∷ 11 ∷ 12 ∷ 13 ∷ 14 ∷ 15 ∷ []) 9 tt h)
+rest-term f q z (R.Aggregate k v r a) h = absurd (miss (0 ∷ 1 ∷ 2 ∷ 3 ∷ 4 ∷ 5 ∷ 6 ∷ 7 ∷ 11 ∷ 12 ∷ 13 ∷ 14 ∷ 15 ∷ []) 10 tt h)
+rest-term f q z (R.Stored a b c) h = refl
+rest-term f q z (R.Workspace a b c) h = refl
+rest-term f q z (R.Permit a b c) h = refl
+rest-term f q z R.Unknown h = refl
+rest-term f q z R.Short h = refl
+
+module _ (cb : List ℕ) (vs : List ℤ) (e q z : List ℕ) (l : ℕ) (r : Record) (nz : l ≡ 0 → ⊥) (er : r ≡ recordAt q) where
+  pub no-condition : OneOf (0 ∷ 2 ∷ 8 ∷ 9 ∷ 10 ∷ 11 ∷ 12 ∷ 13 ∷ 14 ∷ 15 ∷ []) (tagOf (declared enum) r) → false ≡ holdsAt l q z cb vs e
+  unfolding holds
+  no-condition h = sym (ap (λ (c : Condition). holds c (rowsIn cb vs) (assigned vs e)) (rest-condition (λ x y. decode (l - 1) x y) (λ x y. decodeT (l - 1) x y) q z r h)) ∙ holds-is cb vs e q z l r nz er
+
+  pub no-term : OneOf (0 ∷ 1 ∷ 2 ∷ 3 ∷ 4 ∷ 5 ∷ 6 ∷ 7 ∷ 11 ∷ 12 ∷ 13 ∷ 14 ∷ 15 ∷ []) (tagOf (declared enum) r) → whole (pos 0) ≡ valueAt l q z cb vs e
+  unfolding holds signed
+  no-term h = sym (ap (λ (t : Term). value t (rowsIn cb vs) (assigned vs e)) (rest-term (λ x y. decode (l - 1) x y) q z r h)) ∙ value-is cb vs e q z l r nz er
+
+-- the places: the variable's own is put back at the end, so a loop keeps what they are with the old one back
+pub places-start : (e : List ℕ) (v old : ℕ) → old ≡ getD e v 0 → set e v old ≡ e
+places-start e v old h = ap (set e v) h ∙ set-getD e v 0
+
+module _ (d e y : List ℕ) (v old p : ℕ) (inv : set d v old ≡ e) (ey : y ≡ set d v p) where
+  pub places-on : y ≡ set e v p
+  places-on = ey ∙ sym (set-set d v old p) ∙ ap (λ (x : List ℕ). set x v p) inv
+
+  pub places-back : (x : List ℕ) → x ≡ y → set x v old ≡ e
+  places-back x ex = ap (λ (u : List ℕ). set u v old) (ex ∙ ey) ∙ set-set d v p old ∙ inv
+
+  pub places-length : (x : List ℕ) → x ≡ y → length d ≡ length e → length x ≡ length e
+  places-length x ex h = ap length (ex ∙ ey) ∙ length-set d v p ∙ h
+
+  pub on-row : (l : ℕ) (q z cb : List ℕ) (vs : List ℤ) (b : Bool) → v < length e → b ≡ holdsAt l q z cb vs y → holdsOn l q z cb vs e v (tupleAt vs p) ≡ b
+  unfolding holdsAt holdsOn
+  on-row l q z cb vs b h eb = sym (eb ∙ ap (λ (x : List ℕ). holds (decode l q z) (rowsIn cb vs) (assigned vs x)) places-on ∙ ap (holds (decode l q z) (rowsIn cb vs)) (assigned-set vs e v p h))
+
+-- a search over the rows
+pub search-start : (f : Tuple → Bool) (cb : List ℕ) (vs : List ℤ) (r n w p : ℕ) → n ≡ rowsOf cb r → w ≡ attributesOf cb r → p ≡ baseOf cb r → any f (map (tupleAt vs) (offsets p w (n - 0))) ≡ any f (tuplesIn cb vs r)
+unfolding tuplesIn
+search-start f cb vs r n w p en ew ep = let z : rowsOf cb r - 0 ≡ rowsOf cb r = omega arith in rw (en, ew, ep, z)
+
+module _ (f : Tuple → Bool) (cb : List ℕ) (vs : List ℤ) (r n w p i : ℕ) (inv : any f (map (tupleAt vs) (offsets p w (n - i))) ≡ any f (tuplesIn cb vs r)) where
+  pub search-found : i < n → f (tupleAt vs p) ≡ true → true ≡ any f (tuplesIn cb vs r)
+  search-found h e = sym (any-found vs f p w n i h e) ∙ inv
+
+  pub search-next : i < n → f (tupleAt vs p) ≡ false → any f (map (tupleAt vs) (offsets (p + w) w (n - (i + 1)))) ≡ any f (tuplesIn cb vs r)
+  search-next h e = sym (any-left vs f p w n i h e) ∙ inv
+
+  pub search-none : n ≤ i → false ≡ any f (tuplesIn cb vs r)
+  search-none h = sym (any-none vs f p w n i h) ∙ inv
+
+-- the values taken
+pub taken-all : (l : ℕ) (q z cb : List ℕ) (vs : List ℤ) (e : List ℕ) (v r a n w p i : ℕ) → n ≡ rowsOf cb r → w ≡ attributesOf cb r → p ≡ baseOf cb r → i ≡ n → kept vs (holdsOn l q z cb vs e v) a p w i ≡ valuesOn l q z cb vs e v r a
+unfolding kept valuesOn tuplesIn
+taken-all l q z cb vs e v r a n w p i en ew ep ei = rw (ei, en, ew, ep)
+
+-- rows are w values apart; a row's place fits
+pub next-row : (b w p i : ℕ) → p ≡ b + i * w → p + w ≡ b + (i + 1) * w
+next-row b w p i h = omega arith
+
+pub row-fits : (b w p i n r : ℕ) → p ≡ b + i * w → b ≤ 16711425 * r → r < 256 → i < n → n ≤ 65535 → w ≤ 255 → p + w < 18446744073709551616
+row-fits b w p i n r e h k l m o = omega (arith, mul-le-mul (lt-bound i n l m) o)
+  where
+    lt-bound : (i n : ℕ) → i < n → n ≤ 65535 → i ≤ 65535
+    lt-bound i n l m = omega arith
+
+-- a collection of the values of the rows that meet the condition
+pub taken-start : (vs : List ℤ) (f : Tuple → Bool) (t p w : ℕ) (a : Accumulator) → a ≡ accumulatorOf [] → Accumulates a (kept vs f t p w 0)
+taken-start vs f t p w a e = subst (Accumulates a) (sym (kept-start vs f t p w)) (starts a e)
+
+module _ (vs : List ℤ) (f : Tuple → Bool) (t b w i : ℕ) (a : Accumulator) (inv : Accumulates a (kept vs f t b w i)) where
+  pub taken-few : (n : ℕ) → i ≤ n → a .count ≤ n
+  taken-few n h = omega (arith, counts a (kept vs f t b w i) inv, kept-length vs f t b w i)
+
+  module _ (p : ℕ) (h : p ≡ b + i * w) where
+    pub taken-hit : (r : Accumulator) (x : ℤ) → f (tupleAt vs p) ≡ true → x ≡ getD vs (p + t) (pos 0) → r ≡ added a x → Bounded r → Accumulates r (kept vs f t b w (i + 1))
+    taken-hit r x e ex er k =
+        let e′ : f (tupleAt vs (b + i * w)) ≡ true = ap (λ n. f (tupleAt vs n)) (sym h) ∙ e in
+        let y = ap (λ n. getD vs (n + t) (pos 0)) h in
+        subst (Accumulates r) (ap (λ z. kept vs f t b w i ++ (z ∷ [])) (ex ∙ y) ∙ sym (kept-hit vs f t b w i e′)) (continues a r (kept vs f t b w i) x inv er k)
+
+    pub taken-miss : (r : Accumulator) → f (tupleAt vs p) ≡ false → r ≡ a → Accumulates r (kept vs f t b w (i + 1))
+    taken-miss r e er =
+        let e′ : f (tupleAt vs (b + i * w)) ≡ false = ap (λ n. f (tupleAt vs n)) (sym h) ∙ e in
+        subst₂ Accumulates (sym er) (sym (kept-miss vs f t b w i e′)) inv

@@ -1,0 +1,243 @@
+// Conditions and terms evaluated over the bytes of a query. A table of sizes tells where a second child starts, so that
+// AND, OR and SOME are left as soon as their truth is known. The level falls at each call.
+use kinds::Record;
+use numbers::Accumulator;
+use numbers::Ratio;
+ghost use mathlib.Core.Path.{_≡_};
+ghost use Prim.Native.Nat.{_≤_, _<_};
+ghost use lib.ListN.{length, getD, set};
+ghost use Rattle.model.specs.Lists.{any};
+ghost use Rattle.numbers.specs.Numbers.{represent, Small, Accumulates};
+ghost use Rattle.catalogue.specs.Layout.{tuplesIn};
+ghost use Rattle.evaluator.specs.Evaluation.{holdsAt, valueAt, holdsOn, valuesOn};
+
+// The place of a variable's row.
+pub fn place(env: &[usize], variable: u8) -> usize
+    ensures { λ r. ⌜ r ≡ getD (now (env .entry)) variable 0 ⌝ }
+{
+    let i = variable as usize;
+    if i < env.len() { env[i] } else { 0 }
+}
+
+pub fn set_place(env: &mut [usize], variable: u8, row: usize)
+    ensures { λ _. ⌜ now (env .exit) ≡ set (now (env .entry)) variable row ⌝ }
+{
+    let i = variable as usize;
+    if i < env.len() {
+        env[i] = row;
+    }
+}
+
+// Whether the condition that q starts with holds.
+pub fn condition(
+    q: &[u8],
+    z: &[u16],
+    level: usize,
+    catalogue: &[u8],
+    values: &[i32],
+    env: &mut [usize],
+) -> bool
+    requires { ⌜ 256 ≤ length (now env) ⌝ }
+    ensures { λ r. ⌜ r ≡ holdsAt level (now (q .entry)) (now (z .entry)) (now (catalogue .entry)) (now (values .entry)) (now (env .entry)) ⌝ }
+    ensures { λ _. ⌜ now (env .exit) ≡ now (env .entry) ⌝ }
+{
+    if level == 0 {
+        return false;
+    }
+    let l = level - 1;
+    let a = kinds::record_length(kinds::byte(q, 0));
+    match kinds::read(q) {
+        Record::True => true,
+        Record::Not => {
+            !condition(
+                kinds::tail(q, a),
+                kinds::tail_sizes(z, a),
+                l,
+                catalogue,
+                values,
+                env,
+            )
+        }
+        Record::And => {
+            if !condition(
+                kinds::tail(q, a),
+                kinds::tail_sizes(z, a),
+                l,
+                catalogue,
+                values,
+                env,
+            ) {
+                return false;
+            }
+            let b = a + kinds::size_at(z, a);
+            condition(
+                kinds::tail(q, b),
+                kinds::tail_sizes(z, b),
+                l,
+                catalogue,
+                values,
+                env,
+            )
+        }
+        Record::Or => {
+            if condition(
+                kinds::tail(q, a),
+                kinds::tail_sizes(z, a),
+                l,
+                catalogue,
+                values,
+                env,
+            ) {
+                return true;
+            }
+            let b = a + kinds::size_at(z, a);
+            condition(
+                kinds::tail(q, b),
+                kinds::tail_sizes(z, b),
+                l,
+                catalogue,
+                values,
+                env,
+            )
+        }
+        Record::Compare(operator) => {
+            let x = term(
+                kinds::tail(q, a),
+                kinds::tail_sizes(z, a),
+                l,
+                catalogue,
+                values,
+                env,
+            );
+            let b = a + kinds::size_at(z, a);
+            let y = term(
+                kinds::tail(q, b),
+                kinds::tail_sizes(z, b),
+                l,
+                catalogue,
+                values,
+                env,
+            );
+            numbers::compare(operator, x, y)
+        }
+        Record::Some(variable, relation) => {
+            let x = kinds::tail(q, a);
+            let y = kinds::tail_sizes(z, a);
+            some_row(x, y, l, catalogue, values, env, variable, relation)
+        }
+        _ => false,
+    }
+}
+
+// The value of the term that q starts with.
+pub fn term(
+    q: &[u8],
+    z: &[u16],
+    level: usize,
+    catalogue: &[u8],
+    values: &[i32],
+    env: &mut [usize],
+) -> Ratio
+    requires { ⌜ 256 ≤ length (now env) ⌝ }
+    ensures { λ r. ⌜ r ≡ represent (valueAt level (now (q .entry)) (now (z .entry)) (now (catalogue .entry)) (now (values .entry)) (now (env .entry))) ⌝ }
+    ensures { λ r. ⌜ Small r ⌝ }
+    ensures { λ _. ⌜ now (env .exit) ≡ now (env .entry) ⌝ }
+{
+    if level == 0 {
+        return numbers::whole(0);
+    }
+    let l = level - 1;
+    let at = kinds::record_length(kinds::byte(q, 0));
+    match kinds::read(q) {
+        Record::Constant(a, b, c, d) => numbers::whole(kinds::constant(a, b, c, d)),
+        Record::Attribute(variable, attribute) => {
+            let row = place(env, variable);
+            numbers::whole(catalogue::cell(values, row, attribute))
+        }
+        Record::Aggregate(function, variable, relation, attribute) => {
+            let x = kinds::tail(q, at);
+            let y = kinds::tail_sizes(z, at);
+            let taken = gather(
+                x,
+                y,
+                l,
+                catalogue,
+                values,
+                env,
+                variable,
+                relation,
+                attribute,
+            );
+            numbers::finish(function, taken)
+        }
+        _ => numbers::whole(0),
+    }
+}
+
+// Whether some row of the relation meets the condition; the search ends at the first.
+fn some_row(
+    q: &[u8],
+    z: &[u16],
+    level: usize,
+    catalogue: &[u8],
+    values: &[i32],
+    env: &mut [usize],
+    variable: u8,
+    relation: u8,
+) -> bool
+    requires { ⌜ 256 ≤ length (now env) ⌝ }
+    ensures { λ r. ⌜ r ≡ any (holdsOn level (now (q .entry)) (now (z .entry)) (now (catalogue .entry)) (now (values .entry)) (now (env .entry)) variable) (tuplesIn (now (catalogue .entry)) (now (values .entry)) relation) ⌝ }
+    ensures { λ _. ⌜ now (env .exit) ≡ now (env .entry) ⌝ }
+{
+    let n = catalogue::rows(catalogue, relation);
+    let w = catalogue::attributes(catalogue, relation);
+    let old = place(env, variable);
+    let mut row = catalogue::base(catalogue, relation);
+    let mut i = 0;
+    while i < n {
+        set_place(env, variable, row);
+        if condition(q, z, level, catalogue, values, env) {
+            set_place(env, variable, old);
+            return true;
+        }
+        row += w;
+        i += 1;
+    }
+    set_place(env, variable, old);
+    false
+}
+
+// The attribute of each row of the relation that meets the condition.
+fn gather(
+    q: &[u8],
+    z: &[u16],
+    level: usize,
+    catalogue: &[u8],
+    values: &[i32],
+    env: &mut [usize],
+    variable: u8,
+    relation: u8,
+    attribute: u8,
+) -> Accumulator
+    requires { ⌜ 256 ≤ length (now env) ⌝ }
+    ensures { λ r. ⌜ Accumulates r (valuesOn level (now (q .entry)) (now (z .entry)) (now (catalogue .entry)) (now (values .entry)) (now (env .entry)) variable relation attribute) ⌝ }
+    ensures { λ r. ⌜ r .count ≤ 65535 ⌝ }
+    ensures { λ _. ⌜ now (env .exit) ≡ now (env .entry) ⌝ }
+{
+    let n = catalogue::rows(catalogue, relation);
+    let w = catalogue::attributes(catalogue, relation);
+    let old = place(env, variable);
+    let mut taken = numbers::empty();
+    let mut row = catalogue::base(catalogue, relation);
+    let mut i = 0;
+    while i < n {
+        set_place(env, variable, row);
+        if condition(q, z, level, catalogue, values, env) {
+            taken = numbers::add(taken, catalogue::cell(values, row, attribute));
+        }
+        row += w;
+        i += 1;
+    }
+    set_place(env, variable, old);
+    taken
+}

@@ -1,0 +1,5 @@
+pub mod Steps
+pub mod Reader
+pub mod Marks
+pub mod Sized
+pub mod Decoding

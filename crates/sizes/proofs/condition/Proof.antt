@@ -1,0 +1,33 @@
+use borrow.Author.Needs.{needs}
+use Rattle.sizes.proofs.condition.Statement.{statement}
+use Rattle.sizes.proofs.condition.Tie as tie
+use Rattle.sizes.proofs.condition.Reads as reads
+use Rattle.sizes.proofs.condition.Lts as lts
+use Rattle.kinds.proofs.tail.Reads as tail-reads
+use Rattle.sizes.proofs.measure.Reads as measure-reads
+use native.Mathlib.Omega.{arith}
+use denote.Ref.{now}
+use Rattle.sizes.proofs.Reader.{is-condition, past-condition, part-room}
+
+-- src/lib.rt:86:9
+returns : tie.Need-returns
+returns c = past-condition (c .before .before .before .args .level) (now (c .before .before .before .args .q)) (c .before .before .before .args .at) (now (c .before .before .before .args .z)) (c .if1 .taken)
+
+-- src/lib.rt:88:13
+tail-requires : tie.Need-tail-requires
+tail-requires c κs = search needs
+
+-- src/lib.rt:88:5
+measure-requires : tie.Need-measure-requires
+measure-requires c κs = part-room (now (c .before .before .before .before .before .args .q)) (now (c .before .tail .result)) (c .before .before .before .before .before .args .at) (c .before .tail .ensures) (c .before .before .if1 .left) (omega (arith, c .before .before .before .before .before .good))
+
+-- src/lib.rt:81:1
+same-length : tie.Need-same-length
+same-length c = search needs
+
+-- src/lib.rt:81:1
+returns-2 : tie.Need-returns-2
+returns-2 c = is-condition (c .before .before .before .before .before .before .before .before .args .level) (now (c .before .before .before .before .before .before .before .before .args .q)) (now (c .before .before .before .before .tail .result)) (c .before .before .before .before .before .before .before .before .args .at) (now (c .before .before .before .before .before .before .before .before .args .z)) (c .before .before .measure .last .1 .0) (c .before .before .measure .result) (c .before .before .before .before .tail .ensures) (c .before .before .measure .ensures .0)
+
+pub condition-spec : {M : Type 1} → statement M
+condition-spec = tie.close (tie.spec returns tail-requires measure-requires same-length returns-2)

@@ -1,0 +1,33 @@
+use borrow.Author.Needs.{needs}
+use Rattle.sizes.proofs.term.Statement.{statement}
+use Rattle.sizes.proofs.term.Tie as tie
+use Rattle.sizes.proofs.term.Reads as reads
+use Rattle.sizes.proofs.term.Lts as lts
+use Rattle.kinds.proofs.tail.Reads as tail-reads
+use Rattle.sizes.proofs.measure.Reads as measure-reads
+use native.Mathlib.Omega.{arith}
+use denote.Ref.{now}
+use Rattle.sizes.proofs.Reader.{is-term, past-term, part-room}
+
+-- src/lib.rt:97:9
+returns : tie.Need-returns
+returns c = past-term (c .before .before .before .args .level) (now (c .before .before .before .args .q)) (c .before .before .before .args .at) (now (c .before .before .before .args .z)) (c .if1 .taken)
+
+-- src/lib.rt:99:13
+tail-requires : tie.Need-tail-requires
+tail-requires c κs = search needs
+
+-- src/lib.rt:99:5
+measure-requires : tie.Need-measure-requires
+measure-requires c κs = part-room (now (c .before .before .before .before .before .args .q)) (now (c .before .tail .result)) (c .before .before .before .before .before .args .at) (c .before .tail .ensures) (c .before .before .if1 .left) (omega (arith, c .before .before .before .before .before .good))
+
+-- src/lib.rt:92:1
+same-length : tie.Need-same-length
+same-length c = search needs
+
+-- src/lib.rt:92:1
+returns-2 : tie.Need-returns-2
+returns-2 c = is-term (c .before .before .before .before .before .before .before .before .args .level) (now (c .before .before .before .before .before .before .before .before .args .q)) (now (c .before .before .before .before .tail .result)) (c .before .before .before .before .before .before .before .before .args .at) (now (c .before .before .before .before .before .before .before .before .args .z)) (c .before .before .measure .last .1 .0) (c .before .before .measure .result) (c .before .before .before .before .tail .ensures) (c .before .before .measure .ensures .0)
+
+pub term-spec : {M : Type 1} → statement M
+term-spec = tie.close (tie.spec returns tail-requires measure-requires same-length returns-2)
