@@ -1,0 +1,6 @@
+pub mod Walk
+pub mod Whole
+pub mod Lists
+pub mod Masks
+pub mod Finds
+pub mod Loops

@@ -1,0 +1,83 @@
+use Rattle.scans.proofs.all_fresh.Statement.{statement}
+use Rattle.scans.proofs.all_fresh.Tie as tie
+use Rattle.scans.proofs.all_fresh.Reads as reads
+use Rattle.scans.proofs.all_fresh.Lts as lts
+use Rattle.scans.proofs.binding.Reads as binding-reads
+use Rattle.scans.proofs.mark.Reads as mark-reads
+use Rattle.scans.proofs.step.Reads as step-reads
+use borrow.Author.Needs.{needs}
+use mathlib.Core.Path.{_≡_, refl}
+use Prim.Native.Nat.{_-_}
+use lib.ListN.{length, drop}
+use denote.Ref.{now}
+use Rattle.model.specs.Syntax.{variables}
+use Rattle.scans.specs.Flat.{flatBindings, fresh}
+use Rattle.scans.proofs.Loops.{fresh-went, fresh-stopped, fresh-end}
+
+abbrev Inv-loop : tie.InvT-loop
+Inv-loop q seen₀ at₀ seen at = (fresh seen (variables (flatBindings (drop at q))) ≡ fresh seen₀ (variables (flatBindings q))) × (length seen ≡ 256) × (length seen ≡ length seen₀)
+
+abbrev μ-loop : tie.MeasureT-loop
+μ-loop q seen₀ at₀ seen at = length q - at
+
+-- src/lib.rt:133:5
+loop-holds : tie.Need-loop-holds Inv-loop μ-loop
+loop-holds c = (refl, c .before .before .pre, refl)
+
+-- src/lib.rt:134:24
+binding-requires : tie.Need-binding-requires Inv-loop μ-loop
+binding-requires c κs = search needs
+
+-- src/lib.rt:134:13
+mark-requires : tie.Need-mark-requires Inv-loop μ-loop
+mark-requires c κs = search needs
+
+-- src/lib.rt:135:13
+same-length : tie.Need-same-length Inv-loop μ-loop
+same-length c = search needs
+
+-- src/lib.rt:135:13
+returns : tie.Need-returns Inv-loop μ-loop
+returns c = fresh-stopped (now (c .before .before .before .before .before .before .before .before .before .before .args .q)) (c .before .before .before .before .before .before .before .loop .at) _ (c .before .before .before .before .before .before .loop-test .taken) refl (c .before .before .before .before .binding .result) (c .before .before .before .before .binding .ensures) (c .before .before .before .before .before .before .before .loop .seen) (c .before .before .before .mark .last .0) _ (c .before .before .before .mark .result) (c .before .before .before .before .before .before .before .loop .inv .0) (c .before .before .before .mark .ensures) (c .if1 .taken)
+
+-- src/lib.rt:137:15
+step-requires : tie.Need-step-requires Inv-loop μ-loop
+step-requires c κs = search needs
+
+-- src/lib.rt:137:9
+add-at : tie.Need-add-at Inv-loop μ-loop
+add-at c = search needs
+
+-- src/lib.rt:133:5
+loop-less : tie.Need-loop-less Inv-loop μ-loop
+loop-less c = search needs
+
+-- src/lib.rt:133:5
+loop-again : tie.Need-loop-again Inv-loop μ-loop
+loop-again c = (fresh-went (now (c .before .before .before .before .before .before .before .before .before .before .before .args .q)) (c .before .before .before .before .before .before .before .before .loop .at) _ (c .before .before .before .before .before .before .before .loop-test .taken) (c .step .ensures .0) (c .before .before .before .before .before .binding .result) (c .before .before .before .before .before .binding .ensures) (c .before .before .before .before .before .before .before .before .loop .seen) (c .before .before .before .before .mark .last .0) _ (c .before .before .before .before .mark .result) (c .before .before .before .before .before .before .before .before .loop .inv .0) (c .before .before .before .before .mark .ensures) (c .before .if1 .left), search needs, search needs)
+
+-- src/lib.rt:128:1
+same-length-2 : tie.Need-same-length-2 Inv-loop μ-loop
+same-length-2 c = search needs
+
+-- src/lib.rt:128:1
+returns-2 : tie.Need-returns-2 Inv-loop μ-loop
+returns-2 c = fresh-end (now (c .before .before .before .before .args .q)) (c .before .loop .at) (c .loop-test .left) _ _ (c .before .loop .inv .0)
+
+pub all-fresh-spec : {M : Type 1} → statement M
+all-fresh-spec =
+    tie.close
+    (tie.spec
+    Inv-loop
+    μ-loop
+    loop-holds
+    binding-requires
+    mark-requires
+    same-length
+    returns
+    step-requires
+    add-at
+    loop-less
+    loop-again
+    same-length-2
+    returns-2)

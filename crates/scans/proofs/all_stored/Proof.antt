@@ -1,0 +1,73 @@
+use Rattle.scans.proofs.all_stored.Statement.{statement}
+use Rattle.scans.proofs.all_stored.Tie as tie
+use Rattle.scans.proofs.all_stored.Reads as reads
+use Rattle.scans.proofs.all_stored.Lts as lts
+use Rattle.scans.proofs.binding.Reads as binding-reads
+use Rattle.scans.proofs.step.Reads as step-reads
+use Rattle.scans.proofs.stored.Reads as stored-reads
+use borrow.Author.Needs.{needs}
+use mathlib.Core.Path.{_≡_, refl}
+use Prim.Native.Nat.{_-_}
+use lib.ListN.{length, drop}
+use denote.Ref.{now}
+use Rattle.model.specs.Lists.{all}
+use Rattle.scans.specs.Flat.{flatBindings, storedIn}
+use Rattle.scans.proofs.Loops.{all-on, all-end, went, stopped}
+
+abbrev Inv-loop : tie.InvT-loop
+Inv-loop q catalogue at₀ at = all (storedIn catalogue) (flatBindings (drop at q)) ≡ all (storedIn catalogue) (flatBindings q)
+
+abbrev μ-loop : tie.MeasureT-loop
+μ-loop q catalogue at₀ at = length q - at
+
+-- src/lib.rt:125:5
+loop-holds : tie.Need-loop-holds Inv-loop μ-loop
+loop-holds c = refl
+
+-- src/lib.rt:126:20
+binding-requires : tie.Need-binding-requires Inv-loop μ-loop
+binding-requires c κs = search needs
+
+-- src/lib.rt:126:13
+stored-requires : tie.Need-stored-requires Inv-loop μ-loop
+stored-requires c κs = search needs
+
+-- src/lib.rt:127:13
+returns : tie.Need-returns Inv-loop μ-loop
+returns c = stopped (c .before .stored .result) _ _ (c .if1 .taken) (all-on (now (c .before .before .before .before .before .before .before .args .q)) (c .before .before .before .before .loop .at) _ (c .before .before .before .loop-test .taken) refl (c .before .before .binding .result) (c .before .before .binding .ensures) (storedIn (now (c .before .before .before .before .before .before .before .args .catalogue))) _ (c .before .before .before .before .loop .inv) _ (c .before .stored .ensures))
+
+-- src/lib.rt:129:15
+step-requires : tie.Need-step-requires Inv-loop μ-loop
+step-requires c κs = search needs
+
+-- src/lib.rt:129:9
+add-at : tie.Need-add-at Inv-loop μ-loop
+add-at c = search needs
+
+-- src/lib.rt:125:5
+loop-less : tie.Need-loop-less Inv-loop μ-loop
+loop-less c = search needs
+
+-- src/lib.rt:125:5
+loop-again : tie.Need-loop-again Inv-loop μ-loop
+loop-again c = went (c .before .before .stored .result) _ _ (c .before .if1 .left) (all-on (now (c .before .before .before .before .before .before .before .before .args .q)) (c .before .before .before .before .before .loop .at) _ (c .before .before .before .before .loop-test .taken) (c .step .ensures .0) (c .before .before .before .binding .result) (c .before .before .before .binding .ensures) (storedIn (now (c .before .before .before .before .before .before .before .before .args .catalogue))) _ (c .before .before .before .before .before .loop .inv) _ (c .before .before .stored .ensures))
+
+-- src/lib.rt:121:1
+returns-2 : tie.Need-returns-2 Inv-loop μ-loop
+returns-2 c = all-end (now (c .before .before .before .before .args .q)) (c .before .loop .at) (c .loop-test .left) (storedIn (now (c .before .before .before .before .args .catalogue))) _ (c .before .loop .inv)
+
+pub all-stored-spec : {M : Type 1} → statement M
+all-stored-spec =
+    tie.close
+    (tie.spec
+    Inv-loop
+    μ-loop
+    loop-holds
+    binding-requires
+    stored-requires
+    returns
+    step-requires
+    add-at
+    loop-less
+    loop-again
+    returns-2)

@@ -1,0 +1,86 @@
+use borrow.Author.Needs.{needs}
+use Rattle.scans.proofs.binding.Statement.{statement}
+use Rattle.scans.proofs.binding.Tie as tie
+use Rattle.scans.proofs.binding.Reads as reads
+use Rattle.scans.proofs.binding.Lts as lts
+use Rattle.kinds.proofs.read.Reads as read-reads
+use Rattle.kinds.proofs.tail.Reads as tail-reads
+use mathlib.Core.Path.{_≡_, refl, ap, _∙_}
+use mathlib.Core.List.{[], _∷_}
+use denote.Enum.Declared.{tagOf, declared}
+use types.Run.{OneOf, miss}
+use Rattle.kinds.specs.Record.{recordAt}
+use Rattle.kinds.specs.declared.Record.{Record}
+use Rattle.kinds.specs.declared.Record.the-variants as R
+use Rattle.kinds.proofs.Record.{enum}
+use Rattle.scans.specs.Flat.{bindingOf}
+use Rattle.scans.proofs.Walk.{found}
+
+-- no other record does
+other : (r : Record) → OneOf (1 ∷ 2 ∷ 3 ∷ 4 ∷ 5 ∷ 6 ∷ 8 ∷ 9 ∷ 11 ∷ 12 ∷ 13 ∷ 14 ∷ 15 ∷ []) (tagOf (declared enum) r) → [] ≡ bindingOf r
+other (R.Range v r) h = absurd (miss (1 ∷ 2 ∷ 3 ∷ 4 ∷ 5 ∷ 6 ∷ 8 ∷ 9 ∷ 11 ∷ 12 ∷ 13 ∷ 14 ∷ 15 ∷ []) 0 tt h)
+other R.True h = refl
+other R.False h = refl
+other R.Not h = refl
+other R.And h = refl
+other R.Or h = refl
+other (R.Compare o) h = refl
+other (R.Some v r) h = absurd (miss (1 ∷ 2 ∷ 3 ∷ 4 ∷ 5 ∷ 6 ∷ 8 ∷ 9 ∷ 11 ∷ 12 ∷ 13 ∷ 14 ∷ 15 ∷ []) 7 tt h)
+other (R.Constant a b c d) h = refl
+other (R.Attribute v a) h = refl
+other (R.Aggregate f v r a) h = absurd (miss (1 ∷ 2 ∷ 3 ∷ 4 ∷ 5 ∷ 6 ∷ 8 ∷ 9 ∷ 11 ∷ 12 ∷ 13 ∷ 14 ∷ 15 ∷ []) 10 tt h)
+other (R.Stored a b c) h = refl
+other (R.Workspace a b c) h = refl
+other (R.Permit a b c) h = refl
+other R.Unknown h = refl
+other R.Short h = refl
+
+-- src/lib.rt:30:23
+tail-requires : tie.Need-tail-requires
+tail-requires c κs = search needs
+
+-- src/lib.rt:30:11
+read-requires : tie.Need-read-requires
+read-requires c κs = search needs
+
+-- src/lib.rt:31:23
+enum-known-v : tie.Need-enum-known-v
+enum-known-v c = search needs
+
+-- src/lib.rt:32:22
+enum-known-v-2 : tie.Need-enum-known-v-2
+enum-known-v-2 c = search needs
+
+-- src/lib.rt:33:30
+enum-known-v-3 : tie.Need-enum-known-v-3
+enum-known-v-3 c = search needs
+
+-- src/lib.rt:27:1
+returns : tie.Need-returns
+returns c = found bindingOf _ _ (c .before .before .before .before .before .before .args .at) _ _ (c .before .before .before .before .tail .ensures) (c .before .before .before .read .ensures) (c .before .v .given .1)
+
+-- src/lib.rt:27:1
+returns-2 : tie.Need-returns-2
+returns-2 c = found bindingOf _ _ (c .before .before .before .before .before .before .args .at) _ _ (c .before .before .before .before .tail .ensures) (c .before .before .before .read .ensures) (c .before .v2 .given .1)
+
+-- src/lib.rt:27:1
+returns-3 : tie.Need-returns-3
+returns-3 c = found bindingOf _ _ (c .before .before .before .before .before .before .args .at) _ _ (c .before .before .before .before .tail .ensures) (c .before .before .before .read .ensures) (c .before .v3 .given .1)
+
+-- src/lib.rt:27:1
+returns-4 : tie.Need-returns-4
+returns-4 c = other (c .before .read .result) (c .match .keys4) ∙ ap bindingOf (c .before .read .ensures ∙ ap recordAt (c .before .before .tail .ensures))
+
+pub binding-spec : {M : Type 1} → statement M
+binding-spec =
+    tie.close
+    (tie.spec
+    tail-requires
+    read-requires
+    enum-known-v
+    enum-known-v-2
+    enum-known-v-3
+    returns
+    returns-2
+    returns-3
+    returns-4)

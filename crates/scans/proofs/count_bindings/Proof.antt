@@ -1,0 +1,73 @@
+use Rattle.scans.proofs.count_bindings.Statement.{statement}
+use Rattle.scans.proofs.count_bindings.Tie as tie
+use Rattle.scans.proofs.count_bindings.Reads as reads
+use Rattle.scans.proofs.count_bindings.Lts as lts
+use Rattle.scans.proofs.binding.Reads as binding-reads
+use Rattle.scans.proofs.one.Reads as one-reads
+use Rattle.scans.proofs.step.Reads as step-reads
+use borrow.Author.Needs.{needs}
+use native.Mathlib.Omega.{arith}
+use mathlib.Core.Path.{_≡_}
+use Prim.Native.Nat.{_+_, _-_, _≤_}
+use lib.ListN.{length, drop}
+use denote.Ref.{now}
+use Rattle.scans.specs.Flat.{flatBindings}
+use Rattle.scans.proofs.Loops.{count-on, count-end}
+
+abbrev Inv-loop : tie.InvT-loop
+Inv-loop q n₀ at₀ n at = (n + length (flatBindings (drop at q)) ≡ length (flatBindings q)) × (n ≤ at)
+
+abbrev μ-loop : tie.MeasureT-loop
+μ-loop q n₀ at₀ n at = length q - at
+
+-- src/lib.rt:73:5
+loop-holds : tie.Need-loop-holds Inv-loop μ-loop
+loop-holds c = (omega arith, omega arith)
+
+-- src/lib.rt:74:18
+binding-requires : tie.Need-binding-requires Inv-loop μ-loop
+binding-requires c κs = search needs
+
+-- src/lib.rt:74:14
+one-requires : tie.Need-one-requires Inv-loop μ-loop
+one-requires c κs = search needs
+
+-- src/lib.rt:74:9
+add-n : tie.Need-add-n Inv-loop μ-loop
+add-n c = search needs
+
+-- src/lib.rt:75:15
+step-requires : tie.Need-step-requires Inv-loop μ-loop
+step-requires c κs = search needs
+
+-- src/lib.rt:75:9
+add-at : tie.Need-add-at Inv-loop μ-loop
+add-at c = search needs
+
+-- src/lib.rt:73:5
+loop-less : tie.Need-loop-less Inv-loop μ-loop
+loop-less c = search needs
+
+-- src/lib.rt:73:5
+loop-again : tie.Need-loop-again Inv-loop μ-loop
+loop-again c = (count-on (now (c .before .before .before .before .before .before .args .q)) (c .before .before .before .before .loop .at) _ (c .before .before .before .loop-test .taken) (c .step .ensures .0) (c .before .before .binding .result) (c .before .before .binding .ensures) _ (c .before .before .before .before .loop .n) _ (c .before .one .ensures .0) (c .before .before .before .before .loop .inv .0), omega arith)
+
+-- src/lib.rt:68:1
+returns : tie.Need-returns Inv-loop μ-loop
+returns c = count-end (now (c .before .before .before .args .q)) (c .before .loop .at) (c .loop-test .left) _ _ (c .before .loop .inv .0)
+
+pub count-bindings-spec : {M : Type 1} → statement M
+count-bindings-spec =
+    tie.close
+    (tie.spec
+    Inv-loop
+    μ-loop
+    loop-holds
+    binding-requires
+    one-requires
+    add-n
+    step-requires
+    add-at
+    loop-less
+    loop-again
+    returns)

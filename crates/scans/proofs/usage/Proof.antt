@@ -1,0 +1,69 @@
+use borrow.Author.Needs.{needs}
+use Rattle.scans.proofs.usage.Statement.{statement}
+use Rattle.scans.proofs.usage.Tie as tie
+use Rattle.scans.proofs.usage.Reads as reads
+use Rattle.scans.proofs.usage.Lts as lts
+use Rattle.kinds.proofs.read.Reads as read-reads
+use Rattle.kinds.proofs.tail.Reads as tail-reads
+use mathlib.Core.Path.{_≡_, refl, ap, _∙_}
+use mathlib.Core.List.{[], _∷_}
+use denote.Enum.Declared.{tagOf, declared}
+use types.Run.{OneOf, miss}
+use Rattle.kinds.specs.Record.{recordAt}
+use Rattle.kinds.specs.declared.Record.{Record}
+use Rattle.kinds.specs.declared.Record.the-variants as R
+use Rattle.kinds.proofs.Record.{enum}
+use Rattle.scans.specs.Flat.{useOf}
+use Rattle.scans.proofs.Walk.{found}
+
+-- no other record does
+other : (r : Record) → OneOf (0 ∷ 1 ∷ 2 ∷ 3 ∷ 4 ∷ 5 ∷ 6 ∷ 7 ∷ 8 ∷ 11 ∷ 12 ∷ 13 ∷ 14 ∷ 15 ∷ []) (tagOf (declared enum) r) → [] ≡ useOf r
+other (R.Range v r) h = refl
+other R.True h = refl
+other R.False h = refl
+other R.Not h = refl
+other R.And h = refl
+other R.Or h = refl
+other (R.Compare o) h = refl
+other (R.Some v r) h = refl
+other (R.Constant a b c d) h = refl
+other (R.Attribute v a) h = absurd (miss (0 ∷ 1 ∷ 2 ∷ 3 ∷ 4 ∷ 5 ∷ 6 ∷ 7 ∷ 8 ∷ 11 ∷ 12 ∷ 13 ∷ 14 ∷ 15 ∷ []) 9 tt h)
+other (R.Aggregate f v r a) h = absurd (miss (0 ∷ 1 ∷ 2 ∷ 3 ∷ 4 ∷ 5 ∷ 6 ∷ 7 ∷ 8 ∷ 11 ∷ 12 ∷ 13 ∷ 14 ∷ 15 ∷ []) 10 tt h)
+other (R.Stored a b c) h = refl
+other (R.Workspace a b c) h = refl
+other (R.Permit a b c) h = refl
+other R.Unknown h = refl
+other R.Short h = refl
+
+-- src/lib.rt:42:23
+tail-requires : tie.Need-tail-requires
+tail-requires c κs = search needs
+
+-- src/lib.rt:42:11
+read-requires : tie.Need-read-requires
+read-requires c κs = search needs
+
+-- src/lib.rt:43:27
+enum-known-v : tie.Need-enum-known-v
+enum-known-v c = search needs
+
+-- src/lib.rt:44:30
+enum-known-v-2 : tie.Need-enum-known-v-2
+enum-known-v-2 c = search needs
+
+-- src/lib.rt:39:1
+returns : tie.Need-returns
+returns c = found useOf _ _ (c .before .before .before .before .before .before .args .at) _ _ (c .before .before .before .before .tail .ensures) (c .before .before .before .read .ensures) (c .before .v .given .1)
+
+-- src/lib.rt:39:1
+returns-2 : tie.Need-returns-2
+returns-2 c = found useOf _ _ (c .before .before .before .before .before .before .args .at) _ _ (c .before .before .before .before .tail .ensures) (c .before .before .before .read .ensures) (c .before .v2 .given .1)
+
+-- src/lib.rt:39:1
+returns-3 : tie.Need-returns-3
+returns-3 c = other (c .before .read .result) (c .match .keys3) ∙ ap useOf (c .before .read .ensures ∙ ap recordAt (c .before .before .tail .ensures))
+
+pub usage-spec : {M : Type 1} → statement M
+usage-spec =
+    tie.close
+    (tie.spec tail-requires read-requires enum-known-v enum-known-v-2 returns returns-2 returns-3)

@@ -1,0 +1,69 @@
+use Rattle.scans.proofs.used_mask.Statement.{statement}
+use Rattle.scans.proofs.used_mask.Tie as tie
+use Rattle.scans.proofs.used_mask.Reads as reads
+use Rattle.scans.proofs.used_mask.Lts as lts
+use Rattle.scans.proofs.add.Reads as add-reads
+use Rattle.scans.proofs.step.Reads as step-reads
+use Rattle.scans.proofs.usage.Reads as usage-reads
+use borrow.Author.Needs.{needs}
+use mathlib.Core.Path.{_≡_}
+use Prim.Native.Nat.{ℕ, _-_, _<_}
+use lib.ListN.{length, drop}
+use denote.Ref.{now}
+use mathlib.Core.Bool.{_||_}
+use Rattle.model.specs.Permits.{bit}
+use Rattle.scans.specs.Flat.{flatUses, usedIn}
+use Rattle.scans.proofs.Loops.{used-start, used-on, used-end}
+
+abbrev Inv-loop : tie.InvT-loop
+Inv-loop q variable mask₀ at₀ mask at = (a : ℕ) → a < 16 → (bit mask a || usedIn (flatUses (drop at q)) variable a) ≡ usedIn (flatUses q) variable a
+
+abbrev μ-loop : tie.MeasureT-loop
+μ-loop q variable mask₀ at₀ mask at = length q - at
+
+-- src/lib.rt:169:5
+loop-holds : tie.Need-loop-holds Inv-loop μ-loop
+loop-holds c = λ a h. used-start _ a
+
+-- src/lib.rt:170:26
+usage-requires : tie.Need-usage-requires Inv-loop μ-loop
+usage-requires c κs = search needs
+
+-- src/lib.rt:170:9
+add-requires : tie.Need-add-requires Inv-loop μ-loop
+add-requires c κs = search needs
+
+-- src/lib.rt:171:15
+step-requires : tie.Need-step-requires Inv-loop μ-loop
+step-requires c κs = search needs
+
+-- src/lib.rt:171:9
+add-at : tie.Need-add-at Inv-loop μ-loop
+add-at c = search needs
+
+-- src/lib.rt:169:5
+loop-less : tie.Need-loop-less Inv-loop μ-loop
+loop-less c = search needs
+
+-- src/lib.rt:169:5
+loop-again : tie.Need-loop-again Inv-loop μ-loop
+loop-again c = λ a h. used-on (now (c .before .before .before .before .before .before .args .q)) (c .before .before .before .before .loop .at) _ (c .before .before .before .loop-test .taken) (c .step .ensures .0) (c .before .before .usage .result) (c .before .before .usage .ensures) (c .before .before .before .before .before .before .args .variable) a (c .before .before .before .before .loop .mask) (c .before .add .result) _ (c .before .add .ensures a h) (c .before .before .before .before .loop .inv a h)
+
+-- src/lib.rt:164:1
+returns : tie.Need-returns Inv-loop μ-loop
+returns c = λ a h. used-end (now (c .before .before .before .args .q)) (c .before .loop .at) (c .loop-test .left) (c .before .before .before .args .variable) a (c .before .loop .mask) _ (c .before .loop .inv a h)
+
+pub used-mask-spec : {M : Type 1} → statement M
+used-mask-spec =
+    tie.close
+    (tie.spec
+    Inv-loop
+    μ-loop
+    loop-holds
+    usage-requires
+    add-requires
+    step-requires
+    add-at
+    loop-less
+    loop-again
+    returns)
