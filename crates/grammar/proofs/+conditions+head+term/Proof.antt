@@ -1,0 +1,924 @@
+use Prim.Native.Nat.{ℕ, suc, _<_, _≤_, _+_, _-_, _*_}
+use borrow.Author.Needs.{needs}
+use native.Mathlib.Omega.{arith}
+use mathlib.Core.Path.{_≡_, sym, ap, _∙_}
+use lib.ListN.{length, drop, length-drop}
+use denote.Ref.{now}
+use Rattle.grammar.specs.Sizes.{conditionSize, termSize, after, many, headSize}
+use Rattle.grammar.proofs.Pending.{start, next, turn, stop, halt, end, no-head, no-leaf, head-whole, head-is, leaf-whole, leaf-is}
+use Rattle.grammar.proofs.Bounds.{condition-within, many-within, head-takes, term-takes, part-within, part-takes}
+use borrow.Fn.Kinds.{In}
+use borrow.Fn.PlainCycle.{Measures, is, falls, and}
+use Rattle.grammar.proofs.conditions.Reads as conditions
+use Rattle.grammar.proofs.conditions.Kinds as conditions-kinds
+use Rattle.grammar.proofs.+conditions+head+term.Lts-conditions as conditions-lts
+use Rattle.grammar.proofs.head.Reads as head
+use Rattle.grammar.proofs.head.Kinds as head-kinds
+use Rattle.grammar.proofs.+conditions+head+term.Lts-head as head-lts
+use Rattle.grammar.proofs.term.Reads as term
+use Rattle.grammar.proofs.term.Kinds as term-kinds
+use Rattle.grammar.proofs.+conditions+head+term.Lts-term as term-lts
+use Rattle.grammar.proofs.children.Reads as children-reads
+use Rattle.grammar.proofs.is_condition.Reads as is-condition-reads
+use Rattle.grammar.proofs.is_term.Reads as is-term-reads
+use Rattle.grammar.proofs.wide.Reads as wide-reads
+use Rattle.kinds.proofs.byte.Reads as byte-reads
+use Rattle.kinds.proofs.child_conditions.Reads as child-conditions-reads
+use Rattle.kinds.proofs.child_terms.Reads as child-terms-reads
+use Rattle.kinds.proofs.read.Reads as read-reads
+use Rattle.kinds.proofs.record_length.Reads as record-length-reads
+use Rattle.kinds.proofs.tail.Reads as tail-reads
+use Rattle.grammar.proofs.+conditions+head+term.{statement}
+use Rattle.grammar.proofs.+conditions+head+term.Tie.{close}
+
+abbrev μ-conditions : Measures 1 conditions-kinds.ps ℕ
+μ-conditions κs a = suc (2 * length (now (a .0)))
+
+abbrev μ-head : Measures 1 head-kinds.ps ℕ
+μ-head κs a = 2 * length (now (a .0))
+
+abbrev μ-term : Measures 1 term-kinds.ps ℕ
+μ-term κs a = 2 * length (now (a .0))
+
+abbrev conditions-at : ℕ → In 1 conditions-kinds.ps
+conditions-at t =
+    and 1 conditions-kinds.ps (is 1 conditions-kinds.ps μ-conditions t) conditions.Pre
+
+abbrev conditions-below : ℕ → In 1 conditions-kinds.ps
+conditions-below t =
+    and 1 conditions-kinds.ps (falls 1 conditions-kinds.ps _<_ μ-conditions t) conditions.Pre
+
+abbrev head-at : ℕ → In 1 head-kinds.ps
+head-at t = and 1 head-kinds.ps (is 1 head-kinds.ps μ-head t) head.Pre
+
+abbrev head-below : ℕ → In 1 head-kinds.ps
+head-below t = and 1 head-kinds.ps (falls 1 head-kinds.ps _<_ μ-head t) head.Pre
+
+abbrev term-at : ℕ → In 1 term-kinds.ps
+term-at t = and 1 term-kinds.ps (is 1 term-kinds.ps μ-term t) term.Pre
+
+abbrev term-below : ℕ → In 1 term-kinds.ps
+term-below t = and 1 term-kinds.ps (falls 1 term-kinds.ps _<_ μ-term t) term.Pre
+
+abbrev conditions-Inv-loop : conditions-lts.InvT-loop
+conditions-Inv-loop q n at₀ pending₀ at pending = (after at (many conditionSize pending (drop at q)) ≡ many conditionSize n q) × (at ≤ length q) × (pending ≤ 255 + at)
+
+abbrev conditions-μ-loop : conditions-lts.MeasureT-loop
+conditions-μ-loop q n at₀ pending₀ at pending = length q - at
+
+conditions-wide-requires : (t : ℕ) → conditions-lts.Need-wide-requires (
+  wide-reads.Asked,
+  wide-reads.Learnt,
+  tail-reads.Asked,
+  tail-reads.Learnt,
+  head-below t,
+  head.Post,
+  byte-reads.Asked,
+  byte-reads.Learnt,
+  children-reads.Asked,
+  children-reads.Learnt,
+) (conditions-at t) conditions.Post conditions-Inv-loop conditions-μ-loop
+conditions-wide-requires t c κs = search needs
+
+conditions-loop-holds : (t : ℕ) → conditions-lts.Need-loop-holds (
+  wide-reads.Asked,
+  wide-reads.Learnt,
+  tail-reads.Asked,
+  tail-reads.Learnt,
+  head-below t,
+  head.Post,
+  byte-reads.Asked,
+  byte-reads.Learnt,
+  children-reads.Asked,
+  children-reads.Learnt,
+) (conditions-at t) conditions.Post conditions-Inv-loop conditions-μ-loop
+conditions-loop-holds t c = (start conditionSize (now (c .before .before .args .q)) (c .before .before .args .n) (c .wide .result) (c .wide .ensures .0), omega arith, c .wide .ensures .1)
+
+conditions-tail-requires : (t : ℕ) → conditions-lts.Need-tail-requires (
+  wide-reads.Asked,
+  wide-reads.Learnt,
+  tail-reads.Asked,
+  tail-reads.Learnt,
+  head-below t,
+  head.Post,
+  byte-reads.Asked,
+  byte-reads.Learnt,
+  children-reads.Asked,
+  children-reads.Learnt,
+) (conditions-at t) conditions.Post conditions-Inv-loop conditions-μ-loop
+conditions-tail-requires t c κs = search needs
+
+conditions-head-requires : (t : ℕ) → conditions-lts.Need-head-requires (
+  wide-reads.Asked,
+  wide-reads.Learnt,
+  tail-reads.Asked,
+  tail-reads.Learnt,
+  head-below t,
+  head.Post,
+  byte-reads.Asked,
+  byte-reads.Learnt,
+  children-reads.Asked,
+  children-reads.Learnt,
+) (conditions-at t) conditions.Post conditions-Inv-loop conditions-μ-loop
+conditions-head-requires t c κs = (omega (arith, ap length (c .tail .ensures), length-drop (c .before .before .loop .at) (now (c .before .before .before .before .before .args .q))), tt)
+
+conditions-enum-known-m : (t : ℕ) → conditions-lts.Need-enum-known-m (
+  wide-reads.Asked,
+  wide-reads.Learnt,
+  tail-reads.Asked,
+  tail-reads.Learnt,
+  head-below t,
+  head.Post,
+  byte-reads.Asked,
+  byte-reads.Learnt,
+  children-reads.Asked,
+  children-reads.Learnt,
+) (conditions-at t) conditions.Post conditions-Inv-loop conditions-μ-loop
+conditions-enum-known-m t c = search needs
+
+conditions-enum-told : (t : ℕ) → conditions-lts.Need-enum-told (
+  wide-reads.Asked,
+  wide-reads.Learnt,
+  tail-reads.Asked,
+  tail-reads.Learnt,
+  head-below t,
+  head.Post,
+  byte-reads.Asked,
+  byte-reads.Learnt,
+  children-reads.Asked,
+  children-reads.Learnt,
+) (conditions-at t) conditions.Post conditions-Inv-loop conditions-μ-loop
+conditions-enum-told t c = search needs
+
+conditions-returns : (t : ℕ) → conditions-lts.Need-returns (
+  wide-reads.Asked,
+  wide-reads.Learnt,
+  tail-reads.Asked,
+  tail-reads.Learnt,
+  head-below t,
+  head.Post,
+  byte-reads.Asked,
+  byte-reads.Learnt,
+  children-reads.Asked,
+  children-reads.Learnt,
+) (conditions-at t) conditions.Post conditions-Inv-loop conditions-μ-loop
+conditions-returns t c = halt (now (c .before .before .before .before .before .before .before .before .args .q)) (now (c .before .before .before .tail .result)) (c .before .before .before .before .before .loop .at) (c .before .before .before .before .before .loop .pending) (c .before .before .head .result) (many conditionSize (c .before .before .before .before .before .before .before .before .args .n) (now (c .before .before .before .before .before .before .before .before .args .q))) (c .before .before .before .tail .ensures) (c .enum-told .given .1) (c .before .before .before .before .before .loop .inv .0) (c .before .before .before .before .loop-test .taken) (c .before .before .head .ensures)
+
+conditions-sub-pending : (t : ℕ) → conditions-lts.Need-sub-pending (
+  wide-reads.Asked,
+  wide-reads.Learnt,
+  tail-reads.Asked,
+  tail-reads.Learnt,
+  head-below t,
+  head.Post,
+  byte-reads.Asked,
+  byte-reads.Learnt,
+  children-reads.Asked,
+  children-reads.Learnt,
+) (conditions-at t) conditions.Post conditions-Inv-loop conditions-μ-loop
+conditions-sub-pending t c = search needs
+
+conditions-byte-requires : (t : ℕ) → conditions-lts.Need-byte-requires (
+  wide-reads.Asked,
+  wide-reads.Learnt,
+  tail-reads.Asked,
+  tail-reads.Learnt,
+  head-below t,
+  head.Post,
+  byte-reads.Asked,
+  byte-reads.Learnt,
+  children-reads.Asked,
+  children-reads.Learnt,
+) (conditions-at t) conditions.Post conditions-Inv-loop conditions-μ-loop
+conditions-byte-requires t c κs = search needs
+
+conditions-children-requires : (t : ℕ) → conditions-lts.Need-children-requires (
+  wide-reads.Asked,
+  wide-reads.Learnt,
+  tail-reads.Asked,
+  tail-reads.Learnt,
+  head-below t,
+  head.Post,
+  byte-reads.Asked,
+  byte-reads.Learnt,
+  children-reads.Asked,
+  children-reads.Learnt,
+) (conditions-at t) conditions.Post conditions-Inv-loop conditions-μ-loop
+conditions-children-requires t c κs = search needs
+
+conditions-add-pending : (t : ℕ) → conditions-lts.Need-add-pending (
+  wide-reads.Asked,
+  wide-reads.Learnt,
+  tail-reads.Asked,
+  tail-reads.Learnt,
+  head-below t,
+  head.Post,
+  byte-reads.Asked,
+  byte-reads.Learnt,
+  children-reads.Asked,
+  children-reads.Learnt,
+) (conditions-at t) conditions.Post conditions-Inv-loop conditions-μ-loop
+conditions-add-pending t c = search needs
+
+conditions-add-at : (t : ℕ) → conditions-lts.Need-add-at (
+  wide-reads.Asked,
+  wide-reads.Learnt,
+  tail-reads.Asked,
+  tail-reads.Learnt,
+  head-below t,
+  head.Post,
+  byte-reads.Asked,
+  byte-reads.Learnt,
+  children-reads.Asked,
+  children-reads.Learnt,
+) (conditions-at t) conditions.Post conditions-Inv-loop conditions-μ-loop
+conditions-add-at t c = let h = part-takes headSize (now (c .before .before .before .before .before .before .before .before .before .before .before .args .q)) (now (c .before .before .before .before .before .before .tail .result)) (c .before .before .before .before .before .before .before .before .loop .at) (c .before .before .before .m .given .0 .0) (c .before .before .before .before .before .head .result) (c .before .before .before .before .before .before .tail .ensures) (c .before .before .before .before .before .head .ensures) (c .before .before .before .m .given .1) head-takes in omega (arith, c .before .before .before .before .before .before .before .before .loop .inv .1)
+
+conditions-loop-less : (t : ℕ) → conditions-lts.Need-loop-less (
+  wide-reads.Asked,
+  wide-reads.Learnt,
+  tail-reads.Asked,
+  tail-reads.Learnt,
+  head-below t,
+  head.Post,
+  byte-reads.Asked,
+  byte-reads.Learnt,
+  children-reads.Asked,
+  children-reads.Learnt,
+) (conditions-at t) conditions.Post conditions-Inv-loop conditions-μ-loop
+conditions-loop-less t c = let h = part-takes headSize (now (c .before .before .before .before .before .before .before .before .before .before .before .args .q)) (now (c .before .before .before .before .before .before .tail .result)) (c .before .before .before .before .before .before .before .before .loop .at) (c .before .before .before .m .given .0 .0) (c .before .before .before .before .before .head .result) (c .before .before .before .before .before .before .tail .ensures) (c .before .before .before .before .before .head .ensures) (c .before .before .before .m .given .1) head-takes in omega (arith, c .before .before .before .before .before .before .before .before .loop .inv .1)
+
+conditions-loop-again : (t : ℕ) → conditions-lts.Need-loop-again (
+  wide-reads.Asked,
+  wide-reads.Learnt,
+  tail-reads.Asked,
+  tail-reads.Learnt,
+  head-below t,
+  head.Post,
+  byte-reads.Asked,
+  byte-reads.Learnt,
+  children-reads.Asked,
+  children-reads.Learnt,
+) (conditions-at t) conditions.Post conditions-Inv-loop conditions-μ-loop
+conditions-loop-again t c = let h = part-takes headSize (now (c .before .before .before .before .before .before .before .before .before .before .before .args .q)) (now (c .before .before .before .before .before .before .tail .result)) (c .before .before .before .before .before .before .before .before .loop .at) (c .before .before .before .m .given .0 .0) (c .before .before .before .before .before .head .result) (c .before .before .before .before .before .before .tail .ensures) (c .before .before .before .before .before .head .ensures) (c .before .before .before .m .given .1) head-takes in (turn (now (c .before .before .before .before .before .before .before .before .before .before .before .args .q)) (now (c .before .before .before .before .before .before .tail .result)) (c .before .before .before .before .before .before .before .before .loop .at) (c .before .before .before .before .before .before .before .before .loop .pending) (c .before .before .before .m .given .0 .0) (c .before .before .before .before .before .head .result) (many conditionSize (c .before .before .before .before .before .before .before .before .before .before .before .args .n) (now (c .before .before .before .before .before .before .before .before .before .before .before .args .q))) (c .before .before .before .before .before .before .tail .ensures) (c .before .before .before .m .given .1) (c .before .byte .result) (c .children .result) (c .before .before .before .before .before .before .before .before .loop .inv .0) (c .before .before .before .before .before .before .before .loop-test .taken) (c .before .before .before .before .before .head .ensures) (c .before .byte .ensures) (c .children .ensures .0), omega (arith, c .before .before .before .before .before .before .before .before .loop .inv .1), omega (arith, c .before .before .before .before .before .before .before .before .loop .inv .2))
+
+conditions-returns-2 : (t : ℕ) → conditions-lts.Need-returns-2 (
+  wide-reads.Asked,
+  wide-reads.Learnt,
+  tail-reads.Asked,
+  tail-reads.Learnt,
+  head-below t,
+  head.Post,
+  byte-reads.Asked,
+  byte-reads.Learnt,
+  children-reads.Asked,
+  children-reads.Learnt,
+) (conditions-at t) conditions.Post conditions-Inv-loop conditions-μ-loop
+conditions-returns-2 t c = end conditionSize (now (c .before .before .before .before .args .q)) (c .before .loop .at) (c .before .loop .pending) (many conditionSize (c .before .before .before .before .args .n) (now (c .before .before .before .before .args .q))) (c .before .loop .inv .0) (c .loop-test .left)
+
+abbrev head-Inv-loop : head-lts.InvT-loop
+head-Inv-loop q k at₀ left₀ at left = (after at (many termSize left (drop at q)) ≡ headSize q) × (at ≤ length q) × (1 ≤ at)
+
+abbrev head-μ-loop : head-lts.MeasureT-loop
+head-μ-loop q k at₀ left₀ at left = left
+
+head-read-requires : (t : ℕ) → head-lts.Need-read-requires (
+  read-reads.Asked,
+  read-reads.Learnt,
+  is-condition-reads.Asked,
+  is-condition-reads.Learnt,
+  byte-reads.Asked,
+  byte-reads.Learnt,
+  record-length-reads.Asked,
+  record-length-reads.Learnt,
+  child-terms-reads.Asked,
+  child-terms-reads.Learnt,
+  tail-reads.Asked,
+  tail-reads.Learnt,
+  term-below t,
+  term.Post,
+) (head-at t) head.Post head-Inv-loop head-μ-loop
+head-read-requires t c κs = search needs
+
+head-is-condition-requires : (t : ℕ) → head-lts.Need-is-condition-requires (
+  read-reads.Asked,
+  read-reads.Learnt,
+  is-condition-reads.Asked,
+  is-condition-reads.Learnt,
+  byte-reads.Asked,
+  byte-reads.Learnt,
+  record-length-reads.Asked,
+  record-length-reads.Learnt,
+  child-terms-reads.Asked,
+  child-terms-reads.Learnt,
+  tail-reads.Asked,
+  tail-reads.Learnt,
+  term-below t,
+  term.Post,
+) (head-at t) head.Post head-Inv-loop head-μ-loop
+head-is-condition-requires t c κs = search needs
+
+head-returns : (t : ℕ) → head-lts.Need-returns (
+  read-reads.Asked,
+  read-reads.Learnt,
+  is-condition-reads.Asked,
+  is-condition-reads.Learnt,
+  byte-reads.Asked,
+  byte-reads.Learnt,
+  record-length-reads.Asked,
+  record-length-reads.Learnt,
+  child-terms-reads.Asked,
+  child-terms-reads.Learnt,
+  tail-reads.Asked,
+  tail-reads.Learnt,
+  term-below t,
+  term.Post,
+) (head-at t) head.Post head-Inv-loop head-μ-loop
+head-returns t c = no-head (now (c .before .before .before .before .args .q)) (c .before .before .read .result) (c .before .is-condition .result) (c .before .before .read .ensures) (c .before .is-condition .ensures) (c .if1 .taken)
+
+head-byte-requires : (t : ℕ) → head-lts.Need-byte-requires (
+  read-reads.Asked,
+  read-reads.Learnt,
+  is-condition-reads.Asked,
+  is-condition-reads.Learnt,
+  byte-reads.Asked,
+  byte-reads.Learnt,
+  record-length-reads.Asked,
+  record-length-reads.Learnt,
+  child-terms-reads.Asked,
+  child-terms-reads.Learnt,
+  tail-reads.Asked,
+  tail-reads.Learnt,
+  term-below t,
+  term.Post,
+) (head-at t) head.Post head-Inv-loop head-μ-loop
+head-byte-requires t c κs = search needs
+
+head-record-length-requires : (t : ℕ) → head-lts.Need-record-length-requires (
+  read-reads.Asked,
+  read-reads.Learnt,
+  is-condition-reads.Asked,
+  is-condition-reads.Learnt,
+  byte-reads.Asked,
+  byte-reads.Learnt,
+  record-length-reads.Asked,
+  record-length-reads.Learnt,
+  child-terms-reads.Asked,
+  child-terms-reads.Learnt,
+  tail-reads.Asked,
+  tail-reads.Learnt,
+  term-below t,
+  term.Post,
+) (head-at t) head.Post head-Inv-loop head-μ-loop
+head-record-length-requires t c κs = search needs
+
+head-child-terms-requires : (t : ℕ) → head-lts.Need-child-terms-requires (
+  read-reads.Asked,
+  read-reads.Learnt,
+  is-condition-reads.Asked,
+  is-condition-reads.Learnt,
+  byte-reads.Asked,
+  byte-reads.Learnt,
+  record-length-reads.Asked,
+  record-length-reads.Learnt,
+  child-terms-reads.Asked,
+  child-terms-reads.Learnt,
+  tail-reads.Asked,
+  tail-reads.Learnt,
+  term-below t,
+  term.Post,
+) (head-at t) head.Post head-Inv-loop head-μ-loop
+head-child-terms-requires t c κs = search needs
+
+head-loop-holds : (t : ℕ) → head-lts.Need-loop-holds (
+  read-reads.Asked,
+  read-reads.Learnt,
+  is-condition-reads.Asked,
+  is-condition-reads.Learnt,
+  byte-reads.Asked,
+  byte-reads.Learnt,
+  record-length-reads.Asked,
+  record-length-reads.Learnt,
+  child-terms-reads.Asked,
+  child-terms-reads.Learnt,
+  tail-reads.Asked,
+  tail-reads.Learnt,
+  term-below t,
+  term.Post,
+) (head-at t) head.Post head-Inv-loop head-μ-loop
+head-loop-holds t c = let h = head-whole (now (c .before .before .before .before .before .before .before .args .q)) (c .before .before .before .before .before .read .result) (c .before .before .before .before .is-condition .result) (c .before .before .before .before .before .read .ensures) (c .before .before .byte .result) (c .before .record-length .result) (c .before .before .byte .ensures) (c .before .record-length .ensures .0) (c .before .before .before .if1 .left) (c .before .before .before .before .is-condition .ensures) in (head-is (now (c .before .before .before .before .before .before .before .args .q)) (c .before .before .before .before .before .read .result) (c .before .before .before .before .is-condition .result) (c .before .before .before .before .before .read .ensures) (c .before .before .byte .result) (c .before .record-length .result) (c .before .before .byte .ensures) (c .before .record-length .ensures .0) (c .before .before .before .if1 .left) (c .before .before .before .before .is-condition .ensures) (c .child-terms .result) (c .child-terms .ensures), h .1, h .0)
+
+head-tail-requires : (t : ℕ) → head-lts.Need-tail-requires (
+  read-reads.Asked,
+  read-reads.Learnt,
+  is-condition-reads.Asked,
+  is-condition-reads.Learnt,
+  byte-reads.Asked,
+  byte-reads.Learnt,
+  record-length-reads.Asked,
+  record-length-reads.Learnt,
+  child-terms-reads.Asked,
+  child-terms-reads.Learnt,
+  tail-reads.Asked,
+  tail-reads.Learnt,
+  term-below t,
+  term.Post,
+) (head-at t) head.Post head-Inv-loop head-μ-loop
+head-tail-requires t c κs = search needs
+
+head-term-requires : (t : ℕ) → head-lts.Need-term-requires (
+  read-reads.Asked,
+  read-reads.Learnt,
+  is-condition-reads.Asked,
+  is-condition-reads.Learnt,
+  byte-reads.Asked,
+  byte-reads.Learnt,
+  record-length-reads.Asked,
+  record-length-reads.Learnt,
+  child-terms-reads.Asked,
+  child-terms-reads.Learnt,
+  tail-reads.Asked,
+  tail-reads.Learnt,
+  term-below t,
+  term.Post,
+) (head-at t) head.Post head-Inv-loop head-μ-loop
+head-term-requires t c κs = (omega (arith, ap length (c .tail .ensures), length-drop (c .before .before .loop .at) (now (c .before .before .before .before .before .before .before .before .before .before .args .q)), c .before .before .loop .inv .1, c .before .before .loop .inv .2), tt)
+
+head-enum-known-n : (t : ℕ) → head-lts.Need-enum-known-n (
+  read-reads.Asked,
+  read-reads.Learnt,
+  is-condition-reads.Asked,
+  is-condition-reads.Learnt,
+  byte-reads.Asked,
+  byte-reads.Learnt,
+  record-length-reads.Asked,
+  record-length-reads.Learnt,
+  child-terms-reads.Asked,
+  child-terms-reads.Learnt,
+  tail-reads.Asked,
+  tail-reads.Learnt,
+  term-below t,
+  term.Post,
+) (head-at t) head.Post head-Inv-loop head-μ-loop
+head-enum-known-n t c = search needs
+
+head-enum-told : (t : ℕ) → head-lts.Need-enum-told (
+  read-reads.Asked,
+  read-reads.Learnt,
+  is-condition-reads.Asked,
+  is-condition-reads.Learnt,
+  byte-reads.Asked,
+  byte-reads.Learnt,
+  record-length-reads.Asked,
+  record-length-reads.Learnt,
+  child-terms-reads.Asked,
+  child-terms-reads.Learnt,
+  tail-reads.Asked,
+  tail-reads.Learnt,
+  term-below t,
+  term.Post,
+) (head-at t) head.Post head-Inv-loop head-μ-loop
+head-enum-told t c = search needs
+
+head-returns-2 : (t : ℕ) → head-lts.Need-returns-2 (
+  read-reads.Asked,
+  read-reads.Learnt,
+  is-condition-reads.Asked,
+  is-condition-reads.Learnt,
+  byte-reads.Asked,
+  byte-reads.Learnt,
+  record-length-reads.Asked,
+  record-length-reads.Learnt,
+  child-terms-reads.Asked,
+  child-terms-reads.Learnt,
+  tail-reads.Asked,
+  tail-reads.Learnt,
+  term-below t,
+  term.Post,
+) (head-at t) head.Post head-Inv-loop head-μ-loop
+head-returns-2 t c = stop (now (c .before .before .before .before .before .before .before .before .before .before .before .before .before .args .q)) (now (c .before .before .before .tail .result)) (c .before .before .before .before .before .loop .at) (c .before .before .before .before .before .loop .left) (c .before .before .term .result) (headSize (now (c .before .before .before .before .before .before .before .before .before .before .before .before .before .args .q))) (c .before .before .before .tail .ensures) (c .enum-told .given .1) termSize (c .before .before .before .before .before .loop .inv .0) (c .before .before .before .before .loop-test .taken) (c .before .before .term .ensures)
+
+head-add-at : (t : ℕ) → head-lts.Need-add-at (
+  read-reads.Asked,
+  read-reads.Learnt,
+  is-condition-reads.Asked,
+  is-condition-reads.Learnt,
+  byte-reads.Asked,
+  byte-reads.Learnt,
+  record-length-reads.Asked,
+  record-length-reads.Learnt,
+  child-terms-reads.Asked,
+  child-terms-reads.Learnt,
+  tail-reads.Asked,
+  tail-reads.Learnt,
+  term-below t,
+  term.Post,
+) (head-at t) head.Post head-Inv-loop head-μ-loop
+head-add-at t c = let h = part-takes termSize (now (c .before .before .before .before .before .before .before .before .before .before .before .before .before .before .args .q)) (now (c .before .before .before .before .tail .result)) (c .before .before .before .before .before .before .loop .at) (c .before .n .given .0 .0) (c .before .before .before .term .result) (c .before .before .before .before .tail .ensures) (c .before .before .before .term .ensures) (c .before .n .given .1) term-takes in omega (arith, c .before .before .before .before .before .before .loop .inv .1)
+
+head-sub-left : (t : ℕ) → head-lts.Need-sub-left (
+  read-reads.Asked,
+  read-reads.Learnt,
+  is-condition-reads.Asked,
+  is-condition-reads.Learnt,
+  byte-reads.Asked,
+  byte-reads.Learnt,
+  record-length-reads.Asked,
+  record-length-reads.Learnt,
+  child-terms-reads.Asked,
+  child-terms-reads.Learnt,
+  tail-reads.Asked,
+  tail-reads.Learnt,
+  term-below t,
+  term.Post,
+) (head-at t) head.Post head-Inv-loop head-μ-loop
+head-sub-left t c = search needs
+
+head-loop-less : (t : ℕ) → head-lts.Need-loop-less (
+  read-reads.Asked,
+  read-reads.Learnt,
+  is-condition-reads.Asked,
+  is-condition-reads.Learnt,
+  byte-reads.Asked,
+  byte-reads.Learnt,
+  record-length-reads.Asked,
+  record-length-reads.Learnt,
+  child-terms-reads.Asked,
+  child-terms-reads.Learnt,
+  tail-reads.Asked,
+  tail-reads.Learnt,
+  term-below t,
+  term.Post,
+) (head-at t) head.Post head-Inv-loop head-μ-loop
+head-loop-less t c = search needs
+
+head-loop-again : (t : ℕ) → head-lts.Need-loop-again (
+  read-reads.Asked,
+  read-reads.Learnt,
+  is-condition-reads.Asked,
+  is-condition-reads.Learnt,
+  byte-reads.Asked,
+  byte-reads.Learnt,
+  record-length-reads.Asked,
+  record-length-reads.Learnt,
+  child-terms-reads.Asked,
+  child-terms-reads.Learnt,
+  tail-reads.Asked,
+  tail-reads.Learnt,
+  term-below t,
+  term.Post,
+) (head-at t) head.Post head-Inv-loop head-μ-loop
+head-loop-again t c = let h = part-takes termSize (now (c .before .before .before .before .before .before .before .before .before .before .before .before .before .before .args .q)) (now (c .before .before .before .before .tail .result)) (c .before .before .before .before .before .before .loop .at) (c .before .n .given .0 .0) (c .before .before .before .term .result) (c .before .before .before .before .tail .ensures) (c .before .before .before .term .ensures) (c .before .n .given .1) term-takes in (next (now (c .before .before .before .before .before .before .before .before .before .before .before .before .before .before .args .q)) (now (c .before .before .before .before .tail .result)) (c .before .before .before .before .before .before .loop .at) (c .before .before .before .before .before .before .loop .left) (c .before .n .given .0 .0) (c .before .before .before .term .result) (headSize (now (c .before .before .before .before .before .before .before .before .before .before .before .before .before .before .args .q))) (c .before .before .before .before .tail .ensures) (c .before .n .given .1) termSize (c .before .before .before .before .before .before .loop .inv .0) (c .before .before .before .before .before .loop-test .taken) (c .before .before .before .term .ensures), omega (arith, c .before .before .before .before .before .before .loop .inv .1), omega (arith, c .before .before .before .before .before .before .loop .inv .2))
+
+head-returns-3 : (t : ℕ) → head-lts.Need-returns-3 (
+  read-reads.Asked,
+  read-reads.Learnt,
+  is-condition-reads.Asked,
+  is-condition-reads.Learnt,
+  byte-reads.Asked,
+  byte-reads.Learnt,
+  record-length-reads.Asked,
+  record-length-reads.Learnt,
+  child-terms-reads.Asked,
+  child-terms-reads.Learnt,
+  tail-reads.Asked,
+  tail-reads.Learnt,
+  term-below t,
+  term.Post,
+) (head-at t) head.Post head-Inv-loop head-μ-loop
+head-returns-3 t c = end termSize (now (c .before .before .before .before .before .before .before .before .before .args .q)) (c .before .loop .at) (c .before .loop .left) (headSize (now (c .before .before .before .before .before .before .before .before .before .args .q))) (c .before .loop .inv .0) (c .loop-test .left)
+
+term-read-requires : (t : ℕ) → term-lts.Need-read-requires (
+  read-reads.Asked,
+  read-reads.Learnt,
+  is-term-reads.Asked,
+  is-term-reads.Learnt,
+  byte-reads.Asked,
+  byte-reads.Learnt,
+  record-length-reads.Asked,
+  record-length-reads.Learnt,
+  tail-reads.Asked,
+  tail-reads.Learnt,
+  child-conditions-reads.Asked,
+  child-conditions-reads.Learnt,
+  conditions-below t,
+  conditions.Post,
+) (term-at t) term.Post
+term-read-requires t c κs = search needs
+
+term-is-term-requires : (t : ℕ) → term-lts.Need-is-term-requires (
+  read-reads.Asked,
+  read-reads.Learnt,
+  is-term-reads.Asked,
+  is-term-reads.Learnt,
+  byte-reads.Asked,
+  byte-reads.Learnt,
+  record-length-reads.Asked,
+  record-length-reads.Learnt,
+  tail-reads.Asked,
+  tail-reads.Learnt,
+  child-conditions-reads.Asked,
+  child-conditions-reads.Learnt,
+  conditions-below t,
+  conditions.Post,
+) (term-at t) term.Post
+term-is-term-requires t c κs = search needs
+
+term-returns : (t : ℕ) → term-lts.Need-returns (
+  read-reads.Asked,
+  read-reads.Learnt,
+  is-term-reads.Asked,
+  is-term-reads.Learnt,
+  byte-reads.Asked,
+  byte-reads.Learnt,
+  record-length-reads.Asked,
+  record-length-reads.Learnt,
+  tail-reads.Asked,
+  tail-reads.Learnt,
+  child-conditions-reads.Asked,
+  child-conditions-reads.Learnt,
+  conditions-below t,
+  conditions.Post,
+) (term-at t) term.Post
+term-returns t c = no-leaf (now (c .before .before .before .before .args .q)) (c .before .before .read .result) (c .before .is-term .result) (c .before .before .read .ensures) (c .before .is-term .ensures) (c .if1 .taken)
+
+term-byte-requires : (t : ℕ) → term-lts.Need-byte-requires (
+  read-reads.Asked,
+  read-reads.Learnt,
+  is-term-reads.Asked,
+  is-term-reads.Learnt,
+  byte-reads.Asked,
+  byte-reads.Learnt,
+  record-length-reads.Asked,
+  record-length-reads.Learnt,
+  tail-reads.Asked,
+  tail-reads.Learnt,
+  child-conditions-reads.Asked,
+  child-conditions-reads.Learnt,
+  conditions-below t,
+  conditions.Post,
+) (term-at t) term.Post
+term-byte-requires t c κs = search needs
+
+term-record-length-requires : (t : ℕ) → term-lts.Need-record-length-requires (
+  read-reads.Asked,
+  read-reads.Learnt,
+  is-term-reads.Asked,
+  is-term-reads.Learnt,
+  byte-reads.Asked,
+  byte-reads.Learnt,
+  record-length-reads.Asked,
+  record-length-reads.Learnt,
+  tail-reads.Asked,
+  tail-reads.Learnt,
+  child-conditions-reads.Asked,
+  child-conditions-reads.Learnt,
+  conditions-below t,
+  conditions.Post,
+) (term-at t) term.Post
+term-record-length-requires t c κs = search needs
+
+term-tail-requires : (t : ℕ) → term-lts.Need-tail-requires (
+  read-reads.Asked,
+  read-reads.Learnt,
+  is-term-reads.Asked,
+  is-term-reads.Learnt,
+  byte-reads.Asked,
+  byte-reads.Learnt,
+  record-length-reads.Asked,
+  record-length-reads.Learnt,
+  tail-reads.Asked,
+  tail-reads.Learnt,
+  child-conditions-reads.Asked,
+  child-conditions-reads.Learnt,
+  conditions-below t,
+  conditions.Post,
+) (term-at t) term.Post
+term-tail-requires t c κs = search needs
+
+term-child-conditions-requires : (t : ℕ) → term-lts.Need-child-conditions-requires (
+  read-reads.Asked,
+  read-reads.Learnt,
+  is-term-reads.Asked,
+  is-term-reads.Learnt,
+  byte-reads.Asked,
+  byte-reads.Learnt,
+  record-length-reads.Asked,
+  record-length-reads.Learnt,
+  tail-reads.Asked,
+  tail-reads.Learnt,
+  child-conditions-reads.Asked,
+  child-conditions-reads.Learnt,
+  conditions-below t,
+  conditions.Post,
+) (term-at t) term.Post
+term-child-conditions-requires t c κs = search needs
+
+term-conditions-requires : (t : ℕ) → term-lts.Need-conditions-requires (
+  read-reads.Asked,
+  read-reads.Learnt,
+  is-term-reads.Asked,
+  is-term-reads.Learnt,
+  byte-reads.Asked,
+  byte-reads.Learnt,
+  record-length-reads.Asked,
+  record-length-reads.Learnt,
+  tail-reads.Asked,
+  tail-reads.Learnt,
+  child-conditions-reads.Asked,
+  child-conditions-reads.Learnt,
+  conditions-below t,
+  conditions.Post,
+) (term-at t) term.Post
+term-conditions-requires t c κs = let h = leaf-whole (now (c .before .before .before .before .before .before .before .before .args .q)) (c .before .before .before .before .before .before .read .result) (c .before .before .before .before .before .is-term .result) (c .before .before .before .before .before .before .read .ensures) (c .before .before .before .byte .result) (c .before .before .record-length .result) (c .before .before .before .byte .ensures) (c .before .before .record-length .ensures .0) (c .before .before .before .before .if1 .left) (c .before .before .before .before .before .is-term .ensures) in (omega (arith, ap length (c .before .tail .ensures), length-drop (c .before .before .record-length .result) (now (c .before .before .before .before .before .before .before .before .args .q))), tt)
+
+term-enum-known-n : (t : ℕ) → term-lts.Need-enum-known-n (
+  read-reads.Asked,
+  read-reads.Learnt,
+  is-term-reads.Asked,
+  is-term-reads.Learnt,
+  byte-reads.Asked,
+  byte-reads.Learnt,
+  record-length-reads.Asked,
+  record-length-reads.Learnt,
+  tail-reads.Asked,
+  tail-reads.Learnt,
+  child-conditions-reads.Asked,
+  child-conditions-reads.Learnt,
+  conditions-below t,
+  conditions.Post,
+) (term-at t) term.Post
+term-enum-known-n t c = search needs
+
+term-enum-told : (t : ℕ) → term-lts.Need-enum-told (
+  read-reads.Asked,
+  read-reads.Learnt,
+  is-term-reads.Asked,
+  is-term-reads.Learnt,
+  byte-reads.Asked,
+  byte-reads.Learnt,
+  record-length-reads.Asked,
+  record-length-reads.Learnt,
+  tail-reads.Asked,
+  tail-reads.Learnt,
+  child-conditions-reads.Asked,
+  child-conditions-reads.Learnt,
+  conditions-below t,
+  conditions.Post,
+) (term-at t) term.Post
+term-enum-told t c = search needs
+
+term-returns-2 : (t : ℕ) → term-lts.Need-returns-2 (
+  read-reads.Asked,
+  read-reads.Learnt,
+  is-term-reads.Asked,
+  is-term-reads.Learnt,
+  byte-reads.Asked,
+  byte-reads.Learnt,
+  record-length-reads.Asked,
+  record-length-reads.Learnt,
+  tail-reads.Asked,
+  tail-reads.Learnt,
+  child-conditions-reads.Asked,
+  child-conditions-reads.Learnt,
+  conditions-below t,
+  conditions.Post,
+) (term-at t) term.Post
+term-returns-2 t c = ap (after (c .before .before .before .before .before .record-length .result)) (sym (c .enum-told .given .1)) ∙ leaf-is (now (c .before .before .before .before .before .before .before .before .before .before .before .args .q)) (c .before .before .before .before .before .before .before .before .before .read .result) (c .before .before .before .before .before .before .before .before .is-term .result) (c .before .before .before .before .before .before .before .before .before .read .ensures) (c .before .before .before .before .before .before .byte .result) (c .before .before .before .before .before .record-length .result) (c .before .before .before .before .before .before .byte .ensures) (c .before .before .before .before .before .record-length .ensures .0) (c .before .before .before .before .before .before .before .if1 .left) (c .before .before .before .before .before .before .before .before .is-term .ensures) (c .before .before .before .child-conditions .result) (now (c .before .before .before .before .tail .result)) (c .before .before .conditions .result) (c .before .before .before .child-conditions .ensures) (c .before .before .before .before .tail .ensures) (c .before .before .conditions .ensures)
+
+term-add-t11 : (t : ℕ) → term-lts.Need-add-t11 (
+  read-reads.Asked,
+  read-reads.Learnt,
+  is-term-reads.Asked,
+  is-term-reads.Learnt,
+  byte-reads.Asked,
+  byte-reads.Learnt,
+  record-length-reads.Asked,
+  record-length-reads.Learnt,
+  tail-reads.Asked,
+  tail-reads.Learnt,
+  child-conditions-reads.Asked,
+  child-conditions-reads.Learnt,
+  conditions-below t,
+  conditions.Post,
+) (term-at t) term.Post
+term-add-t11 t c = let h = leaf-whole (now (c .before .before .before .before .before .before .before .before .before .before .before .before .args .q)) (c .before .before .before .before .before .before .before .before .before .before .read .result) (c .before .before .before .before .before .before .before .before .before .is-term .result) (c .before .before .before .before .before .before .before .before .before .before .read .ensures) (c .before .before .before .before .before .before .before .byte .result) (c .before .before .before .before .before .before .record-length .result) (c .before .before .before .before .before .before .before .byte .ensures) (c .before .before .before .before .before .before .record-length .ensures .0) (c .before .before .before .before .before .before .before .before .if1 .left) (c .before .before .before .before .before .before .before .before .before .is-term .ensures) in omega (arith, part-within (λ q. many conditionSize (c .before .before .before .before .child-conditions .result) q) (now (c .before .before .before .before .before .before .before .before .before .before .before .before .args .q)) (now (c .before .before .before .before .before .tail .result)) (c .before .before .before .before .before .before .record-length .result) (c .before .n .given .0 .0) (c .before .before .before .conditions .result) (c .before .before .before .before .before .tail .ensures) (c .before .before .before .conditions .ensures) (c .before .n .given .1) (many-within conditionSize condition-within (c .before .before .before .before .child-conditions .result)))
+
+term-returns-3 : (t : ℕ) → term-lts.Need-returns-3 (
+  read-reads.Asked,
+  read-reads.Learnt,
+  is-term-reads.Asked,
+  is-term-reads.Learnt,
+  byte-reads.Asked,
+  byte-reads.Learnt,
+  record-length-reads.Asked,
+  record-length-reads.Learnt,
+  tail-reads.Asked,
+  tail-reads.Learnt,
+  child-conditions-reads.Asked,
+  child-conditions-reads.Learnt,
+  conditions-below t,
+  conditions.Post,
+) (term-at t) term.Post
+term-returns-3 t c = ap (after (c .before .before .before .before .before .before .record-length .result)) (sym (c .before .n .given .1)) ∙ leaf-is (now (c .before .before .before .before .before .before .before .before .before .before .before .before .args .q)) (c .before .before .before .before .before .before .before .before .before .before .read .result) (c .before .before .before .before .before .before .before .before .before .is-term .result) (c .before .before .before .before .before .before .before .before .before .before .read .ensures) (c .before .before .before .before .before .before .before .byte .result) (c .before .before .before .before .before .before .record-length .result) (c .before .before .before .before .before .before .before .byte .ensures) (c .before .before .before .before .before .before .record-length .ensures .0) (c .before .before .before .before .before .before .before .before .if1 .left) (c .before .before .before .before .before .before .before .before .before .is-term .ensures) (c .before .before .before .before .child-conditions .result) (now (c .before .before .before .before .before .tail .result)) (c .before .before .before .conditions .result) (c .before .before .before .before .child-conditions .ensures) (c .before .before .before .before .before .tail .ensures) (c .before .before .before .conditions .ensures)
+
+pub +conditions+head+term-spec : {M : Type 1} → statement M
++conditions+head+term-spec = close μ-conditions μ-head μ-term (λ t. conditions-lts.spec (
+  wide-reads.Asked,
+  wide-reads.Learnt,
+  tail-reads.Asked,
+  tail-reads.Learnt,
+  head-below t,
+  head.Post,
+  byte-reads.Asked,
+  byte-reads.Learnt,
+  children-reads.Asked,
+  children-reads.Learnt,
+)
+    (conditions-at t)
+    conditions.Post
+    conditions-Inv-loop
+    conditions-μ-loop
+    (conditions-wide-requires t)
+    (conditions-loop-holds t)
+    (conditions-tail-requires t)
+    (conditions-head-requires t)
+    (conditions-enum-known-m t)
+    (conditions-enum-told t)
+    (conditions-returns t)
+    (conditions-sub-pending t)
+    (conditions-byte-requires t)
+    (conditions-children-requires t)
+    (conditions-add-pending t)
+    (conditions-add-at t)
+    (conditions-loop-less t)
+    (conditions-loop-again t)
+    (conditions-returns-2 t))
+    (λ t. head-lts.spec (
+      read-reads.Asked,
+      read-reads.Learnt,
+      is-condition-reads.Asked,
+      is-condition-reads.Learnt,
+      byte-reads.Asked,
+      byte-reads.Learnt,
+      record-length-reads.Asked,
+      record-length-reads.Learnt,
+      child-terms-reads.Asked,
+      child-terms-reads.Learnt,
+      tail-reads.Asked,
+      tail-reads.Learnt,
+      term-below t,
+      term.Post,
+    )
+    (head-at t)
+    head.Post
+    head-Inv-loop
+    head-μ-loop
+    (head-read-requires t)
+    (head-is-condition-requires t)
+    (head-returns t)
+    (head-byte-requires t)
+    (head-record-length-requires t)
+    (head-child-terms-requires t)
+    (head-loop-holds t)
+    (head-tail-requires t)
+    (head-term-requires t)
+    (head-enum-known-n t)
+    (head-enum-told t)
+    (head-returns-2 t)
+    (head-add-at t)
+    (head-sub-left t)
+    (head-loop-less t)
+    (head-loop-again t)
+    (head-returns-3 t))
+    λ t. term-lts.spec (
+      read-reads.Asked,
+      read-reads.Learnt,
+      is-term-reads.Asked,
+      is-term-reads.Learnt,
+      byte-reads.Asked,
+      byte-reads.Learnt,
+      record-length-reads.Asked,
+      record-length-reads.Learnt,
+      tail-reads.Asked,
+      tail-reads.Learnt,
+      child-conditions-reads.Asked,
+      child-conditions-reads.Learnt,
+      conditions-below t,
+      conditions.Post,
+    )
+    (term-at t)
+    term.Post
+    (term-read-requires t)
+    (term-is-term-requires t)
+    (term-returns t)
+    (term-byte-requires t)
+    (term-record-length-requires t)
+    (term-tail-requires t)
+    (term-child-conditions-requires t)
+    (term-conditions-requires t)
+    (term-enum-known-n t)
+    (term-enum-told t)
+    (term-returns-2 t)
+    (term-add-t11 t)
+    (term-returns-3 t)

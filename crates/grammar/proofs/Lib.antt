@@ -1,0 +1,7 @@
+pub mod Reader
+pub mod Steps
+pub mod Pending
+pub mod Bounds
+pub mod Parts
+pub mod Whole
+pub mod Listed

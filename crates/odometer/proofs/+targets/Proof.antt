@@ -1,0 +1,96 @@
+use borrow.Author.Needs.{needs}
+use native.Mathlib.Omega.{arith}
+use Prim.Native.Nat.{ℕ, _<_}
+use mathlib.Core.Path.{_≡_, refl, sym, ap, _∙_}
+use denote.Ref.{now}
+use mir.Syntax.{w64}
+use mir.Val.{toZ, ofZ}
+use mir.Facts.{toZ-ofZ}
+use lib.ListN.{length, set, length-set}
+use lib.Seq.{sets, length-sets}
+use Rattle.odometer.proofs.Steps.{targets-none, targets-more}
+use borrow.Fn.Kinds.{In}
+use borrow.Fn.PlainCycle.{Measures, is, falls, and}
+use Rattle.odometer.proofs.targets.Reads as targets
+use Rattle.odometer.proofs.targets.Kinds as targets-kinds
+use Rattle.odometer.proofs.+targets.Lts-targets as targets-lts
+use Rattle.evaluator.proofs.term.Reads as term-reads
+use Rattle.kinds.proofs.size_at.Reads as size-at-reads
+use Rattle.kinds.proofs.tail.Reads as tail-reads
+use Rattle.kinds.proofs.tail_sizes.Reads as tail-sizes-reads
+use Rattle.numbers.proofs.cell.Reads as cell-reads
+use Rattle.odometer.proofs.+targets.{statement}
+use Rattle.odometer.proofs.+targets.Tie.{close}
+
+abbrev μ-targets : Measures 6 targets-kinds.ps ℕ
+μ-targets κs a = a .1 .1 .0
+
+abbrev targets-at : ℕ → In 6 targets-kinds.ps
+targets-at t = and 6 targets-kinds.ps (is 6 targets-kinds.ps μ-targets t) targets.Pre
+
+abbrev targets-below : ℕ → In 6 targets-kinds.ps
+targets-below t = and 6 targets-kinds.ps (falls 6 targets-kinds.ps _<_ μ-targets t) targets.Pre
+
+abbrev targets-claims : ℕ → targets-lts.Claims
+targets-claims t = (term-reads.Asked, term-reads.Learnt, cell-reads.Asked, cell-reads.Learnt, size-at-reads.Asked, size-at-reads.Learnt, tail-reads.Asked, tail-reads.Learnt, tail-sizes-reads.Asked, tail-sizes-reads.Learnt, targets-below t, targets.Post)
+
+targets-returns : (t : ℕ) → targets-lts.Need-returns (targets-claims t) (targets-at t) targets.Post
+targets-returns t c = (targets-none (now (c .before .before .before .before .before .args .catalogue)) (now (c .before .before .before .before .before .args .values)) (now (c .before .before .before .before .before .args .env)) (now (c .before .before .before .before .before .args .q)) (now (c .before .before .before .before .before .args .z)) (c .before .before .before .before .before .args .left) (c .before .before .before .before .before .args .level) (c .before .before .before .before .before .args .at) (now (c .before .before .before .before .before .args .row)) (c .if1 .taken), search needs)
+
+targets-term-requires : (t : ℕ) → targets-lts.Need-term-requires (targets-claims t) (targets-at t) targets.Post
+targets-term-requires t c κs = search needs
+
+targets-cell-requires : (t : ℕ) → targets-lts.Need-cell-requires (targets-claims t) (targets-at t) targets.Post
+targets-cell-requires t c κs = search needs
+
+targets-mul-x : (t : ℕ) → targets-lts.Need-mul-x (targets-claims t) (targets-at t) targets.Post
+targets-mul-x t c = search needs
+
+targets-slice-set-from-x : (t : ℕ) → targets-lts.Need-slice-set-from-x (targets-claims t) (targets-at t) targets.Post
+targets-slice-set-from-x t c = search needs
+
+targets-size-at-requires : (t : ℕ) → targets-lts.Need-size-at-requires (targets-claims t) (targets-at t) targets.Post
+targets-size-at-requires t c κs = search needs
+
+targets-tail-requires : (t : ℕ) → targets-lts.Need-tail-requires (targets-claims t) (targets-at t) targets.Post
+targets-tail-requires t c κs = search needs
+
+targets-tail-sizes-requires : (t : ℕ) → targets-lts.Need-tail-sizes-requires (targets-claims t) (targets-at t) targets.Post
+targets-tail-sizes-requires t c κs = search needs
+
+targets-sub-targets : (t : ℕ) → targets-lts.Need-sub-targets (targets-claims t) (targets-at t) targets.Post
+targets-sub-targets t c = search needs
+
+targets-add-targets : (t : ℕ) → targets-lts.Need-add-targets (targets-claims t) (targets-at t) targets.Post
+targets-add-targets t c = search needs
+
+targets-targets-requires : (t : ℕ) → targets-lts.Need-targets-requires (targets-claims t) (targets-at t) targets.Post
+targets-targets-requires t c κs = (omega (arith, c .before .before .before .before .before .before .before .before .before .before .before .before .before .before .before .pre .0, c .before .before .before .before .before .before .before .before .before .before .if1 .left), (omega (arith, c .before .before .before .before .before .before .before .before .before .before .before .before .before .before .before .pre .1 .0, ap length (c .before .before .before .before .before .before .before .before .term .ensures .1 .1)), omega (arith, c .before .before .before .before .before .before .before .before .before .before .before .before .before .before .before .pre .1 .1, c .before .before .before .before .before .before .before .before .before .before .if1 .left, length-set (now (c .before .before .before .before .before .before .before .before .before .before .before .before .before .before .before .args .row)) (c .before .before .before .before .before .before .before .before .before .before .before .before .before .before .before .args .at) (toZ w64 (ofZ w64 (c .before .before .before .before .before .cell .result))))))
+
+targets-same-length : (t : ℕ) → targets-lts.Need-same-length (targets-claims t) (targets-at t) targets.Post
+targets-same-length t c = search needs
+
+targets-same-length-2 : (t : ℕ) → targets-lts.Need-same-length-2 (targets-claims t) (targets-at t) targets.Post
+targets-same-length-2 t c = c .before .before .before .targets .kept .1 .1 .1 .1 .1 .1 .1 .0 ∙ length-set (now (c .before .before .before .before .before .before .before .before .before .before .before .before .before .before .before .before .before .before .before .args .row)) (c .before .before .before .before .before .before .before .before .before .before .before .before .before .before .before .before .before .before .before .args .at) (toZ w64 (ofZ w64 (c .before .before .before .before .before .before .before .before .before .cell .result)))
+
+targets-returns-2 : (t : ℕ) → targets-lts.Need-returns-2 (targets-claims t) (targets-at t) targets.Post
+targets-returns-2 t c = (targets-more (now (c .before .before .before .before .before .before .before .before .before .before .before .before .before .before .before .before .before .before .before .args .catalogue)) (now (c .before .before .before .before .before .before .before .before .before .before .before .before .before .before .before .before .before .before .before .args .values)) (now (c .before .before .before .before .before .before .before .before .before .before .before .before .before .before .before .before .before .before .before .args .env)) (now (c .before .before .before .before .before .before .before .before .before .before .before .before .before .before .before .before .before .before .before .args .q)) (now (c .before .before .before .before .before .before .before .before .before .before .before .before .before .before .before .before .before .before .before .args .z)) (c .before .before .before .before .before .before .before .before .before .before .before .before .before .before .before .before .before .before .before .args .left) (c .before .before .before .before .before .before .before .before .before .before .before .before .before .before .before .before .before .before .before .args .level) (c .before .before .before .before .before .before .before .before .before .before .before .before .before .before .before .before .before .before .before .args .at) (now (c .before .before .before .before .before .before .before .before .before .before .before .before .before .before .before .before .before .before .before .args .row)) _ _ _ _ _ _ _ _ (c .before .before .before .before .before .before .before .before .before .before .before .before .before .before .if1 .left) (c .before .before .before .before .before .before .before .before .before .before .before .before .term .ensures .0) (toZ-ofZ {w = w64} (record { sfits = c .before .before .before .before .before .before .before .before .before .cell .ok }) ∙ c .before .before .before .before .before .before .before .before .before .cell .ensures) refl (c .before .before .before .before .before .before .before .before .size-at .ensures .0) (c .before .before .before .before .before .before .before .tail .ensures) (c .before .before .before .before .before .before .tail-sizes .ensures) (c .before .before .before .before .before .before .before .before .before .before .before .before .term .ensures .1 .1) (c .before .before .before .targets .ensures .0), c .before .before .before .targets .ensures .1 ∙ c .before .before .before .before .before .before .before .before .before .before .before .before .term .ensures .1 .1)
+
+pub +targets-spec : {M : Type 1} → statement M
++targets-spec = close μ-targets λ t. targets-lts.spec (targets-claims t)
+    (targets-at t)
+    targets.Post
+    (targets-returns t)
+    (targets-term-requires t)
+    (targets-cell-requires t)
+    (targets-mul-x t)
+    (targets-slice-set-from-x t)
+    (targets-size-at-requires t)
+    (targets-tail-requires t)
+    (targets-tail-sizes-requires t)
+    (targets-sub-targets t)
+    (targets-add-targets t)
+    (targets-targets-requires t)
+    (targets-same-length t)
+    (targets-same-length-2 t)
+    (targets-returns-2 t)

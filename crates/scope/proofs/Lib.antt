@@ -1,0 +1,3 @@
+pub mod Shapes
+pub mod Tables
+pub mod Steps

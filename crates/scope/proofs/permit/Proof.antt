@@ -1,0 +1,41 @@
+use borrow.Author.Needs.{needs}
+use Rattle.scope.proofs.permit.Statement.{statement}
+use Rattle.scope.proofs.permit.Tie as tie
+use Rattle.scope.proofs.permit.Reads as reads
+use Rattle.scope.proofs.permit.Lts as lts
+use Rattle.scope.proofs.bind.Reads as bind-reads
+use Rattle.scope.proofs.condition.Reads as condition-reads
+use denote.Ref.{now}
+use Rattle.sizes.specs.Decode.{decode}
+use Rattle.scope.specs.Reach.{shapeIn}
+use Rattle.scope.proofs.Steps.{permit-is}
+
+-- src/lib.rt:172:10
+slice-aggregate-bind : tie.Need-slice-aggregate-bind
+slice-aggregate-bind c = search needs
+
+-- src/lib.rt:172:5
+bind-requires : tie.Need-bind-requires
+bind-requires c κs = search needs
+
+-- src/lib.rt:173:35
+slice-aggregate-condition : tie.Need-slice-aggregate-condition
+slice-aggregate-condition c = search needs
+
+-- src/lib.rt:173:5
+condition-requires : tie.Need-condition-requires
+condition-requires c κs = search needs
+
+-- src/lib.rt:168:1
+returns : tie.Need-returns
+returns c = permit-is (shapeIn (now (c .before .before .before .before .before .before .before .before .before .args .catalogue))) (c .before .before .before .before .before .before .before .before .before .args .relation) (decode (c .before .before .before .before .before .before .before .before .before .args .level) (now (c .before .before .before .before .before .before .before .before .before .args .q)) (now (c .before .before .before .before .before .before .before .before .before .args .z))) (c .before .before .before .before .bind .last .0) (c .before .before .before .before .bind .ensures) _ (c .before .condition .ensures .0)
+
+pub permit-spec : {M : Type 1} → statement M
+permit-spec =
+    tie.close
+    (tie.spec
+    slice-aggregate-bind
+    bind-requires
+    slice-aggregate-condition
+    condition-requires
+    returns)
