@@ -30,13 +30,19 @@ use Rattle.catalogue.proofs.Loops.{any-none, any-found, any-left, kept-start, k
 use Rattle.sizes.specs.Decode.{first, second, conditionBy, termBy, nothing, decode, decodeT}
 use Rattle.evaluator.specs.Evaluation.{assigned, rowsIn, holdsAt, valueAt, holdsOn, valuesOn}
 
+-- within the list the default does not matter
+getD-inside : (xs : List ℕ) (i d f : ℕ) → i < length xs → getD xs i d ≡ getD xs i f
+getD-inside [] i d f h = absurd (omega arith)
+getD-inside (x ∷ xs) zero d f h = refl
+getD-inside (x ∷ xs) (suc i) d f h = getD-inside xs i d f (omega arith)
+
 -- a variable's place set: the assignment with its tuple there
 pub assigned-set : (vs : List ℤ) (e : List ℕ) (v p : ℕ) → v < length e → assigned vs (set e v p) ≡ update (assigned vs e) v (tupleAt vs p)
 assigned-set vs e v p h = fun-ext λ w. go w (eqb w v) refl
   where
     go : (w : ℕ) (b : Bool) → eqb w v ≡ b → assigned vs (set e v p) w ≡ update (assigned vs e) v (tupleAt vs p) w
-    go w true k = rw k (ap (tupleAt vs) (ap (λ (i : ℕ). getD (set e v p) i 0) (eqb-true w v k) ∙ getD-set-same e v p 0 h))
-    go w false k = rw k (ap (tupleAt vs) (getD-set-other e v w p 0 (eqb-false w v k)))
+    go w true k = rw k (ap (tupleAt vs) (ap (λ (i : ℕ). getD (set e v p) i (length vs)) (eqb-true w v k) ∙ getD-set-same e v p (length vs) h))
+    go w false k = rw k (ap (tupleAt vs) (getD-set-other e v w p (length vs) (eqb-false w v k)))
 
 module _ (cb : List ℕ) (vs : List ℤ) (e q z : List ℕ) where
   pub holds-zero : (l : ℕ) → l ≡ 0 → false ≡ holdsAt l q z cb vs e
@@ -136,9 +142,9 @@ module _ (cb : List ℕ) (vs : List ℤ) (e q z : List ℕ) where
   unfolding holds
   constant-is l a b c d r t nz er h et = ap whole et ∙ value-is l (R.Constant a b c d) nz (sym h ∙ er)
 
-  pub attribute-is : (l v a p : ℕ) (r : Record) (t : ℤ) → (l ≡ 0 → ⊥) → r ≡ recordAt q → r ≡ R.Attribute v a → p ≡ getD e v 0 → t ≡ getD vs (p + a) (pos 0) → whole t ≡ valueAt l q z cb vs e
+  pub attribute-is : (l v a p : ℕ) (r : Record) (t : ℤ) → (l ≡ 0 → ⊥) → r ≡ recordAt q → r ≡ R.Attribute v a → v < length e → p ≡ getD e v 0 → t ≡ getD vs (p + a) (pos 0) → whole t ≡ valueAt l q z cb vs e
   unfolding holds
-  attribute-is l v a p r t nz er h ep et = ap whole (et ∙ ap (λ n. getD vs (n + a) (pos 0)) ep) ∙ value-is l (R.Attribute v a) nz (sym h ∙ er)
+  attribute-is l v a p r t nz er h hv ep et = ap whole (et ∙ ap (λ n. getD vs (n + a) (pos 0)) (ep ∙ getD-inside e v 0 (length vs) hv)) ∙ value-is l (R.Attribute v a) nz (sym h ∙ er)
 
 -- other records are no condition, and no term
 rest-condition : (f : List ℕ → List ℕ → Condition) (g : List ℕ → List ℕ → Term) (q z : List ℕ) (r : Record) → OneOf (0 ∷ 2 ∷ 8 ∷ 9 ∷ 10 ∷ 11 ∷ 12 ∷ 13 ∷ 14 ∷ 15 ∷ []) (tagOf (declared enum) r) → conditionBy r f g q z ≡ FALSE

@@ -3,16 +3,16 @@ use Prim.Native.Nat.{ℕ}
 use mathlib.Core.Bool.{Bool}
 use mathlib.Core.List.{List, map}
 use lib.IntN.{ℤ}
-use lib.ListN.{getD}
+use lib.ListN.{length, getD}
 use Rattle.model.specs.Lists.{update, filter}
 use Rattle.model.specs.Meaning.{Tuple, Assignment, Rows, Ratio, holds, value}
 use Rattle.model.specs.Catalogue.{allRows}
 use Rattle.catalogue.specs.Layout.{tupleAt, tuplesIn}
 use Rattle.sizes.specs.Decode.{decode, decodeT}
 
--- the assignment that the places stand for
+-- the assignment that the places stand for; a place past the values is an unbound variable's
 abbrev pub assigned : List ℤ → List ℕ → Assignment
-assigned vs e v = tupleAt vs (getD e v 0)
+assigned vs e v = tupleAt vs (getD e v (length vs))
 
 -- all rows of each relation
 abbrev pub rowsIn : List ℕ → List ℤ → Rows

@@ -21,7 +21,7 @@ use Rattle.grammar.specs.declared.Layout.{Layout}
 use Rattle.grammar.specs.declared.Shape.{Shape}
 use Rattle.grammar.specs.declared.Shape.the-variants.{WellFormed, NotWellFormed}
 use Rattle.grammar.specs.Sizes.{conditionSize}
-use Rattle.grammar.specs.Shapes.{partRead, rangesPart, targetsPart, layout, shapeRead, shapeOf, shapeWithin, fails30At}
+use Rattle.grammar.specs.Shapes.{partRead, rangesPart, targetsPart, layout, shapeRead, shapeOf, shapeWithin, fails30At, numberOf}
 use Rattle.grammar.proofs.Reader.{took-condition, sized, condition-sized}
 use Rattle.grammar.proofs.Bounds.{condition-within}
 use Rattle.grammar.proofs.Parts.{drop-ranges, drop-targets, took-ranges, took-targets, targets-same}
@@ -200,3 +200,12 @@ module _ (q : List ℕ) (x : Query) (e : readQuery q ≡ ok x []) where
       ∙ sym (drop-drop (sizeTs (x .targets)) (3 * length (x .ranges)) q)
       ∙ ap (drop (sizeTs (x .targets))) (targets-place)
       ∙ drop-targets (x .targets) (encode (x .condition) [])
+
+pub number-is : (limit : ℕ) (q : List ℕ) → numberOf (shapeWithin limit q) ≡ cond (fails30At limit q) 30 0
+unfolding shapeWithin shapeOf fails30At
+number-is limit q = go (ltb limit (length q)) (readQuery q)
+  where
+    go : (b : Bool) (x : Read Query) → numberOf (cond b NotWellFormed (shapeRead x)) ≡ cond (b || failed x) 30 0
+    go true x = refl
+    go false fail = refl
+    go false (ok a r) = refl

@@ -49,3 +49,8 @@ shapeWithin limit q = cond (ltb limit (length q)) NotWellFormed (shapeOf q)
 -- 30, for any limit of bytes
 unfoldable pub fails30At : ℕ → List ℕ → Bool
 fails30At limit q = ltb limit (length q) || failed (readQuery q)
+
+-- document 01's number for each case, 0 where nothing is refused
+abbrev pub numberOf : Shape → ℕ
+numberOf (WellFormed y) = 0
+numberOf NotWellFormed = 30

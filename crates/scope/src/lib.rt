@@ -33,7 +33,7 @@ fn has(catalogue: &[u8], relation: usize, attribute: u8) -> bool
 }
 
 // Whether a variable and its relation have known numbers.
-fn known(catalogue: &[u8], limit: u8, variable: u8, relation: u8) -> bool
+pub fn known(catalogue: &[u8], limit: u8, variable: u8, relation: u8) -> bool
     ensures { λ r. ⌜ r ≡ knownBinding (shapeIn (now (catalogue .entry))) limit (record { variable = variable; relation = relation }) ⌝ }
 {
     if limit <= variable {

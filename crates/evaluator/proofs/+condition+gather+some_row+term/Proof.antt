@@ -458,7 +458,7 @@ term-same-length : (t : ℕ) → term-lts.Need-same-length (term-claims t) (term
 term-same-length t c = search needs
 
 term-returns-3 : (t : ℕ) → term-lts.Need-returns-3 (term-claims t) (term-at t) term.Post
-term-returns-3 t c = ((c .whole3 .ensures .0) ∙ ap represent (attribute-is (now (c .before .before .before .before .before .before .before .before .before .before .before .before .before .before .before .args .catalogue)) (now (c .before .before .before .before .before .before .before .before .before .before .before .before .before .before .before .args .values)) (now (c .before .before .before .before .before .before .before .before .before .before .before .before .before .before .before .args .env)) (now (c .before .before .before .before .before .before .before .before .before .before .before .before .before .before .before .args .q)) (now (c .before .before .before .before .before .before .before .before .before .before .before .before .before .before .before .args .z)) (c .before .before .before .before .before .before .before .before .before .before .before .before .before .before .before .args .level) _ _ _ _ _ (c .before .before .before .before .before .before .before .before .before .before .if1 .left) (c .before .before .before .before .before .before .before .read .ensures) (c .before .before .before .before .before .variable .given .1) (c .before .before .place .ensures) (toZ-ofZ {w = w32} (record { sfits = c .before .cell .ok }) ∙ c .before .cell .ensures)), (c .whole3 .ensures .1, search needs))
+term-returns-3 t c = ((c .whole3 .ensures .0) ∙ ap represent (attribute-is (now (c .before .before .before .before .before .before .before .before .before .before .before .before .before .before .before .args .catalogue)) (now (c .before .before .before .before .before .before .before .before .before .before .before .before .before .before .before .args .values)) (now (c .before .before .before .before .before .before .before .before .before .before .before .before .before .before .before .args .env)) (now (c .before .before .before .before .before .before .before .before .before .before .before .before .before .before .before .args .q)) (now (c .before .before .before .before .before .before .before .before .before .before .before .before .before .before .before .args .z)) (c .before .before .before .before .before .before .before .before .before .before .before .before .before .before .before .args .level) _ _ _ _ _ (c .before .before .before .before .before .before .before .before .before .before .if1 .left) (c .before .before .before .before .before .before .before .read .ensures) (c .before .before .before .before .before .variable .given .1) (omega (arith, c .before .before .before .before .before .before .before .before .before .before .before .before .before .before .before .pre .1, c .before .before .before .before .known-told2 .given)) (c .before .before .place .ensures) (toZ-ofZ {w = w32} (record { sfits = c .before .cell .ok }) ∙ c .before .cell .ensures)), (c .whole3 .ensures .1, search needs))
 
 term-same-length-2 : (t : ℕ) → term-lts.Need-same-length-2 (term-claims t) (term-at t) term.Post
 term-same-length-2 t c = search needs

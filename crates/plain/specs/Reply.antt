@@ -1,0 +1,27 @@
+-- What a call returns, with the cells of the answer buffer, as the model's answer.
+use Prim.Native.Nat.{ℕ, _≤_}
+use mathlib.Core.Bool.{false, cond}
+use mathlib.Core.List.{List}
+use mathlib.Core.Path.{_≡_}
+use lib.IntN.{ℤ}
+use Rattle.model.specs.Calls.{Answer}
+use Rattle.model.specs.Encoding.{queryOf}
+use Rattle.model.specs.Checks.{fails10}
+use Rattle.grammar.specs.declared.Layout.{Layout}
+use Rattle.rows.specs.declared.Filled.{Filled}
+use Rattle.queries.specs.Parts.{queryAt, Laid}
+use Rattle.plain.specs.declared.Reply.{Reply}
+
+abbrev pub answerOf : Reply → List ℤ → Answer
+answerOf r cells = record { number = r .number; rows = r .rows; columns = r .columns; cells = cells }
+
+-- the reply that the state of the buffer gives
+abbrev pub replyOf : ℕ → Filled → Reply
+replyOf columns s = record { number = cond (s .full) 41 0; rows = s .rows; columns = columns }
+
+-- a query that passed its checks: bytes, table, layout and catalogue
+pub record Answerable (y : Layout) (l : ℕ) (q z cb : List ℕ) : Type 0 where
+  pub catalogue : fails10 cb ≡ false
+  pub laid : Laid y q
+  pub ready : queryAt y l q z ≡ queryOf q
+  pub columns : y .targets ≤ 8

@@ -1,0 +1,117 @@
+// The plain evaluator: a query over all rows, with no permits.
+use grammar::Layout;
+use odometer::Plan;
+use queries::Checked;
+use queries::Limits;
+use rows::Filled;
+ghost use mathlib.Core.Path.{_≡_};
+ghost use Prim.Native.Nat.{_≤_};
+ghost use lib.ListN.{length};
+ghost use Rattle.model.specs.Encoding.{queryOf};
+ghost use Rattle.model.specs.Meaning.{answers};
+ghost use Rattle.model.specs.Catalogue.{catalogueOf, tuplesAt, allRows};
+ghost use Rattle.model.specs.Calls.{give, evaluate};
+ghost use Rattle.plain.specs.Reply.{answerOf, replyOf, Answerable};
+
+// The number of a refusal, 0 where there is none, and the counts of rows and columns.
+pub struct Reply {
+    pub number: u8,
+    pub rows: usize,
+    pub columns: usize,
+}
+
+// A refusal is its number with zero counts.
+fn refused(number: u8) -> Reply
+    ensures { λ r. ⌜ r ≡ record { number = number; rows = 0; columns = 0 } ⌝ }
+{
+    Reply {
+        number,
+        rows: 0,
+        columns: 0,
+    }
+}
+
+// 41 where a distinct row did not fit.
+fn filled(state: Filled, columns: usize) -> Reply
+    ensures { λ r. ⌜ r ≡ replyOf columns state ⌝ }
+{
+    let full = state.full;
+    if full {
+        return Reply {
+            number: 41,
+            rows: state.rows,
+            columns,
+        };
+    }
+    Reply {
+        number: 0,
+        rows: state.rows,
+        columns,
+    }
+}
+
+// A query that passed its checks, over all rows.
+pub fn answer_query(
+    q: &[u8],
+    z: &[u16],
+    layout: Layout,
+    level: usize,
+    catalogue: &[u8],
+    values: &[i32],
+    answer: &mut [i64],
+) -> Reply
+    requires { ⌜ Answerable layout level (now q) (now z) (now catalogue) ⌝ }
+    ensures { λ r. ⌜ answerOf r (now (answer .exit)) ≡ give (length (queryOf (now (q .entry)) .targets)) (answers (queryOf (now (q .entry))) (allRows (tuplesAt (catalogueOf (now (catalogue .entry))) (now (values .entry))))) (now (answer .entry)) ⌝ }
+{
+    let n = layout.ranges;
+    let columns = layout.targets;
+    let plan = Plan {
+        targets: layout.first,
+        columns,
+        condition: layout.condition,
+        level,
+    };
+    let start = Filled {
+        rows: 0,
+        full: false,
+    };
+    let mut env = [values.len(); 256];
+    filled(
+        odometer::run(q, n, q, z, plan, catalogue, values, &mut env, answer, start),
+        columns,
+    )
+}
+
+// The checks by rising number, then the answer; the table of sizes is lent.
+fn evaluate_with(
+    z: &mut [u16],
+    catalogue: &[u8],
+    values: &[i32],
+    query: &[u8],
+    answer: &mut [i64],
+) -> Reply
+    requires { ⌜ 17216 ≤ length (now z) ⌝ }
+    ensures { λ r. ⌜ answerOf r (now (answer .exit)) ≡ evaluate (now (catalogue .entry)) (now (values .entry)) (now (query .entry)) (now (answer .entry)) ⌝ }
+{
+    let number = catalogue::check(catalogue, values);
+    if number != 0 {
+        return refused(number);
+    }
+    let limits = Limits {
+        bytes: 17216,
+        levels: 64,
+        variables: 200,
+    };
+    match queries::check(query, limits, catalogue, z) {
+        Checked::Refused(n) => refused(n),
+        Checked::Passed(layout) => { answer_query(query, z, layout, 64, catalogue, values, answer) }
+    }
+}
+
+// evaluate of document 01: for every input the outcome that the model gives.
+pub fn evaluate(catalogue: &[u8], values: &[i32], query: &[u8], answer: &mut [i64]) -> Reply
+    ensures { λ r. ⌜ answerOf r (now (answer .exit)) ≡ evaluate (now (catalogue .entry)) (now (values .entry)) (now (query .entry)) (now (answer .entry)) ⌝ }
+{
+    let mut z = [0u16; 17216];
+    evaluate_with(&mut z, catalogue, values, query, answer)
+}

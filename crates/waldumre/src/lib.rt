@@ -1,0 +1,39 @@
+// What C calls: the exported functions. Each only hands on, so that its contract is the model's.
+ghost use mathlib.Core.Path.{_≡_};
+ghost use Rattle.model.specs.Calls.{evaluate};
+ghost use Rattle.waldumre.specs.Outcome.{answerOf};
+
+// The number of a refusal, 0 where there is none, and the counts of rows, columns and rewritten bytes.
+#[repr(C)]
+pub struct Outcome {
+    pub number: u64,
+    pub rows: u64,
+    pub columns: u64,
+    pub length: u64,
+}
+
+fn wide(x: u8) -> u64
+    ensures { λ r. ⌜ r ≡ x ⌝ }
+{
+    x as u64
+}
+
+// The plain evaluator; it rewrites nothing, so its third count is 0.
+#[no_mangle]
+pub extern "C" fn waldumre_evaluate(
+    catalogue: &[u8],
+    values: &[i32],
+    query: &[u8],
+    answer: &mut [i64],
+) -> Outcome
+    ensures { λ r. ⌜ answerOf r (now (answer .exit)) ≡ evaluate (now (catalogue .entry)) (now (values .entry)) (now (query .entry)) (now (answer .entry)) ⌝ }
+    ensures { λ r. ⌜ r .length ≡ 0 ⌝ }
+{
+    let r = plain::evaluate(catalogue, values, query, answer);
+    Outcome {
+        number: wide(r.number),
+        rows: r.rows as u64,
+        columns: r.columns as u64,
+        length: 0,
+    }
+}
