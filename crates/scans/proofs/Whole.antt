@@ -38,7 +38,7 @@ kind-is k-workspace = refl
 kind-is k-permit = refl
 
 -- a record that is whole, then the rest
-at : {A : Type 0} (f : Record → List A) (x : Kind) (s : List ℕ) → bodyLength x ≤ length s → flat f (code x ∷ s) ≡ f (filled (getD s 0 0) (getD s 1 0) (getD s 2 0) (getD s 3 0) x) ++ flat f (drop (bodyLength x) s)
+pub at : {A : Type 0} (f : Record → List A) (x : Kind) (s : List ℕ) → bodyLength x ≤ length s → flat f (code x ∷ s) ≡ f (filled (getD s 0 0) (getD s 1 0) (getD s 2 0) (getD s 3 0) x) ++ flat f (drop (bodyLength x) s)
 unfolding flat concatMap recordLength
 at f x s h =
     ap (concatMap f) (records-cons (code x ∷ s) (omega arith))

@@ -1,0 +1,5 @@
+pub mod Sets
+pub mod Index
+pub mod Copies
+pub mod Encoded
+pub mod Turns

@@ -1,0 +1,51 @@
+use native.Mathlib.Omega.{arith}
+use denote.Ref.{now}
+use mathlib.Core.Path.{refl, ap}
+use Prim.Native.Nat.{ℕ, _*_}
+use Rattle.copier.proofs.Turns.{part-is}
+use borrow.Author.Needs.{needs}
+use Rattle.copier.proofs.condition_of.Statement.{statement}
+use Rattle.copier.proofs.condition_of.Tie as tie
+use Rattle.copier.proofs.condition_of.Reads as reads
+use Rattle.copier.proofs.condition_of.Lts as lts
+use Rattle.copier.proofs.head.Reads as head-reads
+use Rattle.copier.proofs.place.Reads as place-reads
+use Rattle.copier.proofs.wide.Reads as wide-reads
+use Rattle.kinds.proofs.tail.Reads as tail-reads
+
+wide-requires : tie.Need-wide-requires
+wide-requires c κs = search needs
+
+mul-i : tie.Need-mul-i
+mul-i c = search needs
+
+place-requires : tie.Need-place-requires
+place-requires c κs = search needs
+
+tail-requires : tie.Need-tail-requires
+tail-requires c κs = search needs
+
+add-place : tie.Need-add-place
+add-place c = search needs
+
+place-requires-2 : tie.Need-place-requires-2
+place-requires-2 c κs = search needs
+
+head-requires : tie.Need-head-requires
+head-requires c κs = search needs
+
+returns : tie.Need-returns
+returns c = part-is (now (c .before .before .before .before .before .before .before .args .permits)) (now (c .before .before .before .before .before .before .before .args .places)) (c .before .before .before .before .before .before .before .args .k) _ _ _ _ _ (ap (λ (i : ℕ). 2 * i) (c .before .before .before .before .wide .ensures .0)) (c .before .before .before .place .ensures) (c .before .place2 .ensures) (c .before .before .tail .ensures) (c .head .ensures)
+
+pub condition-of-spec : {M : Type 1} → statement M
+condition-of-spec =
+    tie.close
+    (tie.spec
+    wide-requires
+    mul-i
+    place-requires
+    tail-requires
+    add-place
+    place-requires-2
+    head-requires
+    returns)

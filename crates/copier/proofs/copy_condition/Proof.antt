@@ -1,0 +1,76 @@
+use borrow.Author.Needs.{needs}
+use native.Mathlib.Omega.{arith}
+use mathlib.Core.Path.{_≡_, refl, _∙_}
+use Prim.Native.Nat.{_+_, _-_, _≤_}
+use lib.ListN.{length, drop}
+use denote.Ref.{now}
+use Rattle.scans.specs.Flat.{flat}
+use Rattle.copier.specs.Copied.{copiedRecord, copiedBytes}
+use Rattle.copier.proofs.Sets.{Left, left-end}
+use Rattle.copier.proofs.Copies.{copy-room, copy-turn, copy-end, copy-start}
+use Rattle.copier.proofs.copy_condition.Statement.{statement}
+use Rattle.copier.proofs.copy_condition.Tie as tie
+use Rattle.copier.proofs.copy_condition.Reads as reads
+use Rattle.copier.proofs.copy_condition.Lts as lts
+use Rattle.copier.proofs.put_record.Reads as put-record-reads
+use Rattle.copier.proofs.renamed.Reads as renamed-reads
+use Rattle.kinds.proofs.read.Reads as read-reads
+use Rattle.kinds.proofs.tail.Reads as tail-reads
+use Rattle.scans.proofs.step.Reads as step-reads
+
+abbrev Inv-loop : tie.InvT-loop
+Inv-loop out₀ at condition variable next i₀ to₀ out i to = Left out₀ at (copiedBytes condition variable next) out to (flat (copiedRecord condition variable next) (drop i condition)) × (length out ≡ length out₀)
+
+abbrev μ-loop : tie.MeasureT-loop
+μ-loop out₀ at condition variable next i₀ to₀ out i to = length condition - i
+
+loop-holds : tie.Need-loop-holds Inv-loop μ-loop
+loop-holds c = (copy-start (now (c .before .before .args .out)) (now (c .before .before .args .condition)) (c .before .before .args .variable) (c .before .before .args .next) (c .before .before .args .at), refl)
+
+tail-requires : tie.Need-tail-requires Inv-loop μ-loop
+tail-requires c κs = search needs
+
+read-requires : tie.Need-read-requires Inv-loop μ-loop
+read-requires c κs = search needs
+
+renamed-requires : tie.Need-renamed-requires Inv-loop μ-loop
+renamed-requires c κs = search needs
+
+put-record-requires : tie.Need-put-record-requires Inv-loop μ-loop
+put-record-requires c κs = copy-room (now (c .before .before .before .before .before .before .before .before .args .condition)) (c .before .before .before .before .before .before .before .before .args .variable) (c .before .before .before .before .before .before .before .before .args .next) (c .before .before .before .before .before .loop .i) _ (c .before .before .before .before .loop-test .taken) refl _ (c .before .before .before .tail .ensures) _ (c .renamed .result) (c .before .before .read .ensures) (c .renamed .ensures) (now (c .before .before .before .before .before .before .before .before .args .out)) (c .before .before .before .before .before .before .before .before .args .at) (c .before .before .before .before .before .loop .out) (c .before .before .before .before .before .loop .to) (c .before .before .before .before .before .loop .inv .0) (c .before .before .before .before .before .before .before .before .pre .0)
+
+step-requires : tie.Need-step-requires Inv-loop μ-loop
+step-requires c κs = search needs
+
+add-i : tie.Need-add-i Inv-loop μ-loop
+add-i c = search needs
+
+loop-less : tie.Need-loop-less Inv-loop μ-loop
+loop-less c = search needs
+
+loop-again : tie.Need-loop-again Inv-loop μ-loop
+loop-again c = (copy-turn (now (c .before .before .before .before .before .before .before .before .before .before .before .before .args .condition)) (c .before .before .before .before .before .before .before .before .before .before .before .before .args .variable) (c .before .before .before .before .before .before .before .before .before .before .before .before .args .next) (c .before .before .before .before .before .before .before .before .before .loop .i) _ (c .before .before .before .before .before .before .before .before .loop-test .taken) (c .step .ensures .0) _ (c .before .before .before .before .before .before .before .tail .ensures) _ (c .before .before .before .before .renamed .result) (c .before .before .before .before .before .before .read .ensures) (c .before .before .before .before .renamed .ensures) (now (c .before .before .before .before .before .before .before .before .before .before .before .before .args .out)) (c .before .before .before .before .before .before .before .before .before .before .before .before .args .at) (c .before .before .before .before .before .before .before .before .before .loop .out) (c .before .before .before .before .before .before .before .before .before .loop .to) (c .before .before .before .before .before .before .before .before .before .loop .inv .0) _ _ (c .before .before .before .put-record .ensures), c .before .before .before .put-record .kept .0 ∙ c .before .before .before .before .before .before .before .before .before .loop .inv .1)
+
+same-length : tie.Need-same-length Inv-loop μ-loop
+same-length c = c .before .loop .inv .1
+
+returns : tie.Need-returns Inv-loop μ-loop
+returns c = left-end (now (c .before .before .before .before .args .out)) (c .before .before .before .before .args .at) (copiedBytes (now (c .before .before .before .before .args .condition)) (c .before .before .before .before .args .variable) (c .before .before .before .before .args .next)) (c .before .loop .out) (c .before .loop .to) _ (copy-end (now (c .before .before .before .before .args .condition)) (c .before .before .before .before .args .variable) (c .before .before .before .before .args .next) (c .before .loop .i) (c .loop-test .left)) (c .before .loop .inv .0)
+
+pub copy-condition-spec : {M : Type 1} → statement M
+copy-condition-spec =
+    tie.close
+    (tie.spec
+    Inv-loop
+    μ-loop
+    loop-holds
+    tail-requires
+    read-requires
+    renamed-requires
+    put-record-requires
+    step-requires
+    add-i
+    loop-less
+    loop-again
+    same-length
+    returns)

@@ -1,0 +1,79 @@
+use borrow.Author.Needs.{needs}
+use native.Mathlib.Omega.{arith}
+use mathlib.Core.Path.{_≡_}
+use Prim.Native.Nat.{_+_, _-_, _≤_}
+use lib.ListN.{length, drop}
+use denote.Ref.{now}
+use Rattle.model.specs.Lists.{indexOf}
+use Rattle.model.specs.Syntax.{variables}
+use Rattle.scans.specs.Flat.{flatBindings}
+use Rattle.copier.proofs.Index.{index-on, index-found, index-end}
+use Rattle.copier.proofs.index_of.Statement.{statement}
+use Rattle.copier.proofs.index_of.Tie as tie
+use Rattle.copier.proofs.index_of.Reads as reads
+use Rattle.copier.proofs.index_of.Lts as lts
+use Rattle.copier.proofs.binds.Reads as binds-reads
+use Rattle.copier.proofs.one.Reads as one-reads
+use Rattle.scans.proofs.binding.Reads as binding-reads
+use Rattle.scans.proofs.step.Reads as step-reads
+
+abbrev Inv-loop : tie.InvT-loop
+Inv-loop q w i₀ at₀ i at = (i + indexOf w (variables (flatBindings (drop at q))) ≡ indexOf w (variables (flatBindings q))) × (i ≤ at)
+
+abbrev μ-loop : tie.MeasureT-loop
+μ-loop q w i₀ at₀ i at = length q - at
+
+loop-holds : tie.Need-loop-holds Inv-loop μ-loop
+loop-holds c = (omega arith, omega arith)
+
+binding-requires : tie.Need-binding-requires Inv-loop μ-loop
+binding-requires c κs = search needs
+
+binds-requires : tie.Need-binds-requires Inv-loop μ-loop
+binds-requires c κs = search needs
+
+returns : tie.Need-returns Inv-loop μ-loop
+returns c = index-found (now (c .before .before .before .before .before .before .args .q)) (c .before .before .before .before .loop .at) (c .before .before .before .loop-test .taken) (c .before .before .binding .result) (c .before .before .binding .ensures) (c .before .before .before .before .before .before .args .w) _ (c .if1 .taken) (c .before .binds .ensures) _ _ (c .before .before .before .before .loop .inv .0)
+
+binding-requires-2 : tie.Need-binding-requires-2 Inv-loop μ-loop
+binding-requires-2 c κs = search needs
+
+one-requires : tie.Need-one-requires Inv-loop μ-loop
+one-requires c κs = search needs
+
+add-i : tie.Need-add-i Inv-loop μ-loop
+add-i c = search needs
+
+step-requires : tie.Need-step-requires Inv-loop μ-loop
+step-requires c κs = search needs
+
+add-at : tie.Need-add-at Inv-loop μ-loop
+add-at c = search needs
+
+loop-less : tie.Need-loop-less Inv-loop μ-loop
+loop-less c = search needs
+
+loop-again : tie.Need-loop-again Inv-loop μ-loop
+loop-again c = (index-on (now (c .before .before .before .before .before .before .before .before .before .args .q)) (c .before .before .before .before .before .before .before .loop .at) _ (c .before .before .before .before .before .before .loop-test .taken) (c .step .ensures .0) (c .before .before .before .before .before .binding .result) (c .before .before .before .before .before .binding .ensures) (c .before .before .before .before .before .before .before .before .before .args .w) _ (c .before .before .before .if1 .left) (c .before .before .before .before .binds .ensures) (c .before .before .binding2 .result) (c .before .before .binding2 .ensures) _ (c .before .before .before .before .before .before .before .loop .i) _ (c .before .one .ensures .0) (c .before .before .before .before .before .before .before .loop .inv .0), omega arith)
+
+returns-2 : tie.Need-returns-2 Inv-loop μ-loop
+returns-2 c = index-end (now (c .before .before .before .args .q)) (c .before .loop .at) (c .loop-test .left) (c .before .before .before .args .w) _ _ (c .before .loop .inv .0)
+
+pub index-of-spec : {M : Type 1} → statement M
+index-of-spec =
+    tie.close
+    (tie.spec
+    Inv-loop
+    μ-loop
+    loop-holds
+    binding-requires
+    binds-requires
+    returns
+    binding-requires-2
+    one-requires
+    add-i
+    step-requires
+    add-at
+    loop-less
+    loop-again
+    returns-2)

@@ -1,0 +1,69 @@
+use borrow.Author.Needs.{needs}
+use Rattle.permits.proofs.attributes_in.Statement.{statement}
+use Rattle.permits.proofs.attributes_in.Tie as tie
+use Rattle.permits.proofs.attributes_in.Reads as reads
+use Rattle.permits.proofs.attributes_in.Lts as lts
+use Rattle.permits.proofs.has_if_known.Reads as has-if-known-reads
+use mathlib.Core.Path.{_≡_, refl, sym, ap, _∙_}
+use native.Mathlib.Omega.{arith}
+use Prim.Native.Nat.{ℕ, _-_, _≤_}
+use mathlib.Core.Bool.{true, not, _||_}
+use Rattle.model.specs.Lists.{all, below}
+use Rattle.model.specs.Permits.{bit}
+use Rattle.permits.proofs.Loops as loops
+use Rattle.permits.specs.Limits as spec
+use lib.Dec.{ltb}
+
+the-end : (a : ℕ) → a ≤ 16 → 16 ≤ a → 16 ≡ a
+the-end a h k = omega arith
+
+abbrev Inv-loop : tie.InvT-loop
+Inv-loop mask attributes a₀ a = (all (λ (x : ℕ). not (bit mask x) || ltb x attributes) (below a) ≡ true) × (a ≤ 16)
+
+abbrev μ-loop : tie.MeasureT-loop
+μ-loop mask attributes a₀ a = 16 - a
+
+-- src/lib.rt:283:5
+loop-holds : tie.Need-loop-holds Inv-loop μ-loop
+unfolding all below
+loop-holds c = (refl, omega arith)
+
+-- src/lib.rt:284:13
+has-if-known-requires : tie.Need-has-if-known-requires Inv-loop μ-loop
+has-if-known-requires c κs = search needs
+
+-- src/lib.rt:285:13
+returns : tie.Need-returns Inv-loop μ-loop
+unfolding spec.attributesIn
+returns c = loops.below-stopped (λ (x : ℕ). not (bit (c .before .before .before .before .args .mask) x) || ltb x (c .before .before .before .before .args .attributes)) (c .before .before .before .loop .a) 16 (c .before .has-if-known .result) (c .before .before .loop-test .taken) (c .before .has-if-known .ensures) (c .if1 .taken)
+
+-- src/lib.rt:287:9
+add-a : tie.Need-add-a Inv-loop μ-loop
+add-a c = search needs
+
+-- src/lib.rt:283:5
+loop-less : tie.Need-loop-less Inv-loop μ-loop
+loop-less c = search needs
+
+-- src/lib.rt:283:5
+loop-again : tie.Need-loop-again Inv-loop μ-loop
+loop-again c = (loops.below-on (λ (x : ℕ). not (bit (c .before .before .before .before .args .mask) x) || ltb x (c .before .before .before .before .args .attributes)) (c .before .before .before .loop .a) (c .before .has-if-known .result) (c .before .before .before .loop .inv .0) (c .before .has-if-known .ensures) (c .if1 .left), omega (arith, c .before .before .loop-test .taken))
+
+-- src/lib.rt:279:1
+returns-2 : tie.Need-returns-2 Inv-loop μ-loop
+unfolding spec.attributesIn
+returns-2 c = sym (ap (λ (m : ℕ). all (λ (x : ℕ). not (bit (c .before .before .args .mask) x) || ltb x (c .before .before .args .attributes)) (below m)) (the-end (c .before .loop .a) (c .before .loop .inv .1) (c .loop-test .left)) ∙ c .before .loop .inv .0)
+
+pub attributes-in-spec : {M : Type 1} → statement M
+attributes-in-spec =
+    tie.close
+    (tie.spec
+    Inv-loop
+    μ-loop
+    loop-holds
+    has-if-known-requires
+    returns
+    add-a
+    loop-less
+    loop-again
+    returns-2)

@@ -1,0 +1,51 @@
+use borrow.Author.Needs.{needs}
+use Rattle.permits.proofs.check.Statement.{statement}
+use Rattle.permits.proofs.check.Tie as tie
+use Rattle.permits.proofs.check.Reads as reads
+use Rattle.permits.proofs.check.Lts as lts
+use Rattle.permits.proofs.all_known.Reads as all-known-reads
+use Rattle.permits.proofs.all_over_stored.Reads as all-over-stored-reads
+use Rattle.permits.proofs.over_limits.Reads as over-limits-reads
+use denote.Ref.{now}
+use Prim.Native.Nat.{_-_}
+use Rattle.permits.proofs.Finds as finds
+
+-- src/lib.rt:381:8
+over-limits-requires : tie.Need-over-limits-requires
+over-limits-requires c κs = search needs
+
+-- src/lib.rt:382:9
+returns : tie.Need-returns
+returns c = finds.check-21 (now (c .before .before .before .before .args .catalogue)) (now (c .before .before .before .before .args .list)) (c .before .over-limits .result) (c .before .over-limits .ensures) (c .if1 .taken)
+
+-- src/lib.rt:384:9
+all-known-requires : tie.Need-all-known-requires
+all-known-requires c κs = search needs
+
+-- src/lib.rt:385:9
+returns-2 : tie.Need-returns-2
+returns-2 c = finds.check-22 (now (c .before .before .before .before .before .before .args .catalogue)) (now (c .before .before .before .before .before .before .args .list)) (c .before .before .before .over-limits .result) (c .before .before .before .over-limits .ensures) (c .before .before .if1 .left) (c .before .all-known .result) (c .before .all-known .ensures) (c .if2 .taken)
+
+-- src/lib.rt:387:9
+all-over-stored-requires : tie.Need-all-over-stored-requires
+all-over-stored-requires c κs = search needs
+
+-- src/lib.rt:388:9
+returns-3 : tie.Need-returns-3
+returns-3 c = finds.check-23 (now (c .before .before .before .before .before .before .before .before .args .catalogue)) (now (c .before .before .before .before .before .before .before .before .args .list)) (c .before .before .before .before .before .over-limits .result) (c .before .before .before .before .before .over-limits .ensures) (c .before .before .before .before .if1 .left) (c .before .before .before .all-known .result) (c .before .before .before .all-known .ensures) (c .before .before .if2 .left) (c .before .all-over-stored .result) (c .before .all-over-stored .ensures) (c .if3 .taken)
+
+-- src/lib.rt:378:1
+returns-4 : tie.Need-returns-4
+returns-4 c = finds.check-none (now (c .before .before .before .before .before .before .before .before .args .catalogue)) (now (c .before .before .before .before .before .before .before .before .args .list)) (c .before .before .before .before .before .over-limits .result) (c .before .before .before .before .before .over-limits .ensures) (c .before .before .before .before .if1 .left) (c .before .before .before .all-known .result) (c .before .before .before .all-known .ensures) (c .before .before .if2 .left) (c .before .all-over-stored .result) (c .before .all-over-stored .ensures) (c .if3 .left)
+
+pub check-spec : {M : Type 1} → statement M
+check-spec =
+    tie.close
+    (tie.spec
+    over-limits-requires
+    returns
+    all-known-requires
+    returns-2
+    all-over-stored-requires
+    returns-3
+    returns-4)

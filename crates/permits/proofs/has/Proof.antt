@@ -1,0 +1,22 @@
+use borrow.Author.Needs.{needs}
+use Rattle.permits.proofs.has.Statement.{statement}
+use Rattle.permits.proofs.has.Tie as tie
+use Rattle.permits.proofs.has.Reads as reads
+use Rattle.permits.proofs.has.Lts as lts
+use mathlib.Core.Path.{ap}
+use Prim.Native.Nat.{ℕ, _/_, _^_}
+use lib.Dec.{eqb}
+use lib.Bits.{and-mask}
+use Rattle.model.specs.Permits.{bit}
+
+-- src/lib.rt:73:6
+shr-result : tie.Need-shr-result
+shr-result c = search needs
+
+-- src/lib.rt:69:1
+returns : tie.Need-returns
+unfolding bit
+returns c = ap (λ (k : ℕ). eqb k 1) (and-mask (c .args .mask / 2 ^ c .args .attribute) 1)
+
+pub has-spec : {M : Type 1} → statement M
+has-spec = tie.close (tie.spec shr-result returns)

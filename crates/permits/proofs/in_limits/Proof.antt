@@ -1,0 +1,46 @@
+use borrow.Author.Needs.{needs}
+use Rattle.permits.proofs.in_limits.Statement.{statement}
+use Rattle.permits.proofs.in_limits.Tie as tie
+use Rattle.permits.proofs.in_limits.Reads as reads
+use Rattle.permits.proofs.in_limits.Lts as lts
+use Rattle.permits.proofs.condition.Reads as condition-reads
+use Rattle.permits.proofs.shallow.Reads as shallow-reads
+use Rattle.scans.proofs.count_bindings.Reads as count-bindings-reads
+use denote.Ref.{now}
+use Prim.Native.Nat.{_-_}
+use Rattle.permits.proofs.Finds as finds
+
+-- src/lib.rt:244:9
+condition-requires : tie.Need-condition-requires
+condition-requires c κs = search needs
+
+-- src/lib.rt:246:9
+returns : tie.Need-returns
+returns c = finds.fits-long (now (c .before .before .before .args .list)) (now (c .before .condition .result)) (c .before .condition .ensures) (c .if1 .taken)
+
+-- src/lib.rt:248:9
+shallow-requires : tie.Need-shallow-requires
+shallow-requires c κs = search needs
+
+-- src/lib.rt:249:9
+returns-2 : tie.Need-returns-2
+returns-2 c = finds.fits-deep (now (c .before .before .before .before .before .args .list)) (now (c .before .before .before .condition .result)) (c .before .before .before .condition .ensures) (c .before .before .if1 .left) (c .before .shallow .result) (c .before .shallow .ensures) (c .if2 .taken)
+
+-- src/lib.rt:251:5
+count-bindings-requires : tie.Need-count-bindings-requires
+count-bindings-requires c κs = search needs
+
+-- src/lib.rt:241:1
+returns-3 : tie.Need-returns-3
+returns-3 c = finds.fits-is (now (c .before .before .before .before .before .before .args .list)) (now (c .before .before .before .before .condition .result)) (c .before .before .before .before .condition .ensures) (c .before .before .before .if1 .left) (c .before .before .shallow .result) (c .before .before .shallow .ensures) (c .count-bindings .result) (c .before .if2 .left) (c .count-bindings .ensures)
+
+pub in-limits-spec : {M : Type 1} → statement M
+in-limits-spec =
+    tie.close
+    (tie.spec
+    condition-requires
+    returns
+    shallow-requires
+    returns-2
+    count-bindings-requires
+    returns-3)

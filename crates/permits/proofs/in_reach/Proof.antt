@@ -1,0 +1,46 @@
+use borrow.Author.Needs.{needs}
+use Rattle.permits.proofs.in_reach.Statement.{statement}
+use Rattle.permits.proofs.in_reach.Tie as tie
+use Rattle.permits.proofs.in_reach.Reads as reads
+use Rattle.permits.proofs.in_reach.Lts as lts
+use Rattle.scope.proofs.permit.Reads as permit-reads
+use Rattle.sizes.proofs.condition.Reads as condition-reads
+use mathlib.Core.Path.{ap, _∙_}
+use denote.Ref.{now}
+use Prim.Native.Nat.{ℕ, _-_}
+use mathlib.Core.List.{List}
+use Rattle.sizes.specs.Decode.{decode}
+use Rattle.scope.specs.Reach.{shapeIn, permitScope}
+use Rattle.model.specs.Scope.{inScope}
+use Rattle.permits.specs.Limits.{inReach}
+
+-- src/lib.rt:335:33
+slice-aggregate-condition : tie.Need-slice-aggregate-condition
+slice-aggregate-condition c = search needs
+
+-- src/lib.rt:335:5
+condition-requires : tie.Need-condition-requires
+condition-requires c κs = search needs
+
+-- src/lib.rt:336:30
+slice-aggregate-permit : tie.Need-slice-aggregate-permit
+slice-aggregate-permit c = search needs
+
+-- src/lib.rt:336:5
+permit-requires : tie.Need-permit-requires
+permit-requires c κs = search needs
+
+-- src/lib.rt:331:1
+returns : tie.Need-returns
+unfolding inReach
+returns c = c .permit .ensures ∙ ap (λ (z : List ℕ). inScope (shapeIn (now (c .before .before .before .before .before .before .before .args .catalogue))) 4 (decode 16 (now (c .before .before .before .before .before .before .before .args .condition)) z) (permitScope (c .before .before .before .before .before .before .before .args .relation))) (c .before .before .before .condition .ensures .1)
+
+pub in-reach-spec : {M : Type 1} → statement M
+in-reach-spec =
+    tie.close
+    (tie.spec
+    slice-aggregate-condition
+    condition-requires
+    slice-aggregate-permit
+    permit-requires
+    returns)

@@ -1,0 +1,78 @@
+use Rattle.permits.proofs.joined.Statement.{statement}
+use Rattle.permits.proofs.joined.Tie as tie
+use Rattle.permits.proofs.joined.Reads as reads
+use Rattle.permits.proofs.joined.Lts as lts
+use Rattle.kinds.proofs.tail.Reads as tail-reads
+use Rattle.permits.proofs.joined_part.Reads as joined-part-reads
+use Rattle.permits.proofs.size.Reads as size-reads
+use borrow.Author.Needs.{needs}
+use mathlib.Core.Path.{_≡_, ap}
+use denote.Ref.{now}
+use native.Mathlib.Omega.{arith}
+use Prim.Native.Nat.{ℕ, _+_, _-_, _≤_}
+use lib.ListN.{length, drop}
+use Rattle.permits.specs.Entries.{entries}
+use Rattle.model.specs.Permits.{bit}
+use Rattle.permits.proofs.Finds as finds
+use Rattle.permits.proofs.Walk as walk
+use Rattle.permits.specs.Applying as spec
+use native.Mathlib.Nat.{zero-add}
+use lib.ListN.{length-drop}
+
+abbrev Inv-loop : tie.InvT-loop
+Inv-loop list relation used n₀ at₀ n at = (n + spec.joinedLength (λ (a : ℕ). bit used a) relation (entries (drop at list)) ≡ spec.joinedLength (λ (a : ℕ). bit used a) relation (entries list)) × (n ≤ at) × (at ≤ length list + 8)
+
+abbrev μ-loop : tie.MeasureT-loop
+μ-loop list relation used n₀ at₀ n at = length list - at
+
+-- src/lib.rt:164:5
+loop-holds : tie.Need-loop-holds Inv-loop μ-loop
+loop-holds c = (zero-add _, omega arith, omega arith)
+
+-- src/lib.rt:165:13
+tail-requires : tie.Need-tail-requires Inv-loop μ-loop
+tail-requires c κs = search needs
+
+-- src/lib.rt:166:14
+joined-part-requires : tie.Need-joined-part-requires Inv-loop μ-loop
+joined-part-requires c κs = search needs
+
+-- src/lib.rt:166:9
+add-n : tie.Need-add-n Inv-loop μ-loop
+add-n c = record { fits = omega (arith, c .before .before .before .loop .inv .1, c .before .before .loop-test .taken, c .before .before .before .before .before .good, c .joined-part .ensures .1, walk.size-few (now (c .before .tail .result)), ap length (c .before .tail .ensures), length-drop (c .before .before .before .loop .at) (now (c .before .before .before .before .before .args .list))) }
+
+-- src/lib.rt:167:15
+size-requires : tie.Need-size-requires Inv-loop μ-loop
+size-requires c κs = search needs
+
+-- src/lib.rt:167:9
+add-at : tie.Need-add-at Inv-loop μ-loop
+add-at c = record { fits = omega (arith, walk.size-room (now (c .before .before .before .before .before .before .args .list)) (now (c .before .before .tail .result)) (c .before .before .before .before .loop .at) (c .size .result) (c .before .before .before .loop-test .taken) (c .before .before .tail .ensures) (c .size .ensures .1 .1), c .before .before .before .before .before .before .good) }
+
+-- src/lib.rt:164:5
+loop-less : tie.Need-loop-less Inv-loop μ-loop
+loop-less c = omega (arith, c .size .ensures .1 .0, c .before .before .before .loop-test .taken)
+
+-- src/lib.rt:164:5
+loop-again : tie.Need-loop-again Inv-loop μ-loop
+loop-again c = (finds.joined-on (now (c .before .before .before .before .before .before .args .list)) (now (c .before .before .tail .result)) (c .before .before .before .before .loop .at) (c .before .before .before .loop-test .taken) (c .before .before .tail .ensures) (λ (a : ℕ). bit (c .before .before .before .before .before .before .args .used) a) (c .before .before .before .before .before .before .args .relation) (c .size .result) (c .before .joined-part .result) (c .before .before .before .before .loop .n) _ (c .size .ensures .0) (c .before .joined-part .ensures .0) (c .before .before .before .before .loop .inv .0), omega (arith, c .before .before .before .before .loop .inv .1, c .before .joined-part .ensures .1, c .size .ensures .0), walk.size-room (now (c .before .before .before .before .before .before .args .list)) (now (c .before .before .tail .result)) (c .before .before .before .before .loop .at) (c .size .result) (c .before .before .before .loop-test .taken) (c .before .before .tail .ensures) (c .size .ensures .1 .1))
+
+-- src/lib.rt:158:1
+returns : tie.Need-returns Inv-loop μ-loop
+returns c = (finds.joined-end (now (c .before .before .before .args .list)) (c .before .loop .at) (c .loop-test .left) (λ (a : ℕ). bit (c .before .before .before .args .used) a) (c .before .before .before .args .relation) (c .before .loop .n) _ (c .before .loop .inv .0), omega (arith, c .before .loop .inv .1, c .before .loop .inv .2))
+
+pub joined-spec : {M : Type 1} → statement M
+joined-spec =
+    tie.close
+    (tie.spec
+    Inv-loop
+    μ-loop
+    loop-holds
+    tail-requires
+    joined-part-requires
+    add-n
+    size-requires
+    add-at
+    loop-less
+    loop-again
+    returns)

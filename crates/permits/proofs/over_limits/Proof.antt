@@ -1,0 +1,83 @@
+use Rattle.permits.proofs.over_limits.Statement.{statement}
+use Rattle.permits.proofs.over_limits.Tie as tie
+use Rattle.permits.proofs.over_limits.Reads as reads
+use Rattle.permits.proofs.over_limits.Lts as lts
+use Rattle.kinds.proofs.tail.Reads as tail-reads
+use Rattle.permits.proofs.in_limits.Reads as in-limits-reads
+use Rattle.permits.proofs.size.Reads as size-reads
+use borrow.Author.Needs.{needs}
+use mathlib.Core.Path.{_≡_, refl}
+use denote.Ref.{now}
+use native.Mathlib.Omega.{arith}
+use Prim.Native.Nat.{_+_, _-_, _≤_}
+use lib.ListN.{length, drop}
+use Rattle.permits.specs.Entries.{entries}
+use Rattle.model.specs.Lists.{all}
+use Rattle.permits.proofs.Loops as loops
+use Rattle.permits.proofs.Finds as finds
+use Rattle.permits.proofs.Walk as walk
+use Rattle.permits.specs.Limits as spec
+use native.Mathlib.Nat.{zero-add}
+
+abbrev Inv-loop : tie.InvT-loop
+Inv-loop list n₀ at₀ n at = (n + length (entries (drop at list)) ≡ length (entries list)) × (all spec.fitsLimits (entries (drop at list)) ≡ all spec.fitsLimits (entries list)) × (n ≤ at)
+
+abbrev μ-loop : tie.MeasureT-loop
+μ-loop list n₀ at₀ n at = length list - at
+
+-- src/lib.rt:260:5
+loop-holds : tie.Need-loop-holds Inv-loop μ-loop
+loop-holds c = (zero-add _, refl, omega arith)
+
+-- src/lib.rt:261:13
+tail-requires : tie.Need-tail-requires Inv-loop μ-loop
+tail-requires c κs = search needs
+
+-- src/lib.rt:262:13
+in-limits-requires : tie.Need-in-limits-requires Inv-loop μ-loop
+in-limits-requires c κs = search needs
+
+-- src/lib.rt:263:13
+returns : tie.Need-returns Inv-loop μ-loop
+returns c = finds.over-found (entries (now (c .before .before .before .before .before .before .args .list))) (loops.all-stopped (now (c .before .before .before .before .before .before .args .list)) (now (c .before .before .tail .result)) (c .before .before .before .before .loop .at) (c .before .before .before .loop-test .taken) (c .before .before .tail .ensures) spec.fitsLimits _ (c .before .in-limits .result) (c .before .in-limits .ensures) (c .before .before .before .before .loop .inv .1) (c .if1 .taken))
+
+-- src/lib.rt:265:9
+add-n : tie.Need-add-n Inv-loop μ-loop
+add-n c = record { fits = omega (arith, c .before .before .before .before .loop .inv .2, c .before .before .before .loop-test .taken, c .before .before .before .before .before .before .good) }
+
+-- src/lib.rt:266:15
+size-requires : tie.Need-size-requires Inv-loop μ-loop
+size-requires c κs = search needs
+
+-- src/lib.rt:266:9
+add-at : tie.Need-add-at Inv-loop μ-loop
+add-at c = record { fits = omega (arith, walk.size-room (now (c .before .before .before .before .before .before .before .args .list)) (now (c .before .before .before .tail .result)) (c .before .before .before .before .before .loop .at) (c .size .result) (c .before .before .before .before .loop-test .taken) (c .before .before .before .tail .ensures) (c .size .ensures .1 .1), c .before .before .before .before .before .before .before .good) }
+
+-- src/lib.rt:260:5
+loop-less : tie.Need-loop-less Inv-loop μ-loop
+loop-less c = omega (arith, c .size .ensures .1 .0, c .before .before .before .before .loop-test .taken)
+
+-- src/lib.rt:260:5
+loop-again : tie.Need-loop-again Inv-loop μ-loop
+loop-again c = (loops.count-on (now (c .before .before .before .before .before .before .before .args .list)) (now (c .before .before .before .tail .result)) (c .before .before .before .before .before .loop .at) (c .before .before .before .before .loop-test .taken) (c .before .before .before .tail .ensures) (c .size .result) (c .before .before .before .before .before .loop .n) _ (c .size .ensures .0) (c .before .before .before .before .before .loop .inv .0), loops.all-on (now (c .before .before .before .before .before .before .before .args .list)) (now (c .before .before .before .tail .result)) (c .before .before .before .before .before .loop .at) (c .before .before .before .before .loop-test .taken) (c .before .before .before .tail .ensures) spec.fitsLimits _ (c .before .before .in-limits .result) (c .before .before .in-limits .ensures) (c .size .result) (c .size .ensures .0) (c .before .before .before .before .before .loop .inv .1) (c .before .if1 .left), omega (arith, c .before .before .before .before .before .loop .inv .2, c .size .ensures .1 .0))
+
+-- src/lib.rt:255:1
+returns-2 : tie.Need-returns-2 Inv-loop μ-loop
+returns-2 c = finds.over-count (entries (now (c .before .before .before .args .list))) (c .before .loop .n) (loops.count-end (now (c .before .before .before .args .list)) (c .before .loop .at) (c .loop-test .left) (c .before .loop .n) _ (c .before .loop .inv .0)) (loops.all-end (now (c .before .before .before .args .list)) (c .before .loop .at) (c .loop-test .left) spec.fitsLimits _ (c .before .loop .inv .1))
+
+pub over-limits-spec : {M : Type 1} → statement M
+over-limits-spec =
+    tie.close
+    (tie.spec
+    Inv-loop
+    μ-loop
+    loop-holds
+    tail-requires
+    in-limits-requires
+    returns
+    add-n
+    size-requires
+    add-at
+    loop-less
+    loop-again
+    returns-2)

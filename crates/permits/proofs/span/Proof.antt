@@ -1,0 +1,68 @@
+use Rattle.permits.proofs.span.Statement.{statement}
+use Rattle.permits.proofs.span.Tie as tie
+use Rattle.permits.proofs.span.Reads as reads
+use Rattle.permits.proofs.span.Lts as lts
+use Rattle.kinds.proofs.byte.Reads as byte-reads
+use Rattle.scans.proofs.step.Reads as step-reads
+use borrow.Author.Needs.{needs}
+use mathlib.Core.Path.{_≡_}
+use denote.Ref.{now}
+use native.Mathlib.Omega.{arith}
+use Prim.Native.Nat.{_+_, _-_, _≤_}
+use native.Mathlib.Nat.{zero-add}
+use lib.ListN.{length, drop}
+use Rattle.permits.specs.Entries.{spanOf}
+use Rattle.permits.proofs.Walk.{span-on, span-found, span-end}
+
+abbrev Inv-loop : tie.InvT-loop
+Inv-loop q at₀ at = (at + spanOf (drop at q) ≡ spanOf q) × (at ≤ length q + 4)
+
+abbrev μ-loop : tie.MeasureT-loop
+μ-loop q at₀ at = length q - at
+
+-- src/lib.rt:23:5
+loop-holds : tie.Need-loop-holds Inv-loop μ-loop
+loop-holds c = (zero-add _, omega arith)
+
+-- src/lib.rt:24:12
+byte-requires : tie.Need-byte-requires Inv-loop μ-loop
+byte-requires c κs = search needs
+
+-- src/lib.rt:25:13
+returns : tie.Need-returns Inv-loop μ-loop
+returns c = (span-found (now (c .before .before .before .before .before .args .q)) (c .before .before .before .loop .at) (c .before .byte .result) (c .before .before .loop-test .taken) (c .before .byte .ensures) _ (c .if1 .taken) (c .before .before .before .loop .inv .0), c .before .before .before .loop .inv .1)
+
+-- src/lib.rt:27:15
+step-requires : tie.Need-step-requires Inv-loop μ-loop
+step-requires c κs = search needs
+
+-- src/lib.rt:27:9
+add-at : tie.Need-add-at Inv-loop μ-loop
+add-at c = search needs
+
+-- src/lib.rt:23:5
+loop-less : tie.Need-loop-less Inv-loop μ-loop
+loop-less c = search needs
+
+-- src/lib.rt:23:5
+loop-again : tie.Need-loop-again Inv-loop μ-loop
+loop-again c = (span-on (now (c .before .before .before .before .before .before .args .q)) (c .before .before .before .before .loop .at) (c .before .before .byte .result) (c .before .before .before .loop-test .taken) (c .before .before .byte .ensures) (c .step .result) _ (c .before .if1 .left) (c .step .ensures .0) (c .before .before .before .before .loop .inv .0), omega (arith, c .step .ensures .1 .1, c .before .before .before .loop-test .taken))
+
+-- src/lib.rt:18:1
+returns-2 : tie.Need-returns-2 Inv-loop μ-loop
+returns-2 c = (span-end (now (c .before .before .before .args .q)) (c .before .loop .at) _ (c .loop-test .left) (c .before .loop .inv .0), c .before .loop .inv .1)
+
+pub span-spec : {M : Type 1} → statement M
+span-spec =
+    tie.close
+    (tie.spec
+    Inv-loop
+    μ-loop
+    loop-holds
+    byte-requires
+    returns
+    step-requires
+    add-at
+    loop-less
+    loop-again
+    returns-2)

@@ -1,0 +1,68 @@
+use borrow.Author.Needs.{needs}
+use Rattle.permits.proofs.within.Statement.{statement}
+use Rattle.permits.proofs.within.Tie as tie
+use Rattle.permits.proofs.within.Reads as reads
+use Rattle.permits.proofs.within.Lts as lts
+use Rattle.permits.proofs.has_if_used.Reads as has-if-used-reads
+use mathlib.Core.Path.{_≡_, refl, sym, ap, _∙_}
+use native.Mathlib.Omega.{arith}
+use Prim.Native.Nat.{ℕ, _-_, _≤_}
+use mathlib.Core.Bool.{true, not, _||_}
+use Rattle.model.specs.Lists.{all, below}
+use Rattle.model.specs.Permits.{bit}
+use Rattle.permits.proofs.Loops as loops
+use Rattle.permits.specs.Applying as spec
+
+the-end : (a : ℕ) → a ≤ 16 → 16 ≤ a → 16 ≡ a
+the-end a h k = omega arith
+
+abbrev Inv-loop : tie.InvT-loop
+Inv-loop used mask a₀ a = (all (λ (x : ℕ). not (bit used x) || bit mask x) (below a) ≡ true) × (a ≤ 16)
+
+abbrev μ-loop : tie.MeasureT-loop
+μ-loop used mask a₀ a = 16 - a
+
+-- src/lib.rt:89:5
+loop-holds : tie.Need-loop-holds Inv-loop μ-loop
+unfolding all below
+loop-holds c = (refl, omega arith)
+
+-- src/lib.rt:90:13
+has-if-used-requires : tie.Need-has-if-used-requires Inv-loop μ-loop
+has-if-used-requires c κs = search needs
+
+-- src/lib.rt:91:13
+returns : tie.Need-returns Inv-loop μ-loop
+unfolding spec.within
+returns c = loops.below-stopped (λ (x : ℕ). not (bit (c .before .before .before .before .args .used) x) || bit (c .before .before .before .before .args .mask) x) (c .before .before .before .loop .a) 16 (c .before .has-if-used .result) (c .before .before .loop-test .taken) (c .before .has-if-used .ensures) (c .if1 .taken)
+
+-- src/lib.rt:93:9
+add-a : tie.Need-add-a Inv-loop μ-loop
+add-a c = search needs
+
+-- src/lib.rt:89:5
+loop-less : tie.Need-loop-less Inv-loop μ-loop
+loop-less c = search needs
+
+-- src/lib.rt:89:5
+loop-again : tie.Need-loop-again Inv-loop μ-loop
+loop-again c = (loops.below-on (λ (x : ℕ). not (bit (c .before .before .before .before .args .used) x) || bit (c .before .before .before .before .args .mask) x) (c .before .before .before .loop .a) (c .before .has-if-used .result) (c .before .before .before .loop .inv .0) (c .before .has-if-used .ensures) (c .if1 .left), omega (arith, c .before .before .loop-test .taken))
+
+-- src/lib.rt:85:1
+returns-2 : tie.Need-returns-2 Inv-loop μ-loop
+unfolding spec.within
+returns-2 c = sym (ap (λ (m : ℕ). all (λ (x : ℕ). not (bit (c .before .before .args .used) x) || bit (c .before .before .args .mask) x) (below m)) (the-end (c .before .loop .a) (c .before .loop .inv .1) (c .loop-test .left)) ∙ c .before .loop .inv .0)
+
+pub within-spec : {M : Type 1} → statement M
+within-spec =
+    tie.close
+    (tie.spec
+    Inv-loop
+    μ-loop
+    loop-holds
+    has-if-used-requires
+    returns
+    add-a
+    loop-less
+    loop-again
+    returns-2)

@@ -1,0 +1,496 @@
+use mathlib.Core.Path.{_≡_, refl, sym, ap, _∙_}
+use Rattle.copier.specs.Guard.{part}
+use Rattle.rewriter.specs.Rewritten.{conditionBytes, conditionNew, termBytes, termNew, from, bothBytes, bothNew, underBytes, underNew}
+use Rattle.sizes.specs.Decode.{first, second}
+use Rattle.rewriter.proofs.Runs.{head-room, body-room, body-did, leaf-room, leaf-did, child-room, child-did, both-first, both-second, both-did, under-open, under-room, under-guard, under-did}
+use Rattle.rewriter.proofs.Steps.{zero-leaf, zero-leafT, true-leaf, not-shape, and-shape, or-shape, compare-shape, some-shape, constant-leaf, attribute-leaf, aggregate-shape, rest-leaf, rest-leafT}
+use Prim.Native.Nat.{ℕ, _<_, _+_, _*_, _-_}
+use borrow.Author.Needs.{needs}
+use native.Mathlib.Omega.{arith}
+use denote.Ref.{now}
+use borrow.Fn.Kinds.{In}
+use borrow.Fn.PlainCycle.{Measures, is, falls, and}
+use Rattle.rewriter.proofs.condition.Reads as condition
+use Rattle.rewriter.proofs.condition.Kinds as condition-kinds
+use Rattle.rewriter.proofs.+condition+conditions+term+terms+under.Lts-condition as condition-lts
+use Rattle.rewriter.proofs.conditions.Reads as conditions
+use Rattle.rewriter.proofs.conditions.Kinds as conditions-kinds
+use Rattle.rewriter.proofs.+condition+conditions+term+terms+under.Lts-conditions as conditions-lts
+use Rattle.rewriter.proofs.term.Reads as term
+use Rattle.rewriter.proofs.term.Kinds as term-kinds
+use Rattle.rewriter.proofs.+condition+conditions+term+terms+under.Lts-term as term-lts
+use Rattle.rewriter.proofs.terms.Reads as terms
+use Rattle.rewriter.proofs.terms.Kinds as terms-kinds
+use Rattle.rewriter.proofs.+condition+conditions+term+terms+under.Lts-terms as terms-lts
+use Rattle.rewriter.proofs.under.Reads as under
+use Rattle.rewriter.proofs.under.Kinds as under-kinds
+use Rattle.rewriter.proofs.+condition+conditions+term+terms+under.Lts-under as under-lts
+use Rattle.copier.proofs.open_guard.Reads as open-guard-reads
+use Rattle.copier.proofs.put.Reads as put-reads
+use Rattle.copier.proofs.put_record.Reads as put-record-reads
+use Rattle.copier.proofs.write_guard.Reads as write-guard-reads
+use Rattle.kinds.proofs.read.Reads as read-reads
+use Rattle.kinds.proofs.tail.Reads as tail-reads
+use Rattle.kinds.proofs.tail_sizes.Reads as tail-sizes-reads
+use Rattle.rewriter.proofs.first_child.Reads as first-child-reads
+use Rattle.rewriter.proofs.mask.Reads as mask-reads
+use Rattle.rewriter.proofs.second_child.Reads as second-child-reads
+use Rattle.rewriter.proofs.+condition+conditions+term+terms+under.{statement}
+use Rattle.rewriter.proofs.+condition+conditions+term+terms+under.Tie.{close}
+
+abbrev μ-condition : Measures 6 condition-kinds.ps ℕ
+μ-condition κs a = 2 * (a .1 .1 .1 .1 .1 .1 .1 .1 .0)
+
+abbrev μ-conditions : Measures 6 conditions-kinds.ps ℕ
+μ-conditions κs a = 2 * (a .1 .1 .1 .1 .1 .1 .1 .1 .0) + 1
+
+abbrev μ-term : Measures 6 term-kinds.ps ℕ
+μ-term κs a = 2 * (a .1 .1 .1 .1 .1 .1 .1 .1 .0)
+
+abbrev μ-terms : Measures 6 terms-kinds.ps ℕ
+μ-terms κs a = 2 * (a .1 .1 .1 .1 .1 .1 .1 .1 .0) + 1
+
+abbrev μ-under : Measures 6 under-kinds.ps ℕ
+μ-under κs a = 2 * (a .1 .1 .1 .1 .1 .1 .1 .1 .0) + 1
+
+abbrev condition-at : ℕ → In 6 condition-kinds.ps
+condition-at t = and 6 condition-kinds.ps (is 6 condition-kinds.ps μ-condition t) condition.Pre
+
+abbrev condition-below : ℕ → In 6 condition-kinds.ps
+condition-below t =
+    and 6 condition-kinds.ps (falls 6 condition-kinds.ps _<_ μ-condition t) condition.Pre
+
+abbrev conditions-at : ℕ → In 6 conditions-kinds.ps
+conditions-at t =
+    and 6 conditions-kinds.ps (is 6 conditions-kinds.ps μ-conditions t) conditions.Pre
+
+abbrev conditions-below : ℕ → In 6 conditions-kinds.ps
+conditions-below t =
+    and 6 conditions-kinds.ps (falls 6 conditions-kinds.ps _<_ μ-conditions t) conditions.Pre
+
+abbrev term-at : ℕ → In 6 term-kinds.ps
+term-at t = and 6 term-kinds.ps (is 6 term-kinds.ps μ-term t) term.Pre
+
+abbrev term-below : ℕ → In 6 term-kinds.ps
+term-below t = and 6 term-kinds.ps (falls 6 term-kinds.ps _<_ μ-term t) term.Pre
+
+abbrev terms-at : ℕ → In 6 terms-kinds.ps
+terms-at t = and 6 terms-kinds.ps (is 6 terms-kinds.ps μ-terms t) terms.Pre
+
+abbrev terms-below : ℕ → In 6 terms-kinds.ps
+terms-below t = and 6 terms-kinds.ps (falls 6 terms-kinds.ps _<_ μ-terms t) terms.Pre
+
+abbrev under-at : ℕ → In 6 under-kinds.ps
+under-at t = and 6 under-kinds.ps (is 6 under-kinds.ps μ-under t) under.Pre
+
+abbrev under-below : ℕ → In 6 under-kinds.ps
+under-below t = and 6 under-kinds.ps (falls 6 under-kinds.ps _<_ μ-under t) under.Pre
+
+abbrev condition-claims : ℕ → condition-lts.Claims
+condition-claims t = (put-reads.Asked, put-reads.Learnt, read-reads.Asked, read-reads.Learnt, first-child-reads.Asked, first-child-reads.Learnt, tail-reads.Asked, tail-reads.Learnt, tail-sizes-reads.Asked, tail-sizes-reads.Learnt, condition-below t, condition.Post, conditions-below t, conditions.Post, put-record-reads.Asked, put-record-reads.Learnt, terms-below t, terms.Post, under-below t, under.Post)
+
+abbrev conditions-claims : ℕ → conditions-lts.Claims
+conditions-claims t = (first-child-reads.Asked, first-child-reads.Learnt, second-child-reads.Asked, second-child-reads.Learnt, tail-reads.Asked, tail-reads.Learnt, tail-sizes-reads.Asked, tail-sizes-reads.Learnt, condition-below t, condition.Post)
+
+abbrev term-claims : ℕ → term-lts.Claims
+term-claims t = (put-record-reads.Asked, put-record-reads.Learnt, read-reads.Asked, read-reads.Learnt, under-below t, under.Post)
+
+abbrev terms-claims : ℕ → terms-lts.Claims
+terms-claims t = (first-child-reads.Asked, first-child-reads.Learnt, second-child-reads.Asked, second-child-reads.Learnt, tail-reads.Asked, tail-reads.Learnt, tail-sizes-reads.Asked, tail-sizes-reads.Learnt, term-below t, term.Post)
+
+abbrev under-claims : ℕ → under-lts.Claims
+under-claims t = (mask-reads.Asked, mask-reads.Learnt, first-child-reads.Asked, first-child-reads.Learnt, open-guard-reads.Asked, open-guard-reads.Learnt, tail-reads.Asked, tail-reads.Learnt, tail-sizes-reads.Asked, tail-sizes-reads.Learnt, condition-below t, condition.Post, write-guard-reads.Asked, write-guard-reads.Learnt)
+
+condition-put-requires : (t : ℕ) → condition-lts.Need-put-requires (condition-claims t) (condition-at t) condition.Post
+condition-put-requires t c κs = leaf-room _ _ _ (zero-leaf (now (c .before .before .before .before .before .before .before .before .args .masks)) (part (now (c .before .before .before .before .before .before .before .before .args .permits)) (now (c .before .before .before .before .before .before .before .before .args .places))) (c .before .before .before .before .before .before .before .before .args .level) (now (c .before .before .before .before .before .before .before .before .args .q)) (now (c .before .before .before .before .before .before .before .before .args .z)) (c .before .if1 .taken)) (c .before .before .before .before .before .before .before .before .args .at) (c .before .before .before .before .before .before .before .before .args .next) (c .before .before .before .before .before .before .before .before .pre .1)
+
+condition-same-length : (t : ℕ) → condition-lts.Need-same-length (condition-claims t) (condition-at t) condition.Post
+condition-same-length t c = search needs
+
+condition-returns : (t : ℕ) → condition-lts.Need-returns (condition-claims t) (condition-at t) condition.Post
+condition-returns t c = leaf-did _ _ _ (zero-leaf (now (c .before .before .before .before .before .before .before .before .before .before .before .args .masks)) (part (now (c .before .before .before .before .before .before .before .before .before .before .before .args .permits)) (now (c .before .before .before .before .before .before .before .before .before .before .before .args .places))) (c .before .before .before .before .before .before .before .before .before .before .before .args .level) (now (c .before .before .before .before .before .before .before .before .before .before .before .args .q)) (now (c .before .before .before .before .before .before .before .before .before .before .before .args .z)) (c .before .before .before .before .if1 .taken)) (c .before .before .before .before .before .before .before .before .before .before .before .args .at) (c .before .before .before .before .before .before .before .before .before .before .before .args .next) (now (c .before .before .before .before .before .before .before .before .before .before .before .args .out)) _ _ (c .before .before .put .ensures)
+
+condition-read-requires : (t : ℕ) → condition-lts.Need-read-requires (condition-claims t) (condition-at t) condition.Post
+condition-read-requires t c κs = search needs
+
+condition-enum-told : (t : ℕ) → condition-lts.Need-enum-told (condition-claims t) (condition-at t) condition.Post
+condition-enum-told t c = search needs
+
+condition-put-requires-2 : (t : ℕ) → condition-lts.Need-put-requires-2 (condition-claims t) (condition-at t) condition.Post
+condition-put-requires-2 t c κs = leaf-room _ _ _ (true-leaf (now (c .before .before .before .before .before .before .before .before .before .before .before .args .masks)) (part (now (c .before .before .before .before .before .before .before .before .before .before .before .args .permits)) (now (c .before .before .before .before .before .before .before .before .before .before .before .args .places))) (c .before .before .before .before .before .before .before .before .before .before .before .args .level) (now (c .before .before .before .before .before .before .before .before .before .before .before .args .q)) (now (c .before .before .before .before .before .before .before .before .before .before .before .args .z)) (c .before .before .before .before .if1 .left) (sym (c .before .before .before .read .ensures) ∙ c .before .enum-told .given .1)) (c .before .before .before .before .before .before .before .before .before .before .before .args .at) (c .before .before .before .before .before .before .before .before .before .before .before .args .next) (c .before .before .before .before .before .before .before .before .before .before .before .pre .1)
+
+condition-enum-told-2 : (t : ℕ) → condition-lts.Need-enum-told-2 (condition-claims t) (condition-at t) condition.Post
+condition-enum-told-2 t c = search needs
+
+condition-put-requires-3 : (t : ℕ) → condition-lts.Need-put-requires-3 (condition-claims t) (condition-at t) condition.Post
+condition-put-requires-3 t c κs = head-room _ _ _ _ _ (not-shape (now (c .before .before .before .before .before .before .before .before .before .before .before .args .masks)) (part (now (c .before .before .before .before .before .before .before .before .before .before .before .args .permits)) (now (c .before .before .before .before .before .before .before .before .before .before .before .args .places))) (c .before .before .before .before .before .before .before .before .before .before .before .args .level) (now (c .before .before .before .before .before .before .before .before .before .before .before .args .q)) (now (c .before .before .before .before .before .before .before .before .before .before .before .args .z)) (c .before .before .before .before .if1 .left) (sym (c .before .before .before .read .ensures) ∙ c .before .enum-told2 .given .1)) (c .before .before .before .before .before .before .before .before .before .before .before .args .at) (c .before .before .before .before .before .before .before .before .before .before .before .args .next) (c .before .before .before .before .before .before .before .before .before .before .before .pre .1)
+
+condition-first-child-requires : (t : ℕ) → condition-lts.Need-first-child-requires (condition-claims t) (condition-at t) condition.Post
+condition-first-child-requires t c κs = search needs
+
+condition-tail-requires : (t : ℕ) → condition-lts.Need-tail-requires (condition-claims t) (condition-at t) condition.Post
+condition-tail-requires t c κs = search needs
+
+condition-tail-sizes-requires : (t : ℕ) → condition-lts.Need-tail-sizes-requires (condition-claims t) (condition-at t) condition.Post
+condition-tail-sizes-requires t c κs = search needs
+
+condition-sub-condition : (t : ℕ) → condition-lts.Need-sub-condition (condition-claims t) (condition-at t) condition.Post
+condition-sub-condition t c = search needs
+
+condition-condition-requires : (t : ℕ) → condition-lts.Need-condition-requires (condition-claims t) (condition-at t) condition.Post
+condition-condition-requires t c κs = (omega (arith, c .before .before .before .before .before .before .before .before .before .before .before .before .before .before .before .before .before .before .pre .0, c .before .before .before .before .before .before .before .before .before .before .before .if1 .left), child-room (λ x y i. conditionBytes (now (c .before .before .before .before .before .before .before .before .before .before .before .before .before .before .before .before .before .before .args .masks)) (part (now (c .before .before .before .before .before .before .before .before .before .before .before .before .before .before .before .before .before .before .args .permits)) (now (c .before .before .before .before .before .before .before .before .before .before .before .before .before .before .before .before .before .before .args .places))) ((c .before .before .before .before .before .before .before .before .before .before .before .before .before .before .before .before .before .before .args .level) - 1) x y i) (λ x y. conditionNew (now (c .before .before .before .before .before .before .before .before .before .before .before .before .before .before .before .before .before .before .args .masks)) (part (now (c .before .before .before .before .before .before .before .before .before .before .before .before .before .before .before .before .before .before .args .permits)) (now (c .before .before .before .before .before .before .before .before .before .before .before .before .before .before .before .before .before .before .args .places))) ((c .before .before .before .before .before .before .before .before .before .before .before .before .before .before .before .before .before .before .args .level) - 1) x y) (now (c .before .before .before .before .before .before .before .before .before .before .before .before .before .before .before .before .before .before .args .q)) (now (c .before .before .before .before .before .before .before .before .before .before .before .before .before .before .before .before .before .before .args .z)) 0 (c .before .before .before .before .before .before .before .before .before .before .before .before .before .before .before .before .before .before .args .next) _ (c .before .before .before .first-child .ensures .0) _ _ (c .before .before .tail .ensures) (c .before .tail-sizes .ensures) _ (body-room _ _ _ _ _ (not-shape (now (c .before .before .before .before .before .before .before .before .before .before .before .before .before .before .before .before .before .before .args .masks)) (part (now (c .before .before .before .before .before .before .before .before .before .before .before .before .before .before .before .before .before .before .args .permits)) (now (c .before .before .before .before .before .before .before .before .before .before .before .before .before .before .before .before .before .before .args .places))) (c .before .before .before .before .before .before .before .before .before .before .before .before .before .before .before .before .before .before .args .level) (now (c .before .before .before .before .before .before .before .before .before .before .before .before .before .before .before .before .before .before .args .q)) (now (c .before .before .before .before .before .before .before .before .before .before .before .before .before .before .before .before .before .before .args .z)) (c .before .before .before .before .before .before .before .before .before .before .before .if1 .left) (sym (c .before .before .before .before .before .before .before .before .before .before .read .ensures) ∙ c .before .before .before .before .before .before .before .before .enum-told2 .given .1)) (c .before .before .before .before .before .before .before .before .before .before .before .before .before .before .before .before .before .before .args .at) (c .before .before .before .before .before .before .before .before .before .before .before .before .before .before .before .before .before .before .args .next) (now (c .before .before .before .before .before .before .before .before .before .before .before .before .before .before .before .before .before .before .args .out)) _ _ (c .before .before .before .before .before .before .put3 .ensures) (c .before .before .before .before .before .before .before .before .before .before .before .before .before .before .before .before .before .before .pre .1)))
+
+condition-enum-told-3 : (t : ℕ) → condition-lts.Need-enum-told-3 (condition-claims t) (condition-at t) condition.Post
+condition-enum-told-3 t c = search needs
+
+condition-put-requires-4 : (t : ℕ) → condition-lts.Need-put-requires-4 (condition-claims t) (condition-at t) condition.Post
+condition-put-requires-4 t c κs = head-room _ _ _ _ _ (and-shape (now (c .before .before .before .before .before .before .before .before .before .before .before .args .masks)) (part (now (c .before .before .before .before .before .before .before .before .before .before .before .args .permits)) (now (c .before .before .before .before .before .before .before .before .before .before .before .args .places))) (c .before .before .before .before .before .before .before .before .before .before .before .args .level) (now (c .before .before .before .before .before .before .before .before .before .before .before .args .q)) (now (c .before .before .before .before .before .before .before .before .before .before .before .args .z)) (c .before .before .before .before .if1 .left) (sym (c .before .before .before .read .ensures) ∙ c .before .enum-told3 .given .1)) (c .before .before .before .before .before .before .before .before .before .before .before .args .at) (c .before .before .before .before .before .before .before .before .before .before .before .args .next) (c .before .before .before .before .before .before .before .before .before .before .before .pre .1)
+
+condition-sub-conditions : (t : ℕ) → condition-lts.Need-sub-conditions (condition-claims t) (condition-at t) condition.Post
+condition-sub-conditions t c = search needs
+
+condition-conditions-requires : (t : ℕ) → condition-lts.Need-conditions-requires (condition-claims t) (condition-at t) condition.Post
+condition-conditions-requires t c κs = (omega (arith, c .before .before .before .before .before .before .before .before .before .before .before .before .before .before .before .pre .0, c .before .before .before .before .before .before .before .before .if1 .left), body-room _ _ _ _ _ (and-shape (now (c .before .before .before .before .before .before .before .before .before .before .before .before .before .before .before .args .masks)) (part (now (c .before .before .before .before .before .before .before .before .before .before .before .before .before .before .before .args .permits)) (now (c .before .before .before .before .before .before .before .before .before .before .before .before .before .before .before .args .places))) (c .before .before .before .before .before .before .before .before .before .before .before .before .before .before .before .args .level) (now (c .before .before .before .before .before .before .before .before .before .before .before .before .before .before .before .args .q)) (now (c .before .before .before .before .before .before .before .before .before .before .before .before .before .before .before .args .z)) (c .before .before .before .before .before .before .before .before .if1 .left) (sym (c .before .before .before .before .before .before .before .read .ensures) ∙ c .before .before .before .before .before .enum-told3 .given .1)) (c .before .before .before .before .before .before .before .before .before .before .before .before .before .before .before .args .at) (c .before .before .before .before .before .before .before .before .before .before .before .before .before .before .before .args .next) (now (c .before .before .before .before .before .before .before .before .before .before .before .before .before .before .before .args .out)) _ _ (c .before .before .before .put4 .ensures) (c .before .before .before .before .before .before .before .before .before .before .before .before .before .before .before .pre .1))
+
+condition-enum-told-4 : (t : ℕ) → condition-lts.Need-enum-told-4 (condition-claims t) (condition-at t) condition.Post
+condition-enum-told-4 t c = search needs
+
+condition-put-requires-5 : (t : ℕ) → condition-lts.Need-put-requires-5 (condition-claims t) (condition-at t) condition.Post
+condition-put-requires-5 t c κs = head-room _ _ _ _ _ (or-shape (now (c .before .before .before .before .before .before .before .before .before .before .before .args .masks)) (part (now (c .before .before .before .before .before .before .before .before .before .before .before .args .permits)) (now (c .before .before .before .before .before .before .before .before .before .before .before .args .places))) (c .before .before .before .before .before .before .before .before .before .before .before .args .level) (now (c .before .before .before .before .before .before .before .before .before .before .before .args .q)) (now (c .before .before .before .before .before .before .before .before .before .before .before .args .z)) (c .before .before .before .before .if1 .left) (sym (c .before .before .before .read .ensures) ∙ c .before .enum-told4 .given .1)) (c .before .before .before .before .before .before .before .before .before .before .before .args .at) (c .before .before .before .before .before .before .before .before .before .before .before .args .next) (c .before .before .before .before .before .before .before .before .before .before .before .pre .1)
+
+condition-sub-conditions-2 : (t : ℕ) → condition-lts.Need-sub-conditions-2 (condition-claims t) (condition-at t) condition.Post
+condition-sub-conditions-2 t c = search needs
+
+condition-conditions-requires-2 : (t : ℕ) → condition-lts.Need-conditions-requires-2 (condition-claims t) (condition-at t) condition.Post
+condition-conditions-requires-2 t c κs = (omega (arith, c .before .before .before .before .before .before .before .before .before .before .before .before .before .before .before .pre .0, c .before .before .before .before .before .before .before .before .if1 .left), body-room _ _ _ _ _ (or-shape (now (c .before .before .before .before .before .before .before .before .before .before .before .before .before .before .before .args .masks)) (part (now (c .before .before .before .before .before .before .before .before .before .before .before .before .before .before .before .args .permits)) (now (c .before .before .before .before .before .before .before .before .before .before .before .before .before .before .before .args .places))) (c .before .before .before .before .before .before .before .before .before .before .before .before .before .before .before .args .level) (now (c .before .before .before .before .before .before .before .before .before .before .before .before .before .before .before .args .q)) (now (c .before .before .before .before .before .before .before .before .before .before .before .before .before .before .before .args .z)) (c .before .before .before .before .before .before .before .before .if1 .left) (sym (c .before .before .before .before .before .before .before .read .ensures) ∙ c .before .before .before .before .before .enum-told4 .given .1)) (c .before .before .before .before .before .before .before .before .before .before .before .before .before .before .before .args .at) (c .before .before .before .before .before .before .before .before .before .before .before .before .before .before .before .args .next) (now (c .before .before .before .before .before .before .before .before .before .before .before .before .before .before .before .args .out)) _ _ (c .before .before .before .put5 .ensures) (c .before .before .before .before .before .before .before .before .before .before .before .before .before .before .before .pre .1))
+
+condition-enum-known-o : (t : ℕ) → condition-lts.Need-enum-known-o (condition-claims t) (condition-at t) condition.Post
+condition-enum-known-o t c = search needs
+
+condition-put-record-requires : (t : ℕ) → condition-lts.Need-put-record-requires (condition-claims t) (condition-at t) condition.Post
+condition-put-record-requires t c κs = head-room _ _ _ _ _ (compare-shape (now (c .before .before .before .before .before .before .before .before .before .before .before .before .args .masks)) (part (now (c .before .before .before .before .before .before .before .before .before .before .before .before .args .permits)) (now (c .before .before .before .before .before .before .before .before .before .before .before .before .args .places))) (c .before .before .before .before .before .before .before .before .before .before .before .before .args .level) (now (c .before .before .before .before .before .before .before .before .before .before .before .before .args .q)) (now (c .before .before .before .before .before .before .before .before .before .before .before .before .args .z)) (c .before .before .before .before .before .if1 .left) _ (sym (c .before .before .before .before .read .ensures) ∙ c .before .before .o .given .1)) (c .before .before .before .before .before .before .before .before .before .before .before .before .args .at) (c .before .before .before .before .before .before .before .before .before .before .before .before .args .next) (c .before .before .before .before .before .before .before .before .before .before .before .before .pre .1)
+
+condition-sub-terms : (t : ℕ) → condition-lts.Need-sub-terms (condition-claims t) (condition-at t) condition.Post
+condition-sub-terms t c = search needs
+
+condition-terms-requires : (t : ℕ) → condition-lts.Need-terms-requires (condition-claims t) (condition-at t) condition.Post
+condition-terms-requires t c κs = (omega (arith, c .before .before .before .before .before .before .before .before .before .before .before .before .before .before .before .before .pre .0, c .before .before .before .before .before .before .before .before .before .if1 .left), body-room _ _ _ _ _ (compare-shape (now (c .before .before .before .before .before .before .before .before .before .before .before .before .before .before .before .before .args .masks)) (part (now (c .before .before .before .before .before .before .before .before .before .before .before .before .before .before .before .before .args .permits)) (now (c .before .before .before .before .before .before .before .before .before .before .before .before .before .before .before .before .args .places))) (c .before .before .before .before .before .before .before .before .before .before .before .before .before .before .before .before .args .level) (now (c .before .before .before .before .before .before .before .before .before .before .before .before .before .before .before .before .args .q)) (now (c .before .before .before .before .before .before .before .before .before .before .before .before .before .before .before .before .args .z)) (c .before .before .before .before .before .before .before .before .before .if1 .left) _ (sym (c .before .before .before .before .before .before .before .before .read .ensures) ∙ c .before .before .before .before .before .before .o .given .1)) (c .before .before .before .before .before .before .before .before .before .before .before .before .before .before .before .before .args .at) (c .before .before .before .before .before .before .before .before .before .before .before .before .before .before .before .before .args .next) (now (c .before .before .before .before .before .before .before .before .before .before .before .before .before .before .before .before .args .out)) _ _ (c .before .before .before .put-record .ensures) (c .before .before .before .before .before .before .before .before .before .before .before .before .before .before .before .before .pre .1))
+
+condition-enum-known-v : (t : ℕ) → condition-lts.Need-enum-known-v (condition-claims t) (condition-at t) condition.Post
+condition-enum-known-v t c = search needs
+
+condition-put-record-requires-2 : (t : ℕ) → condition-lts.Need-put-record-requires-2 (condition-claims t) (condition-at t) condition.Post
+condition-put-record-requires-2 t c κs = head-room _ _ _ _ _ (some-shape (now (c .before .before .before .before .before .before .before .before .before .before .before .before .args .masks)) (part (now (c .before .before .before .before .before .before .before .before .before .before .before .before .args .permits)) (now (c .before .before .before .before .before .before .before .before .before .before .before .before .args .places))) (c .before .before .before .before .before .before .before .before .before .before .before .before .args .level) (now (c .before .before .before .before .before .before .before .before .before .before .before .before .args .q)) (now (c .before .before .before .before .before .before .before .before .before .before .before .before .args .z)) (c .before .before .before .before .before .if1 .left) _ _ (sym (c .before .before .before .before .read .ensures) ∙ c .before .before .v .given .1)) (c .before .before .before .before .before .before .before .before .before .before .before .before .args .at) (c .before .before .before .before .before .before .before .before .before .before .before .before .args .next) (c .before .before .before .before .before .before .before .before .before .before .before .before .pre .1)
+
+condition-sub-under : (t : ℕ) → condition-lts.Need-sub-under (condition-claims t) (condition-at t) condition.Post
+condition-sub-under t c = search needs
+
+condition-under-requires : (t : ℕ) → condition-lts.Need-under-requires (condition-claims t) (condition-at t) condition.Post
+condition-under-requires t c κs = (omega (arith, c .before .before .before .before .before .before .before .before .before .before .before .before .before .before .before .before .pre .0, c .before .before .before .before .before .before .before .before .before .if1 .left), body-room _ _ _ _ _ (some-shape (now (c .before .before .before .before .before .before .before .before .before .before .before .before .before .before .before .before .args .masks)) (part (now (c .before .before .before .before .before .before .before .before .before .before .before .before .before .before .before .before .args .permits)) (now (c .before .before .before .before .before .before .before .before .before .before .before .before .before .before .before .before .args .places))) (c .before .before .before .before .before .before .before .before .before .before .before .before .before .before .before .before .args .level) (now (c .before .before .before .before .before .before .before .before .before .before .before .before .before .before .before .before .args .q)) (now (c .before .before .before .before .before .before .before .before .before .before .before .before .before .before .before .before .args .z)) (c .before .before .before .before .before .before .before .before .before .if1 .left) _ _ (sym (c .before .before .before .before .before .before .before .before .read .ensures) ∙ c .before .before .before .before .before .before .v .given .1)) (c .before .before .before .before .before .before .before .before .before .before .before .before .before .before .before .before .args .at) (c .before .before .before .before .before .before .before .before .before .before .before .before .before .before .before .before .args .next) (now (c .before .before .before .before .before .before .before .before .before .before .before .before .before .before .before .before .args .out)) _ _ (c .before .before .before .put-record2 .ensures) (c .before .before .before .before .before .before .before .before .before .before .before .before .before .before .before .before .pre .1))
+
+condition-put-requires-6 : (t : ℕ) → condition-lts.Need-put-requires-6 (condition-claims t) (condition-at t) condition.Post
+condition-put-requires-6 t c κs = leaf-room _ _ _ (rest-leaf (now (c .before .before .before .before .before .before .before .before .before .before .args .masks)) (part (now (c .before .before .before .before .before .before .before .before .before .before .args .permits)) (now (c .before .before .before .before .before .before .before .before .before .before .args .places))) (c .before .before .before .before .before .before .before .before .before .before .args .level) (now (c .before .before .before .before .before .before .before .before .before .before .args .q)) (now (c .before .before .before .before .before .before .before .before .before .before .args .z)) (c .before .before .before .if1 .left) (c .before .before .read .result) (c .before .before .read .ensures) (c .before .match .keys7)) (c .before .before .before .before .before .before .before .before .before .before .args .at) (c .before .before .before .before .before .before .before .before .before .before .args .next) (c .before .before .before .before .before .before .before .before .before .before .pre .1)
+
+condition-same-length-2 : (t : ℕ) → condition-lts.Need-same-length-2 (condition-claims t) (condition-at t) condition.Post
+condition-same-length-2 t c = search needs
+
+condition-returns-2 : (t : ℕ) → condition-lts.Need-returns-2 (condition-claims t) (condition-at t) condition.Post
+condition-returns-2 t c = leaf-did _ _ _ (true-leaf (now (c .before .before .before .before .before .before .before .before .before .before .before .before .before .before .args .masks)) (part (now (c .before .before .before .before .before .before .before .before .before .before .before .before .before .before .args .permits)) (now (c .before .before .before .before .before .before .before .before .before .before .before .before .before .before .args .places))) (c .before .before .before .before .before .before .before .before .before .before .before .before .before .before .args .level) (now (c .before .before .before .before .before .before .before .before .before .before .before .before .before .before .args .q)) (now (c .before .before .before .before .before .before .before .before .before .before .before .before .before .before .args .z)) (c .before .before .before .before .before .before .before .if1 .left) (sym (c .before .before .before .before .before .before .read .ensures) ∙ c .before .before .before .before .enum-told .given .1)) (c .before .before .before .before .before .before .before .before .before .before .before .before .before .before .args .at) (c .before .before .before .before .before .before .before .before .before .before .before .before .before .before .args .next) (now (c .before .before .before .before .before .before .before .before .before .before .before .before .before .before .args .out)) _ _ (c .before .before .put2 .ensures)
+
+condition-same-length-3 : (t : ℕ) → condition-lts.Need-same-length-3 (condition-claims t) (condition-at t) condition.Post
+condition-same-length-3 t c = search needs
+
+condition-returns-3 : (t : ℕ) → condition-lts.Need-returns-3 (condition-claims t) (condition-at t) condition.Post
+condition-returns-3 t c = body-did _ _ _ _ _ (not-shape (now (c .before .before .before .before .before .before .before .before .before .before .before .before .before .before .before .before .before .before .before .before .before .args .masks)) (part (now (c .before .before .before .before .before .before .before .before .before .before .before .before .before .before .before .before .before .before .before .before .before .args .permits)) (now (c .before .before .before .before .before .before .before .before .before .before .before .before .before .before .before .before .before .before .before .before .before .args .places))) (c .before .before .before .before .before .before .before .before .before .before .before .before .before .before .before .before .before .before .before .before .before .args .level) (now (c .before .before .before .before .before .before .before .before .before .before .before .before .before .before .before .before .before .before .before .before .before .args .q)) (now (c .before .before .before .before .before .before .before .before .before .before .before .before .before .before .before .before .before .before .before .before .before .args .z)) (c .before .before .before .before .before .before .before .before .before .before .before .before .before .before .if1 .left) (sym (c .before .before .before .before .before .before .before .before .before .before .before .before .before .read .ensures) ∙ c .before .before .before .before .before .before .before .before .before .before .before .enum-told2 .given .1)) (c .before .before .before .before .before .before .before .before .before .before .before .before .before .before .before .before .before .before .before .before .before .args .at) (c .before .before .before .before .before .before .before .before .before .before .before .before .before .before .before .before .before .before .before .before .before .args .next) (now (c .before .before .before .before .before .before .before .before .before .before .before .before .before .before .before .before .before .before .before .before .before .args .out)) _ _ (c .before .before .before .before .before .before .before .before .before .put3 .ensures) _ _ _ (child-did (λ x y i. conditionBytes (now (c .before .before .before .before .before .before .before .before .before .before .before .before .before .before .before .before .before .before .before .before .before .args .masks)) (part (now (c .before .before .before .before .before .before .before .before .before .before .before .before .before .before .before .before .before .before .before .before .before .args .permits)) (now (c .before .before .before .before .before .before .before .before .before .before .before .before .before .before .before .before .before .before .before .before .before .args .places))) ((c .before .before .before .before .before .before .before .before .before .before .before .before .before .before .before .before .before .before .before .before .before .args .level) - 1) x y i) (λ x y. conditionNew (now (c .before .before .before .before .before .before .before .before .before .before .before .before .before .before .before .before .before .before .before .before .before .args .masks)) (part (now (c .before .before .before .before .before .before .before .before .before .before .before .before .before .before .before .before .before .before .before .before .before .args .permits)) (now (c .before .before .before .before .before .before .before .before .before .before .before .before .before .before .before .before .before .before .before .before .before .args .places))) ((c .before .before .before .before .before .before .before .before .before .before .before .before .before .before .before .before .before .before .before .before .before .args .level) - 1) x y) (now (c .before .before .before .before .before .before .before .before .before .before .before .before .before .before .before .before .before .before .before .before .before .args .q)) (now (c .before .before .before .before .before .before .before .before .before .before .before .before .before .before .before .before .before .before .before .before .before .args .z)) _ (c .before .before .before .before .before .before .before .before .before .before .before .before .before .before .before .before .before .before .before .before .before .args .next) _ (c .before .before .before .before .before .before .first-child .ensures .0) _ _ (c .before .before .before .before .before .tail .ensures) (c .before .before .before .before .tail-sizes .ensures) _ _ _ _ (c .before .before .condition .ensures))
+
+condition-same-length-4 : (t : ℕ) → condition-lts.Need-same-length-4 (condition-claims t) (condition-at t) condition.Post
+condition-same-length-4 t c = search needs
+
+condition-returns-4 : (t : ℕ) → condition-lts.Need-returns-4 (condition-claims t) (condition-at t) condition.Post
+condition-returns-4 t c = body-did _ _ _ _ _ (and-shape (now (c .before .before .before .before .before .before .before .before .before .before .before .before .before .before .before .before .before .before .args .masks)) (part (now (c .before .before .before .before .before .before .before .before .before .before .before .before .before .before .before .before .before .before .args .permits)) (now (c .before .before .before .before .before .before .before .before .before .before .before .before .before .before .before .before .before .before .args .places))) (c .before .before .before .before .before .before .before .before .before .before .before .before .before .before .before .before .before .before .args .level) (now (c .before .before .before .before .before .before .before .before .before .before .before .before .before .before .before .before .before .before .args .q)) (now (c .before .before .before .before .before .before .before .before .before .before .before .before .before .before .before .before .before .before .args .z)) (c .before .before .before .before .before .before .before .before .before .before .before .if1 .left) (sym (c .before .before .before .before .before .before .before .before .before .before .read .ensures) ∙ c .before .before .before .before .before .before .before .before .enum-told3 .given .1)) (c .before .before .before .before .before .before .before .before .before .before .before .before .before .before .before .before .before .before .args .at) (c .before .before .before .before .before .before .before .before .before .before .before .before .before .before .before .before .before .before .args .next) (now (c .before .before .before .before .before .before .before .before .before .before .before .before .before .before .before .before .before .before .args .out)) _ _ (c .before .before .before .before .before .before .put4 .ensures) _ _ _ (c .before .before .conditions .ensures)
+
+condition-same-length-5 : (t : ℕ) → condition-lts.Need-same-length-5 (condition-claims t) (condition-at t) condition.Post
+condition-same-length-5 t c = search needs
+
+condition-returns-5 : (t : ℕ) → condition-lts.Need-returns-5 (condition-claims t) (condition-at t) condition.Post
+condition-returns-5 t c = body-did _ _ _ _ _ (or-shape (now (c .before .before .before .before .before .before .before .before .before .before .before .before .before .before .before .before .before .before .args .masks)) (part (now (c .before .before .before .before .before .before .before .before .before .before .before .before .before .before .before .before .before .before .args .permits)) (now (c .before .before .before .before .before .before .before .before .before .before .before .before .before .before .before .before .before .before .args .places))) (c .before .before .before .before .before .before .before .before .before .before .before .before .before .before .before .before .before .before .args .level) (now (c .before .before .before .before .before .before .before .before .before .before .before .before .before .before .before .before .before .before .args .q)) (now (c .before .before .before .before .before .before .before .before .before .before .before .before .before .before .before .before .before .before .args .z)) (c .before .before .before .before .before .before .before .before .before .before .before .if1 .left) (sym (c .before .before .before .before .before .before .before .before .before .before .read .ensures) ∙ c .before .before .before .before .before .before .before .before .enum-told4 .given .1)) (c .before .before .before .before .before .before .before .before .before .before .before .before .before .before .before .before .before .before .args .at) (c .before .before .before .before .before .before .before .before .before .before .before .before .before .before .before .before .before .before .args .next) (now (c .before .before .before .before .before .before .before .before .before .before .before .before .before .before .before .before .before .before .args .out)) _ _ (c .before .before .before .before .before .before .put5 .ensures) _ _ _ (c .before .before .conditions2 .ensures)
+
+condition-same-length-6 : (t : ℕ) → condition-lts.Need-same-length-6 (condition-claims t) (condition-at t) condition.Post
+condition-same-length-6 t c = search needs
+
+condition-returns-6 : (t : ℕ) → condition-lts.Need-returns-6 (condition-claims t) (condition-at t) condition.Post
+condition-returns-6 t c = body-did _ _ _ _ _ (compare-shape (now (c .before .before .before .before .before .before .before .before .before .before .before .before .before .before .before .before .before .before .before .args .masks)) (part (now (c .before .before .before .before .before .before .before .before .before .before .before .before .before .before .before .before .before .before .before .args .permits)) (now (c .before .before .before .before .before .before .before .before .before .before .before .before .before .before .before .before .before .before .before .args .places))) (c .before .before .before .before .before .before .before .before .before .before .before .before .before .before .before .before .before .before .before .args .level) (now (c .before .before .before .before .before .before .before .before .before .before .before .before .before .before .before .before .before .before .before .args .q)) (now (c .before .before .before .before .before .before .before .before .before .before .before .before .before .before .before .before .before .before .before .args .z)) (c .before .before .before .before .before .before .before .before .before .before .before .before .if1 .left) _ (sym (c .before .before .before .before .before .before .before .before .before .before .before .read .ensures) ∙ c .before .before .before .before .before .before .before .before .before .o .given .1)) (c .before .before .before .before .before .before .before .before .before .before .before .before .before .before .before .before .before .before .before .args .at) (c .before .before .before .before .before .before .before .before .before .before .before .before .before .before .before .before .before .before .before .args .next) (now (c .before .before .before .before .before .before .before .before .before .before .before .before .before .before .before .before .before .before .before .args .out)) _ _ (c .before .before .before .before .before .before .put-record .ensures) _ _ _ (c .before .before .terms .ensures)
+
+condition-same-length-7 : (t : ℕ) → condition-lts.Need-same-length-7 (condition-claims t) (condition-at t) condition.Post
+condition-same-length-7 t c = search needs
+
+condition-returns-7 : (t : ℕ) → condition-lts.Need-returns-7 (condition-claims t) (condition-at t) condition.Post
+condition-returns-7 t c = body-did _ _ _ _ _ (some-shape (now (c .before .before .before .before .before .before .before .before .before .before .before .before .before .before .before .before .before .before .before .args .masks)) (part (now (c .before .before .before .before .before .before .before .before .before .before .before .before .before .before .before .before .before .before .before .args .permits)) (now (c .before .before .before .before .before .before .before .before .before .before .before .before .before .before .before .before .before .before .before .args .places))) (c .before .before .before .before .before .before .before .before .before .before .before .before .before .before .before .before .before .before .before .args .level) (now (c .before .before .before .before .before .before .before .before .before .before .before .before .before .before .before .before .before .before .before .args .q)) (now (c .before .before .before .before .before .before .before .before .before .before .before .before .before .before .before .before .before .before .before .args .z)) (c .before .before .before .before .before .before .before .before .before .before .before .before .if1 .left) _ _ (sym (c .before .before .before .before .before .before .before .before .before .before .before .read .ensures) ∙ c .before .before .before .before .before .before .before .before .before .v .given .1)) (c .before .before .before .before .before .before .before .before .before .before .before .before .before .before .before .before .before .before .before .args .at) (c .before .before .before .before .before .before .before .before .before .before .before .before .before .before .before .before .before .before .before .args .next) (now (c .before .before .before .before .before .before .before .before .before .before .before .before .before .before .before .before .before .before .before .args .out)) _ _ (c .before .before .before .before .before .before .put-record2 .ensures) _ _ _ (c .before .before .under .ensures)
+
+condition-same-length-8 : (t : ℕ) → condition-lts.Need-same-length-8 (condition-claims t) (condition-at t) condition.Post
+condition-same-length-8 t c = search needs
+
+condition-returns-8 : (t : ℕ) → condition-lts.Need-returns-8 (condition-claims t) (condition-at t) condition.Post
+condition-returns-8 t c = leaf-did _ _ _ (rest-leaf (now (c .before .before .before .before .before .before .before .before .before .before .before .before .before .args .masks)) (part (now (c .before .before .before .before .before .before .before .before .before .before .before .before .before .args .permits)) (now (c .before .before .before .before .before .before .before .before .before .before .before .before .before .args .places))) (c .before .before .before .before .before .before .before .before .before .before .before .before .before .args .level) (now (c .before .before .before .before .before .before .before .before .before .before .before .before .before .args .q)) (now (c .before .before .before .before .before .before .before .before .before .before .before .before .before .args .z)) (c .before .before .before .before .before .before .if1 .left) (c .before .before .before .before .before .read .result) (c .before .before .before .before .before .read .ensures) (c .before .before .before .before .match .keys7)) (c .before .before .before .before .before .before .before .before .before .before .before .before .before .args .at) (c .before .before .before .before .before .before .before .before .before .before .before .before .before .args .next) (now (c .before .before .before .before .before .before .before .before .before .before .before .before .before .args .out)) _ _ (c .before .before .put6 .ensures)
+
+conditions-first-child-requires : (t : ℕ) → conditions-lts.Need-first-child-requires (conditions-claims t) (conditions-at t) conditions.Post
+conditions-first-child-requires t c κs = search needs
+
+conditions-second-child-requires : (t : ℕ) → conditions-lts.Need-second-child-requires (conditions-claims t) (conditions-at t) conditions.Post
+conditions-second-child-requires t c κs = search needs
+
+conditions-tail-requires : (t : ℕ) → conditions-lts.Need-tail-requires (conditions-claims t) (conditions-at t) conditions.Post
+conditions-tail-requires t c κs = search needs
+
+conditions-tail-sizes-requires : (t : ℕ) → conditions-lts.Need-tail-sizes-requires (conditions-claims t) (conditions-at t) conditions.Post
+conditions-tail-sizes-requires t c κs = search needs
+
+conditions-condition-requires : (t : ℕ) → conditions-lts.Need-condition-requires (conditions-claims t) (conditions-at t) conditions.Post
+conditions-condition-requires t c κs = (omega (arith, c .before .before .before .before .before .before .before .before .before .before .before .pre .0), both-first (λ x y i. conditionBytes (now (c .before .before .before .before .before .before .before .before .before .before .before .args .masks)) (part (now (c .before .before .before .before .before .before .before .before .before .before .before .args .permits)) (now (c .before .before .before .before .before .before .before .before .before .before .before .args .places))) (c .before .before .before .before .before .before .before .before .before .before .before .args .level) x y i) (λ x y. conditionNew (now (c .before .before .before .before .before .before .before .before .before .before .before .args .masks)) (part (now (c .before .before .before .before .before .before .before .before .before .before .before .args .permits)) (now (c .before .before .before .before .before .before .before .before .before .before .before .args .places))) (c .before .before .before .before .before .before .before .before .before .before .before .args .level) x y) (now (c .before .before .before .before .before .before .before .before .before .before .before .args .q)) (now (c .before .before .before .before .before .before .before .before .before .before .before .args .z)) (c .before .before .before .before .before .before .before .before .before .before .before .args .at) (c .before .before .before .before .before .before .before .before .before .before .before .args .next) _ (c .before .before .before .before .first-child .ensures .0) _ _ (c .before .before .tail .ensures) (c .before .tail-sizes .ensures) (c .before .before .before .before .before .before .before .before .before .before .before .pre .1))
+
+conditions-tail-requires-2 : (t : ℕ) → conditions-lts.Need-tail-requires-2 (conditions-claims t) (conditions-at t) conditions.Post
+conditions-tail-requires-2 t c κs = search needs
+
+conditions-tail-sizes-requires-2 : (t : ℕ) → conditions-lts.Need-tail-sizes-requires-2 (conditions-claims t) (conditions-at t) conditions.Post
+conditions-tail-sizes-requires-2 t c κs = search needs
+
+conditions-condition-requires-2 : (t : ℕ) → conditions-lts.Need-condition-requires-2 (conditions-claims t) (conditions-at t) conditions.Post
+conditions-condition-requires-2 t c κs = (omega (arith, c .before .before .before .before .before .before .before .before .before .before .before .before .before .before .before .before .before .pre .0), both-second (λ x y i. conditionBytes (now (c .before .before .before .before .before .before .before .before .before .before .before .before .before .before .before .before .before .args .masks)) (part (now (c .before .before .before .before .before .before .before .before .before .before .before .before .before .before .before .before .before .args .permits)) (now (c .before .before .before .before .before .before .before .before .before .before .before .before .before .before .before .before .before .args .places))) (c .before .before .before .before .before .before .before .before .before .before .before .before .before .before .before .before .before .args .level) x y i) (λ x y. conditionNew (now (c .before .before .before .before .before .before .before .before .before .before .before .before .before .before .before .before .before .args .masks)) (part (now (c .before .before .before .before .before .before .before .before .before .before .before .before .before .before .before .before .before .args .permits)) (now (c .before .before .before .before .before .before .before .before .before .before .before .before .before .before .before .before .before .args .places))) (c .before .before .before .before .before .before .before .before .before .before .before .before .before .before .before .before .before .args .level) x y) (now (c .before .before .before .before .before .before .before .before .before .before .before .before .before .before .before .before .before .args .q)) (now (c .before .before .before .before .before .before .before .before .before .before .before .before .before .before .before .before .before .args .z)) (c .before .before .before .before .before .before .before .before .before .before .before .before .before .before .before .before .before .args .at) (c .before .before .before .before .before .before .before .before .before .before .before .before .before .before .before .before .before .args .next) _ (c .before .before .before .before .before .before .before .before .before .before .first-child .ensures .0) _ _ (c .before .before .before .before .before .before .before .before .tail .ensures) (c .before .before .before .before .before .before .before .tail-sizes .ensures) (now (c .before .before .before .before .before .before .before .before .before .before .before .before .before .before .before .before .before .args .out)) _ _ _ (c .before .before .before .before .before .condition .ensures) _ (c .before .before .before .before .before .before .before .before .before .second-child .ensures) _ _ (c .before .before .tail2 .ensures) (c .before .tail-sizes2 .ensures) (c .before .before .before .before .before .before .before .before .before .before .before .before .before .before .before .before .before .pre .1))
+
+conditions-same-length : (t : ℕ) → conditions-lts.Need-same-length (conditions-claims t) (conditions-at t) conditions.Post
+conditions-same-length t c = search needs
+
+conditions-returns : (t : ℕ) → conditions-lts.Need-returns (conditions-claims t) (conditions-at t) conditions.Post
+conditions-returns t c = both-did (λ x y i. conditionBytes (now (c .before .before .before .before .before .before .before .before .before .before .before .before .before .before .before .before .before .before .before .before .args .masks)) (part (now (c .before .before .before .before .before .before .before .before .before .before .before .before .before .before .before .before .before .before .before .before .args .permits)) (now (c .before .before .before .before .before .before .before .before .before .before .before .before .before .before .before .before .before .before .before .before .args .places))) (c .before .before .before .before .before .before .before .before .before .before .before .before .before .before .before .before .before .before .before .before .args .level) x y i) (λ x y. conditionNew (now (c .before .before .before .before .before .before .before .before .before .before .before .before .before .before .before .before .before .before .before .before .args .masks)) (part (now (c .before .before .before .before .before .before .before .before .before .before .before .before .before .before .before .before .before .before .before .before .args .permits)) (now (c .before .before .before .before .before .before .before .before .before .before .before .before .before .before .before .before .before .before .before .before .args .places))) (c .before .before .before .before .before .before .before .before .before .before .before .before .before .before .before .before .before .before .before .before .args .level) x y) (now (c .before .before .before .before .before .before .before .before .before .before .before .before .before .before .before .before .before .before .before .before .args .q)) (now (c .before .before .before .before .before .before .before .before .before .before .before .before .before .before .before .before .before .before .before .before .args .z)) (c .before .before .before .before .before .before .before .before .before .before .before .before .before .before .before .before .before .before .before .before .args .at) (c .before .before .before .before .before .before .before .before .before .before .before .before .before .before .before .before .before .before .before .before .args .next) _ (c .before .before .before .before .before .before .before .before .before .before .before .before .before .first-child .ensures .0) _ _ (c .before .before .before .before .before .before .before .before .before .before .before .tail .ensures) (c .before .before .before .before .before .before .before .before .before .before .tail-sizes .ensures) (now (c .before .before .before .before .before .before .before .before .before .before .before .before .before .before .before .before .before .before .before .before .args .out)) _ _ _ (c .before .before .before .before .before .before .before .before .condition .ensures) _ (c .before .before .before .before .before .before .before .before .before .before .before .before .second-child .ensures) _ _ (c .before .before .before .before .before .tail2 .ensures) (c .before .before .before .before .tail-sizes2 .ensures) _ _ _ (c .before .before .condition2 .ensures)
+
+term-put-record-requires : (t : ℕ) → term-lts.Need-put-record-requires (term-claims t) (term-at t) term.Post
+term-put-record-requires t c κs = leaf-room _ _ _ (zero-leafT (now (c .before .before .before .before .before .before .before .before .args .masks)) (part (now (c .before .before .before .before .before .before .before .before .args .permits)) (now (c .before .before .before .before .before .before .before .before .args .places))) (c .before .before .before .before .before .before .before .before .args .level) (now (c .before .before .before .before .before .before .before .before .args .q)) (now (c .before .before .before .before .before .before .before .before .args .z)) (c .before .if1 .taken)) (c .before .before .before .before .before .before .before .before .args .at) (c .before .before .before .before .before .before .before .before .args .next) (c .before .before .before .before .before .before .before .before .pre .1)
+
+term-same-length : (t : ℕ) → term-lts.Need-same-length (term-claims t) (term-at t) term.Post
+term-same-length t c = search needs
+
+term-returns : (t : ℕ) → term-lts.Need-returns (term-claims t) (term-at t) term.Post
+term-returns t c = leaf-did _ _ _ (zero-leafT (now (c .before .before .before .before .before .before .before .before .before .before .before .args .masks)) (part (now (c .before .before .before .before .before .before .before .before .before .before .before .args .permits)) (now (c .before .before .before .before .before .before .before .before .before .before .before .args .places))) (c .before .before .before .before .before .before .before .before .before .before .before .args .level) (now (c .before .before .before .before .before .before .before .before .before .before .before .args .q)) (now (c .before .before .before .before .before .before .before .before .before .before .before .args .z)) (c .before .before .before .before .if1 .taken)) (c .before .before .before .before .before .before .before .before .before .before .before .args .at) (c .before .before .before .before .before .before .before .before .before .before .before .args .next) (now (c .before .before .before .before .before .before .before .before .before .before .before .args .out)) _ _ (c .before .before .put-record .ensures)
+
+term-read-requires : (t : ℕ) → term-lts.Need-read-requires (term-claims t) (term-at t) term.Post
+term-read-requires t c κs = search needs
+
+term-enum-known-a : (t : ℕ) → term-lts.Need-enum-known-a (term-claims t) (term-at t) term.Post
+term-enum-known-a t c = search needs
+
+term-put-record-requires-2 : (t : ℕ) → term-lts.Need-put-record-requires-2 (term-claims t) (term-at t) term.Post
+term-put-record-requires-2 t c κs = leaf-room _ _ _ (constant-leaf (now (c .before .before .before .before .before .before .before .before .before .before .before .before .args .masks)) (part (now (c .before .before .before .before .before .before .before .before .before .before .before .before .args .permits)) (now (c .before .before .before .before .before .before .before .before .before .before .before .before .args .places))) (c .before .before .before .before .before .before .before .before .before .before .before .before .args .level) (now (c .before .before .before .before .before .before .before .before .before .before .before .before .args .q)) (now (c .before .before .before .before .before .before .before .before .before .before .before .before .args .z)) (c .before .before .before .before .before .if1 .left) _ _ _ _ (sym (c .before .before .before .before .read .ensures) ∙ c .before .before .a .given .1)) (c .before .before .before .before .before .before .before .before .before .before .before .before .args .at) (c .before .before .before .before .before .before .before .before .before .before .before .before .args .next) (c .before .before .before .before .before .before .before .before .before .before .before .before .pre .1)
+
+term-enum-known-v : (t : ℕ) → term-lts.Need-enum-known-v (term-claims t) (term-at t) term.Post
+term-enum-known-v t c = search needs
+
+term-put-record-requires-3 : (t : ℕ) → term-lts.Need-put-record-requires-3 (term-claims t) (term-at t) term.Post
+term-put-record-requires-3 t c κs = leaf-room _ _ _ (attribute-leaf (now (c .before .before .before .before .before .before .before .before .before .before .before .before .args .masks)) (part (now (c .before .before .before .before .before .before .before .before .before .before .before .before .args .permits)) (now (c .before .before .before .before .before .before .before .before .before .before .before .before .args .places))) (c .before .before .before .before .before .before .before .before .before .before .before .before .args .level) (now (c .before .before .before .before .before .before .before .before .before .before .before .before .args .q)) (now (c .before .before .before .before .before .before .before .before .before .before .before .before .args .z)) (c .before .before .before .before .before .if1 .left) _ _ (sym (c .before .before .before .before .read .ensures) ∙ c .before .before .v .given .1)) (c .before .before .before .before .before .before .before .before .before .before .before .before .args .at) (c .before .before .before .before .before .before .before .before .before .before .before .before .args .next) (c .before .before .before .before .before .before .before .before .before .before .before .before .pre .1)
+
+term-enum-known-f : (t : ℕ) → term-lts.Need-enum-known-f (term-claims t) (term-at t) term.Post
+term-enum-known-f t c = search needs
+
+term-put-record-requires-4 : (t : ℕ) → term-lts.Need-put-record-requires-4 (term-claims t) (term-at t) term.Post
+term-put-record-requires-4 t c κs = head-room _ _ _ _ _ (aggregate-shape (now (c .before .before .before .before .before .before .before .before .before .before .before .before .args .masks)) (part (now (c .before .before .before .before .before .before .before .before .before .before .before .before .args .permits)) (now (c .before .before .before .before .before .before .before .before .before .before .before .before .args .places))) (c .before .before .before .before .before .before .before .before .before .before .before .before .args .level) (now (c .before .before .before .before .before .before .before .before .before .before .before .before .args .q)) (now (c .before .before .before .before .before .before .before .before .before .before .before .before .args .z)) (c .before .before .before .before .before .if1 .left) _ _ _ _ (sym (c .before .before .before .before .read .ensures) ∙ c .before .before .f .given .1)) (c .before .before .before .before .before .before .before .before .before .before .before .before .args .at) (c .before .before .before .before .before .before .before .before .before .before .before .before .args .next) (c .before .before .before .before .before .before .before .before .before .before .before .before .pre .1)
+
+term-sub-under : (t : ℕ) → term-lts.Need-sub-under (term-claims t) (term-at t) term.Post
+term-sub-under t c = search needs
+
+term-under-requires : (t : ℕ) → term-lts.Need-under-requires (term-claims t) (term-at t) term.Post
+term-under-requires t c κs = (omega (arith, c .before .before .before .before .before .before .before .before .before .before .before .before .before .before .before .before .pre .0, c .before .before .before .before .before .before .before .before .before .if1 .left), body-room _ _ _ _ _ (aggregate-shape (now (c .before .before .before .before .before .before .before .before .before .before .before .before .before .before .before .before .args .masks)) (part (now (c .before .before .before .before .before .before .before .before .before .before .before .before .before .before .before .before .args .permits)) (now (c .before .before .before .before .before .before .before .before .before .before .before .before .before .before .before .before .args .places))) (c .before .before .before .before .before .before .before .before .before .before .before .before .before .before .before .before .args .level) (now (c .before .before .before .before .before .before .before .before .before .before .before .before .before .before .before .before .args .q)) (now (c .before .before .before .before .before .before .before .before .before .before .before .before .before .before .before .before .args .z)) (c .before .before .before .before .before .before .before .before .before .if1 .left) _ _ _ _ (sym (c .before .before .before .before .before .before .before .before .read .ensures) ∙ c .before .before .before .before .before .before .f .given .1)) (c .before .before .before .before .before .before .before .before .before .before .before .before .before .before .before .before .args .at) (c .before .before .before .before .before .before .before .before .before .before .before .before .before .before .before .before .args .next) (now (c .before .before .before .before .before .before .before .before .before .before .before .before .before .before .before .before .args .out)) _ _ (c .before .before .before .put-record4 .ensures) (c .before .before .before .before .before .before .before .before .before .before .before .before .before .before .before .before .pre .1))
+
+term-put-record-requires-5 : (t : ℕ) → term-lts.Need-put-record-requires-5 (term-claims t) (term-at t) term.Post
+term-put-record-requires-5 t c κs = leaf-room _ _ _ (rest-leafT (now (c .before .before .before .before .before .before .before .before .before .before .args .masks)) (part (now (c .before .before .before .before .before .before .before .before .before .before .args .permits)) (now (c .before .before .before .before .before .before .before .before .before .before .args .places))) (c .before .before .before .before .before .before .before .before .before .before .args .level) (now (c .before .before .before .before .before .before .before .before .before .before .args .q)) (now (c .before .before .before .before .before .before .before .before .before .before .args .z)) (c .before .before .before .if1 .left) (c .before .before .read .result) (c .before .before .read .ensures) (c .before .match .keys4)) (c .before .before .before .before .before .before .before .before .before .before .args .at) (c .before .before .before .before .before .before .before .before .before .before .args .next) (c .before .before .before .before .before .before .before .before .before .before .pre .1)
+
+term-same-length-2 : (t : ℕ) → term-lts.Need-same-length-2 (term-claims t) (term-at t) term.Post
+term-same-length-2 t c = search needs
+
+term-returns-2 : (t : ℕ) → term-lts.Need-returns-2 (term-claims t) (term-at t) term.Post
+term-returns-2 t c = leaf-did _ _ _ (constant-leaf (now (c .before .before .before .before .before .before .before .before .before .before .before .before .before .before .before .args .masks)) (part (now (c .before .before .before .before .before .before .before .before .before .before .before .before .before .before .before .args .permits)) (now (c .before .before .before .before .before .before .before .before .before .before .before .before .before .before .before .args .places))) (c .before .before .before .before .before .before .before .before .before .before .before .before .before .before .before .args .level) (now (c .before .before .before .before .before .before .before .before .before .before .before .before .before .before .before .args .q)) (now (c .before .before .before .before .before .before .before .before .before .before .before .before .before .before .before .args .z)) (c .before .before .before .before .before .before .before .before .if1 .left) _ _ _ _ (sym (c .before .before .before .before .before .before .before .read .ensures) ∙ c .before .before .before .before .before .a .given .1)) (c .before .before .before .before .before .before .before .before .before .before .before .before .before .before .before .args .at) (c .before .before .before .before .before .before .before .before .before .before .before .before .before .before .before .args .next) (now (c .before .before .before .before .before .before .before .before .before .before .before .before .before .before .before .args .out)) _ _ (c .before .before .put-record2 .ensures)
+
+term-same-length-3 : (t : ℕ) → term-lts.Need-same-length-3 (term-claims t) (term-at t) term.Post
+term-same-length-3 t c = search needs
+
+term-returns-3 : (t : ℕ) → term-lts.Need-returns-3 (term-claims t) (term-at t) term.Post
+term-returns-3 t c = leaf-did _ _ _ (attribute-leaf (now (c .before .before .before .before .before .before .before .before .before .before .before .before .before .before .before .args .masks)) (part (now (c .before .before .before .before .before .before .before .before .before .before .before .before .before .before .before .args .permits)) (now (c .before .before .before .before .before .before .before .before .before .before .before .before .before .before .before .args .places))) (c .before .before .before .before .before .before .before .before .before .before .before .before .before .before .before .args .level) (now (c .before .before .before .before .before .before .before .before .before .before .before .before .before .before .before .args .q)) (now (c .before .before .before .before .before .before .before .before .before .before .before .before .before .before .before .args .z)) (c .before .before .before .before .before .before .before .before .if1 .left) _ _ (sym (c .before .before .before .before .before .before .before .read .ensures) ∙ c .before .before .before .before .before .v .given .1)) (c .before .before .before .before .before .before .before .before .before .before .before .before .before .before .before .args .at) (c .before .before .before .before .before .before .before .before .before .before .before .before .before .before .before .args .next) (now (c .before .before .before .before .before .before .before .before .before .before .before .before .before .before .before .args .out)) _ _ (c .before .before .put-record3 .ensures)
+
+term-same-length-4 : (t : ℕ) → term-lts.Need-same-length-4 (term-claims t) (term-at t) term.Post
+term-same-length-4 t c = search needs
+
+term-returns-4 : (t : ℕ) → term-lts.Need-returns-4 (term-claims t) (term-at t) term.Post
+term-returns-4 t c = body-did _ _ _ _ _ (aggregate-shape (now (c .before .before .before .before .before .before .before .before .before .before .before .before .before .before .before .before .before .before .before .args .masks)) (part (now (c .before .before .before .before .before .before .before .before .before .before .before .before .before .before .before .before .before .before .before .args .permits)) (now (c .before .before .before .before .before .before .before .before .before .before .before .before .before .before .before .before .before .before .before .args .places))) (c .before .before .before .before .before .before .before .before .before .before .before .before .before .before .before .before .before .before .before .args .level) (now (c .before .before .before .before .before .before .before .before .before .before .before .before .before .before .before .before .before .before .before .args .q)) (now (c .before .before .before .before .before .before .before .before .before .before .before .before .before .before .before .before .before .before .before .args .z)) (c .before .before .before .before .before .before .before .before .before .before .before .before .if1 .left) _ _ _ _ (sym (c .before .before .before .before .before .before .before .before .before .before .before .read .ensures) ∙ c .before .before .before .before .before .before .before .before .before .f .given .1)) (c .before .before .before .before .before .before .before .before .before .before .before .before .before .before .before .before .before .before .before .args .at) (c .before .before .before .before .before .before .before .before .before .before .before .before .before .before .before .before .before .before .before .args .next) (now (c .before .before .before .before .before .before .before .before .before .before .before .before .before .before .before .before .before .before .before .args .out)) _ _ (c .before .before .before .before .before .before .put-record4 .ensures) _ _ _ (c .before .before .under .ensures)
+
+term-same-length-5 : (t : ℕ) → term-lts.Need-same-length-5 (term-claims t) (term-at t) term.Post
+term-same-length-5 t c = search needs
+
+term-returns-5 : (t : ℕ) → term-lts.Need-returns-5 (term-claims t) (term-at t) term.Post
+term-returns-5 t c = leaf-did _ _ _ (rest-leafT (now (c .before .before .before .before .before .before .before .before .before .before .before .before .before .args .masks)) (part (now (c .before .before .before .before .before .before .before .before .before .before .before .before .before .args .permits)) (now (c .before .before .before .before .before .before .before .before .before .before .before .before .before .args .places))) (c .before .before .before .before .before .before .before .before .before .before .before .before .before .args .level) (now (c .before .before .before .before .before .before .before .before .before .before .before .before .before .args .q)) (now (c .before .before .before .before .before .before .before .before .before .before .before .before .before .args .z)) (c .before .before .before .before .before .before .if1 .left) (c .before .before .before .before .before .read .result) (c .before .before .before .before .before .read .ensures) (c .before .before .before .before .match .keys4)) (c .before .before .before .before .before .before .before .before .before .before .before .before .before .args .at) (c .before .before .before .before .before .before .before .before .before .before .before .before .before .args .next) (now (c .before .before .before .before .before .before .before .before .before .before .before .before .before .args .out)) _ _ (c .before .before .put-record5 .ensures)
+
+terms-first-child-requires : (t : ℕ) → terms-lts.Need-first-child-requires (terms-claims t) (terms-at t) terms.Post
+terms-first-child-requires t c κs = search needs
+
+terms-second-child-requires : (t : ℕ) → terms-lts.Need-second-child-requires (terms-claims t) (terms-at t) terms.Post
+terms-second-child-requires t c κs = search needs
+
+terms-tail-requires : (t : ℕ) → terms-lts.Need-tail-requires (terms-claims t) (terms-at t) terms.Post
+terms-tail-requires t c κs = search needs
+
+terms-tail-sizes-requires : (t : ℕ) → terms-lts.Need-tail-sizes-requires (terms-claims t) (terms-at t) terms.Post
+terms-tail-sizes-requires t c κs = search needs
+
+terms-term-requires : (t : ℕ) → terms-lts.Need-term-requires (terms-claims t) (terms-at t) terms.Post
+terms-term-requires t c κs = (omega (arith, c .before .before .before .before .before .before .before .before .before .before .before .pre .0), both-first (λ x y i. termBytes (now (c .before .before .before .before .before .before .before .before .before .before .before .args .masks)) (part (now (c .before .before .before .before .before .before .before .before .before .before .before .args .permits)) (now (c .before .before .before .before .before .before .before .before .before .before .before .args .places))) (c .before .before .before .before .before .before .before .before .before .before .before .args .level) x y i) (λ x y. termNew (now (c .before .before .before .before .before .before .before .before .before .before .before .args .masks)) (part (now (c .before .before .before .before .before .before .before .before .before .before .before .args .permits)) (now (c .before .before .before .before .before .before .before .before .before .before .before .args .places))) (c .before .before .before .before .before .before .before .before .before .before .before .args .level) x y) (now (c .before .before .before .before .before .before .before .before .before .before .before .args .q)) (now (c .before .before .before .before .before .before .before .before .before .before .before .args .z)) (c .before .before .before .before .before .before .before .before .before .before .before .args .at) (c .before .before .before .before .before .before .before .before .before .before .before .args .next) _ (c .before .before .before .before .first-child .ensures .0) _ _ (c .before .before .tail .ensures) (c .before .tail-sizes .ensures) (c .before .before .before .before .before .before .before .before .before .before .before .pre .1))
+
+terms-tail-requires-2 : (t : ℕ) → terms-lts.Need-tail-requires-2 (terms-claims t) (terms-at t) terms.Post
+terms-tail-requires-2 t c κs = search needs
+
+terms-tail-sizes-requires-2 : (t : ℕ) → terms-lts.Need-tail-sizes-requires-2 (terms-claims t) (terms-at t) terms.Post
+terms-tail-sizes-requires-2 t c κs = search needs
+
+terms-term-requires-2 : (t : ℕ) → terms-lts.Need-term-requires-2 (terms-claims t) (terms-at t) terms.Post
+terms-term-requires-2 t c κs = (omega (arith, c .before .before .before .before .before .before .before .before .before .before .before .before .before .before .before .before .before .pre .0), both-second (λ x y i. termBytes (now (c .before .before .before .before .before .before .before .before .before .before .before .before .before .before .before .before .before .args .masks)) (part (now (c .before .before .before .before .before .before .before .before .before .before .before .before .before .before .before .before .before .args .permits)) (now (c .before .before .before .before .before .before .before .before .before .before .before .before .before .before .before .before .before .args .places))) (c .before .before .before .before .before .before .before .before .before .before .before .before .before .before .before .before .before .args .level) x y i) (λ x y. termNew (now (c .before .before .before .before .before .before .before .before .before .before .before .before .before .before .before .before .before .args .masks)) (part (now (c .before .before .before .before .before .before .before .before .before .before .before .before .before .before .before .before .before .args .permits)) (now (c .before .before .before .before .before .before .before .before .before .before .before .before .before .before .before .before .before .args .places))) (c .before .before .before .before .before .before .before .before .before .before .before .before .before .before .before .before .before .args .level) x y) (now (c .before .before .before .before .before .before .before .before .before .before .before .before .before .before .before .before .before .args .q)) (now (c .before .before .before .before .before .before .before .before .before .before .before .before .before .before .before .before .before .args .z)) (c .before .before .before .before .before .before .before .before .before .before .before .before .before .before .before .before .before .args .at) (c .before .before .before .before .before .before .before .before .before .before .before .before .before .before .before .before .before .args .next) _ (c .before .before .before .before .before .before .before .before .before .before .first-child .ensures .0) _ _ (c .before .before .before .before .before .before .before .before .tail .ensures) (c .before .before .before .before .before .before .before .tail-sizes .ensures) (now (c .before .before .before .before .before .before .before .before .before .before .before .before .before .before .before .before .before .args .out)) _ _ _ (c .before .before .before .before .before .term .ensures) _ (c .before .before .before .before .before .before .before .before .before .second-child .ensures) _ _ (c .before .before .tail2 .ensures) (c .before .tail-sizes2 .ensures) (c .before .before .before .before .before .before .before .before .before .before .before .before .before .before .before .before .before .pre .1))
+
+terms-same-length : (t : ℕ) → terms-lts.Need-same-length (terms-claims t) (terms-at t) terms.Post
+terms-same-length t c = search needs
+
+terms-returns : (t : ℕ) → terms-lts.Need-returns (terms-claims t) (terms-at t) terms.Post
+terms-returns t c = both-did (λ x y i. termBytes (now (c .before .before .before .before .before .before .before .before .before .before .before .before .before .before .before .before .before .before .before .before .args .masks)) (part (now (c .before .before .before .before .before .before .before .before .before .before .before .before .before .before .before .before .before .before .before .before .args .permits)) (now (c .before .before .before .before .before .before .before .before .before .before .before .before .before .before .before .before .before .before .before .before .args .places))) (c .before .before .before .before .before .before .before .before .before .before .before .before .before .before .before .before .before .before .before .before .args .level) x y i) (λ x y. termNew (now (c .before .before .before .before .before .before .before .before .before .before .before .before .before .before .before .before .before .before .before .before .args .masks)) (part (now (c .before .before .before .before .before .before .before .before .before .before .before .before .before .before .before .before .before .before .before .before .args .permits)) (now (c .before .before .before .before .before .before .before .before .before .before .before .before .before .before .before .before .before .before .before .before .args .places))) (c .before .before .before .before .before .before .before .before .before .before .before .before .before .before .before .before .before .before .before .before .args .level) x y) (now (c .before .before .before .before .before .before .before .before .before .before .before .before .before .before .before .before .before .before .before .before .args .q)) (now (c .before .before .before .before .before .before .before .before .before .before .before .before .before .before .before .before .before .before .before .before .args .z)) (c .before .before .before .before .before .before .before .before .before .before .before .before .before .before .before .before .before .before .before .before .args .at) (c .before .before .before .before .before .before .before .before .before .before .before .before .before .before .before .before .before .before .before .before .args .next) _ (c .before .before .before .before .before .before .before .before .before .before .before .before .before .first-child .ensures .0) _ _ (c .before .before .before .before .before .before .before .before .before .before .before .tail .ensures) (c .before .before .before .before .before .before .before .before .before .before .tail-sizes .ensures) (now (c .before .before .before .before .before .before .before .before .before .before .before .before .before .before .before .before .before .before .before .before .args .out)) _ _ _ (c .before .before .before .before .before .before .before .before .term .ensures) _ (c .before .before .before .before .before .before .before .before .before .before .before .before .second-child .ensures) _ _ (c .before .before .before .before .before .tail2 .ensures) (c .before .before .before .before .tail-sizes2 .ensures) _ _ _ (c .before .before .term2 .ensures)
+
+under-mask-requires : (t : ℕ) → under-lts.Need-mask-requires (under-claims t) (under-at t) under.Post
+under-mask-requires t c κs = search needs
+
+under-first-child-requires : (t : ℕ) → under-lts.Need-first-child-requires (under-claims t) (under-at t) under.Post
+under-first-child-requires t c κs = search needs
+
+under-open-guard-requires : (t : ℕ) → under-lts.Need-open-guard-requires (under-claims t) (under-at t) under.Post
+under-open-guard-requires t c κs = under-open (now (c .before .before .before .before .before .before .before .before .before .args .masks)) (part (now (c .before .before .before .before .before .before .before .before .before .args .permits)) (now (c .before .before .before .before .before .before .before .before .before .args .places))) (c .before .before .before .before .before .before .before .before .before .args .level) (now (c .before .before .before .before .before .before .before .before .before .args .q)) (now (c .before .before .before .before .before .before .before .before .before .args .z)) (c .before .before .before .before .before .before .before .before .before .args .at) (c .before .before .before .before .before .before .before .before .before .args .next) (c .before .before .before .before .before .before .before .before .before .args .variable) _ (c .before .before .mask .ensures) (c .before .before .before .before .before .before .before .before .before .pre .1)
+
+under-tail-requires : (t : ℕ) → under-lts.Need-tail-requires (under-claims t) (under-at t) under.Post
+under-tail-requires t c κs = search needs
+
+under-tail-sizes-requires : (t : ℕ) → under-lts.Need-tail-sizes-requires (under-claims t) (under-at t) under.Post
+under-tail-sizes-requires t c κs = search needs
+
+under-condition-requires : (t : ℕ) → under-lts.Need-condition-requires (under-claims t) (under-at t) under.Post
+under-condition-requires t c κs = (omega (arith, c .before .before .before .before .before .before .before .before .before .before .before .before .before .before .before .pre .0), under-room (now (c .before .before .before .before .before .before .before .before .before .before .before .before .before .before .before .args .masks)) (part (now (c .before .before .before .before .before .before .before .before .before .before .before .before .before .before .before .args .permits)) (now (c .before .before .before .before .before .before .before .before .before .before .before .before .before .before .before .args .places))) (c .before .before .before .before .before .before .before .before .before .before .before .before .before .before .before .args .level) (now (c .before .before .before .before .before .before .before .before .before .before .before .before .before .before .before .args .q)) (now (c .before .before .before .before .before .before .before .before .before .before .before .before .before .before .before .args .z)) (c .before .before .before .before .before .before .before .before .before .before .before .before .before .before .before .args .at) (c .before .before .before .before .before .before .before .before .before .before .before .before .before .before .before .args .next) (c .before .before .before .before .before .before .before .before .before .before .before .before .before .before .before .args .variable) _ (c .before .before .before .before .before .before .before .before .mask .ensures) (now (c .before .before .before .before .before .before .before .before .before .before .before .before .before .before .before .args .out)) _ _ (c .before .before .before .before .before .open-guard .ensures) _ (c .before .before .before .before .before .before .before .first-child .ensures .0) _ _ (c .before .before .tail .ensures) (c .before .tail-sizes .ensures) (c .before .before .before .before .before .before .before .before .before .before .before .before .before .before .before .pre .1))
+
+under-write-guard-requires : (t : ℕ) → under-lts.Need-write-guard-requires (under-claims t) (under-at t) under.Post
+under-write-guard-requires t c κs = under-guard (now (c .before .before .before .before .before .before .before .before .before .before .before .before .before .before .before .before .before .before .before .args .masks)) (part (now (c .before .before .before .before .before .before .before .before .before .before .before .before .before .before .before .before .before .before .before .args .permits)) (now (c .before .before .before .before .before .before .before .before .before .before .before .before .before .before .before .before .before .before .before .args .places))) (c .before .before .before .before .before .before .before .before .before .before .before .before .before .before .before .before .before .before .before .args .level) (now (c .before .before .before .before .before .before .before .before .before .before .before .before .before .before .before .before .before .before .before .args .q)) (now (c .before .before .before .before .before .before .before .before .before .before .before .before .before .before .before .before .before .before .before .args .z)) (c .before .before .before .before .before .before .before .before .before .before .before .before .before .before .before .before .before .before .before .args .at) (c .before .before .before .before .before .before .before .before .before .before .before .before .before .before .before .before .before .before .before .args .next) (c .before .before .before .before .before .before .before .before .before .before .before .before .before .before .before .before .before .before .before .args .variable) _ (c .before .before .before .before .before .before .before .before .before .before .before .before .mask .ensures) (now (c .before .before .before .before .before .before .before .before .before .before .before .before .before .before .before .before .before .before .before .args .out)) _ _ (c .before .before .before .before .before .before .before .before .before .open-guard .ensures) _ (c .before .before .before .before .before .before .before .before .before .before .before .first-child .ensures .0) _ _ (c .before .before .before .before .before .before .tail .ensures) (c .before .before .before .before .before .tail-sizes .ensures) _ _ _ (c .before .before .before .condition .ensures) (c .before .before .before .before .before .before .before .before .before .before .before .before .before .before .before .before .before .before .before .pre .1)
+
+under-same-length : (t : ℕ) → under-lts.Need-same-length (under-claims t) (under-at t) under.Post
+under-same-length t c = search needs
+
+under-returns : (t : ℕ) → under-lts.Need-returns (under-claims t) (under-at t) under.Post
+under-returns t c = under-did (now (c .before .before .before .before .before .before .before .before .before .before .before .before .before .before .before .before .before .before .before .before .before .before .args .masks)) (part (now (c .before .before .before .before .before .before .before .before .before .before .before .before .before .before .before .before .before .before .before .before .before .before .args .permits)) (now (c .before .before .before .before .before .before .before .before .before .before .before .before .before .before .before .before .before .before .before .before .before .before .args .places))) (c .before .before .before .before .before .before .before .before .before .before .before .before .before .before .before .before .before .before .before .before .before .before .args .level) (now (c .before .before .before .before .before .before .before .before .before .before .before .before .before .before .before .before .before .before .before .before .before .before .args .q)) (now (c .before .before .before .before .before .before .before .before .before .before .before .before .before .before .before .before .before .before .before .before .before .before .args .z)) (c .before .before .before .before .before .before .before .before .before .before .before .before .before .before .before .before .before .before .before .before .before .before .args .at) (c .before .before .before .before .before .before .before .before .before .before .before .before .before .before .before .before .before .before .before .before .before .before .args .next) (c .before .before .before .before .before .before .before .before .before .before .before .before .before .before .before .before .before .before .before .before .before .before .args .variable) _ (c .before .before .before .before .before .before .before .before .before .before .before .before .before .before .before .mask .ensures) (now (c .before .before .before .before .before .before .before .before .before .before .before .before .before .before .before .before .before .before .before .before .before .before .args .out)) _ _ (c .before .before .before .before .before .before .before .before .before .before .before .before .open-guard .ensures) _ (c .before .before .before .before .before .before .before .before .before .before .before .before .before .before .first-child .ensures .0) _ _ (c .before .before .before .before .before .before .before .before .before .tail .ensures) (c .before .before .before .before .before .before .before .before .tail-sizes .ensures) _ _ _ (c .before .before .before .before .before .before .condition .ensures) _ _ _ (c .before .before .write-guard .ensures)
+
+pub +condition+conditions+term+terms+under-spec : {M : Type 1} → statement M
++condition+conditions+term+terms+under-spec =
+    close μ-condition μ-conditions μ-term μ-terms μ-under (λ t. condition-lts.spec (condition-claims t)
+    (condition-at t)
+    condition.Post
+    (condition-put-requires t)
+    (condition-same-length t)
+    (condition-returns t)
+    (condition-read-requires t)
+    (condition-enum-told t)
+    (condition-put-requires-2 t)
+    (condition-enum-told-2 t)
+    (condition-put-requires-3 t)
+    (condition-first-child-requires t)
+    (condition-tail-requires t)
+    (condition-tail-sizes-requires t)
+    (condition-sub-condition t)
+    (condition-condition-requires t)
+    (condition-enum-told-3 t)
+    (condition-put-requires-4 t)
+    (condition-sub-conditions t)
+    (condition-conditions-requires t)
+    (condition-enum-told-4 t)
+    (condition-put-requires-5 t)
+    (condition-sub-conditions-2 t)
+    (condition-conditions-requires-2 t)
+    (condition-enum-known-o t)
+    (condition-put-record-requires t)
+    (condition-sub-terms t)
+    (condition-terms-requires t)
+    (condition-enum-known-v t)
+    (condition-put-record-requires-2 t)
+    (condition-sub-under t)
+    (condition-under-requires t)
+    (condition-put-requires-6 t)
+    (condition-same-length-2 t)
+    (condition-returns-2 t)
+    (condition-same-length-3 t)
+    (condition-returns-3 t)
+    (condition-same-length-4 t)
+    (condition-returns-4 t)
+    (condition-same-length-5 t)
+    (condition-returns-5 t)
+    (condition-same-length-6 t)
+    (condition-returns-6 t)
+    (condition-same-length-7 t)
+    (condition-returns-7 t)
+    (condition-same-length-8 t)
+    (condition-returns-8 t))
+    (λ t. conditions-lts.spec (conditions-claims t)
+    (conditions-at t)
+    conditions.Post
+    (conditions-first-child-requires t)
+    (conditions-second-child-requires t)
+    (conditions-tail-requires t)
+    (conditions-tail-sizes-requires t)
+    (conditions-condition-requires t)
+    (conditions-tail-requires-2 t)
+    (conditions-tail-sizes-requires-2 t)
+    (conditions-condition-requires-2 t)
+    (conditions-same-length t)
+    (conditions-returns t))
+    (λ t. term-lts.spec (term-claims t)
+    (term-at t)
+    term.Post
+    (term-put-record-requires t)
+    (term-same-length t)
+    (term-returns t)
+    (term-read-requires t)
+    (term-enum-known-a t)
+    (term-put-record-requires-2 t)
+    (term-enum-known-v t)
+    (term-put-record-requires-3 t)
+    (term-enum-known-f t)
+    (term-put-record-requires-4 t)
+    (term-sub-under t)
+    (term-under-requires t)
+    (term-put-record-requires-5 t)
+    (term-same-length-2 t)
+    (term-returns-2 t)
+    (term-same-length-3 t)
+    (term-returns-3 t)
+    (term-same-length-4 t)
+    (term-returns-4 t)
+    (term-same-length-5 t)
+    (term-returns-5 t))
+    (λ t. terms-lts.spec (terms-claims t)
+    (terms-at t)
+    terms.Post
+    (terms-first-child-requires t)
+    (terms-second-child-requires t)
+    (terms-tail-requires t)
+    (terms-tail-sizes-requires t)
+    (terms-term-requires t)
+    (terms-tail-requires-2 t)
+    (terms-tail-sizes-requires-2 t)
+    (terms-term-requires-2 t)
+    (terms-same-length t)
+    (terms-returns t))
+    λ t. under-lts.spec (under-claims t)
+    (under-at t)
+    under.Post
+    (under-mask-requires t)
+    (under-first-child-requires t)
+    (under-open-guard-requires t)
+    (under-tail-requires t)
+    (under-tail-sizes-requires t)
+    (under-condition-requires t)
+    (under-write-guard-requires t)
+    (under-same-length t)
+    (under-returns t)

@@ -1,0 +1,4 @@
+pub mod Runs
+pub mod Steps
+pub mod Sequences
+pub mod Agrees
