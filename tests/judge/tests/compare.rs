@@ -1,0 +1,110 @@
+//! compare finds nothing between the judge and itself, and finds each faulty copy.
+
+use judge::compare::{compare_seed, Ask, Evaluate, Report};
+use judge::{ask, compare, evaluate, refusal, Outcome};
+
+const CASES: u64 = 2_000;
+
+#[test]
+fn the_judge_agrees_with_itself() {
+    let report = compare(CASES, 7, ask, evaluate);
+    println!("{report}");
+    assert_eq!(report.differences, 0);
+    assert_eq!(report.ask_calls, report.ask_numbers.values().sum::<u64>());
+}
+
+/// Every difference can be run again from its seed.
+fn assert_found(ask_fn: Ask, evaluate_fn: Evaluate) {
+    let report = compare(CASES, 7, ask_fn, evaluate_fn);
+    assert!(report.differences > 0);
+    let mut again = Report::default();
+    compare_seed(report.first[0].seed, ask_fn, evaluate_fn, &mut again);
+    assert_eq!(again.first[0].case, report.first[0].case);
+}
+
+#[test]
+fn turning_everything_down_is_found() {
+    assert_found(
+        |_, _, _, _, _, _| Outcome {
+            number: 33,
+            rows: 0,
+            columns: 0,
+            length: 0,
+        },
+        evaluate,
+    );
+}
+
+#[test]
+fn no_rows_is_found() {
+    fn empty_answer(
+        c: &[u8],
+        v: &[i32],
+        p: &[u8],
+        q: &[u8],
+        r: &mut [u8],
+        a: &mut [i64],
+    ) -> Outcome {
+        let before = a.to_vec();
+        let outcome = ask(c, v, p, q, r, a);
+        a.copy_from_slice(&before);
+        Outcome { rows: 0, ..outcome }
+    }
+    assert_found(empty_answer, evaluate);
+}
+
+#[test]
+fn the_query_written_back_unchanged_is_found() {
+    fn unguarded(c: &[u8], v: &[i32], p: &[u8], q: &[u8], r: &mut [u8], a: &mut [i64]) -> Outcome {
+        let mut scratch = vec![0; 17_216];
+        let outcome = ask(c, v, p, q, &mut scratch, &mut vec![0; a.len()]);
+        if outcome.length == 0 || q.len() > r.len() {
+            return outcome;
+        }
+        r[..q.len()].copy_from_slice(q);
+        Outcome {
+            length: q.len() as u64,
+            ..evaluate(c, v, q, a)
+        }
+    }
+    assert_found(unguarded, evaluate);
+}
+
+#[test]
+fn a_cell_past_the_answer_is_found() {
+    fn one_more(c: &[u8], v: &[i32], q: &[u8], a: &mut [i64]) -> Outcome {
+        let outcome = evaluate(c, v, q, a);
+        let cells = (outcome.rows * outcome.columns) as usize;
+        if let Some(cell) = a.get_mut(cells) {
+            *cell = 0;
+        }
+        outcome
+    }
+    assert_found(ask, one_more);
+}
+
+#[test]
+fn an_early_41_is_found() {
+    fn early(c: &[u8], v: &[i32], p: &[u8], q: &[u8], r: &mut [u8], a: &mut [i64]) -> Outcome {
+        let outcome = ask(c, v, p, q, r, a);
+        let is_full = outcome.number == 0 && (outcome.rows * outcome.columns) as usize == a.len();
+        Outcome {
+            number: if is_full {
+                refusal::ANSWER_BUFFER
+            } else {
+                outcome.number
+            },
+            ..outcome
+        }
+    }
+    assert_found(early, evaluate);
+}
+
+#[test]
+fn a_panic_is_found() {
+    fn panics_on_long(c: &[u8], v: &[i32], q: &[u8], a: &mut [i64]) -> Outcome {
+        assert!(q.len() < 17_216, "this panic is part of the test");
+        evaluate(c, v, q, a)
+    }
+    assert_found(ask, panics_on_long);
+}

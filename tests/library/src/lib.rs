@@ -1,0 +1,102 @@
+//! The exported functions of the library, for Rust.
+//!
+//! A slice goes over as a pointer and a length. Rust's pointer of an empty slice is dangling, not
+//! null and aligned, as the library demands. `&mut` keeps the buffers apart from all else.
+
+use judge::Outcome;
+
+#[repr(C)]
+struct Returned {
+    number: u64,
+    rows: u64,
+    columns: u64,
+    length: u64,
+}
+
+impl From<Returned> for Outcome {
+    fn from(returned: Returned) -> Outcome {
+        Outcome {
+            number: returned.number,
+            rows: returned.rows,
+            columns: returned.columns,
+            length: returned.length,
+        }
+    }
+}
+
+extern "C" {
+    fn waldumre_evaluate(
+        catalogue: *const u8,
+        catalogue_length: usize,
+        values: *const i32,
+        values_length: usize,
+        query: *const u8,
+        query_length: usize,
+        answer: *mut i64,
+        answer_length: usize,
+    ) -> Returned;
+
+    #[cfg(feature = "ask")]
+    fn waldumre_ask(
+        catalogue: *const u8,
+        catalogue_length: usize,
+        values: *const i32,
+        values_length: usize,
+        permits: *const u8,
+        permits_length: usize,
+        query: *const u8,
+        query_length: usize,
+        rewritten: *mut u8,
+        rewritten_length: usize,
+        answer: *mut i64,
+        answer_length: usize,
+    ) -> Returned;
+}
+
+pub fn evaluate(catalogue: &[u8], values: &[i32], query: &[u8], answer: &mut [i64]) -> Outcome {
+    unsafe {
+        waldumre_evaluate(
+            catalogue.as_ptr(),
+            catalogue.len(),
+            values.as_ptr(),
+            values.len(),
+            query.as_ptr(),
+            query.len(),
+            answer.as_mut_ptr(),
+            answer.len(),
+        )
+    }
+    .into()
+}
+
+#[cfg(feature = "ask")]
+pub fn ask(
+    catalogue: &[u8],
+    values: &[i32],
+    permits: &[u8],
+    query: &[u8],
+    rewritten: &mut [u8],
+    answer: &mut [i64],
+) -> Outcome {
+    unsafe {
+        waldumre_ask(
+            catalogue.as_ptr(),
+            catalogue.len(),
+            values.as_ptr(),
+            values.len(),
+            permits.as_ptr(),
+            permits.len(),
+            query.as_ptr(),
+            query.len(),
+            rewritten.as_mut_ptr(),
+            rewritten.len(),
+            answer.as_mut_ptr(),
+            answer.len(),
+        )
+    }
+    .into()
+}
+
+/// Until the library exports it, the judge's stands in, so that rewritten queries reach evaluate.
+#[cfg(not(feature = "ask"))]
+pub use judge::ask;
