@@ -3,6 +3,9 @@
 //! A slice goes over as a pointer and a length. Rust's pointer of an empty slice is dangling, not
 //! null and aligned, as the library demands. `&mut` keeps the buffers apart from all else.
 
+pub mod deep;
+pub mod stack;
+
 use judge::Outcome;
 
 #[repr(C)]

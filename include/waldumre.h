@@ -1,0 +1,143 @@
+/*
+ * waldumre: a verified query engine over guarded relations.
+ *
+ * Link with libwaldumre.a (x86-64, System V calling convention; needs memcpy and memset, nothing
+ * else). All numbers in the byte formats are low byte first.
+ *
+ * Two calls:
+ *   waldumre_ask       asks a query under a list of permits: only permitted rows are seen.
+ *                      This is the call for queries that come from outside.
+ *   waldumre_evaluate  answers a query over all rows, permits or not. It guards nothing: give it
+ *                      only queries of your own, or ones that waldumre_ask has rewritten.
+ *
+ * Memory. The library allocates nothing, keeps no pointer after the call and has no global state.
+ * All buffers are the caller's, before, during and after the call. Calls may run at once in several
+ * threads, if nobody writes to an input and no two calls share an answer or rewritten buffer.
+ *
+ * What the caller owes (the library cannot check it; to break it is undefined behaviour):
+ *   - Every pointer is valid for its length, counted in elements: bytes, int32_t, int64_t.
+ *   - No pointer is NULL, also with length 0: then pass the address of any variable of its type.
+ *   - values is aligned as an int32_t, answer as an int64_t. Plain C arrays and malloc see to that.
+ *   - answer and rewritten overlap neither each other nor any input. Inputs may overlap.
+ *   - All elements of answer and rewritten are initialised (to anything; zero will do).
+ *   - WALDUMRE_STACK_BYTES of free stack in the calling thread, see below.
+ * The contents of the inputs are owed nothing: any bytes get an answer or a refusal.
+ *
+ * Time. There is no limit: up to four RANGE records of 1,024 rows each make 2 to the 40
+ * assignments. A server that takes queries from outside bounds the time itself.
+ */
+#ifndef WALDUMRE_H
+#define WALDUMRE_H
+
+#include <stddef.h>
+#include <stdint.h>
+
+#ifdef __cplusplus
+extern "C" {
+#endif
+
+/*
+ * Stack that a call may take, with margin. Measured: waldumre_evaluate takes at most 85,000 bytes
+ * for an accepted query; but to refuse 17,216 bytes of aggregates nested without end it takes
+ * 1,060,000. So 1 MiB is too little for waldumre_evaluate if others choose the query's bytes; the
+ * usual main thread (8 MiB) is ample. Set it for other threads (pthread_attr_setstacksize).
+ */
+#define WALDUMRE_STACK_BYTES 2097152
+
+/* What a call returns. */
+typedef struct {
+    uint64_t number;  /* 0: accepted. Else the refusal, one of those below. */
+    uint64_t rows;    /* rows written to answer */
+    uint64_t columns; /* cells in each row: the number of the query's targets, 1 to 8 */
+    uint64_t length;  /* bytes written to rewritten; always 0 from waldumre_evaluate */
+} waldumre_outcome;
+
+/*
+ * Refusals. Checks run by rising number, each over its whole input, so the number is the lowest
+ * that applies. All counts are then 0 and both buffers keep their contents, except at 41.
+ *
+ * Caused by the keeper of the relations:
+ */
+/* catalogue empty, over 16 records, cut short, of unknown kind, or a number outside its range */
+#define WALDUMRE_CATALOGUE 10
+/* values_length is not the total that the catalogue gives */
+#define WALDUMRE_VALUES 11
+/* Caused by the writer of the permits (waldumre_ask only): */
+/* list over 2,048 bytes or not well formed */
+#define WALDUMRE_PERMIT_FORM 20
+/* over 8 permits, or a permit over 256 bytes, 16 levels or 3 other variables */
+#define WALDUMRE_PERMIT_SIZE 21
+/* relation or attribute unknown, a mask of 0 or naming an absent attribute, or a variable over 3,
+ * out of reach or bound twice */
+#define WALDUMRE_PERMIT_NAMES 22
+/* a permit's relation, or one bound in its condition, is a workspace */
+#define WALDUMRE_PERMIT_WORKSPACE 23
+/* Caused by the asker: */
+/* query too long (ask: 1,024 bytes, evaluate: 17,216) or not well formed */
+#define WALDUMRE_QUERY_FORM 30
+/* over 4 RANGE records, 8 targets, the levels (ask: 32, evaluate: 64) or the variables (ask: 8,
+ * evaluate: 200) */
+#define WALDUMRE_QUERY_SIZE 31
+/* relation or attribute unknown, or a variable over its limit, out of reach or bound twice */
+#define WALDUMRE_QUERY_NAMES 32
+/* a variable over a stored relation has no permit that applies (waldumre_ask only) */
+#define WALDUMRE_NO_PERMIT 33
+/* Caused by the host, that is, by the program that makes the call: */
+/* the rewritten query is longer than rewritten_length (waldumre_ask only); never with
+ * WALDUMRE_REWRITTEN_BYTES */
+#define WALDUMRE_REWRITTEN_BUFFER 40
+/* more distinct rows than whole rows fit in answer. Not empty-handed: answer holds the first rows
+ * that fit, rows is their number, columns and length are as if accepted, and the rewritten query
+ * has been written. A label that shows the first row can go on. */
+#define WALDUMRE_ANSWER_BUFFER 41
+
+/* The longest query that waldumre_evaluate takes and that waldumre_ask can write. */
+#define WALDUMRE_REWRITTEN_BYTES 17216
+
+/*
+ * The plain evaluator.
+ *
+ *   catalogue  The relations: 1 to 16 records of 4 bytes, numbered from 0. A record is its kind
+ *              (48 stored, 49 workspace), attributes (1 to 16), rows (2 bytes, 0 to 1,024).
+ *   values     The rows: row after row, relation after relation. Their number must be the sum of
+ *              attributes times rows over all records.
+ *   query      0 to 4 RANGE records, 1 to 8 targets, one condition, and no byte more.
+ *   answer     Gets the rows, one after the other: cell c of row r is answer[r * columns + c].
+ *              Rows come in the order of the RANGE records, the last one fastest; a row equal to
+ *              an earlier one is left out. answer_length counts cells, not bytes.
+ *
+ * Afterwards: accepted (0) or 41, the first rows * columns cells of answer are the answer and the
+ * others keep their contents. At any other number all cells keep theirs.
+ * Numbers: 0, 10, 11, 30, 31, 32, 41.
+ */
+waldumre_outcome waldumre_evaluate(const uint8_t *catalogue, size_t catalogue_length,
+                                   const int32_t *values, size_t values_length,
+                                   const uint8_t *query, size_t query_length,
+                                   int64_t *answer, size_t answer_length);
+
+/*
+ * The guarded call (from the next version on). As above, and:
+ *
+ *   permits    0 to 8 permits, one after the other: 64, relation, mask (2 bytes; bit n for
+ *              attribute n, FFFF hexadecimal for all), then a condition in which variable 0 is the
+ *              permitted row.
+ *   rewritten  Gets the query with the guards put in, which waldumre_evaluate would answer the same.
+ *              WALDUMRE_REWRITTEN_BYTES are always enough.
+ *
+ * Afterwards: accepted (0) or 41, the first length bytes of rewritten are the rewritten query, the
+ * first rows * columns cells of answer are the answer, all else keeps its contents. At any other
+ * number, 40 too, both buffers keep all their contents.
+ * Numbers: 0 and all of the above.
+ */
+waldumre_outcome waldumre_ask(const uint8_t *catalogue, size_t catalogue_length,
+                              const int32_t *values, size_t values_length,
+                              const uint8_t *permits, size_t permits_length,
+                              const uint8_t *query, size_t query_length,
+                              uint8_t *rewritten, size_t rewritten_length,
+                              int64_t *answer, size_t answer_length);
+
+#ifdef __cplusplus
+}
+#endif
+
+#endif
