@@ -1,8 +1,8 @@
 /*
  * waldumre: a verified query engine over guarded relations.
  *
- * Link with libwaldumre.a (x86-64, System V calling convention; needs memcpy and memset, nothing
- * else). All numbers in the byte formats are low byte first.
+ * Link with libwaldumre.a (x86-64, System V calling convention; needs memcpy, memset and
+ * their like, nothing else). All numbers in the byte formats are low byte first.
  *
  * Two calls:
  *   waldumre_ask       asks a query under a list of permits: only permitted rows are seen.

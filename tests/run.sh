@@ -16,6 +16,11 @@ fi
 mkdir -p target
 "${nice[@]}" rt staticlib waldumre >target/tests.log 2>&1 || { cat target/tests.log; exit 1; }
 
+# What the header says: nothing is needed but memcpy, memset and their like, and there is no variable.
+library=target/staticlib/libwaldumre.a
+if nm -u "$library" | grep ' U ' | grep -vE ' U mem(cpy|set|move|cmp)$'; then echo "tests: the library needs more"; exit 1; fi
+if nm "$library" | grep -E ' [bBdDC] '; then echo "tests: the library has variables"; exit 1; fi
+
 echo "tests: the judge's own examples"
 (cd tests && "${nice[@]}" cargo test --quiet --offline --release -p judge --test examples)
 
@@ -29,7 +34,7 @@ for call in "${calls[@]}"; do
   flags=()
   if [[ $call == ask ]]; then flags=(-DWALDUMRE_ASK); fi
   gcc -std=c11 -O1 -g -Wall -Wextra -Wpedantic -Werror "${flags[@]}" -Iinclude tests/c/label.c \
-    target/staticlib/libwaldumre.a -o "$out/label-$call"
+    "$library" -o "$out/label-$call"
   "$out/label-$call" examples/offers 7 8 -1 | diff - tests/c/label.expected
   # an empty folder: the keeper of the relations has given no catalogue
   if "$out/label-$call" "$out/empty" 7 >"$out/refused"; then exit 1; fi

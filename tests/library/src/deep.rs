@@ -17,8 +17,18 @@ pub const NESTS: [Nest; 8] = [
     nest("OR, left", &[20], &[17], 1),
     nest("OR, right", &[20, 17], &[], 1),
     nest("SOME", &[22, FRESH, 0], &[], 1),
-    nest("aggregate, left", &[21, 6, 34, 1, FRESH, 0, 0], &[32, 0, 0, 0, 0], 2),
-    nest("aggregate, right", &[21, 4, 32, 0, 0, 0, 0, 34, 3, FRESH, 0, 0], &[], 2),
+    nest(
+        "aggregate, left",
+        &[21, 6, 34, 1, FRESH, 0, 0],
+        &[32, 0, 0, 0, 0],
+        2,
+    ),
+    nest(
+        "aggregate, right",
+        &[21, 4, 32, 0, 0, 0, 0, 34, 3, FRESH, 0, 0],
+        &[],
+        2,
+    ),
 ];
 
 const FRESH: u8 = 255;
@@ -60,8 +70,16 @@ pub fn query(place: Place, nests: &[Nest], middle: &[u8]) -> Vec<u8> {
     };
     for nest in nests {
         // Past the last number the query is over the variables anyway.
-        let number = if nest.opening.contains(&FRESH) { fresh.next().unwrap_or(199) } else { 0 };
-        bytes.extend(nest.opening.iter().map(|byte| if *byte == FRESH { number } else { *byte }));
+        let number = if nest.opening.contains(&FRESH) {
+            fresh.next().unwrap_or(199)
+        } else {
+            0
+        };
+        bytes.extend(
+            nest.opening
+                .iter()
+                .map(|byte| if *byte == FRESH { number } else { *byte }),
+        );
     }
     bytes.extend(middle);
     for nest in nests.iter().rev() {
@@ -142,7 +160,16 @@ pub fn openings(visit: &mut dyn FnMut(Vec<u8>)) {
 /// Nothing but one byte, over and over: every kind, at the most bytes and one more.
 pub fn repeated(visit: &mut dyn FnMut(Vec<u8>)) {
     for byte in [1, 16, 17, 18, 19, 20, 21, 22, 32, 33, 34] {
-        for length in [1, 2, 64, 1024, 8192, MOST_BYTES - 1, MOST_BYTES, MOST_BYTES + 1] {
+        for length in [
+            1,
+            2,
+            64,
+            1024,
+            8192,
+            MOST_BYTES - 1,
+            MOST_BYTES,
+            MOST_BYTES + 1,
+        ] {
             visit(vec![byte; length]);
         }
     }

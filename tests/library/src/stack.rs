@@ -72,7 +72,9 @@ impl Stack {
             assert_eq!(pthread_create(&mut thread, &attributes, start, argument), 0);
             assert_eq!(pthread_join(thread, ptr::null_mut()), 0);
             assert_eq!(pthread_attr_destroy(&mut attributes), 0);
-            let painted = (0..size).take_while(|place| *low.add(*place) == PAINT).count();
+            let painted = (0..size)
+                .take_while(|place| *low.add(*place) == PAINT)
+                .count();
             job.top - (low as usize + painted)
         }
     }

@@ -49,7 +49,10 @@ fn the_library_agrees_with_the_judge() {
     assert_eq!(report.differences, 0);
     assert!(report.evaluate_calls >= CASES);
     for number in [0, 10, 11, 30, 31, 32, 41] {
-        assert!(report.evaluate_numbers[&number] >= 1_000, "evaluate {number}");
+        assert!(
+            report.evaluate_numbers[&number] >= 1_000,
+            "evaluate {number}"
+        );
     }
     for number in refusal::ALL {
         assert!(report.ask_numbers[&number] >= 1_000, "ask {number}");

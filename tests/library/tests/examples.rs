@@ -121,7 +121,9 @@ fn the_largest_collection() {
     let mut values = vec![i32::MIN; 16 * 16 * 1024];
     *values.last_mut().unwrap() = i32::MAX;
     // SUM and MAX of the last attribute of the last relation, AVE of the first one's.
-    let query = [34, 2, 0, 15, 15, 16, 34, 4, 1, 15, 15, 16, 34, 3, 2, 0, 0, 16, 16];
+    let query = [
+        34, 2, 0, 15, 15, 16, 34, 4, 1, 15, 15, 16, 34, 3, 2, 0, 0, 16, 16,
+    ];
     let (least, most) = (i64::from(i32::MIN), i64::from(i32::MAX));
     let expected = [1023 * least + most, most, least];
     assert_eq!(evaluated(&catalogue, &values, &query), expected);

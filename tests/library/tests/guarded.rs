@@ -27,7 +27,11 @@ fn the_rewritten_query_gives_the_same_answer() {
             length: 0,
             ..run.outcome
         };
-        assert_eq!((plain.outcome, plain.answer), (expected, run.answer), "case seed {seed}");
+        assert_eq!(
+            (plain.outcome, plain.answer),
+            (expected, run.answer),
+            "case seed {seed}"
+        );
         answered += 1;
     }
     println!("rewritten queries {answered}");
@@ -44,7 +48,11 @@ fn collections_that_are_alike_give_the_same() {
             continue;
         };
         let other = pair.other();
-        assert_eq!(run_ask(ask, &pair.case), run_ask(ask, &other), "pair seed {seed}");
+        assert_eq!(
+            run_ask(ask, &pair.case),
+            run_ask(ask, &other),
+            "pair seed {seed}"
+        );
         found += 1;
         let plain = |case| run_evaluate(evaluate, &plain_case(case, &case.query));
         telling += usize::from(plain(&pair.case) != plain(&other));

@@ -24,15 +24,25 @@ fn run(
     (outcome, answer)
 }
 
-/// The library runs in a thread of the promised size, the judge outside it.
 #[test]
 fn the_deepest_inputs_pass_in_the_promised_stack() {
+    compare_in(promised());
+}
+
+#[test]
+#[ignore = "overflows: 17,216 bytes of aggregates nested without end take 1,036 KiB to be refused"]
+fn the_deepest_inputs_pass_in_1_mib() {
+    compare_in(1 << 20);
+}
+
+/// The library runs in a thread with this stack, the judge outside it.
+fn compare_in(stack: usize) {
     let in_thread = || {
         let mut given = Vec::new();
         deep::each(&mut |query| given.push(run(library::evaluate, &query)));
         given
     };
-    let thread = thread::Builder::new().stack_size(promised());
+    let thread = thread::Builder::new().stack_size(stack);
     let mut given = thread.spawn(in_thread).unwrap().join().unwrap().into_iter();
     let (mut cases, mut accepted) = (0, 0);
     deep::each(&mut |query| {
@@ -69,7 +79,10 @@ impl Most {
     fn print(&self, name: &str) {
         let Most { bytes, query } = self;
         let shown = &query[..query.len().min(24)];
-        println!("{name}: {bytes} bytes of stack for a query of {} bytes {shown:?}..", query.len());
+        println!(
+            "{name}: {bytes} bytes of stack for a query of {} bytes {shown:?}..",
+            query.len()
+        );
     }
 }
 
@@ -103,6 +116,79 @@ fn the_stack_taken_is_within_the_promise() {
     deep::openings(&mut |query| any.note(stack, query));
     any.print("refused");
     let most = legal.bytes.max(any.bytes);
-    println!("most {} KiB, promised {} KiB", most.div_ceil(1024), promised() / 1024);
+    println!(
+        "most {} KiB, promised {} KiB",
+        most.div_ceil(1024),
+        promised() / 1024
+    );
     assert!(most + most / 2 <= promised());
+}
+
+/// ask: permits and queries nested without end, and the deepest legal ones.
+#[cfg(feature = "ask")]
+mod asked {
+    use super::*;
+
+    type Call = fn(&[u8], &[i32], &[u8], &[u8], &mut [u8], &mut [i64]) -> Outcome;
+
+    fn run(ask: Call, permits: &[u8], query: &[u8]) -> (Outcome, Vec<u8>, [i64; 3]) {
+        let (mut rewritten, mut answer) = (vec![99; 17_216], [-77; 3]);
+        let outcome = ask(
+            &CATALOGUE,
+            &VALUES,
+            permits,
+            query,
+            &mut rewritten,
+            &mut answer,
+        );
+        (outcome, rewritten, answer)
+    }
+
+    /// Bytes that open a level, over and over.
+    fn endless(start: &[u8], opening: &[u8], length: usize) -> Vec<u8> {
+        let mut bytes = start.to_vec();
+        bytes.extend(opening.iter().cycle().take(length - start.len()));
+        bytes
+    }
+
+    fn cases() -> Vec<(Vec<u8>, Vec<u8>)> {
+        let permit = vec![64, 0, 255, 255, 16];
+        let (permit_start, query_start) = ([64, 0, 255, 255], [34, 1, 0, 0, 0]);
+        let mut cases = Vec::new();
+        for nest in NESTS {
+            let opening: Vec<u8> = nest.opening.iter().map(|byte| byte % 254).collect();
+            for cut in 0..16 {
+                let permits = endless(&permit_start, &opening, 2_048 - cut);
+                cases.push((permits, vec![34, 1, 0, 0, 0, 16, 16]));
+                cases.push((permit.clone(), endless(&query_start, &opening, 1_024 - cut)));
+            }
+        }
+        // 8 variables one inside the other, each guarded by 8 permits of 16 levels.
+        let deep = [&permit_start[..], &[18; 14], &[22, 1, 0, 16]].concat();
+        let somes: Vec<u8> = (1..8)
+            .flat_map(|variable| [18, 18, 18, 22, variable, 0])
+            .collect();
+        let query = [&[1, 0, 0, 33, 0, 0], &somes[..], &[18, 18, 16]].concat();
+        cases.push((deep.repeat(8), query));
+        cases
+    }
+
+    #[test]
+    fn the_deepest_inputs_of_ask() {
+        let stack = &mut Stack::new(8192);
+        let (mut most, mut numbers) = (0, Vec::new());
+        for (permits, query) in cases() {
+            let judged = run(judge::ask, &permits, &query);
+            let mut given = None;
+            let used = stack.used(&mut || given = Some(run(library::ask, &permits, &query)));
+            most = most.max(used);
+            numbers.push(judged.0.number);
+            assert_eq!(given, Some(judged), "permits {permits:?} query {query:?}");
+        }
+        numbers.sort();
+        numbers.dedup();
+        println!("ask: most {most} bytes of stack, numbers {numbers:?}");
+        assert!(numbers.contains(&0));
+        assert!(most + most / 2 <= promised());
+    }
 }

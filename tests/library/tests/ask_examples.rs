@@ -1,0 +1,394 @@
+//! The shelf examples of document 01 and its edges, put to the library's ask.
+#![cfg(feature = "ask")]
+
+use judge::{refusal, Outcome};
+use library::ask;
+
+const EMPLOYEE: [[i32; 4]; 6] = [
+    [1, 1, 10_000, 2],
+    [2, 1, 15_000, 8],
+    [3, 2, 12_000, 5],
+    [4, 2, 14_000, 7],
+    [5, 4, 20_000, 6],
+    [6, 4, 40_000, 0],
+];
+
+const DEPARTMENT: [[i32; 4]; 5] = [
+    [1, -1, 10, 1000],
+    [2, 1, 5, 2000],
+    [3, 1, 16, 1500],
+    [4, 4, 10, 0],
+    [5, 2, 3, 0],
+];
+
+const CATALOGUE: [u8; 8] = [48, 4, 6, 0, 48, 4, 5, 0];
+
+const PERMITS_3_3: [&[u8]; 4] = [
+    &[64, 0, 12, 0, 16],
+    &[64, 0, 11, 0, 21, 2, 33, 0, 0, 32, 5, 0, 0, 0],
+    &[
+        64, 0, 13, 0, 22, 1, 0, 19, 21, 1, 33, 1, 0, 33, 0, 3, 21, 5, 33, 0, 2, 33, 1, 2,
+    ],
+    &[64, 1, 255, 255, 21, 5, 33, 0, 3, 34, 3, 1, 1, 3, 16],
+];
+
+fn values() -> Vec<i32> {
+    [EMPLOYEE.concat(), DEPARTMENT.concat()].concat()
+}
+
+const UNTOUCHED: i64 = -77;
+const UNTOUCHED_BYTE: u8 = 99;
+
+struct Asked {
+    outcome: Outcome,
+    rewritten: Vec<u8>,
+    cells: Vec<i64>,
+}
+
+/// Asks with ample buffers; checks that what is past the counts is untouched.
+fn asked(catalogue: &[u8], values: &[i32], permits: &[u8], query: &[u8]) -> Asked {
+    let mut rewritten = vec![UNTOUCHED_BYTE; 17_216];
+    let mut answer = vec![UNTOUCHED; 4096];
+    let outcome = ask(
+        catalogue,
+        values,
+        permits,
+        query,
+        &mut rewritten,
+        &mut answer,
+    );
+    let cells = (outcome.rows * outcome.columns) as usize;
+    assert!(answer[cells..].iter().all(|cell| *cell == UNTOUCHED));
+    let length = outcome.length as usize;
+    assert!(rewritten[length..]
+        .iter()
+        .all(|byte| *byte == UNTOUCHED_BYTE));
+    answer.truncate(cells);
+    rewritten.truncate(length);
+    Asked {
+        outcome,
+        rewritten,
+        cells: answer,
+    }
+}
+
+fn ask_number(catalogue: &[u8], values: &[i32], permits: &[u8], query: &[u8]) -> u64 {
+    let Asked { outcome, .. } = asked(catalogue, values, permits, query);
+    if outcome.number != 0 {
+        assert_eq!((outcome.rows, outcome.columns, outcome.length), (0, 0, 0));
+    }
+    outcome.number
+}
+
+fn asked_with_3_3(query: &[u8]) -> Asked {
+    asked(&CATALOGUE, &values(), &PERMITS_3_3.concat(), query)
+}
+
+#[test]
+fn section_3_2() {
+    let query = [1, 0, 0, 33, 0, 2, 21, 1, 33, 0, 0, 32, 2, 0, 0, 0];
+    let permit = [64, 0, 15, 0, 21, 1, 33, 0, 0, 32, 1, 0, 0, 0];
+    let asked = asked(&CATALOGUE, &values(), &permit, &query);
+    assert_eq!(
+        asked.outcome,
+        Outcome {
+            number: 0,
+            rows: 0,
+            columns: 1,
+            length: 27
+        }
+    );
+    let expected = [&query[..6], &[19], &query[6..], &permit[4..]].concat();
+    assert_eq!(asked.rewritten, expected);
+}
+
+#[test]
+fn section_3_4() {
+    let asked = asked_with_3_3(&[1, 0, 0, 33, 0, 2, 16]);
+    assert_eq!(
+        asked.cells,
+        [10_000, 15_000, 12_000, 14_000, 20_000, 40_000]
+    );
+    // Permits 1 and 3 apply: AND, TRUE, then OR of TRUE and the SOME, whose variable became 8.
+    let expected = [
+        1, 0, 0, 33, 0, 2, 19, 16, 20, 16, 22, 8, 0, 19, 21, 1, 33, 8, 0, 33, 0, 3, 21, 5, 33, 0,
+        2, 33, 8, 2,
+    ];
+    assert_eq!(asked.rewritten, expected);
+}
+
+#[test]
+fn section_3_5() {
+    let asked = asked_with_3_3(&[1, 0, 0, 33, 0, 3, 21, 1, 33, 0, 0, 32, 3, 0, 0, 0]);
+    assert_eq!((asked.outcome.rows, &asked.cells[..]), (1, &[5][..]));
+}
+
+#[test]
+fn section_3_6() {
+    let query = [
+        1, 0, 0, 1, 1, 0, 33, 0, 0, 19, 21, 1, 33, 0, 3, 33, 1, 0, 21, 3, 33, 1, 2, 33, 0, 2,
+    ];
+    let asked = asked_with_3_3(&query);
+    assert_eq!(
+        (
+            asked.outcome.number,
+            asked.outcome.rows,
+            asked.outcome.columns
+        ),
+        (0, 0, 1)
+    );
+    // Two ANDs before the final condition; permit 3 twice, its variable 8 and then 9.
+    let guard = |own: u8, fresh: u8| {
+        [
+            22, fresh, 0, 19, 21, 1, 33, fresh, 0, 33, own, 3, 21, 5, 33, own, 2, 33, fresh, 2,
+        ]
+    };
+    let expected = [
+        &query[..9],
+        &[19, 19],
+        &query[9..],
+        &guard(0, 8),
+        &guard(1, 9),
+    ]
+    .concat();
+    assert_eq!(asked.rewritten, expected);
+}
+
+#[test]
+fn department_with_salary_has_no_permit() {
+    let query = [1, 0, 0, 33, 0, 1, 33, 0, 2, 16];
+    assert_eq!(asked_with_3_3(&query).outcome.number, refusal::NO_PERMIT);
+}
+
+#[test]
+fn departments_with_sales_above_average() {
+    assert_eq!(asked_with_3_3(&[1, 0, 1, 33, 0, 0, 16]).cells, [1, 2, 3]);
+}
+
+#[test]
+fn permits_up_to_8() {
+    let list = |count| [64, 0, 255, 255, 16].repeat(count);
+    let query = [1, 0, 0, 33, 0, 0, 16];
+    assert_eq!(ask_number(&[48, 1, 1, 0], &[5], &list(8), &query), 0);
+    assert_eq!(ask_number(&[48, 1, 1, 0], &[5], &list(9), &query), 21);
+}
+
+/// NOTs over a TRUE, the TRUE being at this level.
+fn not_chain(level: usize) -> Vec<u8> {
+    [[18].repeat(level - 1), vec![16]].concat()
+}
+
+/// A comparison below NOTs, its terms being at this level.
+fn comparison_chain(level: usize) -> Vec<u8> {
+    let comparison = [21, 1, 32, 0, 0, 0, 0, 32, 0, 0, 0, 0];
+    [[18].repeat(level - 2), comparison.to_vec()].concat()
+}
+
+#[test]
+fn permit_levels_up_to_16() {
+    let query = [1, 0, 0, 33, 0, 0, 16];
+    for chain in [not_chain, comparison_chain] {
+        let permit = |level| [&[64, 0, 255, 255], &chain(level)[..]].concat();
+        assert_eq!(ask_number(&[48, 1, 1, 0], &[5], &permit(16), &query), 0);
+        assert_eq!(ask_number(&[48, 1, 1, 0], &[5], &permit(17), &query), 21);
+    }
+}
+
+/// A condition of few levels and exactly this many bytes.
+fn padding(bytes: usize) -> Vec<u8> {
+    match bytes {
+        1 => vec![16],
+        2 => vec![18, 17],
+        _ => {
+            let left = (bytes - 1) / 2;
+            [vec![19], padding(left), padding(bytes - 1 - left)].concat()
+        }
+    }
+}
+
+#[test]
+fn permit_bytes_up_to_256() {
+    let query = [1, 0, 0, 33, 0, 0, 16];
+    let permit = |bytes: usize| [&[64, 0, 255, 255], &padding(bytes - 4)[..]].concat();
+    assert_eq!(ask_number(&[48, 1, 1, 0], &[5], &permit(256), &query), 0);
+    assert_eq!(ask_number(&[48, 1, 1, 0], &[5], &permit(257), &query), 21);
+    let full_list = permit(256).repeat(8);
+    assert_eq!(ask_number(&[48, 1, 1, 0], &[5], &full_list, &query), 0);
+    let over_full_list = [permit(251).repeat(8), permit(41)].concat();
+    assert_eq!(over_full_list.len(), 2049);
+    assert_eq!(
+        ask_number(&[48, 1, 1, 0], &[5], &over_full_list, &query),
+        20
+    );
+}
+
+#[test]
+fn a_short_rewritten_buffer_keeps_both_buffers() {
+    let permit = [64, 0, 255, 255, 16];
+    let query = [1, 0, 0, 33, 0, 0, 16];
+    let mut rewritten = [UNTOUCHED_BYTE; 8];
+    let mut answer = [UNTOUCHED; 0];
+    let outcome = ask(
+        &[48, 1, 1, 0],
+        &[5],
+        &permit,
+        &query,
+        &mut rewritten,
+        &mut answer,
+    );
+    assert_eq!(
+        outcome,
+        Outcome {
+            number: 40,
+            rows: 0,
+            columns: 0,
+            length: 0
+        }
+    );
+    assert_eq!(rewritten, [UNTOUCHED_BYTE; 8]);
+}
+
+/// The largest rewritten query: 8 variables, each guarded by 8 permits of 256 bytes.
+#[test]
+fn largest_rewritten_query() {
+    let some_in_some = [22, 3, 0, 22, 1, 0, 22, 2, 0];
+    let condition = [&some_in_some[..], &padding(252 - 9)].concat();
+    let list = [&[64, 0, 255, 255], &condition[..]].concat().repeat(8);
+    let ranges: Vec<u8> = (0..4).flat_map(|variable| [1, variable, 0]).collect();
+    let somes: Vec<u8> = (4..8).flat_map(|variable| [22, variable, 0]).collect();
+    let head = [ranges, vec![33, 0, 0], somes].concat();
+    let query = [&head[..], &padding(1024 - head.len())].concat();
+    let asked = asked(&[48, 1, 1, 0], &[5], &list, &query);
+    assert_eq!(
+        asked.outcome,
+        Outcome {
+            number: 0,
+            rows: 1,
+            columns: 1,
+            length: 17_216
+        }
+    );
+    assert_eq!(asked.cells, [5]);
+    // The permits' variables in byte order: 8 is the first SOME's, and 199 the last one's.
+    let in_order: Vec<u8> = asked
+        .rewritten
+        .windows(3)
+        .filter(|bytes| bytes[0] == 22 && bytes[1] > 7 && bytes[2] == 0)
+        .map(|bytes| bytes[1])
+        .collect();
+    assert_eq!(in_order, (8..200).collect::<Vec<u8>>());
+}
+
+mod errors_a_good_reader_makes {
+    use super::*;
+
+    /// An empty relation in one permit's SOME leaves the other permit of the OR alone.
+    #[test]
+    fn empty_relation_in_a_permit() {
+        let catalogue = [48, 1, 1, 0, 48, 1, 0, 0];
+        let list = [64, 0, 255, 255, 22, 1, 1, 16, 64, 0, 255, 255, 16];
+        assert_eq!(
+            asked(&catalogue, &[5], &list, &[1, 0, 0, 33, 0, 0, 16]).cells,
+            [5]
+        );
+    }
+
+    #[test]
+    fn s_is_of_the_whole_query_and_masks_do_not_add_up() {
+        let catalogue = [48, 2, 1, 0];
+        let query = [1, 0, 0, 33, 0, 0, 21, 1, 33, 0, 1, 33, 0, 1];
+        let first_only = [64, 0, 1, 0, 16];
+        assert_eq!(ask_number(&catalogue, &[5, 6], &first_only, &query), 33);
+        let both = [&first_only[..], &[64, 0, 2, 0, 16]].concat();
+        assert_eq!(ask_number(&catalogue, &[5, 6], &both, &query), 33);
+        assert_eq!(
+            ask_number(&catalogue, &[5, 6], &[64, 0, 3, 0, 16], &query),
+            0
+        );
+    }
+
+    /// The query's variable 1 is not the permit's.
+    #[test]
+    fn a_permit_variable_is_not_caught() {
+        let catalogue = [48, 1, 2, 0];
+        let permit = [64, 0, 1, 0, 22, 1, 0, 21, 5, 33, 1, 0, 33, 0, 0];
+        let query = [1, 1, 0, 33, 1, 0, 16];
+        let asked = asked(&catalogue, &[5, 6], &permit, &query);
+        assert_eq!(asked.cells, [5]);
+        let expected = [
+            1, 1, 0, 33, 1, 0, 19, 16, 22, 8, 0, 21, 5, 33, 8, 0, 33, 1, 0,
+        ];
+        assert_eq!(asked.rewritten, expected);
+    }
+
+    /// Two unguarded rows, one permitted: a buffer for one row is enough.
+    #[test]
+    fn the_answer_is_fitted_by_guarded_rows() {
+        let permit = [64, 0, 1, 0, 21, 1, 33, 0, 0, 32, 6, 0, 0, 0];
+        let query = [1, 0, 0, 33, 0, 0, 16];
+        let mut answer = [0; 1];
+        let outcome = ask(
+            &[48, 1, 2, 0],
+            &[5, 6],
+            &permit,
+            &query,
+            &mut [0; 99],
+            &mut answer,
+        );
+        assert_eq!((outcome.number, answer), (0, [6]));
+    }
+}
+
+const PERMIT_4_2: [u8; 14] = [64, 0, 4, 0, 21, 1, 33, 0, 1, 32, 1, 0, 0, 0];
+
+#[test]
+fn section_4_2() {
+    let query = [34, 3, 0, 0, 2, 16, 16];
+    let asked = asked(&CATALOGUE[..4], &EMPLOYEE.concat(), &PERMIT_4_2, &query);
+    let expected = [34, 3, 0, 0, 2, 19, 16, 21, 1, 33, 0, 1, 32, 1, 0, 0, 0, 16];
+    assert_eq!(
+        (&asked.rewritten[..], &asked.cells[..]),
+        (&expected[..], &[12_500][..])
+    );
+}
+
+#[test]
+fn levels_up_to_32() {
+    let permit = [64, 0, 255, 255, 16];
+    for chain in [not_chain, comparison_chain] {
+        let number = |level| {
+            let query = [&[1, 0, 0, 33, 0, 0], &chain(level)[..]].concat();
+            ask_number(&[48, 1, 1, 0], &[5], &permit, &query)
+        };
+        assert_eq!((number(32), number(33)), (0, 31));
+    }
+}
+
+/// 0 cells give 41 exactly if there is a row; the rewritten query is written both times.
+#[test]
+fn answer_buffer_of_0_cells() {
+    let permit = [64, 0, 255, 255, 16];
+    for (condition, number) in [(16, 41), (17, 0)] {
+        let query = [1, 0, 0, 33, 0, 0, condition];
+        let mut rewritten = [UNTOUCHED_BYTE; 10];
+        let outcome = ask(
+            &[48, 1, 1, 0],
+            &[5],
+            &permit,
+            &query,
+            &mut rewritten,
+            &mut [],
+        );
+        let expected = Outcome {
+            number,
+            rows: 0,
+            columns: 1,
+            length: 9,
+        };
+        assert_eq!(outcome, expected);
+        assert_eq!(
+            rewritten,
+            [1, 0, 0, 33, 0, 0, 19, condition, 16, UNTOUCHED_BYTE]
+        );
+    }
+}
