@@ -22,10 +22,6 @@ pub did-then : (d : List ℕ) (at n : ℕ) (w : List ℕ) (k : ℕ) (x : List �
 did-then d at n w k x p i w′ k′ y e m g h =
     ((omega (arith, length-append w w′, g .0 .0, h .0 .0), omega (arith, g .0 .1, h .0 .1)), sets-then w d at w′ x y p (g .1) (g .0 .0) (h .1))
 
--- what was written with no number taken
-pub plain : (d : List ℕ) (at n : ℕ) (s x : List ℕ) (p : ℕ) → Wrote d at s x p → Did d at n s 0 x p n
-plain d at n s x p h = ((h .0, sym (add-zero n)), h .1)
-
 pub did-head : (d : List ℕ) (at n : ℕ) (s x : List ℕ) (p : ℕ) (w : List ℕ) (k : ℕ) (y : List ℕ) (e m : ℕ) → Wrote d at s x p → Did x p n w k y e m → Did d at n (s ++ w) k y e m
 did-head d at n s x p w k y e m g h = ((omega (arith, length-append s w, g .0, h .0 .0), h .0 .1), sets-then s d at w x y p (g .1) (g .0) (h .1))
 
@@ -63,8 +59,8 @@ module _ (W : ℕ → List ℕ) (K : ℕ) (head : List ℕ) (s : Leaf W K head) 
   pub leaf-room : Room at n (W n) K → at + length head < 9223372036854775808
   leaf-room r = omega (arith, r .0, ap length (s .bytes n))
 
-  pub leaf-did : (d x : List ℕ) (p : ℕ) → Wrote d at head x p → Did d at n (W n) K x p n
-  leaf-did d x p h = did-as d at n head (W n) 0 K x p n (sym (s .bytes n)) (sym (s .numbers)) (plain d at n head x p h)
+  pub leaf-did : (d x : List ℕ) (p m : ℕ) → ((p ≡ at + length head) × (m ≡ n)) × (x ≡ sets d at head) → Did d at n (W n) K x p m
+  leaf-did d x p m h = did-as d at n head (W n) 0 K x p m (sym (s .bytes n)) (sym (s .numbers)) ((h .0 .0, h .0 .1 ∙ sym (add-zero n)), h .1)
 
 -- both children of a record
 module _ (W : List ℕ → List ℕ → ℕ → List ℕ) (K : List ℕ → List ℕ → ℕ) (q z : List ℕ) (at n : ℕ) (a : ℕ) (ea : a ≡ first q) (x y : List ℕ) (ex : x ≡ drop a q) (ey : y ≡ drop a z) where

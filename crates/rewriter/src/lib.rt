@@ -9,6 +9,7 @@ ghost use lib.ListN.{length, drop, getD};
 ghost use lib.Seq.{sets};
 ghost use Rattle.sizes.specs.Decode.{first, second};
 ghost use Rattle.copier.specs.Guard.{part};
+ghost use Rattle.copier.specs.Copied.{recordBytes};
 ghost use Rattle.model.specs.Encoding.{encodeRanges};
 ghost use Rattle.odometer.specs.Plan.{rangesAt, targetsAt};
 ghost use Rattle.rewriter.specs.Parts.{queryAt, targetsBytes, targetsNew, openings, rangeGuards, queryBytes, queryNew};
@@ -38,6 +39,18 @@ fn mask(masks: &[u8], variable: u8) -> u8
     kinds::byte(masks, v)
 }
 
+// Writes a record with no child.
+fn leaf(out: &mut [u8], at: usize, next: usize, item: Record) -> Written
+    requires { ⌜ at + length (recordBytes item) < 9223372036854775808 ⌝ }
+    ensures { λ r. ⌜ (r .at ≡ at + length (recordBytes item)) × (r .next ≡ next) ⌝ }
+    ensures { λ _. ⌜ now (out .exit) ≡ sets (now (out .entry)) at (recordBytes item) ⌝ }
+{
+    Written {
+        at: copier::put_record(out, at, item),
+        next: next,
+    }
+}
+
 // Writes the condition that q and its table stand for.
 pub fn condition(
     q: &[u8],
@@ -55,30 +68,16 @@ pub fn condition(
     ensures { λ _. ⌜ now (out .exit) ≡ sets (now (out .entry)) at (conditionBytes (now (masks .entry)) (part (now (permits .entry)) (now (places .entry))) level (now (q .entry)) (now (z .entry)) next) ⌝ }
 {
     if level == 0 {
-        return Written {
-            at: copier::put(out, at, 17),
-            next: next,
-        };
+        return leaf(out, at, next, Record::False);
     }
     match kinds::read(q) {
-        Record::True => Written {
-            at: copier::put(out, at, 16),
-            next: next,
-        },
+        Record::True => leaf(out, at, next, Record::True),
         Record::Not => {
             let p = copier::put(out, at, 18);
             let a = first_child(q);
-            condition(
-                kinds::tail(q, a),
-                kinds::tail_sizes(z, a),
-                permits,
-                places,
-                masks,
-                out,
-                p,
-                next,
-                level - 1,
-            )
+            let x = kinds::tail(q, a);
+            let y = kinds::tail_sizes(z, a);
+            condition(x, y, permits, places, masks, out, p, next, level - 1)
         }
         Record::And => {
             let p = copier::put(out, at, 19);
@@ -96,10 +95,7 @@ pub fn condition(
             let p = copier::put_record(out, at, Record::Some(v, r));
             under(q, z, permits, places, masks, out, p, next, level - 1, v)
         }
-        _ => Written {
-            at: copier::put(out, at, 17),
-            next: next,
-        },
+        _ => leaf(out, at, next, Record::False),
     }
 }
 
@@ -120,28 +116,16 @@ pub fn term(
     ensures { λ _. ⌜ now (out .exit) ≡ sets (now (out .entry)) at (termBytes (now (masks .entry)) (part (now (permits .entry)) (now (places .entry))) level (now (q .entry)) (now (z .entry)) next) ⌝ }
 {
     if level == 0 {
-        return Written {
-            at: copier::put_record(out, at, Record::Constant(0, 0, 0, 0)),
-            next: next,
-        };
+        return leaf(out, at, next, Record::Constant(0, 0, 0, 0));
     }
     match kinds::read(q) {
-        Record::Constant(a, b, c, d) => Written {
-            at: copier::put_record(out, at, Record::Constant(a, b, c, d)),
-            next: next,
-        },
-        Record::Attribute(v, a) => Written {
-            at: copier::put_record(out, at, Record::Attribute(v, a)),
-            next: next,
-        },
+        Record::Constant(a, b, c, d) => leaf(out, at, next, Record::Constant(a, b, c, d)),
+        Record::Attribute(v, a) => leaf(out, at, next, Record::Attribute(v, a)),
         Record::Aggregate(f, v, r, a) => {
             let p = copier::put_record(out, at, Record::Aggregate(f, v, r, a));
             under(q, z, permits, places, masks, out, p, next, level - 1, v)
         }
-        _ => Written {
-            at: copier::put_record(out, at, Record::Constant(0, 0, 0, 0)),
-            next: next,
-        },
+        _ => leaf(out, at, next, Record::Constant(0, 0, 0, 0)),
     }
 }
 
@@ -163,30 +147,14 @@ fn conditions(
 {
     let a = first_child(q);
     let b = second_child(q, z);
-    let w = condition(
-        kinds::tail(q, a),
-        kinds::tail_sizes(z, a),
-        permits,
-        places,
-        masks,
-        out,
-        at,
-        next,
-        level,
-    );
+    let x = kinds::tail(q, a);
+    let y = kinds::tail_sizes(z, a);
+    let w = condition(x, y, permits, places, masks, out, at, next, level);
     let p = w.at;
     let n = w.next;
-    condition(
-        kinds::tail(q, b),
-        kinds::tail_sizes(z, b),
-        permits,
-        places,
-        masks,
-        out,
-        p,
-        n,
-        level,
-    )
+    let x2 = kinds::tail(q, b);
+    let y2 = kinds::tail_sizes(z, b);
+    condition(x2, y2, permits, places, masks, out, p, n, level)
 }
 
 // Writes both children of a record, terms.
@@ -207,30 +175,14 @@ fn terms(
 {
     let a = first_child(q);
     let b = second_child(q, z);
-    let w = term(
-        kinds::tail(q, a),
-        kinds::tail_sizes(z, a),
-        permits,
-        places,
-        masks,
-        out,
-        at,
-        next,
-        level,
-    );
+    let x = kinds::tail(q, a);
+    let y = kinds::tail_sizes(z, a);
+    let w = term(x, y, permits, places, masks, out, at, next, level);
     let p = w.at;
     let n = w.next;
-    term(
-        kinds::tail(q, b),
-        kinds::tail_sizes(z, b),
-        permits,
-        places,
-        masks,
-        out,
-        p,
-        n,
-        level,
-    )
+    let x2 = kinds::tail(q, b);
+    let y2 = kinds::tail_sizes(z, b);
+    term(x2, y2, permits, places, masks, out, p, n, level)
 }
 
 // Writes the condition under a binding: its variable's guard follows it.
@@ -253,17 +205,9 @@ fn under(
     let m = mask(masks, variable);
     let a = first_child(q);
     let p = copier::open_guard(out, at, m);
-    let w = condition(
-        kinds::tail(q, a),
-        kinds::tail_sizes(z, a),
-        permits,
-        places,
-        masks,
-        out,
-        p,
-        next,
-        level,
-    );
+    let x = kinds::tail(q, a);
+    let y = kinds::tail_sizes(z, a);
+    let w = condition(x, y, permits, places, masks, out, p, next, level);
     let e = w.at;
     let n = w.next;
     copier::write_guard(out, e, permits, places, m, variable, n)
@@ -306,18 +250,9 @@ fn targets(
     let p = w.at;
     let n = w.next;
     let k = kinds::size_at(z, 0);
-    targets(
-        kinds::tail(q, k),
-        kinds::tail_sizes(z, k),
-        left - 1,
-        permits,
-        places,
-        masks,
-        out,
-        p,
-        n,
-        level,
-    )
+    let x = kinds::tail(q, k);
+    let y = kinds::tail_sizes(z, k);
+    targets(x, y, left - 1, permits, places, masks, out, p, n, level)
 }
 
 // Writes an AND for each of so many RANGEs with a guard.
@@ -361,16 +296,8 @@ fn guard_ranges(
     let w = copier::write_guard(out, at, permits, places, mask(masks, v), v, next);
     let p = w.at;
     let n = w.next;
-    guard_ranges(
-        kinds::tail(q, kinds::record_length(1)),
-        left - 1,
-        permits,
-        places,
-        masks,
-        out,
-        p,
-        n,
-    )
+    let x = kinds::tail(q, kinds::record_length(1));
+    guard_ranges(x, left - 1, permits, places, masks, out, p, n)
 }
 
 // Writes the query, rewritten, and returns the number of its bytes. Where they do not fit the buffer, what fits is written.
@@ -393,32 +320,15 @@ pub fn rewrite_query(
     let t = layout.first;
     let c = layout.condition;
     let p = ranges(q, r, out, 0);
-    let w = targets(
-        kinds::tail(q, t),
-        kinds::tail_sizes(z, t),
-        k,
-        permits,
-        places,
-        masks,
-        out,
-        p,
-        8,
-        level,
-    );
+    let tq = kinds::tail(q, t);
+    let tz = kinds::tail_sizes(z, t);
+    let w = targets(tq, tz, k, permits, places, masks, out, p, 8, level);
     let a = w.at;
     let n = w.next;
     let b = open_ranges(q, r, masks, out, a);
-    let x = condition(
-        kinds::tail(q, c),
-        kinds::tail_sizes(z, c),
-        permits,
-        places,
-        masks,
-        out,
-        b,
-        n,
-        level,
-    );
+    let cq = kinds::tail(q, c);
+    let cz = kinds::tail_sizes(z, c);
+    let x = condition(cq, cz, permits, places, masks, out, b, n, level);
     let d = x.at;
     let m = x.next;
     let y = guard_ranges(q, r, permits, places, masks, out, d, m);

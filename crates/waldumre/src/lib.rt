@@ -1,7 +1,7 @@
 // What C calls: the exported functions. Each only hands on, so that its contract is the model's.
 ghost use mathlib.Core.Path.{_≡_};
-ghost use Rattle.model.specs.Calls.{evaluate};
-ghost use Rattle.waldumre.specs.Outcome.{answerOf};
+ghost use Rattle.model.specs.Calls.{evaluate, ask};
+ghost use Rattle.waldumre.specs.Outcome.{answerOf, outcomeOf};
 
 // The number of a refusal, 0 where there is none, and the counts of rows, columns and rewritten bytes.
 #[repr(C)]
@@ -35,5 +35,26 @@ pub extern "C" fn waldumre_evaluate(
         rows: r.rows as u64,
         columns: r.columns as u64,
         length: 0,
+    }
+}
+
+// The guarded call.
+#[no_mangle]
+pub extern "C" fn waldumre_ask(
+    catalogue: &[u8],
+    values: &[i32],
+    permits: &[u8],
+    query: &[u8],
+    rewritten: &mut [u8],
+    answer: &mut [i64],
+) -> Outcome
+    ensures { λ r. ⌜ outcomeOf r (now (answer .exit)) (now (rewritten .exit)) ≡ ask (now (catalogue .entry)) (now (values .entry)) (now (permits .entry)) (now (query .entry)) (now (rewritten .entry)) (now (answer .entry)) ⌝ }
+{
+    let r = guarded::ask(catalogue, values, permits, query, rewritten, answer);
+    Outcome {
+        number: wide(r.number),
+        rows: r.rows as u64,
+        columns: r.columns as u64,
+        length: r.length as u64,
     }
 }

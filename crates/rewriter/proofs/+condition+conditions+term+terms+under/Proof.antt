@@ -33,6 +33,7 @@ use Rattle.kinds.proofs.read.Reads as read-reads
 use Rattle.kinds.proofs.tail.Reads as tail-reads
 use Rattle.kinds.proofs.tail_sizes.Reads as tail-sizes-reads
 use Rattle.rewriter.proofs.first_child.Reads as first-child-reads
+use Rattle.rewriter.proofs.leaf.Reads as leaf-reads
 use Rattle.rewriter.proofs.mask.Reads as mask-reads
 use Rattle.rewriter.proofs.second_child.Reads as second-child-reads
 use Rattle.rewriter.proofs.+condition+conditions+term+terms+under.{statement}
@@ -87,13 +88,13 @@ abbrev under-below : ℕ → In 6 under-kinds.ps
 under-below t = and 6 under-kinds.ps (falls 6 under-kinds.ps _<_ μ-under t) under.Pre
 
 abbrev condition-claims : ℕ → condition-lts.Claims
-condition-claims t = (put-reads.Asked, put-reads.Learnt, read-reads.Asked, read-reads.Learnt, first-child-reads.Asked, first-child-reads.Learnt, tail-reads.Asked, tail-reads.Learnt, tail-sizes-reads.Asked, tail-sizes-reads.Learnt, condition-below t, condition.Post, conditions-below t, conditions.Post, put-record-reads.Asked, put-record-reads.Learnt, terms-below t, terms.Post, under-below t, under.Post)
+condition-claims t = (leaf-reads.Asked, leaf-reads.Learnt, read-reads.Asked, read-reads.Learnt, put-reads.Asked, put-reads.Learnt, first-child-reads.Asked, first-child-reads.Learnt, tail-reads.Asked, tail-reads.Learnt, tail-sizes-reads.Asked, tail-sizes-reads.Learnt, condition-below t, condition.Post, conditions-below t, conditions.Post, put-record-reads.Asked, put-record-reads.Learnt, terms-below t, terms.Post, under-below t, under.Post)
 
 abbrev conditions-claims : ℕ → conditions-lts.Claims
 conditions-claims t = (first-child-reads.Asked, first-child-reads.Learnt, second-child-reads.Asked, second-child-reads.Learnt, tail-reads.Asked, tail-reads.Learnt, tail-sizes-reads.Asked, tail-sizes-reads.Learnt, condition-below t, condition.Post)
 
 abbrev term-claims : ℕ → term-lts.Claims
-term-claims t = (put-record-reads.Asked, put-record-reads.Learnt, read-reads.Asked, read-reads.Learnt, under-below t, under.Post)
+term-claims t = (leaf-reads.Asked, leaf-reads.Learnt, read-reads.Asked, read-reads.Learnt, put-record-reads.Asked, put-record-reads.Learnt, under-below t, under.Post)
 
 abbrev terms-claims : ℕ → terms-lts.Claims
 terms-claims t = (first-child-reads.Asked, first-child-reads.Learnt, second-child-reads.Asked, second-child-reads.Learnt, tail-reads.Asked, tail-reads.Learnt, tail-sizes-reads.Asked, tail-sizes-reads.Learnt, term-below t, term.Post)
@@ -101,14 +102,14 @@ terms-claims t = (first-child-reads.Asked, first-child-reads.Learnt, second-chil
 abbrev under-claims : ℕ → under-lts.Claims
 under-claims t = (mask-reads.Asked, mask-reads.Learnt, first-child-reads.Asked, first-child-reads.Learnt, open-guard-reads.Asked, open-guard-reads.Learnt, tail-reads.Asked, tail-reads.Learnt, tail-sizes-reads.Asked, tail-sizes-reads.Learnt, condition-below t, condition.Post, write-guard-reads.Asked, write-guard-reads.Learnt)
 
-condition-put-requires : (t : ℕ) → condition-lts.Need-put-requires (condition-claims t) (condition-at t) condition.Post
-condition-put-requires t c κs = leaf-room _ _ _ (zero-leaf (now (c .before .before .before .before .before .before .before .before .args .masks)) (part (now (c .before .before .before .before .before .before .before .before .args .permits)) (now (c .before .before .before .before .before .before .before .before .args .places))) (c .before .before .before .before .before .before .before .before .args .level) (now (c .before .before .before .before .before .before .before .before .args .q)) (now (c .before .before .before .before .before .before .before .before .args .z)) (c .before .if1 .taken)) (c .before .before .before .before .before .before .before .before .args .at) (c .before .before .before .before .before .before .before .before .args .next) (c .before .before .before .before .before .before .before .before .pre .1)
+condition-leaf-requires : (t : ℕ) → condition-lts.Need-leaf-requires (condition-claims t) (condition-at t) condition.Post
+condition-leaf-requires t c κs = leaf-room _ _ _ (zero-leaf (now (c .before .before .before .before .before .before .before .before .args .masks)) (part (now (c .before .before .before .before .before .before .before .before .args .permits)) (now (c .before .before .before .before .before .before .before .before .args .places))) (c .before .before .before .before .before .before .before .before .args .level) (now (c .before .before .before .before .before .before .before .before .args .q)) (now (c .before .before .before .before .before .before .before .before .args .z)) (c .before .if1 .taken)) (c .before .before .before .before .before .before .before .before .args .at) (c .before .before .before .before .before .before .before .before .args .next) (c .before .before .before .before .before .before .before .before .pre .1)
 
 condition-same-length : (t : ℕ) → condition-lts.Need-same-length (condition-claims t) (condition-at t) condition.Post
 condition-same-length t c = search needs
 
 condition-returns : (t : ℕ) → condition-lts.Need-returns (condition-claims t) (condition-at t) condition.Post
-condition-returns t c = leaf-did _ _ _ (zero-leaf (now (c .before .before .before .before .before .before .before .before .before .before .before .args .masks)) (part (now (c .before .before .before .before .before .before .before .before .before .before .before .args .permits)) (now (c .before .before .before .before .before .before .before .before .before .before .before .args .places))) (c .before .before .before .before .before .before .before .before .before .before .before .args .level) (now (c .before .before .before .before .before .before .before .before .before .before .before .args .q)) (now (c .before .before .before .before .before .before .before .before .before .before .before .args .z)) (c .before .before .before .before .if1 .taken)) (c .before .before .before .before .before .before .before .before .before .before .before .args .at) (c .before .before .before .before .before .before .before .before .before .before .before .args .next) (now (c .before .before .before .before .before .before .before .before .before .before .before .args .out)) _ _ (c .before .before .put .ensures)
+condition-returns t c = leaf-did _ _ _ (zero-leaf (now (c .before .before .before .before .before .before .before .before .before .before .before .args .masks)) (part (now (c .before .before .before .before .before .before .before .before .before .before .before .args .permits)) (now (c .before .before .before .before .before .before .before .before .before .before .before .args .places))) (c .before .before .before .before .before .before .before .before .before .before .before .args .level) (now (c .before .before .before .before .before .before .before .before .before .before .before .args .q)) (now (c .before .before .before .before .before .before .before .before .before .before .before .args .z)) (c .before .before .before .before .if1 .taken)) (c .before .before .before .before .before .before .before .before .before .before .before .args .at) (c .before .before .before .before .before .before .before .before .before .before .before .args .next) (now (c .before .before .before .before .before .before .before .before .before .before .before .args .out)) _ _ _ (c .before .before .leaf .ensures)
 
 condition-read-requires : (t : ℕ) → condition-lts.Need-read-requires (condition-claims t) (condition-at t) condition.Post
 condition-read-requires t c κs = search needs
@@ -116,14 +117,14 @@ condition-read-requires t c κs = search needs
 condition-enum-told : (t : ℕ) → condition-lts.Need-enum-told (condition-claims t) (condition-at t) condition.Post
 condition-enum-told t c = search needs
 
-condition-put-requires-2 : (t : ℕ) → condition-lts.Need-put-requires-2 (condition-claims t) (condition-at t) condition.Post
-condition-put-requires-2 t c κs = leaf-room _ _ _ (true-leaf (now (c .before .before .before .before .before .before .before .before .before .before .before .args .masks)) (part (now (c .before .before .before .before .before .before .before .before .before .before .before .args .permits)) (now (c .before .before .before .before .before .before .before .before .before .before .before .args .places))) (c .before .before .before .before .before .before .before .before .before .before .before .args .level) (now (c .before .before .before .before .before .before .before .before .before .before .before .args .q)) (now (c .before .before .before .before .before .before .before .before .before .before .before .args .z)) (c .before .before .before .before .if1 .left) (sym (c .before .before .before .read .ensures) ∙ c .before .enum-told .given .1)) (c .before .before .before .before .before .before .before .before .before .before .before .args .at) (c .before .before .before .before .before .before .before .before .before .before .before .args .next) (c .before .before .before .before .before .before .before .before .before .before .before .pre .1)
+condition-leaf-requires-2 : (t : ℕ) → condition-lts.Need-leaf-requires-2 (condition-claims t) (condition-at t) condition.Post
+condition-leaf-requires-2 t c κs = leaf-room _ _ _ (true-leaf (now (c .before .before .before .before .before .before .before .before .before .before .before .args .masks)) (part (now (c .before .before .before .before .before .before .before .before .before .before .before .args .permits)) (now (c .before .before .before .before .before .before .before .before .before .before .before .args .places))) (c .before .before .before .before .before .before .before .before .before .before .before .args .level) (now (c .before .before .before .before .before .before .before .before .before .before .before .args .q)) (now (c .before .before .before .before .before .before .before .before .before .before .before .args .z)) (c .before .before .before .before .if1 .left) (sym (c .before .before .before .read .ensures) ∙ c .before .enum-told .given .1)) (c .before .before .before .before .before .before .before .before .before .before .before .args .at) (c .before .before .before .before .before .before .before .before .before .before .before .args .next) (c .before .before .before .before .before .before .before .before .before .before .before .pre .1)
 
 condition-enum-told-2 : (t : ℕ) → condition-lts.Need-enum-told-2 (condition-claims t) (condition-at t) condition.Post
 condition-enum-told-2 t c = search needs
 
-condition-put-requires-3 : (t : ℕ) → condition-lts.Need-put-requires-3 (condition-claims t) (condition-at t) condition.Post
-condition-put-requires-3 t c κs = head-room _ _ _ _ _ (not-shape (now (c .before .before .before .before .before .before .before .before .before .before .before .args .masks)) (part (now (c .before .before .before .before .before .before .before .before .before .before .before .args .permits)) (now (c .before .before .before .before .before .before .before .before .before .before .before .args .places))) (c .before .before .before .before .before .before .before .before .before .before .before .args .level) (now (c .before .before .before .before .before .before .before .before .before .before .before .args .q)) (now (c .before .before .before .before .before .before .before .before .before .before .before .args .z)) (c .before .before .before .before .if1 .left) (sym (c .before .before .before .read .ensures) ∙ c .before .enum-told2 .given .1)) (c .before .before .before .before .before .before .before .before .before .before .before .args .at) (c .before .before .before .before .before .before .before .before .before .before .before .args .next) (c .before .before .before .before .before .before .before .before .before .before .before .pre .1)
+condition-put-requires : (t : ℕ) → condition-lts.Need-put-requires (condition-claims t) (condition-at t) condition.Post
+condition-put-requires t c κs = head-room _ _ _ _ _ (not-shape (now (c .before .before .before .before .before .before .before .before .before .before .before .args .masks)) (part (now (c .before .before .before .before .before .before .before .before .before .before .before .args .permits)) (now (c .before .before .before .before .before .before .before .before .before .before .before .args .places))) (c .before .before .before .before .before .before .before .before .before .before .before .args .level) (now (c .before .before .before .before .before .before .before .before .before .before .before .args .q)) (now (c .before .before .before .before .before .before .before .before .before .before .before .args .z)) (c .before .before .before .before .if1 .left) (sym (c .before .before .before .read .ensures) ∙ c .before .enum-told2 .given .1)) (c .before .before .before .before .before .before .before .before .before .before .before .args .at) (c .before .before .before .before .before .before .before .before .before .before .before .args .next) (c .before .before .before .before .before .before .before .before .before .before .before .pre .1)
 
 condition-first-child-requires : (t : ℕ) → condition-lts.Need-first-child-requires (condition-claims t) (condition-at t) condition.Post
 condition-first-child-requires t c κs = search needs
@@ -138,31 +139,31 @@ condition-sub-condition : (t : ℕ) → condition-lts.Need-sub-condition (condit
 condition-sub-condition t c = search needs
 
 condition-condition-requires : (t : ℕ) → condition-lts.Need-condition-requires (condition-claims t) (condition-at t) condition.Post
-condition-condition-requires t c κs = (omega (arith, c .before .before .before .before .before .before .before .before .before .before .before .before .before .before .before .before .before .before .pre .0, c .before .before .before .before .before .before .before .before .before .before .before .if1 .left), child-room (λ x y i. conditionBytes (now (c .before .before .before .before .before .before .before .before .before .before .before .before .before .before .before .before .before .before .args .masks)) (part (now (c .before .before .before .before .before .before .before .before .before .before .before .before .before .before .before .before .before .before .args .permits)) (now (c .before .before .before .before .before .before .before .before .before .before .before .before .before .before .before .before .before .before .args .places))) ((c .before .before .before .before .before .before .before .before .before .before .before .before .before .before .before .before .before .before .args .level) - 1) x y i) (λ x y. conditionNew (now (c .before .before .before .before .before .before .before .before .before .before .before .before .before .before .before .before .before .before .args .masks)) (part (now (c .before .before .before .before .before .before .before .before .before .before .before .before .before .before .before .before .before .before .args .permits)) (now (c .before .before .before .before .before .before .before .before .before .before .before .before .before .before .before .before .before .before .args .places))) ((c .before .before .before .before .before .before .before .before .before .before .before .before .before .before .before .before .before .before .args .level) - 1) x y) (now (c .before .before .before .before .before .before .before .before .before .before .before .before .before .before .before .before .before .before .args .q)) (now (c .before .before .before .before .before .before .before .before .before .before .before .before .before .before .before .before .before .before .args .z)) 0 (c .before .before .before .before .before .before .before .before .before .before .before .before .before .before .before .before .before .before .args .next) _ (c .before .before .before .first-child .ensures .0) _ _ (c .before .before .tail .ensures) (c .before .tail-sizes .ensures) _ (body-room _ _ _ _ _ (not-shape (now (c .before .before .before .before .before .before .before .before .before .before .before .before .before .before .before .before .before .before .args .masks)) (part (now (c .before .before .before .before .before .before .before .before .before .before .before .before .before .before .before .before .before .before .args .permits)) (now (c .before .before .before .before .before .before .before .before .before .before .before .before .before .before .before .before .before .before .args .places))) (c .before .before .before .before .before .before .before .before .before .before .before .before .before .before .before .before .before .before .args .level) (now (c .before .before .before .before .before .before .before .before .before .before .before .before .before .before .before .before .before .before .args .q)) (now (c .before .before .before .before .before .before .before .before .before .before .before .before .before .before .before .before .before .before .args .z)) (c .before .before .before .before .before .before .before .before .before .before .before .if1 .left) (sym (c .before .before .before .before .before .before .before .before .before .before .read .ensures) ∙ c .before .before .before .before .before .before .before .before .enum-told2 .given .1)) (c .before .before .before .before .before .before .before .before .before .before .before .before .before .before .before .before .before .before .args .at) (c .before .before .before .before .before .before .before .before .before .before .before .before .before .before .before .before .before .before .args .next) (now (c .before .before .before .before .before .before .before .before .before .before .before .before .before .before .before .before .before .before .args .out)) _ _ (c .before .before .before .before .before .before .put3 .ensures) (c .before .before .before .before .before .before .before .before .before .before .before .before .before .before .before .before .before .before .pre .1)))
+condition-condition-requires t c κs = (omega (arith, c .before .before .before .before .before .before .before .before .before .before .before .before .before .before .before .before .before .before .pre .0, c .before .before .before .before .before .before .before .before .before .before .before .if1 .left), child-room (λ x y i. conditionBytes (now (c .before .before .before .before .before .before .before .before .before .before .before .before .before .before .before .before .before .before .args .masks)) (part (now (c .before .before .before .before .before .before .before .before .before .before .before .before .before .before .before .before .before .before .args .permits)) (now (c .before .before .before .before .before .before .before .before .before .before .before .before .before .before .before .before .before .before .args .places))) ((c .before .before .before .before .before .before .before .before .before .before .before .before .before .before .before .before .before .before .args .level) - 1) x y i) (λ x y. conditionNew (now (c .before .before .before .before .before .before .before .before .before .before .before .before .before .before .before .before .before .before .args .masks)) (part (now (c .before .before .before .before .before .before .before .before .before .before .before .before .before .before .before .before .before .before .args .permits)) (now (c .before .before .before .before .before .before .before .before .before .before .before .before .before .before .before .before .before .before .args .places))) ((c .before .before .before .before .before .before .before .before .before .before .before .before .before .before .before .before .before .before .args .level) - 1) x y) (now (c .before .before .before .before .before .before .before .before .before .before .before .before .before .before .before .before .before .before .args .q)) (now (c .before .before .before .before .before .before .before .before .before .before .before .before .before .before .before .before .before .before .args .z)) 0 (c .before .before .before .before .before .before .before .before .before .before .before .before .before .before .before .before .before .before .args .next) _ (c .before .before .before .first-child .ensures .0) _ _ (c .before .before .tail .ensures) (c .before .tail-sizes .ensures) _ (body-room _ _ _ _ _ (not-shape (now (c .before .before .before .before .before .before .before .before .before .before .before .before .before .before .before .before .before .before .args .masks)) (part (now (c .before .before .before .before .before .before .before .before .before .before .before .before .before .before .before .before .before .before .args .permits)) (now (c .before .before .before .before .before .before .before .before .before .before .before .before .before .before .before .before .before .before .args .places))) (c .before .before .before .before .before .before .before .before .before .before .before .before .before .before .before .before .before .before .args .level) (now (c .before .before .before .before .before .before .before .before .before .before .before .before .before .before .before .before .before .before .args .q)) (now (c .before .before .before .before .before .before .before .before .before .before .before .before .before .before .before .before .before .before .args .z)) (c .before .before .before .before .before .before .before .before .before .before .before .if1 .left) (sym (c .before .before .before .before .before .before .before .before .before .before .read .ensures) ∙ c .before .before .before .before .before .before .before .before .enum-told2 .given .1)) (c .before .before .before .before .before .before .before .before .before .before .before .before .before .before .before .before .before .before .args .at) (c .before .before .before .before .before .before .before .before .before .before .before .before .before .before .before .before .before .before .args .next) (now (c .before .before .before .before .before .before .before .before .before .before .before .before .before .before .before .before .before .before .args .out)) _ _ (c .before .before .before .before .before .before .put .ensures) (c .before .before .before .before .before .before .before .before .before .before .before .before .before .before .before .before .before .before .pre .1)))
 
 condition-enum-told-3 : (t : ℕ) → condition-lts.Need-enum-told-3 (condition-claims t) (condition-at t) condition.Post
 condition-enum-told-3 t c = search needs
 
-condition-put-requires-4 : (t : ℕ) → condition-lts.Need-put-requires-4 (condition-claims t) (condition-at t) condition.Post
-condition-put-requires-4 t c κs = head-room _ _ _ _ _ (and-shape (now (c .before .before .before .before .before .before .before .before .before .before .before .args .masks)) (part (now (c .before .before .before .before .before .before .before .before .before .before .before .args .permits)) (now (c .before .before .before .before .before .before .before .before .before .before .before .args .places))) (c .before .before .before .before .before .before .before .before .before .before .before .args .level) (now (c .before .before .before .before .before .before .before .before .before .before .before .args .q)) (now (c .before .before .before .before .before .before .before .before .before .before .before .args .z)) (c .before .before .before .before .if1 .left) (sym (c .before .before .before .read .ensures) ∙ c .before .enum-told3 .given .1)) (c .before .before .before .before .before .before .before .before .before .before .before .args .at) (c .before .before .before .before .before .before .before .before .before .before .before .args .next) (c .before .before .before .before .before .before .before .before .before .before .before .pre .1)
+condition-put-requires-2 : (t : ℕ) → condition-lts.Need-put-requires-2 (condition-claims t) (condition-at t) condition.Post
+condition-put-requires-2 t c κs = head-room _ _ _ _ _ (and-shape (now (c .before .before .before .before .before .before .before .before .before .before .before .args .masks)) (part (now (c .before .before .before .before .before .before .before .before .before .before .before .args .permits)) (now (c .before .before .before .before .before .before .before .before .before .before .before .args .places))) (c .before .before .before .before .before .before .before .before .before .before .before .args .level) (now (c .before .before .before .before .before .before .before .before .before .before .before .args .q)) (now (c .before .before .before .before .before .before .before .before .before .before .before .args .z)) (c .before .before .before .before .if1 .left) (sym (c .before .before .before .read .ensures) ∙ c .before .enum-told3 .given .1)) (c .before .before .before .before .before .before .before .before .before .before .before .args .at) (c .before .before .before .before .before .before .before .before .before .before .before .args .next) (c .before .before .before .before .before .before .before .before .before .before .before .pre .1)
 
 condition-sub-conditions : (t : ℕ) → condition-lts.Need-sub-conditions (condition-claims t) (condition-at t) condition.Post
 condition-sub-conditions t c = search needs
 
 condition-conditions-requires : (t : ℕ) → condition-lts.Need-conditions-requires (condition-claims t) (condition-at t) condition.Post
-condition-conditions-requires t c κs = (omega (arith, c .before .before .before .before .before .before .before .before .before .before .before .before .before .before .before .pre .0, c .before .before .before .before .before .before .before .before .if1 .left), body-room _ _ _ _ _ (and-shape (now (c .before .before .before .before .before .before .before .before .before .before .before .before .before .before .before .args .masks)) (part (now (c .before .before .before .before .before .before .before .before .before .before .before .before .before .before .before .args .permits)) (now (c .before .before .before .before .before .before .before .before .before .before .before .before .before .before .before .args .places))) (c .before .before .before .before .before .before .before .before .before .before .before .before .before .before .before .args .level) (now (c .before .before .before .before .before .before .before .before .before .before .before .before .before .before .before .args .q)) (now (c .before .before .before .before .before .before .before .before .before .before .before .before .before .before .before .args .z)) (c .before .before .before .before .before .before .before .before .if1 .left) (sym (c .before .before .before .before .before .before .before .read .ensures) ∙ c .before .before .before .before .before .enum-told3 .given .1)) (c .before .before .before .before .before .before .before .before .before .before .before .before .before .before .before .args .at) (c .before .before .before .before .before .before .before .before .before .before .before .before .before .before .before .args .next) (now (c .before .before .before .before .before .before .before .before .before .before .before .before .before .before .before .args .out)) _ _ (c .before .before .before .put4 .ensures) (c .before .before .before .before .before .before .before .before .before .before .before .before .before .before .before .pre .1))
+condition-conditions-requires t c κs = (omega (arith, c .before .before .before .before .before .before .before .before .before .before .before .before .before .before .before .pre .0, c .before .before .before .before .before .before .before .before .if1 .left), body-room _ _ _ _ _ (and-shape (now (c .before .before .before .before .before .before .before .before .before .before .before .before .before .before .before .args .masks)) (part (now (c .before .before .before .before .before .before .before .before .before .before .before .before .before .before .before .args .permits)) (now (c .before .before .before .before .before .before .before .before .before .before .before .before .before .before .before .args .places))) (c .before .before .before .before .before .before .before .before .before .before .before .before .before .before .before .args .level) (now (c .before .before .before .before .before .before .before .before .before .before .before .before .before .before .before .args .q)) (now (c .before .before .before .before .before .before .before .before .before .before .before .before .before .before .before .args .z)) (c .before .before .before .before .before .before .before .before .if1 .left) (sym (c .before .before .before .before .before .before .before .read .ensures) ∙ c .before .before .before .before .before .enum-told3 .given .1)) (c .before .before .before .before .before .before .before .before .before .before .before .before .before .before .before .args .at) (c .before .before .before .before .before .before .before .before .before .before .before .before .before .before .before .args .next) (now (c .before .before .before .before .before .before .before .before .before .before .before .before .before .before .before .args .out)) _ _ (c .before .before .before .put2 .ensures) (c .before .before .before .before .before .before .before .before .before .before .before .before .before .before .before .pre .1))
 
 condition-enum-told-4 : (t : ℕ) → condition-lts.Need-enum-told-4 (condition-claims t) (condition-at t) condition.Post
 condition-enum-told-4 t c = search needs
 
-condition-put-requires-5 : (t : ℕ) → condition-lts.Need-put-requires-5 (condition-claims t) (condition-at t) condition.Post
-condition-put-requires-5 t c κs = head-room _ _ _ _ _ (or-shape (now (c .before .before .before .before .before .before .before .before .before .before .before .args .masks)) (part (now (c .before .before .before .before .before .before .before .before .before .before .before .args .permits)) (now (c .before .before .before .before .before .before .before .before .before .before .before .args .places))) (c .before .before .before .before .before .before .before .before .before .before .before .args .level) (now (c .before .before .before .before .before .before .before .before .before .before .before .args .q)) (now (c .before .before .before .before .before .before .before .before .before .before .before .args .z)) (c .before .before .before .before .if1 .left) (sym (c .before .before .before .read .ensures) ∙ c .before .enum-told4 .given .1)) (c .before .before .before .before .before .before .before .before .before .before .before .args .at) (c .before .before .before .before .before .before .before .before .before .before .before .args .next) (c .before .before .before .before .before .before .before .before .before .before .before .pre .1)
+condition-put-requires-3 : (t : ℕ) → condition-lts.Need-put-requires-3 (condition-claims t) (condition-at t) condition.Post
+condition-put-requires-3 t c κs = head-room _ _ _ _ _ (or-shape (now (c .before .before .before .before .before .before .before .before .before .before .before .args .masks)) (part (now (c .before .before .before .before .before .before .before .before .before .before .before .args .permits)) (now (c .before .before .before .before .before .before .before .before .before .before .before .args .places))) (c .before .before .before .before .before .before .before .before .before .before .before .args .level) (now (c .before .before .before .before .before .before .before .before .before .before .before .args .q)) (now (c .before .before .before .before .before .before .before .before .before .before .before .args .z)) (c .before .before .before .before .if1 .left) (sym (c .before .before .before .read .ensures) ∙ c .before .enum-told4 .given .1)) (c .before .before .before .before .before .before .before .before .before .before .before .args .at) (c .before .before .before .before .before .before .before .before .before .before .before .args .next) (c .before .before .before .before .before .before .before .before .before .before .before .pre .1)
 
 condition-sub-conditions-2 : (t : ℕ) → condition-lts.Need-sub-conditions-2 (condition-claims t) (condition-at t) condition.Post
 condition-sub-conditions-2 t c = search needs
 
 condition-conditions-requires-2 : (t : ℕ) → condition-lts.Need-conditions-requires-2 (condition-claims t) (condition-at t) condition.Post
-condition-conditions-requires-2 t c κs = (omega (arith, c .before .before .before .before .before .before .before .before .before .before .before .before .before .before .before .pre .0, c .before .before .before .before .before .before .before .before .if1 .left), body-room _ _ _ _ _ (or-shape (now (c .before .before .before .before .before .before .before .before .before .before .before .before .before .before .before .args .masks)) (part (now (c .before .before .before .before .before .before .before .before .before .before .before .before .before .before .before .args .permits)) (now (c .before .before .before .before .before .before .before .before .before .before .before .before .before .before .before .args .places))) (c .before .before .before .before .before .before .before .before .before .before .before .before .before .before .before .args .level) (now (c .before .before .before .before .before .before .before .before .before .before .before .before .before .before .before .args .q)) (now (c .before .before .before .before .before .before .before .before .before .before .before .before .before .before .before .args .z)) (c .before .before .before .before .before .before .before .before .if1 .left) (sym (c .before .before .before .before .before .before .before .read .ensures) ∙ c .before .before .before .before .before .enum-told4 .given .1)) (c .before .before .before .before .before .before .before .before .before .before .before .before .before .before .before .args .at) (c .before .before .before .before .before .before .before .before .before .before .before .before .before .before .before .args .next) (now (c .before .before .before .before .before .before .before .before .before .before .before .before .before .before .before .args .out)) _ _ (c .before .before .before .put5 .ensures) (c .before .before .before .before .before .before .before .before .before .before .before .before .before .before .before .pre .1))
+condition-conditions-requires-2 t c κs = (omega (arith, c .before .before .before .before .before .before .before .before .before .before .before .before .before .before .before .pre .0, c .before .before .before .before .before .before .before .before .if1 .left), body-room _ _ _ _ _ (or-shape (now (c .before .before .before .before .before .before .before .before .before .before .before .before .before .before .before .args .masks)) (part (now (c .before .before .before .before .before .before .before .before .before .before .before .before .before .before .before .args .permits)) (now (c .before .before .before .before .before .before .before .before .before .before .before .before .before .before .before .args .places))) (c .before .before .before .before .before .before .before .before .before .before .before .before .before .before .before .args .level) (now (c .before .before .before .before .before .before .before .before .before .before .before .before .before .before .before .args .q)) (now (c .before .before .before .before .before .before .before .before .before .before .before .before .before .before .before .args .z)) (c .before .before .before .before .before .before .before .before .if1 .left) (sym (c .before .before .before .before .before .before .before .read .ensures) ∙ c .before .before .before .before .before .enum-told4 .given .1)) (c .before .before .before .before .before .before .before .before .before .before .before .before .before .before .before .args .at) (c .before .before .before .before .before .before .before .before .before .before .before .before .before .before .before .args .next) (now (c .before .before .before .before .before .before .before .before .before .before .before .before .before .before .before .args .out)) _ _ (c .before .before .before .put3 .ensures) (c .before .before .before .before .before .before .before .before .before .before .before .before .before .before .before .pre .1))
 
 condition-enum-known-o : (t : ℕ) → condition-lts.Need-enum-known-o (condition-claims t) (condition-at t) condition.Post
 condition-enum-known-o t c = search needs
@@ -188,32 +189,32 @@ condition-sub-under t c = search needs
 condition-under-requires : (t : ℕ) → condition-lts.Need-under-requires (condition-claims t) (condition-at t) condition.Post
 condition-under-requires t c κs = (omega (arith, c .before .before .before .before .before .before .before .before .before .before .before .before .before .before .before .before .pre .0, c .before .before .before .before .before .before .before .before .before .if1 .left), body-room _ _ _ _ _ (some-shape (now (c .before .before .before .before .before .before .before .before .before .before .before .before .before .before .before .before .args .masks)) (part (now (c .before .before .before .before .before .before .before .before .before .before .before .before .before .before .before .before .args .permits)) (now (c .before .before .before .before .before .before .before .before .before .before .before .before .before .before .before .before .args .places))) (c .before .before .before .before .before .before .before .before .before .before .before .before .before .before .before .before .args .level) (now (c .before .before .before .before .before .before .before .before .before .before .before .before .before .before .before .before .args .q)) (now (c .before .before .before .before .before .before .before .before .before .before .before .before .before .before .before .before .args .z)) (c .before .before .before .before .before .before .before .before .before .if1 .left) _ _ (sym (c .before .before .before .before .before .before .before .before .read .ensures) ∙ c .before .before .before .before .before .before .v .given .1)) (c .before .before .before .before .before .before .before .before .before .before .before .before .before .before .before .before .args .at) (c .before .before .before .before .before .before .before .before .before .before .before .before .before .before .before .before .args .next) (now (c .before .before .before .before .before .before .before .before .before .before .before .before .before .before .before .before .args .out)) _ _ (c .before .before .before .put-record2 .ensures) (c .before .before .before .before .before .before .before .before .before .before .before .before .before .before .before .before .pre .1))
 
-condition-put-requires-6 : (t : ℕ) → condition-lts.Need-put-requires-6 (condition-claims t) (condition-at t) condition.Post
-condition-put-requires-6 t c κs = leaf-room _ _ _ (rest-leaf (now (c .before .before .before .before .before .before .before .before .before .before .args .masks)) (part (now (c .before .before .before .before .before .before .before .before .before .before .args .permits)) (now (c .before .before .before .before .before .before .before .before .before .before .args .places))) (c .before .before .before .before .before .before .before .before .before .before .args .level) (now (c .before .before .before .before .before .before .before .before .before .before .args .q)) (now (c .before .before .before .before .before .before .before .before .before .before .args .z)) (c .before .before .before .if1 .left) (c .before .before .read .result) (c .before .before .read .ensures) (c .before .match .keys7)) (c .before .before .before .before .before .before .before .before .before .before .args .at) (c .before .before .before .before .before .before .before .before .before .before .args .next) (c .before .before .before .before .before .before .before .before .before .before .pre .1)
+condition-leaf-requires-3 : (t : ℕ) → condition-lts.Need-leaf-requires-3 (condition-claims t) (condition-at t) condition.Post
+condition-leaf-requires-3 t c κs = leaf-room _ _ _ (rest-leaf (now (c .before .before .before .before .before .before .before .before .before .before .args .masks)) (part (now (c .before .before .before .before .before .before .before .before .before .before .args .permits)) (now (c .before .before .before .before .before .before .before .before .before .before .args .places))) (c .before .before .before .before .before .before .before .before .before .before .args .level) (now (c .before .before .before .before .before .before .before .before .before .before .args .q)) (now (c .before .before .before .before .before .before .before .before .before .before .args .z)) (c .before .before .before .if1 .left) (c .before .before .read .result) (c .before .before .read .ensures) (c .before .match .keys7)) (c .before .before .before .before .before .before .before .before .before .before .args .at) (c .before .before .before .before .before .before .before .before .before .before .args .next) (c .before .before .before .before .before .before .before .before .before .before .pre .1)
 
 condition-same-length-2 : (t : ℕ) → condition-lts.Need-same-length-2 (condition-claims t) (condition-at t) condition.Post
 condition-same-length-2 t c = search needs
 
 condition-returns-2 : (t : ℕ) → condition-lts.Need-returns-2 (condition-claims t) (condition-at t) condition.Post
-condition-returns-2 t c = leaf-did _ _ _ (true-leaf (now (c .before .before .before .before .before .before .before .before .before .before .before .before .before .before .args .masks)) (part (now (c .before .before .before .before .before .before .before .before .before .before .before .before .before .before .args .permits)) (now (c .before .before .before .before .before .before .before .before .before .before .before .before .before .before .args .places))) (c .before .before .before .before .before .before .before .before .before .before .before .before .before .before .args .level) (now (c .before .before .before .before .before .before .before .before .before .before .before .before .before .before .args .q)) (now (c .before .before .before .before .before .before .before .before .before .before .before .before .before .before .args .z)) (c .before .before .before .before .before .before .before .if1 .left) (sym (c .before .before .before .before .before .before .read .ensures) ∙ c .before .before .before .before .enum-told .given .1)) (c .before .before .before .before .before .before .before .before .before .before .before .before .before .before .args .at) (c .before .before .before .before .before .before .before .before .before .before .before .before .before .before .args .next) (now (c .before .before .before .before .before .before .before .before .before .before .before .before .before .before .args .out)) _ _ (c .before .before .put2 .ensures)
+condition-returns-2 t c = leaf-did _ _ _ (true-leaf (now (c .before .before .before .before .before .before .before .before .before .before .before .before .before .before .args .masks)) (part (now (c .before .before .before .before .before .before .before .before .before .before .before .before .before .before .args .permits)) (now (c .before .before .before .before .before .before .before .before .before .before .before .before .before .before .args .places))) (c .before .before .before .before .before .before .before .before .before .before .before .before .before .before .args .level) (now (c .before .before .before .before .before .before .before .before .before .before .before .before .before .before .args .q)) (now (c .before .before .before .before .before .before .before .before .before .before .before .before .before .before .args .z)) (c .before .before .before .before .before .before .before .if1 .left) (sym (c .before .before .before .before .before .before .read .ensures) ∙ c .before .before .before .before .enum-told .given .1)) (c .before .before .before .before .before .before .before .before .before .before .before .before .before .before .args .at) (c .before .before .before .before .before .before .before .before .before .before .before .before .before .before .args .next) (now (c .before .before .before .before .before .before .before .before .before .before .before .before .before .before .args .out)) _ _ _ (c .before .before .leaf2 .ensures)
 
 condition-same-length-3 : (t : ℕ) → condition-lts.Need-same-length-3 (condition-claims t) (condition-at t) condition.Post
 condition-same-length-3 t c = search needs
 
 condition-returns-3 : (t : ℕ) → condition-lts.Need-returns-3 (condition-claims t) (condition-at t) condition.Post
-condition-returns-3 t c = body-did _ _ _ _ _ (not-shape (now (c .before .before .before .before .before .before .before .before .before .before .before .before .before .before .before .before .before .before .before .before .before .args .masks)) (part (now (c .before .before .before .before .before .before .before .before .before .before .before .before .before .before .before .before .before .before .before .before .before .args .permits)) (now (c .before .before .before .before .before .before .before .before .before .before .before .before .before .before .before .before .before .before .before .before .before .args .places))) (c .before .before .before .before .before .before .before .before .before .before .before .before .before .before .before .before .before .before .before .before .before .args .level) (now (c .before .before .before .before .before .before .before .before .before .before .before .before .before .before .before .before .before .before .before .before .before .args .q)) (now (c .before .before .before .before .before .before .before .before .before .before .before .before .before .before .before .before .before .before .before .before .before .args .z)) (c .before .before .before .before .before .before .before .before .before .before .before .before .before .before .if1 .left) (sym (c .before .before .before .before .before .before .before .before .before .before .before .before .before .read .ensures) ∙ c .before .before .before .before .before .before .before .before .before .before .before .enum-told2 .given .1)) (c .before .before .before .before .before .before .before .before .before .before .before .before .before .before .before .before .before .before .before .before .before .args .at) (c .before .before .before .before .before .before .before .before .before .before .before .before .before .before .before .before .before .before .before .before .before .args .next) (now (c .before .before .before .before .before .before .before .before .before .before .before .before .before .before .before .before .before .before .before .before .before .args .out)) _ _ (c .before .before .before .before .before .before .before .before .before .put3 .ensures) _ _ _ (child-did (λ x y i. conditionBytes (now (c .before .before .before .before .before .before .before .before .before .before .before .before .before .before .before .before .before .before .before .before .before .args .masks)) (part (now (c .before .before .before .before .before .before .before .before .before .before .before .before .before .before .before .before .before .before .before .before .before .args .permits)) (now (c .before .before .before .before .before .before .before .before .before .before .before .before .before .before .before .before .before .before .before .before .before .args .places))) ((c .before .before .before .before .before .before .before .before .before .before .before .before .before .before .before .before .before .before .before .before .before .args .level) - 1) x y i) (λ x y. conditionNew (now (c .before .before .before .before .before .before .before .before .before .before .before .before .before .before .before .before .before .before .before .before .before .args .masks)) (part (now (c .before .before .before .before .before .before .before .before .before .before .before .before .before .before .before .before .before .before .before .before .before .args .permits)) (now (c .before .before .before .before .before .before .before .before .before .before .before .before .before .before .before .before .before .before .before .before .before .args .places))) ((c .before .before .before .before .before .before .before .before .before .before .before .before .before .before .before .before .before .before .before .before .before .args .level) - 1) x y) (now (c .before .before .before .before .before .before .before .before .before .before .before .before .before .before .before .before .before .before .before .before .before .args .q)) (now (c .before .before .before .before .before .before .before .before .before .before .before .before .before .before .before .before .before .before .before .before .before .args .z)) _ (c .before .before .before .before .before .before .before .before .before .before .before .before .before .before .before .before .before .before .before .before .before .args .next) _ (c .before .before .before .before .before .before .first-child .ensures .0) _ _ (c .before .before .before .before .before .tail .ensures) (c .before .before .before .before .tail-sizes .ensures) _ _ _ _ (c .before .before .condition .ensures))
+condition-returns-3 t c = body-did _ _ _ _ _ (not-shape (now (c .before .before .before .before .before .before .before .before .before .before .before .before .before .before .before .before .before .before .before .before .before .args .masks)) (part (now (c .before .before .before .before .before .before .before .before .before .before .before .before .before .before .before .before .before .before .before .before .before .args .permits)) (now (c .before .before .before .before .before .before .before .before .before .before .before .before .before .before .before .before .before .before .before .before .before .args .places))) (c .before .before .before .before .before .before .before .before .before .before .before .before .before .before .before .before .before .before .before .before .before .args .level) (now (c .before .before .before .before .before .before .before .before .before .before .before .before .before .before .before .before .before .before .before .before .before .args .q)) (now (c .before .before .before .before .before .before .before .before .before .before .before .before .before .before .before .before .before .before .before .before .before .args .z)) (c .before .before .before .before .before .before .before .before .before .before .before .before .before .before .if1 .left) (sym (c .before .before .before .before .before .before .before .before .before .before .before .before .before .read .ensures) ∙ c .before .before .before .before .before .before .before .before .before .before .before .enum-told2 .given .1)) (c .before .before .before .before .before .before .before .before .before .before .before .before .before .before .before .before .before .before .before .before .before .args .at) (c .before .before .before .before .before .before .before .before .before .before .before .before .before .before .before .before .before .before .before .before .before .args .next) (now (c .before .before .before .before .before .before .before .before .before .before .before .before .before .before .before .before .before .before .before .before .before .args .out)) _ _ (c .before .before .before .before .before .before .before .before .before .put .ensures) _ _ _ (child-did (λ x y i. conditionBytes (now (c .before .before .before .before .before .before .before .before .before .before .before .before .before .before .before .before .before .before .before .before .before .args .masks)) (part (now (c .before .before .before .before .before .before .before .before .before .before .before .before .before .before .before .before .before .before .before .before .before .args .permits)) (now (c .before .before .before .before .before .before .before .before .before .before .before .before .before .before .before .before .before .before .before .before .before .args .places))) ((c .before .before .before .before .before .before .before .before .before .before .before .before .before .before .before .before .before .before .before .before .before .args .level) - 1) x y i) (λ x y. conditionNew (now (c .before .before .before .before .before .before .before .before .before .before .before .before .before .before .before .before .before .before .before .before .before .args .masks)) (part (now (c .before .before .before .before .before .before .before .before .before .before .before .before .before .before .before .before .before .before .before .before .before .args .permits)) (now (c .before .before .before .before .before .before .before .before .before .before .before .before .before .before .before .before .before .before .before .before .before .args .places))) ((c .before .before .before .before .before .before .before .before .before .before .before .before .before .before .before .before .before .before .before .before .before .args .level) - 1) x y) (now (c .before .before .before .before .before .before .before .before .before .before .before .before .before .before .before .before .before .before .before .before .before .args .q)) (now (c .before .before .before .before .before .before .before .before .before .before .before .before .before .before .before .before .before .before .before .before .before .args .z)) _ (c .before .before .before .before .before .before .before .before .before .before .before .before .before .before .before .before .before .before .before .before .before .args .next) _ (c .before .before .before .before .before .before .first-child .ensures .0) _ _ (c .before .before .before .before .before .tail .ensures) (c .before .before .before .before .tail-sizes .ensures) _ _ _ _ (c .before .before .condition .ensures))
 
 condition-same-length-4 : (t : ℕ) → condition-lts.Need-same-length-4 (condition-claims t) (condition-at t) condition.Post
 condition-same-length-4 t c = search needs
 
 condition-returns-4 : (t : ℕ) → condition-lts.Need-returns-4 (condition-claims t) (condition-at t) condition.Post
-condition-returns-4 t c = body-did _ _ _ _ _ (and-shape (now (c .before .before .before .before .before .before .before .before .before .before .before .before .before .before .before .before .before .before .args .masks)) (part (now (c .before .before .before .before .before .before .before .before .before .before .before .before .before .before .before .before .before .before .args .permits)) (now (c .before .before .before .before .before .before .before .before .before .before .before .before .before .before .before .before .before .before .args .places))) (c .before .before .before .before .before .before .before .before .before .before .before .before .before .before .before .before .before .before .args .level) (now (c .before .before .before .before .before .before .before .before .before .before .before .before .before .before .before .before .before .before .args .q)) (now (c .before .before .before .before .before .before .before .before .before .before .before .before .before .before .before .before .before .before .args .z)) (c .before .before .before .before .before .before .before .before .before .before .before .if1 .left) (sym (c .before .before .before .before .before .before .before .before .before .before .read .ensures) ∙ c .before .before .before .before .before .before .before .before .enum-told3 .given .1)) (c .before .before .before .before .before .before .before .before .before .before .before .before .before .before .before .before .before .before .args .at) (c .before .before .before .before .before .before .before .before .before .before .before .before .before .before .before .before .before .before .args .next) (now (c .before .before .before .before .before .before .before .before .before .before .before .before .before .before .before .before .before .before .args .out)) _ _ (c .before .before .before .before .before .before .put4 .ensures) _ _ _ (c .before .before .conditions .ensures)
+condition-returns-4 t c = body-did _ _ _ _ _ (and-shape (now (c .before .before .before .before .before .before .before .before .before .before .before .before .before .before .before .before .before .before .args .masks)) (part (now (c .before .before .before .before .before .before .before .before .before .before .before .before .before .before .before .before .before .before .args .permits)) (now (c .before .before .before .before .before .before .before .before .before .before .before .before .before .before .before .before .before .before .args .places))) (c .before .before .before .before .before .before .before .before .before .before .before .before .before .before .before .before .before .before .args .level) (now (c .before .before .before .before .before .before .before .before .before .before .before .before .before .before .before .before .before .before .args .q)) (now (c .before .before .before .before .before .before .before .before .before .before .before .before .before .before .before .before .before .before .args .z)) (c .before .before .before .before .before .before .before .before .before .before .before .if1 .left) (sym (c .before .before .before .before .before .before .before .before .before .before .read .ensures) ∙ c .before .before .before .before .before .before .before .before .enum-told3 .given .1)) (c .before .before .before .before .before .before .before .before .before .before .before .before .before .before .before .before .before .before .args .at) (c .before .before .before .before .before .before .before .before .before .before .before .before .before .before .before .before .before .before .args .next) (now (c .before .before .before .before .before .before .before .before .before .before .before .before .before .before .before .before .before .before .args .out)) _ _ (c .before .before .before .before .before .before .put2 .ensures) _ _ _ (c .before .before .conditions .ensures)
 
 condition-same-length-5 : (t : ℕ) → condition-lts.Need-same-length-5 (condition-claims t) (condition-at t) condition.Post
 condition-same-length-5 t c = search needs
 
 condition-returns-5 : (t : ℕ) → condition-lts.Need-returns-5 (condition-claims t) (condition-at t) condition.Post
-condition-returns-5 t c = body-did _ _ _ _ _ (or-shape (now (c .before .before .before .before .before .before .before .before .before .before .before .before .before .before .before .before .before .before .args .masks)) (part (now (c .before .before .before .before .before .before .before .before .before .before .before .before .before .before .before .before .before .before .args .permits)) (now (c .before .before .before .before .before .before .before .before .before .before .before .before .before .before .before .before .before .before .args .places))) (c .before .before .before .before .before .before .before .before .before .before .before .before .before .before .before .before .before .before .args .level) (now (c .before .before .before .before .before .before .before .before .before .before .before .before .before .before .before .before .before .before .args .q)) (now (c .before .before .before .before .before .before .before .before .before .before .before .before .before .before .before .before .before .before .args .z)) (c .before .before .before .before .before .before .before .before .before .before .before .if1 .left) (sym (c .before .before .before .before .before .before .before .before .before .before .read .ensures) ∙ c .before .before .before .before .before .before .before .before .enum-told4 .given .1)) (c .before .before .before .before .before .before .before .before .before .before .before .before .before .before .before .before .before .before .args .at) (c .before .before .before .before .before .before .before .before .before .before .before .before .before .before .before .before .before .before .args .next) (now (c .before .before .before .before .before .before .before .before .before .before .before .before .before .before .before .before .before .before .args .out)) _ _ (c .before .before .before .before .before .before .put5 .ensures) _ _ _ (c .before .before .conditions2 .ensures)
+condition-returns-5 t c = body-did _ _ _ _ _ (or-shape (now (c .before .before .before .before .before .before .before .before .before .before .before .before .before .before .before .before .before .before .args .masks)) (part (now (c .before .before .before .before .before .before .before .before .before .before .before .before .before .before .before .before .before .before .args .permits)) (now (c .before .before .before .before .before .before .before .before .before .before .before .before .before .before .before .before .before .before .args .places))) (c .before .before .before .before .before .before .before .before .before .before .before .before .before .before .before .before .before .before .args .level) (now (c .before .before .before .before .before .before .before .before .before .before .before .before .before .before .before .before .before .before .args .q)) (now (c .before .before .before .before .before .before .before .before .before .before .before .before .before .before .before .before .before .before .args .z)) (c .before .before .before .before .before .before .before .before .before .before .before .if1 .left) (sym (c .before .before .before .before .before .before .before .before .before .before .read .ensures) ∙ c .before .before .before .before .before .before .before .before .enum-told4 .given .1)) (c .before .before .before .before .before .before .before .before .before .before .before .before .before .before .before .before .before .before .args .at) (c .before .before .before .before .before .before .before .before .before .before .before .before .before .before .before .before .before .before .args .next) (now (c .before .before .before .before .before .before .before .before .before .before .before .before .before .before .before .before .before .before .args .out)) _ _ (c .before .before .before .before .before .before .put3 .ensures) _ _ _ (c .before .before .conditions2 .ensures)
 
 condition-same-length-6 : (t : ℕ) → condition-lts.Need-same-length-6 (condition-claims t) (condition-at t) condition.Post
 condition-same-length-6 t c = search needs
@@ -231,7 +232,7 @@ condition-same-length-8 : (t : ℕ) → condition-lts.Need-same-length-8 (condit
 condition-same-length-8 t c = search needs
 
 condition-returns-8 : (t : ℕ) → condition-lts.Need-returns-8 (condition-claims t) (condition-at t) condition.Post
-condition-returns-8 t c = leaf-did _ _ _ (rest-leaf (now (c .before .before .before .before .before .before .before .before .before .before .before .before .before .args .masks)) (part (now (c .before .before .before .before .before .before .before .before .before .before .before .before .before .args .permits)) (now (c .before .before .before .before .before .before .before .before .before .before .before .before .before .args .places))) (c .before .before .before .before .before .before .before .before .before .before .before .before .before .args .level) (now (c .before .before .before .before .before .before .before .before .before .before .before .before .before .args .q)) (now (c .before .before .before .before .before .before .before .before .before .before .before .before .before .args .z)) (c .before .before .before .before .before .before .if1 .left) (c .before .before .before .before .before .read .result) (c .before .before .before .before .before .read .ensures) (c .before .before .before .before .match .keys7)) (c .before .before .before .before .before .before .before .before .before .before .before .before .before .args .at) (c .before .before .before .before .before .before .before .before .before .before .before .before .before .args .next) (now (c .before .before .before .before .before .before .before .before .before .before .before .before .before .args .out)) _ _ (c .before .before .put6 .ensures)
+condition-returns-8 t c = leaf-did _ _ _ (rest-leaf (now (c .before .before .before .before .before .before .before .before .before .before .before .before .before .args .masks)) (part (now (c .before .before .before .before .before .before .before .before .before .before .before .before .before .args .permits)) (now (c .before .before .before .before .before .before .before .before .before .before .before .before .before .args .places))) (c .before .before .before .before .before .before .before .before .before .before .before .before .before .args .level) (now (c .before .before .before .before .before .before .before .before .before .before .before .before .before .args .q)) (now (c .before .before .before .before .before .before .before .before .before .before .before .before .before .args .z)) (c .before .before .before .before .before .before .if1 .left) (c .before .before .before .before .before .read .result) (c .before .before .before .before .before .read .ensures) (c .before .before .before .before .match .keys7)) (c .before .before .before .before .before .before .before .before .before .before .before .before .before .args .at) (c .before .before .before .before .before .before .before .before .before .before .before .before .before .args .next) (now (c .before .before .before .before .before .before .before .before .before .before .before .before .before .args .out)) _ _ _ (c .before .before .leaf3 .ensures)
 
 conditions-first-child-requires : (t : ℕ) → conditions-lts.Need-first-child-requires (conditions-claims t) (conditions-at t) conditions.Post
 conditions-first-child-requires t c κs = search needs
@@ -263,14 +264,14 @@ conditions-same-length t c = search needs
 conditions-returns : (t : ℕ) → conditions-lts.Need-returns (conditions-claims t) (conditions-at t) conditions.Post
 conditions-returns t c = both-did (λ x y i. conditionBytes (now (c .before .before .before .before .before .before .before .before .before .before .before .before .before .before .before .before .before .before .before .before .args .masks)) (part (now (c .before .before .before .before .before .before .before .before .before .before .before .before .before .before .before .before .before .before .before .before .args .permits)) (now (c .before .before .before .before .before .before .before .before .before .before .before .before .before .before .before .before .before .before .before .before .args .places))) (c .before .before .before .before .before .before .before .before .before .before .before .before .before .before .before .before .before .before .before .before .args .level) x y i) (λ x y. conditionNew (now (c .before .before .before .before .before .before .before .before .before .before .before .before .before .before .before .before .before .before .before .before .args .masks)) (part (now (c .before .before .before .before .before .before .before .before .before .before .before .before .before .before .before .before .before .before .before .before .args .permits)) (now (c .before .before .before .before .before .before .before .before .before .before .before .before .before .before .before .before .before .before .before .before .args .places))) (c .before .before .before .before .before .before .before .before .before .before .before .before .before .before .before .before .before .before .before .before .args .level) x y) (now (c .before .before .before .before .before .before .before .before .before .before .before .before .before .before .before .before .before .before .before .before .args .q)) (now (c .before .before .before .before .before .before .before .before .before .before .before .before .before .before .before .before .before .before .before .before .args .z)) (c .before .before .before .before .before .before .before .before .before .before .before .before .before .before .before .before .before .before .before .before .args .at) (c .before .before .before .before .before .before .before .before .before .before .before .before .before .before .before .before .before .before .before .before .args .next) _ (c .before .before .before .before .before .before .before .before .before .before .before .before .before .first-child .ensures .0) _ _ (c .before .before .before .before .before .before .before .before .before .before .before .tail .ensures) (c .before .before .before .before .before .before .before .before .before .before .tail-sizes .ensures) (now (c .before .before .before .before .before .before .before .before .before .before .before .before .before .before .before .before .before .before .before .before .args .out)) _ _ _ (c .before .before .before .before .before .before .before .before .condition .ensures) _ (c .before .before .before .before .before .before .before .before .before .before .before .before .second-child .ensures) _ _ (c .before .before .before .before .before .tail2 .ensures) (c .before .before .before .before .tail-sizes2 .ensures) _ _ _ (c .before .before .condition2 .ensures)
 
-term-put-record-requires : (t : ℕ) → term-lts.Need-put-record-requires (term-claims t) (term-at t) term.Post
-term-put-record-requires t c κs = leaf-room _ _ _ (zero-leafT (now (c .before .before .before .before .before .before .before .before .args .masks)) (part (now (c .before .before .before .before .before .before .before .before .args .permits)) (now (c .before .before .before .before .before .before .before .before .args .places))) (c .before .before .before .before .before .before .before .before .args .level) (now (c .before .before .before .before .before .before .before .before .args .q)) (now (c .before .before .before .before .before .before .before .before .args .z)) (c .before .if1 .taken)) (c .before .before .before .before .before .before .before .before .args .at) (c .before .before .before .before .before .before .before .before .args .next) (c .before .before .before .before .before .before .before .before .pre .1)
+term-leaf-requires : (t : ℕ) → term-lts.Need-leaf-requires (term-claims t) (term-at t) term.Post
+term-leaf-requires t c κs = leaf-room _ _ _ (zero-leafT (now (c .before .before .before .before .before .before .before .before .args .masks)) (part (now (c .before .before .before .before .before .before .before .before .args .permits)) (now (c .before .before .before .before .before .before .before .before .args .places))) (c .before .before .before .before .before .before .before .before .args .level) (now (c .before .before .before .before .before .before .before .before .args .q)) (now (c .before .before .before .before .before .before .before .before .args .z)) (c .before .if1 .taken)) (c .before .before .before .before .before .before .before .before .args .at) (c .before .before .before .before .before .before .before .before .args .next) (c .before .before .before .before .before .before .before .before .pre .1)
 
 term-same-length : (t : ℕ) → term-lts.Need-same-length (term-claims t) (term-at t) term.Post
 term-same-length t c = search needs
 
 term-returns : (t : ℕ) → term-lts.Need-returns (term-claims t) (term-at t) term.Post
-term-returns t c = leaf-did _ _ _ (zero-leafT (now (c .before .before .before .before .before .before .before .before .before .before .before .args .masks)) (part (now (c .before .before .before .before .before .before .before .before .before .before .before .args .permits)) (now (c .before .before .before .before .before .before .before .before .before .before .before .args .places))) (c .before .before .before .before .before .before .before .before .before .before .before .args .level) (now (c .before .before .before .before .before .before .before .before .before .before .before .args .q)) (now (c .before .before .before .before .before .before .before .before .before .before .before .args .z)) (c .before .before .before .before .if1 .taken)) (c .before .before .before .before .before .before .before .before .before .before .before .args .at) (c .before .before .before .before .before .before .before .before .before .before .before .args .next) (now (c .before .before .before .before .before .before .before .before .before .before .before .args .out)) _ _ (c .before .before .put-record .ensures)
+term-returns t c = leaf-did _ _ _ (zero-leafT (now (c .before .before .before .before .before .before .before .before .before .before .before .args .masks)) (part (now (c .before .before .before .before .before .before .before .before .before .before .before .args .permits)) (now (c .before .before .before .before .before .before .before .before .before .before .before .args .places))) (c .before .before .before .before .before .before .before .before .before .before .before .args .level) (now (c .before .before .before .before .before .before .before .before .before .before .before .args .q)) (now (c .before .before .before .before .before .before .before .before .before .before .before .args .z)) (c .before .before .before .before .if1 .taken)) (c .before .before .before .before .before .before .before .before .before .before .before .args .at) (c .before .before .before .before .before .before .before .before .before .before .before .args .next) (now (c .before .before .before .before .before .before .before .before .before .before .before .args .out)) _ _ _ (c .before .before .leaf .ensures)
 
 term-read-requires : (t : ℕ) → term-lts.Need-read-requires (term-claims t) (term-at t) term.Post
 term-read-requires t c κs = search needs
@@ -278,53 +279,53 @@ term-read-requires t c κs = search needs
 term-enum-known-a : (t : ℕ) → term-lts.Need-enum-known-a (term-claims t) (term-at t) term.Post
 term-enum-known-a t c = search needs
 
-term-put-record-requires-2 : (t : ℕ) → term-lts.Need-put-record-requires-2 (term-claims t) (term-at t) term.Post
-term-put-record-requires-2 t c κs = leaf-room _ _ _ (constant-leaf (now (c .before .before .before .before .before .before .before .before .before .before .before .before .args .masks)) (part (now (c .before .before .before .before .before .before .before .before .before .before .before .before .args .permits)) (now (c .before .before .before .before .before .before .before .before .before .before .before .before .args .places))) (c .before .before .before .before .before .before .before .before .before .before .before .before .args .level) (now (c .before .before .before .before .before .before .before .before .before .before .before .before .args .q)) (now (c .before .before .before .before .before .before .before .before .before .before .before .before .args .z)) (c .before .before .before .before .before .if1 .left) _ _ _ _ (sym (c .before .before .before .before .read .ensures) ∙ c .before .before .a .given .1)) (c .before .before .before .before .before .before .before .before .before .before .before .before .args .at) (c .before .before .before .before .before .before .before .before .before .before .before .before .args .next) (c .before .before .before .before .before .before .before .before .before .before .before .before .pre .1)
+term-leaf-requires-2 : (t : ℕ) → term-lts.Need-leaf-requires-2 (term-claims t) (term-at t) term.Post
+term-leaf-requires-2 t c κs = leaf-room _ _ _ (constant-leaf (now (c .before .before .before .before .before .before .before .before .before .before .before .before .args .masks)) (part (now (c .before .before .before .before .before .before .before .before .before .before .before .before .args .permits)) (now (c .before .before .before .before .before .before .before .before .before .before .before .before .args .places))) (c .before .before .before .before .before .before .before .before .before .before .before .before .args .level) (now (c .before .before .before .before .before .before .before .before .before .before .before .before .args .q)) (now (c .before .before .before .before .before .before .before .before .before .before .before .before .args .z)) (c .before .before .before .before .before .if1 .left) _ _ _ _ (sym (c .before .before .before .before .read .ensures) ∙ c .before .before .a .given .1)) (c .before .before .before .before .before .before .before .before .before .before .before .before .args .at) (c .before .before .before .before .before .before .before .before .before .before .before .before .args .next) (c .before .before .before .before .before .before .before .before .before .before .before .before .pre .1)
 
 term-enum-known-v : (t : ℕ) → term-lts.Need-enum-known-v (term-claims t) (term-at t) term.Post
 term-enum-known-v t c = search needs
 
-term-put-record-requires-3 : (t : ℕ) → term-lts.Need-put-record-requires-3 (term-claims t) (term-at t) term.Post
-term-put-record-requires-3 t c κs = leaf-room _ _ _ (attribute-leaf (now (c .before .before .before .before .before .before .before .before .before .before .before .before .args .masks)) (part (now (c .before .before .before .before .before .before .before .before .before .before .before .before .args .permits)) (now (c .before .before .before .before .before .before .before .before .before .before .before .before .args .places))) (c .before .before .before .before .before .before .before .before .before .before .before .before .args .level) (now (c .before .before .before .before .before .before .before .before .before .before .before .before .args .q)) (now (c .before .before .before .before .before .before .before .before .before .before .before .before .args .z)) (c .before .before .before .before .before .if1 .left) _ _ (sym (c .before .before .before .before .read .ensures) ∙ c .before .before .v .given .1)) (c .before .before .before .before .before .before .before .before .before .before .before .before .args .at) (c .before .before .before .before .before .before .before .before .before .before .before .before .args .next) (c .before .before .before .before .before .before .before .before .before .before .before .before .pre .1)
+term-leaf-requires-3 : (t : ℕ) → term-lts.Need-leaf-requires-3 (term-claims t) (term-at t) term.Post
+term-leaf-requires-3 t c κs = leaf-room _ _ _ (attribute-leaf (now (c .before .before .before .before .before .before .before .before .before .before .before .before .args .masks)) (part (now (c .before .before .before .before .before .before .before .before .before .before .before .before .args .permits)) (now (c .before .before .before .before .before .before .before .before .before .before .before .before .args .places))) (c .before .before .before .before .before .before .before .before .before .before .before .before .args .level) (now (c .before .before .before .before .before .before .before .before .before .before .before .before .args .q)) (now (c .before .before .before .before .before .before .before .before .before .before .before .before .args .z)) (c .before .before .before .before .before .if1 .left) _ _ (sym (c .before .before .before .before .read .ensures) ∙ c .before .before .v .given .1)) (c .before .before .before .before .before .before .before .before .before .before .before .before .args .at) (c .before .before .before .before .before .before .before .before .before .before .before .before .args .next) (c .before .before .before .before .before .before .before .before .before .before .before .before .pre .1)
 
 term-enum-known-f : (t : ℕ) → term-lts.Need-enum-known-f (term-claims t) (term-at t) term.Post
 term-enum-known-f t c = search needs
 
-term-put-record-requires-4 : (t : ℕ) → term-lts.Need-put-record-requires-4 (term-claims t) (term-at t) term.Post
-term-put-record-requires-4 t c κs = head-room _ _ _ _ _ (aggregate-shape (now (c .before .before .before .before .before .before .before .before .before .before .before .before .args .masks)) (part (now (c .before .before .before .before .before .before .before .before .before .before .before .before .args .permits)) (now (c .before .before .before .before .before .before .before .before .before .before .before .before .args .places))) (c .before .before .before .before .before .before .before .before .before .before .before .before .args .level) (now (c .before .before .before .before .before .before .before .before .before .before .before .before .args .q)) (now (c .before .before .before .before .before .before .before .before .before .before .before .before .args .z)) (c .before .before .before .before .before .if1 .left) _ _ _ _ (sym (c .before .before .before .before .read .ensures) ∙ c .before .before .f .given .1)) (c .before .before .before .before .before .before .before .before .before .before .before .before .args .at) (c .before .before .before .before .before .before .before .before .before .before .before .before .args .next) (c .before .before .before .before .before .before .before .before .before .before .before .before .pre .1)
+term-put-record-requires : (t : ℕ) → term-lts.Need-put-record-requires (term-claims t) (term-at t) term.Post
+term-put-record-requires t c κs = head-room _ _ _ _ _ (aggregate-shape (now (c .before .before .before .before .before .before .before .before .before .before .before .before .args .masks)) (part (now (c .before .before .before .before .before .before .before .before .before .before .before .before .args .permits)) (now (c .before .before .before .before .before .before .before .before .before .before .before .before .args .places))) (c .before .before .before .before .before .before .before .before .before .before .before .before .args .level) (now (c .before .before .before .before .before .before .before .before .before .before .before .before .args .q)) (now (c .before .before .before .before .before .before .before .before .before .before .before .before .args .z)) (c .before .before .before .before .before .if1 .left) _ _ _ _ (sym (c .before .before .before .before .read .ensures) ∙ c .before .before .f .given .1)) (c .before .before .before .before .before .before .before .before .before .before .before .before .args .at) (c .before .before .before .before .before .before .before .before .before .before .before .before .args .next) (c .before .before .before .before .before .before .before .before .before .before .before .before .pre .1)
 
 term-sub-under : (t : ℕ) → term-lts.Need-sub-under (term-claims t) (term-at t) term.Post
 term-sub-under t c = search needs
 
 term-under-requires : (t : ℕ) → term-lts.Need-under-requires (term-claims t) (term-at t) term.Post
-term-under-requires t c κs = (omega (arith, c .before .before .before .before .before .before .before .before .before .before .before .before .before .before .before .before .pre .0, c .before .before .before .before .before .before .before .before .before .if1 .left), body-room _ _ _ _ _ (aggregate-shape (now (c .before .before .before .before .before .before .before .before .before .before .before .before .before .before .before .before .args .masks)) (part (now (c .before .before .before .before .before .before .before .before .before .before .before .before .before .before .before .before .args .permits)) (now (c .before .before .before .before .before .before .before .before .before .before .before .before .before .before .before .before .args .places))) (c .before .before .before .before .before .before .before .before .before .before .before .before .before .before .before .before .args .level) (now (c .before .before .before .before .before .before .before .before .before .before .before .before .before .before .before .before .args .q)) (now (c .before .before .before .before .before .before .before .before .before .before .before .before .before .before .before .before .args .z)) (c .before .before .before .before .before .before .before .before .before .if1 .left) _ _ _ _ (sym (c .before .before .before .before .before .before .before .before .read .ensures) ∙ c .before .before .before .before .before .before .f .given .1)) (c .before .before .before .before .before .before .before .before .before .before .before .before .before .before .before .before .args .at) (c .before .before .before .before .before .before .before .before .before .before .before .before .before .before .before .before .args .next) (now (c .before .before .before .before .before .before .before .before .before .before .before .before .before .before .before .before .args .out)) _ _ (c .before .before .before .put-record4 .ensures) (c .before .before .before .before .before .before .before .before .before .before .before .before .before .before .before .before .pre .1))
+term-under-requires t c κs = (omega (arith, c .before .before .before .before .before .before .before .before .before .before .before .before .before .before .before .before .pre .0, c .before .before .before .before .before .before .before .before .before .if1 .left), body-room _ _ _ _ _ (aggregate-shape (now (c .before .before .before .before .before .before .before .before .before .before .before .before .before .before .before .before .args .masks)) (part (now (c .before .before .before .before .before .before .before .before .before .before .before .before .before .before .before .before .args .permits)) (now (c .before .before .before .before .before .before .before .before .before .before .before .before .before .before .before .before .args .places))) (c .before .before .before .before .before .before .before .before .before .before .before .before .before .before .before .before .args .level) (now (c .before .before .before .before .before .before .before .before .before .before .before .before .before .before .before .before .args .q)) (now (c .before .before .before .before .before .before .before .before .before .before .before .before .before .before .before .before .args .z)) (c .before .before .before .before .before .before .before .before .before .if1 .left) _ _ _ _ (sym (c .before .before .before .before .before .before .before .before .read .ensures) ∙ c .before .before .before .before .before .before .f .given .1)) (c .before .before .before .before .before .before .before .before .before .before .before .before .before .before .before .before .args .at) (c .before .before .before .before .before .before .before .before .before .before .before .before .before .before .before .before .args .next) (now (c .before .before .before .before .before .before .before .before .before .before .before .before .before .before .before .before .args .out)) _ _ (c .before .before .before .put-record .ensures) (c .before .before .before .before .before .before .before .before .before .before .before .before .before .before .before .before .pre .1))
 
-term-put-record-requires-5 : (t : ℕ) → term-lts.Need-put-record-requires-5 (term-claims t) (term-at t) term.Post
-term-put-record-requires-5 t c κs = leaf-room _ _ _ (rest-leafT (now (c .before .before .before .before .before .before .before .before .before .before .args .masks)) (part (now (c .before .before .before .before .before .before .before .before .before .before .args .permits)) (now (c .before .before .before .before .before .before .before .before .before .before .args .places))) (c .before .before .before .before .before .before .before .before .before .before .args .level) (now (c .before .before .before .before .before .before .before .before .before .before .args .q)) (now (c .before .before .before .before .before .before .before .before .before .before .args .z)) (c .before .before .before .if1 .left) (c .before .before .read .result) (c .before .before .read .ensures) (c .before .match .keys4)) (c .before .before .before .before .before .before .before .before .before .before .args .at) (c .before .before .before .before .before .before .before .before .before .before .args .next) (c .before .before .before .before .before .before .before .before .before .before .pre .1)
+term-leaf-requires-4 : (t : ℕ) → term-lts.Need-leaf-requires-4 (term-claims t) (term-at t) term.Post
+term-leaf-requires-4 t c κs = leaf-room _ _ _ (rest-leafT (now (c .before .before .before .before .before .before .before .before .before .before .args .masks)) (part (now (c .before .before .before .before .before .before .before .before .before .before .args .permits)) (now (c .before .before .before .before .before .before .before .before .before .before .args .places))) (c .before .before .before .before .before .before .before .before .before .before .args .level) (now (c .before .before .before .before .before .before .before .before .before .before .args .q)) (now (c .before .before .before .before .before .before .before .before .before .before .args .z)) (c .before .before .before .if1 .left) (c .before .before .read .result) (c .before .before .read .ensures) (c .before .match .keys4)) (c .before .before .before .before .before .before .before .before .before .before .args .at) (c .before .before .before .before .before .before .before .before .before .before .args .next) (c .before .before .before .before .before .before .before .before .before .before .pre .1)
 
 term-same-length-2 : (t : ℕ) → term-lts.Need-same-length-2 (term-claims t) (term-at t) term.Post
 term-same-length-2 t c = search needs
 
 term-returns-2 : (t : ℕ) → term-lts.Need-returns-2 (term-claims t) (term-at t) term.Post
-term-returns-2 t c = leaf-did _ _ _ (constant-leaf (now (c .before .before .before .before .before .before .before .before .before .before .before .before .before .before .before .args .masks)) (part (now (c .before .before .before .before .before .before .before .before .before .before .before .before .before .before .before .args .permits)) (now (c .before .before .before .before .before .before .before .before .before .before .before .before .before .before .before .args .places))) (c .before .before .before .before .before .before .before .before .before .before .before .before .before .before .before .args .level) (now (c .before .before .before .before .before .before .before .before .before .before .before .before .before .before .before .args .q)) (now (c .before .before .before .before .before .before .before .before .before .before .before .before .before .before .before .args .z)) (c .before .before .before .before .before .before .before .before .if1 .left) _ _ _ _ (sym (c .before .before .before .before .before .before .before .read .ensures) ∙ c .before .before .before .before .before .a .given .1)) (c .before .before .before .before .before .before .before .before .before .before .before .before .before .before .before .args .at) (c .before .before .before .before .before .before .before .before .before .before .before .before .before .before .before .args .next) (now (c .before .before .before .before .before .before .before .before .before .before .before .before .before .before .before .args .out)) _ _ (c .before .before .put-record2 .ensures)
+term-returns-2 t c = leaf-did _ _ _ (constant-leaf (now (c .before .before .before .before .before .before .before .before .before .before .before .before .before .before .before .args .masks)) (part (now (c .before .before .before .before .before .before .before .before .before .before .before .before .before .before .before .args .permits)) (now (c .before .before .before .before .before .before .before .before .before .before .before .before .before .before .before .args .places))) (c .before .before .before .before .before .before .before .before .before .before .before .before .before .before .before .args .level) (now (c .before .before .before .before .before .before .before .before .before .before .before .before .before .before .before .args .q)) (now (c .before .before .before .before .before .before .before .before .before .before .before .before .before .before .before .args .z)) (c .before .before .before .before .before .before .before .before .if1 .left) _ _ _ _ (sym (c .before .before .before .before .before .before .before .read .ensures) ∙ c .before .before .before .before .before .a .given .1)) (c .before .before .before .before .before .before .before .before .before .before .before .before .before .before .before .args .at) (c .before .before .before .before .before .before .before .before .before .before .before .before .before .before .before .args .next) (now (c .before .before .before .before .before .before .before .before .before .before .before .before .before .before .before .args .out)) _ _ _ (c .before .before .leaf2 .ensures)
 
 term-same-length-3 : (t : ℕ) → term-lts.Need-same-length-3 (term-claims t) (term-at t) term.Post
 term-same-length-3 t c = search needs
 
 term-returns-3 : (t : ℕ) → term-lts.Need-returns-3 (term-claims t) (term-at t) term.Post
-term-returns-3 t c = leaf-did _ _ _ (attribute-leaf (now (c .before .before .before .before .before .before .before .before .before .before .before .before .before .before .before .args .masks)) (part (now (c .before .before .before .before .before .before .before .before .before .before .before .before .before .before .before .args .permits)) (now (c .before .before .before .before .before .before .before .before .before .before .before .before .before .before .before .args .places))) (c .before .before .before .before .before .before .before .before .before .before .before .before .before .before .before .args .level) (now (c .before .before .before .before .before .before .before .before .before .before .before .before .before .before .before .args .q)) (now (c .before .before .before .before .before .before .before .before .before .before .before .before .before .before .before .args .z)) (c .before .before .before .before .before .before .before .before .if1 .left) _ _ (sym (c .before .before .before .before .before .before .before .read .ensures) ∙ c .before .before .before .before .before .v .given .1)) (c .before .before .before .before .before .before .before .before .before .before .before .before .before .before .before .args .at) (c .before .before .before .before .before .before .before .before .before .before .before .before .before .before .before .args .next) (now (c .before .before .before .before .before .before .before .before .before .before .before .before .before .before .before .args .out)) _ _ (c .before .before .put-record3 .ensures)
+term-returns-3 t c = leaf-did _ _ _ (attribute-leaf (now (c .before .before .before .before .before .before .before .before .before .before .before .before .before .before .before .args .masks)) (part (now (c .before .before .before .before .before .before .before .before .before .before .before .before .before .before .before .args .permits)) (now (c .before .before .before .before .before .before .before .before .before .before .before .before .before .before .before .args .places))) (c .before .before .before .before .before .before .before .before .before .before .before .before .before .before .before .args .level) (now (c .before .before .before .before .before .before .before .before .before .before .before .before .before .before .before .args .q)) (now (c .before .before .before .before .before .before .before .before .before .before .before .before .before .before .before .args .z)) (c .before .before .before .before .before .before .before .before .if1 .left) _ _ (sym (c .before .before .before .before .before .before .before .read .ensures) ∙ c .before .before .before .before .before .v .given .1)) (c .before .before .before .before .before .before .before .before .before .before .before .before .before .before .before .args .at) (c .before .before .before .before .before .before .before .before .before .before .before .before .before .before .before .args .next) (now (c .before .before .before .before .before .before .before .before .before .before .before .before .before .before .before .args .out)) _ _ _ (c .before .before .leaf3 .ensures)
 
 term-same-length-4 : (t : ℕ) → term-lts.Need-same-length-4 (term-claims t) (term-at t) term.Post
 term-same-length-4 t c = search needs
 
 term-returns-4 : (t : ℕ) → term-lts.Need-returns-4 (term-claims t) (term-at t) term.Post
-term-returns-4 t c = body-did _ _ _ _ _ (aggregate-shape (now (c .before .before .before .before .before .before .before .before .before .before .before .before .before .before .before .before .before .before .before .args .masks)) (part (now (c .before .before .before .before .before .before .before .before .before .before .before .before .before .before .before .before .before .before .before .args .permits)) (now (c .before .before .before .before .before .before .before .before .before .before .before .before .before .before .before .before .before .before .before .args .places))) (c .before .before .before .before .before .before .before .before .before .before .before .before .before .before .before .before .before .before .before .args .level) (now (c .before .before .before .before .before .before .before .before .before .before .before .before .before .before .before .before .before .before .before .args .q)) (now (c .before .before .before .before .before .before .before .before .before .before .before .before .before .before .before .before .before .before .before .args .z)) (c .before .before .before .before .before .before .before .before .before .before .before .before .if1 .left) _ _ _ _ (sym (c .before .before .before .before .before .before .before .before .before .before .before .read .ensures) ∙ c .before .before .before .before .before .before .before .before .before .f .given .1)) (c .before .before .before .before .before .before .before .before .before .before .before .before .before .before .before .before .before .before .before .args .at) (c .before .before .before .before .before .before .before .before .before .before .before .before .before .before .before .before .before .before .before .args .next) (now (c .before .before .before .before .before .before .before .before .before .before .before .before .before .before .before .before .before .before .before .args .out)) _ _ (c .before .before .before .before .before .before .put-record4 .ensures) _ _ _ (c .before .before .under .ensures)
+term-returns-4 t c = body-did _ _ _ _ _ (aggregate-shape (now (c .before .before .before .before .before .before .before .before .before .before .before .before .before .before .before .before .before .before .before .args .masks)) (part (now (c .before .before .before .before .before .before .before .before .before .before .before .before .before .before .before .before .before .before .before .args .permits)) (now (c .before .before .before .before .before .before .before .before .before .before .before .before .before .before .before .before .before .before .before .args .places))) (c .before .before .before .before .before .before .before .before .before .before .before .before .before .before .before .before .before .before .before .args .level) (now (c .before .before .before .before .before .before .before .before .before .before .before .before .before .before .before .before .before .before .before .args .q)) (now (c .before .before .before .before .before .before .before .before .before .before .before .before .before .before .before .before .before .before .before .args .z)) (c .before .before .before .before .before .before .before .before .before .before .before .before .if1 .left) _ _ _ _ (sym (c .before .before .before .before .before .before .before .before .before .before .before .read .ensures) ∙ c .before .before .before .before .before .before .before .before .before .f .given .1)) (c .before .before .before .before .before .before .before .before .before .before .before .before .before .before .before .before .before .before .before .args .at) (c .before .before .before .before .before .before .before .before .before .before .before .before .before .before .before .before .before .before .before .args .next) (now (c .before .before .before .before .before .before .before .before .before .before .before .before .before .before .before .before .before .before .before .args .out)) _ _ (c .before .before .before .before .before .before .put-record .ensures) _ _ _ (c .before .before .under .ensures)
 
 term-same-length-5 : (t : ℕ) → term-lts.Need-same-length-5 (term-claims t) (term-at t) term.Post
 term-same-length-5 t c = search needs
 
 term-returns-5 : (t : ℕ) → term-lts.Need-returns-5 (term-claims t) (term-at t) term.Post
-term-returns-5 t c = leaf-did _ _ _ (rest-leafT (now (c .before .before .before .before .before .before .before .before .before .before .before .before .before .args .masks)) (part (now (c .before .before .before .before .before .before .before .before .before .before .before .before .before .args .permits)) (now (c .before .before .before .before .before .before .before .before .before .before .before .before .before .args .places))) (c .before .before .before .before .before .before .before .before .before .before .before .before .before .args .level) (now (c .before .before .before .before .before .before .before .before .before .before .before .before .before .args .q)) (now (c .before .before .before .before .before .before .before .before .before .before .before .before .before .args .z)) (c .before .before .before .before .before .before .if1 .left) (c .before .before .before .before .before .read .result) (c .before .before .before .before .before .read .ensures) (c .before .before .before .before .match .keys4)) (c .before .before .before .before .before .before .before .before .before .before .before .before .before .args .at) (c .before .before .before .before .before .before .before .before .before .before .before .before .before .args .next) (now (c .before .before .before .before .before .before .before .before .before .before .before .before .before .args .out)) _ _ (c .before .before .put-record5 .ensures)
+term-returns-5 t c = leaf-did _ _ _ (rest-leafT (now (c .before .before .before .before .before .before .before .before .before .before .before .before .before .args .masks)) (part (now (c .before .before .before .before .before .before .before .before .before .before .before .before .before .args .permits)) (now (c .before .before .before .before .before .before .before .before .before .before .before .before .before .args .places))) (c .before .before .before .before .before .before .before .before .before .before .before .before .before .args .level) (now (c .before .before .before .before .before .before .before .before .before .before .before .before .before .args .q)) (now (c .before .before .before .before .before .before .before .before .before .before .before .before .before .args .z)) (c .before .before .before .before .before .before .if1 .left) (c .before .before .before .before .before .read .result) (c .before .before .before .before .before .read .ensures) (c .before .before .before .before .match .keys4)) (c .before .before .before .before .before .before .before .before .before .before .before .before .before .args .at) (c .before .before .before .before .before .before .before .before .before .before .before .before .before .args .next) (now (c .before .before .before .before .before .before .before .before .before .before .before .before .before .args .out)) _ _ _ (c .before .before .leaf4 .ensures)
 
 terms-first-child-requires : (t : ℕ) → terms-lts.Need-first-child-requires (terms-claims t) (terms-at t) terms.Post
 terms-first-child-requires t c κs = search needs
@@ -388,25 +389,25 @@ pub +condition+conditions+term+terms+under-spec : {M : Type 1} → statement M
     close μ-condition μ-conditions μ-term μ-terms μ-under (λ t. condition-lts.spec (condition-claims t)
     (condition-at t)
     condition.Post
-    (condition-put-requires t)
+    (condition-leaf-requires t)
     (condition-same-length t)
     (condition-returns t)
     (condition-read-requires t)
     (condition-enum-told t)
-    (condition-put-requires-2 t)
+    (condition-leaf-requires-2 t)
     (condition-enum-told-2 t)
-    (condition-put-requires-3 t)
+    (condition-put-requires t)
     (condition-first-child-requires t)
     (condition-tail-requires t)
     (condition-tail-sizes-requires t)
     (condition-sub-condition t)
     (condition-condition-requires t)
     (condition-enum-told-3 t)
-    (condition-put-requires-4 t)
+    (condition-put-requires-2 t)
     (condition-sub-conditions t)
     (condition-conditions-requires t)
     (condition-enum-told-4 t)
-    (condition-put-requires-5 t)
+    (condition-put-requires-3 t)
     (condition-sub-conditions-2 t)
     (condition-conditions-requires-2 t)
     (condition-enum-known-o t)
@@ -417,7 +418,7 @@ pub +condition+conditions+term+terms+under-spec : {M : Type 1} → statement M
     (condition-put-record-requires-2 t)
     (condition-sub-under t)
     (condition-under-requires t)
-    (condition-put-requires-6 t)
+    (condition-leaf-requires-3 t)
     (condition-same-length-2 t)
     (condition-returns-2 t)
     (condition-same-length-3 t)
@@ -448,19 +449,19 @@ pub +condition+conditions+term+terms+under-spec : {M : Type 1} → statement M
     (λ t. term-lts.spec (term-claims t)
     (term-at t)
     term.Post
-    (term-put-record-requires t)
+    (term-leaf-requires t)
     (term-same-length t)
     (term-returns t)
     (term-read-requires t)
     (term-enum-known-a t)
-    (term-put-record-requires-2 t)
+    (term-leaf-requires-2 t)
     (term-enum-known-v t)
-    (term-put-record-requires-3 t)
+    (term-leaf-requires-3 t)
     (term-enum-known-f t)
-    (term-put-record-requires-4 t)
+    (term-put-record-requires t)
     (term-sub-under t)
     (term-under-requires t)
-    (term-put-record-requires-5 t)
+    (term-leaf-requires-4 t)
     (term-same-length-2 t)
     (term-returns-2 t)
     (term-same-length-3 t)

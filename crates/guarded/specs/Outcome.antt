@@ -1,0 +1,33 @@
+-- What a guarded call returns, with both buffers, as the model's outcome.
+use Prim.Native.Nat.{ℕ, _≤_}
+use mathlib.Core.Bool.{false}
+use mathlib.Core.List.{List}
+use mathlib.Core.Path.{_≡_}
+use lib.IntN.{ℤ}
+use Rattle.model.specs.Calls.{Outcome}
+use Rattle.model.specs.Encoding.{queryOf, permitsOf}
+use Rattle.model.specs.Catalogue.{catalogueOf, shapeOf}
+use Rattle.model.specs.Checks.{fails10, guardedLimits, keeperChecks, permitChecks, queryChecks, shapeChecks, rewrittenBytes, refusal}
+use Rattle.grammar.specs.declared.Layout.{Layout}
+use Rattle.queries.specs.Parts.{queryAt, Laid}
+use Rattle.guarded.specs.declared.Reply.{Reply}
+
+abbrev pub outcomeOf : Reply → List ℤ → List ℕ → Outcome
+outcomeOf r cells rewritten = record { answer = record { number = r .number; rows = r .rows; columns = r .columns; cells = cells }; count = r .length; rewritten = rewritten }
+
+-- the bytes of the rewritten query
+abbrev pub bytesOf : List ℕ → List ℕ → List ℕ → List ℕ
+bytesOf cb pb qb = rewrittenBytes (shapeOf (catalogueOf cb)) (permitsOf pb) (queryOf qb)
+
+-- a call that passed 10 to 40, with the query's layout and table
+pub record Writable (y : Layout) (cb pb qb z : List ℕ) (room : ℕ) : Type 0 where
+  pub catalogue : fails10 cb ≡ false
+  pub passed : refusal (shapeChecks (shapeOf (catalogueOf cb)) pb qb room) ≡ 0
+  pub ready : queryAt y 32 qb z ≡ queryOf qb
+
+-- a call that passed 10 to 32
+pub record Checks32 (y : Layout) (cb : List ℕ) (vs : List ℤ) (pb qb z : List ℕ) : Type 0 where
+  pub kept : refusal (keeperChecks cb vs) ≡ 0
+  pub permits : refusal (permitChecks (shapeOf (catalogueOf cb)) pb) ≡ 0
+  pub query : refusal (queryChecks guardedLimits (shapeOf (catalogueOf cb)) qb) ≡ 0
+  pub ready : queryAt y 32 qb z ≡ queryOf qb

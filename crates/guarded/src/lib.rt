@@ -1,0 +1,143 @@
+// The guarded call: the permits written into the query, then the rewritten query evaluated.
+use grammar::Layout;
+use queries::Checked;
+use queries::Limits;
+ghost use mathlib.Core.Path.{_≡_};
+ghost use mathlib.Core.Bool.{false};
+ghost use Prim.Native.Nat.{_≤_};
+ghost use lib.ListN.{length};
+ghost use lib.Seq.{sets};
+ghost use Rattle.model.specs.Catalogue.{catalogueOf, shapeOf};
+ghost use Rattle.model.specs.Checks.{fails10, permitChecks, refusal};
+ghost use Rattle.model.specs.Calls.{ask};
+ghost use Rattle.guarded.specs.Outcome.{bytesOf, outcomeOf, Writable, Checks32};
+
+// The number of a refusal, 0 where there is none, and the counts of rows, columns and rewritten bytes.
+pub struct Reply {
+    pub number: u8,
+    pub rows: usize,
+    pub columns: usize,
+    pub length: usize,
+}
+
+// A refusal is its number with zero counts.
+fn refused(number: u8) -> Reply
+    ensures { λ r. ⌜ r ≡ record { number = number; rows = 0; columns = 0; length = 0 } ⌝ }
+{
+    Reply {
+        number,
+        rows: 0,
+        columns: 0,
+        length: 0,
+    }
+}
+
+// 20 to 23, the list alone.
+fn check_permits(list: &[u8], catalogue: &[u8]) -> u8
+    requires { ⌜ fails10 (now catalogue) ≡ false ⌝ }
+    ensures { λ r. ⌜ r ≡ refusal (permitChecks (shapeOf (catalogueOf (now (catalogue .entry)))) (now (list .entry))) ⌝ }
+{
+    if grammar::permits_refused(list) {
+        return 20;
+    }
+    permits::check(list, catalogue)
+}
+
+// The rewritten query of a call that passed its checks.
+fn write(
+    query: &[u8],
+    z: &[u16],
+    layout: Layout,
+    list: &[u8],
+    catalogue: &[u8],
+    rewritten: &mut [u8],
+)
+    requires { ⌜ Writable layout (now catalogue) (now list) (now query) (now z) (length (now rewritten)) ⌝ }
+    ensures { λ _. ⌜ now (rewritten .exit) ≡ sets (now (rewritten .entry)) 0 (bytesOf (now (catalogue .entry)) (now (list .entry)) (now (query .entry))) ⌝ }
+{
+    let mut places = [0usize; 16];
+    let mut masks = [0u8; 256];
+    guards::fill_places(list, 0, 0, 8, &mut places);
+    guards::fill_masks(query, list, catalogue, &mut masks);
+    rewriter::rewrite_query(query, z, layout, 32, list, &places, &masks, rewritten);
+}
+
+// 33 and 40, then the answer to the rewritten query.
+fn answer_query(
+    query: &[u8],
+    z: &[u16],
+    layout: Layout,
+    catalogue: &[u8],
+    values: &[i32],
+    list: &[u8],
+    rewritten: &mut [u8],
+    answer: &mut [i64],
+) -> Reply
+    requires { ⌜ Checks32 layout (now catalogue) (now values) (now list) (now query) (now z) ⌝ }
+    ensures { λ r. ⌜ outcomeOf r (now (answer .exit)) (now (rewritten .exit)) ≡ ask (now (catalogue .entry)) (now (values .entry)) (now (list .entry)) (now (query .entry)) (now (rewritten .entry)) (now (answer .entry)) ⌝ }
+{
+    if !permits::all_served(query, list, catalogue) {
+        return refused(33);
+    }
+    let n = permits::rewritten_length(query, list, catalogue);
+    if rewritten.len() < n {
+        return refused(40);
+    }
+    write(query, z, layout, list, catalogue, rewritten);
+    let r = plain::evaluate(catalogue, values, &rewritten[..n], answer);
+    Reply {
+        number: r.number,
+        rows: r.rows,
+        columns: r.columns,
+        length: n,
+    }
+}
+
+// The checks by rising number; the table of sizes is lent.
+fn ask_with(
+    z: &mut [u16],
+    catalogue: &[u8],
+    values: &[i32],
+    list: &[u8],
+    query: &[u8],
+    rewritten: &mut [u8],
+    answer: &mut [i64],
+) -> Reply
+    requires { ⌜ 1024 ≤ length (now z) ⌝ }
+    ensures { λ r. ⌜ outcomeOf r (now (answer .exit)) (now (rewritten .exit)) ≡ ask (now (catalogue .entry)) (now (values .entry)) (now (list .entry)) (now (query .entry)) (now (rewritten .entry)) (now (answer .entry)) ⌝ }
+{
+    let kept = catalogue::check(catalogue, values);
+    if kept != 0 {
+        return refused(kept);
+    }
+    let number = check_permits(list, catalogue);
+    if number != 0 {
+        return refused(number);
+    }
+    let limits = Limits {
+        bytes: 1024,
+        levels: 32,
+        variables: 8,
+    };
+    match queries::check(query, limits, catalogue, z) {
+        Checked::Refused(n) => refused(n),
+        Checked::Passed(layout) => {
+            answer_query(query, z, layout, catalogue, values, list, rewritten, answer)
+        }
+    }
+}
+
+// ask of document 01: for every input the outcome that the model gives.
+pub fn ask(
+    catalogue: &[u8],
+    values: &[i32],
+    list: &[u8],
+    query: &[u8],
+    rewritten: &mut [u8],
+    answer: &mut [i64],
+) -> Reply
+    ensures { λ r. ⌜ outcomeOf r (now (answer .exit)) (now (rewritten .exit)) ≡ ask (now (catalogue .entry)) (now (values .entry)) (now (list .entry)) (now (query .entry)) (now (rewritten .entry)) (now (answer .entry)) ⌝ }
+{
+    let mut z = [0u16; 1024];
+    ask_with(&mut z, catalogue, values, list, query, rewritten, answer)
+}

@@ -1,0 +1,45 @@
+use denote.Ref.{now}
+use mathlib.Core.Path.{_≡_, refl, sym, ap, _∙_}
+use native.Mathlib.Omega.{arith}
+use Prim.Native.Nat.{ℕ, _+_, _-_, _<_, _≤_}
+use Rattle.guards.proofs.Steps.{mask-free, mask-is, masked-none, masked-one, masked-on, masked-end}
+use borrow.Author.Needs.{needs}
+use Rattle.guards.proofs.fill_mask.Statement.{statement}
+use Rattle.guards.proofs.fill_mask.Tie as tie
+use Rattle.guards.proofs.fill_mask.Reads as reads
+use Rattle.guards.proofs.fill_mask.Lts as lts
+use Rattle.guards.proofs.mask_for.Reads as mask-for-reads
+use Rattle.guards.proofs.put_mask.Reads as put-mask-reads
+
+enum-known-b : tie.Need-enum-known-b
+enum-known-b c = search needs
+
+enum-told : tie.Need-enum-told
+enum-told c = search needs
+
+returns : tie.Need-returns
+returns c = masked-none (now (c .before .before .before .before .before .before .args .query)) (now (c .before .before .before .before .before .before .args .list)) (now (c .before .before .before .before .before .before .args .catalogue)) (c .before .before .before .before .before .before .args .b) (now (c .before .before .before .before .before .before .args .masks)) (c .enum-told .given .1)
+
+mask-for-requires : tie.Need-mask-for-requires
+mask-for-requires c κs = search needs
+
+put-mask-requires : tie.Need-put-mask-requires
+put-mask-requires c κs = search needs
+
+same-length : tie.Need-same-length
+same-length c = search needs
+
+returns-2 : tie.Need-returns-2
+returns-2 c = masked-one (now (c .before .before .before .before .before .before .before .before .before .before .before .before .args .query)) (now (c .before .before .before .before .before .before .before .before .before .before .before .before .args .list)) (now (c .before .before .before .before .before .before .before .before .before .before .before .before .args .catalogue)) (c .before .before .before .before .before .before .before .before .before .before .before .before .args .b) (now (c .before .before .before .before .before .before .before .before .before .before .before .before .args .masks)) _ _ (c .before .before .before .before .before .before .b .given .1) _ _ (c .before .before .before .mask-for .ensures) (c .before .before .put-mask .ensures)
+
+pub fill-mask-spec : {M : Type 1} → statement M
+fill-mask-spec =
+    tie.close
+    (tie.spec
+    enum-known-b
+    enum-told
+    returns
+    mask-for-requires
+    put-mask-requires
+    same-length
+    returns-2)
