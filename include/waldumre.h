@@ -116,7 +116,7 @@ waldumre_outcome waldumre_evaluate(const uint8_t *catalogue, size_t catalogue_le
                                    int64_t *answer, size_t answer_length);
 
 /*
- * The guarded call (from the next version on). As above, and:
+ * The guarded call. As above, and:
  *
  *   permits    0 to 8 permits, one after the other: 64, relation, mask (2 bytes; bit n for
  *              attribute n, FFFF hexadecimal for all), then a condition in which variable 0 is the
