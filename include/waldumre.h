@@ -37,12 +37,11 @@ extern "C" {
 #endif
 
 /*
- * Stack that a call may take, with margin. Measured: waldumre_evaluate takes at most 85,000 bytes
- * for an accepted query; but to refuse 17,216 bytes of aggregates nested without end it takes
- * 1,060,000. So 1 MiB is too little for waldumre_evaluate if others choose the query's bytes; the
- * usual main thread (8 MiB) is ample. Set it for other threads (pthread_attr_setstacksize).
+ * Stack that a call may take, with margin. Measured: waldumre_ask takes at most 80,000 bytes, and
+ * waldumre_evaluate 85,000 for an accepted query; to refuse 17,216 bytes of aggregates nested
+ * without end waldumre_evaluate takes 630,000.
  */
-#define WALDUMRE_STACK_BYTES 2097152
+#define WALDUMRE_STACK_BYTES 1048576
 
 /* What a call returns. */
 typedef struct {
