@@ -1,4 +1,4 @@
--- The starred shelf examples (document 01), as one table for each call. proofs/Shelf.antt has the proof.
+-- The starred shelf examples (document 01) and two of our own, as one table for each call. proofs/Shelf.antt has the proof.
 use Prim.Native.Nat.{ℕ}
 use mathlib.Core.List.{List, [], _∷_, _++_}
 use lib.IntN.{ℤ, pos, negsuc}
@@ -131,6 +131,20 @@ evaluateExamples =
       values = companyValues;
       query = 1 ∷ 0 ∷ 0 ∷ 33 ∷ 0 ∷ 1 ∷ 16 ∷ [];
       answer = accepted 1 ((pos 1 ∷ []) ∷ (pos 2 ∷ []) ∷ (pos 4 ∷ []) ∷ []);
+    } ∷
+    -- not starred. #EMP of the departments, one of them twice, in order of first meeting: 10, 5, 16, 3
+    record {
+      catalogue = company;
+      values = companyValues;
+      query = 1 ∷ 0 ∷ 1 ∷ 33 ∷ 0 ∷ 2 ∷ 16 ∷ [];
+      answer = accepted 1 ((pos 10 ∷ []) ∷ (pos 5 ∷ []) ∷ (pos 16 ∷ []) ∷ (pos 3 ∷ []) ∷ []);
+    } ∷
+    -- not starred. its SUM, the equal values both taken: 44
+    record {
+      catalogue = company;
+      values = companyValues;
+      query = 34 ∷ 2 ∷ 0 ∷ 1 ∷ 2 ∷ 16 ∷ 16 ∷ [];
+      answer = accepted 1 ((pos 44 ∷ []) ∷ []);
     } ∷
     -- AVE of −3 and −4 as target: −3
     record {
