@@ -77,11 +77,10 @@ pub fn total(catalogue: &[u8]) -> usize
     base(catalogue, 16)
 }
 
-// The value of an attribute in the row that begins at `row`, 0 past the end.
-pub fn cell(values: &[i32], row: usize, attribute: u8) -> i32
-    ensures { λ r. ⌜ r ≡ getD (now (values .entry)) (row + attribute) (pos 0) ⌝ }
+// The value i places after `row`, 0 past the end.
+pub fn value(values: &[i32], row: usize, i: usize) -> i32
+    ensures { λ r. ⌜ r ≡ getD (now (values .entry)) (row + i) (pos 0) ⌝ }
 {
-    let i = wide(attribute);
     if row <= values.len() {
         let part = &values[row..];
         if i < part.len() {
@@ -89,6 +88,13 @@ pub fn cell(values: &[i32], row: usize, attribute: u8) -> i32
         }
     }
     0
+}
+
+// The value of an attribute in the row that begins at `row`, 0 past the end.
+pub fn cell(values: &[i32], row: usize, attribute: u8) -> i32
+    ensures { λ r. ⌜ r ≡ getD (now (values .entry)) (row + attribute) (pos 0) ⌝ }
+{
+    value(values, row, wide(attribute))
 }
 
 // Whether a record has a known kind and numbers in their ranges.

@@ -16,7 +16,7 @@ use types.Run.{OneOf, miss}
 use Rattle.model.specs.Lists.{update, filter, any}
 use Rattle.model.proofs.Tests.{not-yes, not-no}
 use Rattle.model.specs.Syntax.{Condition, Term, TRUE, FALSE, NOT, AND, OR, COMPARE, SOME, CONSTANT, ATTRIBUTE, AGGREGATE}
-use Rattle.model.specs.Meaning.{Tuple, Assignment, Ratio, whole, signed, compare, aggregate, holds, value}
+use Rattle.model.specs.Meaning.{Tuple, Assignment, Ratio, whole, signed, compare, aggregate}
 use Rattle.kinds.proofs.Record.{enum}
 use Rattle.kinds.specs.Tables.{recordLength}
 use Rattle.kinds.specs.Record.{recordAt}
@@ -28,10 +28,12 @@ use Rattle.numbers.proofs.Laws.{starts, continues, counts}
 use Rattle.catalogue.specs.Layout.{tupleAt, tuplesIn, attributesOf, rowsOf, baseOf, offsets, kept}
 use Rattle.catalogue.proofs.Loops.{any-none, any-found, any-left, kept-start, kept-hit, kept-miss, kept-length}
 use Rattle.sizes.specs.Decode.{first, second, conditionBy, termBy, nothing, decode, decodeT}
+use Rattle.numbers.specs.Memo.{knows, recalled}
+use Rattle.evaluator.specs.Recalled.{holdsBy, valueBy}
 use Rattle.evaluator.specs.Evaluation.{assigned, rowsIn, holdsAt, valueAt, holdsOn, valuesOn}
 
 -- within the list the default does not matter
-getD-inside : (xs : List ℕ) (i d f : ℕ) → i < length xs → getD xs i d ≡ getD xs i f
+pub getD-inside : (xs : List ℕ) (i d f : ℕ) → i < length xs → getD xs i d ≡ getD xs i f
 getD-inside [] i d f h = absurd (omega arith)
 getD-inside (x ∷ xs) zero d f h = refl
 getD-inside (x ∷ xs) (suc i) d f h = getD-inside xs i d f (omega arith)
@@ -44,24 +46,24 @@ assigned-set vs e v p h = fun-ext λ w. go w (eqb w v) refl
     go w true k = rw k (ap (tupleAt vs) (ap (λ (i : ℕ). getD (set e v p) i (length vs)) (eqb-true w v k) ∙ getD-set-same e v p (length vs) h))
     go w false k = rw k (ap (tupleAt vs) (getD-set-other e v w p (length vs) (eqb-false w v k)))
 
-module _ (cb : List ℕ) (vs : List ℤ) (e q z : List ℕ) where
-  pub holds-zero : (l : ℕ) → l ≡ 0 → false ≡ holdsAt l q z cb vs e
-  unfolding holdsAt decode holds
+module _ (cb : List ℕ) (vs m : List ℤ) (e q z : List ℕ) where
+  pub holds-zero : (l : ℕ) → l ≡ 0 → false ≡ holdsAt l q z cb vs m e
+  unfolding holdsAt decode holdsBy
   holds-zero l h = rw h
 
-  pub value-zero : (l : ℕ) → l ≡ 0 → whole (pos 0) ≡ valueAt l q z cb vs e
-  unfolding valueAt decode holds signed
+  pub value-zero : (l : ℕ) → l ≡ 0 → whole (pos 0) ≡ valueAt l q z cb vs m e
+  unfolding valueAt decode holdsBy signed
   value-zero l h = rw h
 
   -- by the record that q starts with
   holds-is : (l : ℕ) (r : Record) → (l ≡ 0 → ⊥) → r ≡ recordAt q
-      → holds (conditionBy r (λ x y. decode (l - 1) x y) (λ x y. decodeT (l - 1) x y) q z) (rowsIn cb vs) (assigned vs e) ≡ holdsAt l q z cb vs e
+      → holdsBy m (conditionBy r (λ x y. decode (l - 1) x y) (λ x y. decodeT (l - 1) x y) q z) (rowsIn cb vs) (assigned vs e) ≡ holdsAt l q z cb vs m e
   unfolding holdsAt decode
   holds-is zero r h k = absurd (h refl)
   holds-is (suc l) r h k = rw (sub-one, k)
 
   value-is : (l : ℕ) (r : Record) → (l ≡ 0 → ⊥) → r ≡ recordAt q
-      → value (termBy r (λ x y. decode (l - 1) x y) q z) (rowsIn cb vs) (assigned vs e) ≡ valueAt l q z cb vs e
+      → valueBy m (termBy r (λ x y. decode (l - 1) x y) q z) (rowsIn cb vs) (assigned vs e) ≡ valueAt l q z cb vs m e
   unfolding valueAt decode
   value-is zero r h k = absurd (h refl)
   value-is (suc l) r h k = rw (sub-one, k)
@@ -71,79 +73,85 @@ module _ (cb : List ℕ) (vs : List ℤ) (e q z : List ℕ) where
     at-first : a ≡ first q
     at-first = ea ∙ ap recordLength ek
 
-    pub true-is : r ≡ R.True → true ≡ holdsAt l q z cb vs e
-    unfolding holds
+    pub true-is : r ≡ R.True → true ≡ holdsAt l q z cb vs m e
+    unfolding holdsBy
     true-is h = holds-is l R.True nz (sym h ∙ er)
 
+    -- an aggregate that the memo knows
+    pub known-is : (f v r′ t : ℕ) (u : Ratio) (b : Bool) → r ≡ R.Aggregate f v r′ t → b ≡ knows m v → b ≡ true → u ≡ recalled m v → u ≡ valueAt l q z cb vs m e
+    unfolding holdsBy
+    known-is f v r′ t u b h ek f′ eu = let g = sym ek ∙ f′ in eu ∙ sym (rw g) ∙ value-is l (R.Aggregate f v r′ t) nz (sym h ∙ er)
+
     module _ (x y : List ℕ) (ex : x ≡ drop a q) (ey : y ≡ drop a z) where
-      child : holdsAt (l - 1) x y cb vs e ≡ holds (decode (l - 1) (drop (first q) q) (drop (first q) z)) (rowsIn cb vs) (assigned vs e)
+      child : holdsAt (l - 1) x y cb vs m e ≡ holdsBy m (decode (l - 1) (drop (first q) q) (drop (first q) z)) (rowsIn cb vs) (assigned vs e)
       unfolding holdsAt
-      child = ap₂ (λ (u w : List ℕ). holds (decode (l - 1) u w) (rowsIn cb vs) (assigned vs e)) (ex ∙ ap (λ n. drop n q) at-first) (ey ∙ ap (λ n. drop n z) at-first)
+      child = ap₂ (λ (u w : List ℕ). holdsBy m (decode (l - 1) u w) (rowsIn cb vs) (assigned vs e)) (ex ∙ ap (λ n. drop n q) at-first) (ey ∙ ap (λ n. drop n z) at-first)
 
-      childT : valueAt (l - 1) x y cb vs e ≡ value (decodeT (l - 1) (drop (first q) q) (drop (first q) z)) (rowsIn cb vs) (assigned vs e)
+      childT : valueAt (l - 1) x y cb vs m e ≡ valueBy m (decodeT (l - 1) (drop (first q) q) (drop (first q) z)) (rowsIn cb vs) (assigned vs e)
       unfolding valueAt
-      childT = ap₂ (λ (u w : List ℕ). value (decodeT (l - 1) u w) (rowsIn cb vs) (assigned vs e)) (ex ∙ ap (λ n. drop n q) at-first) (ey ∙ ap (λ n. drop n z) at-first)
+      childT = ap₂ (λ (u w : List ℕ). valueBy m (decodeT (l - 1) u w) (rowsIn cb vs) (assigned vs e)) (ex ∙ ap (λ n. drop n q) at-first) (ey ∙ ap (λ n. drop n z) at-first)
 
-      pub not-is : (b : Bool) → r ≡ R.Not → b ≡ holdsAt (l - 1) x y cb vs e → not b ≡ holdsAt l q z cb vs e
-      unfolding holds
+      pub not-is : (b : Bool) → r ≡ R.Not → b ≡ holdsAt (l - 1) x y cb vs m e → not b ≡ holdsAt l q z cb vs m e
+      unfolding holdsBy
       not-is b h eb = ap not (eb ∙ child) ∙ holds-is l R.Not nz (sym h ∙ er)
 
-      pub and-no : (b : Bool) → r ≡ R.And → b ≡ holdsAt (l - 1) x y cb vs e → not b ≡ true → false ≡ holdsAt l q z cb vs e
-      unfolding holds
+      pub and-no : (b : Bool) → r ≡ R.And → b ≡ holdsAt (l - 1) x y cb vs m e → not b ≡ true → false ≡ holdsAt l q z cb vs m e
+      unfolding holdsBy
       and-no b h eb f = let g = sym child ∙ sym eb ∙ not-yes b f in sym (rw g) ∙ holds-is l R.And nz (sym h ∙ er)
 
-      pub or-yes : (b : Bool) → r ≡ R.Or → b ≡ holdsAt (l - 1) x y cb vs e → b ≡ true → true ≡ holdsAt l q z cb vs e
-      unfolding holds
+      pub or-yes : (b : Bool) → r ≡ R.Or → b ≡ holdsAt (l - 1) x y cb vs m e → b ≡ true → true ≡ holdsAt l q z cb vs m e
+      unfolding holdsBy
       or-yes b h eb f = let g = sym child ∙ sym eb ∙ f in sym (rw g) ∙ holds-is l R.Or nz (sym h ∙ er)
 
-      pub some-is : (v r′ : ℕ) (b : Bool) → r ≡ R.Some v r′ → b ≡ any (holdsOn (l - 1) x y cb vs e v) (tuplesIn cb vs r′) → b ≡ holdsAt l q z cb vs e
-      unfolding holds holdsOn
+      pub some-is : (v r′ : ℕ) (b : Bool) → r ≡ R.Some v r′ → b ≡ any (holdsOn (l - 1) x y cb vs m e v) (tuplesIn cb vs r′) → b ≡ holdsAt l q z cb vs m e
+      unfolding holdsBy holdsOn
       some-is v r′ b h eb =
-          eb ∙ ap₂ (λ (u w : List ℕ). any (λ t. holds (decode (l - 1) u w) (rowsIn cb vs) (update (assigned vs e) v t)) (tuplesIn cb vs r′)) (ex ∙ ap (λ n. drop n q) at-first) (ey ∙ ap (λ n. drop n z) at-first)
+          eb ∙ ap₂ (λ (u w : List ℕ). any (λ t. holdsBy m (decode (l - 1) u w) (rowsIn cb vs) (update (assigned vs e) v t)) (tuplesIn cb vs r′)) (ex ∙ ap (λ n. drop n q) at-first) (ey ∙ ap (λ n. drop n z) at-first)
           ∙ holds-is l (R.Some v r′) nz (sym h ∙ er)
 
-      pub aggregate-is : (f v r′ t : ℕ) (u : Ratio) → r ≡ R.Aggregate f v r′ t → u ≡ aggregate f (valuesOn (l - 1) x y cb vs e v r′ t) → u ≡ valueAt l q z cb vs e
-      unfolding holds holdsOn valuesOn
-      aggregate-is f v r′ t u h eu =
-          eu ∙ ap₂ (λ (m w : List ℕ). aggregate f (map (λ (s : Tuple). s t) (filter (λ s. holds (decode (l - 1) m w) (rowsIn cb vs) (update (assigned vs e) v s)) (tuplesIn cb vs r′)))) (ex ∙ ap (λ n. drop n q) at-first) (ey ∙ ap (λ n. drop n z) at-first)
-          ∙ value-is l (R.Aggregate f v r′ t) nz (sym h ∙ er)
+      pub aggregate-is : (f v r′ t : ℕ) (u : Ratio) (b : Bool) → r ≡ R.Aggregate f v r′ t → b ≡ knows m v → b ≡ false → u ≡ aggregate f (valuesOn (l - 1) x y cb vs m e v r′ t) → u ≡ valueAt l q z cb vs m e
+      unfolding holdsBy holdsOn valuesOn
+      aggregate-is f v r′ t u b h ek f′ eu =
+          let g = sym ek ∙ f′ in
+          eu ∙ ap₂ (λ (i w : List ℕ). aggregate f (map (λ (s : Tuple). s t) (filter (λ s. holdsBy m (decode (l - 1) i w) (rowsIn cb vs) (update (assigned vs e) v s)) (tuplesIn cb vs r′)))) (ex ∙ ap (λ n. drop n q) at-first) (ey ∙ ap (λ n. drop n z) at-first)
+          ∙ sym (rw g) ∙ value-is l (R.Aggregate f v r′ t) nz (sym h ∙ er)
 
       -- the second child
       module _ (s b : ℕ) (u w : List ℕ) (es : s ≡ getD z a 0) (eb : b ≡ a + s) (eu : u ≡ drop b q) (ew : w ≡ drop b z) where
         at-second : b ≡ second q z
         at-second = eb ∙ ap (λ n. a + n) es ∙ ap (λ n. n + getD z n 0) at-first
 
-        next : holdsAt (l - 1) u w cb vs e ≡ holds (decode (l - 1) (drop (second q z) q) (drop (second q z) z)) (rowsIn cb vs) (assigned vs e)
+        next : holdsAt (l - 1) u w cb vs m e ≡ holdsBy m (decode (l - 1) (drop (second q z) q) (drop (second q z) z)) (rowsIn cb vs) (assigned vs e)
         unfolding holdsAt
-        next = ap₂ (λ (m n : List ℕ). holds (decode (l - 1) m n) (rowsIn cb vs) (assigned vs e)) (eu ∙ ap (λ n. drop n q) at-second) (ew ∙ ap (λ n. drop n z) at-second)
+        next = ap₂ (λ (i n : List ℕ). holdsBy m (decode (l - 1) i n) (rowsIn cb vs) (assigned vs e)) (eu ∙ ap (λ n. drop n q) at-second) (ew ∙ ap (λ n. drop n z) at-second)
 
-        nextT : valueAt (l - 1) u w cb vs e ≡ value (decodeT (l - 1) (drop (second q z) q) (drop (second q z) z)) (rowsIn cb vs) (assigned vs e)
+        nextT : valueAt (l - 1) u w cb vs m e ≡ valueBy m (decodeT (l - 1) (drop (second q z) q) (drop (second q z) z)) (rowsIn cb vs) (assigned vs e)
         unfolding valueAt
-        nextT = ap₂ (λ (m n : List ℕ). value (decodeT (l - 1) m n) (rowsIn cb vs) (assigned vs e)) (eu ∙ ap (λ n. drop n q) at-second) (ew ∙ ap (λ n. drop n z) at-second)
+        nextT = ap₂ (λ (i n : List ℕ). valueBy m (decodeT (l - 1) i n) (rowsIn cb vs) (assigned vs e)) (eu ∙ ap (λ n. drop n q) at-second) (ew ∙ ap (λ n. drop n z) at-second)
 
-        pub and-yes : (c d : Bool) (e₁ : List ℕ) → r ≡ R.And → c ≡ holdsAt (l - 1) x y cb vs e → not c ≡ false → e₁ ≡ e → d ≡ holdsAt (l - 1) u w cb vs e₁ → d ≡ holdsAt l q z cb vs e
-        unfolding holds
+        pub and-yes : (c d : Bool) (e₁ : List ℕ) → r ≡ R.And → c ≡ holdsAt (l - 1) x y cb vs m e → not c ≡ false → e₁ ≡ e → d ≡ holdsAt (l - 1) u w cb vs m e₁ → d ≡ holdsAt l q z cb vs m e
+        unfolding holdsBy
         and-yes c d e₁ h ec f ee ed =
             let g = sym child ∙ sym ec ∙ not-no c f in
-            ed ∙ ap (holdsAt (l - 1) u w cb vs) ee ∙ next ∙ sym (rw g) ∙ holds-is l R.And nz (sym h ∙ er)
+            ed ∙ ap (holdsAt (l - 1) u w cb vs m) ee ∙ next ∙ sym (rw g) ∙ holds-is l R.And nz (sym h ∙ er)
 
-        pub or-no : (c d : Bool) (e₁ : List ℕ) → r ≡ R.Or → c ≡ holdsAt (l - 1) x y cb vs e → c ≡ false → e₁ ≡ e → d ≡ holdsAt (l - 1) u w cb vs e₁ → d ≡ holdsAt l q z cb vs e
-        unfolding holds
+        pub or-no : (c d : Bool) (e₁ : List ℕ) → r ≡ R.Or → c ≡ holdsAt (l - 1) x y cb vs m e → c ≡ false → e₁ ≡ e → d ≡ holdsAt (l - 1) u w cb vs m e₁ → d ≡ holdsAt l q z cb vs m e
+        unfolding holdsBy
         or-no c d e₁ h ec f ee ed =
             let g = sym child ∙ sym ec ∙ f in
-            ed ∙ ap (holdsAt (l - 1) u w cb vs) ee ∙ next ∙ sym (rw g) ∙ holds-is l R.Or nz (sym h ∙ er)
+            ed ∙ ap (holdsAt (l - 1) u w cb vs m) ee ∙ next ∙ sym (rw g) ∙ holds-is l R.Or nz (sym h ∙ er)
 
-        pub compare-is : (o : ℕ) (c d : Ratio) (e₁ : List ℕ) (t : Bool) → r ≡ R.Compare o → c ≡ valueAt (l - 1) x y cb vs e → e₁ ≡ e → d ≡ valueAt (l - 1) u w cb vs e₁ → t ≡ compare o c d → t ≡ holdsAt l q z cb vs e
-        unfolding holds
+        pub compare-is : (o : ℕ) (c d : Ratio) (e₁ : List ℕ) (t : Bool) → r ≡ R.Compare o → c ≡ valueAt (l - 1) x y cb vs m e → e₁ ≡ e → d ≡ valueAt (l - 1) u w cb vs m e₁ → t ≡ compare o c d → t ≡ holdsAt l q z cb vs m e
+        unfolding holdsBy
         compare-is o c d e₁ t h ec ee ed et =
-            et ∙ ap₂ (compare o) (ec ∙ childT) (ed ∙ ap (valueAt (l - 1) u w cb vs) ee ∙ nextT) ∙ holds-is l (R.Compare o) nz (sym h ∙ er)
+            et ∙ ap₂ (compare o) (ec ∙ childT) (ed ∙ ap (valueAt (l - 1) u w cb vs m) ee ∙ nextT) ∙ holds-is l (R.Compare o) nz (sym h ∙ er)
 
-  pub constant-is : (l a b c d : ℕ) (r : Record) (t : ℤ) → (l ≡ 0 → ⊥) → r ≡ recordAt q → r ≡ R.Constant a b c d → t ≡ signed a b c d → whole t ≡ valueAt l q z cb vs e
-  unfolding holds
+  pub constant-is : (l a b c d : ℕ) (r : Record) (t : ℤ) → (l ≡ 0 → ⊥) → r ≡ recordAt q → r ≡ R.Constant a b c d → t ≡ signed a b c d → whole t ≡ valueAt l q z cb vs m e
+  unfolding holdsBy
   constant-is l a b c d r t nz er h et = ap whole et ∙ value-is l (R.Constant a b c d) nz (sym h ∙ er)
 
-  pub attribute-is : (l v a p : ℕ) (r : Record) (t : ℤ) → (l ≡ 0 → ⊥) → r ≡ recordAt q → r ≡ R.Attribute v a → v < length e → p ≡ getD e v 0 → t ≡ getD vs (p + a) (pos 0) → whole t ≡ valueAt l q z cb vs e
-  unfolding holds
+  pub attribute-is : (l v a p : ℕ) (r : Record) (t : ℤ) → (l ≡ 0 → ⊥) → r ≡ recordAt q → r ≡ R.Attribute v a → v < length e → p ≡ getD e v 0 → t ≡ getD vs (p + a) (pos 0) → whole t ≡ valueAt l q z cb vs m e
+  unfolding holdsBy
   attribute-is l v a p r t nz er h hv ep et = ap whole (et ∙ ap (λ n. getD vs (n + a) (pos 0)) (ep ∙ getD-inside e v 0 (length vs) hv)) ∙ value-is l (R.Attribute v a) nz (sym h ∙ er)
 
 -- other records are no condition, and no term
@@ -183,14 +191,14 @@ rest-term f q z (R.Permit a b c) h = refl
 rest-term f q z R.Unknown h = refl
 rest-term f q z R.Short h = refl
 
-module _ (cb : List ℕ) (vs : List ℤ) (e q z : List ℕ) (l : ℕ) (r : Record) (nz : l ≡ 0 → ⊥) (er : r ≡ recordAt q) where
-  pub no-condition : OneOf (0 ∷ 2 ∷ 8 ∷ 9 ∷ 10 ∷ 11 ∷ 12 ∷ 13 ∷ 14 ∷ 15 ∷ []) (tagOf (declared enum) r) → false ≡ holdsAt l q z cb vs e
-  unfolding holds
-  no-condition h = sym (ap (λ (c : Condition). holds c (rowsIn cb vs) (assigned vs e)) (rest-condition (λ x y. decode (l - 1) x y) (λ x y. decodeT (l - 1) x y) q z r h)) ∙ holds-is cb vs e q z l r nz er
+module _ (cb : List ℕ) (vs m : List ℤ) (e q z : List ℕ) (l : ℕ) (r : Record) (nz : l ≡ 0 → ⊥) (er : r ≡ recordAt q) where
+  pub no-condition : OneOf (0 ∷ 2 ∷ 8 ∷ 9 ∷ 10 ∷ 11 ∷ 12 ∷ 13 ∷ 14 ∷ 15 ∷ []) (tagOf (declared enum) r) → false ≡ holdsAt l q z cb vs m e
+  unfolding holdsBy
+  no-condition h = sym (ap (λ (c : Condition). holdsBy m c (rowsIn cb vs) (assigned vs e)) (rest-condition (λ x y. decode (l - 1) x y) (λ x y. decodeT (l - 1) x y) q z r h)) ∙ holds-is cb vs m e q z l r nz er
 
-  pub no-term : OneOf (0 ∷ 1 ∷ 2 ∷ 3 ∷ 4 ∷ 5 ∷ 6 ∷ 7 ∷ 11 ∷ 12 ∷ 13 ∷ 14 ∷ 15 ∷ []) (tagOf (declared enum) r) → whole (pos 0) ≡ valueAt l q z cb vs e
-  unfolding holds signed
-  no-term h = sym (ap (λ (t : Term). value t (rowsIn cb vs) (assigned vs e)) (rest-term (λ x y. decode (l - 1) x y) q z r h)) ∙ value-is cb vs e q z l r nz er
+  pub no-term : OneOf (0 ∷ 1 ∷ 2 ∷ 3 ∷ 4 ∷ 5 ∷ 6 ∷ 7 ∷ 11 ∷ 12 ∷ 13 ∷ 14 ∷ 15 ∷ []) (tagOf (declared enum) r) → whole (pos 0) ≡ valueAt l q z cb vs m e
+  unfolding holdsBy signed
+  no-term h = sym (ap (λ (t : Term). valueBy m t (rowsIn cb vs) (assigned vs e)) (rest-term (λ x y. decode (l - 1) x y) q z r h)) ∙ value-is cb vs m e q z l r nz er
 
 -- the places: the variable's own is put back at the end, so a loop keeps what they are with the old one back
 pub places-start : (e : List ℕ) (v old : ℕ) → old ≡ getD e v 0 → set e v old ≡ e
@@ -206,9 +214,9 @@ module _ (d e y : List ℕ) (v old p : ℕ) (inv : set d v old ≡ e) (ey : y �
   pub places-length : (x : List ℕ) → x ≡ y → length d ≡ length e → length x ≡ length e
   places-length x ex h = ap length (ex ∙ ey) ∙ length-set d v p ∙ h
 
-  pub on-row : (l : ℕ) (q z cb : List ℕ) (vs : List ℤ) (b : Bool) → v < length e → b ≡ holdsAt l q z cb vs y → holdsOn l q z cb vs e v (tupleAt vs p) ≡ b
+  pub on-row : (l : ℕ) (q z cb : List ℕ) (vs m : List ℤ) (b : Bool) → v < length e → b ≡ holdsAt l q z cb vs m y → holdsOn l q z cb vs m e v (tupleAt vs p) ≡ b
   unfolding holdsAt holdsOn
-  on-row l q z cb vs b h eb = sym (eb ∙ ap (λ (x : List ℕ). holds (decode l q z) (rowsIn cb vs) (assigned vs x)) places-on ∙ ap (holds (decode l q z) (rowsIn cb vs)) (assigned-set vs e v p h))
+  on-row l q z cb vs m b h eb = sym (eb ∙ ap (λ (x : List ℕ). holdsBy m (decode l q z) (rowsIn cb vs) (assigned vs x)) places-on ∙ ap (holdsBy m (decode l q z) (rowsIn cb vs)) (assigned-set vs e v p h))
 
 -- a search over the rows
 pub search-start : (f : Tuple → Bool) (cb : List ℕ) (vs : List ℤ) (r n w p : ℕ) → n ≡ rowsOf cb r → w ≡ attributesOf cb r → p ≡ baseOf cb r → any f (map (tupleAt vs) (offsets p w (n - 0))) ≡ any f (tuplesIn cb vs r)
@@ -226,9 +234,9 @@ module _ (f : Tuple → Bool) (cb : List ℕ) (vs : List ℤ) (r n w p i : ℕ) 
   search-none h = sym (any-none vs f p w n i h) ∙ inv
 
 -- the values taken
-pub taken-all : (l : ℕ) (q z cb : List ℕ) (vs : List ℤ) (e : List ℕ) (v r a n w p i : ℕ) → n ≡ rowsOf cb r → w ≡ attributesOf cb r → p ≡ baseOf cb r → i ≡ n → kept vs (holdsOn l q z cb vs e v) a p w i ≡ valuesOn l q z cb vs e v r a
+pub taken-all : (l : ℕ) (q z cb : List ℕ) (vs m : List ℤ) (e : List ℕ) (v r a n w p i : ℕ) → n ≡ rowsOf cb r → w ≡ attributesOf cb r → p ≡ baseOf cb r → i ≡ n → kept vs (holdsOn l q z cb vs m e v) a p w i ≡ valuesOn l q z cb vs m e v r a
 unfolding kept valuesOn tuplesIn
-taken-all l q z cb vs e v r a n w p i en ew ep ei = rw (ei, en, ew, ep)
+taken-all l q z cb vs m e v r a n w p i en ew ep ei = rw (ei, en, ew, ep)
 
 -- rows are w values apart; a row's place fits
 pub next-row : (b w p i : ℕ) → p ≡ b + i * w → p + w ≡ b + (i + 1) * w

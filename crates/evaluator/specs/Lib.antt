@@ -1,1 +1,2 @@
+pub mod Recalled
 pub mod Evaluation

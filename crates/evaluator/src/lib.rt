@@ -1,5 +1,6 @@
 // Conditions and terms evaluated over the bytes of a query. A table of sizes tells where a second child starts, so that
-// AND, OR and SOME are left as soon as their truth is known. The level falls at each call.
+// AND, OR and SOME are left as soon as their truth is known. The level falls at each call. An aggregate that the memo
+// knows, by its variable, is not evaluated again.
 use kinds::Record;
 use numbers::Accumulator;
 use numbers::Ratio;
@@ -35,10 +36,11 @@ pub fn condition(
     level: usize,
     catalogue: &[u8],
     values: &[i32],
+    memo: &[i64],
     env: &mut [usize],
 ) -> bool
     requires { ⌜ 256 ≤ length (now env) ⌝ }
-    ensures { λ r. ⌜ r ≡ holdsAt level (now (q .entry)) (now (z .entry)) (now (catalogue .entry)) (now (values .entry)) (now (env .entry)) ⌝ }
+    ensures { λ r. ⌜ r ≡ holdsAt level (now (q .entry)) (now (z .entry)) (now (catalogue .entry)) (now (values .entry)) (now (memo .entry)) (now (env .entry)) ⌝ }
     ensures { λ _. ⌜ now (env .exit) ≡ now (env .entry) ⌝ }
 {
     if level == 0 {
@@ -55,6 +57,7 @@ pub fn condition(
                 l,
                 catalogue,
                 values,
+                memo,
                 env,
             )
         }
@@ -65,6 +68,7 @@ pub fn condition(
                 l,
                 catalogue,
                 values,
+                memo,
                 env,
             ) {
                 return false;
@@ -76,6 +80,7 @@ pub fn condition(
                 l,
                 catalogue,
                 values,
+                memo,
                 env,
             )
         }
@@ -86,6 +91,7 @@ pub fn condition(
                 l,
                 catalogue,
                 values,
+                memo,
                 env,
             ) {
                 return true;
@@ -97,6 +103,7 @@ pub fn condition(
                 l,
                 catalogue,
                 values,
+                memo,
                 env,
             )
         }
@@ -107,6 +114,7 @@ pub fn condition(
                 l,
                 catalogue,
                 values,
+                memo,
                 env,
             );
             let b = a + kinds::size_at(z, a);
@@ -116,6 +124,7 @@ pub fn condition(
                 l,
                 catalogue,
                 values,
+                memo,
                 env,
             );
             numbers::compare(operator, x, y)
@@ -123,7 +132,7 @@ pub fn condition(
         Record::Some(variable, relation) => {
             let x = kinds::tail(q, a);
             let y = kinds::tail_sizes(z, a);
-            some_row(x, y, l, catalogue, values, env, variable, relation)
+            some_row(x, y, l, catalogue, values, memo, env, variable, relation)
         }
         _ => false,
     }
@@ -136,10 +145,11 @@ pub fn term(
     level: usize,
     catalogue: &[u8],
     values: &[i32],
+    memo: &[i64],
     env: &mut [usize],
 ) -> Ratio
     requires { ⌜ 256 ≤ length (now env) ⌝ }
-    ensures { λ r. ⌜ r ≡ represent (valueAt level (now (q .entry)) (now (z .entry)) (now (catalogue .entry)) (now (values .entry)) (now (env .entry))) ⌝ }
+    ensures { λ r. ⌜ r ≡ represent (valueAt level (now (q .entry)) (now (z .entry)) (now (catalogue .entry)) (now (values .entry)) (now (memo .entry)) (now (env .entry))) ⌝ }
     ensures { λ r. ⌜ Small r ⌝ }
     ensures { λ _. ⌜ now (env .exit) ≡ now (env .entry) ⌝ }
 {
@@ -155,6 +165,9 @@ pub fn term(
             numbers::whole(catalogue::cell(values, row, attribute))
         }
         Record::Aggregate(function, variable, relation, attribute) => {
+            if numbers::knows(memo, variable) {
+                return numbers::recall(memo, variable);
+            }
             let x = kinds::tail(q, at);
             let y = kinds::tail_sizes(z, at);
             let taken = gather(
@@ -163,6 +176,7 @@ pub fn term(
                 l,
                 catalogue,
                 values,
+                memo,
                 env,
                 variable,
                 relation,
@@ -181,12 +195,13 @@ fn some_row(
     level: usize,
     catalogue: &[u8],
     values: &[i32],
+    memo: &[i64],
     env: &mut [usize],
     variable: u8,
     relation: u8,
 ) -> bool
     requires { ⌜ 256 ≤ length (now env) ⌝ }
-    ensures { λ r. ⌜ r ≡ any (holdsOn level (now (q .entry)) (now (z .entry)) (now (catalogue .entry)) (now (values .entry)) (now (env .entry)) variable) (tuplesIn (now (catalogue .entry)) (now (values .entry)) relation) ⌝ }
+    ensures { λ r. ⌜ r ≡ any (holdsOn level (now (q .entry)) (now (z .entry)) (now (catalogue .entry)) (now (values .entry)) (now (memo .entry)) (now (env .entry)) variable) (tuplesIn (now (catalogue .entry)) (now (values .entry)) relation) ⌝ }
     ensures { λ _. ⌜ now (env .exit) ≡ now (env .entry) ⌝ }
 {
     let n = catalogue::rows(catalogue, relation);
@@ -196,7 +211,7 @@ fn some_row(
     let mut i = 0;
     while i < n {
         set_place(env, variable, row);
-        if condition(q, z, level, catalogue, values, env) {
+        if condition(q, z, level, catalogue, values, memo, env) {
             set_place(env, variable, old);
             return true;
         }
@@ -214,13 +229,14 @@ fn gather(
     level: usize,
     catalogue: &[u8],
     values: &[i32],
+    memo: &[i64],
     env: &mut [usize],
     variable: u8,
     relation: u8,
     attribute: u8,
 ) -> Accumulator
     requires { ⌜ 256 ≤ length (now env) ⌝ }
-    ensures { λ r. ⌜ Accumulates r (valuesOn level (now (q .entry)) (now (z .entry)) (now (catalogue .entry)) (now (values .entry)) (now (env .entry)) variable relation attribute) ⌝ }
+    ensures { λ r. ⌜ Accumulates r (valuesOn level (now (q .entry)) (now (z .entry)) (now (catalogue .entry)) (now (values .entry)) (now (memo .entry)) (now (env .entry)) variable relation attribute) ⌝ }
     ensures { λ r. ⌜ r .count ≤ 65535 ⌝ }
     ensures { λ _. ⌜ now (env .exit) ≡ now (env .entry) ⌝ }
 {
@@ -232,7 +248,7 @@ fn gather(
     let mut i = 0;
     while i < n {
         set_place(env, variable, row);
-        if condition(q, z, level, catalogue, values, env) {
+        if condition(q, z, level, catalogue, values, memo, env) {
             taken = numbers::add(taken, catalogue::cell(values, row, attribute));
         }
         row += w;

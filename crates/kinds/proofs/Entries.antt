@@ -3,14 +3,14 @@ use mathlib.Core.Path.{_≡_, refl, sym, ap, subst, _∙_}
 use mathlib.Core.Bool.{Bool, true, false, cond, _&&_}
 use mathlib.Core.List.{List, [], _∷_}
 use mathlib.Core.Option.{Option, none, some}
-use Prim.Native.Nat.{ℕ, zero, suc, _+_, _<_, _≤_}
+use Prim.Native.Nat.{ℕ, zero, suc, _+_, _*_, _/_, _%_, _<_, _≤_}
 use native.Mathlib.Nat.{add-zero, zero-add, add-suc, suc-add, le-of-suc-le-suc, not-suc-le-zero}
 use native.Mathlib.Omega.{arith}
-use lib.Dec.{T, eqb, eqb→eq, ltb, ltb→lt}
+use lib.Dec.{T, eqb, eqb→eq, ltb, ltb→lt, leb}
 use lib.ListN.{length, getD}
-use borrow.Author.Tests.{ne-eqb}
+use borrow.Author.Tests.{ne-eqb, eqb-true, eqb-false, lt-ltb, le-ltb, le-leb, ltb-true, ltb-false}
 use Rattle.model.specs.Kinds.{Kind, k-range, k-true, k-false, k-not, k-and, k-or, k-compare, k-some, k-constant, k-attribute, k-aggregate, k-stored, k-workspace, k-permit, kinds, code, bodyLength, childConditions, childTerms, find, kindOf}
-use Rattle.kinds.specs.Tables.{ofKind, bodyOf, conditionsOf, termsOf, recordLength}
+use Rattle.kinds.specs.Tables.{slotOf, ofKind, bodyOf, conditionsOf, termsOf, recordLength}
 
 and-left : (a b : Bool) → T (a && b) → T a
 and-left true b t = tt
@@ -20,22 +20,22 @@ and-right : (a b : Bool) → T (a && b) → T b
 and-right true b t = t
 and-right false b t = absurd t
 
--- the test f passes at each entry of the list and its place, counted from i
-abbrev every : (ℕ → ℕ → Bool) → ℕ → List ℕ → Bool
-every f i [] = true
-every f i (x ∷ xs) = f i x && every f (suc i) xs
+-- the test f passes at each number below n
+abbrev every : (ℕ → Bool) → ℕ → Bool
+every f zero = true
+every f (suc n) = f n && every f n
 
-from : (f : ℕ → ℕ → Bool) (xs : List ℕ) (i : ℕ) → T (every f i xs) → (k : ℕ) → k < length xs → T (f (i + k) (getD xs k 0))
-from f [] i t k h = absurd (not-suc-le-zero h)
-from f (x ∷ xs) i t zero h = subst (λ (m : ℕ). T (f m x)) (sym (add-zero i)) (and-left (f i x) (every f (suc i) xs) t)
-from f (x ∷ xs) i t (suc k) h =
-    subst (λ (m : ℕ). T (f m (getD xs k 0))) (suc-add i k ∙ sym (add-suc i k))
-    (from f xs (suc i) (and-right (f i x) (every f (suc i) xs) t) k (le-of-suc-le-suc h))
+below : (f : ℕ → Bool) (n : ℕ) → T (every f n) → (k : ℕ) → k < n → T (f k)
+below f zero t k h = absurd (not-suc-le-zero h)
+below f (suc n) t k h = last (eqb k n) refl (λ l. below f n (and-right (f n) (every f n) t) k l)
+  where
+    last : (b : Bool) → eqb k n ≡ b → (k < n → T (f k)) → T (f k)
+    last true e g = subst (λ (m : ℕ). T (f m)) (sym (eqb-true k n e)) (and-left (f n) (every f n) t)
+    last false e g = g (omega (arith, h, eqb-false k n e))
 
--- an entry is what g says, where the test over the table passes
-pub entry : (g : ℕ → ℕ) (xs : List ℕ) → T (every (λ k x. eqb x (g k)) 0 xs) → (k : ℕ) → k < length xs → getD xs k 0 ≡ g k
-entry g xs t k h =
-    eqb→eq (getD xs k 0) (g k) (subst (λ (m : ℕ). T (eqb (getD xs k 0) (g m))) (zero-add k) (from (λ k x. eqb x (g k)) xs 0 t k h))
+-- what a table says of a kind, d where it has no place in it
+abbrev pub tableOf : ℕ → List ℕ → ℕ → ℕ
+tableOf d xs k = cond (ltb (slotOf k) 40) (getD xs (slotOf k) 0) d
 
 -- no kind has a byte past the table
 below65 : List Kind → Bool
@@ -61,6 +61,28 @@ of-some d f b x e = rw (e, ofKind)
 pub past : {A : Type 0} (d : A) (f : Kind → A) (b : ℕ) → 65 ≤ b → ofKind d f b ≡ d
 unfolding kindOf below65
 past d f b h = of-none d f b (none-past b h kinds tt)
+
+-- from 80 on a kind has no place
+slot-past : (k : ℕ) → 80 ≤ k → slotOf k ≡ 40
+slot-past k h = go (leb 8 (k % 16))
+  where
+    go : (b : Bool) → cond b 40 (cond (leb 5 (k / 16)) 40 (8 * (k / 16) + k % 16)) ≡ 40
+    go true = refl
+    go false = rw (le-leb 5 (k / 16) (omega arith))
+
+-- an entry is what f says of the kind, where the test over the table passes
+table-is : (d : ℕ) (f : Kind → ℕ) (xs : List ℕ) → T (every (λ k. eqb (tableOf d xs k) (ofKind d f k)) 80) → (k : ℕ) → tableOf d xs k ≡ ofKind d f k
+table-is d f xs t k = go (ltb k 80) refl
+  where
+    go : (b : Bool) → ltb k 80 ≡ b → tableOf d xs k ≡ ofKind d f k
+    go true e = eqb→eq (tableOf d xs k) (ofKind d f k) (below (λ k. eqb (tableOf d xs k) (ofKind d f k)) 80 t k (ltb-true k 80 e))
+    go false e = let l = ltb-false k 80 e in rw (slot-past k l) (sym (past d f k (omega arith)))
+
+pub entry : (d : ℕ) (f : Kind → ℕ) (xs : List ℕ) → T (every (λ k. eqb (tableOf d xs k) (ofKind d f k)) 80) → (k s : ℕ) → s ≡ slotOf k → s < 40 → getD xs s 0 ≡ ofKind d f k
+entry d f xs t k s e h = ap (λ (i : ℕ). getD xs i 0) e ∙ sym (ap (λ (b : Bool). cond b (getD xs (slotOf k) 0) d) (lt-ltb (slotOf k) 40 (omega (arith, h, e)))) ∙ table-is d f xs t k
+
+pub no-entry : (d : ℕ) (f : Kind → ℕ) (xs : List ℕ) → T (every (λ k. eqb (tableOf d xs k) (ofKind d f k)) 80) → (k s : ℕ) → s ≡ slotOf k → 40 ≤ s → d ≡ ofKind d f k
+no-entry d f xs t k s e h = sym (ap (λ (b : Bool). cond b (getD xs (slotOf k) 0) d) (le-ltb (slotOf k) 40 (omega (arith, h, e)))) ∙ table-is d f xs t k
 
 -- a body has at most four bytes
 pub body-small : (x : Kind) → bodyLength x ≤ 4

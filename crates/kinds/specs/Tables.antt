@@ -1,5 +1,7 @@
 -- What the byte of a kind fixes (document 01, the table of "Questions"), for every byte.
-use Prim.Native.Nat.{ℕ, suc}
+use Prim.Native.Nat.{ℕ, suc, _+_, _*_, _/_, _%_}
+use mathlib.Core.Bool.{cond}
+use lib.Dec.{leb}
 use mathlib.Core.Option.{Option, none, some}
 use Rattle.model.specs.Kinds.{Kind, kindOf, bodyLength, childConditions, childTerms}
 
@@ -19,3 +21,7 @@ termsOf b = ofKind 0 childTerms b
 -- the byte of kind and the body
 unfoldable pub recordLength : ℕ → ℕ
 recordLength b = ofKind 1 (λ x. suc (bodyLength x)) b
+
+-- the place of a kind in the tables: rows of eight for each sixteen kinds
+abbrev pub slotOf : ℕ → ℕ
+slotOf k = cond (leb 8 (k % 16)) 40 (cond (leb 5 (k / 16)) 40 (8 * (k / 16) + k % 16))

@@ -5,21 +5,14 @@ ghost use lib.ListN.{getD, drop};
 ghost use lib.IntN.{natAbs};
 ghost use Rattle.model.specs.Syntax.{isOperator, isFunction};
 ghost use Rattle.model.specs.Meaning.{signed};
-ghost use Rattle.kinds.specs.Tables.{bodyOf, conditionsOf, termsOf, recordLength};
+ghost use Rattle.kinds.specs.Tables.{slotOf, bodyOf, conditionsOf, termsOf, recordLength};
 ghost use Rattle.kinds.specs.Record.{recordOf, recordAt};
 
-// By kind: the length of the body, 255 where no record has the kind.
-const BODY: [u8; 65] = [
+// Tables by kind: a row for each sixteen kinds, of which only the first eight are in use. A small table is quick to read.
+// The length of the body, 255 where no record has the kind.
+const BODY: [u8; 40] = [
     255,
     2,
-    255,
-    255,
-    255,
-    255,
-    255,
-    255,
-    255,
-    255,
     255,
     255,
     255,
@@ -33,14 +26,6 @@ const BODY: [u8; 65] = [
     0,
     1,
     2,
-    255,
-    255,
-    255,
-    255,
-    255,
-    255,
-    255,
-    255,
     255,
     4,
     2,
@@ -50,14 +35,6 @@ const BODY: [u8; 65] = [
     255,
     255,
     255,
-    255,
-    255,
-    255,
-    255,
-    255,
-    255,
-    255,
-    255,
     3,
     3,
     255,
@@ -66,27 +43,18 @@ const BODY: [u8; 65] = [
     255,
     255,
     255,
-    255,
-    255,
-    255,
-    255,
-    255,
-    255,
-    255,
-    255,
     3,
+    255,
+    255,
+    255,
+    255,
+    255,
+    255,
+    255,
 ];
 
-// By kind: how many conditions follow as children, and how many terms.
-const CHILD_CONDITIONS: [u8; 65] = [
-    0,
-    0,
-    0,
-    0,
-    0,
-    0,
-    0,
-    0,
+// How many conditions follow as children, and how many terms.
+const CHILD_CONDITIONS: [u8; 40] = [
     0,
     0,
     0,
@@ -105,6 +73,12 @@ const CHILD_CONDITIONS: [u8; 65] = [
     0,
     0,
     0,
+    1,
+    0,
+    0,
+    0,
+    0,
+    0,
     0,
     0,
     0,
@@ -121,40 +95,9 @@ const CHILD_CONDITIONS: [u8; 65] = [
     0,
     0,
     0,
-    0,
-    0,
-    0,
-    0,
-    0,
-    0,
-    0,
-    0,
-    0,
-    0,
-    0,
-    0,
-    0,
-    0,
-    0,
-    0,
-    0,
-    0,
-    0,
-    0,
-    0,
-    0,
-    1,
 ];
 
-const CHILD_TERMS: [u8; 65] = [
-    0,
-    0,
-    0,
-    0,
-    0,
-    0,
-    0,
-    0,
+const CHILD_TERMS: [u8; 40] = [
     0,
     0,
     0,
@@ -169,23 +112,6 @@ const CHILD_TERMS: [u8; 65] = [
     0,
     0,
     2,
-    0,
-    0,
-    0,
-    0,
-    0,
-    0,
-    0,
-    0,
-    0,
-    0,
-    0,
-    0,
-    0,
-    0,
-    0,
-    0,
-    0,
     0,
     0,
     0,
@@ -213,38 +139,41 @@ const CHILD_TERMS: [u8; 65] = [
     0,
     0,
 ];
+
+// The place of a kind in the tables, 40 where it has none.
+fn slot(kind: u8) -> usize
+    ensures { λ r. ⌜ r ≡ slotOf kind ⌝ }
+{
+    let low = kind % 16;
+    let row = kind / 16;
+    if 8 <= low {
+        return 40;
+    }
+    if 5 <= row {
+        return 40;
+    }
+    wide(8 * row + low)
+}
 
 pub fn body_length(kind: u8) -> u8
     ensures { λ r. ⌜ r ≡ bodyOf kind ⌝ }
 {
-    if kind < 65 {
-        let k = kind as usize;
-        BODY[k]
-    } else {
-        255
-    }
+    let k = slot(kind);
+    if k < 40 { BODY[k] } else { 255 }
 }
 
 pub fn child_conditions(kind: u8) -> u8
     ensures { λ r. ⌜ r ≡ conditionsOf kind ⌝ }
 {
-    if kind < 65 {
-        let k = kind as usize;
-        CHILD_CONDITIONS[k]
-    } else {
-        0
-    }
+    let k = slot(kind);
+    if k < 40 { CHILD_CONDITIONS[k] } else { 0 }
 }
 
 pub fn child_terms(kind: u8) -> u8
     ensures { λ r. ⌜ r ≡ termsOf kind ⌝ }
 {
-    if kind < 65 {
-        let k = kind as usize;
-        CHILD_TERMS[k]
-    } else {
-        0
-    }
+    let k = slot(kind);
+    if k < 40 { CHILD_TERMS[k] } else { 0 }
 }
 
 fn wide(x: u8) -> usize

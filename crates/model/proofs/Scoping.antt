@@ -86,14 +86,14 @@ module _ (sh : Shape) (limit : ℕ) where
 abbrev pub Alike : Scope → Assignment → Assignment → Type 0
 Alike σ e e′ = (w r : ℕ) → σ w ≡ some r → e w ≡ e′ w
 
-alike-upd : (σ : Scope) (e e′ : Assignment) (v q : ℕ) (row : Tuple) → Alike σ e e′ → Alike (update σ v (some q)) (update e v row) (update e′ v row)
+pub alike-upd : (σ : Scope) (e e′ : Assignment) (v q : ℕ) (row : Tuple) → Alike σ e e′ → Alike (update σ v (some q)) (update e v row) (update e′ v row)
 alike-upd σ e e′ v q row h w r k = go (eqb w v) refl
   where
     go : (b : Bool) → eqb w v ≡ b → update e v row w ≡ update e′ v row w
     go true p = rw p
     go false p = rw p (h w r (rw p at k))
 
-alike-nobody : (e e′ : Assignment) → Alike nobody e e′
+pub alike-nobody : (e e′ : Assignment) → Alike nobody e e′
 alike-nobody e e′ w r k = let z : _≡_ {A = ℕ} 0 1 = cc in absurd (omega arith)
 
 module _ (sh : Shape) (limit : ℕ) (R : Rows) where

@@ -83,3 +83,14 @@ widens z f = subst (SFits w64) (sym (toZ-ofZ f)) (sfits-widen {w = w32} {w′ = 
 
 pub widened : (z : ℤ) → SFits w32 z → toZ w64 (ofZ w64 (toZ w32 (ofZ w32 z))) ≡ z
 widened z f = ap (λ (y : ℤ). toZ w64 (ofZ w64 y)) (toZ-ofZ f) ∙ toZ-ofZ {w = w64} (sfits-widen {w = w32} {w′ = w64} tt f)
+
+-- an i64 that fits an i32
+module _ (x : ℤ) (f : SFits w64 x) (h : natAbs x ≤ 2147483647) where
+  fits32 : SFits w32 x
+  fits32 = record { sfits = omega (arith, mag-abs x) }
+
+  pub narrows : SFits w32 (toZ w64 (ofZ w64 x))
+  narrows = subst (SFits w32) (sym (toZ-ofZ f)) fits32
+
+  pub narrowed : toZ w32 (ofZ w32 (toZ w64 (ofZ w64 x))) ≡ x
+  narrowed = toZ-ofZ narrows ∙ toZ-ofZ f

@@ -3,9 +3,12 @@ ghost use mathlib.Core.Path.{_≡_};
 ghost use mathlib.Core.List.{[]};
 ghost use Prim.Native.Nat.{ℕ, _+_, _*_, _≤_, _<_};
 ghost use lib.IntN.{pos, natAbs, _*ℤ_, _+ℤ_};
-ghost use lib.Signed.{quotZ};
+ghost use lib.Signed.{quotZ, leZ};
 ghost use Rattle.model.specs.Meaning as M;
+ghost use lib.ListN.{getD, set};
+ghost use mathlib.Core.Bool.{true, _&&_};
 ghost use Rattle.numbers.specs.Numbers as N;
+ghost use Rattle.numbers.specs.Memo as Memo;
 
 // A value: numerator over denominator, which is positive.
 pub struct Ratio {
@@ -21,11 +24,18 @@ pub struct Accumulator {
     pub min: i64,
 }
 
-fn wide(x: i32) -> i64
+pub fn wide(x: i32) -> i64
     ensures { λ r. ⌜ r ≡ x ⌝ }
     ensures { λ r. ⌜ natAbs r ≤ 2147483648 ⌝ }
 {
     x as i64
+}
+
+pub fn narrow(x: i64) -> i32
+    requires { ⌜ natAbs x ≤ 2147483647 ⌝ }
+    ensures { λ r. ⌜ r ≡ x ⌝ }
+{
+    x as i32
 }
 
 fn over(a: i64, b: i64) -> Ratio
@@ -52,7 +62,14 @@ fn product(a: i64, b: i64) -> i64
     a * b
 }
 
-fn ordered(operator: u8, a: i64, b: i64) -> bool
+fn wide_byte(x: u8) -> usize
+    ensures { λ r. ⌜ r ≡ x ⌝ }
+{
+    x as usize
+}
+
+// Compares two numbers.
+pub fn ordered(operator: usize, a: i64, b: i64) -> bool
     ensures { λ r. ⌜ r ≡ N.ordered operator a b ⌝ }
 {
     match operator {
@@ -71,7 +88,7 @@ pub fn compare(operator: u8, x: Ratio, y: Ratio) -> bool
     ensures { λ r. ⌜ r ≡ M.compare operator (N.ratioOf x) (N.ratioOf y) ⌝ }
 {
     ordered(
-        operator,
+        wide_byte(operator),
         product(x.numerator, y.denominator),
         product(y.numerator, x.denominator),
     )
@@ -177,4 +194,65 @@ pub fn finish(function: u8, a: Accumulator) -> Ratio
         4 => over(a.max, 1),
         _ => over(a.min, 1),
     }
+}
+
+// The cell at i, 0 past the end.
+fn at(memo: &[i64], i: usize) -> i64
+    ensures { λ r. ⌜ r ≡ getD (now (memo .entry)) i (pos 0) ⌝ }
+{
+    if i < memo.len() { memo[i] } else { 0 }
+}
+
+// Where a variable's numerator stands; its denominator follows.
+fn place(variable: u8) -> usize
+    ensures { λ r. ⌜ r ≡ 2 * variable ⌝ }
+    ensures { λ r. ⌜ r ≤ 510 ⌝ }
+{
+    2 * (variable as usize)
+}
+
+// Whether x lies between two numbers.
+pub fn within(low: i64, x: i64, high: i64) -> bool
+    ensures { λ r. ⌜ r ≡ leZ low x && leZ x high ⌝ }
+{
+    if low <= x { x <= high } else { false }
+}
+
+// Whether the memo has a value for the variable.
+pub fn knows(memo: &[i64], variable: u8) -> bool
+    ensures { λ r. ⌜ r ≡ Memo.knows (now (memo .entry)) variable ⌝ }
+{
+    let i = place(variable);
+    if !within(-140735340871680, at(memo, i), 140735340871680) {
+        return false;
+    }
+    within(1, at(memo, i + 1), 65535)
+}
+
+// The value that the memo has.
+pub fn recall(memo: &[i64], variable: u8) -> Ratio
+    requires { ⌜ Memo.knows (now memo) variable ≡ true ⌝ }
+    ensures { λ r. ⌜ r ≡ N.represent (Memo.recalled (now (memo .entry)) variable) ⌝ }
+    ensures { λ r. ⌜ N.Small r ⌝ }
+{
+    let i = place(variable);
+    over(at(memo, i), at(memo, i + 1))
+}
+
+fn put(memo: &mut [i64], i: usize, x: i64)
+    ensures { λ _. ⌜ now (memo .exit) ≡ set (now (memo .entry)) i x ⌝ }
+{
+    if i < memo.len() {
+        memo[i] = x;
+    }
+}
+
+// Keeps a variable's value.
+pub fn remember(memo: &mut [i64], variable: u8, x: Ratio)
+    requires { ⌜ N.Small x ⌝ }
+    ensures { λ _. ⌜ now (memo .exit) ≡ Memo.remembered (now (memo .entry)) variable x ⌝ }
+{
+    let i = place(variable);
+    put(memo, i, x.numerator);
+    put(memo, i + 1, x.denominator);
 }

@@ -1,30 +1,39 @@
--- The parts of a query's bytes, read with the table of sizes, and the rows that they give.
-use Prim.Native.Nat.{ℕ, zero, suc, _≤_}
-use mathlib.Core.List.{List, [], _∷_, map}
+-- The rows that a query's bytes give, read with the table of sizes.
+use Prim.Native.Nat.{ℕ, suc, _+_, _-_, _≤_, _<_}
+use mathlib.Core.List.{List, map}
 use lib.IntN.{ℤ}
 use lib.ListN.{getD, drop}
-use Rattle.model.specs.Lists.{filter}
-use Rattle.model.specs.Syntax.{Term, Binding}
-use Rattle.model.specs.Meaning.{Assignment, holds, targetRow, assignments}
+use Rattle.model.specs.Lists.{update, concatMap}
+use Rattle.model.specs.Syntax.{Term}
+use Rattle.model.specs.Meaning.{Assignment, Rows, cell}
 use Rattle.kinds.specs.Tables.{recordLength}
-use Rattle.sizes.specs.Decode.{decode, decodeT}
-use Rattle.evaluator.specs.Evaluation.{rowsIn}
+use Rattle.catalogue.specs.Layout.{tuplesIn}
+use Rattle.evaluator.specs.Recalled.{valueBy}
+use Rattle.evaluator.specs.Evaluation.{assigned, rowsIn}
+use Rattle.sizes.specs.Parts.{rangesAt, targetsAt}
+use Rattle.odometer.specs.Staged.{stagedFrom, depthHolds}
 use Rattle.odometer.specs.declared.Plan.{Plan}
 
--- n RANGE records, one after the other
-unfoldable pub rangesAt : ℕ → List ℕ → List Binding
-rangesAt zero q = []
-rangesAt (suc n) q = record { variable = getD q 1 0; relation = getD q 2 0 } ∷ rangesAt n (drop (recordLength 1) q)
+-- what a plan keeps to
+pub record Bounds (p : Plan) : Type 0 where
+  pub columns : p .columns ≤ 8
+  pub tests : p .tests ≤ 64
+  pub ranges : p .depth + p .left < 65536
 
--- n targets, one after the other
-unfoldable pub targetsAt : ℕ → ℕ → List ℕ → List ℕ → List Term
-targetsAt zero l q z = []
-targetsAt (suc n) l q z = decodeT l q z ∷ targetsAt n l (drop (getD z 0 0) q) (drop (getD z 0 0) z)
+-- the model's targetRow, with the memo m
+unfoldable pub cellsBy : List ℤ → List Term → Rows → Assignment → List ℤ
+cellsBy m ts R e = map (λ t. cell (valueBy m t R e)) ts
 
 -- the row of an assignment
-abbrev pub rowOf : Plan → List ℕ → List ℕ → List ℕ → List ℤ → Assignment → List ℤ
-rowOf p q z cb vs e = targetRow (targetsAt (p .columns) (p .level) (drop (p .targets) q) (drop (p .targets) z)) (rowsIn cb vs) e
+abbrev pub rowBy : Plan → List ℕ → List ℕ → List ℕ → List ℤ → List ℤ → Assignment → List ℤ
+rowBy p q z cb vs m e = cellsBy m (targetsAt (p .columns) (p .level) (drop (p .targets) q) (drop (p .targets) z)) (rowsIn cb vs) e
 
--- the rows of the assignments that meet the condition
-unfoldable pub rowsOf : Plan → List ℕ → List ℕ → List ℕ → List ℤ → List Assignment → List (List ℤ)
-rowsOf p q z cb vs es = map (rowOf p q z cb vs) (filter (holds (decode (p .level) (drop (p .condition) q) (drop (p .condition) z)) (rowsIn cb vs)) es)
+module _ (p : Plan) (t : List ℕ) (xs : List ℤ) (q z cb : List ℕ) (vs m : List ℤ) where
+  -- the rows of the ranges that are left
+  unfoldable pub rowsFrom : List ℕ → Assignment → List (List ℤ)
+  rowsFrom ranges e = map (rowBy p q z cb vs m) (stagedFrom (depthHolds t xs q z cb vs m (p .tests)) (p .depth) (rangesAt (p .left) ranges) (rowsIn cb vs) e)
+
+  -- the same with no test at this depth, for at least one range
+  unfoldable pub rowsBelow : List ℕ → Assignment → List (List ℤ)
+  rowsBelow ranges e = map (rowBy p q z cb vs m)
+      (concatMap (λ x. stagedFrom (depthHolds t xs q z cb vs m (p .tests)) (suc (p .depth)) (rangesAt (p .left - 1) (drop (recordLength 1) ranges)) (rowsIn cb vs) (update e (getD ranges 1 0) x)) (tuplesIn cb vs (getD ranges 2 0)))

@@ -1,22 +1,24 @@
-// The odometer: range variables run over their rows, the last RANGE fastest; each assignment that meets the condition gives a row.
+// The odometer: range variables run over their rows, the last RANGE fastest. Each test is tried as soon as the variables that it needs
+// are bound; an assignment that meets all of them gives a row.
 use rows::Filled;
 ghost use mathlib.Core.Path.{_≡_};
-ghost use mathlib.Core.List.{_∷_, []};
-ghost use Prim.Native.Nat.{_≤_, _+_};
+ghost use Prim.Native.Nat.{_≤_, _<_, _+_, _-_};
 ghost use lib.ListN.{length};
 ghost use lib.Seq.{sets};
-ghost use Rattle.model.specs.Meaning.{targetRow, assignments};
-ghost use Rattle.rows.specs.Buffer.{addedAll};
-ghost use Rattle.catalogue.specs.Layout.{tuplesIn};
+ghost use Rattle.sizes.specs.Parts.{targetsAt};
+ghost use Rattle.rows.specs.Buffer.{added, addedAll};
 ghost use Rattle.evaluator.specs.Evaluation.{assigned, rowsIn};
-ghost use Rattle.odometer.specs.Plan.{rangesAt, targetsAt, rowsOf};
+ghost use Rattle.odometer.specs.Staged.{depthHolds};
+ghost use Rattle.odometer.specs.Plan.{Bounds, cellsBy, rowBy, rowsFrom, rowsBelow};
 
-// Where a query's parts start, how many targets it has, and how deep its conditions may be.
+// Where a query's targets start, how many they are and how deep; how many tests there are; how many ranges are left, and are bound.
 pub struct Plan {
     pub targets: usize,
     pub columns: usize,
-    pub condition: usize,
     pub level: usize,
+    pub tests: usize,
+    pub left: usize,
+    pub depth: usize,
 }
 
 // The cells of the targets, from cell `at` of the row on.
@@ -25,159 +27,176 @@ fn targets(
     z: &[u16],
     left: usize,
     level: usize,
-    catalogue: &[u8],
-    values: &[i32],
+    cb: &[u8],
+    vs: &[i32],
+    memo: &[i64],
     env: &mut [usize],
     row: &mut [i64],
     at: usize,
 )
     requires { ⌜ (256 ≤ length (now env)) × (at + left ≤ length (now row)) ⌝ }
-    ensures { λ _. ⌜ now (row .exit) ≡ sets (now (row .entry)) at (targetRow (targetsAt left level (now (q .entry)) (now (z .entry))) (rowsIn (now (catalogue .entry)) (now (values .entry))) (assigned (now (values .entry)) (now (env .entry)))) ⌝ }
+    ensures { λ _. ⌜ now (row .exit) ≡ sets (now (row .entry)) at (cellsBy (now (memo .entry)) (targetsAt left level (now (q .entry)) (now (z .entry))) (rowsIn (now (cb .entry)) (now (vs .entry))) (assigned (now (vs .entry)) (now (env .entry)))) ⌝ }
     ensures { λ _. ⌜ now (env .exit) ≡ now (env .entry) ⌝ }
 {
     if left == 0 {
         return;
     }
-    let x = numbers::cell(evaluator::term(q, z, level, catalogue, values, env));
+    let x = numbers::cell(evaluator::term(q, z, level, cb, vs, memo, env));
     row[at] = x;
     let n = kinds::size_at(z, 0);
-    targets(
-        kinds::tail(q, n),
-        kinds::tail_sizes(z, n),
-        left - 1,
-        level,
-        catalogue,
-        values,
-        env,
-        row,
-        at + 1,
-    );
+    let u = kinds::tail(q, n);
+    let v = kinds::tail_sizes(z, n);
+    targets(u, v, left - 1, level, cb, vs, memo, env, row, at + 1);
 }
 
-// One assignment.
-fn visit(
+// The row of one assignment.
+fn write(
     q: &[u8],
     z: &[u16],
     plan: Plan,
-    catalogue: &[u8],
-    values: &[i32],
+    cb: &[u8],
+    vs: &[i32],
+    memo: &[i64],
     env: &mut [usize],
     answer: &mut [i64],
     state: Filled,
 ) -> Filled
     requires { ⌜ (256 ≤ length (now env)) × (plan .columns ≤ 8) ⌝ }
-    ensures { λ r. ⌜ record { rows = r .rows; full = r .full; cells = now (answer .exit) } ≡ addedAll (record { rows = state .rows; full = state .full; cells = now (answer .entry) }) (rowsOf plan (now (q .entry)) (now (z .entry)) (now (catalogue .entry)) (now (values .entry)) (assigned (now (values .entry)) (now (env .entry)) ∷ [])) ⌝ }
+    ensures { λ r. ⌜ record { rows = r .rows; full = r .full; cells = now (answer .exit) } ≡ added (record { rows = state .rows; full = state .full; cells = now (answer .entry) }) (rowBy plan (now (q .entry)) (now (z .entry)) (now (cb .entry)) (now (vs .entry)) (now (memo .entry)) (assigned (now (vs .entry)) (now (env .entry)))) ⌝ }
     ensures { λ _. ⌜ now (env .exit) ≡ now (env .entry) ⌝ }
 {
     let level = plan.level;
-    let c = plan.condition;
-    if !evaluator::condition(
-        kinds::tail(q, c),
-        kinds::tail_sizes(z, c),
-        level,
-        catalogue,
-        values,
-        env,
-    ) {
-        return state;
-    }
-    let t = plan.targets;
     let n = plan.columns;
+    let t = plan.targets;
+    let x = kinds::tail(q, t);
+    let y = kinds::tail_sizes(z, t);
     let mut row = [0i64; 8];
-    targets(
-        kinds::tail(q, t),
-        kinds::tail_sizes(z, t),
-        n,
-        level,
-        catalogue,
-        values,
-        env,
-        &mut row,
-        0,
-    );
+    targets(x, y, n, level, cb, vs, memo, env, &mut row, 0);
     rows::add_row(answer, state, &row[..n])
 }
 
-// All assignments of the RANGE records that are left.
-pub fn run(
-    ranges: &[u8],
-    left: usize,
+// Whether the tests hold that are due at this depth, the cheap ones first.
+fn due(
+    plan: Plan,
+    t: &[u16],
+    xs: &[i32],
     q: &[u8],
     z: &[u16],
+    cb: &[u8],
+    vs: &[i32],
+    memo: &[i64],
+    env: &mut [usize],
+) -> bool
+    requires { ⌜ (256 ≤ length (now env)) × Bounds plan ⌝ }
+    ensures { λ r. ⌜ r ≡ depthHolds (now (t .entry)) (now (xs .entry)) (now (q .entry)) (now (z .entry)) (now (cb .entry)) (now (vs .entry)) (now (memo .entry)) (plan .tests) (plan .depth) (assigned (now (vs .entry)) (now (env .entry))) ⌝ }
+    ensures { λ _. ⌜ now (env .exit) ≡ now (env .entry) ⌝ }
+{
+    let n = plan.tests;
+    let s = 2 * plan.depth;
+    if !conjuncts::tests(t, xs, n, s, q, z, cb, vs, memo, env) {
+        return false;
+    }
+    conjuncts::tests(t, xs, n, s + 1, q, z, cb, vs, memo, env)
+}
+
+// The plan with one range more bound.
+fn deeper(plan: Plan) -> Plan
+    requires { ⌜ Bounds plan × (1 ≤ plan .left) ⌝ }
+    ensures { λ r. ⌜ r ≡ record { targets = plan .targets; columns = plan .columns; level = plan .level; tests = plan .tests; left = plan .left - 1; depth = plan .depth + 1 } ⌝ }
+    ensures { λ r. ⌜ Bounds r ⌝ }
+{
+    Plan {
+        targets: plan.targets,
+        columns: plan.columns,
+        level: plan.level,
+        tests: plan.tests,
+        left: plan.left - 1,
+        depth: plan.depth + 1,
+    }
+}
+
+// All assignments of the RANGE records that are left. Once the answer is full nothing can change.
+pub fn run(
+    ranges: &[u8],
+    q: &[u8],
+    z: &[u16],
+    t: &[u16],
+    xs: &[i32],
     plan: Plan,
-    catalogue: &[u8],
-    values: &[i32],
+    cb: &[u8],
+    vs: &[i32],
+    memo: &[i64],
     env: &mut [usize],
     answer: &mut [i64],
     state: Filled,
 ) -> Filled
-    requires { ⌜ (256 ≤ length (now env)) × (plan .columns ≤ 8) ⌝ }
-    ensures { λ r. ⌜ record { rows = r .rows; full = r .full; cells = now (answer .exit) } ≡ addedAll (record { rows = state .rows; full = state .full; cells = now (answer .entry) }) (rowsOf plan (now (q .entry)) (now (z .entry)) (now (catalogue .entry)) (now (values .entry)) (assignments (rangesAt left (now (ranges .entry))) (rowsIn (now (catalogue .entry)) (now (values .entry))) (assigned (now (values .entry)) (now (env .entry))))) ⌝ }
+    requires { ⌜ (256 ≤ length (now env)) × Bounds plan ⌝ }
+    ensures { λ r. ⌜ record { rows = r .rows; full = r .full; cells = now (answer .exit) } ≡ addedAll (record { rows = state .rows; full = state .full; cells = now (answer .entry) }) (rowsFrom plan (now (t .entry)) (now (xs .entry)) (now (q .entry)) (now (z .entry)) (now (cb .entry)) (now (vs .entry)) (now (memo .entry)) (now (ranges .entry)) (assigned (now (vs .entry)) (now (env .entry)))) ⌝ }
     ensures { λ _. ⌜ now (env .exit) ≡ now (env .entry) ⌝ }
 {
-    if left == 0 {
-        return visit(q, z, plan, catalogue, values, env, answer, state);
+    let full = state.full;
+    if full {
+        return state;
     }
+    if !due(plan, t, xs, q, z, cb, vs, memo, env) {
+        return state;
+    }
+    let left = plan.left;
+    if left == 0 {
+        return write(q, z, plan, cb, vs, memo, env, answer, state);
+    }
+    each_row(ranges, q, z, t, xs, plan, cb, vs, memo, env, answer, state)
+}
+
+// The variable of the first RANGE record on each row of its relation that does not fail the first comparison due there.
+fn each_row(
+    ranges: &[u8],
+    q: &[u8],
+    z: &[u16],
+    t: &[u16],
+    xs: &[i32],
+    plan: Plan,
+    cb: &[u8],
+    vs: &[i32],
+    memo: &[i64],
+    env: &mut [usize],
+    answer: &mut [i64],
+    state: Filled,
+) -> Filled
+    requires { ⌜ (256 ≤ length (now env)) × Bounds plan × (1 ≤ plan .left) ⌝ }
+    ensures { λ r. ⌜ record { rows = r .rows; full = r .full; cells = now (answer .exit) } ≡ addedAll (record { rows = state .rows; full = state .full; cells = now (answer .entry) }) (rowsBelow plan (now (t .entry)) (now (xs .entry)) (now (q .entry)) (now (z .entry)) (now (cb .entry)) (now (vs .entry)) (now (memo .entry)) (now (ranges .entry)) (assigned (now (vs .entry)) (now (env .entry)))) ⌝ }
+    ensures { λ _. ⌜ now (env .exit) ≡ now (env .entry) ⌝ }
+{
     let variable = kinds::byte(ranges, 1);
     let relation = kinds::byte(ranges, 2);
     let rest = kinds::tail(ranges, kinds::record_length(1));
-    each_row(
-        rest,
-        left - 1,
-        q,
-        z,
-        plan,
-        catalogue,
-        values,
-        env,
-        answer,
-        state,
-        variable,
-        relation,
-    )
-}
-
-// The variable on each row of its relation.
-fn each_row(
-    ranges: &[u8],
-    left: usize,
-    q: &[u8],
-    z: &[u16],
-    plan: Plan,
-    catalogue: &[u8],
-    values: &[i32],
-    env: &mut [usize],
-    answer: &mut [i64],
-    state: Filled,
-    variable: u8,
-    relation: u8,
-) -> Filled
-    requires { ⌜ (256 ≤ length (now env)) × (plan .columns ≤ 8) ⌝ }
-    ensures { λ r. ⌜ record { rows = r .rows; full = r .full; cells = now (answer .exit) } ≡ addedAll (record { rows = state .rows; full = state .full; cells = now (answer .entry) }) (rowsOf plan (now (q .entry)) (now (z .entry)) (now (catalogue .entry)) (now (values .entry)) (assignments (record { variable = variable; relation = relation } ∷ rangesAt left (now (ranges .entry))) (rowsIn (now (catalogue .entry)) (now (values .entry))) (assigned (now (values .entry)) (now (env .entry))))) ⌝ }
-    ensures { λ _. ⌜ now (env .exit) ≡ now (env .entry) ⌝ }
-{
-    let n = catalogue::rows(catalogue, relation);
-    let w = catalogue::attributes(catalogue, relation);
+    let inner = deeper(plan);
+    let n = catalogue::rows(cb, relation);
+    let w = catalogue::attributes(cb, relation);
     let old = evaluator::place(env, variable);
+    let tests = inner.tests;
+    let stage = 2 * inner.depth;
+    let base = catalogue::base(cb, relation);
+    let mut i = probes::ahead(t, xs, tests, stage, variable, vs, env, base, w, n);
+    let mut row = base + i * w;
     let mut filled = state;
-    let mut row = catalogue::base(catalogue, relation);
-    let mut i = 0;
     while i < n {
         evaluator::set_place(env, variable, row);
-        filled = run(
-            ranges,
-            left,
-            q,
-            z,
-            plan,
-            catalogue,
-            values,
+        filled = run(rest, q, z, t, xs, inner, cb, vs, memo, env, answer, filled);
+        let s = probes::ahead(
+            t,
+            xs,
+            tests,
+            stage,
+            variable,
+            vs,
             env,
-            answer,
-            filled,
+            row + w,
+            w,
+            n - i - 1,
         );
-        row += w;
-        i += 1;
+        row += w + s * w;
+        i += 1 + s;
     }
     evaluator::set_place(env, variable, old);
     filled

@@ -6,7 +6,11 @@ use mathlib.Core.Path.{_≡_}
 use lib.IntN.{ℤ}
 use Rattle.model.specs.Calls.{Answer}
 use Rattle.model.specs.Encoding.{queryOf}
-use Rattle.model.specs.Checks.{fails10}
+use Rattle.model.specs.Syntax.{Query}
+use Rattle.model.specs.Meaning.{Assignment, Rows}
+use Rattle.model.specs.Catalogue.{catalogueOf, shapeOf}
+use Rattle.model.specs.Checks.{fails10, fails32, plainLimits}
+use Rattle.aggregates.specs.Filled.{filledC, filledTs}
 use Rattle.grammar.specs.declared.Layout.{Layout}
 use Rattle.rows.specs.declared.Filled.{Filled}
 use Rattle.queries.specs.Parts.{queryAt, Laid}
@@ -19,9 +23,17 @@ answerOf r cells = record { number = r .number; rows = r .rows; columns = r .col
 abbrev pub replyOf : ℕ → Filled → Reply
 replyOf columns s = record { number = cond (s .full) 41 0; rows = s .rows; columns = columns }
 
+-- the memo once each aggregate of the query has been evaluated, those of the targets first
+abbrev pub memoOf : Query → Rows → Assignment → List ℤ → List ℤ
+memoOf u R e m = filledC (u .condition) R e (filledTs (u .targets) R e m)
+
 -- a query that passed its checks: bytes, table, layout and catalogue
 pub record Answerable (y : Layout) (l : ℕ) (q z cb : List ℕ) : Type 0 where
   pub catalogue : fails10 cb ≡ false
   pub laid : Laid y q
   pub ready : queryAt y l q z ≡ queryOf q
   pub columns : y .targets ≤ 8
+  pub ranges : y .ranges ≤ 4
+  pub place : y .condition ≤ 17216
+  pub level : l ≤ 64
+  pub known : fails32 plainLimits (shapeOf (catalogueOf cb)) (queryOf q) ≡ false

@@ -11,7 +11,9 @@ ghost use Rattle.model.specs.Encoding.{queryOf};
 ghost use Rattle.model.specs.Meaning.{answers};
 ghost use Rattle.model.specs.Catalogue.{catalogueOf, tuplesAt, allRows};
 ghost use Rattle.model.specs.Calls.{give, evaluate};
-ghost use Rattle.plain.specs.Reply.{answerOf, replyOf, Answerable};
+ghost use Rattle.evaluator.specs.Evaluation.{assigned, rowsIn};
+ghost use Rattle.queries.specs.Parts.{queryAt};
+ghost use Rattle.plain.specs.Reply.{answerOf, replyOf, memoOf, Answerable};
 
 // The number of a refusal, 0 where there is none, and the counts of rows and columns.
 pub struct Reply {
@@ -50,8 +52,34 @@ fn filled(state: Filled, columns: usize) -> Reply
     }
 }
 
+// Each aggregate of the query, once.
+fn remember(
+    q: &[u8],
+    z: &[u16],
+    layout: Layout,
+    level: usize,
+    catalogue: &[u8],
+    values: &[i32],
+    env: &mut [usize],
+    memo: &mut [i64],
+)
+    requires { ⌜ 256 ≤ length (now env) ⌝ }
+    ensures { λ _. ⌜ now (memo .exit) ≡ memoOf (queryAt layout level (now (q .entry)) (now (z .entry))) (rowsIn (now (catalogue .entry)) (now (values .entry))) (assigned (now (values .entry)) (now (env .entry))) (now (memo .entry)) ⌝ }
+    ensures { λ _. ⌜ now (env .exit) ≡ now (env .entry) ⌝ }
+{
+    let t = layout.first;
+    let n = layout.targets;
+    let x = kinds::tail(q, t);
+    let y = kinds::tail_sizes(z, t);
+    aggregates::targets(x, y, n, level, catalogue, values, env, memo);
+    let c = layout.condition;
+    let u = kinds::tail(q, c);
+    let v = kinds::tail_sizes(z, c);
+    aggregates::condition(u, v, level, catalogue, values, env, memo);
+}
+
 // A query that passed its checks, over all rows.
-pub fn answer_query(
+fn answer_query(
     q: &[u8],
     z: &[u16],
     layout: Layout,
@@ -63,23 +91,42 @@ pub fn answer_query(
     requires { ⌜ Answerable layout level (now q) (now z) (now catalogue) ⌝ }
     ensures { λ r. ⌜ answerOf r (now (answer .exit)) ≡ give (length (queryOf (now (q .entry)) .targets)) (answers (queryOf (now (q .entry))) (allRows (tuplesAt (catalogueOf (now (catalogue .entry))) (now (values .entry))))) (now (answer .entry)) ⌝ }
 {
+    let mut env = [values.len(); 256];
+    let mut memo = [0i64; 512];
+    remember(q, z, layout, level, catalogue, values, &mut env, &mut memo);
+    let mut t = [0u16; 512];
+    let mut xs = [0i32; 128];
     let n = layout.ranges;
+    let c = layout.condition;
+    let tests = conjuncts::plan(q, z, n, c, level, catalogue, 200, &memo, &mut t, &mut xs);
     let columns = layout.targets;
     let plan = Plan {
         targets: layout.first,
         columns,
-        condition: layout.condition,
         level,
+        tests,
+        left: n,
+        depth: 0,
     };
     let start = Filled {
         rows: 0,
         full: false,
     };
-    let mut env = [values.len(); 256];
-    filled(
-        odometer::run(q, n, q, z, plan, catalogue, values, &mut env, answer, start),
-        columns,
-    )
+    let state = odometer::run(
+        q,
+        q,
+        z,
+        &t,
+        &xs,
+        plan,
+        catalogue,
+        values,
+        &memo,
+        &mut env,
+        answer,
+        start,
+    );
+    filled(state, columns)
 }
 
 // The checks by rising number, then the answer; the table of sizes is lent.
@@ -90,7 +137,7 @@ fn evaluate_with(
     query: &[u8],
     answer: &mut [i64],
 ) -> Reply
-    requires { ⌜ 17216 ≤ length (now z) ⌝ }
+    requires { ⌜ (length (now query) ≤ 17216 → length (now query) ≤ length (now z)) ⌝ }
     ensures { λ r. ⌜ answerOf r (now (answer .exit)) ≡ evaluate (now (catalogue .entry)) (now (values .entry)) (now (query .entry)) (now (answer .entry)) ⌝ }
 {
     let number = catalogue::check(catalogue, values);
@@ -108,10 +155,28 @@ fn evaluate_with(
     }
 }
 
-// evaluate of document 01: for every input the outcome that the model gives.
-pub fn evaluate(catalogue: &[u8], values: &[i32], query: &[u8], answer: &mut [i64]) -> Reply
+// A short query: a short table.
+fn evaluate_short(catalogue: &[u8], values: &[i32], query: &[u8], answer: &mut [i64]) -> Reply
+    requires { ⌜ length (now query) ≤ 256 ⌝ }
+    ensures { λ r. ⌜ answerOf r (now (answer .exit)) ≡ evaluate (now (catalogue .entry)) (now (values .entry)) (now (query .entry)) (now (answer .entry)) ⌝ }
+{
+    let mut z = [0u16; 256];
+    evaluate_with(&mut z, catalogue, values, query, answer)
+}
+
+fn evaluate_long(catalogue: &[u8], values: &[i32], query: &[u8], answer: &mut [i64]) -> Reply
     ensures { λ r. ⌜ answerOf r (now (answer .exit)) ≡ evaluate (now (catalogue .entry)) (now (values .entry)) (now (query .entry)) (now (answer .entry)) ⌝ }
 {
     let mut z = [0u16; 17216];
     evaluate_with(&mut z, catalogue, values, query, answer)
+}
+
+// evaluate of document 01: for every input the outcome that the model gives. A large table is not cleared for a short query.
+pub fn evaluate(catalogue: &[u8], values: &[i32], query: &[u8], answer: &mut [i64]) -> Reply
+    ensures { λ r. ⌜ answerOf r (now (answer .exit)) ≡ evaluate (now (catalogue .entry)) (now (values .entry)) (now (query .entry)) (now (answer .entry)) ⌝ }
+{
+    if query.len() <= 256 {
+        return evaluate_short(catalogue, values, query, answer);
+    }
+    evaluate_long(catalogue, values, query, answer)
 }

@@ -44,6 +44,10 @@ module _ (y : Layout) (q : List ℕ) (laid : Laid y q) where
   unfolding layout sizeQ
   first-room = omega (arith, ap (λ (x : Layout). x .first) (laid .place), ap length (is .bytes), size-query u)
 
+  pub condition-room : y .condition ≤ length q
+  unfolding layout sizeQ
+  condition-room = omega (arith, ap (λ (x : Layout). x .condition) (laid .place), ap length (is .bytes), size-query u, size-targets (u .targets) [])
+
   counted : length (flatBindings q) ≡ length (bindingsQ u)
   counted = ap (λ (x : List ℕ). length (flatBindings x)) (is .bytes) ∙ ap length (bindings-query u)
 
@@ -128,8 +132,8 @@ module _ (l : Limits) (sh : Shape) (q : List ℕ) where
     pub laid-is : Laid y q
     laid-is = let w = well-read q y (sym h ∙ e ∙ sym (within-limit (l .bytes) q short-enough)) in record { read = w .0; place = w .1 }
 
-    pub room-is : (z : List ℕ) → l .bytes ≤ length z → l .bytes < 65536 → Room q z
-    room-is z a b = let c = short-enough in record { room = omega arith; short = omega arith }
+    pub room-is : (z : List ℕ) → (length q ≤ l .bytes → length q ≤ length z) → l .bytes < 65536 → Room q z
+    room-is z a b = let c = short-enough in record { room = a c; short = omega arith }
 
     module _ (b : Bool) (eb : b ≡ not (fails31 (limitsOf l) (queryOf q))) where
       pub number-31 : not b ≡ true → 31 ≡ refusal (queryChecks (limitsOf l) sh q)

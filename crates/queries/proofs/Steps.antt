@@ -17,7 +17,7 @@ use Rattle.sizes.specs.Decode.{decode, decodeT}
 use Rattle.scope.specs.Reach.{scopeOf, shapeIn}
 use Rattle.scope.proofs.Tables.{scope-set, scope-blank}
 use Rattle.grammar.specs.declared.Layout.{Layout}
-use Rattle.odometer.specs.Plan.{rangesAt, targetsAt}
+use Rattle.sizes.specs.Parts.{rangesAt, targetsAt}
 use Rattle.queries.specs.Parts.{queryAt, reachOn}
 
 -- the RANGE records, one at a time

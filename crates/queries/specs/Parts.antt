@@ -15,7 +15,7 @@ use Rattle.grammar.specs.Shapes.{layout}
 use Rattle.queries.specs.declared.Limits.{Limits}
 use Rattle.queries.specs.declared.Checked.{Checked}
 use Rattle.queries.specs.declared.Checked.the-variants.{Refused, Passed}
-use Rattle.odometer.specs.Plan.{rangesAt, targetsAt}
+use Rattle.sizes.specs.Parts.{rangesAt, targetsAt}
 
 -- read to level l, its parts standing as the layout says
 abbrev pub queryAt : Layout → ℕ → List ℕ → List ℕ → Query

@@ -8,7 +8,7 @@ ghost use lib.ListN.{length};
 ghost use Rattle.model.specs.Lists.{all};
 ghost use Rattle.model.specs.Scope.{knownBinding, inScopeT, queryInScope};
 ghost use Rattle.scope.specs.Reach.{scopeOf, shapeIn};
-ghost use Rattle.odometer.specs.Plan.{rangesAt, targetsAt};
+ghost use Rattle.sizes.specs.Parts.{rangesAt, targetsAt};
 ghost use Rattle.model.specs.Encoding.{queryOf};
 ghost use Rattle.model.specs.Catalogue.{catalogueOf, shapeOf};
 ghost use Rattle.model.specs.Checks.{fails10, fails31, queryChecks, refusal};
@@ -154,7 +154,7 @@ fn within(q: &[u8], z: &mut [u16], layout: Layout, limits: Limits) -> bool
 
 // The checks of a query, by rising number. The table of sizes is left filled where it passes.
 pub fn check(q: &[u8], limits: Limits, catalogue: &[u8], z: &mut [u16]) -> Checked
-    requires { ⌜ (fails10 (now catalogue) ≡ false) × (limits .bytes ≤ length (now z)) × (limits .bytes < 65536) ⌝ }
+    requires { ⌜ (fails10 (now catalogue) ≡ false) × (length (now q) ≤ limits .bytes → length (now q) ≤ length (now z)) × (limits .bytes < 65536) ⌝ }
     ensures { λ r. ⌜ numberOf r ≡ refusal (queryChecks (limitsOf limits) (shapeOf (catalogueOf (now (catalogue .entry)))) (now (q .entry))) ⌝ }
     ensures { λ r. ⌜ Ready r (limits .levels) (now (q .entry)) (now (z .exit)) ⌝ }
 {

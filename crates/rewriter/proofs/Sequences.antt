@@ -12,7 +12,7 @@ use Rattle.model.specs.Syntax.{Term, Binding, bindings, bindingsT}
 use Rattle.model.specs.Encoding.{encodeRanges}
 use Rattle.kinds.specs.Tables.{recordLength}
 use Rattle.sizes.specs.Decode.{decode, decodeT}
-use Rattle.odometer.specs.Plan.{rangesAt, targetsAt}
+use Rattle.sizes.specs.Parts.{rangesAt, targetsAt}
 use Rattle.grammar.specs.declared.Layout.{Layout}
 use Rattle.copier.specs.Guard.{opening, guardBytes, guardNew}
 use Rattle.copier.proofs.Sets.{Wrote, wrote-then, wrote-as}

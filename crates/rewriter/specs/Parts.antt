@@ -6,7 +6,7 @@ use Rattle.model.specs.Lists.{concatMap}
 use Rattle.model.specs.Syntax.{Condition, Term, Binding, Query, bindings, bindingsT}
 use Rattle.model.specs.Encoding.{encodeRanges}
 use Rattle.sizes.specs.Decode.{decode}
-use Rattle.odometer.specs.Plan.{rangesAt, targetsAt}
+use Rattle.sizes.specs.Parts.{rangesAt, targetsAt}
 use Rattle.grammar.specs.declared.Layout.{Layout}
 use Rattle.copier.specs.Guard.{opening, guardBytes, guardNew}
 use Rattle.rewriter.specs.Rewritten.{maskOf, newOf, rewritten, rewrittenT}

@@ -11,7 +11,7 @@ ghost use Rattle.sizes.specs.Decode.{first, second};
 ghost use Rattle.copier.specs.Guard.{part};
 ghost use Rattle.copier.specs.Copied.{recordBytes};
 ghost use Rattle.model.specs.Encoding.{encodeRanges};
-ghost use Rattle.odometer.specs.Plan.{rangesAt, targetsAt};
+ghost use Rattle.sizes.specs.Parts.{rangesAt, targetsAt};
 ghost use Rattle.rewriter.specs.Parts.{queryAt, targetsBytes, targetsNew, openings, rangeGuards, queryBytes, queryNew};
 ghost use Rattle.rewriter.specs.Rewritten.{maskOf, newOf, conditionBytes, conditionNew, termBytes, termNew, bothBytes, bothNew, underBytes, underNew, Room, After};
 

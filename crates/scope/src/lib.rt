@@ -86,6 +86,13 @@ pub fn bind(reach: &mut [u16], variable: u8, relation: u8)
     put(reach, variable, entry_for(relation));
 }
 
+// Takes a variable out of reach.
+pub fn unbind(reach: &mut [u16], variable: u8)
+    ensures { λ _. ⌜ now (reach .exit) ≡ set (now (reach .entry)) variable 0 ⌝ }
+{
+    put(reach, variable, 0);
+}
+
 // SOME: its variable reaches its condition, and nothing after it.
 fn some(
     q: &[u8],

@@ -1,2 +1,3 @@
 pub mod Measured
 pub mod Decode
+pub mod Parts

@@ -19,7 +19,7 @@ use Rattle.sizes.specs.Measured.{Measured, leaves, onward, sizeRead, conditionS
 use Rattle.sizes.proofs.Sized.{Sized, SizedT, sized-headT, Agree}
 use Rattle.sizes.proofs.Reader.{drop-encodeT}
 use Rattle.sizes.proofs.Decoding.{decode-encode, decode-encodeT, condition-size, condition-length, condition-before, condition-sized, term-size, term-rest, term-length, term-before, term-sized, sized-keptT}
-use Rattle.odometer.specs.Plan.{targetsAt, rangesAt}
+use Rattle.sizes.specs.Parts.{targetsAt, rangesAt}
 use Rattle.model.specs.Kinds.{find, kindOf}
 use Rattle.kinds.specs.Tables.{recordLength, ofKind}
 use Rattle.tables.specs.Tables.{targetsMeasured, conditionMeasured, queryMeasured, succeeded}

@@ -35,7 +35,7 @@ returns-2 : tie.Need-returns-2
 returns-2 c = refused-permits (now (c .before .before .before .before .before .before .before .before .before .before .args .catalogue)) (now (c .before .before .before .before .before .before .before .before .before .before .args .values)) (now (c .before .before .before .before .before .before .before .before .before .before .args .list)) (now (c .before .before .before .before .before .before .before .before .before .before .args .query)) (now (c .before .before .before .before .before .before .before .before .before .before .args .rewritten)) (now (c .before .before .before .before .before .before .before .before .before .before .args .answer)) (sym (c .before .before .before .before .check .ensures) ∙ c .before .before .before .if1 .left) _ _ (c .before .before .check-permits .ensures) (c .before .if2 .taken) (c .refused2 .ensures)
 
 check-requires-2 : tie.Need-check-requires-2
-check-requires-2 c κs = (catalogue-passes (now (c .before .before .before .before .before .before .before .before .before .before .args .catalogue)) (now (c .before .before .before .before .before .before .before .before .before .before .args .values)) (now (c .before .before .before .before .before .before .before .before .before .before .args .list)) (now (c .before .before .before .before .before .before .before .before .before .before .args .query)) (now (c .before .before .before .before .before .before .before .before .before .before .args .rewritten)) (now (c .before .before .before .before .before .before .before .before .before .before .args .answer)) (sym (c .before .before .before .before .check .ensures) ∙ c .before .before .before .if1 .left), c .before .before .before .before .before .before .before .before .before .before .pre, omega arith)
+check-requires-2 c κs = (catalogue-passes (now (c .before .before .before .before .before .before .before .before .before .before .args .catalogue)) (now (c .before .before .before .before .before .before .before .before .before .before .args .values)) (now (c .before .before .before .before .before .before .before .before .before .before .args .list)) (now (c .before .before .before .before .before .before .before .before .before .before .args .query)) (now (c .before .before .before .before .before .before .before .before .before .before .args .rewritten)) (now (c .before .before .before .before .before .before .before .before .before .before .args .answer)) (sym (c .before .before .before .before .check .ensures) ∙ c .before .before .before .if1 .left), (λ h. omega (arith, c .before .before .before .before .before .before .before .before .before .before .pre)), omega arith)
 
 enum-known-n : tie.Need-enum-known-n
 enum-known-n c = search needs

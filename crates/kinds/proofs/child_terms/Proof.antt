@@ -3,29 +3,33 @@ use Rattle.kinds.proofs.child_terms.Statement.{statement}
 use Rattle.kinds.proofs.child_terms.Tie as tie
 use Rattle.kinds.proofs.child_terms.Reads as reads
 use Rattle.kinds.proofs.child_terms.Lts as lts
-use mathlib.Core.Path.{_≡_, sym}
+use Rattle.kinds.proofs.slot.Reads as slot-reads
 use mathlib.Core.List.{List, [], _∷_}
 use Prim.Native.Nat.{ℕ}
 use Rattle.kinds.specs.Tables.{termsOf, ofKind}
-use Rattle.model.specs.Kinds.{kindOf, find}
-use Rattle.kinds.proofs.Entries.{entry, past}
+use Rattle.model.specs.Kinds.{kindOf, find, childTerms}
+use Rattle.kinds.proofs.Entries.{entry, no-entry}
 
-terms : List ℕ
-terms = 0 ∷ 0 ∷ 0 ∷ 0 ∷ 0 ∷ 0 ∷ 0 ∷ 0 ∷ 0 ∷ 0 ∷ 0 ∷ 0 ∷ 0 ∷ 0 ∷ 0 ∷ 0 ∷ 0 ∷ 0 ∷ 0 ∷ 0 ∷ 0 ∷ 2 ∷ 0 ∷ 0 ∷ 0 ∷ 0 ∷ 0 ∷ 0 ∷ 0 ∷ 0 ∷ 0 ∷ 0 ∷ 0 ∷ 0 ∷ 0 ∷ 0 ∷ 0 ∷ 0 ∷ 0 ∷ 0 ∷ 0 ∷ 0 ∷ 0 ∷ 0 ∷ 0 ∷ 0 ∷ 0 ∷ 0 ∷ 0 ∷ 0 ∷ 0 ∷ 0 ∷ 0 ∷ 0 ∷ 0 ∷ 0 ∷ 0 ∷ 0 ∷ 0 ∷ 0 ∷ 0 ∷ 0 ∷ 0 ∷ 0 ∷ 0 ∷ []
+entries : List ℕ
+entries = 0 ∷ 0 ∷ 0 ∷ 0 ∷ 0 ∷ 0 ∷ 0 ∷ 0 ∷ 0 ∷ 0 ∷ 0 ∷ 0 ∷ 0 ∷ 2 ∷ 0 ∷ 0 ∷ 0 ∷ 0 ∷ 0 ∷ 0 ∷ 0 ∷ 0 ∷ 0 ∷ 0 ∷ 0 ∷ 0 ∷ 0 ∷ 0 ∷ 0 ∷ 0 ∷ 0 ∷ 0 ∷ 0 ∷ 0 ∷ 0 ∷ 0 ∷ 0 ∷ 0 ∷ 0 ∷ 0 ∷ []
 
--- src/lib.rt:46:9
+-- src/lib.rt:175:9
+slot-requires : tie.Need-slot-requires
+slot-requires c κs = search needs
+
+-- src/lib.rt:176:17
 array-read-result : tie.Need-array-read-result
 array-read-result c = search needs
 
--- src/lib.rt:41:1
+-- src/lib.rt:172:1
 returns : tie.Need-returns
-unfolding terms termsOf ofKind kindOf find
-returns c = entry termsOf terms tt (c .before .args .kind) (c .if1 .taken)
+unfolding entries termsOf ofKind kindOf find
+returns c = entry 0 childTerms entries tt (c .before .before .args .kind) _ (c .before .slot .ensures) (c .if1 .taken)
 
--- src/lib.rt:41:1
+-- src/lib.rt:172:1
 returns-2 : tie.Need-returns-2
-unfolding termsOf
-returns-2 c = sym (past _ _ (c .before .args .kind) (c .if1 .left))
+unfolding entries termsOf ofKind kindOf find
+returns-2 c = no-entry 0 childTerms entries tt (c .before .before .args .kind) _ (c .before .slot .ensures) (c .if1 .left)
 
 pub child-terms-spec : {M : Type 1} → statement M
-child-terms-spec = tie.close (tie.spec array-read-result returns returns-2)
+child-terms-spec = tie.close (tie.spec slot-requires array-read-result returns returns-2)

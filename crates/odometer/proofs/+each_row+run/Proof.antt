@@ -1,13 +1,15 @@
-use borrow.Author.Needs.{needs}
+use native.Mathlib.Nat.{le-refl}
 use native.Mathlib.Omega.{arith}
 use Prim.Native.Nat.{ℕ, _+_, _*_, _-_, _<_, _≤_}
 use mathlib.Core.Path.{_≡_, refl, sym, ap, _∙_}
-use mathlib.Core.List.{List, [], _∷_}
+use mathlib.Core.List.{List}
 use denote.Ref.{now}
-use lib.ListN.{length, getD, set, length-set}
+use lib.ListN.{length, set, length-set}
 use Rattle.rows.specs.Buffer.{Buffer, addedAll}
 use Rattle.evaluator.proofs.Steps.{places-start, places-on, places-back, places-length, next-row, row-fits}
-use Rattle.odometer.proofs.Steps.{passed, each-start, each-next, each-all, run-none, run-more}
+use Rattle.odometer.specs.declared.Plan.{Plan}
+use Rattle.odometer.proofs.Steps.{passed, each-start, each-next, each-first, each-onward, each-all, places-fit, steps-fit, rest-fit, row-next, run-full, run-no, run-row, run-rows}
+use borrow.Author.Needs.{needs}
 use borrow.Fn.Kinds.{In}
 use borrow.Fn.PlainCycle.{Measures, is, falls, and}
 use Rattle.odometer.proofs.each_row.Reads as each-row
@@ -24,43 +26,61 @@ use Rattle.evaluator.proofs.set_place.Reads as set-place-reads
 use Rattle.kinds.proofs.byte.Reads as byte-reads
 use Rattle.kinds.proofs.record_length.Reads as record-length-reads
 use Rattle.kinds.proofs.tail.Reads as tail-reads
-use Rattle.odometer.proofs.visit.Reads as visit-reads
+use Rattle.odometer.proofs.deeper.Reads as deeper-reads
+use Rattle.odometer.proofs.due.Reads as due-reads
+use Rattle.odometer.proofs.write.Reads as write-reads
+use Rattle.probes.proofs.ahead.Reads as ahead-reads
 use Rattle.odometer.proofs.+each_row+run.{statement}
 use Rattle.odometer.proofs.+each_row+run.Tie.{close}
 
-abbrev μ-each-row : Measures 7 each-row-kinds.ps ℕ
-μ-each-row κs a = 2 * (a .1 .0) + 1
+abbrev μ-each-row : Measures 10 each-row-kinds.ps ℕ
+μ-each-row κs a = 2 * (a .1 .1 .1 .1 .1 .0 .left)
 
-abbrev μ-run : Measures 7 run-kinds.ps ℕ
-μ-run κs a = 2 * (a .1 .0)
+abbrev μ-run : Measures 10 run-kinds.ps ℕ
+μ-run κs a = 2 * (a .1 .1 .1 .1 .1 .0 .left) + 1
 
-abbrev each-row-at : ℕ → In 7 each-row-kinds.ps
-each-row-at t = and 7 each-row-kinds.ps (is 7 each-row-kinds.ps μ-each-row t) each-row.Pre
+abbrev each-row-at : ℕ → In 10 each-row-kinds.ps
+each-row-at t = and 10 each-row-kinds.ps (is 10 each-row-kinds.ps μ-each-row t) each-row.Pre
 
-abbrev each-row-below : ℕ → In 7 each-row-kinds.ps
+abbrev each-row-below : ℕ → In 10 each-row-kinds.ps
 each-row-below t =
-    and 7 each-row-kinds.ps (falls 7 each-row-kinds.ps _<_ μ-each-row t) each-row.Pre
+    and 10 each-row-kinds.ps (falls 10 each-row-kinds.ps _<_ μ-each-row t) each-row.Pre
 
-abbrev run-at : ℕ → In 7 run-kinds.ps
-run-at t = and 7 run-kinds.ps (is 7 run-kinds.ps μ-run t) run.Pre
+abbrev run-at : ℕ → In 10 run-kinds.ps
+run-at t = and 10 run-kinds.ps (is 10 run-kinds.ps μ-run t) run.Pre
 
-abbrev run-below : ℕ → In 7 run-kinds.ps
-run-below t = and 7 run-kinds.ps (falls 7 run-kinds.ps _<_ μ-run t) run.Pre
+abbrev run-below : ℕ → In 10 run-kinds.ps
+run-below t = and 10 run-kinds.ps (falls 10 run-kinds.ps _<_ μ-run t) run.Pre
 
 abbrev each-row-claims : ℕ → each-row-lts.Claims
-each-row-claims t = (rows-reads.Asked, rows-reads.Learnt, attributes-reads.Asked, attributes-reads.Learnt, place-reads.Asked, place-reads.Learnt, base-reads.Asked, base-reads.Learnt, set-place-reads.Asked, set-place-reads.Learnt, run-below t, run.Post)
+each-row-claims t = (byte-reads.Asked, byte-reads.Learnt, record-length-reads.Asked, record-length-reads.Learnt, tail-reads.Asked, tail-reads.Learnt, deeper-reads.Asked, deeper-reads.Learnt, rows-reads.Asked, rows-reads.Learnt, attributes-reads.Asked, attributes-reads.Learnt, place-reads.Asked, place-reads.Learnt, base-reads.Asked, base-reads.Learnt, ahead-reads.Asked, ahead-reads.Learnt, set-place-reads.Asked, set-place-reads.Learnt, run-below t, run.Post)
 
 abbrev run-claims : ℕ → run-lts.Claims
-run-claims t = (visit-reads.Asked, visit-reads.Learnt, byte-reads.Asked, byte-reads.Learnt, record-length-reads.Asked, record-length-reads.Learnt, tail-reads.Asked, tail-reads.Learnt, each-row-below t, each-row.Post)
+run-claims t = (due-reads.Asked, due-reads.Learnt, write-reads.Asked, write-reads.Learnt, each-row-below t, each-row.Post)
 
 abbrev each-row-Inv-loop : each-row-lts.InvT-loop
-each-row-Inv-loop ranges left q z plan catalogue values env₀ answer₀ variable relation n w old filled₀ row₀ i₀ env answer filled row i =
+each-row-Inv-loop ranges q z t xs cb vs memo env₀ answer₀ variable relation rest inner n w old tests stage base i₀ row₀ filled₀ env answer i row filled =
     (set env variable old ≡ env₀)
-    × (record { rows = filled .rows; full = filled .full; cells = answer } ≡ addedAll (record { rows = filled₀ .rows; full = filled₀ .full; cells = answer₀ }) (passed plan q z catalogue values env₀ variable ranges left row₀ w i))
-    × (row ≡ row₀ + i * w) × (i ≤ n) × (length env ≡ length env₀) × (length answer ≡ length answer₀)
+    × (record { rows = filled .rows; full = filled .full; cells = answer } ≡ addedAll (record { rows = filled₀ .rows; full = filled₀ .full; cells = answer₀ }) (passed inner t xs q z cb vs memo env₀ variable rest base w i))
+    × (row ≡ base + i * w) × (i ≤ n) × (length env ≡ length env₀) × (length answer ≡ length answer₀)
 
 abbrev each-row-μ-loop : each-row-lts.MeasureT-loop
-each-row-μ-loop ranges left q z plan catalogue values env₀ answer₀ variable relation n w old filled₀ row₀ i₀ env answer filled row i = n - i
+each-row-μ-loop ranges q z t xs cb vs memo env₀ answer₀ variable relation rest inner n w old tests stage base i₀ row₀ filled₀ env answer i row filled = n - i
+
+each-row-byte-requires : (t : ℕ) → each-row-lts.Need-byte-requires (each-row-claims t) (each-row-at t) each-row.Post each-row-Inv-loop each-row-μ-loop
+each-row-byte-requires t c κs = search needs
+
+each-row-byte-requires-2 : (t : ℕ) → each-row-lts.Need-byte-requires-2 (each-row-claims t) (each-row-at t) each-row.Post each-row-Inv-loop each-row-μ-loop
+each-row-byte-requires-2 t c κs = search needs
+
+each-row-record-length-requires : (t : ℕ) → each-row-lts.Need-record-length-requires (each-row-claims t) (each-row-at t) each-row.Post each-row-Inv-loop each-row-μ-loop
+each-row-record-length-requires t c κs = search needs
+
+each-row-tail-requires : (t : ℕ) → each-row-lts.Need-tail-requires (each-row-claims t) (each-row-at t) each-row.Post each-row-Inv-loop each-row-μ-loop
+each-row-tail-requires t c κs = search needs
+
+each-row-deeper-requires : (t : ℕ) → each-row-lts.Need-deeper-requires (each-row-claims t) (each-row-at t) each-row.Post each-row-Inv-loop each-row-μ-loop
+each-row-deeper-requires t c κs = search needs
 
 each-row-rows-requires : (t : ℕ) → each-row-lts.Need-rows-requires (each-row-claims t) (each-row-at t) each-row.Post each-row-Inv-loop each-row-μ-loop
 each-row-rows-requires t c κs = search needs
@@ -71,29 +91,62 @@ each-row-attributes-requires t c κs = search needs
 each-row-place-requires : (t : ℕ) → each-row-lts.Need-place-requires (each-row-claims t) (each-row-at t) each-row.Post each-row-Inv-loop each-row-μ-loop
 each-row-place-requires t c κs = search needs
 
+each-row-mul-stage : (t : ℕ) → each-row-lts.Need-mul-stage (each-row-claims t) (each-row-at t) each-row.Post each-row-Inv-loop each-row-μ-loop
+each-row-mul-stage t c = omega (arith, c .before .before .before .before .before .deeper .ensures .1 .ranges)
+
 each-row-base-requires : (t : ℕ) → each-row-lts.Need-base-requires (each-row-claims t) (each-row-at t) each-row.Post each-row-Inv-loop each-row-μ-loop
 each-row-base-requires t c κs = search needs
 
+each-row-ahead-requires : (t : ℕ) → each-row-lts.Need-ahead-requires (each-row-claims t) (each-row-at t) each-row.Post each-row-Inv-loop each-row-μ-loop
+each-row-ahead-requires t c κs = (c .before .before .before .before .before .before .before .before .before .before .before .before .before .before .before .before .before .before .pre .1 .0, c .before .before .before .before .before .before .before .deeper .ensures .1 .tests, omega (arith, places-fit _ _ _ _ _ (c .before .base .ensures .1) (omega (arith, c .before .before .before .before .before .before .before .before .before .before .byte2 .ok)) (le-refl _) (c .before .before .before .before .before .before .rows .ensures .1) (c .before .before .before .before .before .attributes .ensures .1)))
+
+each-row-mul-row : (t : ℕ) → each-row-lts.Need-mul-row (each-row-claims t) (each-row-at t) each-row.Post each-row-Inv-loop each-row-μ-loop
+each-row-mul-row t c = omega (arith, steps-fit _ _ _ (c .ahead .ensures .0) (c .before .before .before .before .before .before .before .rows .ensures .1) (c .before .before .before .before .before .before .attributes .ensures .1))
+
+each-row-add-row : (t : ℕ) → each-row-lts.Need-add-row (each-row-claims t) (each-row-at t) each-row.Post each-row-Inv-loop each-row-μ-loop
+each-row-add-row t c = omega (arith, places-fit _ _ _ _ _ (c .before .before .base .ensures .1) (omega (arith, c .before .before .before .before .before .before .before .before .before .before .before .byte2 .ok)) (c .ahead .ensures .0) (c .before .before .before .before .before .before .before .rows .ensures .1) (c .before .before .before .before .before .before .attributes .ensures .1))
+
 each-row-loop-holds : (t : ℕ) → each-row-lts.Need-loop-holds (each-row-claims t) (each-row-at t) each-row.Post each-row-Inv-loop each-row-μ-loop
-each-row-loop-holds t c = (places-start (now (c .before .before .before .before .before .before .before .before .before .before .args .env)) (c .before .before .before .before .before .before .before .before .before .before .args .variable) (c .before .place .result) (c .before .place .ensures), each-start (c .before .before .before .before .before .before .before .before .before .before .args .plan) (now (c .before .before .before .before .before .before .before .before .before .before .args .q)) (now (c .before .before .before .before .before .before .before .before .before .before .args .z)) (now (c .before .before .before .before .before .before .before .before .before .before .args .catalogue)) (now (c .before .before .before .before .before .before .before .before .before .before .args .values)) (now (c .before .before .before .before .before .before .before .before .before .before .args .env)) (c .before .before .before .before .before .before .before .before .before .before .args .variable) (now (c .before .before .before .before .before .before .before .before .before .before .args .ranges)) (c .before .before .before .before .before .before .before .before .before .before .args .left) (c .base .result) (c .before .before .before .attributes .result) (record { rows = c .before .before .before .before .before .before .before .before .before .before .args .state .rows; full = c .before .before .before .before .before .before .before .before .before .before .args .state .full; cells = (now (c .before .before .before .before .before .before .before .before .before .before .args .answer)) }), omega arith, omega arith, refl, refl)
+each-row-loop-holds t c = (places-start (now (c .before .before .before .before .before .before .before .before .before .before .before .before .before .before .before .before .before .before .before .args .env)) (c .before .before .before .before .before .before .before .before .before .before .before .before .byte .result) (c .before .before .before .before .place .result) (c .before .before .before .before .place .ensures), each-first (c .before .before .before .before .before .before .before .before .deeper .result) (now (c .before .before .before .before .before .before .before .before .before .before .before .before .before .before .before .before .before .before .before .args .t)) (now (c .before .before .before .before .before .before .before .before .before .before .before .before .before .before .before .before .before .before .before .args .xs)) (now (c .before .before .before .before .before .before .before .before .before .before .before .before .before .before .before .before .before .before .before .args .q)) (now (c .before .before .before .before .before .before .before .before .before .before .before .before .before .before .before .before .before .before .before .args .z)) (now (c .before .before .before .before .before .before .before .before .before .before .before .before .before .before .before .before .before .before .before .args .cb)) (now (c .before .before .before .before .before .before .before .before .before .before .before .before .before .before .before .before .before .before .before .args .vs)) (now (c .before .before .before .before .before .before .before .before .before .before .before .before .before .before .before .before .before .before .before .args .memo)) (now (c .before .before .before .before .before .before .before .before .before .before .before .before .before .before .before .before .before .before .before .args .env)) (c .before .before .before .before .before .before .before .before .before .before .before .before .byte .result) _ (c .before .before .base .result) (c .before .before .before .before .before .before .attributes .result) (c .before .before .before .before .place .result) (c .ahead .result) (record { rows = c .before .before .before .before .before .before .before .before .before .before .before .before .before .before .before .before .before .before .before .args .state .rows; full = c .before .before .before .before .before .before .before .before .before .before .before .before .before .before .before .before .before .before .before .args .state .full; cells = (now (c .before .before .before .before .before .before .before .before .before .before .before .before .before .before .before .before .before .before .before .args .answer)) }) (places-start (now (c .before .before .before .before .before .before .before .before .before .before .before .before .before .before .before .before .before .before .before .args .env)) (c .before .before .before .before .before .before .before .before .before .before .before .before .byte .result) (c .before .before .before .before .place .result) (c .before .before .before .before .place .ensures)) (c .ahead .ensures .1 (now (c .before .before .before .before .before .before .before .before .before .before .before .before .before .before .before .before .before .before .before .args .q)) (now (c .before .before .before .before .before .before .before .before .before .before .before .before .before .before .before .before .before .before .before .args .z)) (now (c .before .before .before .before .before .before .before .before .before .before .before .before .before .before .before .before .before .before .before .args .cb)) (now (c .before .before .before .before .before .before .before .before .before .before .before .before .before .before .before .before .before .before .before .args .memo))), refl, c .ahead .ensures .0, refl, refl)
 
 each-row-set-place-requires : (t : ℕ) → each-row-lts.Need-set-place-requires (each-row-claims t) (each-row-at t) each-row.Post each-row-Inv-loop each-row-μ-loop
 each-row-set-place-requires t c κs = search needs
 
 each-row-run-requires : (t : ℕ) → each-row-lts.Need-run-requires (each-row-claims t) (each-row-at t) each-row.Post each-row-Inv-loop each-row-μ-loop
-each-row-run-requires t c κs = search needs
+each-row-run-requires t c κs = (omega (arith, c .before .before .before .before .before .before .before .before .before .before .before .before .before .before .before .before .before .before .before .before .before .before .before .before .before .before .before .pre .0, ap (λ (u : Plan). u .left) (c .before .before .before .before .before .before .before .before .before .before .before .before .before .before .before .before .deeper .ensures .0), c .before .before .before .before .before .before .before .before .before .before .before .before .before .before .before .before .before .before .before .before .before .before .before .before .before .before .before .pre .1 .2), (omega (arith, c .before .before .before .before .before .before .before .before .before .before .before .before .before .before .before .before .before .before .before .before .before .before .before .before .before .before .before .pre .1 .0, c .before .before .before .before .before .before .before .loop .inv .4, ap length (c .before .before .before .before .set-place .ensures), length-set (c .before .before .before .before .before .before .before .loop .env) (c .before .before .before .before .before .before .before .before .before .before .before .before .before .before .before .before .before .before .before .before .byte .result) (c .before .before .before .before .before .before .before .loop .row)), c .before .before .before .before .before .before .before .before .before .before .before .before .before .before .before .before .deeper .ensures .1))
 
-each-row-add-row : (t : ℕ) → each-row-lts.Need-add-row (each-row-claims t) (each-row-at t) each-row.Post each-row-Inv-loop each-row-μ-loop
-each-row-add-row t c = omega (arith, row-fits _ _ _ _ _ (c .before .before .before .before .before .before .before .before .before .before .before .before .before .before .before .before .before .before .before .before .before .before .args .relation) (c .before .before .before .before .before .before .before .before .before .before .before .loop .inv .2) (c .before .before .before .before .before .before .before .before .before .before .before .before .base .ensures .1) (omega (arith, c .before .before .before .before .before .before .before .before .before .before .before .before .before .before .before .before .before .before .before .before .before .before .good)) (c .before .before .before .before .before .before .before .before .before .before .loop-test .taken) (c .before .before .before .before .before .before .before .before .before .before .before .before .before .before .before .before .rows .ensures .1) (c .before .before .before .before .before .before .before .before .before .before .before .before .before .before .before .attributes .ensures .1))
+each-row-add-ahead : (t : ℕ) → each-row-lts.Need-add-ahead (each-row-claims t) (each-row-at t) each-row.Post each-row-Inv-loop each-row-μ-loop
+each-row-add-ahead t c = omega (arith, rest-fit _ _ _ _ _ _ (c .before .before .before .before .before .before .before .before .before .before .before .before .loop .inv .2) (c .before .before .before .before .before .before .before .before .before .before .before .loop-test .taken) (c .before .before .before .before .before .before .before .before .before .before .before .before .before .before .before .base .ensures .1) (omega (arith, c .before .before .before .before .before .before .before .before .before .before .before .before .before .before .before .before .before .before .before .before .before .before .before .before .byte2 .ok)) (c .before .before .before .before .before .before .before .before .before .before .before .before .before .before .before .before .before .before .before .before .rows .ensures .1) (c .before .before .before .before .before .before .before .before .before .before .before .before .before .before .before .before .before .before .before .attributes .ensures .1))
+
+each-row-sub-ahead : (t : ℕ) → each-row-lts.Need-sub-ahead (each-row-claims t) (each-row-at t) each-row.Post each-row-Inv-loop each-row-μ-loop
+each-row-sub-ahead t c = search needs
+
+each-row-sub-ahead-2 : (t : ℕ) → each-row-lts.Need-sub-ahead-2 (each-row-claims t) (each-row-at t) each-row.Post each-row-Inv-loop each-row-μ-loop
+each-row-sub-ahead-2 t c = search needs
+
+each-row-ahead-requires-2 : (t : ℕ) → each-row-lts.Need-ahead-requires-2 (each-row-claims t) (each-row-at t) each-row.Post each-row-Inv-loop each-row-μ-loop
+each-row-ahead-requires-2 t c κs = (omega (arith, c .before .before .before .before .before .before .before .before .before .before .before .before .before .before .before .before .before .before .before .before .before .before .before .before .before .before .before .before .before .before .before .before .pre .1 .0, c .before .before .before .before .before .before .before .before .before .before .before .before .loop .inv .4, ap length (c .before .before .before .before .before .before .before .before .before .set-place .ensures), length-set (c .before .before .before .before .before .before .before .before .before .before .before .before .loop .env) (c .before .before .before .before .before .before .before .before .before .before .before .before .before .before .before .before .before .before .before .before .before .before .before .before .before .byte .result) (c .before .before .before .before .before .before .before .before .before .before .before .before .loop .row), ap length (c .before .before .before .before .run .ensures .1)), c .before .before .before .before .before .before .before .before .before .before .before .before .before .before .before .before .before .before .before .before .before .deeper .ensures .1 .tests, rest-fit _ _ _ _ _ _ (c .before .before .before .before .before .before .before .before .before .before .before .before .loop .inv .2) (c .before .before .before .before .before .before .before .before .before .before .before .loop-test .taken) (c .before .before .before .before .before .before .before .before .before .before .before .before .before .before .before .base .ensures .1) (omega (arith, c .before .before .before .before .before .before .before .before .before .before .before .before .before .before .before .before .before .before .before .before .before .before .before .before .byte2 .ok)) (c .before .before .before .before .before .before .before .before .before .before .before .before .before .before .before .before .before .before .before .before .rows .ensures .1) (c .before .before .before .before .before .before .before .before .before .before .before .before .before .before .before .before .before .before .before .attributes .ensures .1))
+
+each-row-mul-row-2 : (t : ℕ) → each-row-lts.Need-mul-row-2 (each-row-claims t) (each-row-at t) each-row.Post each-row-Inv-loop each-row-μ-loop
+each-row-mul-row-2 t c = omega (arith, steps-fit (c .before .before .before .before .before .before .before .before .before .before .before .before .before .before .before .before .before .before .before .before .attributes .result) (c .ahead2 .result) (c .before .before .before .before .before .before .before .before .before .before .before .before .before .before .before .before .before .before .before .before .before .rows .result) (omega (arith, c .ahead2 .ensures .0)) (c .before .before .before .before .before .before .before .before .before .before .before .before .before .before .before .before .before .before .before .before .before .rows .ensures .1) (c .before .before .before .before .before .before .before .before .before .before .before .before .before .before .before .before .before .before .before .before .attributes .ensures .1))
+
+each-row-add-row-2 : (t : ℕ) → each-row-lts.Need-add-row-2 (each-row-claims t) (each-row-at t) each-row.Post each-row-Inv-loop each-row-μ-loop
+each-row-add-row-2 t c = omega (arith, steps-fit (c .before .before .before .before .before .before .before .before .before .before .before .before .before .before .before .before .before .before .before .before .attributes .result) (c .ahead2 .result) (c .before .before .before .before .before .before .before .before .before .before .before .before .before .before .before .before .before .before .before .before .before .rows .result) (omega (arith, c .ahead2 .ensures .0)) (c .before .before .before .before .before .before .before .before .before .before .before .before .before .before .before .before .before .before .before .before .before .rows .ensures .1) (c .before .before .before .before .before .before .before .before .before .before .before .before .before .before .before .before .before .before .before .before .attributes .ensures .1), c .before .before .before .before .before .before .before .before .before .before .before .before .before .before .before .before .before .before .before .before .attributes .ensures .1)
+
+each-row-add-row-3 : (t : ℕ) → each-row-lts.Need-add-row-3 (each-row-claims t) (each-row-at t) each-row.Post each-row-Inv-loop each-row-μ-loop
+each-row-add-row-3 t c = omega (arith, steps-fit (c .before .before .before .before .before .before .before .before .before .before .before .before .before .before .before .before .before .before .before .before .attributes .result) (c .ahead2 .result) (c .before .before .before .before .before .before .before .before .before .before .before .before .before .before .before .before .before .before .before .before .before .rows .result) (omega (arith, c .ahead2 .ensures .0)) (c .before .before .before .before .before .before .before .before .before .before .before .before .before .before .before .before .before .before .before .before .before .rows .ensures .1) (c .before .before .before .before .before .before .before .before .before .before .before .before .before .before .before .before .before .before .before .before .attributes .ensures .1), places-fit _ _ (c .before .before .before .before .before .before .before .before .before .before .before .before .before .loop .i) _ _ (c .before .before .before .before .before .before .before .before .before .before .before .before .before .before .before .before .base .ensures .1) (omega (arith, c .before .before .before .before .before .before .before .before .before .before .before .before .before .before .before .before .before .before .before .before .before .before .before .before .before .byte2 .ok)) (c .before .before .before .before .before .before .before .before .before .before .before .before .before .loop .inv .3) (c .before .before .before .before .before .before .before .before .before .before .before .before .before .before .before .before .before .before .before .before .before .rows .ensures .1) (c .before .before .before .before .before .before .before .before .before .before .before .before .before .before .before .before .before .before .before .before .attributes .ensures .1), c .before .before .before .before .before .before .before .before .before .before .before .before .before .loop .inv .2, c .before .before .before .before .before .before .before .before .before .before .before .before .before .before .before .before .before .before .before .before .attributes .ensures .1)
 
 each-row-add-i : (t : ℕ) → each-row-lts.Need-add-i (each-row-claims t) (each-row-at t) each-row.Post each-row-Inv-loop each-row-μ-loop
-each-row-add-i t c = search needs
+each-row-add-i t c = omega (arith, c .ahead2 .ensures .0, c .before .before .before .before .before .before .before .before .before .before .before .before .before .before .before .before .before .before .before .before .before .rows .ensures .1)
+
+each-row-add-i-2 : (t : ℕ) → each-row-lts.Need-add-i-2 (each-row-claims t) (each-row-at t) each-row.Post each-row-Inv-loop each-row-μ-loop
+each-row-add-i-2 t c = omega (arith, c .ahead2 .ensures .0, c .before .before .before .before .before .before .before .before .before .before .before .before .before .before .before .before .before .before .before .before .before .rows .ensures .1, c .before .before .before .before .before .before .before .before .before .before .before .before .loop-test .taken)
 
 each-row-loop-less : (t : ℕ) → each-row-lts.Need-loop-less (each-row-claims t) (each-row-at t) each-row.Post each-row-Inv-loop each-row-μ-loop
-each-row-loop-less t c = search needs
+each-row-loop-less t c = omega (arith, c .ahead2 .ensures .0, c .before .before .before .before .before .before .before .before .before .before .before .before .loop-test .taken)
 
 each-row-loop-again : (t : ℕ) → each-row-lts.Need-loop-again (each-row-claims t) (each-row-at t) each-row.Post each-row-Inv-loop each-row-μ-loop
-each-row-loop-again t c = (places-back (c .before .before .before .before .before .before .before .before .before .before .before .loop .env) (now (c .before .before .before .before .before .before .before .before .before .before .before .before .before .before .before .before .before .before .before .before .before .before .args .env)) _ (c .before .before .before .before .before .before .before .before .before .before .before .before .before .before .before .before .before .before .before .before .before .before .args .variable) (c .before .before .before .before .before .before .before .before .before .before .before .before .before .place .result) (c .before .before .before .before .before .before .before .before .before .before .before .loop .row) (c .before .before .before .before .before .before .before .before .before .before .before .loop .inv .0) (c .before .before .before .before .before .before .before .before .set-place .ensures) _ (c .before .before .before .run .ensures .1), each-next (c .before .before .before .before .before .before .before .before .before .before .before .before .before .before .before .before .before .before .before .before .before .before .args .plan) (now (c .before .before .before .before .before .before .before .before .before .before .before .before .before .before .before .before .before .before .before .before .before .before .args .q)) (now (c .before .before .before .before .before .before .before .before .before .before .before .before .before .before .before .before .before .before .before .before .before .before .args .z)) (now (c .before .before .before .before .before .before .before .before .before .before .before .before .before .before .before .before .before .before .before .before .before .before .args .catalogue)) (now (c .before .before .before .before .before .before .before .before .before .before .before .before .before .before .before .before .before .before .before .before .before .before .args .values)) (now (c .before .before .before .before .before .before .before .before .before .before .before .before .before .before .before .before .before .before .before .before .before .before .args .env)) (c .before .before .before .before .before .before .before .before .before .before .before .before .before .before .before .before .before .before .before .before .before .before .args .variable) (now (c .before .before .before .before .before .before .before .before .before .before .before .before .before .before .before .before .before .before .before .before .before .before .args .ranges)) (c .before .before .before .before .before .before .before .before .before .before .before .before .before .before .before .before .before .before .before .before .before .before .args .left) (c .before .before .before .before .before .before .before .before .before .before .before .before .base .result) (c .before .before .before .before .before .before .before .before .before .before .before .before .before .before .before .attributes .result) (record { rows = c .before .before .before .before .before .before .before .before .before .before .before .before .before .before .before .before .before .before .before .before .before .before .args .state .rows; full = c .before .before .before .before .before .before .before .before .before .before .before .before .before .before .before .before .before .before .before .before .before .before .args .state .full; cells = (now (c .before .before .before .before .before .before .before .before .before .before .before .before .before .before .before .before .before .before .before .before .before .before .args .answer)) }) (c .before .before .before .before .before .before .before .before .before .before .before .loop .i) (c .before .before .before .before .before .before .before .before .before .before .before .loop .row) _ _ _ (c .before .before .before .before .before .before .before .before .before .before .before .loop .inv .1) (c .before .before .before .before .before .before .before .before .before .before .before .loop .inv .2) (omega (arith, c .before .before .before .before .before .before .before .before .before .before .before .before .before .before .before .before .before .before .before .before .before .before .pre .1 .0, c .before .before .before .before .before .before .before .before .before .before .before .before .before .before .before .before .before .before .before .before .before .before .good)) (places-on (c .before .before .before .before .before .before .before .before .before .before .before .loop .env) (now (c .before .before .before .before .before .before .before .before .before .before .before .before .before .before .before .before .before .before .before .before .before .before .args .env)) _ (c .before .before .before .before .before .before .before .before .before .before .before .before .before .before .before .before .before .before .before .before .before .before .args .variable) (c .before .before .before .before .before .before .before .before .before .before .before .before .before .place .result) (c .before .before .before .before .before .before .before .before .before .before .before .loop .row) (c .before .before .before .before .before .before .before .before .before .before .before .loop .inv .0) (c .before .before .before .before .before .before .before .before .set-place .ensures)) (c .before .before .before .run .ensures .0), next-row _ _ _ _ (c .before .before .before .before .before .before .before .before .before .before .before .loop .inv .2), search needs, places-length (c .before .before .before .before .before .before .before .before .before .before .before .loop .env) (now (c .before .before .before .before .before .before .before .before .before .before .before .before .before .before .before .before .before .before .before .before .before .before .args .env)) _ (c .before .before .before .before .before .before .before .before .before .before .before .before .before .before .before .before .before .before .before .before .before .before .args .variable) (c .before .before .before .before .before .before .before .before .before .before .before .before .before .place .result) (c .before .before .before .before .before .before .before .before .before .before .before .loop .row) (c .before .before .before .before .before .before .before .before .before .before .before .loop .inv .0) (c .before .before .before .before .before .before .before .before .set-place .ensures) _ (c .before .before .before .run .ensures .1) (c .before .before .before .before .before .before .before .before .before .before .before .loop .inv .4), c .before .before .before .run .kept .1 .1 .1 .1 .1 .1 .1 .1 .0 ∙ c .before .before .before .before .before .before .before .before .before .before .before .loop .inv .5)
+each-row-loop-again t c = ((places-back (c .before .before .before .before .before .before .before .before .before .before .before .before .before .loop .env) (now (c .before .before .before .before .before .before .before .before .before .before .before .before .before .before .before .before .before .before .before .before .before .before .before .before .before .before .before .before .before .before .before .before .before .args .env)) _ (c .before .before .before .before .before .before .before .before .before .before .before .before .before .before .before .before .before .before .before .before .before .before .before .before .before .before .byte .result) (c .before .before .before .before .before .before .before .before .before .before .before .before .before .before .before .before .before .before .place .result) (c .before .before .before .before .before .before .before .before .before .before .before .before .before .loop .row) (c .before .before .before .before .before .before .before .before .before .before .before .before .before .loop .inv .0) (c .before .before .before .before .before .before .before .before .before .before .set-place .ensures) _ (c .before .before .before .before .before .run .ensures .1)), each-onward (c .before .before .before .before .before .before .before .before .before .before .before .before .before .before .before .before .before .before .before .before .before .before .deeper .result) (now (c .before .before .before .before .before .before .before .before .before .before .before .before .before .before .before .before .before .before .before .before .before .before .before .before .before .before .before .before .before .before .before .before .before .args .t)) (now (c .before .before .before .before .before .before .before .before .before .before .before .before .before .before .before .before .before .before .before .before .before .before .before .before .before .before .before .before .before .before .before .before .before .args .xs)) (now (c .before .before .before .before .before .before .before .before .before .before .before .before .before .before .before .before .before .before .before .before .before .before .before .before .before .before .before .before .before .before .before .before .before .args .q)) (now (c .before .before .before .before .before .before .before .before .before .before .before .before .before .before .before .before .before .before .before .before .before .before .before .before .before .before .before .before .before .before .before .before .before .args .z)) (now (c .before .before .before .before .before .before .before .before .before .before .before .before .before .before .before .before .before .before .before .before .before .before .before .before .before .before .before .before .before .before .before .before .before .args .cb)) (now (c .before .before .before .before .before .before .before .before .before .before .before .before .before .before .before .before .before .before .before .before .before .before .before .before .before .before .before .before .before .before .before .before .before .args .vs)) (now (c .before .before .before .before .before .before .before .before .before .before .before .before .before .before .before .before .before .before .before .before .before .before .before .before .before .before .before .before .before .before .before .before .before .args .memo)) (now (c .before .before .before .before .before .before .before .before .before .before .before .before .before .before .before .before .before .before .before .before .before .before .before .before .before .before .before .before .before .before .before .before .before .args .env)) (c .before .before .before .before .before .before .before .before .before .before .before .before .before .before .before .before .before .before .before .before .before .before .before .before .before .before .byte .result) _ (c .before .before .before .before .before .before .before .before .before .before .before .before .before .before .before .before .base .result) (c .before .before .before .before .before .before .before .before .before .before .before .before .before .before .before .before .before .before .before .before .attributes .result) (c .before .before .before .before .before .run .last .1 .1 .1 .1 .1 .1 .1 .1 .1 .0) (c .before .before .before .before .before .before .before .before .before .before .before .before .before .before .before .before .before .before .place .result) (c .before .before .before .before .before .before .before .before .before .before .before .before .before .loop .i) (c .ahead2 .result) (c .before .before .before .before .before .before .before .before .before .before .before .before .before .loop .row) _ (record { rows = c .before .before .before .before .before .before .before .before .before .before .before .before .before .before .before .before .before .before .before .before .before .before .before .before .before .before .before .before .before .before .before .before .before .args .state .rows; full = c .before .before .before .before .before .before .before .before .before .before .before .before .before .before .before .before .before .before .before .before .before .before .before .before .before .before .before .before .before .before .before .before .before .args .state .full; cells = (now (c .before .before .before .before .before .before .before .before .before .before .before .before .before .before .before .before .before .before .before .before .before .before .before .before .before .before .before .before .before .before .before .before .before .args .answer)) }) (places-back (c .before .before .before .before .before .before .before .before .before .before .before .before .before .loop .env) (now (c .before .before .before .before .before .before .before .before .before .before .before .before .before .before .before .before .before .before .before .before .before .before .before .before .before .before .before .before .before .before .before .before .before .args .env)) _ (c .before .before .before .before .before .before .before .before .before .before .before .before .before .before .before .before .before .before .before .before .before .before .before .before .before .before .byte .result) (c .before .before .before .before .before .before .before .before .before .before .before .before .before .before .before .before .before .before .place .result) (c .before .before .before .before .before .before .before .before .before .before .before .before .before .loop .row) (c .before .before .before .before .before .before .before .before .before .before .before .before .before .loop .inv .0) (c .before .before .before .before .before .before .before .before .before .before .set-place .ensures) _ (c .before .before .before .before .before .run .ensures .1)) (c .before .before .before .before .before .before .before .before .before .before .before .before .before .loop .inv .2) (c .ahead2 .ensures .1 (now (c .before .before .before .before .before .before .before .before .before .before .before .before .before .before .before .before .before .before .before .before .before .before .before .before .before .before .before .before .before .before .before .before .before .args .q)) (now (c .before .before .before .before .before .before .before .before .before .before .before .before .before .before .before .before .before .before .before .before .before .before .before .before .before .before .before .before .before .before .before .before .before .args .z)) (now (c .before .before .before .before .before .before .before .before .before .before .before .before .before .before .before .before .before .before .before .before .before .before .before .before .before .before .before .before .before .before .before .before .before .args .cb)) (now (c .before .before .before .before .before .before .before .before .before .before .before .before .before .before .before .before .before .before .before .before .before .before .before .before .before .before .before .before .before .before .before .before .before .args .memo))) (each-next (c .before .before .before .before .before .before .before .before .before .before .before .before .before .before .before .before .before .before .before .before .before .before .deeper .result) (now (c .before .before .before .before .before .before .before .before .before .before .before .before .before .before .before .before .before .before .before .before .before .before .before .before .before .before .before .before .before .before .before .before .before .args .t)) (now (c .before .before .before .before .before .before .before .before .before .before .before .before .before .before .before .before .before .before .before .before .before .before .before .before .before .before .before .before .before .before .before .before .before .args .xs)) (now (c .before .before .before .before .before .before .before .before .before .before .before .before .before .before .before .before .before .before .before .before .before .before .before .before .before .before .before .before .before .before .before .before .before .args .q)) (now (c .before .before .before .before .before .before .before .before .before .before .before .before .before .before .before .before .before .before .before .before .before .before .before .before .before .before .before .before .before .before .before .before .before .args .z)) (now (c .before .before .before .before .before .before .before .before .before .before .before .before .before .before .before .before .before .before .before .before .before .before .before .before .before .before .before .before .before .before .before .before .before .args .cb)) (now (c .before .before .before .before .before .before .before .before .before .before .before .before .before .before .before .before .before .before .before .before .before .before .before .before .before .before .before .before .before .before .before .before .before .args .vs)) (now (c .before .before .before .before .before .before .before .before .before .before .before .before .before .before .before .before .before .before .before .before .before .before .before .before .before .before .before .before .before .before .before .before .before .args .memo)) (now (c .before .before .before .before .before .before .before .before .before .before .before .before .before .before .before .before .before .before .before .before .before .before .before .before .before .before .before .before .before .before .before .before .before .args .env)) (c .before .before .before .before .before .before .before .before .before .before .before .before .before .before .before .before .before .before .before .before .before .before .before .before .before .before .byte .result) _ (c .before .before .before .before .before .before .before .before .before .before .before .before .before .before .before .before .base .result) (c .before .before .before .before .before .before .before .before .before .before .before .before .before .before .before .before .before .before .before .before .attributes .result) (record { rows = c .before .before .before .before .before .before .before .before .before .before .before .before .before .before .before .before .before .before .before .before .before .before .before .before .before .before .before .before .before .before .before .before .before .args .state .rows; full = c .before .before .before .before .before .before .before .before .before .before .before .before .before .before .before .before .before .before .before .before .before .before .before .before .before .before .before .before .before .before .before .before .before .args .state .full; cells = (now (c .before .before .before .before .before .before .before .before .before .before .before .before .before .before .before .before .before .before .before .before .before .before .before .before .before .before .before .before .before .before .before .before .before .args .answer)) }) (c .before .before .before .before .before .before .before .before .before .before .before .before .before .loop .i) (c .before .before .before .before .before .before .before .before .before .before .before .before .before .loop .row) (record { rows = c .before .before .before .before .before .before .before .before .before .before .before .before .before .loop .filled .rows; full = c .before .before .before .before .before .before .before .before .before .before .before .before .before .loop .filled .full; cells = c .before .before .before .before .before .before .before .before .before .before .before .before .before .loop .answer }) _ _ (c .before .before .before .before .before .before .before .before .before .before .before .before .before .loop .inv .1) (c .before .before .before .before .before .before .before .before .before .before .before .before .before .loop .inv .2) (omega (arith, c .before .before .before .before .before .before .before .before .before .before .before .before .before .before .before .before .before .before .before .before .before .before .before .before .before .before .before .before .before .before .before .before .before .pre .1 .0, c .before .before .before .before .before .before .before .before .before .before .before .before .before .before .before .before .before .before .before .before .before .before .before .before .before .before .byte .ok)) (places-on (c .before .before .before .before .before .before .before .before .before .before .before .before .before .loop .env) (now (c .before .before .before .before .before .before .before .before .before .before .before .before .before .before .before .before .before .before .before .before .before .before .before .before .before .before .before .before .before .before .before .before .before .args .env)) _ (c .before .before .before .before .before .before .before .before .before .before .before .before .before .before .before .before .before .before .before .before .before .before .before .before .before .before .byte .result) (c .before .before .before .before .before .before .before .before .before .before .before .before .before .before .before .before .before .before .place .result) (c .before .before .before .before .before .before .before .before .before .before .before .before .before .loop .row) (c .before .before .before .before .before .before .before .before .before .before .before .before .before .loop .inv .0) (c .before .before .before .before .before .before .before .before .before .before .set-place .ensures)) (c .before .before .before .before .before .run .ensures .0)), row-next _ _ _ _ _ (c .before .before .before .before .before .before .before .before .before .before .before .before .before .loop .inv .2), omega (arith, c .ahead2 .ensures .0, c .before .before .before .before .before .before .before .before .before .before .before .before .loop-test .taken), places-length (c .before .before .before .before .before .before .before .before .before .before .before .before .before .loop .env) (now (c .before .before .before .before .before .before .before .before .before .before .before .before .before .before .before .before .before .before .before .before .before .before .before .before .before .before .before .before .before .before .before .before .before .args .env)) _ (c .before .before .before .before .before .before .before .before .before .before .before .before .before .before .before .before .before .before .before .before .before .before .before .before .before .before .byte .result) (c .before .before .before .before .before .before .before .before .before .before .before .before .before .before .before .before .before .before .place .result) (c .before .before .before .before .before .before .before .before .before .before .before .before .before .loop .row) (c .before .before .before .before .before .before .before .before .before .before .before .before .before .loop .inv .0) (c .before .before .before .before .before .before .before .before .before .before .set-place .ensures) _ (c .before .before .before .before .before .run .ensures .1) (c .before .before .before .before .before .before .before .before .before .before .before .before .before .loop .inv .4), c .before .before .before .before .before .run .kept .1 .1 .1 .1 .1 .1 .1 .1 .1 .1 .0 ∙ c .before .before .before .before .before .before .before .before .before .before .before .before .before .loop .inv .5)
 
 each-row-set-place-requires-2 : (t : ℕ) → each-row-lts.Need-set-place-requires-2 (each-row-claims t) (each-row-at t) each-row.Post each-row-Inv-loop each-row-μ-loop
 each-row-set-place-requires-2 t c κs = search needs
@@ -105,46 +158,43 @@ each-row-same-length-2 : (t : ℕ) → each-row-lts.Need-same-length-2 (each-row
 each-row-same-length-2 t c = search needs
 
 each-row-returns : (t : ℕ) → each-row-lts.Need-returns (each-row-claims t) (each-row-at t) each-row.Post each-row-Inv-loop each-row-μ-loop
-each-row-returns t c = (each-all (c .before .before .before .before .before .before .before .before .before .before .before .before .before .before .before .before .args .plan) (now (c .before .before .before .before .before .before .before .before .before .before .before .before .before .before .before .before .args .q)) (now (c .before .before .before .before .before .before .before .before .before .before .before .before .before .before .before .before .args .z)) (now (c .before .before .before .before .before .before .before .before .before .before .before .before .before .before .before .before .args .catalogue)) (now (c .before .before .before .before .before .before .before .before .before .before .before .before .before .before .before .before .args .values)) (now (c .before .before .before .before .before .before .before .before .before .before .before .before .before .before .before .before .args .env)) (c .before .before .before .before .before .before .before .before .before .before .before .before .before .before .before .before .args .variable) (now (c .before .before .before .before .before .before .before .before .before .before .before .before .before .before .before .before .args .ranges)) (c .before .before .before .before .before .before .before .before .before .before .before .before .before .before .before .before .args .left) (c .before .before .before .before .before .before .base .result) (c .before .before .before .before .before .before .before .before .before .attributes .result) (record { rows = c .before .before .before .before .before .before .before .before .before .before .before .before .before .before .before .before .args .state .rows; full = c .before .before .before .before .before .before .before .before .before .before .before .before .before .before .before .before .args .state .full; cells = (now (c .before .before .before .before .before .before .before .before .before .before .before .before .before .before .before .before .args .answer)) }) (c .before .before .before .before .before .before .before .before .before .before .before .before .before .before .before .before .args .relation) (c .before .before .before .before .before .before .before .before .before .before .rows .result) (c .before .before .before .before .before .loop .i) _ (c .before .before .before .before .before .before .before .before .before .before .rows .ensures .0) (c .before .before .before .before .before .before .before .before .before .attributes .ensures .0) (c .before .before .before .before .before .before .base .ensures .0) (omega (arith, c .before .before .before .before .loop-test .left, c .before .before .before .before .before .loop .inv .3)) (c .before .before .before .before .before .loop .inv .1), c .before .before .set-place2 .ensures ∙ c .before .before .before .before .before .loop .inv .0)
+each-row-returns t c = (each-all (c .before .before .before .before .before .before .before .before .before .before .before .before .before .before .before .before .before .before .before .before .before .before .before .before .before .args .plan) (c .before .before .before .before .before .before .before .before .before .before .before .before .before .before .deeper .result) (now (c .before .before .before .before .before .before .before .before .before .before .before .before .before .before .before .before .before .before .before .before .before .before .before .before .before .args .t)) (now (c .before .before .before .before .before .before .before .before .before .before .before .before .before .before .before .before .before .before .before .before .before .before .before .before .before .args .xs)) (now (c .before .before .before .before .before .before .before .before .before .before .before .before .before .before .before .before .before .before .before .before .before .before .before .before .before .args .q)) (now (c .before .before .before .before .before .before .before .before .before .before .before .before .before .before .before .before .before .before .before .before .before .before .before .before .before .args .z)) (now (c .before .before .before .before .before .before .before .before .before .before .before .before .before .before .before .before .before .before .before .before .before .before .before .before .before .args .cb)) (now (c .before .before .before .before .before .before .before .before .before .before .before .before .before .before .before .before .before .before .before .before .before .before .before .before .before .args .vs)) (now (c .before .before .before .before .before .before .before .before .before .before .before .before .before .before .before .before .before .before .before .before .before .before .before .before .before .args .memo)) (now (c .before .before .before .before .before .before .before .before .before .before .before .before .before .before .before .before .before .before .before .before .before .before .before .before .before .args .env)) (c .before .before .before .before .before .before .before .before .before .before .before .before .before .before .before .before .before .before .byte .result) _ (c .before .before .before .before .before .before .before .before .base .result) (c .before .before .before .before .before .before .before .before .before .before .before .before .attributes .result) (record { rows = c .before .before .before .before .before .before .before .before .before .before .before .before .before .before .before .before .before .before .before .before .before .before .before .before .before .args .state .rows; full = c .before .before .before .before .before .before .before .before .before .before .before .before .before .before .before .before .before .before .before .before .before .before .before .before .before .args .state .full; cells = (now (c .before .before .before .before .before .before .before .before .before .before .before .before .before .before .before .before .before .before .before .before .before .before .before .before .before .args .answer)) }) (now (c .before .before .before .before .before .before .before .before .before .before .before .before .before .before .before .before .before .before .before .before .before .before .before .before .before .args .ranges)) (c .before .before .before .before .before .before .before .before .before .before .before .before .before .before .before .before .before .byte2 .result) (c .before .before .before .before .before .before .before .before .before .before .before .before .before .rows .result) (c .before .before .before .before .before .loop .i) _ _ (c .before .before .before .before .before .before .before .before .before .before .before .before .before .before .deeper .ensures .0) (c .before .before .before .before .before .before .before .before .before .before .before .before .before .before .before .before .before .before .byte .ensures) (c .before .before .before .before .before .before .before .before .before .before .before .before .before .before .before .before .before .byte2 .ensures) (c .before .before .before .before .before .before .before .before .before .before .before .before .before .before .before .before .record-length .ensures .0) (c .before .before .before .before .before .before .before .before .before .before .before .before .before .before .before .tail .ensures) (c .before .before .before .before .before .before .before .before .before .before .before .before .before .rows .ensures .0) (c .before .before .before .before .before .before .before .before .before .before .before .before .attributes .ensures .0) (c .before .before .before .before .before .before .before .before .base .ensures .0) (omega (arith, c .before .before .before .before .loop-test .left, c .before .before .before .before .before .loop .inv .3)) (c .before .before .before .before .before .loop .inv .1), c .before .before .set-place2 .ensures ∙ c .before .before .before .before .before .loop .inv .0)
 
-run-visit-requires : (t : ℕ) → run-lts.Need-visit-requires (run-claims t) (run-at t) run.Post
-run-visit-requires t c κs = search needs
+run-returns : (t : ℕ) → run-lts.Need-returns (run-claims t) (run-at t) run.Post
+run-returns t c = (run-full (c .before .before .before .before .before .before .before .args .plan) (now (c .before .before .before .before .before .before .before .args .t)) (now (c .before .before .before .before .before .before .before .args .xs)) (now (c .before .before .before .before .before .before .before .args .q)) (now (c .before .before .before .before .before .before .before .args .z)) (now (c .before .before .before .before .before .before .before .args .cb)) (now (c .before .before .before .before .before .before .before .args .vs)) (now (c .before .before .before .before .before .before .before .args .memo)) (now (c .before .before .before .before .before .before .before .args .ranges)) (now (c .before .before .before .before .before .before .before .args .env)) (record { rows = c .before .before .before .before .before .before .before .args .state .rows; full = c .before .before .before .before .before .before .before .args .state .full; cells = (now (c .before .before .before .before .before .before .before .args .answer)) }) (c .if1 .taken), search needs)
+
+run-due-requires : (t : ℕ) → run-lts.Need-due-requires (run-claims t) (run-at t) run.Post
+run-due-requires t c κs = search needs
 
 run-same-length : (t : ℕ) → run-lts.Need-same-length (run-claims t) (run-at t) run.Post
 run-same-length t c = search needs
 
+run-returns-2 : (t : ℕ) → run-lts.Need-returns-2 (run-claims t) (run-at t) run.Post
+run-returns-2 t c = (run-no (c .before .before .before .before .before .before .before .before .before .before .before .before .args .plan) (now (c .before .before .before .before .before .before .before .before .before .before .before .before .args .t)) (now (c .before .before .before .before .before .before .before .before .before .before .before .before .args .xs)) (now (c .before .before .before .before .before .before .before .before .before .before .before .before .args .q)) (now (c .before .before .before .before .before .before .before .before .before .before .before .before .args .z)) (now (c .before .before .before .before .before .before .before .before .before .before .before .before .args .cb)) (now (c .before .before .before .before .before .before .before .before .before .before .before .before .args .vs)) (now (c .before .before .before .before .before .before .before .before .before .before .before .before .args .memo)) (now (c .before .before .before .before .before .before .before .before .before .before .before .before .args .ranges)) (now (c .before .before .before .before .before .before .before .before .before .before .before .before .args .env)) (record { rows = c .before .before .before .before .before .before .before .before .before .before .before .before .args .state .rows; full = c .before .before .before .before .before .before .before .before .before .before .before .before .args .state .full; cells = (now (c .before .before .before .before .before .before .before .before .before .before .before .before .args .answer)) }) _ (c .before .before .before .due .ensures .0) (c .if2 .taken), c .before .before .before .due .ensures .1)
+
+run-write-requires : (t : ℕ) → run-lts.Need-write-requires (run-claims t) (run-at t) run.Post
+run-write-requires t c κs = search needs
+
 run-same-length-2 : (t : ℕ) → run-lts.Need-same-length-2 (run-claims t) (run-at t) run.Post
 run-same-length-2 t c = search needs
-
-run-returns : (t : ℕ) → run-lts.Need-returns (run-claims t) (run-at t) run.Post
-run-returns t c = (run-none (c .before .before .before .before .before .before .before .before .before .before .before .before .args .plan) (now (c .before .before .before .before .before .before .before .before .before .before .before .before .args .q)) (now (c .before .before .before .before .before .before .before .before .before .before .before .before .args .z)) (now (c .before .before .before .before .before .before .before .before .before .before .before .before .args .catalogue)) (now (c .before .before .before .before .before .before .before .before .before .before .before .before .args .values)) (now (c .before .before .before .before .before .before .before .before .before .before .before .before .args .env)) (now (c .before .before .before .before .before .before .before .before .before .before .before .before .args .ranges)) (c .before .before .before .before .before .before .before .before .before .before .before .before .args .left) (record { rows = c .before .before .before .before .before .before .before .before .before .before .before .before .args .state .rows; full = c .before .before .before .before .before .before .before .before .before .before .before .before .args .state .full; cells = (now (c .before .before .before .before .before .before .before .before .before .before .before .before .args .answer)) }) _ (c .before .before .before .before .before .before .if1 .taken) (c .before .before .before .visit .ensures .0), c .before .before .before .visit .ensures .1)
-
-run-byte-requires : (t : ℕ) → run-lts.Need-byte-requires (run-claims t) (run-at t) run.Post
-run-byte-requires t c κs = search needs
-
-run-byte-requires-2 : (t : ℕ) → run-lts.Need-byte-requires-2 (run-claims t) (run-at t) run.Post
-run-byte-requires-2 t c κs = search needs
-
-run-record-length-requires : (t : ℕ) → run-lts.Need-record-length-requires (run-claims t) (run-at t) run.Post
-run-record-length-requires t c κs = search needs
-
-run-tail-requires : (t : ℕ) → run-lts.Need-tail-requires (run-claims t) (run-at t) run.Post
-run-tail-requires t c κs = search needs
-
-run-sub-each-row : (t : ℕ) → run-lts.Need-sub-each-row (run-claims t) (run-at t) run.Post
-run-sub-each-row t c = search needs
-
-run-each-row-requires : (t : ℕ) → run-lts.Need-each-row-requires (run-claims t) (run-at t) run.Post
-run-each-row-requires t c κs = search needs
 
 run-same-length-3 : (t : ℕ) → run-lts.Need-same-length-3 (run-claims t) (run-at t) run.Post
 run-same-length-3 t c = search needs
 
+run-returns-3 : (t : ℕ) → run-lts.Need-returns-3 (run-claims t) (run-at t) run.Post
+run-returns-3 t c = (run-row (c .before .before .before .before .before .before .before .before .before .before .before .before .before .before .before .before .before .before .before .args .plan) (now (c .before .before .before .before .before .before .before .before .before .before .before .before .before .before .before .before .before .before .before .args .t)) (now (c .before .before .before .before .before .before .before .before .before .before .before .before .before .before .before .before .before .before .before .args .xs)) (now (c .before .before .before .before .before .before .before .before .before .before .before .before .before .before .before .before .before .before .before .args .q)) (now (c .before .before .before .before .before .before .before .before .before .before .before .before .before .before .before .before .before .before .before .args .z)) (now (c .before .before .before .before .before .before .before .before .before .before .before .before .before .before .before .before .before .before .before .args .cb)) (now (c .before .before .before .before .before .before .before .before .before .before .before .before .before .before .before .before .before .before .before .args .vs)) (now (c .before .before .before .before .before .before .before .before .before .before .before .before .before .before .before .before .before .before .before .args .memo)) (now (c .before .before .before .before .before .before .before .before .before .before .before .before .before .before .before .before .before .before .before .args .ranges)) (now (c .before .before .before .before .before .before .before .before .before .before .before .before .before .before .before .before .before .before .before .args .env)) (record { rows = c .before .before .before .before .before .before .before .before .before .before .before .before .before .before .before .before .before .before .before .args .state .rows; full = c .before .before .before .before .before .before .before .before .before .before .before .before .before .before .before .before .before .before .before .args .state .full; cells = (now (c .before .before .before .before .before .before .before .before .before .before .before .before .before .before .before .before .before .before .before .args .answer)) }) _ (c .before .before .before .before .before .before .before .before .before .before .due .ensures .0) _ _ (c .before .before .before .before .before .before .before .if2 .left) (c .before .before .before .before .before .before .if3 .taken) (c .before .before .before .before .before .before .before .before .before .before .due .ensures .1) (c .before .before .before .write .ensures .0), c .before .before .before .write .ensures .1 ∙ c .before .before .before .before .before .before .before .before .before .before .due .ensures .1)
+
+run-each-row-requires : (t : ℕ) → run-lts.Need-each-row-requires (run-claims t) (run-at t) run.Post
+run-each-row-requires t c κs = search needs
+
 run-same-length-4 : (t : ℕ) → run-lts.Need-same-length-4 (run-claims t) (run-at t) run.Post
 run-same-length-4 t c = search needs
 
-run-returns-2 : (t : ℕ) → run-lts.Need-returns-2 (run-claims t) (run-at t) run.Post
-run-returns-2 t c = (run-more (c .before .before .before .before .before .before .before .before .before .before .before .before .before .before .before .before .args .plan) (now (c .before .before .before .before .before .before .before .before .before .before .before .before .before .before .before .before .args .q)) (now (c .before .before .before .before .before .before .before .before .before .before .before .before .before .before .before .before .args .z)) (now (c .before .before .before .before .before .before .before .before .before .before .before .before .before .before .before .before .args .catalogue)) (now (c .before .before .before .before .before .before .before .before .before .before .before .before .before .before .before .before .args .values)) (now (c .before .before .before .before .before .before .before .before .before .before .before .before .before .before .before .before .args .env)) (now (c .before .before .before .before .before .before .before .before .before .before .before .before .before .before .before .before .args .ranges)) (c .before .before .before .before .before .before .before .before .before .before .before .before .before .before .before .before .args .left) (record { rows = c .before .before .before .before .before .before .before .before .before .before .before .before .before .before .before .before .args .state .rows; full = c .before .before .before .before .before .before .before .before .before .before .before .before .before .before .before .before .args .state .full; cells = (now (c .before .before .before .before .before .before .before .before .before .before .before .before .before .before .before .before .args .answer)) }) _ _ _ _ _ (c .before .before .before .before .before .before .before .before .before .before .if1 .left) (c .before .before .before .before .before .before .before .before .before .byte .ensures) (c .before .before .before .before .before .before .before .before .byte2 .ensures) (c .before .before .before .before .before .before .before .record-length .ensures .0) (c .before .before .before .before .before .before .tail .ensures) (c .before .before .before .each-row .ensures .0), c .before .before .before .each-row .ensures .1)
+run-same-length-5 : (t : ℕ) → run-lts.Need-same-length-5 (run-claims t) (run-at t) run.Post
+run-same-length-5 t c = search needs
+
+run-returns-4 : (t : ℕ) → run-lts.Need-returns-4 (run-claims t) (run-at t) run.Post
+run-returns-4 t c = (run-rows (c .before .before .before .before .before .before .before .before .before .before .before .before .before .before .before .before .before .before .before .args .plan) (now (c .before .before .before .before .before .before .before .before .before .before .before .before .before .before .before .before .before .before .before .args .t)) (now (c .before .before .before .before .before .before .before .before .before .before .before .before .before .before .before .before .before .before .before .args .xs)) (now (c .before .before .before .before .before .before .before .before .before .before .before .before .before .before .before .before .before .before .before .args .q)) (now (c .before .before .before .before .before .before .before .before .before .before .before .before .before .before .before .before .before .before .before .args .z)) (now (c .before .before .before .before .before .before .before .before .before .before .before .before .before .before .before .before .before .before .before .args .cb)) (now (c .before .before .before .before .before .before .before .before .before .before .before .before .before .before .before .before .before .before .before .args .vs)) (now (c .before .before .before .before .before .before .before .before .before .before .before .before .before .before .before .before .before .before .before .args .memo)) (now (c .before .before .before .before .before .before .before .before .before .before .before .before .before .before .before .before .before .before .before .args .ranges)) (now (c .before .before .before .before .before .before .before .before .before .before .before .before .before .before .before .before .before .before .before .args .env)) (record { rows = c .before .before .before .before .before .before .before .before .before .before .before .before .before .before .before .before .before .before .before .args .state .rows; full = c .before .before .before .before .before .before .before .before .before .before .before .before .before .before .before .before .before .before .before .args .state .full; cells = (now (c .before .before .before .before .before .before .before .before .before .before .before .before .before .before .before .before .before .before .before .args .answer)) }) _ (c .before .before .before .before .before .before .before .before .before .before .due .ensures .0) _ _ (c .before .before .before .before .before .before .before .if2 .left) (c .before .before .before .before .before .before .if3 .left) (c .before .before .before .before .before .before .before .before .before .before .due .ensures .1) (c .before .before .before .each-row .ensures .0), c .before .before .before .each-row .ensures .1 ∙ c .before .before .before .before .before .before .before .before .before .before .due .ensures .1)
 
 pub +each-row+run-spec : {M : Type 1} → statement M
 +each-row+run-spec = close μ-each-row μ-run (λ t. each-row-lts.spec (each-row-claims t)
@@ -152,15 +202,31 @@ pub +each-row+run-spec : {M : Type 1} → statement M
     each-row.Post
     each-row-Inv-loop
     each-row-μ-loop
+    (each-row-byte-requires t)
+    (each-row-byte-requires-2 t)
+    (each-row-record-length-requires t)
+    (each-row-tail-requires t)
+    (each-row-deeper-requires t)
     (each-row-rows-requires t)
     (each-row-attributes-requires t)
     (each-row-place-requires t)
+    (each-row-mul-stage t)
     (each-row-base-requires t)
+    (each-row-ahead-requires t)
+    (each-row-mul-row t)
+    (each-row-add-row t)
     (each-row-loop-holds t)
     (each-row-set-place-requires t)
     (each-row-run-requires t)
-    (each-row-add-row t)
+    (each-row-add-ahead t)
+    (each-row-sub-ahead t)
+    (each-row-sub-ahead-2 t)
+    (each-row-ahead-requires-2 t)
+    (each-row-mul-row-2 t)
+    (each-row-add-row-2 t)
+    (each-row-add-row-3 t)
     (each-row-add-i t)
+    (each-row-add-i-2 t)
     (each-row-loop-less t)
     (each-row-loop-again t)
     (each-row-set-place-requires-2 t)
@@ -170,16 +236,15 @@ pub +each-row+run-spec : {M : Type 1} → statement M
     λ t. run-lts.spec (run-claims t)
     (run-at t)
     run.Post
-    (run-visit-requires t)
-    (run-same-length t)
-    (run-same-length-2 t)
     (run-returns t)
-    (run-byte-requires t)
-    (run-byte-requires-2 t)
-    (run-record-length-requires t)
-    (run-tail-requires t)
-    (run-sub-each-row t)
-    (run-each-row-requires t)
-    (run-same-length-3 t)
-    (run-same-length-4 t)
+    (run-due-requires t)
+    (run-same-length t)
     (run-returns-2 t)
+    (run-write-requires t)
+    (run-same-length-2 t)
+    (run-same-length-3 t)
+    (run-returns-3 t)
+    (run-each-row-requires t)
+    (run-same-length-4 t)
+    (run-same-length-5 t)
+    (run-returns-4 t)

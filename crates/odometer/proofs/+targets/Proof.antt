@@ -7,7 +7,6 @@ use mir.Syntax.{w64}
 use mir.Val.{toZ, ofZ}
 use mir.Facts.{toZ-ofZ}
 use lib.ListN.{length, set, length-set}
-use lib.Seq.{sets, length-sets}
 use Rattle.odometer.proofs.Steps.{targets-none, targets-more}
 use borrow.Fn.Kinds.{In}
 use borrow.Fn.PlainCycle.{Measures, is, falls, and}
@@ -22,20 +21,20 @@ use Rattle.numbers.proofs.cell.Reads as cell-reads
 use Rattle.odometer.proofs.+targets.{statement}
 use Rattle.odometer.proofs.+targets.Tie.{close}
 
-abbrev μ-targets : Measures 6 targets-kinds.ps ℕ
+abbrev μ-targets : Measures 7 targets-kinds.ps ℕ
 μ-targets κs a = a .1 .1 .0
 
-abbrev targets-at : ℕ → In 6 targets-kinds.ps
-targets-at t = and 6 targets-kinds.ps (is 6 targets-kinds.ps μ-targets t) targets.Pre
+abbrev targets-at : ℕ → In 7 targets-kinds.ps
+targets-at t = and 7 targets-kinds.ps (is 7 targets-kinds.ps μ-targets t) targets.Pre
 
-abbrev targets-below : ℕ → In 6 targets-kinds.ps
-targets-below t = and 6 targets-kinds.ps (falls 6 targets-kinds.ps _<_ μ-targets t) targets.Pre
+abbrev targets-below : ℕ → In 7 targets-kinds.ps
+targets-below t = and 7 targets-kinds.ps (falls 7 targets-kinds.ps _<_ μ-targets t) targets.Pre
 
 abbrev targets-claims : ℕ → targets-lts.Claims
 targets-claims t = (term-reads.Asked, term-reads.Learnt, cell-reads.Asked, cell-reads.Learnt, size-at-reads.Asked, size-at-reads.Learnt, tail-reads.Asked, tail-reads.Learnt, tail-sizes-reads.Asked, tail-sizes-reads.Learnt, targets-below t, targets.Post)
 
 targets-returns : (t : ℕ) → targets-lts.Need-returns (targets-claims t) (targets-at t) targets.Post
-targets-returns t c = (targets-none (now (c .before .before .before .before .before .args .catalogue)) (now (c .before .before .before .before .before .args .values)) (now (c .before .before .before .before .before .args .env)) (now (c .before .before .before .before .before .args .q)) (now (c .before .before .before .before .before .args .z)) (c .before .before .before .before .before .args .left) (c .before .before .before .before .before .args .level) (c .before .before .before .before .before .args .at) (now (c .before .before .before .before .before .args .row)) (c .if1 .taken), search needs)
+targets-returns t c = (targets-none (now (c .before .before .before .before .before .args .cb)) (now (c .before .before .before .before .before .args .vs)) (now (c .before .before .before .before .before .args .memo)) (now (c .before .before .before .before .before .args .env)) (now (c .before .before .before .before .before .args .q)) (now (c .before .before .before .before .before .args .z)) (c .before .before .before .before .before .args .left) (c .before .before .before .before .before .args .level) (c .before .before .before .before .before .args .at) (now (c .before .before .before .before .before .args .row)) (c .if1 .taken), search needs)
 
 targets-term-requires : (t : ℕ) → targets-lts.Need-term-requires (targets-claims t) (targets-at t) targets.Post
 targets-term-requires t c κs = search needs
@@ -62,7 +61,7 @@ targets-sub-targets : (t : ℕ) → targets-lts.Need-sub-targets (targets-claims
 targets-sub-targets t c = search needs
 
 targets-add-targets : (t : ℕ) → targets-lts.Need-add-targets (targets-claims t) (targets-at t) targets.Post
-targets-add-targets t c = search needs
+targets-add-targets t c = omega (arith, c .before .before .before .before .before .before .before .before .before .before .before .before .before .before .before .pre .1 .1, c .before .before .before .before .before .before .before .before .before .before .if1 .left, c .before .before .before .before .before .before .before .before .before .before .before .before .before .before .before .good .1 .1 .1 .1 .1 .1 .1 .1 .0)
 
 targets-targets-requires : (t : ℕ) → targets-lts.Need-targets-requires (targets-claims t) (targets-at t) targets.Post
 targets-targets-requires t c κs = (omega (arith, c .before .before .before .before .before .before .before .before .before .before .before .before .before .before .before .pre .0, c .before .before .before .before .before .before .before .before .before .before .if1 .left), (omega (arith, c .before .before .before .before .before .before .before .before .before .before .before .before .before .before .before .pre .1 .0, ap length (c .before .before .before .before .before .before .before .before .term .ensures .1 .1)), omega (arith, c .before .before .before .before .before .before .before .before .before .before .before .before .before .before .before .pre .1 .1, c .before .before .before .before .before .before .before .before .before .before .if1 .left, length-set (now (c .before .before .before .before .before .before .before .before .before .before .before .before .before .before .before .args .row)) (c .before .before .before .before .before .before .before .before .before .before .before .before .before .before .before .args .at) (toZ w64 (ofZ w64 (c .before .before .before .before .before .cell .result))))))
@@ -71,10 +70,10 @@ targets-same-length : (t : ℕ) → targets-lts.Need-same-length (targets-claims
 targets-same-length t c = search needs
 
 targets-same-length-2 : (t : ℕ) → targets-lts.Need-same-length-2 (targets-claims t) (targets-at t) targets.Post
-targets-same-length-2 t c = c .before .before .before .targets .kept .1 .1 .1 .1 .1 .1 .1 .0 ∙ length-set (now (c .before .before .before .before .before .before .before .before .before .before .before .before .before .before .before .before .before .before .before .args .row)) (c .before .before .before .before .before .before .before .before .before .before .before .before .before .before .before .before .before .before .before .args .at) (toZ w64 (ofZ w64 (c .before .before .before .before .before .before .before .before .before .cell .result)))
+targets-same-length-2 t c = c .before .before .before .targets .kept .1 .1 .1 .1 .1 .1 .1 .1 .0 ∙ length-set (now (c .before .before .before .before .before .before .before .before .before .before .before .before .before .before .before .before .before .before .before .args .row)) (c .before .before .before .before .before .before .before .before .before .before .before .before .before .before .before .before .before .before .before .args .at) (toZ w64 (ofZ w64 (c .before .before .before .before .before .before .before .before .before .cell .result)))
 
 targets-returns-2 : (t : ℕ) → targets-lts.Need-returns-2 (targets-claims t) (targets-at t) targets.Post
-targets-returns-2 t c = (targets-more (now (c .before .before .before .before .before .before .before .before .before .before .before .before .before .before .before .before .before .before .before .args .catalogue)) (now (c .before .before .before .before .before .before .before .before .before .before .before .before .before .before .before .before .before .before .before .args .values)) (now (c .before .before .before .before .before .before .before .before .before .before .before .before .before .before .before .before .before .before .before .args .env)) (now (c .before .before .before .before .before .before .before .before .before .before .before .before .before .before .before .before .before .before .before .args .q)) (now (c .before .before .before .before .before .before .before .before .before .before .before .before .before .before .before .before .before .before .before .args .z)) (c .before .before .before .before .before .before .before .before .before .before .before .before .before .before .before .before .before .before .before .args .left) (c .before .before .before .before .before .before .before .before .before .before .before .before .before .before .before .before .before .before .before .args .level) (c .before .before .before .before .before .before .before .before .before .before .before .before .before .before .before .before .before .before .before .args .at) (now (c .before .before .before .before .before .before .before .before .before .before .before .before .before .before .before .before .before .before .before .args .row)) _ _ _ _ _ _ _ _ (c .before .before .before .before .before .before .before .before .before .before .before .before .before .before .if1 .left) (c .before .before .before .before .before .before .before .before .before .before .before .before .term .ensures .0) (toZ-ofZ {w = w64} (record { sfits = c .before .before .before .before .before .before .before .before .before .cell .ok }) ∙ c .before .before .before .before .before .before .before .before .before .cell .ensures) refl (c .before .before .before .before .before .before .before .before .size-at .ensures .0) (c .before .before .before .before .before .before .before .tail .ensures) (c .before .before .before .before .before .before .tail-sizes .ensures) (c .before .before .before .before .before .before .before .before .before .before .before .before .term .ensures .1 .1) (c .before .before .before .targets .ensures .0), c .before .before .before .targets .ensures .1 ∙ c .before .before .before .before .before .before .before .before .before .before .before .before .term .ensures .1 .1)
+targets-returns-2 t c = (targets-more (now (c .before .before .before .before .before .before .before .before .before .before .before .before .before .before .before .before .before .before .before .args .cb)) (now (c .before .before .before .before .before .before .before .before .before .before .before .before .before .before .before .before .before .before .before .args .vs)) (now (c .before .before .before .before .before .before .before .before .before .before .before .before .before .before .before .before .before .before .before .args .memo)) (now (c .before .before .before .before .before .before .before .before .before .before .before .before .before .before .before .before .before .before .before .args .env)) (now (c .before .before .before .before .before .before .before .before .before .before .before .before .before .before .before .before .before .before .before .args .q)) (now (c .before .before .before .before .before .before .before .before .before .before .before .before .before .before .before .before .before .before .before .args .z)) (c .before .before .before .before .before .before .before .before .before .before .before .before .before .before .before .before .before .before .before .args .left) (c .before .before .before .before .before .before .before .before .before .before .before .before .before .before .before .before .before .before .before .args .level) (c .before .before .before .before .before .before .before .before .before .before .before .before .before .before .before .before .before .before .before .args .at) (now (c .before .before .before .before .before .before .before .before .before .before .before .before .before .before .before .before .before .before .before .args .row)) _ _ _ _ _ _ _ _ (c .before .before .before .before .before .before .before .before .before .before .before .before .before .before .if1 .left) (c .before .before .before .before .before .before .before .before .before .before .before .before .term .ensures .0) (toZ-ofZ {w = w64} (record { sfits = c .before .before .before .before .before .before .before .before .before .cell .ok }) ∙ c .before .before .before .before .before .before .before .before .before .cell .ensures) refl (c .before .before .before .before .before .before .before .before .size-at .ensures .0) (c .before .before .before .before .before .before .before .tail .ensures) (c .before .before .before .before .before .before .tail-sizes .ensures) (c .before .before .before .before .before .before .before .before .before .before .before .before .term .ensures .1 .1) (c .before .before .before .targets .ensures .0), c .before .before .before .targets .ensures .1 ∙ c .before .before .before .before .before .before .before .before .before .before .before .before .term .ensures .1 .1)
 
 pub +targets-spec : {M : Type 1} → statement M
 +targets-spec = close μ-targets λ t. targets-lts.spec (targets-claims t)

@@ -1,33 +1,91 @@
-use borrow.Author.Needs.{needs}
-use native.Mathlib.Omega.{arith}
-use mathlib.Core.List.{List}
-use mathlib.Core.Path.{_≡_, refl, sym, ap, _∙_, subst}
 use denote.Ref.{now}
-use Rattle.queries.specs.declared.Checked.{Checked}
-use Rattle.queries.specs.Parts.{numberOf, Ready}
-use Rattle.plain.proofs.Answers.{answered}
+use Rattle.plain.proofs.Answers.{answered-by}
+use borrow.Author.Needs.{needs}
 use Rattle.plain.proofs.answer_query.Statement.{statement}
 use Rattle.plain.proofs.answer_query.Tie as tie
 use Rattle.plain.proofs.answer_query.Reads as reads
 use Rattle.plain.proofs.answer_query.Lts as lts
+use Rattle.conjuncts.proofs.plan.Reads as plan-reads
 use Rattle.odometer.proofs.run.Reads as run-reads
 use Rattle.plain.proofs.filled.Reads as filled-reads
+use Rattle.plain.proofs.remember.Reads as remember-reads
 
+-- src/lib.rt:96:54
+slice-aggregate-remember : tie.Need-slice-aggregate-remember
+slice-aggregate-remember c = search needs
+
+-- src/lib.rt:96:64
+slice-aggregate-remember-2 : tie.Need-slice-aggregate-remember-2
+slice-aggregate-remember-2 c = search needs
+
+-- src/lib.rt:96:5
+remember-requires : tie.Need-remember-requires
+remember-requires c κs = search needs
+
+-- src/lib.rt:101:68
+slice-aggregate-plan : tie.Need-slice-aggregate-plan
+slice-aggregate-plan c = search needs
+
+-- src/lib.rt:101:75
+slice-aggregate-plan-2 : tie.Need-slice-aggregate-plan-2
+slice-aggregate-plan-2 c = search needs
+
+-- src/lib.rt:101:83
+slice-aggregate-plan-3 : tie.Need-slice-aggregate-plan-3
+slice-aggregate-plan-3 c = search needs
+
+-- src/lib.rt:101:9
+plan-requires : tie.Need-plan-requires
+plan-requires c κs = search needs
+
+-- src/lib.rt:119:9
 slice-aggregate-run : tie.Need-slice-aggregate-run
 slice-aggregate-run c = search needs
 
+-- src/lib.rt:120:9
+slice-aggregate-run-2 : tie.Need-slice-aggregate-run-2
+slice-aggregate-run-2 c = search needs
+
+-- src/lib.rt:124:9
+slice-aggregate-run-3 : tie.Need-slice-aggregate-run-3
+slice-aggregate-run-3 c = search needs
+
+-- src/lib.rt:125:9
+slice-aggregate-run-4 : tie.Need-slice-aggregate-run-4
+slice-aggregate-run-4 c = search needs
+
+-- src/lib.rt:115:9
 run-requires : tie.Need-run-requires
 run-requires c κs = search needs
 
+-- src/lib.rt:129:5
 filled-requires : tie.Need-filled-requires
 filled-requires c κs = search needs
 
+-- src/lib.rt:82:1
 same-length : tie.Need-same-length
 same-length c = search needs
 
+-- src/lib.rt:82:1
 returns : tie.Need-returns
-returns c = answered (c .before .before .before .before .before .before .before .before .before .args .layout) (c .before .before .before .before .before .before .before .before .before .args .level) (now (c .before .before .before .before .before .before .before .before .before .args .q)) (now (c .before .before .before .before .before .before .before .before .before .args .z)) (now (c .before .before .before .before .before .before .before .before .before .args .catalogue)) (now (c .before .before .before .before .before .before .before .before .before .args .values)) (c .before .before .before .before .before .before .before .before .before .pre) (c .before .before .before .run .result) _ _ _ (c .before .before .before .run .ensures .0) (c .filled .ensures)
+returns c = answered-by (c .before .before .before .before .before .before .before .before .before .before .before .before .before .before .before .before .before .before .before .before .before .before .before .args .layout) (c .before .before .before .before .before .before .before .before .before .before .before .before .before .before .before .before .before .before .before .before .before .before .before .args .level) (now (c .before .before .before .before .before .before .before .before .before .before .before .before .before .before .before .before .before .before .before .before .before .before .before .args .q)) (now (c .before .before .before .before .before .before .before .before .before .before .before .before .before .before .before .before .before .before .before .before .before .before .before .args .z)) (now (c .before .before .before .before .before .before .before .before .before .before .before .before .before .before .before .before .before .before .before .before .before .before .before .args .catalogue)) (now (c .before .before .before .before .before .before .before .before .before .before .before .before .before .before .before .before .before .before .before .before .before .before .before .args .values)) (c .before .before .before .before .before .before .before .before .before .before .before .before .before .before .before .before .before .before .before .before .before .before .before .pre) (c .before .before .before .before .before .before .before .before .before .before .before .plan .result) _ _ _ _ (c .before .before .before .run .result) _ _ _ (c .before .before .before .before .before .before .before .before .before .before .before .before .before .before .before .before .before .remember .ensures .0) (c .before .before .before .before .before .before .before .before .before .before .before .before .before .before .before .before .before .remember .ensures .1) (c .before .before .before .before .before .before .before .before .before .before .before .plan .ensures .1 (now (c .before .before .before .before .before .before .before .before .before .before .before .before .before .before .before .before .before .before .before .before .before .before .before .args .values))) (c .before .before .before .run .ensures .0) (c .filled .ensures)
 
 pub answer-query-spec : {M : Type 1} → statement M
 answer-query-spec =
-    tie.close (tie.spec slice-aggregate-run run-requires filled-requires same-length returns)
+    tie.close
+    (tie.spec
+    slice-aggregate-remember
+    slice-aggregate-remember-2
+    remember-requires
+    slice-aggregate-plan
+    slice-aggregate-plan-2
+    slice-aggregate-plan-3
+    plan-requires
+    slice-aggregate-run
+    slice-aggregate-run-2
+    slice-aggregate-run-3
+    slice-aggregate-run-4
+    run-requires
+    filled-requires
+    same-length
+    returns)

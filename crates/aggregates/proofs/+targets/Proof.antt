@@ -1,0 +1,76 @@
+use borrow.Author.Needs.{needs}
+use native.Mathlib.Omega.{arith}
+use mathlib.Core.Path.{_≡_, refl, sym, ap, _∙_}
+use denote.Ref.{now}
+use lib.ListN.{length}
+use Rattle.evaluator.specs.Evaluation.{assigned, rowsIn}
+use Rattle.aggregates.proofs.Steps.{targets-none, targets-more}
+use Prim.Native.Nat.{ℕ, _<_}
+use borrow.Fn.Kinds.{In}
+use borrow.Fn.PlainCycle.{Measures, is, falls, and}
+use Rattle.aggregates.proofs.targets.Reads as targets
+use Rattle.aggregates.proofs.targets.Kinds as targets-kinds
+use Rattle.aggregates.proofs.+targets.Lts-targets as targets-lts
+use Rattle.aggregates.proofs.term.Reads as term-reads
+use Rattle.kinds.proofs.size_at.Reads as size-at-reads
+use Rattle.kinds.proofs.tail.Reads as tail-reads
+use Rattle.kinds.proofs.tail_sizes.Reads as tail-sizes-reads
+use Rattle.aggregates.proofs.+targets.{statement}
+use Rattle.aggregates.proofs.+targets.Tie.{close}
+
+abbrev μ-targets : Measures 6 targets-kinds.ps ℕ
+μ-targets κs a = a .1 .1 .0
+
+abbrev targets-at : ℕ → In 6 targets-kinds.ps
+targets-at t = and 6 targets-kinds.ps (is 6 targets-kinds.ps μ-targets t) targets.Pre
+
+abbrev targets-below : ℕ → In 6 targets-kinds.ps
+targets-below t = and 6 targets-kinds.ps (falls 6 targets-kinds.ps _<_ μ-targets t) targets.Pre
+
+abbrev targets-claims : ℕ → targets-lts.Claims
+targets-claims t = (term-reads.Asked, term-reads.Learnt, size-at-reads.Asked, size-at-reads.Learnt, tail-reads.Asked, tail-reads.Learnt, tail-sizes-reads.Asked, tail-sizes-reads.Learnt, targets-below t, targets.Post)
+
+targets-returns : (t : ℕ) → targets-lts.Need-returns (targets-claims t) (targets-at t) targets.Post
+targets-returns t c = (targets-none (rowsIn (now (c .before .before .before .before .before .args .catalogue)) (now (c .before .before .before .before .before .args .values))) (assigned (now (c .before .before .before .before .before .args .values)) (now (c .before .before .before .before .before .args .env))) (now (c .before .before .before .before .before .args .q)) (now (c .before .before .before .before .before .args .z)) (now (c .before .before .before .before .before .args .memo)) (c .before .before .before .before .before .args .left) (c .before .before .before .before .before .args .level) (c .if1 .taken), search needs)
+
+targets-term-requires : (t : ℕ) → targets-lts.Need-term-requires (targets-claims t) (targets-at t) targets.Post
+targets-term-requires t c κs = search needs
+
+targets-size-at-requires : (t : ℕ) → targets-lts.Need-size-at-requires (targets-claims t) (targets-at t) targets.Post
+targets-size-at-requires t c κs = search needs
+
+targets-tail-requires : (t : ℕ) → targets-lts.Need-tail-requires (targets-claims t) (targets-at t) targets.Post
+targets-tail-requires t c κs = search needs
+
+targets-tail-sizes-requires : (t : ℕ) → targets-lts.Need-tail-sizes-requires (targets-claims t) (targets-at t) targets.Post
+targets-tail-sizes-requires t c κs = search needs
+
+targets-sub-targets : (t : ℕ) → targets-lts.Need-sub-targets (targets-claims t) (targets-at t) targets.Post
+targets-sub-targets t c = search needs
+
+targets-targets-requires : (t : ℕ) → targets-lts.Need-targets-requires (targets-claims t) (targets-at t) targets.Post
+targets-targets-requires t c κs = search needs
+
+targets-same-length : (t : ℕ) → targets-lts.Need-same-length (targets-claims t) (targets-at t) targets.Post
+targets-same-length t c = search needs
+
+targets-same-length-2 : (t : ℕ) → targets-lts.Need-same-length-2 (targets-claims t) (targets-at t) targets.Post
+targets-same-length-2 t c = search needs
+
+targets-returns-2 : (t : ℕ) → targets-lts.Need-returns-2 (targets-claims t) (targets-at t) targets.Post
+targets-returns-2 t c = (targets-more (rowsIn (now (c .before .before .before .before .before .before .before .before .before .before .before .before .before .before .before .before .before .before .before .before .args .catalogue)) (now (c .before .before .before .before .before .before .before .before .before .before .before .before .before .before .before .before .before .before .before .before .args .values))) (assigned (now (c .before .before .before .before .before .before .before .before .before .before .before .before .before .before .before .before .before .before .before .before .args .values)) (now (c .before .before .before .before .before .before .before .before .before .before .before .before .before .before .before .before .before .before .before .before .args .env))) (now (c .before .before .before .before .before .before .before .before .before .before .before .before .before .before .before .before .before .before .before .before .args .q)) (now (c .before .before .before .before .before .before .before .before .before .before .before .before .before .before .before .before .before .before .before .before .args .z)) (now (c .before .before .before .before .before .before .before .before .before .before .before .before .before .before .before .before .before .before .before .before .args .memo)) (c .before .before .before .before .before .before .before .before .before .before .before .before .before .before .before .before .before .before .before .before .args .left) (c .before .before .before .before .before .before .before .before .before .before .before .before .before .before .before .before .before .before .before .before .args .level) _ _ _ _ _ _ (c .before .before .before .before .before .before .before .before .before .before .before .before .before .before .before .if1 .left) (c .before .before .before .before .before .before .before .before .before .before .before .before .term .ensures .0) (c .before .before .before .before .before .before .before .before .size-at .ensures .0) (c .before .before .before .before .before .before .before .tail .ensures) (c .before .before .before .before .before .before .tail-sizes .ensures) (ap (assigned (now (c .before .before .before .before .before .before .before .before .before .before .before .before .before .before .before .before .before .before .before .before .args .values))) (c .before .before .before .before .before .before .before .before .before .before .before .before .term .ensures .1)) (c .before .before .before .targets .ensures .0), c .before .before .before .targets .ensures .1 ∙ c .before .before .before .before .before .before .before .before .before .before .before .before .term .ensures .1)
+
+pub +targets-spec : {M : Type 1} → statement M
++targets-spec = close μ-targets λ t. targets-lts.spec (targets-claims t)
+    (targets-at t)
+    targets.Post
+    (targets-returns t)
+    (targets-term-requires t)
+    (targets-size-at-requires t)
+    (targets-tail-requires t)
+    (targets-tail-sizes-requires t)
+    (targets-sub-targets t)
+    (targets-targets-requires t)
+    (targets-same-length t)
+    (targets-same-length-2 t)
+    (targets-returns-2 t)
