@@ -1,0 +1,2 @@
+CREATE INDEX store_region ON store(region);
+CREATE INDEX brand_id ON brand(id);

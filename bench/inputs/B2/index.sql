@@ -1,0 +1,2 @@
+CREATE INDEX offer_article ON offer(article);
+CREATE INDEX offer_price ON offer(price);

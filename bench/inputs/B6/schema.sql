@@ -1,0 +1,1 @@
+CREATE TABLE offer(article INTEGER, rank INTEGER, number INTEGER);

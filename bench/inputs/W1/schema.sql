@@ -1,0 +1,1 @@
+CREATE TABLE offer(article INTEGER, rank INTEGER, number INTEGER, price INTEGER, brand INTEGER, region INTEGER, stock INTEGER);

@@ -1,0 +1,2 @@
+CREATE INDEX brand_id ON brand(id);
+CREATE INDEX store_region ON store(region);

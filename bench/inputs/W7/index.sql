@@ -1,0 +1,1 @@
+CREATE INDEX zone_min ON zone(minprice, kind, store);

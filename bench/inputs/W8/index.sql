@@ -1,0 +1,1 @@
+CREATE INDEX employee_name ON employee(name);
