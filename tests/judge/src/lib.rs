@@ -5,9 +5,11 @@ pub mod calls;
 pub mod catalogue;
 pub mod checks;
 pub mod compare;
+pub mod conformance;
 pub mod gen;
 pub mod meaning;
 pub mod permits;
+pub mod program;
 pub mod query;
 pub mod rewrite;
 

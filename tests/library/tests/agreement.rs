@@ -7,7 +7,7 @@ use judge::refusal;
 use std::collections::BTreeMap;
 use std::thread;
 
-const CASES: u64 = 60_000;
+const CASES: u64 = 100_000;
 const RUN_SEED: u64 = 20_240;
 const THREADS: u64 = 2;
 
@@ -54,6 +54,8 @@ fn the_library_agrees_with_the_judge() {
             "evaluate {number}"
         );
     }
+    assert!(report.ask_calls >= 100_000);
+    assert!(2 * report.ask_numbers[&0] > report.ask_calls);
     for number in refusal::ALL {
         assert!(report.ask_numbers[&number] >= 1_000, "ask {number}");
     }

@@ -40,11 +40,12 @@ fn term(relations: &[Relation], of: &Term) -> u64 {
         .saturating_add(1)
 }
 
+/// A RANGE over no rows leaves none, but the RANGEs before it are run through.
 fn assignments(relations: &[Relation], query: &Query) -> u64 {
     let counts = query
         .ranges
         .iter()
-        .map(|range| rows(relations, range.relation));
+        .map(|range| rows(relations, range.relation).max(1));
     counts.fold(1, u64::saturating_mul)
 }
 

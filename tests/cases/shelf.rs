@@ -1,8 +1,5 @@
-//! The shelf examples of document 01 and its edges, put to the library's ask.
-#![cfg(feature = "ask")]
-
-use judge::{refusal, Outcome};
-use library::ask;
+// The shelf examples of document 01, its edges, and the errors a good reader makes. Included by the tests of the judge and of the
+// library, with `ask` and `evaluate` of their own in scope.
 
 const EMPLOYEE: [[i32; 4]; 6] = [
     [1, 1, 10_000, 2],
@@ -80,6 +77,21 @@ fn ask_number(catalogue: &[u8], values: &[i32], permits: &[u8], query: &[u8]) ->
     outcome.number
 }
 
+/// The cells of an accepted plain query.
+fn evaluated(catalogue: &[u8], values: &[i32], query: &[u8]) -> Vec<i64> {
+    let mut answer = vec![UNTOUCHED; 4096];
+    let outcome = evaluate(catalogue, values, query, &mut answer);
+    assert_eq!((outcome.number, outcome.length), (0, 0));
+    let cells = (outcome.rows * outcome.columns) as usize;
+    assert!(answer[cells..].iter().all(|cell| *cell == UNTOUCHED));
+    answer.truncate(cells);
+    answer
+}
+
+fn evaluate_number(catalogue: &[u8], values: &[i32], query: &[u8]) -> u64 {
+    evaluate(catalogue, values, query, &mut [0; 64]).number
+}
+
 fn asked_with_3_3(query: &[u8]) -> Asked {
     asked(&CATALOGUE, &values(), &PERMITS_3_3.concat(), query)
 }
@@ -100,6 +112,18 @@ fn section_3_2() {
     );
     let expected = [&query[..6], &[19], &query[6..], &permit[4..]].concat();
     assert_eq!(asked.rewritten, expected);
+}
+
+#[test]
+fn plain_2_2_and_distinct_departments() {
+    let query = [
+        1, 0, 0, 1, 1, 1, 33, 0, 0, 19, 21, 1, 33, 0, 1, 33, 1, 0, 21, 1, 33, 1, 1, 32, 1, 0, 0, 0,
+    ];
+    assert_eq!(evaluated(&CATALOGUE, &values(), &query), [3, 4]);
+    assert_eq!(
+        evaluated(&CATALOGUE, &values(), &[1, 0, 0, 33, 0, 1, 16]),
+        [1, 2, 4]
+    );
 }
 
 #[test]
@@ -166,6 +190,59 @@ fn departments_with_sales_above_average() {
 }
 
 #[test]
+fn average_is_exact_when_compared() {
+    let catalogue = [48, 1, 2, 0];
+    let average = [34, 3, 0, 0, 0, 16];
+    let target_only = [&average[..], &[16]].concat();
+    assert_eq!(evaluated(&catalogue, &[-3, -4], &target_only), [-3]);
+    let minus_3 = [32, 253, 255, 255, 255];
+    let other_average = [34, 3, 1, 0, 0, 16];
+    let below = [&average[..], &[21, 3], &other_average, &minus_3].concat();
+    assert_eq!(evaluated(&catalogue, &[-3, -4], &below), [-3]);
+    let equal = [&average[..], &[21, 1], &other_average, &minus_3].concat();
+    assert_eq!(evaluated(&catalogue, &[-3, -4], &equal), []);
+}
+
+#[test]
+fn aggregates_over_no_rows_are_0() {
+    for function in 1..=5 {
+        assert_eq!(
+            evaluated(&[48, 1, 0, 0], &[], &[34, function, 0, 0, 0, 16, 16]),
+            [0]
+        );
+        assert_eq!(
+            evaluated(&[48, 1, 1, 0], &[9], &[34, function, 0, 0, 0, 17, 16]),
+            [0]
+        );
+    }
+}
+
+#[test]
+fn offers_of_least_rank() {
+    let query = [1, 0, 0, 33, 0, 2, 21, 1, 33, 0, 1, 34, 5, 1, 0, 1, 16];
+    assert_eq!(
+        evaluated(&[48, 3, 2, 0], &[7, 1, 11, 7, 1, 12], &query),
+        [11, 12]
+    );
+}
+
+#[test]
+fn rows_up_to_1024() {
+    let count = [34, 1, 0, 0, 0, 16, 16];
+    let permit = [64, 0, 255, 255, 16];
+    assert_eq!(evaluated(&[48, 1, 0, 4], &vec![1; 1024], &count), [1024]);
+    assert_eq!(
+        asked(&[48, 1, 0, 4], &vec![1; 1024], &permit, &count).cells,
+        [1024]
+    );
+    assert_eq!(evaluate_number(&[48, 1, 1, 4], &vec![1; 1025], &count), 10);
+    assert_eq!(
+        ask_number(&[48, 1, 1, 4], &vec![1; 1025], &permit, &count),
+        10
+    );
+}
+
+#[test]
 fn permits_up_to_8() {
     let list = |count| [64, 0, 255, 255, 16].repeat(count);
     let query = [1, 0, 0, 33, 0, 0, 16];
@@ -182,6 +259,26 @@ fn not_chain(level: usize) -> Vec<u8> {
 fn comparison_chain(level: usize) -> Vec<u8> {
     let comparison = [21, 1, 32, 0, 0, 0, 0, 32, 0, 0, 0, 0];
     [[18].repeat(level - 2), comparison.to_vec()].concat()
+}
+
+#[test]
+fn levels_up_to_32_and_64() {
+    let permit = [64, 0, 255, 255, 16];
+    let numbers = |condition: &[u8]| {
+        let query = [&[1, 0, 0, 33, 0, 0], condition].concat();
+        let asked = ask_number(&[48, 1, 1, 0], &[5], &permit, &query);
+        (asked, evaluate_number(&[48, 1, 1, 0], &[5], &query))
+    };
+    for chain in [not_chain, comparison_chain] {
+        assert_eq!(numbers(&chain(32)), (0, 0));
+        assert_eq!(numbers(&chain(33)), (31, 0));
+        assert_eq!(numbers(&chain(64)), (31, 0));
+        assert_eq!(numbers(&chain(65)), (31, 31));
+    }
+    // An aggregate's condition is one level below the target.
+    let aggregate = |level: usize| [&[34, 1, 0, 0, 0], &not_chain(level - 1)[..], &[16]].concat();
+    let number = |query: &[u8]| ask_number(&[48, 1, 1, 0], &[5], &permit, query);
+    assert_eq!((number(&aggregate(32)), number(&aggregate(33))), (0, 31));
 }
 
 #[test]
@@ -220,6 +317,88 @@ fn permit_bytes_up_to_256() {
         ask_number(&[48, 1, 1, 0], &[5], &over_full_list, &query),
         20
     );
+}
+
+#[test]
+fn query_bytes_up_to_1024_and_17216() {
+    let permit = [64, 0, 255, 255, 16];
+    let query = |bytes: usize| [&[1, 0, 0, 33, 0, 0], &padding(bytes - 6)[..]].concat();
+    let number = |bytes| ask_number(&[48, 1, 1, 0], &[5], &permit, &query(bytes));
+    assert_eq!((number(1024), number(1025)), (0, 30));
+    let number = |bytes| evaluate_number(&[48, 1, 1, 0], &[5], &query(bytes));
+    assert_eq!((number(17_216), number(17_217)), (0, 30));
+}
+
+#[test]
+fn answer_buffer_of_0_cells() {
+    let catalogue = [48, 1, 1, 0];
+    let permit = [64, 0, 255, 255, 16];
+    let with = |condition| [1, 0, 0, 33, 0, 0, condition];
+    let mut rewritten = [0; 20];
+    let outcome = ask(
+        &catalogue,
+        &[5],
+        &permit,
+        &with(16),
+        &mut rewritten,
+        &mut [],
+    );
+    assert_eq!(
+        outcome,
+        Outcome {
+            number: 41,
+            rows: 0,
+            columns: 1,
+            length: 9
+        }
+    );
+    assert_eq!(rewritten[..10], [1, 0, 0, 33, 0, 0, 19, 16, 16, 0]);
+    let outcome = ask(
+        &catalogue,
+        &[5],
+        &permit,
+        &with(17),
+        &mut rewritten,
+        &mut [],
+    );
+    assert_eq!(
+        outcome,
+        Outcome {
+            number: 0,
+            rows: 0,
+            columns: 1,
+            length: 9
+        }
+    );
+    let outcome = evaluate(&catalogue, &[5], &with(16), &mut []);
+    assert_eq!(
+        outcome,
+        Outcome {
+            number: 41,
+            rows: 0,
+            columns: 1,
+            length: 0
+        }
+    );
+}
+
+#[test]
+fn a_short_answer_buffer_holds_the_first_whole_rows() {
+    let catalogue = [48, 2, 4, 0];
+    let values = [1, 2, 1, 2, 3, 4, 5, 6];
+    let query = [1, 0, 0, 33, 0, 0, 33, 0, 1, 16];
+    let mut answer = [UNTOUCHED; 5];
+    let outcome = evaluate(&catalogue, &values, &query, &mut answer);
+    assert_eq!(
+        outcome,
+        Outcome {
+            number: 41,
+            rows: 2,
+            columns: 2,
+            length: 0
+        }
+    );
+    assert_eq!(answer, [1, 2, 3, 4, UNTOUCHED]);
 }
 
 #[test]
@@ -268,7 +447,7 @@ fn largest_rewritten_query() {
             length: 17_216
         }
     );
-    assert_eq!(asked.cells, [5]);
+    assert_eq!(evaluated(&[48, 1, 1, 0], &[5], &asked.rewritten), [5]);
     // The permits' variables in byte order: 8 is the first SOME's, and 199 the last one's.
     let in_order: Vec<u8> = asked
         .rewritten
@@ -277,6 +456,23 @@ fn largest_rewritten_query() {
         .map(|bytes| bytes[1])
         .collect();
     assert_eq!(in_order, (8..200).collect::<Vec<u8>>());
+}
+
+#[test]
+fn deep_nesting_is_read() {
+    let catalogue = [48, 1, 1, 0];
+    let only_nots = vec![18; 17_216];
+    assert_eq!(evaluate_number(&catalogue, &[5], &only_nots), 30);
+    let target = [34, 1, 0, 0, 0, 16];
+    let deep = [&target[..], &not_chain(17_210)].concat();
+    assert_eq!(evaluate_number(&catalogue, &[5], &deep), 31);
+    let cut_short = [&target[..], &[18; 17_210]].concat();
+    assert_eq!(evaluate_number(&catalogue, &[5], &cut_short), 30);
+    let deep_permit = [&[64, 0, 255, 255], &not_chain(2044)[..]].concat();
+    assert_eq!(
+        ask_number(&catalogue, &[5], &deep_permit, &[1, 0, 0, 33, 0, 0, 16]),
+        21
+    );
 }
 
 mod errors_a_good_reader_makes {
@@ -350,45 +546,4 @@ fn section_4_2() {
         (&asked.rewritten[..], &asked.cells[..]),
         (&expected[..], &[12_500][..])
     );
-}
-
-#[test]
-fn levels_up_to_32() {
-    let permit = [64, 0, 255, 255, 16];
-    for chain in [not_chain, comparison_chain] {
-        let number = |level| {
-            let query = [&[1, 0, 0, 33, 0, 0], &chain(level)[..]].concat();
-            ask_number(&[48, 1, 1, 0], &[5], &permit, &query)
-        };
-        assert_eq!((number(32), number(33)), (0, 31));
-    }
-}
-
-/// 0 cells give 41 exactly if there is a row; the rewritten query is written both times.
-#[test]
-fn answer_buffer_of_0_cells() {
-    let permit = [64, 0, 255, 255, 16];
-    for (condition, number) in [(16, 41), (17, 0)] {
-        let query = [1, 0, 0, 33, 0, 0, condition];
-        let mut rewritten = [UNTOUCHED_BYTE; 10];
-        let outcome = ask(
-            &[48, 1, 1, 0],
-            &[5],
-            &permit,
-            &query,
-            &mut rewritten,
-            &mut [],
-        );
-        let expected = Outcome {
-            number,
-            rows: 0,
-            columns: 1,
-            length: 9,
-        };
-        assert_eq!(outcome, expected);
-        assert_eq!(
-            rewritten,
-            [1, 0, 0, 33, 0, 0, 19, condition, 16, UNTOUCHED_BYTE]
-        );
-    }
 }

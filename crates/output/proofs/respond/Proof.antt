@@ -1,0 +1,35 @@
+use denote.Ref.{now}
+use Rattle.output.specs.Output as O
+use Rattle.output.proofs.Parts.{at-start}
+use borrow.Author.Needs.{needs}
+use Rattle.output.proofs.respond.Statement.{statement}
+use Rattle.output.proofs.respond.Tie as tie
+
+slice-aggregate-respond-with : tie.Need-slice-aggregate-respond-with
+slice-aggregate-respond-with c = search needs
+
+slice-aggregate-respond-with-2 : tie.Need-slice-aggregate-respond-with-2
+slice-aggregate-respond-with-2 c = search needs
+
+slice-aggregate-respond-with-3 : tie.Need-slice-aggregate-respond-with-3
+slice-aggregate-respond-with-3 c = search needs
+
+respond-with-requires : tie.Need-respond-with-requires
+respond-with-requires c κs = search needs
+
+same-length : tie.Need-same-length
+same-length c = search needs
+
+returns : tie.Need-returns
+returns c = at-start (now (c .before .before .before .before .before .before .before .before .before .before .before .before .before .before .before .args .out)) _ (O.output (now (c .before .before .before .before .before .before .before .before .before .before .before .before .before .before .before .args .catalogue)) (now (c .before .before .before .before .before .before .before .before .before .before .before .before .before .before .before .args .file)) (now (c .before .before .before .before .before .before .before .before .before .before .before .before .before .before .before .args .permits)) (now (c .before .before .before .before .before .before .before .before .before .before .before .before .before .before .before .args .question))) _ (c .before .before .before .before .before .before .before .before .before .before .before .before .before .before .before .pre) (c .before .before .before .before .before .respond-with .ensures .1 .1) (c .before .before .before .before .before .respond-with .ensures .0) (c .before .before .before .before .before .respond-with .ensures .1 .0)
+
+pub respond-spec : {M : Type 1} → statement M
+respond-spec =
+    tie.close
+    (tie.spec
+    slice-aggregate-respond-with
+    slice-aggregate-respond-with-2
+    slice-aggregate-respond-with-3
+    respond-with-requires
+    same-length
+    returns)

@@ -1,0 +1,88 @@
+use borrow.Author.Needs.{needs}
+use Prim.Native.Nat.{ℕ, _-_, _/_, _<_}
+use native.Mathlib.Omega.{arith}
+use denote.Ref.{now}
+use Rattle.text.specs.Text as T
+use Rattle.text.proofs.Laws.{last, small, more, one-room, one-wrote, front-room, end-room, end-wrote}
+use borrow.Fn.Kinds.{In}
+use borrow.Fn.PlainCycle.{Measures, is, falls, and}
+use Rattle.text.proofs.digits.Reads as digits
+use Rattle.text.proofs.digits.Kinds as digits-kinds
+use Rattle.text.proofs.+digits.Lts-digits as digits-lts
+use Rattle.copier.proofs.put.Reads as put-reads
+use Rattle.text.proofs.digit.Reads as digit-reads
+use Rattle.text.proofs.+digits.{statement}
+use Rattle.text.proofs.+digits.Tie.{close}
+
+abbrev μ-digits : Measures 1 digits-kinds.ps ℕ
+μ-digits κs a = a .1 .0
+
+abbrev digits-at : ℕ → In 1 digits-kinds.ps
+digits-at t = and 1 digits-kinds.ps (is 1 digits-kinds.ps μ-digits t) digits.Pre
+
+abbrev digits-below : ℕ → In 1 digits-kinds.ps
+digits-below t = and 1 digits-kinds.ps (falls 1 digits-kinds.ps _<_ μ-digits t) digits.Pre
+
+abbrev digits-claims : ℕ → digits-lts.Claims
+digits-claims t = (digit-reads.Asked, digit-reads.Learnt, put-reads.Asked, put-reads.Learnt, digits-below t, digits.Post)
+
+digits-digit-requires : (t : ℕ) → digits-lts.Need-digit-requires (digits-claims t) (digits-at t) digits.Post
+digits-digit-requires t c κs = search needs
+
+digits-put-requires : (t : ℕ) → digits-lts.Need-put-requires (digits-claims t) (digits-at t) digits.Post
+digits-put-requires t c κs = one-room (T.digits (c .before .before .before .before .args .k) (c .before .before .before .before .args .n)) _ 0 (last (c .before .before .before .before .args .k) (c .before .before .before .before .args .n) (c .before .before .if1 .taken)) (c .before .before .before .before .args .at) (c .before .before .before .before .pre .1)
+
+digits-same-length : (t : ℕ) → digits-lts.Need-same-length (digits-claims t) (digits-at t) digits.Post
+digits-same-length t c = search needs
+
+digits-returns : (t : ℕ) → digits-lts.Need-returns (digits-claims t) (digits-at t) digits.Post
+digits-returns t c = one-wrote (T.digits (c .before .before .before .before .before .before .before .args .k) (c .before .before .before .before .before .before .before .args .n)) _ _ (last (c .before .before .before .before .before .before .before .args .k) (c .before .before .before .before .before .before .before .args .n) (c .before .before .before .before .before .if1 .taken)) (now (c .before .before .before .before .before .before .before .args .out)) (c .before .before .before .before .before .before .before .args .at) _ _ (c .before .before .before .digit .ensures) (c .before .before .put .ensures)
+
+digits-digit-requires-2 : (t : ℕ) → digits-lts.Need-digit-requires-2 (digits-claims t) (digits-at t) digits.Post
+digits-digit-requires-2 t c κs = search needs
+
+digits-put-requires-2 : (t : ℕ) → digits-lts.Need-put-requires-2 (digits-claims t) (digits-at t) digits.Post
+digits-put-requires-2 t c κs = one-room (T.digits (c .before .before .before .before .before .args .k) (c .before .before .before .before .before .args .n)) _ 0 (small (c .before .before .before .before .before .args .k) (c .before .before .before .before .before .args .n) (c .before .before .if2 .taken)) (c .before .before .before .before .before .args .at) (c .before .before .before .before .before .pre .1)
+
+digits-same-length-2 : (t : ℕ) → digits-lts.Need-same-length-2 (digits-claims t) (digits-at t) digits.Post
+digits-same-length-2 t c = search needs
+
+digits-returns-2 : (t : ℕ) → digits-lts.Need-returns-2 (digits-claims t) (digits-at t) digits.Post
+digits-returns-2 t c = one-wrote (T.digits (c .before .before .before .before .before .before .before .before .args .k) (c .before .before .before .before .before .before .before .before .args .n)) _ _ (small (c .before .before .before .before .before .before .before .before .args .k) (c .before .before .before .before .before .before .before .before .args .n) (c .before .before .before .before .before .if2 .taken)) (now (c .before .before .before .before .before .before .before .before .args .out)) (c .before .before .before .before .before .before .before .before .args .at) _ _ (c .before .before .before .digit2 .ensures) (c .before .before .put2 .ensures)
+
+digits-sub-digits : (t : ℕ) → digits-lts.Need-sub-digits (digits-claims t) (digits-at t) digits.Post
+digits-sub-digits t c = search needs
+
+digits-digits-requires : (t : ℕ) → digits-lts.Need-digits-requires (digits-claims t) (digits-at t) digits.Post
+digits-digits-requires t c κs = (omega arith, front-room (T.digits (c .before .before .before .before .args .k) (c .before .before .before .before .args .n)) (T.digits ((c .before .before .before .before .args .k) - 1) ((c .before .before .before .before .args .n) / 10)) _ (more (c .before .before .before .before .args .k) (c .before .before .before .before .args .n) (c .before .before .if1 .left) (c .before .if2 .left)) (c .before .before .before .before .args .at) (c .before .before .before .before .pre .1))
+
+digits-digit-requires-3 : (t : ℕ) → digits-lts.Need-digit-requires-3 (digits-claims t) (digits-at t) digits.Post
+digits-digit-requires-3 t c κs = search needs
+
+digits-put-requires-3 : (t : ℕ) → digits-lts.Need-put-requires-3 (digits-claims t) (digits-at t) digits.Post
+digits-put-requires-3 t c κs = end-room (T.digits (c .before .before .before .before .before .before .before .before .before .args .k) (c .before .before .before .before .before .before .before .before .before .args .n)) (T.digits ((c .before .before .before .before .before .before .before .before .before .args .k) - 1) ((c .before .before .before .before .before .before .before .before .before .args .n) / 10)) _ (more (c .before .before .before .before .before .before .before .before .before .args .k) (c .before .before .before .before .before .before .before .before .before .args .n) (c .before .before .before .before .before .before .before .if1 .left) (c .before .before .before .before .before .before .if2 .left)) (c .before .before .before .before .before .before .before .before .before .args .at) _ (c .before .before .before .before .before .before .before .before .before .pre .1) (c .before .before .before .before .digits .ensures .0)
+
+digits-same-length-3 : (t : ℕ) → digits-lts.Need-same-length-3 (digits-claims t) (digits-at t) digits.Post
+digits-same-length-3 t c = search needs
+
+digits-returns-3 : (t : ℕ) → digits-lts.Need-returns-3 (digits-claims t) (digits-at t) digits.Post
+digits-returns-3 t c = end-wrote (T.digits (c .before .before .before .before .before .before .before .before .before .before .before .before .args .k) (c .before .before .before .before .before .before .before .before .before .before .before .before .args .n)) (T.digits ((c .before .before .before .before .before .before .before .before .before .before .before .before .args .k) - 1) ((c .before .before .before .before .before .before .before .before .before .before .before .before .args .n) / 10)) _ (more (c .before .before .before .before .before .before .before .before .before .before .before .before .args .k) (c .before .before .before .before .before .before .before .before .before .before .before .before .args .n) (c .before .before .before .before .before .before .before .before .before .before .if1 .left) (c .before .before .before .before .before .before .before .before .before .if2 .left)) (now (c .before .before .before .before .before .before .before .before .before .before .before .before .args .out)) (c .before .before .before .before .before .before .before .before .before .before .before .before .args .at) _ _ _ _ _ (c .before .before .before .before .before .before .before .digits .ensures) (c .before .before .before .digit3 .ensures) (c .before .before .put3 .ensures)
+
+pub +digits-spec : {M : Type 1} → statement M
++digits-spec = close μ-digits λ t. digits-lts.spec (digits-claims t)
+    (digits-at t)
+    digits.Post
+    (digits-digit-requires t)
+    (digits-put-requires t)
+    (digits-same-length t)
+    (digits-returns t)
+    (digits-digit-requires-2 t)
+    (digits-put-requires-2 t)
+    (digits-same-length-2 t)
+    (digits-returns-2 t)
+    (digits-sub-digits t)
+    (digits-digits-requires t)
+    (digits-digit-requires-3 t)
+    (digits-put-requires-3 t)
+    (digits-same-length-3 t)
+    (digits-returns-3 t)

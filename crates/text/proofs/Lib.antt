@@ -1,0 +1,5 @@
+pub mod Laws
+pub mod Sign
+pub mod Tables
+pub mod Lengths
+pub mod Examples

@@ -1,0 +1,46 @@
+#!/usr/bin/env bash
+# The kit of conformance/: both hands' programs pass it, a wrong one does not, and its cases are those that the tool writes.
+# Then files that the kit cannot hold: a folder in a file's place, and files far over their limits.
+set -eu
+cd "$(dirname "$0")/.."
+ours=target/bin/program
+theirs=tests/target/release/program
+room=$(mktemp -d)
+trap 'rm -rf "$room"' EXIT
+
+# after rt ci this proves nothing again
+mkdir -p target
+rt check program >target/program.log 2>&1 || { cat target/program.log; exit 1; }
+(cd tests && nice -n 5 cargo build --quiet --offline --release -p judge --bins)
+
+echo "conformance: the cases are those of the tool"
+tests/target/release/conformance "$room/cases"
+diff -r "$room/cases" conformance/cases
+
+for program in "$theirs" "$ours"; do
+  echo "conformance: $program"
+  conformance/run.sh "$program" | tail -n 20 | tee "$room/said"
+  [[ $(tail -n 1 "$room/said") == *' passed, 0 failed' ]]
+done
+
+printf '#!/bin/sh\necho "refused 10"\n' >"$room/wrong"
+chmod +x "$room/wrong"
+if conformance/run.sh "$room/wrong" >"$room/said"; then echo "conformance: a program that refuses all passes"; exit 1; fi
+
+# Each file of the stored run in turn: a folder in its place counts as empty; a million bytes more are noticed.
+ours=$PWD/$ours
+prints() { # NUMBER FOLDER
+  (cd "$2" && "$ours") | diff - <(echo "refused $1") || { echo "program: not refused $1 for $3"; exit 1; }
+}
+for item in catalogue:10:10 values:11:11 permits:33:20 question:30:30; do
+  IFS=: read -r file empty long <<<"$item"
+  rm -rf "$room/run"
+  cp -r crates/program/data "$room/run"
+  head -c 1000000 /dev/zero >>"$room/run/$file"
+  prints "$long" "$room/run" "a long $file"
+  rm "$room/run/$file"
+  prints "$empty" "$room/run" "no $file"
+  mkdir "$room/run/$file"
+  prints "$empty" "$room/run" "a folder for $file"
+done
+echo "conformance: all passed"
