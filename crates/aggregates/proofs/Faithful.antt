@@ -20,7 +20,7 @@ use Rattle.model.specs.Meaning.{Tuple, Assignment, Rows, aggregate, compare, ho
 use Rattle.model.specs.Scope.{Scope, nobody, rangeScope, boundOnce}
 use Rattle.model.proofs.Passed.{Scoped, ranges-differ}
 use Rattle.model.specs.Catalogue.{Shape}
-use Rattle.model.proofs.Scoping.{InScope, InScopeT, Alike, alike-value}
+use Rattle.model.proofs.Scoping.{InScope, InScopeT, alike-nobody, alike-value}
 use Rattle.model.proofs.Tests.{and-inv, or-no, not-yes, clash}
 use Rattle.numbers.specs.Numbers.{represent}
 use Rattle.numbers.specs.Memo.{knows, recalled, remembered, numeratorAt, denominatorAt, within}
@@ -214,9 +214,6 @@ others : (m : List ℤ) (v : ℕ) (x : M.Ratio) (bs : List Binding) → Other v 
 unfolding Every
 others m v x [] h = tt
 others m v x (b ∷ bs) h = (other-same m (b .variable) v (represent x) (λ (q : b .variable ≡ v). h .0 (sym q)), others m v x bs (h .1))
-
-alike-nobody : (e e′ : Assignment) → Alike nobody e e′
-alike-nobody e e′ w r k = let z : _≡_ {A = ℕ} 0 1 = cc in absurd (omega arith)
 
 module _ (sh : Shape) (limit : ℕ) (R : Rows) (e : Assignment) where
   mutual

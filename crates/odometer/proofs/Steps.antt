@@ -176,18 +176,15 @@ module _ (p : Plan) (t : List ℕ) (xs : List ℤ) (q z cb : List ℕ) (vs m : L
       ∙ ap (λ (o : ℕ). stageHolds t xs q z cb vs m a k (update (assigned vs d) v (tupleAt vs o))) (sym (ap (λ (n : ℕ). n + j * w) hr ∙ row-on b w i j))
       ∙ h j l))
 
+few : (i n : ℕ) → i ≤ n → n ≤ 65535 → i ≤ 65535
+few i n l m = omega arith
+
 -- places fit
 pub places-fit : (b w i n r : ℕ) → b ≤ 16711425 * r → r < 256 → i ≤ n → n ≤ 65535 → w ≤ 255 → b + i * w < 9223372036854775808
-places-fit b w i n r h k l m o = let x : i * w ≤ 65535 * 255 = mul-le-mul (lt i n l m) o in omega arith
-  where
-    lt : (i n : ℕ) → i ≤ n → n ≤ 65535 → i ≤ 65535
-    lt i n l m = omega arith
+places-fit b w i n r h k l m o = let x : i * w ≤ 65535 * 255 = mul-le-mul (few i n l m) o in omega arith
 
 pub steps-fit : (w s n : ℕ) → s ≤ n → n ≤ 65535 → w ≤ 255 → s * w ≤ 16711425
-steps-fit w s n h k l = let x : s * w ≤ 65535 * 255 = mul-le-mul (lt s n h k) l in omega arith
-  where
-    lt : (i n : ℕ) → i ≤ n → n ≤ 65535 → i ≤ 65535
-    lt i n l m = omega arith
+steps-fit w s n h k l = let x : s * w ≤ 65535 * 255 = mul-le-mul (few s n h k) l in omega arith
 
 -- the rows from the next on
 pub rest-fit : (b w i n r row : ℕ) → row ≡ b + i * w → i < n → b ≤ 16711425 * r → r < 256 → n ≤ 65535 → w ≤ 255 → row + w + (n - i - 1) * w < 18446744073709551616

@@ -42,7 +42,7 @@ use Rattle.plain.specs.declared.Reply.{Reply}
 use Rattle.plain.specs.Reply.{answerOf, replyOf, memoOf, Answerable}
 
 -- places past the values: no variable is bound yet
-getD-same : (n k v : ℕ) → getD (replicate n k) v k ≡ k
+getD-same : {A : Type 0} (n : ℕ) (k : A) (v : ℕ) → getD (replicate n k) v k ≡ k
 getD-same zero k v = refl
 getD-same (suc n) k zero = refl
 getD-same (suc n) k (suc v) = getD-same n k v
@@ -62,11 +62,6 @@ wide-rows : (u : Query) (R : Rows) → Every (λ x. length x ≡ length (u .targ
 unfolding targetRow
 wide-rows u R = whole-rows (length (u .targets)) (targetRow (u .targets) R) (λ e. length-map (u .targets) _) (filter (holds (u .condition) R) (assignments (u .ranges) R unbound))
 
-getD-zero : (n i : ℕ) → getD (replicate n (pos 0)) i (pos 0) ≡ pos 0
-getD-zero zero i = refl
-getD-zero (suc n) zero = refl
-getD-zero (suc n) (suc i) = getD-zero n i
-
 -- a memo that is faithful to a query gives its rows
 cells-are : (m : List ℤ) (R : Rows) (ts : List Term) → Every (FaithfulT m R) ts → (e : Assignment) → cellsBy m ts R e ≡ targetRow ts R e
 unfolding cellsBy targetRow Every
@@ -84,7 +79,7 @@ module _ (y : Layout) (l : ℕ) (q z cb : List ℕ) (vs : List ℤ) (ok : Answer
   faithful =
       let sh = shapeOf (catalogueOf cb) in
       query-faithful sh 200 (queryAt y l q z) (rowsIn cb vs) (assigned vs places) (replicate 512 (pos 0)) (subst (Scoped sh 200) (sym (ok .ready)) (scoped plainLimits sh (queryOf q) (ok .known)))
-      (getD-zero 512) (omega (arith, length-replicate 512 (pos 0)))
+      (getD-same 512 (pos 0)) (omega (arith, length-replicate 512 (pos 0)))
 
   module _ (n : ℕ) (t : List ℕ) (xs : List ℤ) (w : Planned n t xs q z cb vs memo (decode l (drop (y .condition) q) (drop (y .condition) z)) (rangesAt (y .ranges) q)) where
     abbrev plan : Plan

@@ -40,9 +40,6 @@ place-fits row w j rows at e h k = let m : suc j * w ≤ rows * w = mul-le-mul h
     suc-times : (j w : ℕ) → suc j * w ≡ w + j * w
     suc-times j w = omega arith
 
-pub next-place : (row w at j : ℕ) → at ≡ row + j * w → at + w ≡ row + (j + 1) * w
-next-place row w at j h = omega arith
-
 pub row-fails : (o : ℕ) (mirrored : Bool) (vs : List ℤ) (row w j a at : ℕ) (v u x : ℤ) (b : Bool) → at ≡ row + j * w → v ≡ getD vs (at + a) (pos 0) → u ≡ v → b ≡ sided o mirrored u x → b ≡ false
     → sided o mirrored (tupleAt vs (row + j * w) a) x ≡ false
 row-fails o mirrored vs row w j a at v u x b ea ev eu eb h = ap (λ (y : ℤ). sided o mirrored y x) (ap (λ (p : ℕ). getD vs (p + a) (pos 0)) (sym ea) ∙ sym ev ∙ sym eu) ∙ sym eb ∙ h

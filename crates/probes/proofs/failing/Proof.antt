@@ -10,7 +10,8 @@ use mir.Syntax.{w32, w64}
 use mir.Val.{toZ}
 use mir.Facts.{toZ-ofZ}
 use Rattle.numbers.proofs.Signed.{test-is}
-use Rattle.probes.proofs.Steps.{one-more, place-fits, next-place, row-fails, exact}
+use Rattle.probes.proofs.Steps.{one-more, place-fits, row-fails, exact}
+use Rattle.evaluator.proofs.Steps.{next-row}
 use Rattle.catalogue.specs.Layout.{tupleAt}
 use Rattle.probes.specs.Probe.{sided}
 use Rattle.probes.proofs.failing.Statement.{statement}
@@ -62,7 +63,7 @@ loop-less c = search needs
 
 -- src/lib.rt:42:5
 loop-again : tie.Need-loop-again Inv-loop μ-loop
-loop-again c = (next-place (c .before .before .before .before .before .before .args .row) (c .before .before .before .before .before .before .args .w) (c .before .before .before .before .before .loop .at) (c .before .before .before .before .before .loop .j) (c .before .before .before .before .before .loop .inv .0), search needs, one-more (λ (i : ℕ). sided (c .before .before .before .before .before .before .args .operator) (c .before .before .before .before .before .before .args .mirrored) (tupleAt (now (c .before .before .before .before .before .before .args .values)) (c .before .before .before .before .before .before .args .row + i * c .before .before .before .before .before .before .args .w) (c .before .before .before .before .before .before .args .attribute)) (toZ w64 (ofZ w64 (c .before .before .before .before .before .before .args .x)))) (c .before .before .before .before .before .loop .j) (c .before .before .before .before .before .loop .inv .2) (row-fails (c .before .before .before .before .before .before .args .operator) (c .before .before .before .before .before .before .args .mirrored) (now (c .before .before .before .before .before .before .args .values)) (c .before .before .before .before .before .before .args .row) (c .before .before .before .before .before .before .args .w) (c .before .before .before .before .before .loop .j) (c .before .before .before .before .before .before .args .attribute) _ _ _ (toZ w64 (ofZ w64 (c .before .before .before .before .before .before .args .x))) _ (c .before .before .before .before .before .loop .inv .0) (toZ-ofZ {w = w32} (record { sfits = c .before .before .before .value .ok }) ∙ c .before .before .before .value .ensures) (toZ-ofZ {w = w64} (record { sfits = c .before .before .wide .ok }) ∙ c .before .before .wide .ensures .0) (c .before .holds .ensures) (c .if1 .left)))
+loop-again c = (next-row (c .before .before .before .before .before .before .args .row) (c .before .before .before .before .before .before .args .w) (c .before .before .before .before .before .loop .at) (c .before .before .before .before .before .loop .j) (c .before .before .before .before .before .loop .inv .0), search needs, one-more (λ (i : ℕ). sided (c .before .before .before .before .before .before .args .operator) (c .before .before .before .before .before .before .args .mirrored) (tupleAt (now (c .before .before .before .before .before .before .args .values)) (c .before .before .before .before .before .before .args .row + i * c .before .before .before .before .before .before .args .w) (c .before .before .before .before .before .before .args .attribute)) (toZ w64 (ofZ w64 (c .before .before .before .before .before .before .args .x)))) (c .before .before .before .before .before .loop .j) (c .before .before .before .before .before .loop .inv .2) (row-fails (c .before .before .before .before .before .before .args .operator) (c .before .before .before .before .before .before .args .mirrored) (now (c .before .before .before .before .before .before .args .values)) (c .before .before .before .before .before .before .args .row) (c .before .before .before .before .before .before .args .w) (c .before .before .before .before .before .loop .j) (c .before .before .before .before .before .before .args .attribute) _ _ _ (toZ w64 (ofZ w64 (c .before .before .before .before .before .before .args .x))) _ (c .before .before .before .before .before .loop .inv .0) (toZ-ofZ {w = w32} (record { sfits = c .before .before .before .value .ok }) ∙ c .before .before .before .value .ensures) (toZ-ofZ {w = w64} (record { sfits = c .before .before .wide .ok }) ∙ c .before .before .wide .ensures .0) (c .before .holds .ensures) (c .if1 .left)))
 
 -- src/lib.rt:26:1
 returns-2 : tie.Need-returns-2 Inv-loop μ-loop
