@@ -1,16 +1,15 @@
--- A constant table by kind agrees with the model's kinds: one test that is computed over the table, and one law for every entry.
+-- A constant table by kind agrees with the model's kinds: one test that is computed over each word, and one law for every entry.
 use mathlib.Core.Path.{_≡_, refl, sym, ap, subst, _∙_}
-use mathlib.Core.Bool.{Bool, true, false, cond, _&&_}
+use mathlib.Core.Bool.{Bool, true, false, _&&_}
 use mathlib.Core.List.{List, [], _∷_}
 use mathlib.Core.Option.{Option, none, some}
-use Prim.Native.Nat.{ℕ, zero, suc, _+_, _*_, _/_, _%_, _<_, _≤_}
-use native.Mathlib.Nat.{add-zero, zero-add, add-suc, suc-add, le-of-suc-le-suc, not-suc-le-zero}
+use Prim.Native.Nat.{ℕ, zero, suc, _+_, _*_, _/_, _%_, _^_, _<_, _≤_}
+use native.Mathlib.Nat.{not-suc-le-zero}
 use native.Mathlib.Omega.{arith}
-use lib.Dec.{T, eqb, eqb→eq, ltb, ltb→lt, leb}
-use lib.ListN.{length, getD}
-use borrow.Author.Tests.{ne-eqb, eqb-true, eqb-false, lt-ltb, le-ltb, le-leb, ltb-true, ltb-false}
+use lib.Dec.{T, eqb, eqb→eq, ltb}
+use borrow.Author.Tests.{ne-eqb, eqb-true, eqb-false, le-ltb}
 use Rattle.model.specs.Kinds.{Kind, k-range, k-true, k-false, k-not, k-and, k-or, k-compare, k-some, k-constant, k-attribute, k-aggregate, k-stored, k-workspace, k-permit, kinds, code, bodyLength, childConditions, childTerms, find, kindOf}
-use Rattle.kinds.specs.Tables.{slotOf, ofKind, bodyOf, conditionsOf, termsOf, recordLength}
+use Rattle.kinds.specs.Tables.{byteIn, ofKind, bodyOf, conditionsOf, termsOf, recordLength}
 
 and-left : (a b : Bool) → T (a && b) → T a
 and-left true b t = tt
@@ -33,21 +32,17 @@ below f (suc n) t k h = last (eqb k n) refl (λ l. below f n (and-right (f n) (e
     last true e g = subst (λ (m : ℕ). T (f m)) (sym (eqb-true k n e)) (and-left (f n) (every f n) t)
     last false e g = g (omega (arith, h, eqb-false k n e))
 
--- what a table says of a kind, d where it has no place in it
-abbrev pub tableOf : ℕ → List ℕ → ℕ → ℕ
-tableOf d xs k = cond (ltb (slotOf k) 40) (getD xs (slotOf k) 0) d
+-- a byte that fails a test which the bytes of all kinds pass names no kind
+passes : (ℕ → Bool) → List Kind → Bool
+passes p [] = true
+passes p (x ∷ xs) = p (code x) && passes p xs
 
--- no kind has a byte past the table
-below65 : List Kind → Bool
-below65 [] = true
-below65 (x ∷ xs) = ltb (code x) 65 && below65 xs
-
-none-past : (b : ℕ) → 65 ≤ b → (xs : List Kind) → T (below65 xs) → find b xs ≡ none
-unfolding find below65
-none-past b h [] t = refl
-none-past b h (x ∷ xs) t =
-    let l : code x < 65 = ltb→lt (code x) 65 (and-left (ltb (code x) 65) (below65 xs) t) in
-    rw (ne-eqb b (code x) (λ e. omega arith)) (none-past b h xs (and-right (ltb (code x) 65) (below65 xs) t))
+none-fails : (p : ℕ → Bool) (b : ℕ) → p b ≡ false → (xs : List Kind) → T (passes p xs) → find b xs ≡ none
+unfolding find passes
+none-fails p b h [] t = refl
+none-fails p b h (x ∷ xs) t =
+    let l : T (p (code x)) = and-left (p (code x)) (passes p xs) t in
+    rw (ne-eqb b (code x) (λ e. subst T h (subst (λ (k : ℕ). T (p k)) (sym e) l))) (none-fails p b h xs (and-right (p (code x)) (passes p xs) t))
 
 -- what is said of a byte that names a kind, and of one that names none
 pub of-none : {A : Type 0} (d : A) (f : Kind → A) (b : ℕ) → kindOf b ≡ none → ofKind d f b ≡ d
@@ -58,31 +53,25 @@ pub of-some : {A : Type 0} (d : A) (f : Kind → A) (b : ℕ) (x : Kind) → kin
 unfolding ofKind
 of-some d f b x e = rw (e, ofKind)
 
+-- no kind has a byte from 65 on, and none stands in the upper half of its row of sixteen
 pub past : {A : Type 0} (d : A) (f : Kind → A) (b : ℕ) → 65 ≤ b → ofKind d f b ≡ d
-unfolding kindOf below65
-past d f b h = of-none d f b (none-past b h kinds tt)
+unfolding kindOf passes
+past d f b h = of-none d f b (none-fails (λ k. ltb k 65) b (le-ltb b 65 h) kinds tt)
 
--- from 80 on a kind has no place
-slot-past : (k : ℕ) → 80 ≤ k → slotOf k ≡ 40
-slot-past k h = go (leb 8 (k % 16))
-  where
-    go : (b : Bool) → cond b 40 (cond (leb 5 (k / 16)) 40 (8 * (k / 16) + k % 16)) ≡ 40
-    go true = refl
-    go false = rw (le-leb 5 (k / 16) (omega arith))
+pub upper : {A : Type 0} (d : A) (f : Kind → A) (b : ℕ) → 8 ≤ b % 16 → ofKind d f b ≡ d
+unfolding kindOf passes
+upper d f b h = of-none d f b (none-fails (λ k. ltb (k % 16) 8) b (le-ltb (b % 16) 8 h) kinds tt)
 
--- an entry is what f says of the kind, where the test over the table passes
-table-is : (d : ℕ) (f : Kind → ℕ) (xs : List ℕ) → T (every (λ k. eqb (tableOf d xs k) (ofKind d f k)) 80) → (k : ℕ) → tableOf d xs k ≡ ofKind d f k
-table-is d f xs t k = go (ltb k 80) refl
-  where
-    go : (b : Bool) → ltb k 80 ≡ b → tableOf d xs k ≡ ofKind d f k
-    go true e = eqb→eq (tableOf d xs k) (ofKind d f k) (below (λ k. eqb (tableOf d xs k) (ofKind d f k)) 80 t k (ltb-true k 80 e))
-    go false e = let l = ltb-false k 80 e in rw (slot-past k l) (sym (past d f k (omega arith)))
+-- a byte of the word for row i is what f says of the kind, where the test over the word passes
+pub row-entry : (d : ℕ) (f : Kind → ℕ) (w i : ℕ) → T (every (λ l. eqb (byteIn w l) (ofKind d f (16 * i + l))) 8) → (k : ℕ) → k / 16 ≡ i → k % 16 < 8 → byteIn w (k % 8) ≡ ofKind d f k
+row-entry d f w i t k e h =
+    let l : k % 8 < 8 = omega arith in
+    let p : 16 * i + k % 8 ≡ k = omega (arith, e, h) in
+    eqb→eq (byteIn w (k % 8)) (ofKind d f (16 * i + k % 8)) (below (λ l. eqb (byteIn w l) (ofKind d f (16 * i + l))) 8 t (k % 8) l) ∙ ap (ofKind d f) p
 
-pub entry : (d : ℕ) (f : Kind → ℕ) (xs : List ℕ) → T (every (λ k. eqb (tableOf d xs k) (ofKind d f k)) 80) → (k s : ℕ) → s ≡ slotOf k → s < 40 → getD xs s 0 ≡ ofKind d f k
-entry d f xs t k s e h = ap (λ (i : ℕ). getD xs i 0) e ∙ sym (ap (λ (b : Bool). cond b (getD xs (slotOf k) 0) d) (lt-ltb (slotOf k) 40 (omega (arith, h, e)))) ∙ table-is d f xs t k
-
-pub no-entry : (d : ℕ) (f : Kind → ℕ) (xs : List ℕ) → T (every (λ k. eqb (tableOf d xs k) (ofKind d f k)) 80) → (k s : ℕ) → s ≡ slotOf k → 40 ≤ s → d ≡ ofKind d f k
-no-entry d f xs t k s e h = sym (ap (λ (b : Bool). cond b (getD xs (slotOf k) 0) d) (le-ltb (slotOf k) 40 (omega (arith, h, e)))) ∙ table-is d f xs t k
+-- past the five rows
+pub high : (k : ℕ) → ((((Unit {0} × (k / 16 ≡ 0 → ⊥)) × (k / 16 ≡ 1 → ⊥)) × (k / 16 ≡ 2 → ⊥)) × (k / 16 ≡ 3 → ⊥)) × (k / 16 ≡ 4 → ⊥) → 80 ≤ k
+high k h = omega (arith, h .0 .0 .0 .0 .1, h .0 .0 .0 .1, h .0 .0 .1, h .0 .1, h .1)
 
 -- a body has at most four bytes
 pub body-small : (x : Kind) → bodyLength x ≤ 4

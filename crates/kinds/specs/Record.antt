@@ -1,5 +1,6 @@
 -- The record that bytes start with.
 use Prim.Native.Nat.{ℕ, suc}
+use mathlib.Core.Path.{_≡_}
 use mathlib.Core.Bool.{cond}
 use mathlib.Core.List.{List, [], _∷_}
 use mathlib.Core.Option.{Option, none, some}
@@ -27,9 +28,6 @@ filled a b c d k-stored = R.Stored a b c
 filled a b c d k-workspace = R.Workspace a b c
 filled a b c d k-permit = R.Permit a b c
 
-unfoldable pub recordOf : ℕ → ℕ → ℕ → ℕ → ℕ → Record
-recordOf k a b c d = ofKind R.Unknown (filled a b c d) k
-
 -- the record of kind x that the bytes after the kind byte begin, Short where they end before its body does
 abbrev pub within : Kind → List ℕ → Record
 within x r = cond (leb (bodyLength x) (length r)) (filled (getD r 0 0) (getD r 1 0) (getD r 2 0) (getD r 3 0) x) R.Short
@@ -37,3 +35,7 @@ within x r = cond (leb (bodyLength x) (length r)) (filled (getD r 0 0) (getD r 1
 unfoldable pub recordAt : List ℕ → Record
 recordAt [] = R.Short
 recordAt (k ∷ r) = ofKind R.Unknown (λ x. within x r) k
+
+-- bytes whose first is none of RANGE's and of the conditions'
+abbrev pub Other : List ℕ → Type 0
+Other q = (length q ≡ 0 → ⊥) × (getD q 0 0 ≡ 1 → ⊥) × (getD q 0 0 ≡ 16 → ⊥) × (getD q 0 0 ≡ 17 → ⊥) × (getD q 0 0 ≡ 18 → ⊥) × (getD q 0 0 ≡ 19 → ⊥) × (getD q 0 0 ≡ 20 → ⊥) × (getD q 0 0 ≡ 21 → ⊥) × (getD q 0 0 ≡ 22 → ⊥)

@@ -1,7 +1,5 @@
 -- What the byte of a kind fixes (document 01, the table of "Questions"), for every byte.
-use Prim.Native.Nat.{ℕ, suc, _+_, _*_, _/_, _%_}
-use mathlib.Core.Bool.{cond}
-use lib.Dec.{leb}
+use Prim.Native.Nat.{ℕ, suc, _*_, _/_, _%_, _^_}
 use mathlib.Core.Option.{Option, none, some}
 use Rattle.model.specs.Kinds.{Kind, kindOf, bodyLength, childConditions, childTerms}
 
@@ -22,6 +20,6 @@ termsOf b = ofKind 0 childTerms b
 unfoldable pub recordLength : ℕ → ℕ
 recordLength b = ofKind 1 (λ x. suc (bodyLength x)) b
 
--- the place of a kind in the tables: rows of eight for each sixteen kinds
-abbrev pub slotOf : ℕ → ℕ
-slotOf k = cond (leb 8 (k % 16)) 40 (cond (leb 5 (k / 16)) 40 (8 * (k / 16) + k % 16))
+-- the byte of a word at a place, the lowest first
+abbrev pub byteIn : ℕ → ℕ → ℕ
+byteIn w i = w / 2 ^ (8 * i) % 256

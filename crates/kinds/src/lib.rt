@@ -1,179 +1,89 @@
 // Records: one byte of kind, then a body whose length the kind fixes. Getters that are total, so that their callers need no bounds.
 ghost use mathlib.Core.Path.{_≡_};
-ghost use Prim.Native.Nat.{_≤_};
+ghost use Prim.Native.Nat.{_%_, _≤_};
+ghost use lib.Dec.{leb};
 ghost use lib.ListN.{getD, drop};
 ghost use lib.IntN.{natAbs};
 ghost use Rattle.model.specs.Syntax.{isOperator, isFunction};
 ghost use Rattle.model.specs.Meaning.{signed};
-ghost use Rattle.kinds.specs.Tables.{slotOf, bodyOf, conditionsOf, termsOf, recordLength};
-ghost use Rattle.kinds.specs.Record.{recordOf, recordAt};
+ghost use Rattle.kinds.specs.Tables.{byteIn, bodyOf, conditionsOf, termsOf, recordLength};
+ghost use Rattle.kinds.specs.Record.{recordAt, Other};
 
-// Tables by kind: a row for each sixteen kinds, of which only the first eight are in use. A small table is quick to read.
+// Tables by kind: a word for each sixteen kinds, of which only the first eight are in use, and in it a byte for each kind, the first one lowest.
+// Each word is read at a place that the compiler knows, so that no table is written to the stack.
 // The length of the body, 255 where no record has the kind.
-const BODY: [u8; 40] = [
-    255,
-    2,
-    255,
-    255,
-    255,
-    255,
-    255,
-    255,
-    0,
-    0,
-    0,
-    0,
-    0,
-    1,
-    2,
-    255,
-    4,
-    2,
-    4,
-    255,
-    255,
-    255,
-    255,
-    255,
-    3,
-    3,
-    255,
-    255,
-    255,
-    255,
-    255,
-    255,
-    3,
-    255,
-    255,
-    255,
-    255,
-    255,
-    255,
-    255,
+const BODY: [u64; 5] = [
+    0xffff_ffff_ffff_02ff,
+    0xff02_0100_0000_0000,
+    0xffff_ffff_ff04_0204,
+    0xffff_ffff_ffff_0303,
+    0xffff_ffff_ffff_ff03,
 ];
 
 // How many conditions follow as children, and how many terms.
-const CHILD_CONDITIONS: [u8; 40] = [
-    0,
-    0,
-    0,
-    0,
-    0,
-    0,
-    0,
-    0,
-    0,
-    0,
-    1,
-    2,
-    2,
-    0,
-    1,
-    0,
-    0,
-    0,
-    1,
-    0,
-    0,
-    0,
-    0,
-    0,
-    0,
-    0,
-    0,
-    0,
-    0,
-    0,
-    0,
-    0,
-    1,
-    0,
-    0,
-    0,
-    0,
-    0,
-    0,
-    0,
-];
+const CHILD_CONDITIONS: [u64; 5] = [0, 0x0001_0002_0201_0000, 0x0001_0000, 0, 1];
 
-const CHILD_TERMS: [u8; 40] = [
-    0,
-    0,
-    0,
-    0,
-    0,
-    0,
-    0,
-    0,
-    0,
-    0,
-    0,
-    0,
-    0,
-    2,
-    0,
-    0,
-    0,
-    0,
-    0,
-    0,
-    0,
-    0,
-    0,
-    0,
-    0,
-    0,
-    0,
-    0,
-    0,
-    0,
-    0,
-    0,
-    0,
-    0,
-    0,
-    0,
-    0,
-    0,
-    0,
-    0,
-];
+const CHILD_TERMS: [u64; 5] = [0, 0x0200_0000_0000, 0, 0, 0];
 
-// The place of a kind in the tables, 40 where it has none.
-fn slot(kind: u8) -> usize
-    ensures { λ r. ⌜ r ≡ slotOf kind ⌝ }
+fn wide_kind(x: u8) -> u64
+    ensures { λ r. ⌜ r ≡ x ⌝ }
 {
-    let low = kind % 16;
-    let row = kind / 16;
-    if 8 <= low {
-        return 40;
-    }
-    if 5 <= row {
-        return 40;
-    }
-    wide(8 * row + low)
+    x as u64
+}
+
+// The byte of a kind in its word.
+fn entry(word: u64, kind: u8) -> u8
+    ensures { λ r. ⌜ r ≡ byteIn word (kind % 8) ⌝ }
+{
+    ((word >> (8 * wide_kind(kind % 8))) % 256) as u8
 }
 
 pub fn body_length(kind: u8) -> u8
     ensures { λ r. ⌜ r ≡ bodyOf kind ⌝ }
 {
-    let k = slot(kind);
-    if k < 40 { BODY[k] } else { 255 }
+    if 8 <= kind % 16 {
+        return 255;
+    }
+    match kind / 16 {
+        0 => entry(BODY[0], kind),
+        1 => entry(BODY[1], kind),
+        2 => entry(BODY[2], kind),
+        3 => entry(BODY[3], kind),
+        4 => entry(BODY[4], kind),
+        _ => 255,
+    }
 }
 
 pub fn child_conditions(kind: u8) -> u8
     ensures { λ r. ⌜ r ≡ conditionsOf kind ⌝ }
 {
-    let k = slot(kind);
-    if k < 40 { CHILD_CONDITIONS[k] } else { 0 }
+    if 8 <= kind % 16 {
+        return 0;
+    }
+    match kind / 16 {
+        0 => entry(CHILD_CONDITIONS[0], kind),
+        1 => entry(CHILD_CONDITIONS[1], kind),
+        2 => entry(CHILD_CONDITIONS[2], kind),
+        3 => entry(CHILD_CONDITIONS[3], kind),
+        4 => entry(CHILD_CONDITIONS[4], kind),
+        _ => 0,
+    }
 }
 
 pub fn child_terms(kind: u8) -> u8
     ensures { λ r. ⌜ r ≡ termsOf kind ⌝ }
 {
-    let k = slot(kind);
-    if k < 40 { CHILD_TERMS[k] } else { 0 }
+    if 8 <= kind % 16 {
+        return 0;
+    }
+    match kind / 16 {
+        0 => entry(CHILD_TERMS[0], kind),
+        1 => entry(CHILD_TERMS[1], kind),
+        2 => entry(CHILD_TERMS[2], kind),
+        3 => entry(CHILD_TERMS[3], kind),
+        4 => entry(CHILD_TERMS[4], kind),
+        _ => 0,
+    }
 }
 
 fn wide(x: u8) -> usize
@@ -266,25 +176,49 @@ pub enum Record {
     Short,
 }
 
-// The record of a kind, of the first four bytes that follow.
-fn record_of(kind: u8, a: u8, b: u8, c: u8, d: u8) -> Record
-    ensures { λ r. ⌜ r ≡ recordOf kind a b c d ⌝ }
+// Whether so many bytes end before a record of the kind does.
+fn cut(length: usize, kind: u8) -> bool
+    ensures { λ r. ⌜ r ≡ leb length (bodyOf kind) ⌝ }
 {
-    match kind {
-        1 => Record::Range(a, b),
-        16 => Record::True,
-        17 => Record::False,
-        18 => Record::Not,
-        19 => Record::And,
-        20 => Record::Or,
-        21 => Record::Compare(a),
-        22 => Record::Some(a, b),
-        32 => Record::Constant(a, b, c, d),
-        33 => Record::Attribute(a, b),
-        34 => Record::Aggregate(a, b, c, d),
-        48 => Record::Stored(a, b, c),
-        49 => Record::Workspace(a, b, c),
-        64 => Record::Permit(a, b, c),
+    length <= wide(body_length(kind))
+}
+
+// A record that q starts with and that is no RANGE and no condition.
+fn read_other(q: &[u8]) -> Record
+    requires { ⌜ Other (now q) ⌝ }
+    ensures { λ r. ⌜ r ≡ recordAt (now (q .entry)) ⌝ }
+{
+    match q[0] {
+        32 => if cut(q.len(), 32) {
+            Record::Short
+        } else {
+            Record::Constant(q[1], q[2], q[3], q[4])
+        },
+        33 => if cut(q.len(), 33) {
+            Record::Short
+        } else {
+            Record::Attribute(q[1], q[2])
+        },
+        34 => if cut(q.len(), 34) {
+            Record::Short
+        } else {
+            Record::Aggregate(q[1], q[2], q[3], q[4])
+        },
+        48 => if cut(q.len(), 48) {
+            Record::Short
+        } else {
+            Record::Stored(q[1], q[2], q[3])
+        },
+        49 => if cut(q.len(), 49) {
+            Record::Short
+        } else {
+            Record::Workspace(q[1], q[2], q[3])
+        },
+        64 => if cut(q.len(), 64) {
+            Record::Short
+        } else {
+            Record::Permit(q[1], q[2], q[3])
+        },
         _ => Record::Unknown,
     }
 }
@@ -296,15 +230,29 @@ pub fn read(q: &[u8]) -> Record
     if q.len() == 0 {
         return Record::Short;
     }
-    let k = byte(q, 0);
-    let n = body_length(k);
-    if n == 255 {
-        return Record::Unknown;
+    match q[0] {
+        1 => if cut(q.len(), 1) {
+            Record::Short
+        } else {
+            Record::Range(q[1], q[2])
+        },
+        16 => Record::True,
+        17 => Record::False,
+        18 => Record::Not,
+        19 => Record::And,
+        20 => Record::Or,
+        21 => if cut(q.len(), 21) {
+            Record::Short
+        } else {
+            Record::Compare(q[1])
+        },
+        22 => if cut(q.len(), 22) {
+            Record::Short
+        } else {
+            Record::Some(q[1], q[2])
+        },
+        _ => read_other(q),
     }
-    if q.len() <= wide(n) {
-        return Record::Short;
-    }
-    record_of(k, byte(q, 1), byte(q, 2), byte(q, 3), byte(q, 4))
 }
 
 fn wide_byte(x: u8) -> u32
