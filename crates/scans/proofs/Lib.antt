@@ -1,4 +1,5 @@
 pub mod Walk
+pub mod Silent
 pub mod Whole
 pub mod Lists
 pub mod Masks

@@ -13,6 +13,9 @@ use Rattle.kinds.specs.declared.Record.{Record}
 use Rattle.kinds.proofs.Entries.{length-small}
 use Rattle.scans.specs.Flat.{recordsAfter, recordsOf, flat}
 
+pub first-at : (at : ℕ) (q : List ℕ) → getD (drop at q) 0 0 ≡ getD q at 0
+first-at at q = getD-drop at q 0 0 ∙ ap (λ (i : ℕ). getD q i 0) (add-zero at)
+
 after-is : (n : ℕ) (q : List ℕ) → recordsAfter n q ≡ recordsOf (drop n q)
 unfolding recordsAfter recordsOf
 after-is zero [] = refl
@@ -35,7 +38,7 @@ module _ {A : Type 0} (f : Record → List A) (q : List ℕ) (at : ℕ) where
   unfolding flat concatMap
   flat-step n h e =
       let l : 0 < length (drop at q) = simp length-drop (omega arith) in
-      let p : getD (drop at q) 0 0 ≡ getD q at 0 = getD-drop at q 0 0 ∙ ap (λ (i : ℕ). getD q i 0) (add-zero at) in
+      let p = first-at at q in
       ap (concatMap f) (records-cons (drop at q) l)
       ∙ ap (λ (x : List ℕ). f (recordAt (drop at q)) ++ concatMap f (recordsOf x)) (drop-drop (recordLength (getD (drop at q) 0 0)) at q ∙ ap (λ (m : ℕ). drop (at + m) q) (ap recordLength p ∙ sym e))
 

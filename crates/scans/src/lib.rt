@@ -2,7 +2,7 @@
 // so that a walk from record to record meets them all, at any depth, with no recursion.
 use kinds::Record;
 ghost use mathlib.Core.Path.{_≡_};
-ghost use mathlib.Core.Bool.{_&&_, _||_};
+ghost use mathlib.Core.Bool.{false, _&&_, _||_};
 ghost use mathlib.Core.List.{List, _++_};
 ghost use Prim.Native.Nat.{ℕ, _≤_, _<_};
 ghost use lib.ListN.{length, drop, getD};
@@ -25,10 +25,35 @@ pub enum Used {
     Nothing,
 }
 
+// The kinds that bind a variable, and those that use one: most records need not be read.
+fn may_bind(kind: u8) -> bool
+    ensures { λ r. ⌜ (r ≡ false → (kind ≡ 1 → ⊥) × (kind ≡ 22 → ⊥) × (kind ≡ 34 → ⊥)) ⌝ }
+{
+    match kind {
+        1 => true,
+        22 => true,
+        34 => true,
+        _ => false,
+    }
+}
+
+fn may_use(kind: u8) -> bool
+    ensures { λ r. ⌜ (r ≡ false → (kind ≡ 33 → ⊥) × (kind ≡ 34 → ⊥)) ⌝ }
+{
+    match kind {
+        33 => true,
+        34 => true,
+        _ => false,
+    }
+}
+
 // What the record at a place binds.
 pub fn binding(q: &[u8], at: usize) -> Bound
     ensures { λ r. ⌜ boundBy r ≡ bindingOf (recordAt (drop at (now (q .entry)))) ⌝ }
 {
+    if !may_bind(kinds::byte(q, at)) {
+        return Bound::Nothing;
+    }
     match kinds::read(kinds::tail(q, at)) {
         Record::Range(v, r) => Bound::To(v, r),
         Record::Some(v, r) => Bound::To(v, r),
@@ -41,6 +66,9 @@ pub fn binding(q: &[u8], at: usize) -> Bound
 pub fn usage(q: &[u8], at: usize) -> Used
     ensures { λ r. ⌜ usedBy r ≡ useOf (recordAt (drop at (now (q .entry)))) ⌝ }
 {
+    if !may_use(kinds::byte(q, at)) {
+        return Used::Nothing;
+    }
     match kinds::read(kinds::tail(q, at)) {
         Record::Attribute(v, a) => Used::Of(v, a),
         Record::Aggregate(_, v, _, a) => Used::Of(v, a),

@@ -3,9 +3,12 @@ use Rattle.scans.proofs.binding.Statement.{statement}
 use Rattle.scans.proofs.binding.Tie as tie
 use Rattle.scans.proofs.binding.Reads as reads
 use Rattle.scans.proofs.binding.Lts as lts
+use Rattle.kinds.proofs.byte.Reads as byte-reads
 use Rattle.kinds.proofs.read.Reads as read-reads
 use Rattle.kinds.proofs.tail.Reads as tail-reads
+use Rattle.scans.proofs.may_bind.Reads as may-bind-reads
 use mathlib.Core.Path.{_≡_, refl, ap, _∙_}
+use denote.Ref.{now}
 use mathlib.Core.List.{[], _∷_}
 use denote.Enum.Declared.{tagOf, declared}
 use types.Run.{OneOf, miss}
@@ -15,6 +18,8 @@ use Rattle.kinds.specs.declared.Record.the-variants as R
 use Rattle.kinds.proofs.Record.{enum}
 use Rattle.scans.specs.Flat.{bindingOf}
 use Rattle.scans.proofs.Walk.{found}
+use Rattle.model.proofs.Tests.{not-yes}
+use Rattle.scans.proofs.Silent.{binds-nothing}
 
 -- no other record does
 other : (r : Record) → OneOf (1 ∷ 2 ∷ 3 ∷ 4 ∷ 5 ∷ 6 ∷ 8 ∷ 9 ∷ 11 ∷ 12 ∷ 13 ∷ 14 ∷ 15 ∷ []) (tagOf (declared enum) r) → [] ≡ bindingOf r
@@ -35,52 +40,67 @@ other (R.Permit a b c) h = refl
 other R.Unknown h = refl
 other R.Short h = refl
 
--- src/lib.rt:30:23
+-- src/lib.rt:54:18
+byte-requires : tie.Need-byte-requires
+byte-requires c κs = search needs
+
+-- src/lib.rt:54:9
+may-bind-requires : tie.Need-may-bind-requires
+may-bind-requires c κs = search needs
+
+-- src/lib.rt:55:9
+returns : tie.Need-returns
+returns c = binds-nothing (now (c .before .before .before .before .args .q)) (c .before .before .before .before .args .at) (c .before .before .byte .result) (c .before .before .byte .ensures) (c .before .may-bind .ensures (not-yes (c .before .may-bind .result) (c .if1 .taken)))
+
+-- src/lib.rt:57:23
 tail-requires : tie.Need-tail-requires
 tail-requires c κs = search needs
 
--- src/lib.rt:30:11
+-- src/lib.rt:57:11
 read-requires : tie.Need-read-requires
 read-requires c κs = search needs
 
--- src/lib.rt:31:23
+-- src/lib.rt:58:23
 enum-known-v : tie.Need-enum-known-v
 enum-known-v c = search needs
 
--- src/lib.rt:32:22
+-- src/lib.rt:59:22
 enum-known-v-2 : tie.Need-enum-known-v-2
 enum-known-v-2 c = search needs
 
--- src/lib.rt:33:30
+-- src/lib.rt:60:30
 enum-known-v-3 : tie.Need-enum-known-v-3
 enum-known-v-3 c = search needs
 
--- src/lib.rt:27:1
-returns : tie.Need-returns
-returns c = found bindingOf _ _ (c .before .before .before .before .before .before .args .at) _ _ (c .before .before .before .before .tail .ensures) (c .before .before .before .read .ensures) (c .before .v .given .1)
-
--- src/lib.rt:27:1
+-- src/lib.rt:51:1
 returns-2 : tie.Need-returns-2
-returns-2 c = found bindingOf _ _ (c .before .before .before .before .before .before .args .at) _ _ (c .before .before .before .before .tail .ensures) (c .before .before .before .read .ensures) (c .before .v2 .given .1)
+returns-2 c = found bindingOf _ _ (c .before .before .before .before .before .before .before .before .before .args .at) _ _ (c .before .before .before .before .tail .ensures) (c .before .before .before .read .ensures) (c .before .v .given .1)
 
--- src/lib.rt:27:1
+-- src/lib.rt:51:1
 returns-3 : tie.Need-returns-3
-returns-3 c = found bindingOf _ _ (c .before .before .before .before .before .before .args .at) _ _ (c .before .before .before .before .tail .ensures) (c .before .before .before .read .ensures) (c .before .v3 .given .1)
+returns-3 c = found bindingOf _ _ (c .before .before .before .before .before .before .before .before .before .args .at) _ _ (c .before .before .before .before .tail .ensures) (c .before .before .before .read .ensures) (c .before .v2 .given .1)
 
--- src/lib.rt:27:1
+-- src/lib.rt:51:1
 returns-4 : tie.Need-returns-4
-returns-4 c = other (c .before .read .result) (c .match .keys4) ∙ ap bindingOf (c .before .read .ensures ∙ ap recordAt (c .before .before .tail .ensures))
+returns-4 c = found bindingOf _ _ (c .before .before .before .before .before .before .before .before .before .args .at) _ _ (c .before .before .before .before .tail .ensures) (c .before .before .before .read .ensures) (c .before .v3 .given .1)
+
+-- src/lib.rt:51:1
+returns-5 : tie.Need-returns-5
+returns-5 c = other (c .before .read .result) (c .match .keys4) ∙ ap bindingOf (c .before .read .ensures ∙ ap recordAt (c .before .before .tail .ensures))
 
 pub binding-spec : {M : Type 1} → statement M
 binding-spec =
     tie.close
     (tie.spec
+    byte-requires
+    may-bind-requires
+    returns
     tail-requires
     read-requires
     enum-known-v
     enum-known-v-2
     enum-known-v-3
-    returns
     returns-2
     returns-3
-    returns-4)
+    returns-4
+    returns-5)
