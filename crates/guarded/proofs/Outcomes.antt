@@ -6,10 +6,10 @@ use Prim.Native.Nat.{ℕ, _+_, _*_, _≤_, _<_}
 use native.Mathlib.Omega.{arith}
 use lib.IntN.{ℤ}
 use lib.ListN.{length, take, drop}
-use lib.Seq.{sets, sets-eq}
+use lib.Seq.{sets, sets-eq, take-at}
 use Rattle.model.specs.Lists.{Every, concatMap}
-use Rattle.model.specs.Syntax.{Query, Binding, TRUE, bindings, bindingsT, bindingsQ}
-use Rattle.model.specs.Encoding.{queryOf, permitsOf, encodeQuery}
+use Rattle.model.specs.Syntax.{Query, Binding, TRUE, bindings, bindingsT, bindingsQ, levelsQ}
+use Rattle.model.specs.Encoding.{ok, queryOf, permitsOf, encodeQuery}
 use Rattle.model.specs.Catalogue.{catalogueOf, Shape, shapeOf}
 use Rattle.model.specs.Permits.{Guards, guardsOf}
 use Rattle.model.specs.Rewriting.{newFor, rewriteQuery}
@@ -23,11 +23,12 @@ use Rattle.model.proofs.Sizes.{size-query}
 use Rattle.model.proofs.Permitted.{Low, Sound}
 use Rattle.model.proofs.Passed.{Passed, Scoped, Within, within, sound, good-guards, permits-read, query-read}
 use Rattle.model.proofs.Limits.{ranges-put}
-use Rattle.model.proofs.Accepted.{checks, scope, bounds}
+use Rattle.model.proofs.Accepted.{checks, scope, read-again, query-again, bounds, same-targets, accepted}
 use Rattle.scans.specs.Flat.{flatBindings}
 use Rattle.permits.proofs.Reading.{Listed, listed}
 use Rattle.grammar.specs.declared.Layout.{Layout}
-use Rattle.queries.specs.Parts.{queryAt}
+use Rattle.grammar.specs.Shapes.{layout}
+use Rattle.queries.specs.Parts.{queryAt, Laid, Alike}
 use Rattle.copier.specs.Guard.{part}
 use Rattle.rewriter.specs.Rewritten.{Stands, Room}
 use Rattle.rewriter.specs.Parts.{queryBytes, queryNew}
@@ -35,7 +36,7 @@ use Rattle.rewriter.proofs.Agrees.{numbers-agree, query-agrees}
 use Rattle.guards.specs.Filled.{placedFrom, masked}
 use Rattle.guards.proofs.Stands.{stands}
 use Rattle.plain.specs.declared.Reply as plain
-use Rattle.plain.specs.Reply.{answerOf}
+use Rattle.plain.specs.Reply.{answerOf, Accepted}
 use Rattle.guarded.specs.declared.Reply.{Reply}
 use Rattle.guarded.specs.Outcome.{bytesOf, outcomeOf, Writable}
 
@@ -114,3 +115,30 @@ module _ (cb : List ℕ) (vs : List ℤ) (pb qb rewritten : List ℕ) (cells : L
       let buffer : w ≡ o .rewritten = ew ∙ front rewritten bs (omega (arith, en, l)) ∙ sym (ap (λ (x : Outcome). x .rewritten) e) in
       ap (λ a. record { answer = a; count = n; rewritten = w }) (er ∙ ap₂ (λ (k : ℕ) (x : List ℕ). evaluate cb vs (take k x) cells) count buffer ∙ demand-2 .again cb vs pb qb rewritten cells passes)
       ∙ ap₂ (λ (k : ℕ) (x : List ℕ). record { answer = o .answer; count = k; rewritten = x }) count buffer
+
+-- the rewritten query passes the plain call's checks, and has as many RANGEs and targets as the query
+module _ (cb : List ℕ) (vs : List ℤ) (pb qb rewritten : List ℕ) (kept : refusal (keeperChecks cb vs) ≡ 0) (h : refusal (shapeChecks (shapeOf (catalogueOf cb)) pb qb (length rewritten)) ≡ 0) (y : Layout) (laid : Laid y qb) where
+  abbrev bs : List ℕ
+  bs = bytesOf cb pb qb
+
+  alike : Alike y 64 bs
+  unfolding rewrittenBytes rewriteQuery layout
+  alike =
+      let s = shapeOf (catalogueOf cb) in
+      let n = length rewritten in
+      let again = query-again s pb qb n h in
+      let ranges : length (queryOf bs .ranges) ≡ length (queryOf qb .ranges) = ap (λ (u : Query). length (u .ranges)) again in
+      let targets : length (queryOf bs .targets) ≡ length (queryOf qb .targets) = ap (λ (u : Query). length (u .targets)) again ∙ same-targets s pb qb n h in
+      record {
+        read = read-again s pb qb n h ∙ ap (λ (u : Query). ok u []) (sym again);
+        nesting = omega (arith, ap levelsQ again, bounds s pb qb n h .1);
+        ranges = ap (λ (l : Layout). l .ranges) (laid .place) ∙ sym ranges;
+        targets = ap (λ (l : Layout). l .targets) (laid .place) ∙ sym targets;
+        first = ap (λ (l : Layout). l .first) (laid .place) ∙ ap (λ k. 3 * k) (sym ranges);
+      }
+
+  pub passes-again : (n : ℕ) (w : List ℕ) → n ≡ length bs → n ≤ length rewritten → w ≡ sets rewritten 0 bs → Accepted y cb vs (take n w)
+  unfolding rewrittenBytes
+  passes-again n w en l ew =
+      let e : take n w ≡ bs = ap (take n) (ew ∙ front rewritten bs (omega (arith, en, l))) ∙ take-at bs (drop (length bs) rewritten) n (sym en) in
+      subst (Accepted y cb vs) (sym e) (record { kept = kept; passes = accepted (shapeOf (catalogueOf cb)) pb qb (length rewritten) h; alike = alike })

@@ -31,3 +31,4 @@ pub record Checks32 (y : Layout) (cb : List ℕ) (vs : List ℤ) (pb qb z : List
   pub permits : refusal (permitChecks (shapeOf (catalogueOf cb)) pb) ≡ 0
   pub query : refusal (queryChecks guardedLimits (shapeOf (catalogueOf cb)) qb) ≡ 0
   pub ready : queryAt y 32 qb z ≡ queryOf qb
+  pub laid : Laid y qb

@@ -62,7 +62,7 @@ fn write(
     rewriter::rewrite_query(query, z, layout, 32, list, &places, &masks, rewritten);
 }
 
-// 33 and 40, then the answer to the rewritten query.
+// 33 and 40, then the answer to the rewritten query. It passes its checks (demand 2), and they are not made again.
 fn answer_query(
     query: &[u8],
     z: &[u16],
@@ -84,7 +84,7 @@ fn answer_query(
         return refused(40);
     }
     write(query, z, layout, list, catalogue, rewritten);
-    let r = plain::evaluate(catalogue, values, &rewritten[..n], answer);
+    let r = plain::evaluate_accepted(catalogue, values, &rewritten[..n], layout, answer);
     Reply {
         number: r.number,
         rows: r.rows,

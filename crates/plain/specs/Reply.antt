@@ -9,11 +9,11 @@ use Rattle.model.specs.Encoding.{queryOf}
 use Rattle.model.specs.Syntax.{Query}
 use Rattle.model.specs.Meaning.{Assignment, Rows}
 use Rattle.model.specs.Catalogue.{catalogueOf, shapeOf}
-use Rattle.model.specs.Checks.{fails10, fails32, plainLimits}
+use Rattle.model.specs.Checks.{fails10, fails32, plainLimits, keeperChecks, queryChecks, refusal}
 use Rattle.aggregates.specs.Filled.{filledC, filledTs}
 use Rattle.grammar.specs.declared.Layout.{Layout}
 use Rattle.rows.specs.declared.Filled.{Filled}
-use Rattle.queries.specs.Parts.{queryAt, Laid}
+use Rattle.queries.specs.Parts.{queryAt, Laid, Alike}
 use Rattle.plain.specs.declared.Reply.{Reply}
 
 abbrev pub answerOf : Reply → List ℤ → Answer
@@ -37,3 +37,9 @@ pub record Answerable (y : Layout) (l : ℕ) (q z cb : List ℕ) : Type 0 where
   pub place : y .condition ≤ 17216
   pub level : l ≤ 64
   pub known : fails32 plainLimits (shapeOf (catalogueOf cb)) (queryOf q) ≡ false
+
+-- a call whose checks pass, and a layout with the query's counts of RANGEs and targets
+pub record Accepted (y : Layout) (cb : List ℕ) (vs : List ℤ) (q : List ℕ) : Type 0 where
+  pub kept : refusal (keeperChecks cb vs) ≡ 0
+  pub passes : refusal (queryChecks plainLimits (shapeOf (catalogueOf cb)) q) ≡ 0
+  pub alike : Alike y 64 q

@@ -27,11 +27,11 @@ use Rattle.grammar.specs.declared.Shape.the-variants.{WellFormed, NotWellFormed
 use Rattle.grammar.specs.Shapes.{layout, shapeWithin, fails30At}
 use Rattle.grammar.specs.Shapes as G
 use Rattle.grammar.proofs.Whole.{at-limit, within-limit, ill-formed, well-formed, well-read}
-use Rattle.sizes.specs.Measured.{Measured}
-use Rattle.tables.specs.Tables.{queryMeasured, succeeded}
-use Rattle.tables.proofs.Laws.{Prepared, conditionPlace, measured-levels, measured-prepared}
+use Rattle.sizes.specs.Measured.{Measured, sizeOr0}
+use Rattle.tables.specs.Tables.{targetsMeasured, queryMeasured, succeeded}
+use Rattle.tables.proofs.Laws.{Prepared, conditionPlace, measured-levels, measured-prepared, measured-place}
 use Rattle.queries.specs.declared.Limits.{Limits}
-use Rattle.queries.specs.Parts.{queryAt, limitsOf, Laid, Room}
+use Rattle.queries.specs.Parts.{queryAt, limitsOf, Laid, Room, Alike}
 
 module _ (y : Layout) (q : List ℕ) (laid : Laid y q) where
   abbrev u : Query
@@ -47,6 +47,21 @@ module _ (y : Layout) (q : List ℕ) (laid : Laid y q) where
   pub condition-room : y .condition ≤ length q
   unfolding layout sizeQ
   condition-room = omega (arith, ap (λ (x : Layout). x .condition) (laid .place), ap length (is .bytes), size-query u, size-targets (u .targets) [])
+
+  -- with the table that was filled, the bytes stand for the query
+  pub ready-is : (k : ℕ) (z x : List ℕ) → Room q z → levelsQ u ≤ k → x ≡ queryMeasured (y .targets) k q (y .first) z .table → queryAt y k q x ≡ u
+  unfolding layout
+  ready-is k z x room deep ex =
+      let p = measured-prepared k u (is .well) q (is .bytes) (room .short) z (room .room) deep in
+      let e : length (encodeTargets (u .targets) []) ≡ sizeTs (u .targets) = omega (arith, size-targets (u .targets) []) in
+      ap₂ (λ (s : Layout) (w : List ℕ). queryAt s k q w) (laid .place) (ex ∙ ap (λ (s : Layout). queryMeasured (s .targets) k q (s .first) z .table) (laid .place))
+      ∙ rw e (query-eq (p .ranges) (p .targets) (p .condition))
+    where
+      query-eq : {a b : Query} → a .ranges ≡ b .ranges → a .targets ≡ b .targets → a .condition ≡ b .condition → a ≡ b
+      query-eq {a} {b} e f g =
+          ap (λ (x : List Binding). record { ranges = x; targets = a .targets; condition = a .condition }) e
+          ∙ ap (λ (x : List Term). record { ranges = b .ranges; targets = x; condition = a .condition }) f
+          ∙ ap (λ (x : Condition). record { ranges = b .ranges; targets = b .targets; condition = x }) g
 
   counted : length (flatBindings q) ≡ length (bindingsQ u)
   counted = ap (λ (x : List ℕ). length (flatBindings x)) (is .bytes) ∙ ap length (bindings-query u)
@@ -102,18 +117,25 @@ module _ (y : Layout) (q : List ℕ) (laid : Laid y q) where
               go false f = sym (rw (ranges-few, targets-few, lt-ltb (l .levels) (levelsQ u) (leb-false (levelsQ u) (l .levels) f)))
 
           pub measured-ready : b ≡ true → queryAt y (l .levels) q x ≡ u
-          unfolding layout
-          measured-ready h =
-              let p = measured-prepared (l .levels) u (is .well) q (is .bytes) (room .short) z (room .room) (leb-true (levelsQ u) (l .levels) (sym levels-are ∙ h)) in
-              let e : length (encodeTargets (u .targets) []) ≡ sizeTs (u .targets) = omega (arith, size-targets (u .targets) []) in
-              ap₂ (λ (s : Layout) (w : List ℕ). queryAt s (l .levels) q w) (laid .place) (ex ∙ ap (λ (s : Measured). s .table) as-laid)
-              ∙ rw e (query-eq (p .ranges) (p .targets) (p .condition))
-            where
-              query-eq : {a b : Query} → a .ranges ≡ b .ranges → a .targets ≡ b .targets → a .condition ≡ b .condition → a ≡ b
-              query-eq {a} {b} e f g =
-                  ap (λ (x : List Binding). record { ranges = x; targets = a .targets; condition = a .condition }) e
-                  ∙ ap (λ (x : List Term). record { ranges = b .ranges; targets = x; condition = a .condition }) f
-                  ∙ ap (λ (x : Condition). record { ranges = b .ranges; targets = b .targets; condition = x }) g
+          measured-ready h = ready-is (l .levels) z x room (leb-true (levelsQ u) (l .levels) (sym levels-are ∙ h)) ex
+
+-- a query that is known to pass: its layout from the counts, and the table's place of the condition
+module _ (y : Layout) (l : ℕ) (q : List ℕ) (a : Alike y l q) where
+  pub alike-room : y .first ≤ length q
+  unfolding sizeQ
+  alike-room = let i = query-inverse q (queryOf q) [] (a .read) in omega (arith, a .first, ap length (i .bytes), size-query (queryOf q))
+
+  pub alike-laid : (z : List ℕ) (c : ℕ) → Room q z → c ≡ sizeOr0 (targetsMeasured (y .targets) l q (y .first) z .size) → Laid (record { ranges = y .ranges; targets = y .targets; first = y .first; condition = c }) q
+  unfolding layout
+  alike-laid z c room ec =
+      let v = queryOf q in
+      let i = query-inverse q v [] (a .read) in
+      let p = ap₂ (λ m f. sizeOr0 (targetsMeasured m l q f z .size)) (a .targets) (a .first) ∙ measured-place l v (i .well) q (i .bytes) (room .short) z (room .room) (a .nesting) in
+      let e : c ≡ 3 * length (v .ranges) + length (encodeTargets (v .targets) []) = omega (arith, ec, p, size-targets (v .targets) []) in
+      record {
+        read = a .read;
+        place = ap₂ (λ m n. record { ranges = m; targets = n; first = y .first; condition = c }) (a .ranges) (a .targets) ∙ ap₂ (λ m n. record { ranges = length (v .ranges); targets = length (v .targets); first = m; condition = n }) (a .first) e;
+      }
 
 -- what the grammar finds
 module _ (l : Limits) (sh : Shape) (q : List ℕ) where

@@ -12,7 +12,7 @@ ghost use Rattle.sizes.specs.Parts.{rangesAt, targetsAt};
 ghost use Rattle.model.specs.Encoding.{queryOf};
 ghost use Rattle.model.specs.Catalogue.{catalogueOf, shapeOf};
 ghost use Rattle.model.specs.Checks.{fails10, fails31, queryChecks, refusal};
-ghost use Rattle.queries.specs.Parts.{queryAt, reachOn, limitsOf, Laid, Room, numberOf, Ready};
+ghost use Rattle.queries.specs.Parts.{queryAt, reachOn, limitsOf, Laid, Room, numberOf, Ready, Alike};
 
 // The limits of a call.
 pub struct Limits {
@@ -174,4 +174,20 @@ pub fn check(q: &[u8], limits: Limits, catalogue: &[u8], z: &mut [u16]) -> Check
         return Checked::Refused(32);
     }
     Checked::Passed(layout)
+}
+
+// The layout and the table of sizes of a query that is known to pass, with RANGEs and targets as many as in another: nothing is checked.
+pub fn prepare(q: &[u8], like: Layout, level: usize, z: &mut [u16]) -> Layout
+    requires { ⌜ Alike like level (now q) × Room (now q) (now z) ⌝ }
+    ensures { λ r. ⌜ Laid r (now (q .entry)) × (queryAt r level (now (q .entry)) (now (z .exit)) ≡ queryOf (now (q .entry))) ⌝ }
+{
+    let first = like.first;
+    let targets = like.targets;
+    let condition = tables::fill(q, z, first, targets, level);
+    Layout {
+        ranges: like.ranges,
+        targets,
+        first,
+        condition,
+    }
 }

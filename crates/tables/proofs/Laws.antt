@@ -15,7 +15,7 @@ use Rattle.model.proofs.Sizes.{size, sizeT, sizeTs, sizeQ, size-encode, size-ta
 use Rattle.sizes.specs.declared.Size.{Size}
 use Rattle.sizes.specs.declared.Size.the-variants.{Bytes, Refused}
 use Rattle.sizes.specs.Decode.{decode, decodeT}
-use Rattle.sizes.specs.Measured.{Measured, leaves, onward, sizeRead, conditionSize, conditionTable, termSize, termTable}
+use Rattle.sizes.specs.Measured.{Measured, leaves, onward, sizeOr0, sizeRead, conditionSize, conditionTable, termSize, termTable}
 use Rattle.sizes.proofs.Sized.{Sized, SizedT, sized-headT, Agree}
 use Rattle.sizes.proofs.Reader.{drop-encodeT}
 use Rattle.sizes.proofs.Decoding.{decode-encode, decode-encodeT, condition-size, condition-length, condition-before, condition-sized, term-size, term-rest, term-length, term-before, term-sized, sized-keptT}
@@ -209,3 +209,7 @@ module _ (l : ℕ) (u : Query) (w : WellFormedQ u) (q : List ℕ) (e : q ≡ enc
 
   pub measured-prepared : levelsQ u ≤ l → Prepared l u q (queryMeasured (length (u .targets)) l q (3 * length (u .ranges)) z .table)
   measured-prepared h = whole-fine h .1
+
+  pub measured-place : levelsQ u ≤ l → sizeOr0 (targetsMeasured (length (u .targets)) l q (3 * length (u .ranges)) z .size) ≡ conditionPlace u
+  unfolding levelsQ
+  measured-place h = ap sizeOr0 (targets-fine l q short (u .targets) p (encode (u .condition) []) z at-targets (w .targets) (omega arith) room .place)

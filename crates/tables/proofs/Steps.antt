@@ -7,7 +7,7 @@ use native.Mathlib.Numerals.{sub-one}
 use lib.ListN.{length, drop}
 use Rattle.sizes.specs.declared.Size.{Size}
 use Rattle.sizes.specs.declared.Size.the-variants.{Bytes, Refused}
-use Rattle.sizes.specs.Measured.{Measured, leaves, onward, conditionSize, conditionTable, termSize, termTable}
+use Rattle.sizes.specs.Measured.{Measured, leaves, sizeOr0, onward, conditionSize, conditionTable, termSize, termTable}
 use Rattle.sizes.proofs.Decoding.{term-within}
 use Rattle.tables.specs.Tables.{targetsMeasured, conditionMeasured, queryMeasured, succeeded}
 
@@ -39,6 +39,9 @@ module _ (n l : ℕ) (q : List ℕ) (p : ℕ) (z : List ℕ) (s : Size) (y : Lis
   whole : onward s y (λ c y. conditionMeasured l q c y) ≡ queryMeasured n l q p z
   unfolding queryMeasured
   whole = ap (λ (m : Measured). onward (m .size) (m .table) (λ c y. conditionMeasured l q c y)) e
+
+  pub query-place : sizeOr0 s ≡ sizeOr0 (targetsMeasured n l q p z .size)
+  query-place = ap (λ (m : Measured). sizeOr0 (m .size)) e
 
   pub query-refused : s ≡ Refused → (false ≡ succeeded (queryMeasured n l q p z .size)) × (y ≡ queryMeasured n l q p z .table)
   query-refused h =

@@ -3,7 +3,7 @@ use sizes::Size;
 ghost use mathlib.Core.Path.{_≡_};
 ghost use Prim.Native.Nat.{_≤_};
 ghost use lib.ListN.{length};
-ghost use Rattle.sizes.specs.Measured.{leaves};
+ghost use Rattle.sizes.specs.Measured.{leaves, sizeOr0};
 ghost use Rattle.tables.specs.Tables.{targetsMeasured, queryMeasured, succeeded};
 
 // So many targets from a place on: where the condition starts.
@@ -33,4 +33,17 @@ pub fn measure(q: &[u8], z: &mut [u16], first: usize, count: usize, level: usize
         return false;
     };
     true
+}
+
+// The same where no part is known to have more levels: where the condition starts, 0 where a target has.
+pub fn fill(q: &[u8], z: &mut [u16], first: usize, count: usize, level: usize) -> usize
+    requires { ⌜ first ≤ length (now q) ⌝ }
+    ensures { λ r. ⌜ r ≡ sizeOr0 (targetsMeasured count level (now (q .entry)) first (now (z .entry)) .size) ⌝ }
+    ensures { λ _. ⌜ now (z .exit) ≡ queryMeasured count level (now (q .entry)) first (now (z .entry)) .table ⌝ }
+{
+    let Size::Bytes(place) = targets(q, z, first, count, level) else {
+        return 0;
+    };
+    sizes::condition(q, z, place, level);
+    place
 }

@@ -47,7 +47,7 @@ enum-known-layout : tie.Need-enum-known-layout
 enum-known-layout c = search needs
 
 answer-query-requires : tie.Need-answer-query-requires
-answer-query-requires c κs = record { kept = (sym (c .before .before .before .before .before .before .before .before .before .before .before .before .before .check .ensures) ∙ c .before .before .before .before .before .before .before .before .before .before .before .before .if1 .left); permits = (sym (c .before .before .before .before .before .before .before .before .before .before .before .check-permits .ensures) ∙ c .before .before .before .before .before .before .before .before .before .before .if2 .left); query = sym (sym (ap numberOf (c .before .before .before .before .layout .given .1)) ∙ c .before .before .before .before .before .before .before .before .check2 .ensures .0); ready = (subst (λ (r : Checked). Ready r 32 (now (c .before .before .before .before .before .before .before .before .before .before .before .before .before .before .before .before .before .before .before .args .query)) (c .before .before .before .before .before .before .before .before .check2 .last .1 .1 .1 .0)) (c .before .before .before .before .layout .given .1) (c .before .before .before .before .before .before .before .before .check2 .ensures .1)) .1 }
+answer-query-requires c κs = record { kept = (sym (c .before .before .before .before .before .before .before .before .before .before .before .before .before .check .ensures) ∙ c .before .before .before .before .before .before .before .before .before .before .before .before .if1 .left); permits = (sym (c .before .before .before .before .before .before .before .before .before .before .before .check-permits .ensures) ∙ c .before .before .before .before .before .before .before .before .before .before .if2 .left); query = sym (sym (ap numberOf (c .before .before .before .before .layout .given .1)) ∙ c .before .before .before .before .before .before .before .before .check2 .ensures .0); ready = (subst (λ (r : Checked). Ready r 32 (now (c .before .before .before .before .before .before .before .before .before .before .before .before .before .before .before .before .before .before .before .args .query)) (c .before .before .before .before .before .before .before .before .check2 .last .1 .1 .1 .0)) (c .before .before .before .before .layout .given .1) (c .before .before .before .before .before .before .before .before .check2 .ensures .1)) .1; laid = (subst (λ (r : Checked). Ready r 32 (now (c .before .before .before .before .before .before .before .before .before .before .before .before .before .before .before .before .before .before .before .args .query)) (c .before .before .before .before .before .before .before .before .check2 .last .1 .1 .1 .0)) (c .before .before .before .before .layout .given .1) (c .before .before .before .before .before .before .before .before .check2 .ensures .1)) .0 }
 
 same-length : tie.Need-same-length
 same-length c = search needs

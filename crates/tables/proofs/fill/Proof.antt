@@ -1,0 +1,56 @@
+use borrow.Author.Needs.{needs}
+use Rattle.tables.proofs.fill.Statement.{statement}
+use Rattle.tables.proofs.fill.Tie as tie
+use Rattle.tables.proofs.fill.Reads as reads
+use Rattle.tables.proofs.fill.Lts as lts
+use Rattle.sizes.proofs.condition.Reads as condition-reads
+use Rattle.tables.proofs.targets.Reads as targets-reads
+use mathlib.Core.Path.{sym, ap, _∙_}
+use denote.Ref.{now}
+use Rattle.sizes.specs.Measured.{sizeOr0}
+use Rattle.tables.proofs.Steps.{query-place, query-refused, query-measured}
+
+-- src/lib.rt:44:26
+targets-requires : tie.Need-targets-requires
+targets-requires c κs = search needs
+
+-- src/lib.rt:44:21
+enum-known-place : tie.Need-enum-known-place
+enum-known-place c = search needs
+
+-- src/lib.rt:45:9
+enum-told : tie.Need-enum-told
+enum-told c = search needs
+
+-- src/lib.rt:45:9
+same-length : tie.Need-same-length
+same-length c = search needs
+
+-- src/lib.rt:45:9
+returns : tie.Need-returns
+returns c = (ap sizeOr0 (sym (c .enum-told .given .1)) ∙ query-place (c .before .before .before .before .before .before .before .before .args .count) (c .before .before .before .before .before .before .before .before .args .level) (now (c .before .before .before .before .before .before .before .before .args .q)) (c .before .before .before .before .before .before .before .before .args .first) (now (c .before .before .before .before .before .before .before .before .args .z)) _ _ (c .before .before .before .before .targets .ensures), query-refused (c .before .before .before .before .before .before .before .before .args .count) (c .before .before .before .before .before .before .before .before .args .level) (now (c .before .before .before .before .before .before .before .before .args .q)) (c .before .before .before .before .before .before .before .before .args .first) (now (c .before .before .before .before .before .before .before .before .args .z)) _ _ (c .before .before .before .before .targets .ensures) (c .enum-told .given .1) .1)
+
+-- src/lib.rt:47:5
+condition-requires : tie.Need-condition-requires
+condition-requires c κs = search needs
+
+-- src/lib.rt:39:1
+same-length-2 : tie.Need-same-length-2
+same-length-2 c = search needs
+
+-- src/lib.rt:39:1
+returns-2 : tie.Need-returns-2
+returns-2 c = (ap sizeOr0 (sym (c .before .before .before .before .before .place .given .1)) ∙ query-place (c .before .before .before .before .before .before .before .before .before .before .before .before .before .args .count) (c .before .before .before .before .before .before .before .before .before .before .before .before .before .args .level) (now (c .before .before .before .before .before .before .before .before .before .before .before .before .before .args .q)) (c .before .before .before .before .before .before .before .before .before .before .before .before .before .args .first) (now (c .before .before .before .before .before .before .before .before .before .before .before .before .before .args .z)) _ _ (c .before .before .before .before .before .before .before .before .before .targets .ensures), query-measured (c .before .before .before .before .before .before .before .before .before .before .before .before .before .args .count) (c .before .before .before .before .before .before .before .before .before .before .before .before .before .args .level) (now (c .before .before .before .before .before .before .before .before .before .before .before .before .before .args .q)) (c .before .before .before .before .before .before .before .before .before .before .before .before .before .args .first) (now (c .before .before .before .before .before .before .before .before .before .before .before .before .before .args .z)) _ _ (c .before .before .before .before .before .before .before .before .before .targets .ensures) _ _ _ (c .before .before .before .before .before .place .given .1) (c .before .before .condition .ensures .0) (c .before .before .condition .ensures .1) .1)
+
+pub fill-spec : {M : Type 1} → statement M
+fill-spec =
+    tie.close
+    (tie.spec
+    targets-requires
+    enum-known-place
+    enum-told
+    same-length
+    returns
+    condition-requires
+    same-length-2
+    returns-2)
