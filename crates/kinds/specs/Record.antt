@@ -1,6 +1,5 @@
 -- The record that bytes start with.
 use Prim.Native.Nat.{ℕ, suc}
-use mathlib.Core.Path.{_≡_}
 use mathlib.Core.Bool.{cond}
 use mathlib.Core.List.{List, [], _∷_}
 use mathlib.Core.Option.{Option, none, some}
@@ -35,7 +34,3 @@ within x r = cond (leb (bodyLength x) (length r)) (filled (getD r 0 0) (getD r 1
 unfoldable pub recordAt : List ℕ → Record
 recordAt [] = R.Short
 recordAt (k ∷ r) = ofKind R.Unknown (λ x. within x r) k
-
--- bytes whose first is none of RANGE's and of the conditions'
-abbrev pub Other : List ℕ → Type 0
-Other q = (length q ≡ 0 → ⊥) × (getD q 0 0 ≡ 1 → ⊥) × (getD q 0 0 ≡ 16 → ⊥) × (getD q 0 0 ≡ 17 → ⊥) × (getD q 0 0 ≡ 18 → ⊥) × (getD q 0 0 ≡ 19 → ⊥) × (getD q 0 0 ≡ 20 → ⊥) × (getD q 0 0 ≡ 21 → ⊥) × (getD q 0 0 ≡ 22 → ⊥)

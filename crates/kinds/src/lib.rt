@@ -1,13 +1,13 @@
 // Records: one byte of kind, then a body whose length the kind fixes. Getters that are total, so that their callers need no bounds.
 ghost use mathlib.Core.Path.{_≡_};
 ghost use Prim.Native.Nat.{_%_, _≤_};
-ghost use lib.Dec.{leb};
+ghost use lib.Dec.{ltb};
 ghost use lib.ListN.{getD, drop};
 ghost use lib.IntN.{natAbs};
 ghost use Rattle.model.specs.Syntax.{isOperator, isFunction};
 ghost use Rattle.model.specs.Meaning.{signed};
 ghost use Rattle.kinds.specs.Tables.{byteIn, bodyOf, conditionsOf, termsOf, recordLength};
-ghost use Rattle.kinds.specs.Record.{recordAt, Other};
+ghost use Rattle.kinds.specs.Record.{recordAt};
 
 // Tables by kind: a word for each sixteen kinds, of which only the first eight are in use, and in it a byte for each kind, the first one lowest.
 // Each word is read at a place that the compiler knows, so that no table is written to the stack.
@@ -176,50 +176,14 @@ pub enum Record {
     Short,
 }
 
-// Whether so many bytes end before a record of the kind does.
+// Whether so many bytes end before a record of the kind does. No record has more than five: the table is read at the end only.
 fn cut(length: usize, kind: u8) -> bool
-    ensures { λ r. ⌜ r ≡ leb length (bodyOf kind) ⌝ }
+    ensures { λ r. ⌜ r ≡ ltb length (recordLength kind) ⌝ }
 {
-    length <= wide(body_length(kind))
-}
-
-// A record that q starts with and that is no RANGE and no condition.
-fn read_other(q: &[u8]) -> Record
-    requires { ⌜ Other (now q) ⌝ }
-    ensures { λ r. ⌜ r ≡ recordAt (now (q .entry)) ⌝ }
-{
-    match q[0] {
-        32 => if cut(q.len(), 32) {
-            Record::Short
-        } else {
-            Record::Constant(q[1], q[2], q[3], q[4])
-        },
-        33 => if cut(q.len(), 33) {
-            Record::Short
-        } else {
-            Record::Attribute(q[1], q[2])
-        },
-        34 => if cut(q.len(), 34) {
-            Record::Short
-        } else {
-            Record::Aggregate(q[1], q[2], q[3], q[4])
-        },
-        48 => if cut(q.len(), 48) {
-            Record::Short
-        } else {
-            Record::Stored(q[1], q[2], q[3])
-        },
-        49 => if cut(q.len(), 49) {
-            Record::Short
-        } else {
-            Record::Workspace(q[1], q[2], q[3])
-        },
-        64 => if cut(q.len(), 64) {
-            Record::Short
-        } else {
-            Record::Permit(q[1], q[2], q[3])
-        },
-        _ => Record::Unknown,
+    if 5 <= length {
+        false
+    } else {
+        length < record_length(kind)
     }
 }
 
@@ -230,28 +194,26 @@ pub fn read(q: &[u8]) -> Record
     if q.len() == 0 {
         return Record::Short;
     }
-    match q[0] {
-        1 => if cut(q.len(), 1) {
-            Record::Short
-        } else {
-            Record::Range(q[1], q[2])
-        },
+    let k = q[0];
+    if cut(q.len(), k) {
+        return Record::Short;
+    }
+    match k {
+        1 => Record::Range(q[1], q[2]),
         16 => Record::True,
         17 => Record::False,
         18 => Record::Not,
         19 => Record::And,
         20 => Record::Or,
-        21 => if cut(q.len(), 21) {
-            Record::Short
-        } else {
-            Record::Compare(q[1])
-        },
-        22 => if cut(q.len(), 22) {
-            Record::Short
-        } else {
-            Record::Some(q[1], q[2])
-        },
-        _ => read_other(q),
+        21 => Record::Compare(q[1]),
+        22 => Record::Some(q[1], q[2]),
+        32 => Record::Constant(q[1], q[2], q[3], q[4]),
+        33 => Record::Attribute(q[1], q[2]),
+        34 => Record::Aggregate(q[1], q[2], q[3], q[4]),
+        48 => Record::Stored(q[1], q[2], q[3]),
+        49 => Record::Workspace(q[1], q[2], q[3]),
+        64 => Record::Permit(q[1], q[2], q[3]),
+        _ => Record::Unknown,
     }
 }
 

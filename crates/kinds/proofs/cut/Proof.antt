@@ -3,22 +3,25 @@ use Rattle.kinds.proofs.cut.Statement.{statement}
 use Rattle.kinds.proofs.cut.Tie as tie
 use Rattle.kinds.proofs.cut.Reads as reads
 use Rattle.kinds.proofs.cut.Lts as lts
-use Rattle.kinds.proofs.body_length.Reads as body-length-reads
-use Rattle.kinds.proofs.wide.Reads as wide-reads
-use mathlib.Core.Path.{ap, _∙_}
-use lib.Dec.{leb}
+use Rattle.kinds.proofs.record_length.Reads as record-length-reads
+use native.Mathlib.Omega.{arith}
+use mathlib.Core.Path.{sym, ap}
+use lib.Dec.{ltb}
+use borrow.Author.Tests.{le-ltb}
+use Rattle.kinds.specs.Tables.{recordLength}
+use Rattle.kinds.proofs.Entries.{length-small}
 
--- src/lib.rt:183:20
-body-length-requires : tie.Need-body-length-requires
-body-length-requires c κs = search needs
-
--- src/lib.rt:183:15
-wide-requires : tie.Need-wide-requires
-wide-requires c κs = search needs
+-- src/lib.rt:186:18
+record-length-requires : tie.Need-record-length-requires
+record-length-requires c κs = search needs
 
 -- src/lib.rt:180:1
 returns : tie.Need-returns
-returns c = ap (leb (c .before .before .args .length)) (c .wide .ensures ∙ c .before .body-length .ensures)
+returns c = sym (le-ltb (c .before .args .length) (recordLength (c .before .args .kind)) (omega (arith, length-small (c .before .args .kind) .1, c .if1 .taken)))
+
+-- src/lib.rt:180:1
+returns-2 : tie.Need-returns-2
+returns-2 c = ap (ltb (c .before .before .args .length)) (c .record-length .ensures .0)
 
 pub cut-spec : {M : Type 1} → statement M
-cut-spec = tie.close (tie.spec body-length-requires wide-requires returns)
+cut-spec = tie.close (tie.spec record-length-requires returns returns-2)

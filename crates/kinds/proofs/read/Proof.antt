@@ -4,142 +4,257 @@ use Rattle.kinds.proofs.read.Tie as tie
 use Rattle.kinds.proofs.read.Reads as reads
 use Rattle.kinds.proofs.read.Lts as lts
 use Rattle.kinds.proofs.cut.Reads as cut-reads
-use Rattle.kinds.proofs.read_other.Reads as read-other-reads
 use native.Mathlib.Omega.{arith}
-use mathlib.Core.Path.{sym, ap, _∙_}
+use mathlib.Core.Path.{refl, sym, ap, _∙_}
 use denote.Ref.{now}
-use lib.ListN.{length}
-use borrow.Author.Tests.{leb-true, leb-false}
-use Rattle.kinds.specs.Tables.{bodyOf, ofKind}
-use Rattle.kinds.proofs.Records.{empty-is, cut-is, whole-is}
-use Rattle.model.specs.Kinds.{kindOf, find, k-range, k-true, k-false, k-not, k-and, k-or, k-compare, k-some}
+use lib.ListN.{length, getD}
+use borrow.Author.Tests.{ltb-true, ltb-false}
+use Rattle.model.specs.Kinds.{kindOf, find, k-range, k-true, k-false, k-not, k-and, k-or, k-compare, k-some, k-constant, k-attribute, k-aggregate, k-stored, k-workspace, k-permit}
+use Rattle.kinds.specs.Tables.{recordLength}
+use Rattle.kinds.proofs.Records.{empty-is, cut-is, whole-is, unknown-is, body-there, none-of}
 
--- src/lib.rt:231:9
+-- src/lib.rt:195:9
 returns : tie.Need-returns
-unfolding bodyOf ofKind kindOf find
 returns c = sym (empty-is (now (c .before .before .args .q)) (c .if1 .taken))
 
--- src/lib.rt:233:11
-shared-slice-read-match : tie.Need-shared-slice-read-match
-shared-slice-read-match c = search needs
+-- src/lib.rt:197:13
+shared-slice-read-k : tie.Need-shared-slice-read-k
+shared-slice-read-k c = search needs
 
--- src/lib.rt:234:17
+-- src/lib.rt:198:8
 cut-requires : tie.Need-cut-requires
 cut-requires c κs = search needs
 
--- src/lib.rt:237:27
-shared-slice-read-t12 : tie.Need-shared-slice-read-t12
-unfolding bodyOf ofKind kindOf find
-shared-slice-read-t12 c = omega (arith, (leb-false (length (now (c .before .before .before .before .before .before .before .args .q))) 2 (sym (c .before .before .cut .ensures) ∙ c .before .if2 .left)))
-
--- src/lib.rt:237:33
-shared-slice-read-t14 : tie.Need-shared-slice-read-t14
-unfolding bodyOf ofKind kindOf find
-shared-slice-read-t14 c = omega (arith, (leb-false (length (now (c .before .before .before .before .before .before .before .before .args .q))) 2 (sym (c .before .before .before .cut .ensures) ∙ c .before .before .if2 .left)))
-
--- src/lib.rt:244:18
-cut-requires-2 : tie.Need-cut-requires-2
-cut-requires-2 c κs = search needs
-
--- src/lib.rt:247:29
-shared-slice-read-t19 : tie.Need-shared-slice-read-t19
-unfolding bodyOf ofKind kindOf find
-shared-slice-read-t19 c = omega (arith, (leb-false (length (now (c .before .before .before .before .before .before .before .args .q))) 1 (sym (c .before .before .cut2 .ensures) ∙ c .before .if3 .left)))
-
--- src/lib.rt:249:18
-cut-requires-3 : tie.Need-cut-requires-3
-cut-requires-3 c κs = search needs
-
--- src/lib.rt:252:26
-shared-slice-read-t24 : tie.Need-shared-slice-read-t24
-unfolding bodyOf ofKind kindOf find
-shared-slice-read-t24 c = omega (arith, (leb-false (length (now (c .before .before .before .before .before .before .before .args .q))) 2 (sym (c .before .before .cut3 .ensures) ∙ c .before .if4 .left)))
-
--- src/lib.rt:252:32
-shared-slice-read-t26 : tie.Need-shared-slice-read-t26
-unfolding bodyOf ofKind kindOf find
-shared-slice-read-t26 c = omega (arith, (leb-false (length (now (c .before .before .before .before .before .before .before .before .args .q))) 2 (sym (c .before .before .before .cut3 .ensures) ∙ c .before .before .if4 .left)))
-
--- src/lib.rt:254:14
-read-other-requires : tie.Need-read-other-requires
-read-other-requires c κs = search needs
-
--- src/lib.rt:227:1
+-- src/lib.rt:199:9
 returns-2 : tie.Need-returns-2
-unfolding bodyOf ofKind kindOf find
-returns-2 c = sym (cut-is (now (c .before .before .before .before .before .before .args .q)) (c .before .before .before .before .if1 .left) k-range (ap kindOf (c .before .before .match .keys1)) (leb-true (length (now (c .before .before .before .before .before .before .args .q))) 2 (sym (c .before .cut .ensures) ∙ c .if2 .taken)))
+returns-2 c = sym (cut-is (now (c .before .before .before .before .before .args .q)) (c .before .before .before .if1 .left) (ltb-true (length (now (c .before .before .before .before .before .args .q))) (recordLength (getD (now (c .before .before .before .before .before .args .q)) 0 0)) (sym (c .before .cut .ensures) ∙ c .if2 .taken)))
 
--- src/lib.rt:227:1
+-- src/lib.rt:202:28
+shared-slice-read-t10 : tie.Need-shared-slice-read-t10
+unfolding kindOf find
+shared-slice-read-t10 c = omega (arith, body-there (now (c .before .before .before .before .before .before .before .args .q)) 1 k-range (c .before .match .keys1) refl (ltb-false (length (now (c .before .before .before .before .before .before .before .args .q))) (recordLength (getD (now (c .before .before .before .before .before .before .before .args .q)) 0 0)) (sym (c .before .before .before .cut .ensures) ∙ c .before .before .if2 .left)))
+
+-- src/lib.rt:202:34
+shared-slice-read-t12 : tie.Need-shared-slice-read-t12
+unfolding kindOf find
+shared-slice-read-t12 c = omega (arith, body-there (now (c .before .before .before .before .before .before .before .before .args .q)) 1 k-range (c .before .before .match .keys1) refl (ltb-false (length (now (c .before .before .before .before .before .before .before .before .args .q))) (recordLength (getD (now (c .before .before .before .before .before .before .before .before .args .q)) 0 0)) (sym (c .before .before .before .before .cut .ensures) ∙ c .before .before .before .if2 .left)))
+
+-- src/lib.rt:208:31
+shared-slice-read-t14 : tie.Need-shared-slice-read-t14
+unfolding kindOf find
+shared-slice-read-t14 c = omega (arith, body-there (now (c .before .before .before .before .before .before .before .args .q)) 21 k-compare (c .before .match .keys7) refl (ltb-false (length (now (c .before .before .before .before .before .before .before .args .q))) (recordLength (getD (now (c .before .before .before .before .before .before .before .args .q)) 0 0)) (sym (c .before .before .before .cut .ensures) ∙ c .before .before .if2 .left)))
+
+-- src/lib.rt:209:28
+shared-slice-read-t16 : tie.Need-shared-slice-read-t16
+unfolding kindOf find
+shared-slice-read-t16 c = omega (arith, body-there (now (c .before .before .before .before .before .before .before .args .q)) 22 k-some (c .before .match .keys8) refl (ltb-false (length (now (c .before .before .before .before .before .before .before .args .q))) (recordLength (getD (now (c .before .before .before .before .before .before .before .args .q)) 0 0)) (sym (c .before .before .before .cut .ensures) ∙ c .before .before .if2 .left)))
+
+-- src/lib.rt:209:34
+shared-slice-read-t18 : tie.Need-shared-slice-read-t18
+unfolding kindOf find
+shared-slice-read-t18 c = omega (arith, body-there (now (c .before .before .before .before .before .before .before .before .args .q)) 22 k-some (c .before .before .match .keys8) refl (ltb-false (length (now (c .before .before .before .before .before .before .before .before .args .q))) (recordLength (getD (now (c .before .before .before .before .before .before .before .before .args .q)) 0 0)) (sym (c .before .before .before .before .cut .ensures) ∙ c .before .before .before .if2 .left)))
+
+-- src/lib.rt:210:32
+shared-slice-read-t20 : tie.Need-shared-slice-read-t20
+unfolding kindOf find
+shared-slice-read-t20 c = omega (arith, body-there (now (c .before .before .before .before .before .before .before .args .q)) 32 k-constant (c .before .match .keys9) refl (ltb-false (length (now (c .before .before .before .before .before .before .before .args .q))) (recordLength (getD (now (c .before .before .before .before .before .before .before .args .q)) 0 0)) (sym (c .before .before .before .cut .ensures) ∙ c .before .before .if2 .left)))
+
+-- src/lib.rt:210:38
+shared-slice-read-t22 : tie.Need-shared-slice-read-t22
+unfolding kindOf find
+shared-slice-read-t22 c = omega (arith, body-there (now (c .before .before .before .before .before .before .before .before .args .q)) 32 k-constant (c .before .before .match .keys9) refl (ltb-false (length (now (c .before .before .before .before .before .before .before .before .args .q))) (recordLength (getD (now (c .before .before .before .before .before .before .before .before .args .q)) 0 0)) (sym (c .before .before .before .before .cut .ensures) ∙ c .before .before .before .if2 .left)))
+
+-- src/lib.rt:210:44
+shared-slice-read-t24 : tie.Need-shared-slice-read-t24
+unfolding kindOf find
+shared-slice-read-t24 c = omega (arith, body-there (now (c .before .before .before .before .before .before .before .before .before .args .q)) 32 k-constant (c .before .before .before .match .keys9) refl (ltb-false (length (now (c .before .before .before .before .before .before .before .before .before .args .q))) (recordLength (getD (now (c .before .before .before .before .before .before .before .before .before .args .q)) 0 0)) (sym (c .before .before .before .before .before .cut .ensures) ∙ c .before .before .before .before .if2 .left)))
+
+-- src/lib.rt:210:50
+shared-slice-read-t26 : tie.Need-shared-slice-read-t26
+unfolding kindOf find
+shared-slice-read-t26 c = omega (arith, body-there (now (c .before .before .before .before .before .before .before .before .before .before .args .q)) 32 k-constant (c .before .before .before .before .match .keys9) refl (ltb-false (length (now (c .before .before .before .before .before .before .before .before .before .before .args .q))) (recordLength (getD (now (c .before .before .before .before .before .before .before .before .before .before .args .q)) 0 0)) (sym (c .before .before .before .before .before .before .cut .ensures) ∙ c .before .before .before .before .before .if2 .left)))
+
+-- src/lib.rt:211:33
+shared-slice-read-t28 : tie.Need-shared-slice-read-t28
+unfolding kindOf find
+shared-slice-read-t28 c = omega (arith, body-there (now (c .before .before .before .before .before .before .before .args .q)) 33 k-attribute (c .before .match .keys10) refl (ltb-false (length (now (c .before .before .before .before .before .before .before .args .q))) (recordLength (getD (now (c .before .before .before .before .before .before .before .args .q)) 0 0)) (sym (c .before .before .before .cut .ensures) ∙ c .before .before .if2 .left)))
+
+-- src/lib.rt:211:39
+shared-slice-read-t30 : tie.Need-shared-slice-read-t30
+unfolding kindOf find
+shared-slice-read-t30 c = omega (arith, body-there (now (c .before .before .before .before .before .before .before .before .args .q)) 33 k-attribute (c .before .before .match .keys10) refl (ltb-false (length (now (c .before .before .before .before .before .before .before .before .args .q))) (recordLength (getD (now (c .before .before .before .before .before .before .before .before .args .q)) 0 0)) (sym (c .before .before .before .before .cut .ensures) ∙ c .before .before .before .if2 .left)))
+
+-- src/lib.rt:212:33
+shared-slice-read-t32 : tie.Need-shared-slice-read-t32
+unfolding kindOf find
+shared-slice-read-t32 c = omega (arith, body-there (now (c .before .before .before .before .before .before .before .args .q)) 34 k-aggregate (c .before .match .keys11) refl (ltb-false (length (now (c .before .before .before .before .before .before .before .args .q))) (recordLength (getD (now (c .before .before .before .before .before .before .before .args .q)) 0 0)) (sym (c .before .before .before .cut .ensures) ∙ c .before .before .if2 .left)))
+
+-- src/lib.rt:212:39
+shared-slice-read-t34 : tie.Need-shared-slice-read-t34
+unfolding kindOf find
+shared-slice-read-t34 c = omega (arith, body-there (now (c .before .before .before .before .before .before .before .before .args .q)) 34 k-aggregate (c .before .before .match .keys11) refl (ltb-false (length (now (c .before .before .before .before .before .before .before .before .args .q))) (recordLength (getD (now (c .before .before .before .before .before .before .before .before .args .q)) 0 0)) (sym (c .before .before .before .before .cut .ensures) ∙ c .before .before .before .if2 .left)))
+
+-- src/lib.rt:212:45
+shared-slice-read-t36 : tie.Need-shared-slice-read-t36
+unfolding kindOf find
+shared-slice-read-t36 c = omega (arith, body-there (now (c .before .before .before .before .before .before .before .before .before .args .q)) 34 k-aggregate (c .before .before .before .match .keys11) refl (ltb-false (length (now (c .before .before .before .before .before .before .before .before .before .args .q))) (recordLength (getD (now (c .before .before .before .before .before .before .before .before .before .args .q)) 0 0)) (sym (c .before .before .before .before .before .cut .ensures) ∙ c .before .before .before .before .if2 .left)))
+
+-- src/lib.rt:212:51
+shared-slice-read-t38 : tie.Need-shared-slice-read-t38
+unfolding kindOf find
+shared-slice-read-t38 c = omega (arith, body-there (now (c .before .before .before .before .before .before .before .before .before .before .args .q)) 34 k-aggregate (c .before .before .before .before .match .keys11) refl (ltb-false (length (now (c .before .before .before .before .before .before .before .before .before .before .args .q))) (recordLength (getD (now (c .before .before .before .before .before .before .before .before .before .before .args .q)) 0 0)) (sym (c .before .before .before .before .before .before .cut .ensures) ∙ c .before .before .before .before .before .if2 .left)))
+
+-- src/lib.rt:213:30
+shared-slice-read-t40 : tie.Need-shared-slice-read-t40
+unfolding kindOf find
+shared-slice-read-t40 c = omega (arith, body-there (now (c .before .before .before .before .before .before .before .args .q)) 48 k-stored (c .before .match .keys12) refl (ltb-false (length (now (c .before .before .before .before .before .before .before .args .q))) (recordLength (getD (now (c .before .before .before .before .before .before .before .args .q)) 0 0)) (sym (c .before .before .before .cut .ensures) ∙ c .before .before .if2 .left)))
+
+-- src/lib.rt:213:36
+shared-slice-read-t42 : tie.Need-shared-slice-read-t42
+unfolding kindOf find
+shared-slice-read-t42 c = omega (arith, body-there (now (c .before .before .before .before .before .before .before .before .args .q)) 48 k-stored (c .before .before .match .keys12) refl (ltb-false (length (now (c .before .before .before .before .before .before .before .before .args .q))) (recordLength (getD (now (c .before .before .before .before .before .before .before .before .args .q)) 0 0)) (sym (c .before .before .before .before .cut .ensures) ∙ c .before .before .before .if2 .left)))
+
+-- src/lib.rt:213:42
+shared-slice-read-t44 : tie.Need-shared-slice-read-t44
+unfolding kindOf find
+shared-slice-read-t44 c = omega (arith, body-there (now (c .before .before .before .before .before .before .before .before .before .args .q)) 48 k-stored (c .before .before .before .match .keys12) refl (ltb-false (length (now (c .before .before .before .before .before .before .before .before .before .args .q))) (recordLength (getD (now (c .before .before .before .before .before .before .before .before .before .args .q)) 0 0)) (sym (c .before .before .before .before .before .cut .ensures) ∙ c .before .before .before .before .if2 .left)))
+
+-- src/lib.rt:214:33
+shared-slice-read-t46 : tie.Need-shared-slice-read-t46
+unfolding kindOf find
+shared-slice-read-t46 c = omega (arith, body-there (now (c .before .before .before .before .before .before .before .args .q)) 49 k-workspace (c .before .match .keys13) refl (ltb-false (length (now (c .before .before .before .before .before .before .before .args .q))) (recordLength (getD (now (c .before .before .before .before .before .before .before .args .q)) 0 0)) (sym (c .before .before .before .cut .ensures) ∙ c .before .before .if2 .left)))
+
+-- src/lib.rt:214:39
+shared-slice-read-t48 : tie.Need-shared-slice-read-t48
+unfolding kindOf find
+shared-slice-read-t48 c = omega (arith, body-there (now (c .before .before .before .before .before .before .before .before .args .q)) 49 k-workspace (c .before .before .match .keys13) refl (ltb-false (length (now (c .before .before .before .before .before .before .before .before .args .q))) (recordLength (getD (now (c .before .before .before .before .before .before .before .before .args .q)) 0 0)) (sym (c .before .before .before .before .cut .ensures) ∙ c .before .before .before .if2 .left)))
+
+-- src/lib.rt:214:45
+shared-slice-read-t50 : tie.Need-shared-slice-read-t50
+unfolding kindOf find
+shared-slice-read-t50 c = omega (arith, body-there (now (c .before .before .before .before .before .before .before .before .before .args .q)) 49 k-workspace (c .before .before .before .match .keys13) refl (ltb-false (length (now (c .before .before .before .before .before .before .before .before .before .args .q))) (recordLength (getD (now (c .before .before .before .before .before .before .before .before .before .args .q)) 0 0)) (sym (c .before .before .before .before .before .cut .ensures) ∙ c .before .before .before .before .if2 .left)))
+
+-- src/lib.rt:215:30
+shared-slice-read-t52 : tie.Need-shared-slice-read-t52
+unfolding kindOf find
+shared-slice-read-t52 c = omega (arith, body-there (now (c .before .before .before .before .before .before .before .args .q)) 64 k-permit (c .before .match .keys14) refl (ltb-false (length (now (c .before .before .before .before .before .before .before .args .q))) (recordLength (getD (now (c .before .before .before .before .before .before .before .args .q)) 0 0)) (sym (c .before .before .before .cut .ensures) ∙ c .before .before .if2 .left)))
+
+-- src/lib.rt:215:36
+shared-slice-read-t54 : tie.Need-shared-slice-read-t54
+unfolding kindOf find
+shared-slice-read-t54 c = omega (arith, body-there (now (c .before .before .before .before .before .before .before .before .args .q)) 64 k-permit (c .before .before .match .keys14) refl (ltb-false (length (now (c .before .before .before .before .before .before .before .before .args .q))) (recordLength (getD (now (c .before .before .before .before .before .before .before .before .args .q)) 0 0)) (sym (c .before .before .before .before .cut .ensures) ∙ c .before .before .before .if2 .left)))
+
+-- src/lib.rt:215:42
+shared-slice-read-t56 : tie.Need-shared-slice-read-t56
+unfolding kindOf find
+shared-slice-read-t56 c = omega (arith, body-there (now (c .before .before .before .before .before .before .before .before .before .args .q)) 64 k-permit (c .before .before .before .match .keys14) refl (ltb-false (length (now (c .before .before .before .before .before .before .before .before .before .args .q))) (recordLength (getD (now (c .before .before .before .before .before .before .before .before .before .args .q)) 0 0)) (sym (c .before .before .before .before .before .cut .ensures) ∙ c .before .before .before .before .if2 .left)))
+
+-- src/lib.rt:191:1
 returns-3 : tie.Need-returns-3
-unfolding bodyOf ofKind kindOf find
-returns-3 c = sym (whole-is (now (c .before .before .before .before .before .before .before .before .args .q)) (c .before .before .before .before .before .before .if1 .left) k-range (ap kindOf (c .before .before .before .before .match .keys1)) (leb-false (length (now (c .before .before .before .before .before .before .before .before .args .q))) 2 (sym (c .before .before .before .cut .ensures) ∙ c .before .before .if2 .left)))
+unfolding kindOf find
+returns-3 c = sym (whole-is (now (c .before .before .before .before .before .before .before .before .args .q)) (c .before .before .before .before .before .before .if1 .left) k-range (ap kindOf (c .before .before .match .keys1)) (ltb-false (length (now (c .before .before .before .before .before .before .before .before .args .q))) (recordLength (getD (now (c .before .before .before .before .before .before .before .before .args .q)) 0 0)) (sym (c .before .before .before .before .cut .ensures) ∙ c .before .before .before .if2 .left)))
 
--- src/lib.rt:227:1
+-- src/lib.rt:191:1
 returns-4 : tie.Need-returns-4
-unfolding bodyOf ofKind kindOf find
-returns-4 c = sym (whole-is (now (c .before .before .before .before .args .q)) (c .before .before .if1 .left) k-true (ap kindOf (c .match .keys2)) (omega (arith, (c .before .before .if1 .left))))
+unfolding kindOf find
+returns-4 c = sym (whole-is (now (c .before .before .before .before .before .before .args .q)) (c .before .before .before .before .if1 .left) k-true (ap kindOf (c .match .keys2)) (ltb-false (length (now (c .before .before .before .before .before .before .args .q))) (recordLength (getD (now (c .before .before .before .before .before .before .args .q)) 0 0)) (sym (c .before .before .cut .ensures) ∙ c .before .if2 .left)))
 
--- src/lib.rt:227:1
+-- src/lib.rt:191:1
 returns-5 : tie.Need-returns-5
-unfolding bodyOf ofKind kindOf find
-returns-5 c = sym (whole-is (now (c .before .before .before .before .args .q)) (c .before .before .if1 .left) k-false (ap kindOf (c .match .keys3)) (omega (arith, (c .before .before .if1 .left))))
+unfolding kindOf find
+returns-5 c = sym (whole-is (now (c .before .before .before .before .before .before .args .q)) (c .before .before .before .before .if1 .left) k-false (ap kindOf (c .match .keys3)) (ltb-false (length (now (c .before .before .before .before .before .before .args .q))) (recordLength (getD (now (c .before .before .before .before .before .before .args .q)) 0 0)) (sym (c .before .before .cut .ensures) ∙ c .before .if2 .left)))
 
--- src/lib.rt:227:1
+-- src/lib.rt:191:1
 returns-6 : tie.Need-returns-6
-unfolding bodyOf ofKind kindOf find
-returns-6 c = sym (whole-is (now (c .before .before .before .before .args .q)) (c .before .before .if1 .left) k-not (ap kindOf (c .match .keys4)) (omega (arith, (c .before .before .if1 .left))))
+unfolding kindOf find
+returns-6 c = sym (whole-is (now (c .before .before .before .before .before .before .args .q)) (c .before .before .before .before .if1 .left) k-not (ap kindOf (c .match .keys4)) (ltb-false (length (now (c .before .before .before .before .before .before .args .q))) (recordLength (getD (now (c .before .before .before .before .before .before .args .q)) 0 0)) (sym (c .before .before .cut .ensures) ∙ c .before .if2 .left)))
 
--- src/lib.rt:227:1
+-- src/lib.rt:191:1
 returns-7 : tie.Need-returns-7
-unfolding bodyOf ofKind kindOf find
-returns-7 c = sym (whole-is (now (c .before .before .before .before .args .q)) (c .before .before .if1 .left) k-and (ap kindOf (c .match .keys5)) (omega (arith, (c .before .before .if1 .left))))
+unfolding kindOf find
+returns-7 c = sym (whole-is (now (c .before .before .before .before .before .before .args .q)) (c .before .before .before .before .if1 .left) k-and (ap kindOf (c .match .keys5)) (ltb-false (length (now (c .before .before .before .before .before .before .args .q))) (recordLength (getD (now (c .before .before .before .before .before .before .args .q)) 0 0)) (sym (c .before .before .cut .ensures) ∙ c .before .if2 .left)))
 
--- src/lib.rt:227:1
+-- src/lib.rt:191:1
 returns-8 : tie.Need-returns-8
-unfolding bodyOf ofKind kindOf find
-returns-8 c = sym (whole-is (now (c .before .before .before .before .args .q)) (c .before .before .if1 .left) k-or (ap kindOf (c .match .keys6)) (omega (arith, (c .before .before .if1 .left))))
+unfolding kindOf find
+returns-8 c = sym (whole-is (now (c .before .before .before .before .before .before .args .q)) (c .before .before .before .before .if1 .left) k-or (ap kindOf (c .match .keys6)) (ltb-false (length (now (c .before .before .before .before .before .before .args .q))) (recordLength (getD (now (c .before .before .before .before .before .before .args .q)) 0 0)) (sym (c .before .before .cut .ensures) ∙ c .before .if2 .left)))
 
--- src/lib.rt:227:1
+-- src/lib.rt:191:1
 returns-9 : tie.Need-returns-9
-unfolding bodyOf ofKind kindOf find
-returns-9 c = sym (cut-is (now (c .before .before .before .before .before .before .args .q)) (c .before .before .before .before .if1 .left) k-compare (ap kindOf (c .before .before .match .keys7)) (leb-true (length (now (c .before .before .before .before .before .before .args .q))) 1 (sym (c .before .cut2 .ensures) ∙ c .if3 .taken)))
+unfolding kindOf find
+returns-9 c = sym (whole-is (now (c .before .before .before .before .before .before .before .args .q)) (c .before .before .before .before .before .if1 .left) k-compare (ap kindOf (c .before .match .keys7)) (ltb-false (length (now (c .before .before .before .before .before .before .before .args .q))) (recordLength (getD (now (c .before .before .before .before .before .before .before .args .q)) 0 0)) (sym (c .before .before .before .cut .ensures) ∙ c .before .before .if2 .left)))
 
--- src/lib.rt:227:1
+-- src/lib.rt:191:1
 returns-10 : tie.Need-returns-10
-unfolding bodyOf ofKind kindOf find
-returns-10 c = sym (whole-is (now (c .before .before .before .before .before .before .before .args .q)) (c .before .before .before .before .before .if1 .left) k-compare (ap kindOf (c .before .before .before .match .keys7)) (leb-false (length (now (c .before .before .before .before .before .before .before .args .q))) 1 (sym (c .before .before .cut2 .ensures) ∙ c .before .if3 .left)))
+unfolding kindOf find
+returns-10 c = sym (whole-is (now (c .before .before .before .before .before .before .before .before .args .q)) (c .before .before .before .before .before .before .if1 .left) k-some (ap kindOf (c .before .before .match .keys8)) (ltb-false (length (now (c .before .before .before .before .before .before .before .before .args .q))) (recordLength (getD (now (c .before .before .before .before .before .before .before .before .args .q)) 0 0)) (sym (c .before .before .before .before .cut .ensures) ∙ c .before .before .before .if2 .left)))
 
--- src/lib.rt:227:1
+-- src/lib.rt:191:1
 returns-11 : tie.Need-returns-11
-unfolding bodyOf ofKind kindOf find
-returns-11 c = sym (cut-is (now (c .before .before .before .before .before .before .args .q)) (c .before .before .before .before .if1 .left) k-some (ap kindOf (c .before .before .match .keys8)) (leb-true (length (now (c .before .before .before .before .before .before .args .q))) 2 (sym (c .before .cut3 .ensures) ∙ c .if4 .taken)))
+unfolding kindOf find
+returns-11 c = sym (whole-is (now (c .before .before .before .before .before .before .before .before .before .before .args .q)) (c .before .before .before .before .before .before .before .before .if1 .left) k-constant (ap kindOf (c .before .before .before .before .match .keys9)) (ltb-false (length (now (c .before .before .before .before .before .before .before .before .before .before .args .q))) (recordLength (getD (now (c .before .before .before .before .before .before .before .before .before .before .args .q)) 0 0)) (sym (c .before .before .before .before .before .before .cut .ensures) ∙ c .before .before .before .before .before .if2 .left)))
 
--- src/lib.rt:227:1
+-- src/lib.rt:191:1
 returns-12 : tie.Need-returns-12
-unfolding bodyOf ofKind kindOf find
-returns-12 c = sym (whole-is (now (c .before .before .before .before .before .before .before .before .args .q)) (c .before .before .before .before .before .before .if1 .left) k-some (ap kindOf (c .before .before .before .before .match .keys8)) (leb-false (length (now (c .before .before .before .before .before .before .before .before .args .q))) 2 (sym (c .before .before .before .cut3 .ensures) ∙ c .before .before .if4 .left)))
+unfolding kindOf find
+returns-12 c = sym (whole-is (now (c .before .before .before .before .before .before .before .before .args .q)) (c .before .before .before .before .before .before .if1 .left) k-attribute (ap kindOf (c .before .before .match .keys10)) (ltb-false (length (now (c .before .before .before .before .before .before .before .before .args .q))) (recordLength (getD (now (c .before .before .before .before .before .before .before .before .args .q)) 0 0)) (sym (c .before .before .before .before .cut .ensures) ∙ c .before .before .before .if2 .left)))
 
--- src/lib.rt:227:1
+-- src/lib.rt:191:1
 returns-13 : tie.Need-returns-13
-unfolding bodyOf ofKind kindOf find
-returns-13 c = search needs
+unfolding kindOf find
+returns-13 c = sym (whole-is (now (c .before .before .before .before .before .before .before .before .before .before .args .q)) (c .before .before .before .before .before .before .before .before .if1 .left) k-aggregate (ap kindOf (c .before .before .before .before .match .keys11)) (ltb-false (length (now (c .before .before .before .before .before .before .before .before .before .before .args .q))) (recordLength (getD (now (c .before .before .before .before .before .before .before .before .before .before .args .q)) 0 0)) (sym (c .before .before .before .before .before .before .cut .ensures) ∙ c .before .before .before .before .before .if2 .left)))
+
+-- src/lib.rt:191:1
+returns-14 : tie.Need-returns-14
+unfolding kindOf find
+returns-14 c = sym (whole-is (now (c .before .before .before .before .before .before .before .before .before .args .q)) (c .before .before .before .before .before .before .before .if1 .left) k-stored (ap kindOf (c .before .before .before .match .keys12)) (ltb-false (length (now (c .before .before .before .before .before .before .before .before .before .args .q))) (recordLength (getD (now (c .before .before .before .before .before .before .before .before .before .args .q)) 0 0)) (sym (c .before .before .before .before .before .cut .ensures) ∙ c .before .before .before .before .if2 .left)))
+
+-- src/lib.rt:191:1
+returns-15 : tie.Need-returns-15
+unfolding kindOf find
+returns-15 c = sym (whole-is (now (c .before .before .before .before .before .before .before .before .before .args .q)) (c .before .before .before .before .before .before .before .if1 .left) k-workspace (ap kindOf (c .before .before .before .match .keys13)) (ltb-false (length (now (c .before .before .before .before .before .before .before .before .before .args .q))) (recordLength (getD (now (c .before .before .before .before .before .before .before .before .before .args .q)) 0 0)) (sym (c .before .before .before .before .before .cut .ensures) ∙ c .before .before .before .before .if2 .left)))
+
+-- src/lib.rt:191:1
+returns-16 : tie.Need-returns-16
+unfolding kindOf find
+returns-16 c = sym (whole-is (now (c .before .before .before .before .before .before .before .before .before .args .q)) (c .before .before .before .before .before .before .before .if1 .left) k-permit (ap kindOf (c .before .before .before .match .keys14)) (ltb-false (length (now (c .before .before .before .before .before .before .before .before .before .args .q))) (recordLength (getD (now (c .before .before .before .before .before .before .before .before .before .args .q)) 0 0)) (sym (c .before .before .before .before .before .cut .ensures) ∙ c .before .before .before .before .if2 .left)))
+
+-- src/lib.rt:191:1
+returns-17 : tie.Need-returns-17
+returns-17 c = sym (unknown-is (now (c .before .before .before .before .before .before .args .q)) (c .before .before .before .before .if1 .left) (none-of _ (c .match .rest)))
 
 pub read-spec : {M : Type 1} → statement M
 read-spec =
     tie.close
     (tie.spec
     returns
-    shared-slice-read-match
+    shared-slice-read-k
     cut-requires
+    returns-2
+    shared-slice-read-t10
     shared-slice-read-t12
     shared-slice-read-t14
-    cut-requires-2
-    shared-slice-read-t19
-    cut-requires-3
+    shared-slice-read-t16
+    shared-slice-read-t18
+    shared-slice-read-t20
+    shared-slice-read-t22
     shared-slice-read-t24
     shared-slice-read-t26
-    read-other-requires
-    returns-2
+    shared-slice-read-t28
+    shared-slice-read-t30
+    shared-slice-read-t32
+    shared-slice-read-t34
+    shared-slice-read-t36
+    shared-slice-read-t38
+    shared-slice-read-t40
+    shared-slice-read-t42
+    shared-slice-read-t44
+    shared-slice-read-t46
+    shared-slice-read-t48
+    shared-slice-read-t50
+    shared-slice-read-t52
+    shared-slice-read-t54
+    shared-slice-read-t56
     returns-3
     returns-4
     returns-5
@@ -150,4 +265,8 @@ read-spec =
     returns-10
     returns-11
     returns-12
-    returns-13)
+    returns-13
+    returns-14
+    returns-15
+    returns-16
+    returns-17)
