@@ -1,25 +1,196 @@
 // Each aggregate of a query is evaluated once: a legal one is closed, so it has one value. A memo keeps it by its variable.
 use kinds::Record;
+use numbers::Accumulator;
+use numbers::Ratio;
 ghost use mathlib.Core.Path.{_≡_};
-ghost use Prim.Native.Nat.{_≤_};
-ghost use lib.ListN.{length};
+ghost use mathlib.Core.Bool.{true, cond};
+ghost use Prim.Native.Nat.{_+_, _≤_, _<_};
+ghost use lib.IntN.{pos};
+ghost use lib.ListN.{length, getD};
 ghost use Rattle.sizes.specs.Decode.{decode, decodeT};
 ghost use Rattle.sizes.specs.Parts.{targetsAt};
-ghost use Rattle.evaluator.specs.Evaluation.{assigned, rowsIn};
+ghost use Rattle.catalogue.specs.Layout.{tuplesIn};
+ghost use Rattle.numbers.specs.Numbers.{represent, added, Small, Bounded, Accumulates};
+ghost use Rattle.evaluator.specs.Evaluation.{assigned, rowsIn, valueAt, valuesOn};
+ghost use Rattle.aggregates.specs.Taken.{bothHold, takenBy};
 ghost use Rattle.aggregates.specs.Filled.{filledC, filledT, filledTs};
+
+// Whether a level can stand in a table of branches.
+fn compiled(level: usize) -> bool
+    ensures { λ r. ⌜ (r ≡ true → (1 ≤ level) × (level ≤ 65535)) ⌝ }
+{
+    if level == 0 {
+        return false;
+    }
+    if 65535 < level {
+        return false;
+    }
+    true
+}
+
+// Whether the conjuncts hold of a table with no ranges, comparisons first.
+fn both(
+    t: &[u16],
+    xs: &[i32],
+    q: &[u8],
+    z: &[u16],
+    cb: &[u8],
+    vs: &[i32],
+    memo: &[i64],
+    env: &mut [usize],
+) -> bool
+    requires { ⌜ 256 ≤ length (now env) ⌝ }
+    ensures { λ r. ⌜ r ≡ bothHold (now (t .entry)) (now (xs .entry)) (now (q .entry)) (now (z .entry)) (now (cb .entry)) (now (vs .entry)) (now (memo .entry)) (assigned (now (vs .entry)) (now (env .entry))) ⌝ }
+    ensures { λ _. ⌜ now (env .exit) ≡ now (env .entry) ⌝ }
+{
+    if !conjuncts::holds(t, xs, 0, q, z, cb, vs, memo, env) {
+        return false;
+    }
+    conjuncts::holds(t, xs, 1, q, z, cb, vs, memo, env)
+}
+
+// What was taken, and an attribute of the row at a place where the conjuncts hold.
+fn with_row(
+    t: &[u16],
+    xs: &[i32],
+    q: &[u8],
+    z: &[u16],
+    cb: &[u8],
+    vs: &[i32],
+    memo: &[i64],
+    env: &mut [usize],
+    row: usize,
+    attribute: u8,
+    taken: Accumulator,
+) -> Accumulator
+    requires { ⌜ (256 ≤ length (now env)) × (taken .count < 65535) × Bounded taken ⌝ }
+    ensures { λ r. ⌜ r ≡ cond (bothHold (now (t .entry)) (now (xs .entry)) (now (q .entry)) (now (z .entry)) (now (cb .entry)) (now (vs .entry)) (now (memo .entry)) (assigned (now (vs .entry)) (now (env .entry)))) (added taken (getD (now (vs .entry)) (row + attribute) (pos 0))) taken ⌝ }
+    ensures { λ r. ⌜ Bounded r ⌝ }
+    ensures { λ _. ⌜ now (env .exit) ≡ now (env .entry) ⌝ }
+{
+    if !both(t, xs, q, z, cb, vs, memo, env) {
+        return taken;
+    }
+    numbers::add(taken, catalogue::cell(vs, row, attribute))
+}
+
+// The attribute of each row of the relation for which the conjuncts hold.
+fn take(
+    t: &[u16],
+    xs: &[i32],
+    q: &[u8],
+    z: &[u16],
+    cb: &[u8],
+    vs: &[i32],
+    memo: &[i64],
+    env: &mut [usize],
+    variable: u8,
+    relation: u8,
+    attribute: u8,
+) -> Accumulator
+    requires { ⌜ 256 ≤ length (now env) ⌝ }
+    ensures { λ r. ⌜ Accumulates r (takenBy (now (t .entry)) (now (xs .entry)) (now (q .entry)) (now (z .entry)) (now (cb .entry)) (now (vs .entry)) (now (memo .entry)) (now (env .entry)) variable relation attribute) ⌝ }
+    ensures { λ r. ⌜ r .count ≤ 65535 ⌝ }
+    ensures { λ _. ⌜ now (env .exit) ≡ now (env .entry) ⌝ }
+{
+    let n = catalogue::rows(cb, relation);
+    let w = catalogue::attributes(cb, relation);
+    let old = evaluator::place(env, variable);
+    let base = catalogue::base(cb, relation);
+    let mut i = probes::ahead(t, xs, 0, variable, vs, memo, env, base, w, n);
+    let mut row = base + i * w;
+    let mut taken = numbers::empty();
+    while i < n {
+        evaluator::set_place(env, variable, row);
+        taken = with_row(t, xs, q, z, cb, vs, memo, env, row, attribute, taken);
+        let s = probes::ahead(t, xs, 0, variable, vs, memo, env, row + w, w, n - i - 1);
+        row += w + s * w;
+        i += 1 + s;
+    }
+    evaluator::set_place(env, variable, old);
+    taken
+}
+
+// The attribute of each row of the relation that meets the condition that q starts with.
+fn gather(
+    q: &[u8],
+    z: &[u16],
+    level: usize,
+    cb: &[u8],
+    vs: &[i32],
+    memo: &[i64],
+    env: &mut [usize],
+    variable: u8,
+    relation: u8,
+    attribute: u8,
+) -> Accumulator
+    requires { ⌜ (256 ≤ length (now env)) × (level ≤ 65535) ⌝ }
+    ensures { λ r. ⌜ Accumulates r (valuesOn level (now (q .entry)) (now (z .entry)) (now (cb .entry)) (now (vs .entry)) (now (memo .entry)) (now (env .entry)) variable relation attribute) ⌝ }
+    ensures { λ r. ⌜ r .count ≤ 65535 ⌝ }
+    ensures { λ _. ⌜ now (env .exit) ≡ now (env .entry) ⌝ }
+{
+    let mut t = [0u16; 512];
+    let mut xs = [0i32; 128];
+    conjuncts::plan(q, z, 0, 0, level, cb, 200, memo, &mut t, &mut xs);
+    take(
+        &t,
+        &xs,
+        q,
+        z,
+        cb,
+        vs,
+        memo,
+        env,
+        variable,
+        relation,
+        attribute,
+    )
+}
+
+// The value of the term that q starts with; an aggregate's condition is compiled once for its rows.
+fn value(
+    q: &[u8],
+    z: &[u16],
+    level: usize,
+    cb: &[u8],
+    vs: &[i32],
+    memo: &[i64],
+    env: &mut [usize],
+) -> Ratio
+    requires { ⌜ 256 ≤ length (now env) ⌝ }
+    ensures { λ r. ⌜ r ≡ represent (valueAt level (now (q .entry)) (now (z .entry)) (now (cb .entry)) (now (vs .entry)) (now (memo .entry)) (now (env .entry))) ⌝ }
+    ensures { λ r. ⌜ Small r ⌝ }
+    ensures { λ _. ⌜ now (env .exit) ≡ now (env .entry) ⌝ }
+{
+    if !compiled(level) {
+        return evaluator::term(q, z, level, cb, vs, memo, env);
+    }
+    let Record::Aggregate(function, variable, relation, attribute) = kinds::read(q) else {
+        return evaluator::term(q, z, level, cb, vs, memo, env);
+    };
+    if numbers::knows(memo, variable) {
+        return numbers::recall(memo, variable);
+    }
+    let n = kinds::record_length(kinds::byte(q, 0));
+    let x = kinds::tail(q, n);
+    let y = kinds::tail_sizes(z, n);
+    let l = level - 1;
+    let taken = gather(x, y, l, cb, vs, memo, env, variable, relation, attribute);
+    numbers::finish(function, taken)
+}
 
 // The aggregates of the condition that q starts with.
 pub fn condition(
     q: &[u8],
     z: &[u16],
     level: usize,
-    catalogue: &[u8],
-    values: &[i32],
+    cb: &[u8],
+    vs: &[i32],
     env: &mut [usize],
     memo: &mut [i64],
 )
     requires { ⌜ 256 ≤ length (now env) ⌝ }
-    ensures { λ _. ⌜ now (memo .exit) ≡ filledC (decode level (now (q .entry)) (now (z .entry))) (rowsIn (now (catalogue .entry)) (now (values .entry))) (assigned (now (values .entry)) (now (env .entry))) (now (memo .entry)) ⌝ }
+    ensures { λ _. ⌜ now (memo .exit) ≡ filledC (decode level (now (q .entry)) (now (z .entry))) (rowsIn (now (cb .entry)) (now (vs .entry))) (assigned (now (vs .entry)) (now (env .entry))) (now (memo .entry)) ⌝ }
     ensures { λ _. ⌜ now (env .exit) ≡ now (env .entry) ⌝ }
 {
     if level == 0 {
@@ -32,46 +203,46 @@ pub fn condition(
     let b = a + kinds::size_at(z, a);
     match kinds::read(q) {
         Record::Not => {
-            condition(x, y, l, catalogue, values, env, memo);
+            condition(x, y, l, cb, vs, env, memo);
         }
         Record::And => {
-            condition(x, y, l, catalogue, values, env, memo);
+            condition(x, y, l, cb, vs, env, memo);
             condition(
                 kinds::tail(q, b),
                 kinds::tail_sizes(z, b),
                 l,
-                catalogue,
-                values,
+                cb,
+                vs,
                 env,
                 memo,
             );
         }
         Record::Or => {
-            condition(x, y, l, catalogue, values, env, memo);
+            condition(x, y, l, cb, vs, env, memo);
             condition(
                 kinds::tail(q, b),
                 kinds::tail_sizes(z, b),
                 l,
-                catalogue,
-                values,
+                cb,
+                vs,
                 env,
                 memo,
             );
         }
         Record::Compare(_) => {
-            term(x, y, l, catalogue, values, env, memo);
+            term(x, y, l, cb, vs, env, memo);
             term(
                 kinds::tail(q, b),
                 kinds::tail_sizes(z, b),
                 l,
-                catalogue,
-                values,
+                cb,
+                vs,
                 env,
                 memo,
             );
         }
         Record::Some(_, _) => {
-            condition(x, y, l, catalogue, values, env, memo);
+            condition(x, y, l, cb, vs, env, memo);
         }
         _ => {}
     }
@@ -82,13 +253,13 @@ fn term(
     q: &[u8],
     z: &[u16],
     level: usize,
-    catalogue: &[u8],
-    values: &[i32],
+    cb: &[u8],
+    vs: &[i32],
     env: &mut [usize],
     memo: &mut [i64],
 )
     requires { ⌜ 256 ≤ length (now env) ⌝ }
-    ensures { λ _. ⌜ now (memo .exit) ≡ filledT (decodeT level (now (q .entry)) (now (z .entry))) (rowsIn (now (catalogue .entry)) (now (values .entry))) (assigned (now (values .entry)) (now (env .entry))) (now (memo .entry)) ⌝ }
+    ensures { λ _. ⌜ now (memo .exit) ≡ filledT (decodeT level (now (q .entry)) (now (z .entry))) (rowsIn (now (cb .entry)) (now (vs .entry))) (assigned (now (vs .entry)) (now (env .entry))) (now (memo .entry)) ⌝ }
     ensures { λ _. ⌜ now (env .exit) ≡ now (env .entry) ⌝ }
 {
     if level == 0 {
@@ -102,12 +273,12 @@ fn term(
         kinds::tail(q, a),
         kinds::tail_sizes(z, a),
         level - 1,
-        catalogue,
-        values,
+        cb,
+        vs,
         env,
         memo,
     );
-    let x = evaluator::term(q, z, level, catalogue, values, memo, env);
+    let x = value(q, z, level, cb, vs, memo, env);
     numbers::remember(memo, variable, x);
 }
 
@@ -117,27 +288,27 @@ pub fn targets(
     z: &[u16],
     left: usize,
     level: usize,
-    catalogue: &[u8],
-    values: &[i32],
+    cb: &[u8],
+    vs: &[i32],
     env: &mut [usize],
     memo: &mut [i64],
 )
     requires { ⌜ 256 ≤ length (now env) ⌝ }
-    ensures { λ _. ⌜ now (memo .exit) ≡ filledTs (targetsAt left level (now (q .entry)) (now (z .entry))) (rowsIn (now (catalogue .entry)) (now (values .entry))) (assigned (now (values .entry)) (now (env .entry))) (now (memo .entry)) ⌝ }
+    ensures { λ _. ⌜ now (memo .exit) ≡ filledTs (targetsAt left level (now (q .entry)) (now (z .entry))) (rowsIn (now (cb .entry)) (now (vs .entry))) (assigned (now (vs .entry)) (now (env .entry))) (now (memo .entry)) ⌝ }
     ensures { λ _. ⌜ now (env .exit) ≡ now (env .entry) ⌝ }
 {
     if left == 0 {
         return;
     }
-    term(q, z, level, catalogue, values, env, memo);
+    term(q, z, level, cb, vs, env, memo);
     let n = kinds::size_at(z, 0);
     targets(
         kinds::tail(q, n),
         kinds::tail_sizes(z, n),
         left - 1,
         level,
-        catalogue,
-        values,
+        cb,
+        vs,
         env,
         memo,
     );

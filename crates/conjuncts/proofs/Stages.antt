@@ -1,28 +1,27 @@
 -- The stage of a condition, one RANGE record at a time.
-use Prim.Native.Nat.{ℕ, zero, suc, _+_, _-_, _≤_, _<_}
-use mathlib.Core.Bool.{Bool, true, false, _||_}
+use Prim.Native.Nat.{ℕ, zero, suc, _+_, _-_}
+use mathlib.Core.Bool.{Bool, true, false}
 use mathlib.Core.List.{List, [], _∷_}
-use mathlib.Core.Option.{Option, none, some}
+use mathlib.Core.Option.{none, some}
 use mathlib.Core.Path.{_≡_, refl, sym, ap, _∙_, fun-ext, subst}
 use native.Mathlib.Omega.{arith}
 use native.Mathlib.Numerals.{sub-one, add-one}
 use lib.Dec.{eqb}
-use lib.IntN.{ℤ}
 use lib.ListN.{length, getD, drop, set}
-use lib.Seq.{getD-set-same, getD-set-other}
+use lib.Seq.{getD-set-other}
 use borrow.Author.Tests.{eqb-true, eqb-false}
 use Rattle.model.specs.Lists.{any, contains}
 use Rattle.model.specs.Syntax.{Condition, Binding, variables}
-use Rattle.model.specs.Meaning.{Assignment, Rows}
+use Rattle.model.specs.Meaning.{Assignment}
 use Rattle.model.specs.Catalogue.{Shape}
-use Rattle.model.specs.Scope.{Scope, inScope}
-use Rattle.model.proofs.Tests.{clash, or-no, or-inv}
+use Rattle.model.specs.Scope.{inScope}
+use Rattle.model.proofs.Tests.{clash, or-inv}
 use Rattle.model.proofs.Scoping.{Alike, in-fact}
 use Rattle.kinds.specs.Tables.{recordLength}
-use Rattle.scope.specs.Reach.{scopeOf, reached}
+use Rattle.scope.specs.Reach.{scopeOf}
 use Rattle.evaluator.specs.Recalled.{holdsBy}
 use Rattle.sizes.specs.Parts.{rangesAt}
-use Rattle.conjuncts.specs.Tests.{Extends}
+use Rattle.conjuncts.specs.Stages.{Extends}
 use Rattle.conjuncts.specs.Filling.{Stable, Unreached}
 use Rattle.conjuncts.proofs.Alike.{alike-holds}
 
@@ -35,6 +34,16 @@ length-ranges (suc n) q = ap suc (length-ranges n (drop (recordLength 1) q))
 pub none-stable : (c : Condition) (left : ℕ) (q : List ℕ) → left ≡ 0 → Stable c 0 (rangesAt left q)
 unfolding rangesAt contains any
 none-stable c left q h m R e e′ k = ap (holdsBy m c R) (fun-ext λ w. sym (k w (rw h)))
+
+-- all ranges are bound
+none-after : (n : ℕ) (q : List ℕ) → drop n (rangesAt n q) ≡ []
+unfolding rangesAt
+none-after zero q = refl
+none-after (suc n) q = none-after n (drop (recordLength 1) q)
+
+pub all-stable : (c : Condition) (n : ℕ) (q : List ℕ) → Stable c n (rangesAt n q)
+unfolding contains any
+all-stable c n q m R e e′ k = ap (holdsBy m c R) (fun-ext λ w. sym (k w (ap (λ (bs : List Binding). contains w (variables bs)) (none-after n q))))
 
 pub none-reached : (s : List ℕ) (left : ℕ) (q : List ℕ) → left ≡ 0 → Unreached (rangesAt left q) s
 unfolding rangesAt contains any

@@ -34,13 +34,13 @@ pub fn condition(
     q: &[u8],
     z: &[u16],
     level: usize,
-    catalogue: &[u8],
-    values: &[i32],
+    cb: &[u8],
+    vs: &[i32],
     memo: &[i64],
     env: &mut [usize],
 ) -> bool
     requires { ⌜ 256 ≤ length (now env) ⌝ }
-    ensures { λ r. ⌜ r ≡ holdsAt level (now (q .entry)) (now (z .entry)) (now (catalogue .entry)) (now (values .entry)) (now (memo .entry)) (now (env .entry)) ⌝ }
+    ensures { λ r. ⌜ r ≡ holdsAt level (now (q .entry)) (now (z .entry)) (now (cb .entry)) (now (vs .entry)) (now (memo .entry)) (now (env .entry)) ⌝ }
     ensures { λ _. ⌜ now (env .exit) ≡ now (env .entry) ⌝ }
 {
     if level == 0 {
@@ -55,8 +55,8 @@ pub fn condition(
                 kinds::tail(q, a),
                 kinds::tail_sizes(z, a),
                 l,
-                catalogue,
-                values,
+                cb,
+                vs,
                 memo,
                 env,
             )
@@ -66,8 +66,8 @@ pub fn condition(
                 kinds::tail(q, a),
                 kinds::tail_sizes(z, a),
                 l,
-                catalogue,
-                values,
+                cb,
+                vs,
                 memo,
                 env,
             ) {
@@ -78,8 +78,8 @@ pub fn condition(
                 kinds::tail(q, b),
                 kinds::tail_sizes(z, b),
                 l,
-                catalogue,
-                values,
+                cb,
+                vs,
                 memo,
                 env,
             )
@@ -89,8 +89,8 @@ pub fn condition(
                 kinds::tail(q, a),
                 kinds::tail_sizes(z, a),
                 l,
-                catalogue,
-                values,
+                cb,
+                vs,
                 memo,
                 env,
             ) {
@@ -101,8 +101,8 @@ pub fn condition(
                 kinds::tail(q, b),
                 kinds::tail_sizes(z, b),
                 l,
-                catalogue,
-                values,
+                cb,
+                vs,
                 memo,
                 env,
             )
@@ -112,8 +112,8 @@ pub fn condition(
                 kinds::tail(q, a),
                 kinds::tail_sizes(z, a),
                 l,
-                catalogue,
-                values,
+                cb,
+                vs,
                 memo,
                 env,
             );
@@ -122,8 +122,8 @@ pub fn condition(
                 kinds::tail(q, b),
                 kinds::tail_sizes(z, b),
                 l,
-                catalogue,
-                values,
+                cb,
+                vs,
                 memo,
                 env,
             );
@@ -132,7 +132,7 @@ pub fn condition(
         Record::Some(variable, relation) => {
             let x = kinds::tail(q, a);
             let y = kinds::tail_sizes(z, a);
-            some_row(x, y, l, catalogue, values, memo, env, variable, relation)
+            some_row(x, y, l, cb, vs, memo, env, variable, relation)
         }
         _ => false,
     }
@@ -143,13 +143,13 @@ pub fn term(
     q: &[u8],
     z: &[u16],
     level: usize,
-    catalogue: &[u8],
-    values: &[i32],
+    cb: &[u8],
+    vs: &[i32],
     memo: &[i64],
     env: &mut [usize],
 ) -> Ratio
     requires { ⌜ 256 ≤ length (now env) ⌝ }
-    ensures { λ r. ⌜ r ≡ represent (valueAt level (now (q .entry)) (now (z .entry)) (now (catalogue .entry)) (now (values .entry)) (now (memo .entry)) (now (env .entry))) ⌝ }
+    ensures { λ r. ⌜ r ≡ represent (valueAt level (now (q .entry)) (now (z .entry)) (now (cb .entry)) (now (vs .entry)) (now (memo .entry)) (now (env .entry))) ⌝ }
     ensures { λ r. ⌜ Small r ⌝ }
     ensures { λ _. ⌜ now (env .exit) ≡ now (env .entry) ⌝ }
 {
@@ -162,7 +162,7 @@ pub fn term(
         Record::Constant(a, b, c, d) => numbers::whole(kinds::constant(a, b, c, d)),
         Record::Attribute(variable, attribute) => {
             let row = place(env, variable);
-            numbers::whole(catalogue::cell(values, row, attribute))
+            numbers::whole(catalogue::cell(vs, row, attribute))
         }
         Record::Aggregate(function, variable, relation, attribute) => {
             if numbers::knows(memo, variable) {
@@ -170,18 +170,7 @@ pub fn term(
             }
             let x = kinds::tail(q, at);
             let y = kinds::tail_sizes(z, at);
-            let taken = gather(
-                x,
-                y,
-                l,
-                catalogue,
-                values,
-                memo,
-                env,
-                variable,
-                relation,
-                attribute,
-            );
+            let taken = gather(x, y, l, cb, vs, memo, env, variable, relation, attribute);
             numbers::finish(function, taken)
         }
         _ => numbers::whole(0),
@@ -193,25 +182,25 @@ fn some_row(
     q: &[u8],
     z: &[u16],
     level: usize,
-    catalogue: &[u8],
-    values: &[i32],
+    cb: &[u8],
+    vs: &[i32],
     memo: &[i64],
     env: &mut [usize],
     variable: u8,
     relation: u8,
 ) -> bool
     requires { ⌜ 256 ≤ length (now env) ⌝ }
-    ensures { λ r. ⌜ r ≡ any (holdsOn level (now (q .entry)) (now (z .entry)) (now (catalogue .entry)) (now (values .entry)) (now (memo .entry)) (now (env .entry)) variable) (tuplesIn (now (catalogue .entry)) (now (values .entry)) relation) ⌝ }
+    ensures { λ r. ⌜ r ≡ any (holdsOn level (now (q .entry)) (now (z .entry)) (now (cb .entry)) (now (vs .entry)) (now (memo .entry)) (now (env .entry)) variable) (tuplesIn (now (cb .entry)) (now (vs .entry)) relation) ⌝ }
     ensures { λ _. ⌜ now (env .exit) ≡ now (env .entry) ⌝ }
 {
-    let n = catalogue::rows(catalogue, relation);
-    let w = catalogue::attributes(catalogue, relation);
+    let n = catalogue::rows(cb, relation);
+    let w = catalogue::attributes(cb, relation);
     let old = place(env, variable);
-    let mut row = catalogue::base(catalogue, relation);
+    let mut row = catalogue::base(cb, relation);
     let mut i = 0;
     while i < n {
         set_place(env, variable, row);
-        if condition(q, z, level, catalogue, values, memo, env) {
+        if condition(q, z, level, cb, vs, memo, env) {
             set_place(env, variable, old);
             return true;
         }
@@ -227,8 +216,8 @@ fn gather(
     q: &[u8],
     z: &[u16],
     level: usize,
-    catalogue: &[u8],
-    values: &[i32],
+    cb: &[u8],
+    vs: &[i32],
     memo: &[i64],
     env: &mut [usize],
     variable: u8,
@@ -236,20 +225,20 @@ fn gather(
     attribute: u8,
 ) -> Accumulator
     requires { ⌜ 256 ≤ length (now env) ⌝ }
-    ensures { λ r. ⌜ Accumulates r (valuesOn level (now (q .entry)) (now (z .entry)) (now (catalogue .entry)) (now (values .entry)) (now (memo .entry)) (now (env .entry)) variable relation attribute) ⌝ }
+    ensures { λ r. ⌜ Accumulates r (valuesOn level (now (q .entry)) (now (z .entry)) (now (cb .entry)) (now (vs .entry)) (now (memo .entry)) (now (env .entry)) variable relation attribute) ⌝ }
     ensures { λ r. ⌜ r .count ≤ 65535 ⌝ }
     ensures { λ _. ⌜ now (env .exit) ≡ now (env .entry) ⌝ }
 {
-    let n = catalogue::rows(catalogue, relation);
-    let w = catalogue::attributes(catalogue, relation);
+    let n = catalogue::rows(cb, relation);
+    let w = catalogue::attributes(cb, relation);
     let old = place(env, variable);
     let mut taken = numbers::empty();
-    let mut row = catalogue::base(catalogue, relation);
+    let mut row = catalogue::base(cb, relation);
     let mut i = 0;
     while i < n {
         set_place(env, variable, row);
-        if condition(q, z, level, catalogue, values, memo, env) {
-            taken = numbers::add(taken, catalogue::cell(values, row, attribute));
+        if condition(q, z, level, cb, vs, memo, env) {
+            taken = numbers::add(taken, catalogue::cell(vs, row, attribute));
         }
         row += w;
         i += 1;

@@ -83,15 +83,23 @@ pub fn ordered(operator: usize, a: i64, b: i64) -> bool
 }
 
 // Compares exactly, by cross products.
-pub fn compare(operator: u8, x: Ratio, y: Ratio) -> bool
+pub fn compared(operator: usize, x: Ratio, y: Ratio) -> bool
     requires { ⌜ N.Small x × N.Small y ⌝ }
     ensures { λ r. ⌜ r ≡ M.compare operator (N.ratioOf x) (N.ratioOf y) ⌝ }
 {
     ordered(
-        wide_byte(operator),
+        operator,
         product(x.numerator, y.denominator),
         product(y.numerator, x.denominator),
     )
+}
+
+// The same with the operator's byte.
+pub fn compare(operator: u8, x: Ratio, y: Ratio) -> bool
+    requires { ⌜ N.Small x × N.Small y ⌝ }
+    ensures { λ r. ⌜ r ≡ M.compare operator (N.ratioOf x) (N.ratioOf y) ⌝ }
+{
+    compared(wide_byte(operator), x, y)
 }
 
 fn quotient(a: i64, b: i64) -> i64

@@ -1,24 +1,21 @@
 -- One step of each function as an equation over plain variables.
-use mathlib.Core.Path.{_≡_, refl, sym, ap, ap₂, _∙_, subst, fun-ext}
-use mathlib.Core.Bool.{Bool, true, false, not, cond, _&&_}
+use mathlib.Core.Path.{_≡_, refl, sym, ap, ap₂, _∙_}
+use mathlib.Core.Bool.{Bool, true, false, not}
 use mathlib.Core.List.{List, [], _∷_, _++_, map, map-append, append-nil}
 use Prim.Native.Nat.{ℕ, zero, suc, _+_, _-_, _*_, _≤_, _<_}
-use native.Mathlib.Nat.{zero-add, add-zero, add-assoc, add-mul, mul-le-mul}
+use native.Mathlib.Nat.{zero-add, add-zero, add-assoc}
 use native.Mathlib.Omega.{arith}
-use lib.Dec.{eqb}
-use borrow.Author.Tests.{eqb-false}
 use native.Mathlib.Numerals.{sub-one, add-one}
 use lib.IntN.{ℤ}
 use lib.ListN.{length, getD, set, drop, take, length-map}
-use lib.Seq.{sets, sets-eq, take-at, getD-set-other}
+use lib.Seq.{sets, sets-eq, take-at}
 use Rattle.model.specs.Lists.{update, concatMap}
-use Rattle.model.specs.Syntax.{Term, Binding}
+use Rattle.model.specs.Syntax.{Binding}
 use Rattle.model.specs.Meaning.{Tuple, Assignment, Rows, cell}
 use Rattle.model.proofs.Tests.{not-yes, not-no}
 use Rattle.numbers.specs.Numbers.{represent, ratioOf}
 use Rattle.numbers.specs.declared.Ratio.{Ratio}
 use Rattle.kinds.specs.Tables.{recordLength}
-use Rattle.sizes.specs.Decode.{decodeT}
 use Rattle.evaluator.specs.Recalled.{valueBy}
 use Rattle.evaluator.specs.Evaluation.{assigned, rowsIn, valueAt}
 use Rattle.evaluator.proofs.Steps.{assigned-set, next-row}
@@ -27,7 +24,8 @@ use Rattle.catalogue.proofs.Loops.{concat-to}
 use Rattle.rows.specs.Buffer.{Buffer, added, addedAll}
 use Rattle.rows.proofs.Laws.{added-append, full-stays}
 use Rattle.sizes.specs.Parts.{rangesAt, targetsAt}
-use Rattle.conjuncts.specs.Tests.{stageHolds}
+use Rattle.conjuncts.specs.Stages.{stageHolds}
+use Rattle.probes.proofs.Places.{row-on, places-alike}
 use Rattle.odometer.specs.declared.Plan.{Plan}
 use Rattle.odometer.specs.Staged.{stagedFrom, depthHolds}
 use Rattle.odometer.specs.Plan.{cellsBy, rowBy, rowsFrom, rowsBelow}
@@ -66,14 +64,14 @@ pub write-row : (p : Plan) (cb : List ℕ) (vs m : List ℤ) (e q z : List ℕ) 
 write-row p cb vs m e q z s u v row row₀ r eu ev er hl e′ =
     e′ ∙ ap (added s) (ap (take (p .columns)) (er ∙ rw (eu, ev)) ∙ written (p .columns) row₀ (rowBy p q z cb vs m (assigned vs e)) (length-row (p .columns) (p .level) (drop (p .targets) q) (drop (p .targets) z) m (rowsIn cb vs) (assigned vs e)) hl)
 
-module _ (t : List ℕ) (xs : List ℤ) (q z cb : List ℕ) (vs m : List ℤ) (e : List ℕ) (n d : ℕ) (b : Bool) (eb : b ≡ stageHolds t xs q z cb vs m n (2 * d) (assigned vs e)) where
-  pub due-no : not b ≡ true → false ≡ depthHolds t xs q z cb vs m n d (assigned vs e)
+module _ (t : List ℕ) (xs : List ℤ) (q z cb : List ℕ) (vs m : List ℤ) (e : List ℕ) (d : ℕ) (b : Bool) (eb : b ≡ stageHolds t xs q z cb vs m (2 * d) (assigned vs e)) where
+  pub due-no : not b ≡ true → false ≡ depthHolds t xs q z cb vs m d (assigned vs e)
   unfolding depthHolds
   due-no h = sym (rw (sym eb ∙ not-yes b h))
 
-  pub due-yes : (r : Bool) (e₁ : List ℕ) → not b ≡ false → e₁ ≡ e → r ≡ stageHolds t xs q z cb vs m n (2 * d + 1) (assigned vs e₁) → r ≡ depthHolds t xs q z cb vs m n d (assigned vs e)
+  pub due-yes : (r : Bool) (e₁ : List ℕ) → not b ≡ false → e₁ ≡ e → r ≡ stageHolds t xs q z cb vs m (2 * d + 1) (assigned vs e₁) → r ≡ depthHolds t xs q z cb vs m d (assigned vs e)
   unfolding depthHolds
-  due-yes r e₁ h ee er = er ∙ ap (λ (x : List ℕ). stageHolds t xs q z cb vs m n (2 * d + 1) (assigned vs x)) ee ∙ sym (rw (sym eb ∙ not-no b h))
+  due-yes r e₁ h ee er = er ∙ ap (λ (x : List ℕ). stageHolds t xs q z cb vs m (2 * d + 1) (assigned vs x)) ee ∙ sym (rw (sym eb ∙ not-no b h))
 
 staged-no : (T : ℕ → Assignment → Bool) (d : ℕ) (bs : List Binding) (R : Rows) (e : Assignment) → T d e ≡ false → stagedFrom T d bs R e ≡ []
 unfolding stagedFrom
@@ -84,10 +82,10 @@ module _ (p : Plan) (t : List ℕ) (xs : List ℤ) (q z cb : List ℕ) (vs m : L
   pub run-full : s .full ≡ true → s ≡ addedAll s (rowsFrom p t xs q z cb vs m ranges (assigned vs e))
   run-full h = sym (full-stays s (rowsFrom p t xs q z cb vs m ranges (assigned vs e)) h)
 
-  module _ (b : Bool) (eb : b ≡ depthHolds t xs q z cb vs m (p .tests) (p .depth) (assigned vs e)) where
+  module _ (b : Bool) (eb : b ≡ depthHolds t xs q z cb vs m (p .depth) (assigned vs e)) where
     pub run-no : not b ≡ true → s ≡ addedAll s (rowsFrom p t xs q z cb vs m ranges (assigned vs e))
     unfolding rowsFrom addedAll
-    run-no h = sym (ap (λ (l : List Assignment). addedAll s (map (rowBy p q z cb vs m) l)) (staged-no (depthHolds t xs q z cb vs m (p .tests)) (p .depth) (rangesAt (p .left) ranges) (rowsIn cb vs) (assigned vs e) (sym eb ∙ not-yes b h)))
+    run-no h = sym (ap (λ (l : List Assignment). addedAll s (map (rowBy p q z cb vs m) l)) (staged-no (depthHolds t xs q z cb vs m) (p .depth) (rangesAt (p .left) ranges) (rowsIn cb vs) (assigned vs e) (sym eb ∙ not-yes b h)))
 
     pub run-row : (r : Buffer) (e₁ : List ℕ) → not b ≡ false → p .left ≡ 0 → e₁ ≡ e → r ≡ added s (rowBy p q z cb vs m (assigned vs e₁)) → r ≡ addedAll s (rowsFrom p t xs q z cb vs m ranges (assigned vs e))
     unfolding rowsFrom addedAll stagedFrom rangesAt
@@ -97,14 +95,14 @@ module _ (p : Plan) (t : List ℕ) (xs : List ℤ) (q z cb : List ℕ) (vs m : L
     unfolding rowsFrom rowsBelow stagedFrom rangesAt
     run-rows r e₁ h hl ee er = er ∙ ap (λ (x : List ℕ). addedAll s (rowsBelow p t xs q z cb vs m ranges (assigned vs x))) ee ∙ ap (λ (l : List Assignment). addedAll s (map (rowBy p q z cb vs m) l)) (go (p .left) hl)
       where
-        go : (k : ℕ) → (k ≡ 0 → ⊥) → concatMap (λ x. stagedFrom (depthHolds t xs q z cb vs m (p .tests)) (suc (p .depth)) (rangesAt (k - 1) (drop (recordLength 1) ranges)) (rowsIn cb vs) (update (assigned vs e) (getD ranges 1 0) x)) (tuplesIn cb vs (getD ranges 2 0))
-            ≡ stagedFrom (depthHolds t xs q z cb vs m (p .tests)) (p .depth) (rangesAt k ranges) (rowsIn cb vs) (assigned vs e)
+        go : (k : ℕ) → (k ≡ 0 → ⊥) → concatMap (λ x. stagedFrom (depthHolds t xs q z cb vs m) (suc (p .depth)) (rangesAt (k - 1) (drop (recordLength 1) ranges)) (rowsIn cb vs) (update (assigned vs e) (getD ranges 1 0) x)) (tuplesIn cb vs (getD ranges 2 0))
+            ≡ stagedFrom (depthHolds t xs q z cb vs m) (p .depth) (rangesAt k ranges) (rowsIn cb vs) (assigned vs e)
         go zero i = absurd (i refl)
         go (suc k) i = rw (sub-one, sym eb ∙ not-no b h)
 
 -- the rows of the first i rows of a range variable
 abbrev pub passed : Plan → List ℕ → List ℤ → List ℕ → List ℕ → List ℕ → List ℤ → List ℤ → List ℕ → ℕ → List ℕ → ℕ → ℕ → ℕ → List (List ℤ)
-passed p t xs q z cb vs m e v rest b w i = map (rowBy p q z cb vs m) (concatMap (λ x. stagedFrom (depthHolds t xs q z cb vs m (p .tests)) (p .depth) (rangesAt (p .left) rest) (rowsIn cb vs) (update (assigned vs e) v x)) (map (tupleAt vs) (offsets b w i)))
+passed p t xs q z cb vs m e v rest b w i = map (rowBy p q z cb vs m) (concatMap (λ x. stagedFrom (depthHolds t xs q z cb vs m) (p .depth) (rangesAt (p .left) rest) (rowsIn cb vs) (update (assigned vs e) v x)) (map (tupleAt vs) (offsets b w i)))
 
 module _ (p : Plan) (t : List ℕ) (xs : List ℤ) (q z cb : List ℕ) (vs m : List ℤ) (e : List ℕ) (v : ℕ) (rest : List ℕ) (b w : ℕ) (s : Buffer) where
   pub each-start : s ≡ addedAll s (passed p t xs q z cb vs m e v rest b w 0)
@@ -116,7 +114,7 @@ module _ (p : Plan) (t : List ℕ) (xs : List ℤ) (q z cb : List ℕ) (vs m : L
       → r ≡ addedAll s (passed p t xs q z cb vs m e v rest b w (i + 1))
   unfolding rowsFrom
   each-next i row c r y ec ei hv ey er =
-      let g : Tuple → List Assignment = λ x. stagedFrom (depthHolds t xs q z cb vs m (p .tests)) (p .depth) (rangesAt (p .left) rest) (rowsIn cb vs) (update (assigned vs e) v x) in
+      let g : Tuple → List Assignment = λ x. stagedFrom (depthHolds t xs q z cb vs m) (p .depth) (rangesAt (p .left) rest) (rowsIn cb vs) (update (assigned vs e) v x) in
       let n = ap (λ (u : List ℕ). assigned vs u) ey ∙ assigned-set vs e v row hv ∙ ap (λ (k : ℕ). update (assigned vs e) v (tupleAt vs k)) ei in
       er
       ∙ ap₂ (λ (c : Buffer) (a : Assignment). addedAll c (rowsFrom p t xs q z cb vs m rest a)) ec n
@@ -125,7 +123,7 @@ module _ (p : Plan) (t : List ℕ) (xs : List ℤ) (q z cb : List ℕ) (vs m : L
 
 -- the inner plan is the outer one with one range more bound
 abbrev pub inner : Plan → Plan
-inner p = record { targets = p .targets; columns = p .columns; level = p .level; tests = p .tests; left = p .left - 1; depth = p .depth + 1 }
+inner p = record { targets = p .targets; columns = p .columns; level = p .level; left = p .left - 1; depth = p .depth + 1 }
 
 pub each-all : (o p : Plan) (t : List ℕ) (xs : List ℤ) (q z cb : List ℕ) (vs m : List ℤ) (e : List ℕ) (v : ℕ) (rest : List ℕ) (b w : ℕ) (s : Buffer) (ranges : List ℕ) (r n i k : ℕ) (c : Buffer)
     → p ≡ inner o → v ≡ getD ranges 1 0 → r ≡ getD ranges 2 0 → k ≡ recordLength 1 → rest ≡ drop k ranges → n ≡ rowsOf cb r → w ≡ attributesOf cb r → b ≡ baseOf cb r → i ≡ n → c ≡ addedAll s (passed p t xs q z cb vs m e v rest b w i)
@@ -134,30 +132,18 @@ unfolding rowsBelow tuplesIn
 each-all o p t xs q z cb vs m e v rest b w s ranges r n i k c ep ev er ek erest en ew eb ei ec =
     ec ∙ ap (λ (u : Plan). addedAll s (passed u t xs q z cb vs m e v rest b w i)) ep ∙ rw (ei, en, ew, eb, erest, ek, ev, er, add-one)
 
--- places: rows are w values apart
-pub row-on : (b w i j : ℕ) → b + i * w + j * w ≡ b + (i + j) * w
-row-on b w i j = add-assoc b (i * w) (j * w) ∙ ap (λ (k : ℕ). b + k) (sym (add-mul i j w))
-
--- the variable's own place does not matter where it gets a tuple
-places-alike : (vs : List ℤ) (d e : List ℕ) (v old : ℕ) (x : Tuple) → set d v old ≡ e → update (assigned vs d) v x ≡ update (assigned vs e) v x
-places-alike vs d e v old x h = fun-ext λ w. go w (eqb w v) refl
-  where
-    go : (w : ℕ) (b : Bool) → eqb w v ≡ b → update (assigned vs d) v x w ≡ update (assigned vs e) v x w
-    go w true k = rw k
-    go w false k = rw k (ap (tupleAt vs) (sym (getD-set-other d v w old (length vs) (eqb-false w v k)) ∙ ap (λ (u : List ℕ). getD u w (length vs)) h))
-
 module _ (p : Plan) (t : List ℕ) (xs : List ℤ) (q z cb : List ℕ) (vs m : List ℤ) (e : List ℕ) (v : ℕ) (rest : List ℕ) (b w : ℕ) where
-  -- a row that fails a test gives nothing
-  row-none : (x : Tuple) → stageHolds t xs q z cb vs m (p .tests) (2 * p .depth) (update (assigned vs e) v x) ≡ false → stagedFrom (depthHolds t xs q z cb vs m (p .tests)) (p .depth) (rangesAt (p .left) rest) (rowsIn cb vs) (update (assigned vs e) v x) ≡ []
+  -- a row that fails a conjunct gives nothing
+  row-none : (x : Tuple) → stageHolds t xs q z cb vs m (2 * p .depth) (update (assigned vs e) v x) ≡ false → stagedFrom (depthHolds t xs q z cb vs m) (p .depth) (rangesAt (p .left) rest) (rowsIn cb vs) (update (assigned vs e) v x) ≡ []
   unfolding depthHolds
-  row-none x h = staged-no (depthHolds t xs q z cb vs m (p .tests)) (p .depth) (rangesAt (p .left) rest) (rowsIn cb vs) (update (assigned vs e) v x) (rw h)
+  row-none x h = staged-no (depthHolds t xs q z cb vs m) (p .depth) (rangesAt (p .left) rest) (rowsIn cb vs) (update (assigned vs e) v x) (rw h)
 
-  none-here : (i : ℕ) → stageHolds t xs q z cb vs m (p .tests) (2 * p .depth) (update (assigned vs e) v (tupleAt vs (b + i * w))) ≡ false → passed p t xs q z cb vs m e v rest b w (i + 1) ≡ passed p t xs q z cb vs m e v rest b w i
+  none-here : (i : ℕ) → stageHolds t xs q z cb vs m (2 * p .depth) (update (assigned vs e) v (tupleAt vs (b + i * w))) ≡ false → passed p t xs q z cb vs m e v rest b w (i + 1) ≡ passed p t xs q z cb vs m e v rest b w i
   none-here i h =
-      let g : Tuple → List Assignment = λ x. stagedFrom (depthHolds t xs q z cb vs m (p .tests)) (p .depth) (rangesAt (p .left) rest) (rowsIn cb vs) (update (assigned vs e) v x) in
+      let g : Tuple → List Assignment = λ x. stagedFrom (depthHolds t xs q z cb vs m) (p .depth) (rangesAt (p .left) rest) (rowsIn cb vs) (update (assigned vs e) v x) in
       ap (map (rowBy p q z cb vs m)) (concat-to g vs b w i ∙ ap (λ (l : List Assignment). concatMap g (map (tupleAt vs) (offsets b w i)) ++ l) (row-none (tupleAt vs (b + i * w)) h) ∙ append-nil (concatMap g (map (tupleAt vs) (offsets b w i))))
 
-  none-there : (i s : ℕ) → ((j : ℕ) → j < s → stageHolds t xs q z cb vs m (p .tests) (2 * p .depth) (update (assigned vs e) v (tupleAt vs (b + (i + j) * w))) ≡ false) → passed p t xs q z cb vs m e v rest b w (i + s) ≡ passed p t xs q z cb vs m e v rest b w i
+  none-there : (i s : ℕ) → ((j : ℕ) → j < s → stageHolds t xs q z cb vs m (2 * p .depth) (update (assigned vs e) v (tupleAt vs (b + (i + j) * w))) ≡ false) → passed p t xs q z cb vs m e v rest b w (i + s) ≡ passed p t xs q z cb vs m e v rest b w i
   none-there i zero h = ap (λ (k : ℕ). passed p t xs q z cb vs m e v rest b w k) (add-zero i)
   none-there i (suc s) h =
       ap (λ (k : ℕ). passed p t xs q z cb vs m e v rest b w k) (rows-more i s) ∙ none-here (i + s) (h s (omega arith)) ∙ none-there i s (λ j l. h j (omega arith))
@@ -166,59 +152,26 @@ module _ (p : Plan) (t : List ℕ) (xs : List ℤ) (q z cb : List ℕ) (vs m : L
       rows-more i s = omega arith
 
   -- the rows that were passed over from row r on, which is row i
-  pub each-skip : (d : List ℕ) (old i s r a k : ℕ) (c u : Buffer) → set d v old ≡ e → r ≡ b + i * w → a ≡ p .tests → k ≡ 2 * p .depth
-      → ((j : ℕ) → j < s → stageHolds t xs q z cb vs m a k (update (assigned vs d) v (tupleAt vs (r + j * w))) ≡ false)
+  pub each-skip : (d : List ℕ) (old i s r : ℕ) (c u : Buffer) → set d v old ≡ e → r ≡ b + i * w
+      → ((j : ℕ) → j < s → stageHolds t xs q z cb vs m (2 * p .depth) (update (assigned vs d) v (tupleAt vs (r + j * w))) ≡ false)
       → c ≡ addedAll u (passed p t xs q z cb vs m e v rest b w i) → c ≡ addedAll u (passed p t xs q z cb vs m e v rest b w (i + s))
-  each-skip d old i s r a k c u hd hr ha hk h ec =
+  each-skip d old i s r c u hd hr h ec =
       ec ∙ ap (addedAll u) (sym (none-there i s λ j l.
-      ap₂ (λ (n l : ℕ). stageHolds t xs q z cb vs m n l (update (assigned vs e) v (tupleAt vs (b + (i + j) * w)))) (sym ha) (sym hk)
-      ∙ ap (stageHolds t xs q z cb vs m a k) (sym (places-alike vs d e v old (tupleAt vs (b + (i + j) * w)) hd))
-      ∙ ap (λ (o : ℕ). stageHolds t xs q z cb vs m a k (update (assigned vs d) v (tupleAt vs o))) (sym (ap (λ (n : ℕ). n + j * w) hr ∙ row-on b w i j))
+      ap (stageHolds t xs q z cb vs m (2 * p .depth)) (sym (places-alike vs d e v old (tupleAt vs (b + (i + j) * w)) hd))
+      ∙ ap (λ (o : ℕ). stageHolds t xs q z cb vs m (2 * p .depth) (update (assigned vs d) v (tupleAt vs o))) (sym (ap (λ (n : ℕ). n + j * w) hr ∙ row-on b w i j))
       ∙ h j l))
-
-few : (i n : ℕ) → i ≤ n → n ≤ 65535 → i ≤ 65535
-few i n l m = omega arith
-
--- places fit
-pub places-fit : (b w i n r : ℕ) → b ≤ 16711425 * r → r < 256 → i ≤ n → n ≤ 65535 → w ≤ 255 → b + i * w < 9223372036854775808
-places-fit b w i n r h k l m o = let x : i * w ≤ 65535 * 255 = mul-le-mul (few i n l m) o in omega arith
-
-pub steps-fit : (w s n : ℕ) → s ≤ n → n ≤ 65535 → w ≤ 255 → s * w ≤ 16711425
-steps-fit w s n h k l = let x : s * w ≤ 65535 * 255 = mul-le-mul (few s n h k) l in omega arith
-
--- the rows from the next on
-pub rest-fit : (b w i n r row : ℕ) → row ≡ b + i * w → i < n → b ≤ 16711425 * r → r < 256 → n ≤ 65535 → w ≤ 255 → row + w + (n - i - 1) * w < 18446744073709551616
-rest-fit b w i n r row e h k l m o =
-    let x : (n - i - 1) * w ≤ 65535 * 255 = mul-le-mul (lt n i m) o in
-    let y = places-fit b w i n r k l (le i n h) m o in
-    omega arith
-  where
-    lt : (n i : ℕ) → n ≤ 65535 → n - i - 1 ≤ 65535
-    lt n i m = omega arith
-
-    le : (i n : ℕ) → i < n → i ≤ n
-    le i n h = omega arith
-
-pub row-next : (b w i s row : ℕ) → row ≡ b + i * w → row + (w + s * w) ≡ b + (i + (1 + s)) * w
-row-next b w i s row e = ap (λ (k : ℕ). k + (w + s * w)) e ∙ add-assoc b (i * w) (w + s * w) ∙ ap (λ (k : ℕ). b + k) (ap (λ (k : ℕ). i * w + k) (one-more w s) ∙ sym (add-mul i (1 + s) w))
-  where
-    one-more : (w s : ℕ) → w + s * w ≡ (1 + s) * w
-    one-more w s = sym (add-mul 1 s w ∙ ap (λ (k : ℕ). k + s * w) (one-times w))
-      where
-        one-times : (w : ℕ) → 1 * w ≡ w
-        one-times w = omega arith
 
 -- the rows that are passed over before the first
 pub each-first : (p : Plan) (t : List ℕ) (xs : List ℤ) (q z cb : List ℕ) (vs m : List ℤ) (e : List ℕ) (v : ℕ) (rest : List ℕ) (b w old s : ℕ) (u : Buffer) → set e v old ≡ e
-    → ((j : ℕ) → j < s → stageHolds t xs q z cb vs m (p .tests) (2 * p .depth) (update (assigned vs e) v (tupleAt vs (b + j * w))) ≡ false) → u ≡ addedAll u (passed p t xs q z cb vs m e v rest b w s)
+    → ((j : ℕ) → j < s → stageHolds t xs q z cb vs m (2 * p .depth) (update (assigned vs e) v (tupleAt vs (b + j * w))) ≡ false) → u ≡ addedAll u (passed p t xs q z cb vs m e v rest b w s)
 each-first p t xs q z cb vs m e v rest b w old s u hd h =
-    each-skip p t xs q z cb vs m e v rest b w e old 0 s b (p .tests) (2 * p .depth) u u hd (omega arith) refl refl h (each-start p t xs q z cb vs m e v rest b w u)
+    each-skip p t xs q z cb vs m e v rest b w e old 0 s b u u hd (omega arith) h (each-start p t xs q z cb vs m e v rest b w u)
     ∙ ap (λ (k : ℕ). addedAll u (passed p t xs q z cb vs m e v rest b w k)) (zero-add s)
 
 -- those that are passed over after row i
 pub each-onward : (p : Plan) (t : List ℕ) (xs : List ℤ) (q z cb : List ℕ) (vs m : List ℤ) (e : List ℕ) (v : ℕ) (rest : List ℕ) (b w : ℕ) (d : List ℕ) (old i s row : ℕ) (c u : Buffer) → set d v old ≡ e → row ≡ b + i * w
-    → ((j : ℕ) → j < s → stageHolds t xs q z cb vs m (p .tests) (2 * p .depth) (update (assigned vs d) v (tupleAt vs (row + w + j * w))) ≡ false)
+    → ((j : ℕ) → j < s → stageHolds t xs q z cb vs m (2 * p .depth) (update (assigned vs d) v (tupleAt vs (row + w + j * w))) ≡ false)
     → c ≡ addedAll u (passed p t xs q z cb vs m e v rest b w (i + 1)) → c ≡ addedAll u (passed p t xs q z cb vs m e v rest b w (i + (1 + s)))
 each-onward p t xs q z cb vs m e v rest b w d old i s row c u hd hr h ec =
-    each-skip p t xs q z cb vs m e v rest b w d old (i + 1) s (row + w) (p .tests) (2 * p .depth) c u hd (next-row b w row i hr) refl refl h ec
+    each-skip p t xs q z cb vs m e v rest b w d old (i + 1) s (row + w) c u hd (next-row b w row i hr) h ec
     ∙ ap (λ (k : ℕ). addedAll u (passed p t xs q z cb vs m e v rest b w k)) (add-assoc i 1 s)

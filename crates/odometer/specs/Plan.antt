@@ -9,7 +9,7 @@ use Rattle.model.specs.Meaning.{Assignment, Rows, cell}
 use Rattle.kinds.specs.Tables.{recordLength}
 use Rattle.catalogue.specs.Layout.{tuplesIn}
 use Rattle.evaluator.specs.Recalled.{valueBy}
-use Rattle.evaluator.specs.Evaluation.{assigned, rowsIn}
+use Rattle.evaluator.specs.Evaluation.{rowsIn}
 use Rattle.sizes.specs.Parts.{rangesAt, targetsAt}
 use Rattle.odometer.specs.Staged.{stagedFrom, depthHolds}
 use Rattle.odometer.specs.declared.Plan.{Plan}
@@ -17,7 +17,6 @@ use Rattle.odometer.specs.declared.Plan.{Plan}
 -- what a plan keeps to
 pub record Bounds (p : Plan) : Type 0 where
   pub columns : p .columns ≤ 8
-  pub tests : p .tests ≤ 64
   pub ranges : p .depth + p .left < 65536
 
 -- the model's targetRow, with the memo m
@@ -31,9 +30,9 @@ rowBy p q z cb vs m e = cellsBy m (targetsAt (p .columns) (p .level) (drop (p .t
 module _ (p : Plan) (t : List ℕ) (xs : List ℤ) (q z cb : List ℕ) (vs m : List ℤ) where
   -- the rows of the ranges that are left
   unfoldable pub rowsFrom : List ℕ → Assignment → List (List ℤ)
-  rowsFrom ranges e = map (rowBy p q z cb vs m) (stagedFrom (depthHolds t xs q z cb vs m (p .tests)) (p .depth) (rangesAt (p .left) ranges) (rowsIn cb vs) e)
+  rowsFrom ranges e = map (rowBy p q z cb vs m) (stagedFrom (depthHolds t xs q z cb vs m) (p .depth) (rangesAt (p .left) ranges) (rowsIn cb vs) e)
 
   -- the same with no test at this depth, for at least one range
   unfoldable pub rowsBelow : List ℕ → Assignment → List (List ℤ)
   rowsBelow ranges e = map (rowBy p q z cb vs m)
-      (concatMap (λ x. stagedFrom (depthHolds t xs q z cb vs m (p .tests)) (suc (p .depth)) (rangesAt (p .left - 1) (drop (recordLength 1) ranges)) (rowsIn cb vs) (update e (getD ranges 1 0) x)) (tuplesIn cb vs (getD ranges 2 0)))
+      (concatMap (λ x. stagedFrom (depthHolds t xs q z cb vs m) (suc (p .depth)) (rangesAt (p .left - 1) (drop (recordLength 1) ranges)) (rowsIn cb vs) (update e (getD ranges 1 0) x)) (tuplesIn cb vs (getD ranges 2 0)))

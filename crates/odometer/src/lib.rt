@@ -1,4 +1,4 @@
-// The odometer: range variables run over their rows, the last RANGE fastest. Each test is tried as soon as the variables that it needs
+// The odometer: range variables run over their rows, the last RANGE fastest. Each conjunct is tried as soon as the variables that it needs
 // are bound; an assignment that meets all of them gives a row.
 use rows::Filled;
 ghost use mathlib.Core.Path.{_≡_};
@@ -11,12 +11,11 @@ ghost use Rattle.evaluator.specs.Evaluation.{assigned, rowsIn};
 ghost use Rattle.odometer.specs.Staged.{depthHolds};
 ghost use Rattle.odometer.specs.Plan.{Bounds, cellsBy, rowBy, rowsFrom, rowsBelow};
 
-// Where a query's targets start, how many they are and how deep; how many tests there are; how many ranges are left, and are bound.
+// Where a query's targets start, how many they are and how deep; how many ranges are left, and are bound.
 pub struct Plan {
     pub targets: usize,
     pub columns: usize,
     pub level: usize,
-    pub tests: usize,
     pub left: usize,
     pub depth: usize,
 }
@@ -75,7 +74,7 @@ fn write(
     rows::add_row(answer, state, &row[..n])
 }
 
-// Whether the tests hold that are due at this depth, the cheap ones first.
+// Whether the conjuncts hold that are due at this depth, the cheap ones first.
 fn due(
     plan: Plan,
     t: &[u16],
@@ -88,28 +87,26 @@ fn due(
     env: &mut [usize],
 ) -> bool
     requires { ⌜ (256 ≤ length (now env)) × Bounds plan ⌝ }
-    ensures { λ r. ⌜ r ≡ depthHolds (now (t .entry)) (now (xs .entry)) (now (q .entry)) (now (z .entry)) (now (cb .entry)) (now (vs .entry)) (now (memo .entry)) (plan .tests) (plan .depth) (assigned (now (vs .entry)) (now (env .entry))) ⌝ }
+    ensures { λ r. ⌜ r ≡ depthHolds (now (t .entry)) (now (xs .entry)) (now (q .entry)) (now (z .entry)) (now (cb .entry)) (now (vs .entry)) (now (memo .entry)) (plan .depth) (assigned (now (vs .entry)) (now (env .entry))) ⌝ }
     ensures { λ _. ⌜ now (env .exit) ≡ now (env .entry) ⌝ }
 {
-    let n = plan.tests;
     let s = 2 * plan.depth;
-    if !conjuncts::tests(t, xs, n, s, q, z, cb, vs, memo, env) {
+    if !conjuncts::holds(t, xs, s, q, z, cb, vs, memo, env) {
         return false;
     }
-    conjuncts::tests(t, xs, n, s + 1, q, z, cb, vs, memo, env)
+    conjuncts::holds(t, xs, s + 1, q, z, cb, vs, memo, env)
 }
 
 // The plan with one range more bound.
 fn deeper(plan: Plan) -> Plan
     requires { ⌜ Bounds plan × (1 ≤ plan .left) ⌝ }
-    ensures { λ r. ⌜ r ≡ record { targets = plan .targets; columns = plan .columns; level = plan .level; tests = plan .tests; left = plan .left - 1; depth = plan .depth + 1 } ⌝ }
+    ensures { λ r. ⌜ r ≡ record { targets = plan .targets; columns = plan .columns; level = plan .level; left = plan .left - 1; depth = plan .depth + 1 } ⌝ }
     ensures { λ r. ⌜ Bounds r ⌝ }
 {
     Plan {
         targets: plan.targets,
         columns: plan.columns,
         level: plan.level,
-        tests: plan.tests,
         left: plan.left - 1,
         depth: plan.depth + 1,
     }
@@ -174,27 +171,15 @@ fn each_row(
     let n = catalogue::rows(cb, relation);
     let w = catalogue::attributes(cb, relation);
     let old = evaluator::place(env, variable);
-    let tests = inner.tests;
     let stage = 2 * inner.depth;
     let base = catalogue::base(cb, relation);
-    let mut i = probes::ahead(t, xs, tests, stage, variable, vs, env, base, w, n);
+    let mut i = probes::ahead(t, xs, stage, variable, vs, memo, env, base, w, n);
     let mut row = base + i * w;
     let mut filled = state;
     while i < n {
         evaluator::set_place(env, variable, row);
         filled = run(rest, q, z, t, xs, inner, cb, vs, memo, env, answer, filled);
-        let s = probes::ahead(
-            t,
-            xs,
-            tests,
-            stage,
-            variable,
-            vs,
-            env,
-            row + w,
-            w,
-            n - i - 1,
-        );
+        let s = probes::ahead(t, xs, stage, variable, vs, memo, env, row + w, w, n - i - 1);
         row += w + s * w;
         i += 1 + s;
     }

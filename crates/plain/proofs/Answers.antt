@@ -31,7 +31,8 @@ use Rattle.odometer.proofs.Staged.{rows-planned}
 use Rattle.sizes.specs.Decode.{decode}
 use Rattle.sizes.specs.Parts.{rangesAt, targetsAt}
 use Rattle.aggregates.specs.Filled.{filledC, filledTs}
-use Rattle.conjuncts.specs.Tests.{Planned}
+use Rattle.conjuncts.specs.Stages.{Planned}
+use Rattle.aggregates.proofs.Taking.{getD-same}
 use Rattle.aggregates.proofs.Faithful.{FaithfulT, FaithfulQ, faithful-value, faithful-holds, query-faithful}
 use Rattle.queries.specs.declared.Checked.{Checked}
 use Rattle.queries.specs.declared.Checked.the-variants.{Refused, Passed}
@@ -42,11 +43,6 @@ use Rattle.plain.specs.declared.Reply.{Reply}
 use Rattle.plain.specs.Reply.{answerOf, replyOf, memoOf, Answerable}
 
 -- places past the values: no variable is bound yet
-getD-same : {A : Type 0} (n : ℕ) (k : A) (v : ℕ) → getD (replicate n k) v k ≡ k
-getD-same zero k v = refl
-getD-same (suc n) k zero = refl
-getD-same (suc n) k (suc v) = getD-same n k v
-
 none-bound : (n : ℕ) (vs : List ℤ) → assigned vs (replicate n (length vs)) ≡ unbound
 none-bound n vs = fun-ext λ v. fun-ext λ a. ap (λ k. getD vs (k + a) (pos 0)) (getD-same n (length vs) v) ∙ List·getD-eq-default vs (pos 0) (omega arith)
 
@@ -81,9 +77,9 @@ module _ (y : Layout) (l : ℕ) (q z cb : List ℕ) (vs : List ℤ) (ok : Answer
       query-faithful sh 200 (queryAt y l q z) (rowsIn cb vs) (assigned vs places) (replicate 512 (pos 0)) (subst (Scoped sh 200) (sym (ok .ready)) (scoped plainLimits sh (queryOf q) (ok .known)))
       (getD-same 512 (pos 0)) (omega (arith, length-replicate 512 (pos 0)))
 
-  module _ (n : ℕ) (t : List ℕ) (xs : List ℤ) (w : Planned n t xs q z cb vs memo (decode l (drop (y .condition) q) (drop (y .condition) z)) (rangesAt (y .ranges) q)) where
+  module _ (t : List ℕ) (xs : List ℤ) (w : Planned t xs q z cb vs memo (decode l (drop (y .condition) q) (drop (y .condition) z)) (rangesAt (y .ranges) q)) where
     abbrev plan : Plan
-    plan = record { targets = y .first; columns = y .targets; level = l; tests = n; left = y .ranges; depth = 0 }
+    plan = record { targets = y .first; columns = y .targets; level = l; left = y .ranges; depth = 0 }
 
     as-query : rowsFrom plan t xs q z cb vs memo q (assigned vs places) ≡ rowsBefore (queryOf q) (allRows (tuplesAt (catalogueOf cb) vs))
     as-query =
@@ -110,13 +106,13 @@ module _ (y : Layout) (l : ℕ) (q z cb : List ℕ) (vs : List ℤ) (ok : Answer
         ∙ ap (λ (xs : List (List ℤ)). give w xs cells) (sym (answers-are (queryOf q) R))
 
   -- the same, as the code has it
-  pub answered-by : (n : ℕ) (t : List ℕ) (xs m : List ℤ) (e : List ℕ) (s : Filled) (r : Reply) (cells after : List ℤ) → m ≡ memo → e ≡ places
-      → Planned n t xs q z cb vs m (decode l (drop (y .condition) q) (drop (y .condition) z)) (rangesAt (y .ranges) q)
-      → record { rows = s .rows; full = s .full; cells = after } ≡ addedAll (start cells) (rowsFrom (record { targets = y .first; columns = y .targets; level = l; tests = n; left = y .ranges; depth = 0 }) t xs q z cb vs m q (assigned vs e))
+  pub answered-by : (t : List ℕ) (xs m : List ℤ) (e : List ℕ) (s : Filled) (r : Reply) (cells after : List ℤ) → m ≡ memo → e ≡ places
+      → Planned t xs q z cb vs m (decode l (drop (y .condition) q) (drop (y .condition) z)) (rangesAt (y .ranges) q)
+      → record { rows = s .rows; full = s .full; cells = after } ≡ addedAll (start cells) (rowsFrom (record { targets = y .first; columns = y .targets; level = l; left = y .ranges; depth = 0 }) t xs q z cb vs m q (assigned vs e))
       → r ≡ replyOf (y .targets) s → answerOf r after ≡ give (length (queryOf q .targets)) (answers (queryOf q) (allRows (tuplesAt (catalogueOf cb) vs))) cells
-  answered-by n t xs m e s r cells after em ee w eb er =
-      answered n t xs (subst (λ (i : List ℤ). Planned n t xs q z cb vs i (decode l (drop (y .condition) q) (drop (y .condition) z)) (rangesAt (y .ranges) q)) em w) s r cells after
-      (eb ∙ ap₂ (λ (i : List ℤ) (j : List ℕ). addedAll (start cells) (rowsFrom (record { targets = y .first; columns = y .targets; level = l; tests = n; left = y .ranges; depth = 0 }) t xs q z cb vs i q (assigned vs j))) em ee) er
+  answered-by t xs m e s r cells after em ee w eb er =
+      answered t xs (subst (λ (i : List ℤ). Planned t xs q z cb vs i (decode l (drop (y .condition) q) (drop (y .condition) z)) (rangesAt (y .ranges) q)) em w) s r cells after
+      (eb ∙ ap₂ (λ (i : List ℤ) (j : List ℕ). addedAll (start cells) (rowsFrom (record { targets = y .first; columns = y .targets; level = l; left = y .ranges; depth = 0 }) t xs q z cb vs i q (assigned vs j))) em ee) er
 
 -- the memo, targets first
 pub remembered-is : (y : Layout) (l : ℕ) (q z cb : List ℕ) (vs : List ℤ) (e e₁ a b c d : List ℕ) (m n o : List ℤ) → a ≡ drop (y .first) q → b ≡ drop (y .first) z → n ≡ filledTs (targetsAt (y .targets) l a b) (rowsIn cb vs) (assigned vs e) m

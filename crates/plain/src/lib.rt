@@ -98,13 +98,12 @@ fn answer_query(
     let mut xs = [0i32; 128];
     let n = layout.ranges;
     let c = layout.condition;
-    let tests = conjuncts::plan(q, z, n, c, level, catalogue, 200, &memo, &mut t, &mut xs);
+    conjuncts::plan(q, z, n, c, level, catalogue, 200, &memo, &mut t, &mut xs);
     let columns = layout.targets;
     let plan = Plan {
         targets: layout.first,
         columns,
         level,
-        tests,
         left: n,
         depth: 0,
     };

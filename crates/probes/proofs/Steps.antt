@@ -1,30 +1,24 @@
--- What a walk over rows keeps, and what a failed side says of a test.
+-- What a walk over rows keeps, and what a failed side says of a branch.
 use mathlib.Core.Path.{_≡_, refl, sym, ap, ap₂, _∙_}
-use mathlib.Core.Bool.{Bool, true, false, cond, _&&_}
-use mathlib.Core.List.{List, [], _∷_, _++_}
-use Prim.Native.Nat.{ℕ, zero, suc, _+_, _*_, _≤_, _<_}
-use native.Mathlib.Nat.{mul-le-mul, le-refl}
+use mathlib.Core.Bool.{Bool, true, false}
+use mathlib.Core.List.{List}
+use Prim.Native.Nat.{ℕ, suc, _+_, _*_, _≤_, _<_}
+use native.Mathlib.Nat.{mul-le-mul, le-refl, add-zero}
 use native.Mathlib.Omega.{arith}
-use lib.Dec.{eqb, ltb}
-use lib.IntN.{ℤ, pos}
-use lib.ListN.{length, getD}
+use lib.Dec.{eqb}
+use lib.IntN.{ℤ, pos, _*ℤ_, natAbs, one, *ℤ-one}
+use lib.ListN.{getD}
 use borrow.Author.Tests.{eqb-true, eqb-false, ne-eqb, eq-eqb, lt-ltb}
-use Rattle.model.specs.Lists.{update, all, below}
-use Rattle.model.specs.Meaning.{Assignment, Tuple}
-use Rattle.model.proofs.Tests.{and-true}
-use Rattle.numbers.specs.Numbers.{ordered}
+use Rattle.model.specs.Lists.{update}
+use Rattle.model.specs.Meaning as M
+use Rattle.model.specs.Meaning.{Assignment, Tuple, compare}
+use Rattle.numbers.specs.Numbers.{represent, ratioOf, Small}
+use Rattle.numbers.specs.declared.Ratio.{Ratio}
 use Rattle.catalogue.specs.Layout.{tupleAt}
-use Rattle.evaluator.specs.Evaluation.{assigned}
-use Rattle.conjuncts.specs.Tests.{field, operand, testHolds, stageHolds}
-use Rattle.probes.specs.Probe.{sided}
-
-and-false : (b : Bool) → b && false ≡ false
-and-false true = refl
-and-false false = refl
-
-and-assoc : (a b c : Bool) → (a && b) && c ≡ a && (b && c)
-and-assoc true b c = refl
-and-assoc false b c = refl
+use Rattle.branches.specs.Branches.{field, operand, branchHolds, next, runs}
+use Rattle.branches.proofs.Running.{runs-1, runs-step}
+use Rattle.conjuncts.specs.Stages.{stageHolds}
+use Rattle.probes.specs.Probe.{sided, placed}
 
 pub one-more : (f : ℕ → Bool) (j : ℕ) → ((i : ℕ) → i < j → f i ≡ false) → f j ≡ false → (i : ℕ) → i < j + 1 → f i ≡ false
 one-more f j h e i l = go (eqb i j) refl
@@ -40,61 +34,54 @@ place-fits row w j rows at e h k = let m : suc j * w ≤ rows * w = mul-le-mul h
     suc-times : (j w : ℕ) → suc j * w ≡ w + j * w
     suc-times j w = omega arith
 
-pub row-fails : (o : ℕ) (mirrored : Bool) (vs : List ℤ) (row w j a at : ℕ) (v u x : ℤ) (b : Bool) → at ≡ row + j * w → v ≡ getD vs (at + a) (pos 0) → u ≡ v → b ≡ sided o mirrored u x → b ≡ false
-    → sided o mirrored (tupleAt vs (row + j * w) a) x ≡ false
-row-fails o mirrored vs row w j a at v u x b ea ev eu eb h = ap (λ (y : ℤ). sided o mirrored y x) (ap (λ (p : ℕ). getD vs (p + a) (pos 0)) (sym ea) ∙ sym ev ∙ sym eu) ∙ sym eb ∙ h
+pub row-fails : (o : ℕ) (mirrored : Bool) (vs : List ℤ) (row w j a at : ℕ) (v u n d : ℤ) (b : Bool) → at ≡ row + j * w → v ≡ getD vs (at + a) (pos 0) → u ≡ v *ℤ d → b ≡ placed o mirrored u n → b ≡ false
+    → placed o mirrored (tupleAt vs (row + j * w) a *ℤ d) n ≡ false
+row-fails o mirrored vs row w j a at v u n d b ea ev eu eb h = ap (λ (y : ℤ). placed o mirrored (y *ℤ d) n) (ap (λ (p : ℕ). getD vs (p + a) (pos 0)) (sym ea) ∙ sym ev) ∙ ap (λ (y : ℤ). placed o mirrored y n) (sym eu) ∙ sym eb ∙ h
 
-pub exact : (f : ℤ → Bool) (x y : ℤ) → y ≡ x → f y ≡ false → f x ≡ false
-exact f x y e h = ap f (sym e) ∙ h
+-- a whole number is compared by one cross product
+pub whole-fails : (o : ℕ) (mirrored : Bool) (a n d : ℤ) (x : Ratio) → Small x → n ≡ x .numerator → d ≡ x .denominator → placed o mirrored (a *ℤ d) n ≡ false → sided o mirrored (M.whole a) (ratioOf x) ≡ false
+unfolding compare one
+whole-fails o mirrored a n d x s en ed h =
+    let left : x .numerator *ℤ pos 1 ≡ n = *ℤ-one (x .numerator) ∙ sym en in
+    let right : a *ℤ pos (natAbs (x .denominator)) ≡ a *ℤ d = ap (λ (y : ℤ). a *ℤ y) (sym (ed ∙ s .sign)) in
+    ap₂ (placed o mirrored) right left ∙ h
 
-module _ (t : List ℕ) (xs : List ℤ) (q z cb : List ℕ) (vs m : List ℤ) (k v : ℕ) (e : Assignment) (row : Tuple) where
+module _ (t : List ℕ) (xs : List ℤ) (q z cb : List ℕ) (vs m : List ℤ) (i v : ℕ) (e : Assignment) (row : Tuple) where
   -- an operand of the variable, and one of no or another variable
-  own : (w a : ℕ) (x : ℤ) → w ≡ v → v < 256 → operand w a x (update e v row) ≡ row a
+  own : (w a : ℕ) (x : ℤ) → w ≡ v → v < 256 → operand m w a x (update e v row) ≡ M.whole (row a)
   own w a x h l = rw (lt-ltb w 256 (omega (arith, h, l)), eq-eqb w v h)
 
-  other : (w a : ℕ) (x : ℤ) → (w ≡ v → ⊥) → operand w a x (update e v row) ≡ operand w a x e
+  other : (w a : ℕ) (x : ℤ) → (w ≡ v → ⊥) → operand m w a x (update e v row) ≡ operand m w a x e
   other w a x h = rw (ne-eqb w v h)
 
   -- an operand as the table has it
-  fixed : (p j w : ℕ) (x : ℤ) → p ≡ 8 * k + j → w ≡ field t k j → operand (getD t p 0) (getD t (p + 1) 0) x e ≡ operand w (field t k (j + 1)) x e
-  fixed p j w x hp hw =
-      let i : 8 * k + j + 1 ≡ 8 * k + (j + 1) = omega arith in
-      ap (λ (n : ℕ). operand (getD t n 0) (getD t (n + 1) 0) x e) hp ∙ ap₂ (λ (u n : ℕ). operand u (getD t n 0) x e) (sym hw) i
+  fixed : (p j w : ℕ) (x : ℤ) (y : Ratio) → p ≡ 8 * i + j → w ≡ field t i j → y ≡ represent (operand m (getD t p 0) (getD t (p + 1) 0) x e) → ratioOf y ≡ operand m w (field t i (j + 1)) x e
+  fixed p j w x y hp hw hy =
+      let k : 8 * i + j + 1 ≡ 8 * i + (j + 1) = omega arith in
+      ap ratioOf hy ∙ ap (λ (n : ℕ). operand m (getD t n 0) (getD t (n + 1) 0) x e) hp ∙ ap₂ (λ (u n : ℕ). operand m u (getD t n 0) x e) (sym hw) k
 
-  module _ (o a b : ℕ) (x : ℤ) (eo : o ≡ field t k 1) (nz : o ≡ 0 → ⊥) (ea : a ≡ field t k 2) (eb : b ≡ field t k 4) (l : v < 256) where
-    test-is : testHolds t xs q z cb vs m k (update e v row) ≡ ordered o (operand a (field t k 3) (getD xs (2 * k) (pos 0)) (update e v row)) (operand b (field t k 5) (getD xs (2 * k + 1) (pos 0)) (update e v row))
-    unfolding testHolds
-    test-is = rw (sym eo, sym ea, sym eb, ne-eqb o 0 nz)
+  module _ (o a b : ℕ) (y : Ratio) (eo : o ≡ getD t (8 * i) 0) (nz : o ≡ 0 → ⊥) (ea : a ≡ field t i 1) (eb : b ≡ field t i 3) (l : v < 256) where
+    branch-is : branchHolds t xs q z cb vs m i (update e v row) ≡ compare o (operand m a (field t i 2) (getD xs (2 * i) (pos 0)) (update e v row)) (operand m b (field t i 4) (getD xs (2 * i + 1) (pos 0)) (update e v row))
+    unfolding branchHolds
+    branch-is = rw (add-zero (8 * i), sym eo, sym ea, sym eb, ne-eqb o 0 nz)
 
-    pub left-fails : (p c : ℕ) → a ≡ v → (b ≡ v → ⊥) → p ≡ 8 * k + 4 → c ≡ field t k 3 → x ≡ operand (getD t p 0) (getD t (p + 1) 0) (getD xs (2 * k + 1) (pos 0)) e → sided o false (row c) x ≡ false
-        → testHolds t xs q z cb vs m k (update e v row) ≡ false
-    left-fails p c ha hb hp hc hx h =
-        test-is
-        ∙ ap₂ (ordered o) (own a (field t k 3) (getD xs (2 * k) (pos 0)) ha l ∙ ap row (sym hc)) (other b (field t k 5) (getD xs (2 * k + 1) (pos 0)) hb ∙ sym (hx ∙ fixed p 4 b (getD xs (2 * k + 1) (pos 0)) hp eb))
+    pub left-fails : (p c : ℕ) → a ≡ v → (b ≡ v → ⊥) → p ≡ 8 * i + 3 → c ≡ field t i 2 → y ≡ represent (operand m (getD t p 0) (getD t (p + 1) 0) (getD xs (2 * i + 1) (pos 0)) e) → sided o false (M.whole (row c)) (ratioOf y) ≡ false
+        → branchHolds t xs q z cb vs m i (update e v row) ≡ false
+    left-fails p c ha hb hp hc hy h =
+        branch-is
+        ∙ ap₂ (compare o) (own a (field t i 2) (getD xs (2 * i) (pos 0)) ha l ∙ ap (λ (n : ℕ). M.whole (row n)) (sym hc)) (other b (field t i 4) (getD xs (2 * i + 1) (pos 0)) hb ∙ sym (fixed p 3 b (getD xs (2 * i + 1) (pos 0)) y hp eb hy))
         ∙ h
 
-    pub right-fails : (p c : ℕ) → (a ≡ v → ⊥) → b ≡ v → p ≡ 8 * k + 2 → c ≡ field t k 5 → x ≡ operand (getD t p 0) (getD t (p + 1) 0) (getD xs (2 * k) (pos 0)) e → sided o true (row c) x ≡ false
-        → testHolds t xs q z cb vs m k (update e v row) ≡ false
-    right-fails p c ha hb hp hc hx h =
-        test-is
-        ∙ ap₂ (ordered o) (other a (field t k 3) (getD xs (2 * k) (pos 0)) ha ∙ sym (hx ∙ fixed p 2 a (getD xs (2 * k) (pos 0)) hp ea)) (own b (field t k 5) (getD xs (2 * k + 1) (pos 0)) hb l ∙ ap row (sym hc))
+    pub right-fails : (p c : ℕ) → (a ≡ v → ⊥) → b ≡ v → p ≡ 8 * i + 1 → c ≡ field t i 4 → y ≡ represent (operand m (getD t p 0) (getD t (p + 1) 0) (getD xs (2 * i) (pos 0)) e) → sided o true (M.whole (row c)) (ratioOf y) ≡ false
+        → branchHolds t xs q z cb vs m i (update e v row) ≡ false
+    right-fails p c ha hb hp hc hy h =
+        branch-is
+        ∙ ap₂ (compare o) (other a (field t i 2) (getD xs (2 * i) (pos 0)) ha ∙ sym (fixed p 1 a (getD xs (2 * i) (pos 0)) y hp ea hy)) (own b (field t i 4) (getD xs (2 * i + 1) (pos 0)) hb l ∙ ap (λ (n : ℕ). M.whole (row n)) (sym hc))
         ∙ h
 
-all-append : (f : ℕ → Bool) (xs : List ℕ) (x : ℕ) → all f (xs ++ (x ∷ [])) ≡ all f xs && f x
-unfolding all
-all-append f [] x = and-true (f x)
-all-append f (y ∷ xs) x = ap (λ (b : Bool). f y && b) (all-append f xs x) ∙ sym (and-assoc (f y) (all f xs) (f x))
-
--- a list with an element that fails
-all-fails : (f : ℕ → Bool) (n k : ℕ) → k < n → f k ≡ false → all f (below n) ≡ false
-unfolding below
-all-fails f zero k l h = absurd (omega arith)
-all-fails f (suc n) k l h = all-append f (below n) n ∙ last (eqb k n) refl (λ i. all-fails f n k i h)
-  where
-    last : (b : Bool) → eqb k n ≡ b → (k < n → all f (below n) ≡ false) → all f (below n) && f n ≡ false
-    last true e g = ap (λ (x : Bool). all f (below n) && x) (ap f (sym (eqb-true k n e)) ∙ h) ∙ and-false (all f (below n))
-    last false e g = ap (λ (x : Bool). x && f n) (g (omega (arith, eqb-false k n e)))
-
-pub stage-fails : (t : List ℕ) (xs : List ℤ) (q z cb : List ℕ) (vs m : List ℤ) (n k s : ℕ) (e : Assignment) → k < n → field t k 0 ≡ s → testHolds t xs q z cb vs m k e ≡ false → stageHolds t xs q z cb vs m n s e ≡ false
+-- a stage whose first branch fails, and leads to 1 where it fails
+pub stage-fails : (t : List ℕ) (xs : List ℤ) (q z cb : List ℕ) (vs m : List ℤ) (s i f : ℕ) (e : Assignment) → i ≡ getD t s 0 → 2 ≤ i → f ≡ field t i 6 → f ≡ 1 → branchHolds t xs q z cb vs m i e ≡ false → stageHolds t xs q z cb vs m s e ≡ false
 unfolding stageHolds
-stage-fails t xs q z cb vs m n k s e l h f = all-fails (λ k. cond (eqb (field t k 0) s) (testHolds t xs q z cb vs m k e) true) n k l (ap (λ (b : Bool). cond b (testHolds t xs q z cb vs m k e) true) (eq-eqb (field t k 0) s h) ∙ f)
+stage-fails t xs q z cb vs m s i f e ei l ef e1 h =
+    let n : next t xs q z cb vs m i e ≡ 1 = rw h (sym ef ∙ e1) in
+    ap (λ (k : ℕ). runs t xs q z cb vs m k e) (sym ei) ∙ runs-step t xs q z cb vs m i e l (omega (arith, n)) ∙ ap (λ (k : ℕ). runs t xs q z cb vs m k e) n ∙ runs-1 t xs q z cb vs m e

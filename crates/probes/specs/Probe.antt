@@ -1,8 +1,12 @@
--- A comparison with the attribute on either side.
+-- A comparison with the attribute on either side: of values, and of numbers.
 use Prim.Native.Nat.{ℕ}
 use mathlib.Core.Bool.{Bool, cond}
 use lib.IntN.{ℤ}
+use Rattle.model.specs.Meaning.{Ratio, compare}
 use Rattle.numbers.specs.Numbers.{ordered}
 
-abbrev pub sided : ℕ → Bool → ℤ → ℤ → Bool
-sided o mirrored a x = cond mirrored (ordered o x a) (ordered o a x)
+abbrev pub sided : ℕ → Bool → Ratio → Ratio → Bool
+sided o mirrored a x = cond mirrored (compare o x a) (compare o a x)
+
+abbrev pub placed : ℕ → Bool → ℤ → ℤ → Bool
+placed o mirrored a x = cond mirrored (ordered o x a) (ordered o a x)

@@ -19,7 +19,7 @@ use Rattle.aggregates.proofs.+condition+term.Lts-condition as condition
 use Rattle.aggregates.proofs.term.Reads as term
 use Rattle.aggregates.proofs.term.Kinds as term-kinds
 use Rattle.aggregates.proofs.+condition+term.Lts-term as term-lts
-use Rattle.evaluator.proofs.term.Reads as term-reads
+use Rattle.aggregates.proofs.value.Reads as value-reads
 use Rattle.kinds.proofs.byte.Reads as byte-reads
 use Rattle.kinds.proofs.read.Reads as read-reads
 use Rattle.kinds.proofs.record_length.Reads as record-length-reads
@@ -53,10 +53,10 @@ abbrev condition-claims : ℕ → condition-lts.Claims
 condition-claims t = (byte-reads.Asked, byte-reads.Learnt, record-length-reads.Asked, record-length-reads.Learnt, tail-reads.Asked, tail-reads.Learnt, tail-sizes-reads.Asked, tail-sizes-reads.Learnt, size-at-reads.Asked, size-at-reads.Learnt, read-reads.Asked, read-reads.Learnt, condition-below t, condition.Post, term-below t, term.Post)
 
 abbrev term-claims : ℕ → term-lts.Claims
-term-claims t = (read-reads.Asked, read-reads.Learnt, byte-reads.Asked, byte-reads.Learnt, record-length-reads.Asked, record-length-reads.Learnt, tail-reads.Asked, tail-reads.Learnt, tail-sizes-reads.Asked, tail-sizes-reads.Learnt, condition-below t, condition.Post, term-reads.Asked, term-reads.Learnt, remember-reads.Asked, remember-reads.Learnt)
+term-claims t = (read-reads.Asked, read-reads.Learnt, byte-reads.Asked, byte-reads.Learnt, record-length-reads.Asked, record-length-reads.Learnt, tail-reads.Asked, tail-reads.Learnt, tail-sizes-reads.Asked, tail-sizes-reads.Learnt, condition-below t, condition.Post, value-reads.Asked, value-reads.Learnt, remember-reads.Asked, remember-reads.Learnt)
 
 condition-returns : (t : ℕ) → condition-lts.Need-returns (condition-claims t) (condition-at t) condition.Post
-condition-returns t c = (none-left (rowsIn (now (c .before .before .before .before .before .args .catalogue)) (now (c .before .before .before .before .before .args .values))) (assigned (now (c .before .before .before .before .before .args .values)) (now (c .before .before .before .before .before .args .env))) (now (c .before .before .before .before .before .args .q)) (now (c .before .before .before .before .before .args .z)) (now (c .before .before .before .before .before .args .memo)) (c .before .before .before .before .before .args .level) (c .if1 .taken), search needs)
+condition-returns t c = (none-left (rowsIn (now (c .before .before .before .before .before .args .cb)) (now (c .before .before .before .before .before .args .vs))) (assigned (now (c .before .before .before .before .before .args .vs)) (now (c .before .before .before .before .before .args .env))) (now (c .before .before .before .before .before .args .q)) (now (c .before .before .before .before .before .args .z)) (now (c .before .before .before .before .before .args .memo)) (c .before .before .before .before .before .args .level) (c .if1 .taken), search needs)
 
 condition-sub-l : (t : ℕ) → condition-lts.Need-sub-l (condition-claims t) (condition-at t) condition.Post
 condition-sub-l t c = search needs
@@ -146,7 +146,7 @@ condition-same-length-2 : (t : ℕ) → condition-lts.Need-same-length-2 (condit
 condition-same-length-2 t c = search needs
 
 condition-returns-2 : (t : ℕ) → condition-lts.Need-returns-2 (condition-claims t) (condition-at t) condition.Post
-condition-returns-2 t c = (not-is (rowsIn (now (c .before .before .before .before .before .before .before .before .before .before .before .before .before .before .before .before .before .before .before .args .catalogue)) (now (c .before .before .before .before .before .before .before .before .before .before .before .before .before .before .before .before .before .before .before .args .values))) (assigned (now (c .before .before .before .before .before .before .before .before .before .before .before .before .before .before .before .before .before .before .before .args .values)) (now (c .before .before .before .before .before .before .before .before .before .before .before .before .before .before .before .before .before .before .before .args .env))) (now (c .before .before .before .before .before .before .before .before .before .before .before .before .before .before .before .before .before .before .before .args .q)) (now (c .before .before .before .before .before .before .before .before .before .before .before .before .before .before .before .before .before .before .before .args .z)) (now (c .before .before .before .before .before .before .before .before .before .before .before .before .before .before .before .before .before .before .before .args .memo)) (c .before .before .before .before .before .before .before .before .before .before .before .before .before .before .before .before .before .before .before .args .level) _ _ _ (c .before .before .before .before .before .before .before .before .before .before .before .before .before .before .if1 .left) (c .before .before .before .before .before .before .before .before .before .before .before .before .before .byte .ensures) (c .before .before .before .before .before .before .before .before .before .before .before .before .record-length .ensures .0) (c .before .before .before .before .before .before .before .before .read .ensures) _ _ (c .before .before .before .before .before .before .before .before .before .before .before .tail .ensures) (c .before .before .before .before .before .before .before .before .before .before .tail-sizes .ensures) _ (c .before .before .before .before .before .before .enum-told .given .1) (c .before .before .before .condition .ensures .0), c .before .before .before .condition .ensures .1)
+condition-returns-2 t c = (not-is (rowsIn (now (c .before .before .before .before .before .before .before .before .before .before .before .before .before .before .before .before .before .before .before .args .cb)) (now (c .before .before .before .before .before .before .before .before .before .before .before .before .before .before .before .before .before .before .before .args .vs))) (assigned (now (c .before .before .before .before .before .before .before .before .before .before .before .before .before .before .before .before .before .before .before .args .vs)) (now (c .before .before .before .before .before .before .before .before .before .before .before .before .before .before .before .before .before .before .before .args .env))) (now (c .before .before .before .before .before .before .before .before .before .before .before .before .before .before .before .before .before .before .before .args .q)) (now (c .before .before .before .before .before .before .before .before .before .before .before .before .before .before .before .before .before .before .before .args .z)) (now (c .before .before .before .before .before .before .before .before .before .before .before .before .before .before .before .before .before .before .before .args .memo)) (c .before .before .before .before .before .before .before .before .before .before .before .before .before .before .before .before .before .before .before .args .level) _ _ _ (c .before .before .before .before .before .before .before .before .before .before .before .before .before .before .if1 .left) (c .before .before .before .before .before .before .before .before .before .before .before .before .before .byte .ensures) (c .before .before .before .before .before .before .before .before .before .before .before .before .record-length .ensures .0) (c .before .before .before .before .before .before .before .before .read .ensures) _ _ (c .before .before .before .before .before .before .before .before .before .before .before .tail .ensures) (c .before .before .before .before .before .before .before .before .before .before .tail-sizes .ensures) _ (c .before .before .before .before .before .before .enum-told .given .1) (c .before .before .before .condition .ensures .0), c .before .before .before .condition .ensures .1)
 
 condition-same-length-3 : (t : ℕ) → condition-lts.Need-same-length-3 (condition-claims t) (condition-at t) condition.Post
 condition-same-length-3 t c = search needs
@@ -155,7 +155,7 @@ condition-same-length-4 : (t : ℕ) → condition-lts.Need-same-length-4 (condit
 condition-same-length-4 t c = search needs
 
 condition-returns-3 : (t : ℕ) → condition-lts.Need-returns-3 (condition-claims t) (condition-at t) condition.Post
-condition-returns-3 t c = (and-is (rowsIn (now (c .before .before .before .before .before .before .before .before .before .before .before .before .before .before .before .before .before .before .before .before .before .before .before .before .before .before .before .args .catalogue)) (now (c .before .before .before .before .before .before .before .before .before .before .before .before .before .before .before .before .before .before .before .before .before .before .before .before .before .before .before .args .values))) (assigned (now (c .before .before .before .before .before .before .before .before .before .before .before .before .before .before .before .before .before .before .before .before .before .before .before .before .before .before .before .args .values)) (now (c .before .before .before .before .before .before .before .before .before .before .before .before .before .before .before .before .before .before .before .before .before .before .before .before .before .before .before .args .env))) (now (c .before .before .before .before .before .before .before .before .before .before .before .before .before .before .before .before .before .before .before .before .before .before .before .before .before .before .before .args .q)) (now (c .before .before .before .before .before .before .before .before .before .before .before .before .before .before .before .before .before .before .before .before .before .before .before .before .before .before .before .args .z)) (now (c .before .before .before .before .before .before .before .before .before .before .before .before .before .before .before .before .before .before .before .before .before .before .before .before .before .before .before .args .memo)) (c .before .before .before .before .before .before .before .before .before .before .before .before .before .before .before .before .before .before .before .before .before .before .before .before .before .before .before .args .level) _ _ _ (c .before .before .before .before .before .before .before .before .before .before .before .before .before .before .before .before .before .before .before .before .before .before .if1 .left) (c .before .before .before .before .before .before .before .before .before .before .before .before .before .before .before .before .before .before .before .before .before .byte .ensures) (c .before .before .before .before .before .before .before .before .before .before .before .before .before .before .before .before .before .before .before .before .record-length .ensures .0) (c .before .before .before .before .before .before .before .before .before .before .before .before .before .before .before .before .read .ensures) _ _ (c .before .before .before .before .before .before .before .before .before .before .before .before .before .before .before .before .before .before .before .tail .ensures) (c .before .before .before .before .before .before .before .before .before .before .before .before .before .before .before .before .before .before .tail-sizes .ensures) _ _ _ _ (c .before .before .before .before .before .before .before .before .before .before .before .before .before .before .before .before .before .size-at .ensures .0) refl (c .before .before .before .before .before .before .before .tail2 .ensures) (c .before .before .before .before .before .before .tail-sizes2 .ensures) _ _ _ (ap (assigned (now (c .before .before .before .before .before .before .before .before .before .before .before .before .before .before .before .before .before .before .before .before .before .before .before .before .before .before .before .args .values))) (c .before .before .before .before .before .before .before .before .before .before .before .condition2 .ensures .1)) (c .before .before .before .before .before .before .before .before .before .before .before .condition2 .ensures .0) (c .before .before .before .condition3 .ensures .0) (c .before .before .before .before .before .before .before .before .before .before .before .before .before .before .enum-told2 .given .1), c .before .before .before .condition3 .ensures .1 ∙ c .before .before .before .before .before .before .before .before .before .before .before .condition2 .ensures .1)
+condition-returns-3 t c = (and-is (rowsIn (now (c .before .before .before .before .before .before .before .before .before .before .before .before .before .before .before .before .before .before .before .before .before .before .before .before .before .before .before .args .cb)) (now (c .before .before .before .before .before .before .before .before .before .before .before .before .before .before .before .before .before .before .before .before .before .before .before .before .before .before .before .args .vs))) (assigned (now (c .before .before .before .before .before .before .before .before .before .before .before .before .before .before .before .before .before .before .before .before .before .before .before .before .before .before .before .args .vs)) (now (c .before .before .before .before .before .before .before .before .before .before .before .before .before .before .before .before .before .before .before .before .before .before .before .before .before .before .before .args .env))) (now (c .before .before .before .before .before .before .before .before .before .before .before .before .before .before .before .before .before .before .before .before .before .before .before .before .before .before .before .args .q)) (now (c .before .before .before .before .before .before .before .before .before .before .before .before .before .before .before .before .before .before .before .before .before .before .before .before .before .before .before .args .z)) (now (c .before .before .before .before .before .before .before .before .before .before .before .before .before .before .before .before .before .before .before .before .before .before .before .before .before .before .before .args .memo)) (c .before .before .before .before .before .before .before .before .before .before .before .before .before .before .before .before .before .before .before .before .before .before .before .before .before .before .before .args .level) _ _ _ (c .before .before .before .before .before .before .before .before .before .before .before .before .before .before .before .before .before .before .before .before .before .before .if1 .left) (c .before .before .before .before .before .before .before .before .before .before .before .before .before .before .before .before .before .before .before .before .before .byte .ensures) (c .before .before .before .before .before .before .before .before .before .before .before .before .before .before .before .before .before .before .before .before .record-length .ensures .0) (c .before .before .before .before .before .before .before .before .before .before .before .before .before .before .before .before .read .ensures) _ _ (c .before .before .before .before .before .before .before .before .before .before .before .before .before .before .before .before .before .before .before .tail .ensures) (c .before .before .before .before .before .before .before .before .before .before .before .before .before .before .before .before .before .before .tail-sizes .ensures) _ _ _ _ (c .before .before .before .before .before .before .before .before .before .before .before .before .before .before .before .before .before .size-at .ensures .0) refl (c .before .before .before .before .before .before .before .tail2 .ensures) (c .before .before .before .before .before .before .tail-sizes2 .ensures) _ _ _ (ap (assigned (now (c .before .before .before .before .before .before .before .before .before .before .before .before .before .before .before .before .before .before .before .before .before .before .before .before .before .before .before .args .vs))) (c .before .before .before .before .before .before .before .before .before .before .before .condition2 .ensures .1)) (c .before .before .before .before .before .before .before .before .before .before .before .condition2 .ensures .0) (c .before .before .before .condition3 .ensures .0) (c .before .before .before .before .before .before .before .before .before .before .before .before .before .before .enum-told2 .given .1), c .before .before .before .condition3 .ensures .1 ∙ c .before .before .before .before .before .before .before .before .before .before .before .condition2 .ensures .1)
 
 condition-same-length-5 : (t : ℕ) → condition-lts.Need-same-length-5 (condition-claims t) (condition-at t) condition.Post
 condition-same-length-5 t c = search needs
@@ -164,7 +164,7 @@ condition-same-length-6 : (t : ℕ) → condition-lts.Need-same-length-6 (condit
 condition-same-length-6 t c = search needs
 
 condition-returns-4 : (t : ℕ) → condition-lts.Need-returns-4 (condition-claims t) (condition-at t) condition.Post
-condition-returns-4 t c = (or-is (rowsIn (now (c .before .before .before .before .before .before .before .before .before .before .before .before .before .before .before .before .before .before .before .before .before .before .before .before .before .before .before .args .catalogue)) (now (c .before .before .before .before .before .before .before .before .before .before .before .before .before .before .before .before .before .before .before .before .before .before .before .before .before .before .before .args .values))) (assigned (now (c .before .before .before .before .before .before .before .before .before .before .before .before .before .before .before .before .before .before .before .before .before .before .before .before .before .before .before .args .values)) (now (c .before .before .before .before .before .before .before .before .before .before .before .before .before .before .before .before .before .before .before .before .before .before .before .before .before .before .before .args .env))) (now (c .before .before .before .before .before .before .before .before .before .before .before .before .before .before .before .before .before .before .before .before .before .before .before .before .before .before .before .args .q)) (now (c .before .before .before .before .before .before .before .before .before .before .before .before .before .before .before .before .before .before .before .before .before .before .before .before .before .before .before .args .z)) (now (c .before .before .before .before .before .before .before .before .before .before .before .before .before .before .before .before .before .before .before .before .before .before .before .before .before .before .before .args .memo)) (c .before .before .before .before .before .before .before .before .before .before .before .before .before .before .before .before .before .before .before .before .before .before .before .before .before .before .before .args .level) _ _ _ (c .before .before .before .before .before .before .before .before .before .before .before .before .before .before .before .before .before .before .before .before .before .before .if1 .left) (c .before .before .before .before .before .before .before .before .before .before .before .before .before .before .before .before .before .before .before .before .before .byte .ensures) (c .before .before .before .before .before .before .before .before .before .before .before .before .before .before .before .before .before .before .before .before .record-length .ensures .0) (c .before .before .before .before .before .before .before .before .before .before .before .before .before .before .before .before .read .ensures) _ _ (c .before .before .before .before .before .before .before .before .before .before .before .before .before .before .before .before .before .before .before .tail .ensures) (c .before .before .before .before .before .before .before .before .before .before .before .before .before .before .before .before .before .before .tail-sizes .ensures) _ _ _ _ (c .before .before .before .before .before .before .before .before .before .before .before .before .before .before .before .before .before .size-at .ensures .0) refl (c .before .before .before .before .before .before .before .tail3 .ensures) (c .before .before .before .before .before .before .tail-sizes3 .ensures) _ _ _ (ap (assigned (now (c .before .before .before .before .before .before .before .before .before .before .before .before .before .before .before .before .before .before .before .before .before .before .before .before .before .before .before .args .values))) (c .before .before .before .before .before .before .before .before .before .before .before .condition4 .ensures .1)) (c .before .before .before .before .before .before .before .before .before .before .before .condition4 .ensures .0) (c .before .before .before .condition5 .ensures .0) (c .before .before .before .before .before .before .before .before .before .before .before .before .before .before .enum-told3 .given .1), c .before .before .before .condition5 .ensures .1 ∙ c .before .before .before .before .before .before .before .before .before .before .before .condition4 .ensures .1)
+condition-returns-4 t c = (or-is (rowsIn (now (c .before .before .before .before .before .before .before .before .before .before .before .before .before .before .before .before .before .before .before .before .before .before .before .before .before .before .before .args .cb)) (now (c .before .before .before .before .before .before .before .before .before .before .before .before .before .before .before .before .before .before .before .before .before .before .before .before .before .before .before .args .vs))) (assigned (now (c .before .before .before .before .before .before .before .before .before .before .before .before .before .before .before .before .before .before .before .before .before .before .before .before .before .before .before .args .vs)) (now (c .before .before .before .before .before .before .before .before .before .before .before .before .before .before .before .before .before .before .before .before .before .before .before .before .before .before .before .args .env))) (now (c .before .before .before .before .before .before .before .before .before .before .before .before .before .before .before .before .before .before .before .before .before .before .before .before .before .before .before .args .q)) (now (c .before .before .before .before .before .before .before .before .before .before .before .before .before .before .before .before .before .before .before .before .before .before .before .before .before .before .before .args .z)) (now (c .before .before .before .before .before .before .before .before .before .before .before .before .before .before .before .before .before .before .before .before .before .before .before .before .before .before .before .args .memo)) (c .before .before .before .before .before .before .before .before .before .before .before .before .before .before .before .before .before .before .before .before .before .before .before .before .before .before .before .args .level) _ _ _ (c .before .before .before .before .before .before .before .before .before .before .before .before .before .before .before .before .before .before .before .before .before .before .if1 .left) (c .before .before .before .before .before .before .before .before .before .before .before .before .before .before .before .before .before .before .before .before .before .byte .ensures) (c .before .before .before .before .before .before .before .before .before .before .before .before .before .before .before .before .before .before .before .before .record-length .ensures .0) (c .before .before .before .before .before .before .before .before .before .before .before .before .before .before .before .before .read .ensures) _ _ (c .before .before .before .before .before .before .before .before .before .before .before .before .before .before .before .before .before .before .before .tail .ensures) (c .before .before .before .before .before .before .before .before .before .before .before .before .before .before .before .before .before .before .tail-sizes .ensures) _ _ _ _ (c .before .before .before .before .before .before .before .before .before .before .before .before .before .before .before .before .before .size-at .ensures .0) refl (c .before .before .before .before .before .before .before .tail3 .ensures) (c .before .before .before .before .before .before .tail-sizes3 .ensures) _ _ _ (ap (assigned (now (c .before .before .before .before .before .before .before .before .before .before .before .before .before .before .before .before .before .before .before .before .before .before .before .before .before .before .before .args .vs))) (c .before .before .before .before .before .before .before .before .before .before .before .condition4 .ensures .1)) (c .before .before .before .before .before .before .before .before .before .before .before .condition4 .ensures .0) (c .before .before .before .condition5 .ensures .0) (c .before .before .before .before .before .before .before .before .before .before .before .before .before .before .enum-told3 .given .1), c .before .before .before .condition5 .ensures .1 ∙ c .before .before .before .before .before .before .before .before .before .before .before .condition4 .ensures .1)
 
 condition-same-length-7 : (t : ℕ) → condition-lts.Need-same-length-7 (condition-claims t) (condition-at t) condition.Post
 condition-same-length-7 t c = search needs
@@ -173,7 +173,7 @@ condition-same-length-8 : (t : ℕ) → condition-lts.Need-same-length-8 (condit
 condition-same-length-8 t c = search needs
 
 condition-returns-5 : (t : ℕ) → condition-lts.Need-returns-5 (condition-claims t) (condition-at t) condition.Post
-condition-returns-5 t c = (compare-is (rowsIn (now (c .before .before .before .before .before .before .before .before .before .before .before .before .before .before .before .before .before .before .before .before .before .before .before .before .before .before .before .args .catalogue)) (now (c .before .before .before .before .before .before .before .before .before .before .before .before .before .before .before .before .before .before .before .before .before .before .before .before .before .before .before .args .values))) (assigned (now (c .before .before .before .before .before .before .before .before .before .before .before .before .before .before .before .before .before .before .before .before .before .before .before .before .before .before .before .args .values)) (now (c .before .before .before .before .before .before .before .before .before .before .before .before .before .before .before .before .before .before .before .before .before .before .before .before .before .before .before .args .env))) (now (c .before .before .before .before .before .before .before .before .before .before .before .before .before .before .before .before .before .before .before .before .before .before .before .before .before .before .before .args .q)) (now (c .before .before .before .before .before .before .before .before .before .before .before .before .before .before .before .before .before .before .before .before .before .before .before .before .before .before .before .args .z)) (now (c .before .before .before .before .before .before .before .before .before .before .before .before .before .before .before .before .before .before .before .before .before .before .before .before .before .before .before .args .memo)) (c .before .before .before .before .before .before .before .before .before .before .before .before .before .before .before .before .before .before .before .before .before .before .before .before .before .before .before .args .level) _ _ _ (c .before .before .before .before .before .before .before .before .before .before .before .before .before .before .before .before .before .before .before .before .before .before .if1 .left) (c .before .before .before .before .before .before .before .before .before .before .before .before .before .before .before .before .before .before .before .before .before .byte .ensures) (c .before .before .before .before .before .before .before .before .before .before .before .before .before .before .before .before .before .before .before .before .record-length .ensures .0) (c .before .before .before .before .before .before .before .before .before .before .before .before .before .before .before .before .read .ensures) _ _ (c .before .before .before .before .before .before .before .before .before .before .before .before .before .before .before .before .before .before .before .tail .ensures) (c .before .before .before .before .before .before .before .before .before .before .before .before .before .before .before .before .before .before .tail-sizes .ensures) _ _ _ _ (c .before .before .before .before .before .before .before .before .before .before .before .before .before .before .before .before .before .size-at .ensures .0) refl (c .before .before .before .before .before .before .before .tail4 .ensures) (c .before .before .before .before .before .before .tail-sizes4 .ensures) _ _ _ (ap (assigned (now (c .before .before .before .before .before .before .before .before .before .before .before .before .before .before .before .before .before .before .before .before .before .before .before .before .before .before .before .args .values))) (c .before .before .before .before .before .before .before .before .before .before .before .term .ensures .1)) _ (c .before .before .before .before .before .before .before .before .before .before .before .before .before .before .enum-told4 .given .1) (c .before .before .before .before .before .before .before .before .before .before .before .term .ensures .0) (c .before .before .before .term2 .ensures .0), c .before .before .before .term2 .ensures .1 ∙ c .before .before .before .before .before .before .before .before .before .before .before .term .ensures .1)
+condition-returns-5 t c = (compare-is (rowsIn (now (c .before .before .before .before .before .before .before .before .before .before .before .before .before .before .before .before .before .before .before .before .before .before .before .before .before .before .before .args .cb)) (now (c .before .before .before .before .before .before .before .before .before .before .before .before .before .before .before .before .before .before .before .before .before .before .before .before .before .before .before .args .vs))) (assigned (now (c .before .before .before .before .before .before .before .before .before .before .before .before .before .before .before .before .before .before .before .before .before .before .before .before .before .before .before .args .vs)) (now (c .before .before .before .before .before .before .before .before .before .before .before .before .before .before .before .before .before .before .before .before .before .before .before .before .before .before .before .args .env))) (now (c .before .before .before .before .before .before .before .before .before .before .before .before .before .before .before .before .before .before .before .before .before .before .before .before .before .before .before .args .q)) (now (c .before .before .before .before .before .before .before .before .before .before .before .before .before .before .before .before .before .before .before .before .before .before .before .before .before .before .before .args .z)) (now (c .before .before .before .before .before .before .before .before .before .before .before .before .before .before .before .before .before .before .before .before .before .before .before .before .before .before .before .args .memo)) (c .before .before .before .before .before .before .before .before .before .before .before .before .before .before .before .before .before .before .before .before .before .before .before .before .before .before .before .args .level) _ _ _ (c .before .before .before .before .before .before .before .before .before .before .before .before .before .before .before .before .before .before .before .before .before .before .if1 .left) (c .before .before .before .before .before .before .before .before .before .before .before .before .before .before .before .before .before .before .before .before .before .byte .ensures) (c .before .before .before .before .before .before .before .before .before .before .before .before .before .before .before .before .before .before .before .before .record-length .ensures .0) (c .before .before .before .before .before .before .before .before .before .before .before .before .before .before .before .before .read .ensures) _ _ (c .before .before .before .before .before .before .before .before .before .before .before .before .before .before .before .before .before .before .before .tail .ensures) (c .before .before .before .before .before .before .before .before .before .before .before .before .before .before .before .before .before .before .tail-sizes .ensures) _ _ _ _ (c .before .before .before .before .before .before .before .before .before .before .before .before .before .before .before .before .before .size-at .ensures .0) refl (c .before .before .before .before .before .before .before .tail4 .ensures) (c .before .before .before .before .before .before .tail-sizes4 .ensures) _ _ _ (ap (assigned (now (c .before .before .before .before .before .before .before .before .before .before .before .before .before .before .before .before .before .before .before .before .before .before .before .before .before .before .before .args .vs))) (c .before .before .before .before .before .before .before .before .before .before .before .term .ensures .1)) _ (c .before .before .before .before .before .before .before .before .before .before .before .before .before .before .enum-told4 .given .1) (c .before .before .before .before .before .before .before .before .before .before .before .term .ensures .0) (c .before .before .before .term2 .ensures .0), c .before .before .before .term2 .ensures .1 ∙ c .before .before .before .before .before .before .before .before .before .before .before .term .ensures .1)
 
 condition-same-length-9 : (t : ℕ) → condition-lts.Need-same-length-9 (condition-claims t) (condition-at t) condition.Post
 condition-same-length-9 t c = search needs
@@ -182,13 +182,13 @@ condition-same-length-10 : (t : ℕ) → condition-lts.Need-same-length-10 (cond
 condition-same-length-10 t c = search needs
 
 condition-returns-6 : (t : ℕ) → condition-lts.Need-returns-6 (condition-claims t) (condition-at t) condition.Post
-condition-returns-6 t c = (some-is (rowsIn (now (c .before .before .before .before .before .before .before .before .before .before .before .before .before .before .before .before .before .before .before .args .catalogue)) (now (c .before .before .before .before .before .before .before .before .before .before .before .before .before .before .before .before .before .before .before .args .values))) (assigned (now (c .before .before .before .before .before .before .before .before .before .before .before .before .before .before .before .before .before .before .before .args .values)) (now (c .before .before .before .before .before .before .before .before .before .before .before .before .before .before .before .before .before .before .before .args .env))) (now (c .before .before .before .before .before .before .before .before .before .before .before .before .before .before .before .before .before .before .before .args .q)) (now (c .before .before .before .before .before .before .before .before .before .before .before .before .before .before .before .before .before .before .before .args .z)) (now (c .before .before .before .before .before .before .before .before .before .before .before .before .before .before .before .before .before .before .before .args .memo)) (c .before .before .before .before .before .before .before .before .before .before .before .before .before .before .before .before .before .before .before .args .level) _ _ _ (c .before .before .before .before .before .before .before .before .before .before .before .before .before .before .if1 .left) (c .before .before .before .before .before .before .before .before .before .before .before .before .before .byte .ensures) (c .before .before .before .before .before .before .before .before .before .before .before .before .record-length .ensures .0) (c .before .before .before .before .before .before .before .before .read .ensures) _ _ (c .before .before .before .before .before .before .before .before .before .before .before .tail .ensures) (c .before .before .before .before .before .before .before .before .before .before .tail-sizes .ensures) _ _ _ (c .before .before .before .before .before .before .enum-told5 .given .1) (c .before .before .before .condition6 .ensures .0), c .before .before .before .condition6 .ensures .1)
+condition-returns-6 t c = (some-is (rowsIn (now (c .before .before .before .before .before .before .before .before .before .before .before .before .before .before .before .before .before .before .before .args .cb)) (now (c .before .before .before .before .before .before .before .before .before .before .before .before .before .before .before .before .before .before .before .args .vs))) (assigned (now (c .before .before .before .before .before .before .before .before .before .before .before .before .before .before .before .before .before .before .before .args .vs)) (now (c .before .before .before .before .before .before .before .before .before .before .before .before .before .before .before .before .before .before .before .args .env))) (now (c .before .before .before .before .before .before .before .before .before .before .before .before .before .before .before .before .before .before .before .args .q)) (now (c .before .before .before .before .before .before .before .before .before .before .before .before .before .before .before .before .before .before .before .args .z)) (now (c .before .before .before .before .before .before .before .before .before .before .before .before .before .before .before .before .before .before .before .args .memo)) (c .before .before .before .before .before .before .before .before .before .before .before .before .before .before .before .before .before .before .before .args .level) _ _ _ (c .before .before .before .before .before .before .before .before .before .before .before .before .before .before .if1 .left) (c .before .before .before .before .before .before .before .before .before .before .before .before .before .byte .ensures) (c .before .before .before .before .before .before .before .before .before .before .before .before .record-length .ensures .0) (c .before .before .before .before .before .before .before .before .read .ensures) _ _ (c .before .before .before .before .before .before .before .before .before .before .before .tail .ensures) (c .before .before .before .before .before .before .before .before .before .before .tail-sizes .ensures) _ _ _ (c .before .before .before .before .before .before .enum-told5 .given .1) (c .before .before .before .condition6 .ensures .0), c .before .before .before .condition6 .ensures .1)
 
 condition-returns-7 : (t : ℕ) → condition-lts.Need-returns-7 (condition-claims t) (condition-at t) condition.Post
-condition-returns-7 t c = (no-aggregate (rowsIn (now (c .before .before .before .before .before .before .before .before .before .before .before .before .args .catalogue)) (now (c .before .before .before .before .before .before .before .before .before .before .before .before .args .values))) (assigned (now (c .before .before .before .before .before .before .before .before .before .before .before .before .args .values)) (now (c .before .before .before .before .before .before .before .before .before .before .before .before .args .env))) (now (c .before .before .before .before .before .before .before .before .before .before .before .before .args .q)) (now (c .before .before .before .before .before .before .before .before .before .before .before .before .args .z)) (now (c .before .before .before .before .before .before .before .before .before .before .before .before .args .memo)) (c .before .before .before .before .before .before .before .before .before .before .before .before .args .level) _ (c .before .before .before .before .before .before .before .if1 .left) (c .before .read .ensures) (c .match .keys6), search needs)
+condition-returns-7 t c = (no-aggregate (rowsIn (now (c .before .before .before .before .before .before .before .before .before .before .before .before .args .cb)) (now (c .before .before .before .before .before .before .before .before .before .before .before .before .args .vs))) (assigned (now (c .before .before .before .before .before .before .before .before .before .before .before .before .args .vs)) (now (c .before .before .before .before .before .before .before .before .before .before .before .before .args .env))) (now (c .before .before .before .before .before .before .before .before .before .before .before .before .args .q)) (now (c .before .before .before .before .before .before .before .before .before .before .before .before .args .z)) (now (c .before .before .before .before .before .before .before .before .before .before .before .before .args .memo)) (c .before .before .before .before .before .before .before .before .before .before .before .before .args .level) _ (c .before .before .before .before .before .before .before .if1 .left) (c .before .read .ensures) (c .match .keys6), search needs)
 
 term-returns : (t : ℕ) → term-lts.Need-returns (term-claims t) (term-at t) term.Post
-term-returns t c = (none-leftT (rowsIn (now (c .before .before .before .before .before .args .catalogue)) (now (c .before .before .before .before .before .args .values))) (assigned (now (c .before .before .before .before .before .args .values)) (now (c .before .before .before .before .before .args .env))) (now (c .before .before .before .before .before .args .q)) (now (c .before .before .before .before .before .args .z)) (now (c .before .before .before .before .before .args .memo)) (c .before .before .before .before .before .args .level) (c .if1 .taken), search needs)
+term-returns t c = (none-leftT (rowsIn (now (c .before .before .before .before .before .args .cb)) (now (c .before .before .before .before .before .args .vs))) (assigned (now (c .before .before .before .before .before .args .vs)) (now (c .before .before .before .before .before .args .env))) (now (c .before .before .before .before .before .args .q)) (now (c .before .before .before .before .before .args .z)) (now (c .before .before .before .before .before .args .memo)) (c .before .before .before .before .before .args .level) (c .if1 .taken), search needs)
 
 term-read-requires : (t : ℕ) → term-lts.Need-read-requires (term-claims t) (term-at t) term.Post
 term-read-requires t c κs = search needs
@@ -197,7 +197,7 @@ term-enum-known-variable : (t : ℕ) → term-lts.Need-enum-known-variable (term
 term-enum-known-variable t c = search needs
 
 term-returns-2 : (t : ℕ) → term-lts.Need-returns-2 (term-claims t) (term-at t) term.Post
-term-returns-2 t c = (no-term (rowsIn (now (c .before .before .before .before .before .before .before .args .catalogue)) (now (c .before .before .before .before .before .before .before .args .values))) (assigned (now (c .before .before .before .before .before .before .before .args .values)) (now (c .before .before .before .before .before .before .before .args .env))) (now (c .before .before .before .before .before .before .before .args .q)) (now (c .before .before .before .before .before .before .before .args .z)) (now (c .before .before .before .before .before .before .before .args .memo)) (c .before .before .before .before .before .before .before .args .level) _ (c .before .before .if1 .left) (c .before .read .ensures) (c .match .keys2), search needs)
+term-returns-2 t c = (no-term (rowsIn (now (c .before .before .before .before .before .before .before .args .cb)) (now (c .before .before .before .before .before .before .before .args .vs))) (assigned (now (c .before .before .before .before .before .before .before .args .vs)) (now (c .before .before .before .before .before .before .before .args .env))) (now (c .before .before .before .before .before .before .before .args .q)) (now (c .before .before .before .before .before .before .before .args .z)) (now (c .before .before .before .before .before .before .before .args .memo)) (c .before .before .before .before .before .before .before .args .level) _ (c .before .before .if1 .left) (c .before .read .ensures) (c .match .keys2), search needs)
 
 term-byte-requires : (t : ℕ) → term-lts.Need-byte-requires (term-claims t) (term-at t) term.Post
 term-byte-requires t c κs = search needs
@@ -217,8 +217,8 @@ term-sub-condition t c = search needs
 term-condition-requires : (t : ℕ) → term-lts.Need-condition-requires (term-claims t) (term-at t) term.Post
 term-condition-requires t c κs = search needs
 
-term-term-requires : (t : ℕ) → term-lts.Need-term-requires (term-claims t) (term-at t) term.Post
-term-term-requires t c κs = search needs
+term-value-requires : (t : ℕ) → term-lts.Need-value-requires (term-claims t) (term-at t) term.Post
+term-value-requires t c κs = search needs
 
 term-remember-requires : (t : ℕ) → term-lts.Need-remember-requires (term-claims t) (term-at t) term.Post
 term-remember-requires t c κs = search needs
@@ -230,7 +230,7 @@ term-same-length-2 : (t : ℕ) → term-lts.Need-same-length-2 (term-claims t) (
 term-same-length-2 t c = search needs
 
 term-returns-3 : (t : ℕ) → term-lts.Need-returns-3 (term-claims t) (term-at t) term.Post
-term-returns-3 t c = (aggregate-is (rowsIn (now (c .before .before .before .before .before .before .before .before .before .before .before .before .before .before .before .before .before .before .before .before .before .before .before .before .before .before .before .args .catalogue)) (now (c .before .before .before .before .before .before .before .before .before .before .before .before .before .before .before .before .before .before .before .before .before .before .before .before .before .before .before .args .values))) (assigned (now (c .before .before .before .before .before .before .before .before .before .before .before .before .before .before .before .before .before .before .before .before .before .before .before .before .before .before .before .args .values)) (now (c .before .before .before .before .before .before .before .before .before .before .before .before .before .before .before .before .before .before .before .before .before .before .before .before .before .before .before .args .env))) (now (c .before .before .before .before .before .before .before .before .before .before .before .before .before .before .before .before .before .before .before .before .before .before .before .before .before .before .before .args .q)) (now (c .before .before .before .before .before .before .before .before .before .before .before .before .before .before .before .before .before .before .before .before .before .before .before .before .before .before .before .args .z)) (now (c .before .before .before .before .before .before .before .before .before .before .before .before .before .before .before .before .before .before .before .before .before .before .before .before .before .before .before .args .memo)) (c .before .before .before .before .before .before .before .before .before .before .before .before .before .before .before .before .before .before .before .before .before .before .before .before .before .before .before .args .level) _ _ _ (c .before .before .before .before .before .before .before .before .before .before .before .before .before .before .before .before .before .before .before .before .before .before .if1 .left) (c .before .before .before .before .before .before .before .before .before .before .before .before .before .before .before .before .before .byte .ensures) (c .before .before .before .before .before .before .before .before .before .before .before .before .before .before .before .before .record-length .ensures .0) (c .before .before .before .before .before .before .before .before .before .before .before .before .before .before .before .before .before .before .before .before .before .read .ensures) _ _ (c .before .before .before .before .before .before .before .before .before .before .before .before .before .before .before .tail .ensures) (c .before .before .before .before .before .before .before .before .before .before .before .before .before .before .tail-sizes .ensures) _ _ _ _ _ _ _ (c .before .before .before .before .before .before .before .before .before .before .before .before .before .before .before .before .before .before .before .variable .given .1) (c .before .before .before .before .before .before .before .before .before .before .before .condition .ensures .0) (term-is (c .before .before .before .before .before .before .before .before .before .before .before .before .before .before .before .before .before .before .before .before .before .before .before .before .before .before .before .args .level) (now (c .before .before .before .before .before .before .before .before .before .before .before .before .before .before .before .before .before .before .before .before .before .before .before .before .before .before .before .args .q)) (now (c .before .before .before .before .before .before .before .before .before .before .before .before .before .before .before .before .before .before .before .before .before .before .before .before .before .before .before .args .z)) (now (c .before .before .before .before .before .before .before .before .before .before .before .before .before .before .before .before .before .before .before .before .before .before .before .before .before .before .before .args .catalogue)) (now (c .before .before .before .before .before .before .before .before .before .before .before .before .before .before .before .before .before .before .before .before .before .before .before .before .before .before .before .args .values)) _ (now (c .before .before .before .before .before .before .before .before .before .before .before .before .before .before .before .before .before .before .before .before .before .before .before .before .before .before .before .args .env)) _ _ (c .before .before .before .before .before .before .before .before .before .before .before .condition .ensures .1) (c .before .before .before .before .before .term .ensures .0)) (c .before .remember .ensures), c .before .before .before .before .before .term .ensures .1 .1 ∙ c .before .before .before .before .before .before .before .before .before .before .before .condition .ensures .1)
+term-returns-3 t c = (aggregate-is (rowsIn (now (c .before .before .before .before .before .before .before .before .before .before .before .before .before .before .before .before .before .before .before .before .before .before .before .before .before .before .before .args .cb)) (now (c .before .before .before .before .before .before .before .before .before .before .before .before .before .before .before .before .before .before .before .before .before .before .before .before .before .before .before .args .vs))) (assigned (now (c .before .before .before .before .before .before .before .before .before .before .before .before .before .before .before .before .before .before .before .before .before .before .before .before .before .before .before .args .vs)) (now (c .before .before .before .before .before .before .before .before .before .before .before .before .before .before .before .before .before .before .before .before .before .before .before .before .before .before .before .args .env))) (now (c .before .before .before .before .before .before .before .before .before .before .before .before .before .before .before .before .before .before .before .before .before .before .before .before .before .before .before .args .q)) (now (c .before .before .before .before .before .before .before .before .before .before .before .before .before .before .before .before .before .before .before .before .before .before .before .before .before .before .before .args .z)) (now (c .before .before .before .before .before .before .before .before .before .before .before .before .before .before .before .before .before .before .before .before .before .before .before .before .before .before .before .args .memo)) (c .before .before .before .before .before .before .before .before .before .before .before .before .before .before .before .before .before .before .before .before .before .before .before .before .before .before .before .args .level) _ _ _ (c .before .before .before .before .before .before .before .before .before .before .before .before .before .before .before .before .before .before .before .before .before .before .if1 .left) (c .before .before .before .before .before .before .before .before .before .before .before .before .before .before .before .before .before .byte .ensures) (c .before .before .before .before .before .before .before .before .before .before .before .before .before .before .before .before .record-length .ensures .0) (c .before .before .before .before .before .before .before .before .before .before .before .before .before .before .before .before .before .before .before .before .before .read .ensures) _ _ (c .before .before .before .before .before .before .before .before .before .before .before .before .before .before .before .tail .ensures) (c .before .before .before .before .before .before .before .before .before .before .before .before .before .before .tail-sizes .ensures) _ _ _ _ _ _ _ (c .before .before .before .before .before .before .before .before .before .before .before .before .before .before .before .before .before .before .before .variable .given .1) (c .before .before .before .before .before .before .before .before .before .before .before .condition .ensures .0) (term-is (c .before .before .before .before .before .before .before .before .before .before .before .before .before .before .before .before .before .before .before .before .before .before .before .before .before .before .before .args .level) (now (c .before .before .before .before .before .before .before .before .before .before .before .before .before .before .before .before .before .before .before .before .before .before .before .before .before .before .before .args .q)) (now (c .before .before .before .before .before .before .before .before .before .before .before .before .before .before .before .before .before .before .before .before .before .before .before .before .before .before .before .args .z)) (now (c .before .before .before .before .before .before .before .before .before .before .before .before .before .before .before .before .before .before .before .before .before .before .before .before .before .before .before .args .cb)) (now (c .before .before .before .before .before .before .before .before .before .before .before .before .before .before .before .before .before .before .before .before .before .before .before .before .before .before .before .args .vs)) _ (now (c .before .before .before .before .before .before .before .before .before .before .before .before .before .before .before .before .before .before .before .before .before .before .before .before .before .before .before .args .env)) _ _ (c .before .before .before .before .before .before .before .before .before .before .before .condition .ensures .1) (c .before .before .before .before .before .value .ensures .0)) (c .before .remember .ensures), c .before .before .before .before .before .value .ensures .1 .1 ∙ c .before .before .before .before .before .before .before .before .before .before .before .condition .ensures .1)
 
 pub +condition+term-spec : {M : Type 1} → statement M
 +condition+term-spec = close μ-condition μ-term (λ t. condition-lts.spec (condition-claims t)
@@ -293,7 +293,7 @@ pub +condition+term-spec : {M : Type 1} → statement M
     (term-tail-sizes-requires t)
     (term-sub-condition t)
     (term-condition-requires t)
-    (term-term-requires t)
+    (term-value-requires t)
     (term-remember-requires t)
     (term-same-length t)
     (term-same-length-2 t)

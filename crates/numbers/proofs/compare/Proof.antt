@@ -1,10 +1,7 @@
 use Prim.Native.Nat.{ℕ}
+use mathlib.Core.Path.{ap, _∙_}
 use Rattle.model.specs.Meaning.{compare}
 use Rattle.numbers.specs.Numbers as N
-use native.Mathlib.Omega.{arith}
-use lib.IntN.{ℤ, _*ℤ_}
-use Rattle.numbers.proofs.Signed.{fits64, test-is}
-use mathlib.Core.Path.{ap, ap₂, _∙_}
 use borrow.Author.Needs.{needs}
 use Rattle.numbers.proofs.compare.Statement.{statement}
 use Rattle.numbers.proofs.compare.Tie as tie
@@ -12,29 +9,13 @@ use Rattle.numbers.proofs.compare.Tie as tie
 wide-byte-requires : tie.Need-wide-byte-requires
 wide-byte-requires c κs = search needs
 
-product-requires : tie.Need-product-requires
-product-requires c κs = search needs
-
-product-requires-2 : tie.Need-product-requires-2
-product-requires-2 c κs = search needs
-
-ordered-requires : tie.Need-ordered-requires
-ordered-requires c κs = search needs
+compared-requires : tie.Need-compared-requires
+compared-requires c κs = search needs
 
 returns : tie.Need-returns
-unfolding compare
 returns c =
-    let args = c .before .before .before .before .before .before .before .before .args in
-    let pre = c .before .before .before .before .before .before .before .before .pre in
-    let wide = c .before .before .before .before .before .before .before .wide-byte in
-    let product = c .before .before .before .before .product in
-    let product2 = c .before .product2 in
-    c .ordered .ensures
-    ∙ test-is (N.ordered (wide .result)) (product .result) (product2 .result) (record { sfits = product .ok }) (record { sfits = product2 .ok })
-    ∙ ap (λ (o : ℕ). N.ordered o (product .result) (product2 .result)) (wide .ensures)
-    ∙ ap₂ (N.ordered (args .operator))
-    (product .ensures ∙ test-is _*ℤ_ (args .x .numerator) (args .y .denominator) (fits64 (args .x .numerator) (omega (arith, pre .0 .numerator))) (fits64 (args .y .denominator) (omega (arith, pre .1 .denominator))) ∙ ap (λ (z : ℤ). (args .x .numerator) *ℤ z) (pre .1 .sign))
-    (product2 .ensures ∙ test-is _*ℤ_ (args .y .numerator) (args .x .denominator) (fits64 (args .y .numerator) (omega (arith, pre .1 .numerator))) (fits64 (args .x .denominator) (omega (arith, pre .0 .denominator))) ∙ ap (λ (z : ℤ). (args .y .numerator) *ℤ z) (pre .0 .sign))
+    let args = c .before .before .args in
+    c .compared .ensures ∙ ap (λ (o : ℕ). compare o (N.ratioOf (args .x)) (N.ratioOf (args .y))) (c .before .wide-byte .ensures)
 
 pub compare-spec : {M : Type 1} → statement M
-compare-spec = tie.close (tie.spec wide-byte-requires product-requires product-requires-2 ordered-requires returns)
+compare-spec = tie.close (tie.spec wide-byte-requires compared-requires returns)

@@ -1,14 +1,14 @@
 use native.Mathlib.Nat.{le-refl}
 use native.Mathlib.Omega.{arith}
-use Prim.Native.Nat.{ℕ, _+_, _*_, _-_, _<_, _≤_}
-use mathlib.Core.Path.{_≡_, refl, sym, ap, _∙_}
-use mathlib.Core.List.{List}
+use Prim.Native.Nat.{ℕ, _+_, _*_, _-_, _≤_, _<_}
+use mathlib.Core.Path.{_≡_, refl, ap, _∙_}
 use denote.Ref.{now}
 use lib.ListN.{length, set, length-set}
-use Rattle.rows.specs.Buffer.{Buffer, addedAll}
-use Rattle.evaluator.proofs.Steps.{places-start, places-on, places-back, places-length, next-row, row-fits}
+use Rattle.rows.specs.Buffer.{addedAll}
+use Rattle.evaluator.proofs.Steps.{places-start, places-on, places-back, places-length}
 use Rattle.odometer.specs.declared.Plan.{Plan}
-use Rattle.odometer.proofs.Steps.{passed, each-start, each-next, each-first, each-onward, each-all, places-fit, steps-fit, rest-fit, row-next, run-full, run-no, run-row, run-rows}
+use Rattle.odometer.proofs.Steps.{passed, each-next, each-first, each-onward, each-all, run-full, run-no, run-row, run-rows}
+use Rattle.probes.proofs.Places.{places-fit, steps-fit, rest-fit, row-next}
 use borrow.Author.Needs.{needs}
 use borrow.Fn.Kinds.{In}
 use borrow.Fn.PlainCycle.{Measures, is, falls, and}
@@ -59,13 +59,13 @@ abbrev run-claims : ℕ → run-lts.Claims
 run-claims t = (due-reads.Asked, due-reads.Learnt, write-reads.Asked, write-reads.Learnt, each-row-below t, each-row.Post)
 
 abbrev each-row-Inv-loop : each-row-lts.InvT-loop
-each-row-Inv-loop ranges q z t xs cb vs memo env₀ answer₀ variable relation rest inner n w old tests stage base i₀ row₀ filled₀ env answer i row filled =
+each-row-Inv-loop ranges q z t xs cb vs memo env₀ answer₀ variable relation rest inner n w old stage base i₀ row₀ filled₀ env answer i row filled =
     (set env variable old ≡ env₀)
     × (record { rows = filled .rows; full = filled .full; cells = answer } ≡ addedAll (record { rows = filled₀ .rows; full = filled₀ .full; cells = answer₀ }) (passed inner t xs q z cb vs memo env₀ variable rest base w i))
     × (row ≡ base + i * w) × (i ≤ n) × (length env ≡ length env₀) × (length answer ≡ length answer₀)
 
 abbrev each-row-μ-loop : each-row-lts.MeasureT-loop
-each-row-μ-loop ranges q z t xs cb vs memo env₀ answer₀ variable relation rest inner n w old tests stage base i₀ row₀ filled₀ env answer i row filled = n - i
+each-row-μ-loop ranges q z t xs cb vs memo env₀ answer₀ variable relation rest inner n w old stage base i₀ row₀ filled₀ env answer i row filled = n - i
 
 each-row-byte-requires : (t : ℕ) → each-row-lts.Need-byte-requires (each-row-claims t) (each-row-at t) each-row.Post each-row-Inv-loop each-row-μ-loop
 each-row-byte-requires t c κs = search needs
@@ -98,7 +98,7 @@ each-row-base-requires : (t : ℕ) → each-row-lts.Need-base-requires (each-row
 each-row-base-requires t c κs = search needs
 
 each-row-ahead-requires : (t : ℕ) → each-row-lts.Need-ahead-requires (each-row-claims t) (each-row-at t) each-row.Post each-row-Inv-loop each-row-μ-loop
-each-row-ahead-requires t c κs = (c .before .before .before .before .before .before .before .before .before .before .before .before .before .before .before .before .before .before .pre .1 .0, c .before .before .before .before .before .before .before .deeper .ensures .1 .tests, omega (arith, places-fit _ _ _ _ _ (c .before .base .ensures .1) (omega (arith, c .before .before .before .before .before .before .before .before .before .before .byte2 .ok)) (le-refl _) (c .before .before .before .before .before .before .rows .ensures .1) (c .before .before .before .before .before .attributes .ensures .1)))
+each-row-ahead-requires t c κs = (c .before .before .before .before .before .before .before .before .before .before .before .before .before .before .before .before .before .before .pre .1 .0, omega (arith, places-fit _ _ _ _ _ (c .before .base .ensures .1) (omega (arith, c .before .before .before .before .before .before .before .before .before .before .byte2 .ok)) (le-refl _) (c .before .before .before .before .before .before .rows .ensures .1) (c .before .before .before .before .before .attributes .ensures .1)))
 
 each-row-mul-row : (t : ℕ) → each-row-lts.Need-mul-row (each-row-claims t) (each-row-at t) each-row.Post each-row-Inv-loop each-row-μ-loop
 each-row-mul-row t c = omega (arith, steps-fit _ _ _ (c .ahead .ensures .0) (c .before .before .before .before .before .before .before .rows .ensures .1) (c .before .before .before .before .before .before .attributes .ensures .1))
@@ -107,13 +107,17 @@ each-row-add-row : (t : ℕ) → each-row-lts.Need-add-row (each-row-claims t) (
 each-row-add-row t c = omega (arith, places-fit _ _ _ _ _ (c .before .before .base .ensures .1) (omega (arith, c .before .before .before .before .before .before .before .before .before .before .before .byte2 .ok)) (c .ahead .ensures .0) (c .before .before .before .before .before .before .before .rows .ensures .1) (c .before .before .before .before .before .before .attributes .ensures .1))
 
 each-row-loop-holds : (t : ℕ) → each-row-lts.Need-loop-holds (each-row-claims t) (each-row-at t) each-row.Post each-row-Inv-loop each-row-μ-loop
-each-row-loop-holds t c = (places-start (now (c .before .before .before .before .before .before .before .before .before .before .before .before .before .before .before .before .before .before .before .args .env)) (c .before .before .before .before .before .before .before .before .before .before .before .before .byte .result) (c .before .before .before .before .place .result) (c .before .before .before .before .place .ensures), each-first (c .before .before .before .before .before .before .before .before .deeper .result) (now (c .before .before .before .before .before .before .before .before .before .before .before .before .before .before .before .before .before .before .before .args .t)) (now (c .before .before .before .before .before .before .before .before .before .before .before .before .before .before .before .before .before .before .before .args .xs)) (now (c .before .before .before .before .before .before .before .before .before .before .before .before .before .before .before .before .before .before .before .args .q)) (now (c .before .before .before .before .before .before .before .before .before .before .before .before .before .before .before .before .before .before .before .args .z)) (now (c .before .before .before .before .before .before .before .before .before .before .before .before .before .before .before .before .before .before .before .args .cb)) (now (c .before .before .before .before .before .before .before .before .before .before .before .before .before .before .before .before .before .before .before .args .vs)) (now (c .before .before .before .before .before .before .before .before .before .before .before .before .before .before .before .before .before .before .before .args .memo)) (now (c .before .before .before .before .before .before .before .before .before .before .before .before .before .before .before .before .before .before .before .args .env)) (c .before .before .before .before .before .before .before .before .before .before .before .before .byte .result) _ (c .before .before .base .result) (c .before .before .before .before .before .before .attributes .result) (c .before .before .before .before .place .result) (c .ahead .result) (record { rows = c .before .before .before .before .before .before .before .before .before .before .before .before .before .before .before .before .before .before .before .args .state .rows; full = c .before .before .before .before .before .before .before .before .before .before .before .before .before .before .before .before .before .before .before .args .state .full; cells = (now (c .before .before .before .before .before .before .before .before .before .before .before .before .before .before .before .before .before .before .before .args .answer)) }) (places-start (now (c .before .before .before .before .before .before .before .before .before .before .before .before .before .before .before .before .before .before .before .args .env)) (c .before .before .before .before .before .before .before .before .before .before .before .before .byte .result) (c .before .before .before .before .place .result) (c .before .before .before .before .place .ensures)) (c .ahead .ensures .1 (now (c .before .before .before .before .before .before .before .before .before .before .before .before .before .before .before .before .before .before .before .args .q)) (now (c .before .before .before .before .before .before .before .before .before .before .before .before .before .before .before .before .before .before .before .args .z)) (now (c .before .before .before .before .before .before .before .before .before .before .before .before .before .before .before .before .before .before .before .args .cb)) (now (c .before .before .before .before .before .before .before .before .before .before .before .before .before .before .before .before .before .before .before .args .memo))), refl, c .ahead .ensures .0, refl, refl)
+each-row-loop-holds t c =
+    let args = c .before .before .before .before .before .before .before .before .before .before .before .before .before .before .before .before .before .before .before .args in
+    (places-start (now (args .env)) (c .before .before .before .before .before .before .before .before .before .before .before .before .byte .result) (c .before .before .before .before .place .result) (c .before .before .before .before .place .ensures), each-first (c .before .before .before .before .before .before .before .before .deeper .result) (now (args .t)) (now (args .xs)) (now (args .q)) (now (args .z)) (now (args .cb)) (now (args .vs)) (now (args .memo)) (now (args .env)) (c .before .before .before .before .before .before .before .before .before .before .before .before .byte .result) _ (c .before .before .base .result) (c .before .before .before .before .before .before .attributes .result) (c .before .before .before .before .place .result) (c .ahead .result) (record { rows = args .state .rows; full = args .state .full; cells = (now (args .answer)) }) (places-start (now (args .env)) (c .before .before .before .before .before .before .before .before .before .before .before .before .byte .result) (c .before .before .before .before .place .result) (c .before .before .before .before .place .ensures)) (c .ahead .ensures .1 (now (args .q)) (now (args .z)) (now (args .cb))), refl, c .ahead .ensures .0, refl, refl)
 
 each-row-set-place-requires : (t : ℕ) → each-row-lts.Need-set-place-requires (each-row-claims t) (each-row-at t) each-row.Post each-row-Inv-loop each-row-μ-loop
 each-row-set-place-requires t c κs = search needs
 
 each-row-run-requires : (t : ℕ) → each-row-lts.Need-run-requires (each-row-claims t) (each-row-at t) each-row.Post each-row-Inv-loop each-row-μ-loop
-each-row-run-requires t c κs = (omega (arith, c .before .before .before .before .before .before .before .before .before .before .before .before .before .before .before .before .before .before .before .before .before .before .before .before .before .before .before .pre .0, ap (λ (u : Plan). u .left) (c .before .before .before .before .before .before .before .before .before .before .before .before .before .before .before .before .deeper .ensures .0), c .before .before .before .before .before .before .before .before .before .before .before .before .before .before .before .before .before .before .before .before .before .before .before .before .before .before .before .pre .1 .2), (omega (arith, c .before .before .before .before .before .before .before .before .before .before .before .before .before .before .before .before .before .before .before .before .before .before .before .before .before .before .before .pre .1 .0, c .before .before .before .before .before .before .before .loop .inv .4, ap length (c .before .before .before .before .set-place .ensures), length-set (c .before .before .before .before .before .before .before .loop .env) (c .before .before .before .before .before .before .before .before .before .before .before .before .before .before .before .before .before .before .before .before .byte .result) (c .before .before .before .before .before .before .before .loop .row)), c .before .before .before .before .before .before .before .before .before .before .before .before .before .before .before .before .deeper .ensures .1))
+each-row-run-requires t c κs =
+    let loop = c .before .before .before .before .before .before .before .loop in
+    (omega (arith, c .before .before .before .before .before .before .before .before .before .before .before .before .before .before .before .before .before .before .before .before .before .before .before .before .before .before .before .pre .0, ap (λ (u : Plan). u .left) (c .before .before .before .before .before .before .before .before .before .before .before .before .before .before .before .before .deeper .ensures .0), c .before .before .before .before .before .before .before .before .before .before .before .before .before .before .before .before .before .before .before .before .before .before .before .before .before .before .before .pre .1 .2), (omega (arith, c .before .before .before .before .before .before .before .before .before .before .before .before .before .before .before .before .before .before .before .before .before .before .before .before .before .before .before .pre .1 .0, loop .inv .4, ap length (c .before .before .before .before .set-place .ensures), length-set (loop .env) (c .before .before .before .before .before .before .before .before .before .before .before .before .before .before .before .before .before .before .before .before .byte .result) (loop .row)), c .before .before .before .before .before .before .before .before .before .before .before .before .before .before .before .before .deeper .ensures .1))
 
 each-row-add-ahead : (t : ℕ) → each-row-lts.Need-add-ahead (each-row-claims t) (each-row-at t) each-row.Post each-row-Inv-loop each-row-μ-loop
 each-row-add-ahead t c = omega (arith, rest-fit _ _ _ _ _ _ (c .before .before .before .before .before .before .before .before .before .before .before .before .loop .inv .2) (c .before .before .before .before .before .before .before .before .before .before .before .loop-test .taken) (c .before .before .before .before .before .before .before .before .before .before .before .before .before .before .before .base .ensures .1) (omega (arith, c .before .before .before .before .before .before .before .before .before .before .before .before .before .before .before .before .before .before .before .before .before .before .before .before .byte2 .ok)) (c .before .before .before .before .before .before .before .before .before .before .before .before .before .before .before .before .before .before .before .before .rows .ensures .1) (c .before .before .before .before .before .before .before .before .before .before .before .before .before .before .before .before .before .before .before .attributes .ensures .1))
@@ -125,7 +129,9 @@ each-row-sub-ahead-2 : (t : ℕ) → each-row-lts.Need-sub-ahead-2 (each-row-cla
 each-row-sub-ahead-2 t c = search needs
 
 each-row-ahead-requires-2 : (t : ℕ) → each-row-lts.Need-ahead-requires-2 (each-row-claims t) (each-row-at t) each-row.Post each-row-Inv-loop each-row-μ-loop
-each-row-ahead-requires-2 t c κs = (omega (arith, c .before .before .before .before .before .before .before .before .before .before .before .before .before .before .before .before .before .before .before .before .before .before .before .before .before .before .before .before .before .before .before .before .pre .1 .0, c .before .before .before .before .before .before .before .before .before .before .before .before .loop .inv .4, ap length (c .before .before .before .before .before .before .before .before .before .set-place .ensures), length-set (c .before .before .before .before .before .before .before .before .before .before .before .before .loop .env) (c .before .before .before .before .before .before .before .before .before .before .before .before .before .before .before .before .before .before .before .before .before .before .before .before .before .byte .result) (c .before .before .before .before .before .before .before .before .before .before .before .before .loop .row), ap length (c .before .before .before .before .run .ensures .1)), c .before .before .before .before .before .before .before .before .before .before .before .before .before .before .before .before .before .before .before .before .before .deeper .ensures .1 .tests, rest-fit _ _ _ _ _ _ (c .before .before .before .before .before .before .before .before .before .before .before .before .loop .inv .2) (c .before .before .before .before .before .before .before .before .before .before .before .loop-test .taken) (c .before .before .before .before .before .before .before .before .before .before .before .before .before .before .before .base .ensures .1) (omega (arith, c .before .before .before .before .before .before .before .before .before .before .before .before .before .before .before .before .before .before .before .before .before .before .before .before .byte2 .ok)) (c .before .before .before .before .before .before .before .before .before .before .before .before .before .before .before .before .before .before .before .before .rows .ensures .1) (c .before .before .before .before .before .before .before .before .before .before .before .before .before .before .before .before .before .before .before .attributes .ensures .1))
+each-row-ahead-requires-2 t c κs =
+    let loop = c .before .before .before .before .before .before .before .before .before .before .before .before .loop in
+    (omega (arith, c .before .before .before .before .before .before .before .before .before .before .before .before .before .before .before .before .before .before .before .before .before .before .before .before .before .before .before .before .before .before .before .before .pre .1 .0, loop .inv .4, ap length (c .before .before .before .before .before .before .before .before .before .set-place .ensures), length-set (loop .env) (c .before .before .before .before .before .before .before .before .before .before .before .before .before .before .before .before .before .before .before .before .before .before .before .before .before .byte .result) (loop .row), ap length (c .before .before .before .before .run .ensures .1)), rest-fit _ _ _ _ _ _ (loop .inv .2) (c .before .before .before .before .before .before .before .before .before .before .before .loop-test .taken) (c .before .before .before .before .before .before .before .before .before .before .before .before .before .before .before .base .ensures .1) (omega (arith, c .before .before .before .before .before .before .before .before .before .before .before .before .before .before .before .before .before .before .before .before .before .before .before .before .byte2 .ok)) (c .before .before .before .before .before .before .before .before .before .before .before .before .before .before .before .before .before .before .before .before .rows .ensures .1) (c .before .before .before .before .before .before .before .before .before .before .before .before .before .before .before .before .before .before .before .attributes .ensures .1))
 
 each-row-mul-row-2 : (t : ℕ) → each-row-lts.Need-mul-row-2 (each-row-claims t) (each-row-at t) each-row.Post each-row-Inv-loop each-row-μ-loop
 each-row-mul-row-2 t c = omega (arith, steps-fit (c .before .before .before .before .before .before .before .before .before .before .before .before .before .before .before .before .before .before .before .before .attributes .result) (c .ahead2 .result) (c .before .before .before .before .before .before .before .before .before .before .before .before .before .before .before .before .before .before .before .before .before .rows .result) (omega (arith, c .ahead2 .ensures .0)) (c .before .before .before .before .before .before .before .before .before .before .before .before .before .before .before .before .before .before .before .before .before .rows .ensures .1) (c .before .before .before .before .before .before .before .before .before .before .before .before .before .before .before .before .before .before .before .before .attributes .ensures .1))
@@ -134,7 +140,9 @@ each-row-add-row-2 : (t : ℕ) → each-row-lts.Need-add-row-2 (each-row-claims 
 each-row-add-row-2 t c = omega (arith, steps-fit (c .before .before .before .before .before .before .before .before .before .before .before .before .before .before .before .before .before .before .before .before .attributes .result) (c .ahead2 .result) (c .before .before .before .before .before .before .before .before .before .before .before .before .before .before .before .before .before .before .before .before .before .rows .result) (omega (arith, c .ahead2 .ensures .0)) (c .before .before .before .before .before .before .before .before .before .before .before .before .before .before .before .before .before .before .before .before .before .rows .ensures .1) (c .before .before .before .before .before .before .before .before .before .before .before .before .before .before .before .before .before .before .before .before .attributes .ensures .1), c .before .before .before .before .before .before .before .before .before .before .before .before .before .before .before .before .before .before .before .before .attributes .ensures .1)
 
 each-row-add-row-3 : (t : ℕ) → each-row-lts.Need-add-row-3 (each-row-claims t) (each-row-at t) each-row.Post each-row-Inv-loop each-row-μ-loop
-each-row-add-row-3 t c = omega (arith, steps-fit (c .before .before .before .before .before .before .before .before .before .before .before .before .before .before .before .before .before .before .before .before .attributes .result) (c .ahead2 .result) (c .before .before .before .before .before .before .before .before .before .before .before .before .before .before .before .before .before .before .before .before .before .rows .result) (omega (arith, c .ahead2 .ensures .0)) (c .before .before .before .before .before .before .before .before .before .before .before .before .before .before .before .before .before .before .before .before .before .rows .ensures .1) (c .before .before .before .before .before .before .before .before .before .before .before .before .before .before .before .before .before .before .before .before .attributes .ensures .1), places-fit _ _ (c .before .before .before .before .before .before .before .before .before .before .before .before .before .loop .i) _ _ (c .before .before .before .before .before .before .before .before .before .before .before .before .before .before .before .before .base .ensures .1) (omega (arith, c .before .before .before .before .before .before .before .before .before .before .before .before .before .before .before .before .before .before .before .before .before .before .before .before .before .byte2 .ok)) (c .before .before .before .before .before .before .before .before .before .before .before .before .before .loop .inv .3) (c .before .before .before .before .before .before .before .before .before .before .before .before .before .before .before .before .before .before .before .before .before .rows .ensures .1) (c .before .before .before .before .before .before .before .before .before .before .before .before .before .before .before .before .before .before .before .before .attributes .ensures .1), c .before .before .before .before .before .before .before .before .before .before .before .before .before .loop .inv .2, c .before .before .before .before .before .before .before .before .before .before .before .before .before .before .before .before .before .before .before .before .attributes .ensures .1)
+each-row-add-row-3 t c =
+    let loop = c .before .before .before .before .before .before .before .before .before .before .before .before .before .loop in
+    omega (arith, steps-fit (c .before .before .before .before .before .before .before .before .before .before .before .before .before .before .before .before .before .before .before .before .attributes .result) (c .ahead2 .result) (c .before .before .before .before .before .before .before .before .before .before .before .before .before .before .before .before .before .before .before .before .before .rows .result) (omega (arith, c .ahead2 .ensures .0)) (c .before .before .before .before .before .before .before .before .before .before .before .before .before .before .before .before .before .before .before .before .before .rows .ensures .1) (c .before .before .before .before .before .before .before .before .before .before .before .before .before .before .before .before .before .before .before .before .attributes .ensures .1), places-fit _ _ (loop .i) _ _ (c .before .before .before .before .before .before .before .before .before .before .before .before .before .before .before .before .base .ensures .1) (omega (arith, c .before .before .before .before .before .before .before .before .before .before .before .before .before .before .before .before .before .before .before .before .before .before .before .before .before .byte2 .ok)) (loop .inv .3) (c .before .before .before .before .before .before .before .before .before .before .before .before .before .before .before .before .before .before .before .before .before .rows .ensures .1) (c .before .before .before .before .before .before .before .before .before .before .before .before .before .before .before .before .before .before .before .before .attributes .ensures .1), loop .inv .2, c .before .before .before .before .before .before .before .before .before .before .before .before .before .before .before .before .before .before .before .before .attributes .ensures .1)
 
 each-row-add-i : (t : ℕ) → each-row-lts.Need-add-i (each-row-claims t) (each-row-at t) each-row.Post each-row-Inv-loop each-row-μ-loop
 each-row-add-i t c = omega (arith, c .ahead2 .ensures .0, c .before .before .before .before .before .before .before .before .before .before .before .before .before .before .before .before .before .before .before .before .before .rows .ensures .1)
@@ -146,7 +154,10 @@ each-row-loop-less : (t : ℕ) → each-row-lts.Need-loop-less (each-row-claims 
 each-row-loop-less t c = omega (arith, c .ahead2 .ensures .0, c .before .before .before .before .before .before .before .before .before .before .before .before .loop-test .taken)
 
 each-row-loop-again : (t : ℕ) → each-row-lts.Need-loop-again (each-row-claims t) (each-row-at t) each-row.Post each-row-Inv-loop each-row-μ-loop
-each-row-loop-again t c = ((places-back (c .before .before .before .before .before .before .before .before .before .before .before .before .before .loop .env) (now (c .before .before .before .before .before .before .before .before .before .before .before .before .before .before .before .before .before .before .before .before .before .before .before .before .before .before .before .before .before .before .before .before .before .args .env)) _ (c .before .before .before .before .before .before .before .before .before .before .before .before .before .before .before .before .before .before .before .before .before .before .before .before .before .before .byte .result) (c .before .before .before .before .before .before .before .before .before .before .before .before .before .before .before .before .before .before .place .result) (c .before .before .before .before .before .before .before .before .before .before .before .before .before .loop .row) (c .before .before .before .before .before .before .before .before .before .before .before .before .before .loop .inv .0) (c .before .before .before .before .before .before .before .before .before .before .set-place .ensures) _ (c .before .before .before .before .before .run .ensures .1)), each-onward (c .before .before .before .before .before .before .before .before .before .before .before .before .before .before .before .before .before .before .before .before .before .before .deeper .result) (now (c .before .before .before .before .before .before .before .before .before .before .before .before .before .before .before .before .before .before .before .before .before .before .before .before .before .before .before .before .before .before .before .before .before .args .t)) (now (c .before .before .before .before .before .before .before .before .before .before .before .before .before .before .before .before .before .before .before .before .before .before .before .before .before .before .before .before .before .before .before .before .before .args .xs)) (now (c .before .before .before .before .before .before .before .before .before .before .before .before .before .before .before .before .before .before .before .before .before .before .before .before .before .before .before .before .before .before .before .before .before .args .q)) (now (c .before .before .before .before .before .before .before .before .before .before .before .before .before .before .before .before .before .before .before .before .before .before .before .before .before .before .before .before .before .before .before .before .before .args .z)) (now (c .before .before .before .before .before .before .before .before .before .before .before .before .before .before .before .before .before .before .before .before .before .before .before .before .before .before .before .before .before .before .before .before .before .args .cb)) (now (c .before .before .before .before .before .before .before .before .before .before .before .before .before .before .before .before .before .before .before .before .before .before .before .before .before .before .before .before .before .before .before .before .before .args .vs)) (now (c .before .before .before .before .before .before .before .before .before .before .before .before .before .before .before .before .before .before .before .before .before .before .before .before .before .before .before .before .before .before .before .before .before .args .memo)) (now (c .before .before .before .before .before .before .before .before .before .before .before .before .before .before .before .before .before .before .before .before .before .before .before .before .before .before .before .before .before .before .before .before .before .args .env)) (c .before .before .before .before .before .before .before .before .before .before .before .before .before .before .before .before .before .before .before .before .before .before .before .before .before .before .byte .result) _ (c .before .before .before .before .before .before .before .before .before .before .before .before .before .before .before .before .base .result) (c .before .before .before .before .before .before .before .before .before .before .before .before .before .before .before .before .before .before .before .before .attributes .result) (c .before .before .before .before .before .run .last .1 .1 .1 .1 .1 .1 .1 .1 .1 .0) (c .before .before .before .before .before .before .before .before .before .before .before .before .before .before .before .before .before .before .place .result) (c .before .before .before .before .before .before .before .before .before .before .before .before .before .loop .i) (c .ahead2 .result) (c .before .before .before .before .before .before .before .before .before .before .before .before .before .loop .row) _ (record { rows = c .before .before .before .before .before .before .before .before .before .before .before .before .before .before .before .before .before .before .before .before .before .before .before .before .before .before .before .before .before .before .before .before .before .args .state .rows; full = c .before .before .before .before .before .before .before .before .before .before .before .before .before .before .before .before .before .before .before .before .before .before .before .before .before .before .before .before .before .before .before .before .before .args .state .full; cells = (now (c .before .before .before .before .before .before .before .before .before .before .before .before .before .before .before .before .before .before .before .before .before .before .before .before .before .before .before .before .before .before .before .before .before .args .answer)) }) (places-back (c .before .before .before .before .before .before .before .before .before .before .before .before .before .loop .env) (now (c .before .before .before .before .before .before .before .before .before .before .before .before .before .before .before .before .before .before .before .before .before .before .before .before .before .before .before .before .before .before .before .before .before .args .env)) _ (c .before .before .before .before .before .before .before .before .before .before .before .before .before .before .before .before .before .before .before .before .before .before .before .before .before .before .byte .result) (c .before .before .before .before .before .before .before .before .before .before .before .before .before .before .before .before .before .before .place .result) (c .before .before .before .before .before .before .before .before .before .before .before .before .before .loop .row) (c .before .before .before .before .before .before .before .before .before .before .before .before .before .loop .inv .0) (c .before .before .before .before .before .before .before .before .before .before .set-place .ensures) _ (c .before .before .before .before .before .run .ensures .1)) (c .before .before .before .before .before .before .before .before .before .before .before .before .before .loop .inv .2) (c .ahead2 .ensures .1 (now (c .before .before .before .before .before .before .before .before .before .before .before .before .before .before .before .before .before .before .before .before .before .before .before .before .before .before .before .before .before .before .before .before .before .args .q)) (now (c .before .before .before .before .before .before .before .before .before .before .before .before .before .before .before .before .before .before .before .before .before .before .before .before .before .before .before .before .before .before .before .before .before .args .z)) (now (c .before .before .before .before .before .before .before .before .before .before .before .before .before .before .before .before .before .before .before .before .before .before .before .before .before .before .before .before .before .before .before .before .before .args .cb)) (now (c .before .before .before .before .before .before .before .before .before .before .before .before .before .before .before .before .before .before .before .before .before .before .before .before .before .before .before .before .before .before .before .before .before .args .memo))) (each-next (c .before .before .before .before .before .before .before .before .before .before .before .before .before .before .before .before .before .before .before .before .before .before .deeper .result) (now (c .before .before .before .before .before .before .before .before .before .before .before .before .before .before .before .before .before .before .before .before .before .before .before .before .before .before .before .before .before .before .before .before .before .args .t)) (now (c .before .before .before .before .before .before .before .before .before .before .before .before .before .before .before .before .before .before .before .before .before .before .before .before .before .before .before .before .before .before .before .before .before .args .xs)) (now (c .before .before .before .before .before .before .before .before .before .before .before .before .before .before .before .before .before .before .before .before .before .before .before .before .before .before .before .before .before .before .before .before .before .args .q)) (now (c .before .before .before .before .before .before .before .before .before .before .before .before .before .before .before .before .before .before .before .before .before .before .before .before .before .before .before .before .before .before .before .before .before .args .z)) (now (c .before .before .before .before .before .before .before .before .before .before .before .before .before .before .before .before .before .before .before .before .before .before .before .before .before .before .before .before .before .before .before .before .before .args .cb)) (now (c .before .before .before .before .before .before .before .before .before .before .before .before .before .before .before .before .before .before .before .before .before .before .before .before .before .before .before .before .before .before .before .before .before .args .vs)) (now (c .before .before .before .before .before .before .before .before .before .before .before .before .before .before .before .before .before .before .before .before .before .before .before .before .before .before .before .before .before .before .before .before .before .args .memo)) (now (c .before .before .before .before .before .before .before .before .before .before .before .before .before .before .before .before .before .before .before .before .before .before .before .before .before .before .before .before .before .before .before .before .before .args .env)) (c .before .before .before .before .before .before .before .before .before .before .before .before .before .before .before .before .before .before .before .before .before .before .before .before .before .before .byte .result) _ (c .before .before .before .before .before .before .before .before .before .before .before .before .before .before .before .before .base .result) (c .before .before .before .before .before .before .before .before .before .before .before .before .before .before .before .before .before .before .before .before .attributes .result) (record { rows = c .before .before .before .before .before .before .before .before .before .before .before .before .before .before .before .before .before .before .before .before .before .before .before .before .before .before .before .before .before .before .before .before .before .args .state .rows; full = c .before .before .before .before .before .before .before .before .before .before .before .before .before .before .before .before .before .before .before .before .before .before .before .before .before .before .before .before .before .before .before .before .before .args .state .full; cells = (now (c .before .before .before .before .before .before .before .before .before .before .before .before .before .before .before .before .before .before .before .before .before .before .before .before .before .before .before .before .before .before .before .before .before .args .answer)) }) (c .before .before .before .before .before .before .before .before .before .before .before .before .before .loop .i) (c .before .before .before .before .before .before .before .before .before .before .before .before .before .loop .row) (record { rows = c .before .before .before .before .before .before .before .before .before .before .before .before .before .loop .filled .rows; full = c .before .before .before .before .before .before .before .before .before .before .before .before .before .loop .filled .full; cells = c .before .before .before .before .before .before .before .before .before .before .before .before .before .loop .answer }) _ _ (c .before .before .before .before .before .before .before .before .before .before .before .before .before .loop .inv .1) (c .before .before .before .before .before .before .before .before .before .before .before .before .before .loop .inv .2) (omega (arith, c .before .before .before .before .before .before .before .before .before .before .before .before .before .before .before .before .before .before .before .before .before .before .before .before .before .before .before .before .before .before .before .before .before .pre .1 .0, c .before .before .before .before .before .before .before .before .before .before .before .before .before .before .before .before .before .before .before .before .before .before .before .before .before .before .byte .ok)) (places-on (c .before .before .before .before .before .before .before .before .before .before .before .before .before .loop .env) (now (c .before .before .before .before .before .before .before .before .before .before .before .before .before .before .before .before .before .before .before .before .before .before .before .before .before .before .before .before .before .before .before .before .before .args .env)) _ (c .before .before .before .before .before .before .before .before .before .before .before .before .before .before .before .before .before .before .before .before .before .before .before .before .before .before .byte .result) (c .before .before .before .before .before .before .before .before .before .before .before .before .before .before .before .before .before .before .place .result) (c .before .before .before .before .before .before .before .before .before .before .before .before .before .loop .row) (c .before .before .before .before .before .before .before .before .before .before .before .before .before .loop .inv .0) (c .before .before .before .before .before .before .before .before .before .before .set-place .ensures)) (c .before .before .before .before .before .run .ensures .0)), row-next _ _ _ _ _ (c .before .before .before .before .before .before .before .before .before .before .before .before .before .loop .inv .2), omega (arith, c .ahead2 .ensures .0, c .before .before .before .before .before .before .before .before .before .before .before .before .loop-test .taken), places-length (c .before .before .before .before .before .before .before .before .before .before .before .before .before .loop .env) (now (c .before .before .before .before .before .before .before .before .before .before .before .before .before .before .before .before .before .before .before .before .before .before .before .before .before .before .before .before .before .before .before .before .before .args .env)) _ (c .before .before .before .before .before .before .before .before .before .before .before .before .before .before .before .before .before .before .before .before .before .before .before .before .before .before .byte .result) (c .before .before .before .before .before .before .before .before .before .before .before .before .before .before .before .before .before .before .place .result) (c .before .before .before .before .before .before .before .before .before .before .before .before .before .loop .row) (c .before .before .before .before .before .before .before .before .before .before .before .before .before .loop .inv .0) (c .before .before .before .before .before .before .before .before .before .before .set-place .ensures) _ (c .before .before .before .before .before .run .ensures .1) (c .before .before .before .before .before .before .before .before .before .before .before .before .before .loop .inv .4), c .before .before .before .before .before .run .kept .1 .1 .1 .1 .1 .1 .1 .1 .1 .1 .0 ∙ c .before .before .before .before .before .before .before .before .before .before .before .before .before .loop .inv .5)
+each-row-loop-again t c =
+    let args = c .before .before .before .before .before .before .before .before .before .before .before .before .before .before .before .before .before .before .before .before .before .before .before .before .before .before .before .before .before .before .before .before .before .args in
+    let loop = c .before .before .before .before .before .before .before .before .before .before .before .before .before .loop in
+    ((places-back (loop .env) (now (args .env)) _ (c .before .before .before .before .before .before .before .before .before .before .before .before .before .before .before .before .before .before .before .before .before .before .before .before .before .before .byte .result) (c .before .before .before .before .before .before .before .before .before .before .before .before .before .before .before .before .before .before .place .result) (loop .row) (loop .inv .0) (c .before .before .before .before .before .before .before .before .before .before .set-place .ensures) _ (c .before .before .before .before .before .run .ensures .1)), each-onward (c .before .before .before .before .before .before .before .before .before .before .before .before .before .before .before .before .before .before .before .before .before .before .deeper .result) (now (args .t)) (now (args .xs)) (now (args .q)) (now (args .z)) (now (args .cb)) (now (args .vs)) (now (args .memo)) (now (args .env)) (c .before .before .before .before .before .before .before .before .before .before .before .before .before .before .before .before .before .before .before .before .before .before .before .before .before .before .byte .result) _ (c .before .before .before .before .before .before .before .before .before .before .before .before .before .before .before .before .base .result) (c .before .before .before .before .before .before .before .before .before .before .before .before .before .before .before .before .before .before .before .before .attributes .result) (c .before .before .before .before .before .run .last .1 .1 .1 .1 .1 .1 .1 .1 .1 .0) (c .before .before .before .before .before .before .before .before .before .before .before .before .before .before .before .before .before .before .place .result) (loop .i) (c .ahead2 .result) (loop .row) _ (record { rows = args .state .rows; full = args .state .full; cells = (now (args .answer)) }) (places-back (loop .env) (now (args .env)) _ (c .before .before .before .before .before .before .before .before .before .before .before .before .before .before .before .before .before .before .before .before .before .before .before .before .before .before .byte .result) (c .before .before .before .before .before .before .before .before .before .before .before .before .before .before .before .before .before .before .place .result) (loop .row) (loop .inv .0) (c .before .before .before .before .before .before .before .before .before .before .set-place .ensures) _ (c .before .before .before .before .before .run .ensures .1)) (loop .inv .2) (c .ahead2 .ensures .1 (now (args .q)) (now (args .z)) (now (args .cb))) (each-next (c .before .before .before .before .before .before .before .before .before .before .before .before .before .before .before .before .before .before .before .before .before .before .deeper .result) (now (args .t)) (now (args .xs)) (now (args .q)) (now (args .z)) (now (args .cb)) (now (args .vs)) (now (args .memo)) (now (args .env)) (c .before .before .before .before .before .before .before .before .before .before .before .before .before .before .before .before .before .before .before .before .before .before .before .before .before .before .byte .result) _ (c .before .before .before .before .before .before .before .before .before .before .before .before .before .before .before .before .base .result) (c .before .before .before .before .before .before .before .before .before .before .before .before .before .before .before .before .before .before .before .before .attributes .result) (record { rows = args .state .rows; full = args .state .full; cells = (now (args .answer)) }) (loop .i) (loop .row) (record { rows = loop .filled .rows; full = loop .filled .full; cells = loop .answer }) _ _ (loop .inv .1) (loop .inv .2) (omega (arith, c .before .before .before .before .before .before .before .before .before .before .before .before .before .before .before .before .before .before .before .before .before .before .before .before .before .before .before .before .before .before .before .before .before .pre .1 .0, c .before .before .before .before .before .before .before .before .before .before .before .before .before .before .before .before .before .before .before .before .before .before .before .before .before .before .byte .ok)) (places-on (loop .env) (now (args .env)) _ (c .before .before .before .before .before .before .before .before .before .before .before .before .before .before .before .before .before .before .before .before .before .before .before .before .before .before .byte .result) (c .before .before .before .before .before .before .before .before .before .before .before .before .before .before .before .before .before .before .place .result) (loop .row) (loop .inv .0) (c .before .before .before .before .before .before .before .before .before .before .set-place .ensures)) (c .before .before .before .before .before .run .ensures .0)), row-next _ _ _ _ _ (loop .inv .2), omega (arith, c .ahead2 .ensures .0, c .before .before .before .before .before .before .before .before .before .before .before .before .loop-test .taken), places-length (loop .env) (now (args .env)) _ (c .before .before .before .before .before .before .before .before .before .before .before .before .before .before .before .before .before .before .before .before .before .before .before .before .before .before .byte .result) (c .before .before .before .before .before .before .before .before .before .before .before .before .before .before .before .before .before .before .place .result) (loop .row) (loop .inv .0) (c .before .before .before .before .before .before .before .before .before .before .set-place .ensures) _ (c .before .before .before .before .before .run .ensures .1) (loop .inv .4), c .before .before .before .before .before .run .kept .1 .1 .1 .1 .1 .1 .1 .1 .1 .1 .0 ∙ loop .inv .5)
 
 each-row-set-place-requires-2 : (t : ℕ) → each-row-lts.Need-set-place-requires-2 (each-row-claims t) (each-row-at t) each-row.Post each-row-Inv-loop each-row-μ-loop
 each-row-set-place-requires-2 t c κs = search needs
@@ -158,10 +169,15 @@ each-row-same-length-2 : (t : ℕ) → each-row-lts.Need-same-length-2 (each-row
 each-row-same-length-2 t c = search needs
 
 each-row-returns : (t : ℕ) → each-row-lts.Need-returns (each-row-claims t) (each-row-at t) each-row.Post each-row-Inv-loop each-row-μ-loop
-each-row-returns t c = (each-all (c .before .before .before .before .before .before .before .before .before .before .before .before .before .before .before .before .before .before .before .before .before .before .before .before .before .args .plan) (c .before .before .before .before .before .before .before .before .before .before .before .before .before .before .deeper .result) (now (c .before .before .before .before .before .before .before .before .before .before .before .before .before .before .before .before .before .before .before .before .before .before .before .before .before .args .t)) (now (c .before .before .before .before .before .before .before .before .before .before .before .before .before .before .before .before .before .before .before .before .before .before .before .before .before .args .xs)) (now (c .before .before .before .before .before .before .before .before .before .before .before .before .before .before .before .before .before .before .before .before .before .before .before .before .before .args .q)) (now (c .before .before .before .before .before .before .before .before .before .before .before .before .before .before .before .before .before .before .before .before .before .before .before .before .before .args .z)) (now (c .before .before .before .before .before .before .before .before .before .before .before .before .before .before .before .before .before .before .before .before .before .before .before .before .before .args .cb)) (now (c .before .before .before .before .before .before .before .before .before .before .before .before .before .before .before .before .before .before .before .before .before .before .before .before .before .args .vs)) (now (c .before .before .before .before .before .before .before .before .before .before .before .before .before .before .before .before .before .before .before .before .before .before .before .before .before .args .memo)) (now (c .before .before .before .before .before .before .before .before .before .before .before .before .before .before .before .before .before .before .before .before .before .before .before .before .before .args .env)) (c .before .before .before .before .before .before .before .before .before .before .before .before .before .before .before .before .before .before .byte .result) _ (c .before .before .before .before .before .before .before .before .base .result) (c .before .before .before .before .before .before .before .before .before .before .before .before .attributes .result) (record { rows = c .before .before .before .before .before .before .before .before .before .before .before .before .before .before .before .before .before .before .before .before .before .before .before .before .before .args .state .rows; full = c .before .before .before .before .before .before .before .before .before .before .before .before .before .before .before .before .before .before .before .before .before .before .before .before .before .args .state .full; cells = (now (c .before .before .before .before .before .before .before .before .before .before .before .before .before .before .before .before .before .before .before .before .before .before .before .before .before .args .answer)) }) (now (c .before .before .before .before .before .before .before .before .before .before .before .before .before .before .before .before .before .before .before .before .before .before .before .before .before .args .ranges)) (c .before .before .before .before .before .before .before .before .before .before .before .before .before .before .before .before .before .byte2 .result) (c .before .before .before .before .before .before .before .before .before .before .before .before .before .rows .result) (c .before .before .before .before .before .loop .i) _ _ (c .before .before .before .before .before .before .before .before .before .before .before .before .before .before .deeper .ensures .0) (c .before .before .before .before .before .before .before .before .before .before .before .before .before .before .before .before .before .before .byte .ensures) (c .before .before .before .before .before .before .before .before .before .before .before .before .before .before .before .before .before .byte2 .ensures) (c .before .before .before .before .before .before .before .before .before .before .before .before .before .before .before .before .record-length .ensures .0) (c .before .before .before .before .before .before .before .before .before .before .before .before .before .before .before .tail .ensures) (c .before .before .before .before .before .before .before .before .before .before .before .before .before .rows .ensures .0) (c .before .before .before .before .before .before .before .before .before .before .before .before .attributes .ensures .0) (c .before .before .before .before .before .before .before .before .base .ensures .0) (omega (arith, c .before .before .before .before .loop-test .left, c .before .before .before .before .before .loop .inv .3)) (c .before .before .before .before .before .loop .inv .1), c .before .before .set-place2 .ensures ∙ c .before .before .before .before .before .loop .inv .0)
+each-row-returns t c =
+    let args = c .before .before .before .before .before .before .before .before .before .before .before .before .before .before .before .before .before .before .before .before .before .before .before .before .before .args in
+    let loop = c .before .before .before .before .before .loop in
+    (each-all (args .plan) (c .before .before .before .before .before .before .before .before .before .before .before .before .before .before .deeper .result) (now (args .t)) (now (args .xs)) (now (args .q)) (now (args .z)) (now (args .cb)) (now (args .vs)) (now (args .memo)) (now (args .env)) (c .before .before .before .before .before .before .before .before .before .before .before .before .before .before .before .before .before .before .byte .result) _ (c .before .before .before .before .before .before .before .before .base .result) (c .before .before .before .before .before .before .before .before .before .before .before .before .attributes .result) (record { rows = args .state .rows; full = args .state .full; cells = (now (args .answer)) }) (now (args .ranges)) (c .before .before .before .before .before .before .before .before .before .before .before .before .before .before .before .before .before .byte2 .result) (c .before .before .before .before .before .before .before .before .before .before .before .before .before .rows .result) (loop .i) _ _ (c .before .before .before .before .before .before .before .before .before .before .before .before .before .before .deeper .ensures .0) (c .before .before .before .before .before .before .before .before .before .before .before .before .before .before .before .before .before .before .byte .ensures) (c .before .before .before .before .before .before .before .before .before .before .before .before .before .before .before .before .before .byte2 .ensures) (c .before .before .before .before .before .before .before .before .before .before .before .before .before .before .before .before .record-length .ensures .0) (c .before .before .before .before .before .before .before .before .before .before .before .before .before .before .before .tail .ensures) (c .before .before .before .before .before .before .before .before .before .before .before .before .before .rows .ensures .0) (c .before .before .before .before .before .before .before .before .before .before .before .before .attributes .ensures .0) (c .before .before .before .before .before .before .before .before .base .ensures .0) (omega (arith, c .before .before .before .before .loop-test .left, loop .inv .3)) (loop .inv .1), c .before .before .set-place2 .ensures ∙ loop .inv .0)
 
 run-returns : (t : ℕ) → run-lts.Need-returns (run-claims t) (run-at t) run.Post
-run-returns t c = (run-full (c .before .before .before .before .before .before .before .args .plan) (now (c .before .before .before .before .before .before .before .args .t)) (now (c .before .before .before .before .before .before .before .args .xs)) (now (c .before .before .before .before .before .before .before .args .q)) (now (c .before .before .before .before .before .before .before .args .z)) (now (c .before .before .before .before .before .before .before .args .cb)) (now (c .before .before .before .before .before .before .before .args .vs)) (now (c .before .before .before .before .before .before .before .args .memo)) (now (c .before .before .before .before .before .before .before .args .ranges)) (now (c .before .before .before .before .before .before .before .args .env)) (record { rows = c .before .before .before .before .before .before .before .args .state .rows; full = c .before .before .before .before .before .before .before .args .state .full; cells = (now (c .before .before .before .before .before .before .before .args .answer)) }) (c .if1 .taken), search needs)
+run-returns t c =
+    let args = c .before .before .before .before .before .before .before .args in
+    (run-full (args .plan) (now (args .t)) (now (args .xs)) (now (args .q)) (now (args .z)) (now (args .cb)) (now (args .vs)) (now (args .memo)) (now (args .ranges)) (now (args .env)) (record { rows = args .state .rows; full = args .state .full; cells = (now (args .answer)) }) (c .if1 .taken), search needs)
 
 run-due-requires : (t : ℕ) → run-lts.Need-due-requires (run-claims t) (run-at t) run.Post
 run-due-requires t c κs = search needs
@@ -170,7 +186,9 @@ run-same-length : (t : ℕ) → run-lts.Need-same-length (run-claims t) (run-at 
 run-same-length t c = search needs
 
 run-returns-2 : (t : ℕ) → run-lts.Need-returns-2 (run-claims t) (run-at t) run.Post
-run-returns-2 t c = (run-no (c .before .before .before .before .before .before .before .before .before .before .before .before .args .plan) (now (c .before .before .before .before .before .before .before .before .before .before .before .before .args .t)) (now (c .before .before .before .before .before .before .before .before .before .before .before .before .args .xs)) (now (c .before .before .before .before .before .before .before .before .before .before .before .before .args .q)) (now (c .before .before .before .before .before .before .before .before .before .before .before .before .args .z)) (now (c .before .before .before .before .before .before .before .before .before .before .before .before .args .cb)) (now (c .before .before .before .before .before .before .before .before .before .before .before .before .args .vs)) (now (c .before .before .before .before .before .before .before .before .before .before .before .before .args .memo)) (now (c .before .before .before .before .before .before .before .before .before .before .before .before .args .ranges)) (now (c .before .before .before .before .before .before .before .before .before .before .before .before .args .env)) (record { rows = c .before .before .before .before .before .before .before .before .before .before .before .before .args .state .rows; full = c .before .before .before .before .before .before .before .before .before .before .before .before .args .state .full; cells = (now (c .before .before .before .before .before .before .before .before .before .before .before .before .args .answer)) }) _ (c .before .before .before .due .ensures .0) (c .if2 .taken), c .before .before .before .due .ensures .1)
+run-returns-2 t c =
+    let args = c .before .before .before .before .before .before .before .before .before .before .before .before .args in
+    (run-no (args .plan) (now (args .t)) (now (args .xs)) (now (args .q)) (now (args .z)) (now (args .cb)) (now (args .vs)) (now (args .memo)) (now (args .ranges)) (now (args .env)) (record { rows = args .state .rows; full = args .state .full; cells = (now (args .answer)) }) _ (c .before .before .before .due .ensures .0) (c .if2 .taken), c .before .before .before .due .ensures .1)
 
 run-write-requires : (t : ℕ) → run-lts.Need-write-requires (run-claims t) (run-at t) run.Post
 run-write-requires t c κs = search needs
@@ -182,7 +200,9 @@ run-same-length-3 : (t : ℕ) → run-lts.Need-same-length-3 (run-claims t) (run
 run-same-length-3 t c = search needs
 
 run-returns-3 : (t : ℕ) → run-lts.Need-returns-3 (run-claims t) (run-at t) run.Post
-run-returns-3 t c = (run-row (c .before .before .before .before .before .before .before .before .before .before .before .before .before .before .before .before .before .before .before .args .plan) (now (c .before .before .before .before .before .before .before .before .before .before .before .before .before .before .before .before .before .before .before .args .t)) (now (c .before .before .before .before .before .before .before .before .before .before .before .before .before .before .before .before .before .before .before .args .xs)) (now (c .before .before .before .before .before .before .before .before .before .before .before .before .before .before .before .before .before .before .before .args .q)) (now (c .before .before .before .before .before .before .before .before .before .before .before .before .before .before .before .before .before .before .before .args .z)) (now (c .before .before .before .before .before .before .before .before .before .before .before .before .before .before .before .before .before .before .before .args .cb)) (now (c .before .before .before .before .before .before .before .before .before .before .before .before .before .before .before .before .before .before .before .args .vs)) (now (c .before .before .before .before .before .before .before .before .before .before .before .before .before .before .before .before .before .before .before .args .memo)) (now (c .before .before .before .before .before .before .before .before .before .before .before .before .before .before .before .before .before .before .before .args .ranges)) (now (c .before .before .before .before .before .before .before .before .before .before .before .before .before .before .before .before .before .before .before .args .env)) (record { rows = c .before .before .before .before .before .before .before .before .before .before .before .before .before .before .before .before .before .before .before .args .state .rows; full = c .before .before .before .before .before .before .before .before .before .before .before .before .before .before .before .before .before .before .before .args .state .full; cells = (now (c .before .before .before .before .before .before .before .before .before .before .before .before .before .before .before .before .before .before .before .args .answer)) }) _ (c .before .before .before .before .before .before .before .before .before .before .due .ensures .0) _ _ (c .before .before .before .before .before .before .before .if2 .left) (c .before .before .before .before .before .before .if3 .taken) (c .before .before .before .before .before .before .before .before .before .before .due .ensures .1) (c .before .before .before .write .ensures .0), c .before .before .before .write .ensures .1 ∙ c .before .before .before .before .before .before .before .before .before .before .due .ensures .1)
+run-returns-3 t c =
+    let args = c .before .before .before .before .before .before .before .before .before .before .before .before .before .before .before .before .before .before .before .args in
+    (run-row (args .plan) (now (args .t)) (now (args .xs)) (now (args .q)) (now (args .z)) (now (args .cb)) (now (args .vs)) (now (args .memo)) (now (args .ranges)) (now (args .env)) (record { rows = args .state .rows; full = args .state .full; cells = (now (args .answer)) }) _ (c .before .before .before .before .before .before .before .before .before .before .due .ensures .0) _ _ (c .before .before .before .before .before .before .before .if2 .left) (c .before .before .before .before .before .before .if3 .taken) (c .before .before .before .before .before .before .before .before .before .before .due .ensures .1) (c .before .before .before .write .ensures .0), c .before .before .before .write .ensures .1 ∙ c .before .before .before .before .before .before .before .before .before .before .due .ensures .1)
 
 run-each-row-requires : (t : ℕ) → run-lts.Need-each-row-requires (run-claims t) (run-at t) run.Post
 run-each-row-requires t c κs = search needs
@@ -194,7 +214,9 @@ run-same-length-5 : (t : ℕ) → run-lts.Need-same-length-5 (run-claims t) (run
 run-same-length-5 t c = search needs
 
 run-returns-4 : (t : ℕ) → run-lts.Need-returns-4 (run-claims t) (run-at t) run.Post
-run-returns-4 t c = (run-rows (c .before .before .before .before .before .before .before .before .before .before .before .before .before .before .before .before .before .before .before .args .plan) (now (c .before .before .before .before .before .before .before .before .before .before .before .before .before .before .before .before .before .before .before .args .t)) (now (c .before .before .before .before .before .before .before .before .before .before .before .before .before .before .before .before .before .before .before .args .xs)) (now (c .before .before .before .before .before .before .before .before .before .before .before .before .before .before .before .before .before .before .before .args .q)) (now (c .before .before .before .before .before .before .before .before .before .before .before .before .before .before .before .before .before .before .before .args .z)) (now (c .before .before .before .before .before .before .before .before .before .before .before .before .before .before .before .before .before .before .before .args .cb)) (now (c .before .before .before .before .before .before .before .before .before .before .before .before .before .before .before .before .before .before .before .args .vs)) (now (c .before .before .before .before .before .before .before .before .before .before .before .before .before .before .before .before .before .before .before .args .memo)) (now (c .before .before .before .before .before .before .before .before .before .before .before .before .before .before .before .before .before .before .before .args .ranges)) (now (c .before .before .before .before .before .before .before .before .before .before .before .before .before .before .before .before .before .before .before .args .env)) (record { rows = c .before .before .before .before .before .before .before .before .before .before .before .before .before .before .before .before .before .before .before .args .state .rows; full = c .before .before .before .before .before .before .before .before .before .before .before .before .before .before .before .before .before .before .before .args .state .full; cells = (now (c .before .before .before .before .before .before .before .before .before .before .before .before .before .before .before .before .before .before .before .args .answer)) }) _ (c .before .before .before .before .before .before .before .before .before .before .due .ensures .0) _ _ (c .before .before .before .before .before .before .before .if2 .left) (c .before .before .before .before .before .before .if3 .left) (c .before .before .before .before .before .before .before .before .before .before .due .ensures .1) (c .before .before .before .each-row .ensures .0), c .before .before .before .each-row .ensures .1 ∙ c .before .before .before .before .before .before .before .before .before .before .due .ensures .1)
+run-returns-4 t c =
+    let args = c .before .before .before .before .before .before .before .before .before .before .before .before .before .before .before .before .before .before .before .args in
+    (run-rows (args .plan) (now (args .t)) (now (args .xs)) (now (args .q)) (now (args .z)) (now (args .cb)) (now (args .vs)) (now (args .memo)) (now (args .ranges)) (now (args .env)) (record { rows = args .state .rows; full = args .state .full; cells = (now (args .answer)) }) _ (c .before .before .before .before .before .before .before .before .before .before .due .ensures .0) _ _ (c .before .before .before .before .before .before .before .if2 .left) (c .before .before .before .before .before .before .if3 .left) (c .before .before .before .before .before .before .before .before .before .before .due .ensures .1) (c .before .before .before .each-row .ensures .0), c .before .before .before .each-row .ensures .1 ∙ c .before .before .before .before .before .before .before .before .before .before .due .ensures .1)
 
 pub +each-row+run-spec : {M : Type 1} → statement M
 +each-row+run-spec = close μ-each-row μ-run (λ t. each-row-lts.spec (each-row-claims t)

@@ -1,5 +1,7 @@
+use native.Mathlib.Omega.{arith}
 use denote.Ref.{now}
 use Rattle.plain.proofs.Answers.{answered-by}
+use Rattle.aggregates.proofs.Taking.{getD-same}
 use borrow.Author.Needs.{needs}
 use Rattle.plain.proofs.answer_query.Statement.{statement}
 use Rattle.plain.proofs.answer_query.Tie as tie
@@ -22,43 +24,43 @@ slice-aggregate-remember-2 c = search needs
 remember-requires : tie.Need-remember-requires
 remember-requires c κs = search needs
 
--- src/lib.rt:101:68
+-- src/lib.rt:101:56
 slice-aggregate-plan : tie.Need-slice-aggregate-plan
 slice-aggregate-plan c = search needs
 
--- src/lib.rt:101:75
+-- src/lib.rt:101:63
 slice-aggregate-plan-2 : tie.Need-slice-aggregate-plan-2
 slice-aggregate-plan-2 c = search needs
 
--- src/lib.rt:101:83
+-- src/lib.rt:101:71
 slice-aggregate-plan-3 : tie.Need-slice-aggregate-plan-3
 slice-aggregate-plan-3 c = search needs
 
--- src/lib.rt:101:9
+-- src/lib.rt:101:5
 plan-requires : tie.Need-plan-requires
-plan-requires c κs = search needs
+plan-requires c κs = (omega arith, omega arith, omega (arith, c .before .before .before .before .before .before .before .before .before .before .before .pre .ranges), omega (arith, c .before .before .before .before .before .before .before .before .before .before .before .pre .place), omega (arith, c .before .before .before .before .before .before .before .before .before .before .before .pre .level), getD-same 512 0)
 
--- src/lib.rt:119:9
+-- src/lib.rt:118:9
 slice-aggregate-run : tie.Need-slice-aggregate-run
 slice-aggregate-run c = search needs
 
--- src/lib.rt:120:9
+-- src/lib.rt:119:9
 slice-aggregate-run-2 : tie.Need-slice-aggregate-run-2
 slice-aggregate-run-2 c = search needs
 
--- src/lib.rt:124:9
+-- src/lib.rt:123:9
 slice-aggregate-run-3 : tie.Need-slice-aggregate-run-3
 slice-aggregate-run-3 c = search needs
 
--- src/lib.rt:125:9
+-- src/lib.rt:124:9
 slice-aggregate-run-4 : tie.Need-slice-aggregate-run-4
 slice-aggregate-run-4 c = search needs
 
--- src/lib.rt:115:9
+-- src/lib.rt:114:9
 run-requires : tie.Need-run-requires
 run-requires c κs = search needs
 
--- src/lib.rt:129:5
+-- src/lib.rt:128:5
 filled-requires : tie.Need-filled-requires
 filled-requires c κs = search needs
 
@@ -68,7 +70,9 @@ same-length c = search needs
 
 -- src/lib.rt:82:1
 returns : tie.Need-returns
-returns c = answered-by (c .before .before .before .before .before .before .before .before .before .before .before .before .before .before .before .before .before .before .before .before .before .before .before .args .layout) (c .before .before .before .before .before .before .before .before .before .before .before .before .before .before .before .before .before .before .before .before .before .before .before .args .level) (now (c .before .before .before .before .before .before .before .before .before .before .before .before .before .before .before .before .before .before .before .before .before .before .before .args .q)) (now (c .before .before .before .before .before .before .before .before .before .before .before .before .before .before .before .before .before .before .before .before .before .before .before .args .z)) (now (c .before .before .before .before .before .before .before .before .before .before .before .before .before .before .before .before .before .before .before .before .before .before .before .args .catalogue)) (now (c .before .before .before .before .before .before .before .before .before .before .before .before .before .before .before .before .before .before .before .before .before .before .before .args .values)) (c .before .before .before .before .before .before .before .before .before .before .before .before .before .before .before .before .before .before .before .before .before .before .before .pre) (c .before .before .before .before .before .before .before .before .before .before .before .plan .result) _ _ _ _ (c .before .before .before .run .result) _ _ _ (c .before .before .before .before .before .before .before .before .before .before .before .before .before .before .before .before .before .remember .ensures .0) (c .before .before .before .before .before .before .before .before .before .before .before .before .before .before .before .before .before .remember .ensures .1) (c .before .before .before .before .before .before .before .before .before .before .before .plan .ensures .1 (now (c .before .before .before .before .before .before .before .before .before .before .before .before .before .before .before .before .before .before .before .before .before .before .before .args .values))) (c .before .before .before .run .ensures .0) (c .filled .ensures)
+returns c =
+    let args = c .before .before .before .before .before .before .before .before .before .before .before .before .before .before .before .before .before .before .before .before .before .before .before .args in
+    answered-by (args .layout) (args .level) (now (args .q)) (now (args .z)) (now (args .catalogue)) (now (args .values)) (c .before .before .before .before .before .before .before .before .before .before .before .before .before .before .before .before .before .before .before .before .before .before .before .pre) _ _ _ _ (c .before .before .before .run .result) _ _ _ (c .before .before .before .before .before .before .before .before .before .before .before .before .before .before .before .before .before .remember .ensures .0) (c .before .before .before .before .before .before .before .before .before .before .before .before .before .before .before .before .before .remember .ensures .1) (c .before .before .before .before .before .before .before .before .before .before .before .plan .ensures (now (args .values))) (c .before .before .before .run .ensures .0) (c .filled .ensures)
 
 pub answer-query-spec : {M : Type 1} → statement M
 answer-query-spec =

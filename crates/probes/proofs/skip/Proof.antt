@@ -1,9 +1,7 @@
-use Prim.Native.Nat.{ℕ, _+_, _*_}
-use mathlib.Core.Path.{refl, _∙_}
+use Prim.Native.Nat.{_+_, _*_}
+use mathlib.Core.Path.{refl}
 use native.Mathlib.Omega.{arith}
 use denote.Ref.{now}
-use mir.Syntax.{w64}
-use mir.Facts.{toZ-ofZ}
 use Rattle.catalogue.specs.Layout.{tupleAt}
 use Rattle.evaluator.specs.Evaluation.{assigned}
 use Rattle.probes.proofs.Steps.{left-fails, right-fails}
@@ -12,135 +10,134 @@ use Rattle.probes.proofs.skip.Statement.{statement}
 use Rattle.probes.proofs.skip.Tie as tie
 use Rattle.probes.proofs.skip.Reads as reads
 use Rattle.probes.proofs.skip.Lts as lts
-use Rattle.conjuncts.proofs.side.Reads as side-reads
+use Rattle.branches.proofs.side.Reads as side-reads
 use Rattle.kinds.proofs.size_at.Reads as size-at-reads
 use Rattle.probes.proofs.failing.Reads as failing-reads
 
--- src/lib.rt:86:13
-mul-i : tie.Need-mul-i
-mul-i c = search needs
+-- src/lib.rt:84:13
+mul-p : tie.Need-mul-p
+mul-p c = search needs
 
--- src/lib.rt:87:38
-add-size-at : tie.Need-add-size-at
-add-size-at c = search needs
-
--- src/lib.rt:87:9
+-- src/lib.rt:85:9
 size-at-requires : tie.Need-size-at-requires
 size-at-requires c κs = search needs
 
--- src/lib.rt:89:9
+-- src/lib.rt:87:9
 returns : tie.Need-returns
-returns c = (search needs, λ q z cb m j h. absurd (omega arith))
+returns c = (search needs, λ q z cb j h. absurd (omega arith))
 
--- src/lib.rt:92:31
-add-size-at-2 : tie.Need-add-size-at-2
-add-size-at-2 c = search needs
+-- src/lib.rt:90:31
+add-size-at : tie.Need-add-size-at
+add-size-at c = search needs
 
--- src/lib.rt:92:9
+-- src/lib.rt:90:9
 size-at-requires-2 : tie.Need-size-at-requires-2
 size-at-requires-2 c κs = search needs
 
--- src/lib.rt:93:31
-add-size-at-3 : tie.Need-add-size-at-3
-add-size-at-3 c = search needs
+-- src/lib.rt:91:31
+add-size-at-2 : tie.Need-add-size-at-2
+add-size-at-2 c = search needs
 
--- src/lib.rt:93:9
+-- src/lib.rt:91:9
 size-at-requires-3 : tie.Need-size-at-requires-3
 size-at-requires-3 c κs = search needs
 
--- src/lib.rt:96:13
+-- src/lib.rt:94:13
 returns-2 : tie.Need-returns-2
-returns-2 c = (search needs, λ q z cb m j h. absurd (omega arith))
+returns-2 c = (search needs, λ q z cb j h. absurd (omega arith))
 
--- src/lib.rt:98:36
+-- src/lib.rt:96:35
 add-side : tie.Need-add-side
 add-side c = search needs
 
--- src/lib.rt:98:47
+-- src/lib.rt:96:46
 mul-side : tie.Need-mul-side
 mul-side c = search needs
 
--- src/lib.rt:98:47
+-- src/lib.rt:96:46
 add-side-2 : tie.Need-add-side-2
 add-side-2 c = search needs
 
--- src/lib.rt:98:13
+-- src/lib.rt:96:13
 side-requires : tie.Need-side-requires
 side-requires c κs = search needs
 
--- src/lib.rt:104:31
-add-size-at-4 : tie.Need-add-size-at-4
-add-size-at-4 c = search needs
+-- src/lib.rt:97:35
+add-size-at-3 : tie.Need-add-size-at-3
+add-size-at-3 c = search needs
 
--- src/lib.rt:104:13
+-- src/lib.rt:97:13
 size-at-requires-4 : tie.Need-size-at-requires-4
 size-at-requires-4 c κs = search needs
 
--- src/lib.rt:99:9
+-- src/lib.rt:98:9
 failing-requires : tie.Need-failing-requires
 failing-requires c κs = search needs
 
--- src/lib.rt:99:9
+-- src/lib.rt:98:9
 returns-3 : tie.Need-returns-3
-returns-3 c = (c .failing .ensures .0, λ q z cb m j h. left-fails (now (c .before .before .before .before .before .before .before .before .before .before .before .args .t)) (now (c .before .before .before .before .before .before .before .before .before .before .before .args .xs)) q z cb (now (c .before .before .before .before .before .before .before .before .before .before .before .args .values)) m (c .before .before .before .before .before .before .before .before .before .before .before .args .k) (c .before .before .before .before .before .before .before .before .before .before .before .args .variable) (assigned (now (c .before .before .before .before .before .before .before .before .before .before .before .args .values)) (now (c .before .before .before .before .before .before .before .before .before .before .before .args .env))) (tupleAt (now (c .before .before .before .before .before .before .before .before .before .before .before .args .values)) (c .before .before .before .before .before .before .before .before .before .before .before .args .row + j * c .before .before .before .before .before .before .before .before .before .before .before .args .w)) _ _ _ _ (c .before .before .before .before .before .before .before .before .size-at .ensures .0) (c .before .before .before .before .before .before .before .if1 .left) (c .before .before .before .before .before .before .size-at2 .ensures .0) (c .before .before .before .before .before .size-at3 .ensures .0) (search needs) _ _ (c .before .before .before .before .if2 .taken) (c .before .before .before .if3 .left) refl (c .before .size-at4 .ensures .0) (toZ-ofZ {w = w64} (record { sfits = c .before .before .side .ok }) ∙ c .before .before .side .ensures) (c .failing .ensures .1 j h))
+returns-3 c =
+    let args = c .before .before .before .before .before .before .before .before .before .before .before .args in
+    (c .failing .ensures .0, λ q z cb j h. left-fails (now (args .t)) (now (args .xs)) q z cb (now (args .values)) (now (args .memo)) (args .i) (args .variable) (assigned (now (args .values)) (now (args .env))) (tupleAt (now (args .values)) (args .row + j * args .w)) _ _ _ _ (c .before .before .before .before .before .before .before .before .size-at .ensures .0) (c .before .before .before .before .before .before .before .if1 .left) (c .before .before .before .before .before .before .size-at2 .ensures .0) (c .before .before .before .before .before .size-at3 .ensures .0) (search needs) _ _ (c .before .before .before .before .if2 .taken) (c .before .before .before .if3 .left) refl (c .before .size-at4 .ensures .0) (c .before .before .side .ensures .0) (c .failing .ensures .1 j h))
 
--- src/lib.rt:111:36
+-- src/lib.rt:101:35
 add-side-3 : tie.Need-add-side-3
 add-side-3 c = search needs
 
--- src/lib.rt:111:47
+-- src/lib.rt:101:46
 mul-side-2 : tie.Need-mul-side-2
 mul-side-2 c = search needs
 
--- src/lib.rt:111:13
+-- src/lib.rt:101:13
 side-requires-2 : tie.Need-side-requires-2
 side-requires-2 c κs = search needs
 
--- src/lib.rt:117:31
-add-size-at-5 : tie.Need-add-size-at-5
-add-size-at-5 c = search needs
+-- src/lib.rt:102:35
+add-size-at-4 : tie.Need-add-size-at-4
+add-size-at-4 c = search needs
 
--- src/lib.rt:117:13
+-- src/lib.rt:102:13
 size-at-requires-5 : tie.Need-size-at-requires-5
 size-at-requires-5 c κs = search needs
 
--- src/lib.rt:112:9
+-- src/lib.rt:103:9
 failing-requires-2 : tie.Need-failing-requires-2
 failing-requires-2 c κs = search needs
 
--- src/lib.rt:112:9
+-- src/lib.rt:103:9
 returns-4 : tie.Need-returns-4
-returns-4 c = (c .failing2 .ensures .0, λ q z cb m j h. right-fails (now (c .before .before .before .before .before .before .before .before .before .before .before .args .t)) (now (c .before .before .before .before .before .before .before .before .before .before .before .args .xs)) q z cb (now (c .before .before .before .before .before .before .before .before .before .before .before .args .values)) m (c .before .before .before .before .before .before .before .before .before .before .before .args .k) (c .before .before .before .before .before .before .before .before .before .before .before .args .variable) (assigned (now (c .before .before .before .before .before .before .before .before .before .before .before .args .values)) (now (c .before .before .before .before .before .before .before .before .before .before .before .args .env))) (tupleAt (now (c .before .before .before .before .before .before .before .before .before .before .before .args .values)) (c .before .before .before .before .before .before .before .before .before .before .before .args .row + j * c .before .before .before .before .before .before .before .before .before .before .before .args .w)) _ _ _ _ (c .before .before .before .before .before .before .before .before .size-at .ensures .0) (c .before .before .before .before .before .before .before .if1 .left) (c .before .before .before .before .before .before .size-at2 .ensures .0) (c .before .before .before .before .before .size-at3 .ensures .0) (search needs) _ _ (c .before .before .before .before .if2 .left) (c .before .before .before .if4 .taken) refl (c .before .size-at5 .ensures .0) (toZ-ofZ {w = w64} (record { sfits = c .before .before .side2 .ok }) ∙ c .before .before .side2 .ensures) (c .failing2 .ensures .1 j h))
+returns-4 c =
+    let args = c .before .before .before .before .before .before .before .before .before .before .before .args in
+    (c .failing2 .ensures .0, λ q z cb j h. right-fails (now (args .t)) (now (args .xs)) q z cb (now (args .values)) (now (args .memo)) (args .i) (args .variable) (assigned (now (args .values)) (now (args .env))) (tupleAt (now (args .values)) (args .row + j * args .w)) _ _ _ _ (c .before .before .before .before .before .before .before .before .size-at .ensures .0) (c .before .before .before .before .before .before .before .if1 .left) (c .before .before .before .before .before .before .size-at2 .ensures .0) (c .before .before .before .before .before .size-at3 .ensures .0) (search needs) _ _ (c .before .before .before .before .if2 .left) (c .before .before .before .if4 .taken) refl (c .before .size-at5 .ensures .0) (c .before .before .side2 .ensures .0) (c .failing2 .ensures .1 j h))
 
--- src/lib.rt:71:1
+-- src/lib.rt:68:1
 returns-5 : tie.Need-returns-5
-returns-5 c = (search needs, λ q z cb m j h. absurd (omega arith))
+returns-5 c = (search needs, λ q z cb j h. absurd (omega arith))
 
 pub skip-spec : {M : Type 1} → statement M
 skip-spec =
     tie.close
     (tie.spec
-    mul-i
-    add-size-at
+    mul-p
     size-at-requires
     returns
-    add-size-at-2
+    add-size-at
     size-at-requires-2
-    add-size-at-3
+    add-size-at-2
     size-at-requires-3
     returns-2
     add-side
     mul-side
     add-side-2
     side-requires
-    add-size-at-4
+    add-size-at-3
     size-at-requires-4
     failing-requires
     returns-3
     add-side-3
     mul-side-2
     side-requires-2
-    add-size-at-5
+    add-size-at-4
     size-at-requires-5
     failing-requires-2
     returns-4

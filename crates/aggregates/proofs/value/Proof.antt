@@ -1,0 +1,134 @@
+use denote.Ref.{now}
+use Rattle.aggregates.proofs.Taking.{nonzero}
+use Rattle.model.proofs.Tests.{not-no}
+use native.Mathlib.Omega.{arith}
+use mathlib.Core.Path.{_≡_, refl, sym, ap, _∙_}
+use Rattle.numbers.specs.Numbers.{represent}
+use Rattle.numbers.proofs.Laws.{ends}
+use Rattle.evaluator.proofs.Steps.{known-is, aggregate-is}
+use borrow.Author.Needs.{needs}
+use Rattle.aggregates.proofs.value.Statement.{statement}
+use Rattle.aggregates.proofs.value.Tie as tie
+use Rattle.aggregates.proofs.value.Reads as reads
+use Rattle.aggregates.proofs.value.Lts as lts
+use Rattle.aggregates.proofs.compiled.Reads as compiled-reads
+use Rattle.aggregates.proofs.gather.Reads as gather-reads
+use Rattle.evaluator.proofs.term.Reads as term-reads
+use Rattle.kinds.proofs.byte.Reads as byte-reads
+use Rattle.kinds.proofs.read.Reads as read-reads
+use Rattle.kinds.proofs.record_length.Reads as record-length-reads
+use Rattle.kinds.proofs.tail.Reads as tail-reads
+use Rattle.kinds.proofs.tail_sizes.Reads as tail-sizes-reads
+use Rattle.numbers.proofs.finish.Reads as finish-reads
+use Rattle.numbers.proofs.knows.Reads as knows-reads
+use Rattle.numbers.proofs.recall.Reads as recall-reads
+
+-- src/lib.rt:150:9
+compiled-requires : tie.Need-compiled-requires
+compiled-requires c κs = search needs
+
+-- src/lib.rt:151:9
+term-requires : tie.Need-term-requires
+term-requires c κs = search needs
+
+-- src/lib.rt:151:9
+same-length : tie.Need-same-length
+same-length c = search needs
+
+-- src/lib.rt:151:9
+returns : tie.Need-returns
+returns c = search needs
+
+-- src/lib.rt:153:70
+read-requires : tie.Need-read-requires
+read-requires c κs = search needs
+
+-- src/lib.rt:153:27
+enum-known-function : tie.Need-enum-known-function
+enum-known-function c = search needs
+
+-- src/lib.rt:154:9
+term-requires-2 : tie.Need-term-requires-2
+term-requires-2 c κs = search needs
+
+-- src/lib.rt:154:9
+same-length-2 : tie.Need-same-length-2
+same-length-2 c = search needs
+
+-- src/lib.rt:154:9
+returns-2 : tie.Need-returns-2
+returns-2 c = search needs
+
+-- src/lib.rt:156:8
+knows-requires : tie.Need-knows-requires
+knows-requires c κs = search needs
+
+-- src/lib.rt:157:9
+recall-requires : tie.Need-recall-requires
+recall-requires c κs = sym (c .before .knows .ensures) ∙ c .if2 .taken
+
+-- src/lib.rt:157:9
+returns-3 : tie.Need-returns-3
+returns-3 c = (c .recall .ensures .0 ∙ ap represent (known-is (now (c .before .before .before .before .before .before .before .before .before .before .before .before .before .args .cb)) (now (c .before .before .before .before .before .before .before .before .before .before .before .before .before .args .vs)) (now (c .before .before .before .before .before .before .before .before .before .before .before .before .before .args .memo)) (now (c .before .before .before .before .before .before .before .before .before .before .before .before .before .args .env)) (now (c .before .before .before .before .before .before .before .before .before .before .before .before .before .args .q)) (now (c .before .before .before .before .before .before .before .before .before .before .before .before .before .args .z)) (c .before .before .before .before .before .before .before .before .before .before .before .before .before .args .level) _ _ _ (nonzero _ (c .before .before .before .before .before .before .before .before .compiled .ensures (not-no _ (c .before .before .before .before .before .before .before .if1 .left)) .0)) refl refl (c .before .before .before .before .before .before .read .ensures) _ _ _ _ _ _ (c .before .before .before .before .function .given .1) (c .before .before .knows .ensures) (c .before .if2 .taken) refl), (c .recall .ensures .1, refl))
+
+-- src/lib.rt:159:34
+byte-requires : tie.Need-byte-requires
+byte-requires c κs = search needs
+
+-- src/lib.rt:159:9
+record-length-requires : tie.Need-record-length-requires
+record-length-requires c κs = search needs
+
+-- src/lib.rt:160:9
+tail-requires : tie.Need-tail-requires
+tail-requires c κs = search needs
+
+-- src/lib.rt:161:9
+tail-sizes-requires : tie.Need-tail-sizes-requires
+tail-sizes-requires c κs = search needs
+
+-- src/lib.rt:162:13
+sub-l : tie.Need-sub-l
+sub-l c = c .before .before .before .before .before .before .before .before .before .before .before .compiled .ensures (not-no _ (c .before .before .before .before .before .before .before .before .before .before .if1 .left)) .0
+
+-- src/lib.rt:163:9
+gather-requires : tie.Need-gather-requires
+gather-requires c κs = (c .before .before .before .before .before .before .before .before .before .before .before .before .before .before .before .before .before .pre, omega (arith, c .before .before .before .before .before .before .before .before .before .before .before .before .compiled .ensures (not-no _ (c .before .before .before .before .before .before .before .before .before .before .before .if1 .left)) .1))
+
+-- src/lib.rt:164:5
+finish-requires : tie.Need-finish-requires
+finish-requires c κs = search needs
+
+-- src/lib.rt:136:1
+same-length-3 : tie.Need-same-length-3
+same-length-3 c = search needs
+
+-- src/lib.rt:136:1
+returns-4 : tie.Need-returns-4
+returns-4 c = (ends _ _ _ _ (c .before .before .before .gather .ensures .0) (c .finish .ensures .0) ∙ ap represent (aggregate-is (now (c .before .before .before .before .before .before .before .before .before .before .before .before .before .before .before .before .before .before .before .before .before .args .cb)) (now (c .before .before .before .before .before .before .before .before .before .before .before .before .before .before .before .before .before .before .before .before .before .args .vs)) (now (c .before .before .before .before .before .before .before .before .before .before .before .before .before .before .before .before .before .before .before .before .before .args .memo)) (now (c .before .before .before .before .before .before .before .before .before .before .before .before .before .before .before .before .before .before .before .before .before .args .env)) (now (c .before .before .before .before .before .before .before .before .before .before .before .before .before .before .before .before .before .before .before .before .before .args .q)) (now (c .before .before .before .before .before .before .before .before .before .before .before .before .before .before .before .before .before .before .before .before .before .args .z)) (c .before .before .before .before .before .before .before .before .before .before .before .before .before .before .before .before .before .before .before .before .before .args .level) _ _ _ (nonzero _ (c .before .before .before .before .before .before .before .before .before .before .before .before .before .before .before .before .compiled .ensures (not-no _ (c .before .before .before .before .before .before .before .before .before .before .before .before .before .before .before .if1 .left)) .0)) (c .before .before .before .before .before .before .before .before .byte .ensures) (c .before .before .before .before .before .before .before .record-length .ensures .0) (c .before .before .before .before .before .before .before .before .before .before .before .before .before .before .read .ensures) _ _ (c .before .before .before .before .before .before .tail .ensures) (c .before .before .before .before .before .tail-sizes .ensures) _ _ _ _ _ _ (c .before .before .before .before .before .before .before .before .before .before .before .before .function .given .1) (c .before .before .before .before .before .before .before .before .before .before .knows .ensures) (c .before .before .before .before .before .before .before .before .before .if2 .left) refl), (c .finish .ensures .1, c .before .before .before .gather .ensures .1 .1))
+
+pub value-spec : {M : Type 1} → statement M
+value-spec =
+    tie.close
+    (tie.spec
+    compiled-requires
+    term-requires
+    same-length
+    returns
+    read-requires
+    enum-known-function
+    term-requires-2
+    same-length-2
+    returns-2
+    knows-requires
+    recall-requires
+    returns-3
+    byte-requires
+    record-length-requires
+    tail-requires
+    tail-sizes-requires
+    sub-l
+    gather-requires
+    finish-requires
+    same-length-3
+    returns-4)

@@ -1,0 +1,46 @@
+use denote.Ref.{now}
+use mir.Syntax.{w32}
+use mir.Facts.{toZ-ofZ}
+use mathlib.Core.Path.{_∙_}
+use Rattle.aggregates.proofs.Taking.{row-no, row-yes}
+use borrow.Author.Needs.{needs}
+use Rattle.aggregates.proofs.with_row.Statement.{statement}
+use Rattle.aggregates.proofs.with_row.Tie as tie
+use Rattle.aggregates.proofs.with_row.Reads as reads
+use Rattle.aggregates.proofs.with_row.Lts as lts
+use Rattle.aggregates.proofs.both.Reads as both-reads
+use Rattle.catalogue.proofs.cell.Reads as cell-reads
+use Rattle.numbers.proofs.add.Reads as add-reads
+
+-- src/lib.rt:65:9
+both-requires : tie.Need-both-requires
+both-requires c κs = search needs
+
+-- src/lib.rt:66:9
+same-length : tie.Need-same-length
+same-length c = search needs
+
+-- src/lib.rt:66:9
+returns : tie.Need-returns
+returns c = (row-no (now (c .before .before .before .before .before .before .before .before .before .before .args .t)) (now (c .before .before .before .before .before .before .before .before .before .before .args .xs)) (now (c .before .before .before .before .before .before .before .before .before .before .args .q)) (now (c .before .before .before .before .before .before .before .before .before .before .args .z)) (now (c .before .before .before .before .before .before .before .before .before .before .args .cb)) (now (c .before .before .before .before .before .before .before .before .before .before .args .vs)) (now (c .before .before .before .before .before .before .before .before .before .before .args .memo)) (now (c .before .before .before .before .before .before .before .before .before .before .args .env)) _ (c .before .before .before .before .before .before .before .before .before .before .args .taken) (c .before .before .before .both .ensures .0) (c .if1 .taken) _, (c .before .before .before .before .before .before .before .before .before .before .pre .2, c .before .before .before .both .ensures .1))
+
+-- src/lib.rt:68:25
+cell-requires : tie.Need-cell-requires
+cell-requires c κs = search needs
+
+-- src/lib.rt:68:5
+add-requires : tie.Need-add-requires
+add-requires c κs = search needs
+
+-- src/lib.rt:47:1
+same-length-2 : tie.Need-same-length-2
+same-length-2 c = search needs
+
+-- src/lib.rt:47:1
+returns-2 : tie.Need-returns-2
+returns-2 c = (row-yes (now (c .before .before .before .before .before .before .before .before .before .before .before .before .args .t)) (now (c .before .before .before .before .before .before .before .before .before .before .before .before .args .xs)) (now (c .before .before .before .before .before .before .before .before .before .before .before .before .args .q)) (now (c .before .before .before .before .before .before .before .before .before .before .before .before .args .z)) (now (c .before .before .before .before .before .before .before .before .before .before .before .before .args .cb)) (now (c .before .before .before .before .before .before .before .before .before .before .before .before .args .vs)) (now (c .before .before .before .before .before .before .before .before .before .before .before .before .args .memo)) (now (c .before .before .before .before .before .before .before .before .before .before .before .before .args .env)) _ (c .before .before .before .before .before .before .before .before .before .before .before .before .args .taken) (c .before .before .before .before .before .both .ensures .0) _ _ _ (c .before .before .if1 .left) (toZ-ofZ {w = w32} (record { sfits = c .before .cell .ok }) ∙ c .before .cell .ensures) (c .add .ensures .0), (c .add .ensures .1, c .before .before .before .before .before .both .ensures .1))
+
+pub with-row-spec : {M : Type 1} → statement M
+with-row-spec =
+    tie.close
+    (tie.spec both-requires same-length returns cell-requires add-requires same-length-2 returns-2)

@@ -1,0 +1,178 @@
+use Prim.Native.Nat.{_-_, ℕ, _<_}
+use native.Mathlib.Omega.{arith}
+use lib.ListN.{drop}
+use denote.Ref.{now}
+use Rattle.sizes.specs.Decode.{decode}
+use Rattle.branches.proofs.Joining.{positive, falls-by, joined-not, joined-and, joined-or}
+use borrow.Author.Needs.{needs}
+use borrow.Fn.Kinds.{In}
+use borrow.Fn.PlainCycle.{Measures, is, falls, and}
+use Rattle.branches.proofs.compile.Reads as compile
+use Rattle.branches.proofs.compile.Kinds as compile-kinds
+use Rattle.branches.proofs.+compile.Lts-compile as compile-lts
+use Rattle.branches.proofs.parts_at.Reads as parts-at-reads
+use Rattle.branches.proofs.single.Reads as single-reads
+use Rattle.branches.proofs.+compile.{statement}
+use Rattle.branches.proofs.+compile.Tie.{close}
+
+abbrev μ-compile : Measures 5 compile-kinds.ps ℕ
+μ-compile κs a = a .1 .1 .1 .0
+
+abbrev compile-at : ℕ → In 5 compile-kinds.ps
+compile-at t = and 5 compile-kinds.ps (is 5 compile-kinds.ps μ-compile t) compile.Pre
+
+abbrev compile-below : ℕ → In 5 compile-kinds.ps
+compile-below t = and 5 compile-kinds.ps (falls 5 compile-kinds.ps _<_ μ-compile t) compile.Pre
+
+abbrev compile-claims : ℕ → compile-lts.Claims
+compile-claims t = (parts-at-reads.Asked, parts-at-reads.Learnt, single-reads.Asked, single-reads.Learnt, compile-below t, compile.Post)
+
+compile-sub-parts-at : (t : ℕ) → compile-lts.Need-sub-parts-at (compile-claims t) (compile-at t) compile.Post
+compile-sub-parts-at t c = search needs
+
+compile-parts-at-requires : (t : ℕ) → compile-lts.Need-parts-at-requires (compile-claims t) (compile-at t) compile.Post
+compile-parts-at-requires t c κs = search needs
+
+compile-single-requires : (t : ℕ) → compile-lts.Need-single-requires (compile-claims t) (compile-at t) compile.Post
+compile-single-requires t c κs = search needs
+
+compile-same-length : (t : ℕ) → compile-lts.Need-same-length (compile-claims t) (compile-at t) compile.Post
+compile-same-length t c = search needs
+
+compile-same-length-2 : (t : ℕ) → compile-lts.Need-same-length-2 (compile-claims t) (compile-at t) compile.Post
+compile-same-length-2 t c = search needs
+
+compile-returns : (t : ℕ) → compile-lts.Need-returns (compile-claims t) (compile-at t) compile.Post
+compile-returns t c = search needs
+
+compile-sub-l : (t : ℕ) → compile-lts.Need-sub-l (compile-claims t) (compile-at t) compile.Post
+compile-sub-l t c =
+    let args = c .before .before .before .before .before .args in
+    let parts-at = c .before .parts-at in
+    let if1 = c .if1 in
+    positive (args .level) ((parts-at .ensures (if1 .left)) .deep)
+
+compile-compile-requires : (t : ℕ) → compile-lts.Need-compile-requires (compile-claims t) (compile-at t) compile.Post
+compile-compile-requires t c κs =
+    let args = c .before .before .before .before .before .before .before .before .args in
+    let pre = c .before .before .before .before .before .before .before .before .pre in
+    let parts-at = c .before .before .before .before .parts-at in
+    let if1 = c .before .before .before .if1 in
+    (falls-by (args .level) t ((parts-at .ensures (if1 .left)) .deep) (pre .0), (pre .1 .0, pre .1 .1, pre .1 .2, pre .1 .3, pre .1 .4, pre .1 .6, pre .1 .5, (parts-at .ensures (if1 .left)) .first, omega (arith, pre .1 .8)))
+
+compile-same-length-3 : (t : ℕ) → compile-lts.Need-same-length-3 (compile-claims t) (compile-at t) compile.Post
+compile-same-length-3 t c = search needs
+
+compile-same-length-4 : (t : ℕ) → compile-lts.Need-same-length-4 (compile-claims t) (compile-at t) compile.Post
+compile-same-length-4 t c = search needs
+
+compile-returns-2 : (t : ℕ) → compile-lts.Need-returns-2 (compile-claims t) (compile-at t) compile.Post
+compile-returns-2 t c =
+    let args = c .before .before .before .before .before .before .before .before .before .before .before .before .args in
+    let parts-at = c .before .before .before .before .before .before .before .before .parts-at in
+    let if1 = c .before .before .before .before .before .before .before .if1 in
+    let if2 = c .before .before .before .before .before .before .if2 in
+    let compile = c .before .before .before .compile in
+    (compile .ensures .0, joined-not (args .k) (args .met) (args .unmet) (now (args .q)) (now (args .z)) (now (args .memo)) (decode (args .level - 1) (drop (parts-at .result .first) (now (args .q))) (drop (parts-at .result .first) (now (args .z)))) (decode (args .level - 1) (drop (parts-at .result .second) (now (args .q))) (drop (parts-at .result .second) (now (args .z)))) (decode (args .level) (drop (args .place) (now (args .q))) (drop (args .place) (now (args .z)))) (parts-at .result .kind) ((parts-at .ensures (if1 .left)) .whole) (compile .result) (now (args .t)) (compile .last .1 .1 .1 .1 .1 .0) (now (args .xs)) (compile .last .1 .1 .1 .1 .1 .1 .0) (if2 .taken) (compile .ensures .1))
+
+compile-sub-compile : (t : ℕ) → compile-lts.Need-sub-compile (compile-claims t) (compile-at t) compile.Post
+compile-sub-compile t c = search needs
+
+compile-compile-requires-2 : (t : ℕ) → compile-lts.Need-compile-requires-2 (compile-claims t) (compile-at t) compile.Post
+compile-compile-requires-2 t c κs =
+    let args = c .before .before .before .before .before .before .before .before .args in
+    let pre = c .before .before .before .before .before .before .before .before .pre in
+    let parts-at = c .before .before .before .before .parts-at in
+    let if1 = c .before .before .before .if1 in
+    let if2 = c .before .before .if2 in
+    (falls-by (args .level) t ((parts-at .ensures (if1 .left)) .deep) (pre .0), (omega (arith, pre .1 .0), omega (arith, pre .1 .1), pre .1 .2, omega (arith, (parts-at .ensures (if1 .left)) .room (omega (arith, if1 .left, if2 .left)), pre .1 .3), omega (arith, pre .1 .4), pre .1 .5, pre .1 .6, (parts-at .ensures (if1 .left)) .second, omega (arith, pre .1 .8)))
+
+compile-add-compile : (t : ℕ) → compile-lts.Need-add-compile (compile-claims t) (compile-at t) compile.Post
+compile-add-compile t c = search needs
+
+compile-compile-requires-3 : (t : ℕ) → compile-lts.Need-compile-requires-3 (compile-claims t) (compile-at t) compile.Post
+compile-compile-requires-3 t c κs =
+    let args = c .before .before .before .before .before .before .before .before .before .before .before .before .before .before .before .args in
+    let pre = c .before .before .before .before .before .before .before .before .before .before .before .before .before .before .before .pre in
+    let parts-at = c .before .before .before .before .before .before .before .before .before .before .before .parts-at in
+    let if1 = c .before .before .before .before .before .before .before .before .before .before .if1 in
+    let if2 = c .before .before .before .before .before .before .before .before .before .if2 in
+    let compile2 = c .before .before .before .before .before .before .compile2 in
+    (falls-by (args .level) t ((parts-at .ensures (if1 .left)) .deep) (pre .0), (omega (arith, pre .1 .0, compile2 .kept), omega (arith, pre .1 .1, compile2 .kept), omega (arith, pre .1 .2, compile2 .ensures .0 .0), omega (arith, compile2 .ensures .0 .1, (parts-at .ensures (if1 .left)) .room (omega (arith, if1 .left, if2 .left)), pre .1 .3), pre .1 .4, omega arith, omega (arith, pre .1 .6, compile2 .ensures .0 .0), (parts-at .ensures (if1 .left)) .first, omega (arith, pre .1 .8)))
+
+compile-same-length-5 : (t : ℕ) → compile-lts.Need-same-length-5 (compile-claims t) (compile-at t) compile.Post
+compile-same-length-5 t c = search needs
+
+compile-same-length-6 : (t : ℕ) → compile-lts.Need-same-length-6 (compile-claims t) (compile-at t) compile.Post
+compile-same-length-6 t c = search needs
+
+compile-returns-3 : (t : ℕ) → compile-lts.Need-returns-3 (compile-claims t) (compile-at t) compile.Post
+compile-returns-3 t c =
+    let args = c .before .before .before .before .before .before .before .before .before .before .before .before .before .before .before .before .before .before .before .args in
+    let pre = c .before .before .before .before .before .before .before .before .before .before .before .before .before .before .before .before .before .before .before .pre in
+    let parts-at = c .before .before .before .before .before .before .before .before .before .before .before .before .before .before .before .parts-at in
+    let if1 = c .before .before .before .before .before .before .before .before .before .before .before .before .before .before .if1 in
+    let if2 = c .before .before .before .before .before .before .before .before .before .before .before .before .before .if2 in
+    let if3 = c .before .before .before .before .before .before .if3 in
+    let compile2 = c .before .before .before .before .before .before .before .before .before .before .compile2 in
+    let compile3 = c .before .before .before .compile3 in
+    ((omega (arith, compile2 .ensures .0 .0, compile3 .ensures .0 .0), compile3 .ensures .0 .1), joined-and (args .k) (args .met) (args .unmet) (now (args .q)) (now (args .z)) (now (args .memo)) (decode (args .level - 1) (drop (parts-at .result .first) (now (args .q))) (drop (parts-at .result .first) (now (args .z)))) (decode (args .level - 1) (drop (parts-at .result .second) (now (args .q))) (drop (parts-at .result .second) (now (args .z)))) (decode (args .level) (drop (args .place) (now (args .q))) (drop (args .place) (now (args .z)))) (parts-at .result .kind) ((parts-at .ensures (if1 .left)) .whole) (compile2 .result) (compile3 .result) (now (args .t)) (compile2 .last .1 .1 .1 .1 .1 .0) (compile3 .last .1 .1 .1 .1 .1 .0) (now (args .xs)) (compile2 .last .1 .1 .1 .1 .1 .1 .0) (compile3 .last .1 .1 .1 .1 .1 .1 .0) (compile2 .ensures .0 .0) (pre .1 .5) (pre .1 .6) (compile2 .ensures .1) (if3 .taken) (compile3 .ensures .1))
+
+compile-add-compile-2 : (t : ℕ) → compile-lts.Need-add-compile-2 (compile-claims t) (compile-at t) compile.Post
+compile-add-compile-2 t c = search needs
+
+compile-compile-requires-4 : (t : ℕ) → compile-lts.Need-compile-requires-4 (compile-claims t) (compile-at t) compile.Post
+compile-compile-requires-4 t c κs =
+    let args = c .before .before .before .before .before .before .before .before .before .before .before .before .before .before .before .args in
+    let pre = c .before .before .before .before .before .before .before .before .before .before .before .before .before .before .before .pre in
+    let parts-at = c .before .before .before .before .before .before .before .before .before .before .before .parts-at in
+    let if1 = c .before .before .before .before .before .before .before .before .before .before .if1 in
+    let if2 = c .before .before .before .before .before .before .before .before .before .if2 in
+    let compile2 = c .before .before .before .before .before .before .compile2 in
+    (falls-by (args .level) t ((parts-at .ensures (if1 .left)) .deep) (pre .0), (omega (arith, pre .1 .0, compile2 .kept), omega (arith, pre .1 .1, compile2 .kept), omega (arith, pre .1 .2, compile2 .ensures .0 .0), omega (arith, compile2 .ensures .0 .1, (parts-at .ensures (if1 .left)) .room (omega (arith, if1 .left, if2 .left)), pre .1 .3), pre .1 .4, omega (arith, pre .1 .5, compile2 .ensures .0 .0), omega arith, (parts-at .ensures (if1 .left)) .first, omega (arith, pre .1 .8)))
+
+compile-same-length-7 : (t : ℕ) → compile-lts.Need-same-length-7 (compile-claims t) (compile-at t) compile.Post
+compile-same-length-7 t c = search needs
+
+compile-same-length-8 : (t : ℕ) → compile-lts.Need-same-length-8 (compile-claims t) (compile-at t) compile.Post
+compile-same-length-8 t c = search needs
+
+compile-returns-4 : (t : ℕ) → compile-lts.Need-returns-4 (compile-claims t) (compile-at t) compile.Post
+compile-returns-4 t c =
+    let args = c .before .before .before .before .before .before .before .before .before .before .before .before .before .before .before .before .before .before .before .args in
+    let pre = c .before .before .before .before .before .before .before .before .before .before .before .before .before .before .before .before .before .before .before .pre in
+    let parts-at = c .before .before .before .before .before .before .before .before .before .before .before .before .before .before .before .parts-at in
+    let if1 = c .before .before .before .before .before .before .before .before .before .before .before .before .before .before .if1 in
+    let if2 = c .before .before .before .before .before .before .before .before .before .before .before .before .before .if2 in
+    let if3 = c .before .before .before .before .before .before .if3 in
+    let compile2 = c .before .before .before .before .before .before .before .before .before .before .compile2 in
+    let compile4 = c .before .before .before .compile4 in
+    ((omega (arith, compile2 .ensures .0 .0, compile4 .ensures .0 .0), compile4 .ensures .0 .1), joined-or (args .k) (args .met) (args .unmet) (now (args .q)) (now (args .z)) (now (args .memo)) (decode (args .level - 1) (drop (parts-at .result .first) (now (args .q))) (drop (parts-at .result .first) (now (args .z)))) (decode (args .level - 1) (drop (parts-at .result .second) (now (args .q))) (drop (parts-at .result .second) (now (args .z)))) (decode (args .level) (drop (args .place) (now (args .q))) (drop (args .place) (now (args .z)))) (parts-at .result .kind) ((parts-at .ensures (if1 .left)) .whole) (compile2 .result) (compile4 .result) (now (args .t)) (compile2 .last .1 .1 .1 .1 .1 .0) (compile4 .last .1 .1 .1 .1 .1 .0) (now (args .xs)) (compile2 .last .1 .1 .1 .1 .1 .1 .0) (compile4 .last .1 .1 .1 .1 .1 .1 .0) (compile2 .ensures .0 .0) (pre .1 .5) (pre .1 .6) (compile2 .ensures .1) (if2 .left) (if3 .left) (compile4 .ensures .1))
+
+pub +compile-spec : {M : Type 1} → statement M
++compile-spec = close μ-compile λ t. compile-lts.spec (compile-claims t)
+    (compile-at t)
+    compile.Post
+    (compile-sub-parts-at t)
+    (compile-parts-at-requires t)
+    (compile-single-requires t)
+    (compile-same-length t)
+    (compile-same-length-2 t)
+    (compile-returns t)
+    (compile-sub-l t)
+    (compile-compile-requires t)
+    (compile-same-length-3 t)
+    (compile-same-length-4 t)
+    (compile-returns-2 t)
+    (compile-sub-compile t)
+    (compile-compile-requires-2 t)
+    (compile-add-compile t)
+    (compile-compile-requires-3 t)
+    (compile-same-length-5 t)
+    (compile-same-length-6 t)
+    (compile-returns-3 t)
+    (compile-add-compile-2 t)
+    (compile-compile-requires-4 t)
+    (compile-same-length-7 t)
+    (compile-same-length-8 t)
+    (compile-returns-4 t)

@@ -1,0 +1,82 @@
+-- One branch written for a condition.
+use Prim.Native.Nat.{ℕ, _+_, _*_, _≤_, _<_}
+use mathlib.Core.Bool.{Bool, true, false, cond}
+use mathlib.Core.List.{List, [], _∷_}
+use mathlib.Core.Path.{_≡_, refl, sym, ap, ap₂, _∙_, subst}
+use native.Mathlib.Omega.{arith}
+use lib.IntN.{ℤ, pos}
+use lib.ListN.{length, getD, drop}
+use lib.Seq.{sets}
+use borrow.Author.Tests.{ne-eqb}
+use Rattle.model.specs.Syntax.{Condition}
+use Rattle.model.specs.Meaning.{Assignment}
+use Rattle.sizes.specs.Decode.{decode}
+use Rattle.evaluator.specs.Recalled.{holdsBy}
+use Rattle.evaluator.specs.Evaluation.{rowsIn}
+use Rattle.branches.specs.Branches.{field, branchHolds, next, runs}
+use Rattle.branches.specs.Compiled.{Compares, comparing, placing, Kept, Compiled}
+use Rattle.branches.specs.declared.Comparison.{Comparison}
+use Rattle.branches.proofs.Running.{runs-step, runs-kept}
+use Rattle.branches.proofs.Writing.{sets-before, sets-at}
+
+-- branch k holds where c holds, and leads to met or to unmet
+module _ (k met unmet : ℕ) (t t′ : List ℕ) (xs xs′ : List ℤ) (q z : List ℕ) (m : List ℤ) (c : Condition) (h : Kept k t t′ xs xs′)
+    (low : 2 ≤ k) (hm : met < k) (hu : unmet < k) (em : field t′ k 5 ≡ met) (eu : field t′ k 6 ≡ unmet)
+    (holds : (cb : List ℕ) (vs : List ℤ) (e : Assignment) → branchHolds t′ xs′ q z cb vs m k e ≡ holdsBy m c (rowsIn cb vs) e) where
+  leads-to : (cb : List ℕ) (vs : List ℤ) (e : Assignment) (n : ℕ) → n < k → next t′ xs′ q z cb vs m k e ≡ n → runs t′ xs′ q z cb vs m k e ≡ runs t xs q z cb vs m n e
+  leads-to cb vs e n g p = runs-step t′ xs′ q z cb vs m k e low (subst (λ (j : ℕ). j < k) (sym p) g) ∙ ap (λ (j : ℕ). runs t′ xs′ q z cb vs m j e) p ∙ runs-kept k t t′ xs xs′ q z cb vs m h n e g
+
+  decides : (cb : List ℕ) (vs : List ℤ) (e : Assignment) (b : Bool) → branchHolds t′ xs′ q z cb vs m k e ≡ b → runs t′ xs′ q z cb vs m k e ≡ cond b (runs t xs q z cb vs m met e) (runs t xs q z cb vs m unmet e)
+  decides cb vs e true p = leads-to cb vs e met hm (rw p em)
+  decides cb vs e false p = leads-to cb vs e unmet hu (rw p eu)
+
+  one-branch : Compiled k k met unmet t t′ xs xs′ q z m c
+  one-branch = record { kept = h; means = λ cb vs e. decides cb vs e (holdsBy m c (rowsIn cb vs) e) (holds cb vs e) }
+
+-- a condition by its place
+module _ (k met unmet : ℕ) (t t′ : List ℕ) (xs : List ℤ) (q z : List ℕ) (m : List ℤ) (place l p n : ℕ) (ep : p ≡ place) (en : n ≡ l)
+    (et : t′ ≡ sets t (8 * k) (placing p n met unmet)) (rt : 8 * k + 8 ≤ length t) where
+  at-place : (j : ℕ) → j < 8 → field t′ k j ≡ getD (placing place l met unmet) j 0
+  at-place j h = ap (λ (y : List ℕ). getD y (8 * k + j) 0) et ∙ sets-at 0 (placing p n met unmet) t (8 * k) j rt h ∙ ap₂ (λ (a b : ℕ). getD (placing a b met unmet) j 0) ep en
+
+  says : (cb : List ℕ) (vs : List ℤ) (e : Assignment) → branchHolds t′ xs q z cb vs m k e ≡ holdsBy m (decode l (drop place q) (drop place z)) (rowsIn cb vs) e
+  unfolding branchHolds
+  says cb vs e = rw (at-place 0 (omega arith), at-place 1 (omega arith), at-place 2 (omega arith))
+
+  pub placed : 2 ≤ k → met < k → unmet < k → Compiled k k met unmet t t′ xs xs q z m (decode l (drop place q) (drop place z))
+  placed low hm hu =
+      one-branch k met unmet t t′ xs xs q z m (decode l (drop place q) (drop place z))
+      (record { fields = λ i c. ap (λ (y : List ℕ). getD y i 0) et ∙ sets-before 0 (placing p n met unmet) t (8 * k) i c; numbers = λ i c. refl })
+      low hm hu (at-place 5 (omega arith)) (at-place 6 (omega arith)) says
+
+-- a comparison
+module _ (k met unmet : ℕ) (t t′ : List ℕ) (xs xs′ : List ℤ) (q z u w : List ℕ) (m : List ℤ) (place l o : ℕ) (x : Comparison) (a b : ℤ)
+    (eo : o ≡ x .operator) (et : t′ ≡ sets t (8 * k) (o ∷ x .left .variable ∷ x .left .attribute ∷ x .right .variable ∷ x .right .attribute ∷ met ∷ unmet ∷ 0 ∷ []))
+    (rt : 8 * k + 8 ≤ length t) (ea : a ≡ x .left .number) (eb : b ≡ x .right .number) (ex : xs′ ≡ sets xs (2 * k) (a ∷ b ∷ [])) (rx : 2 * k + 2 ≤ length xs)
+    (eu : u ≡ drop place q) (ew : w ≡ drop place z) (ec : Compares x m (decode l u w)) (no : x .operator ≡ 0 → ⊥) where
+  is-x : t′ ≡ sets t (8 * k) (comparing x met unmet)
+  is-x = et ∙ ap (λ (n : ℕ). sets t (8 * k) (n ∷ x .left .variable ∷ x .left .attribute ∷ x .right .variable ∷ x .right .attribute ∷ met ∷ unmet ∷ 0 ∷ [])) eo
+
+  at-comparison : (j : ℕ) → j < 8 → field t′ k j ≡ getD (comparing x met unmet) j 0
+  at-comparison j h = ap (λ (y : List ℕ). getD y (8 * k + j) 0) is-x ∙ sets-at 0 (comparing x met unmet) t (8 * k) j rt h
+
+  left : getD xs′ (2 * k) (pos 0) ≡ x .left .number
+  left = let i : 2 * k ≡ 2 * k + 0 = omega arith in ap₂ (λ (y : List ℤ) (j : ℕ). getD y j (pos 0)) ex i ∙ sets-at (pos 0) (a ∷ b ∷ []) xs (2 * k) 0 rx (omega arith) ∙ ea
+
+  right : getD xs′ (2 * k + 1) (pos 0) ≡ x .right .number
+  right = ap (λ (y : List ℤ). getD y (2 * k + 1) (pos 0)) ex ∙ sets-at (pos 0) (a ∷ b ∷ []) xs (2 * k) 1 rx (omega arith) ∙ eb
+
+  compared-says : (cb : List ℕ) (vs : List ℤ) (e : Assignment) → branchHolds t′ xs′ q z cb vs m k e ≡ holdsBy m (decode l (drop place q) (drop place z)) (rowsIn cb vs) e
+  unfolding branchHolds
+  compared-says cb vs e =
+      rw (at-comparison 0 (omega arith), at-comparison 1 (omega arith), at-comparison 2 (omega arith), at-comparison 3 (omega arith), at-comparison 4 (omega arith), left, right, ne-eqb (x .operator) 0 no)
+      (sym (ap₂ (λ (y v : List ℕ). holdsBy m (decode l y v) (rowsIn cb vs) e) (sym eu) (sym ew) ∙ ec no (rowsIn cb vs) e))
+
+  pub compared : 2 ≤ k → met < k → unmet < k → Compiled k k met unmet t t′ xs xs′ q z m (decode l (drop place q) (drop place z))
+  compared low hm hu =
+      one-branch k met unmet t t′ xs xs′ q z m (decode l (drop place q) (drop place z))
+      (record {
+        fields = λ i c. ap (λ (y : List ℕ). getD y i 0) is-x ∙ sets-before 0 (comparing x met unmet) t (8 * k) i c;
+        numbers = λ i c. ap (λ (y : List ℤ). getD y i (pos 0)) ex ∙ sets-before (pos 0) (a ∷ b ∷ []) xs (2 * k) i c;
+      })
+      low hm hu (at-comparison 5 (omega arith)) (at-comparison 6 (omega arith)) compared-says

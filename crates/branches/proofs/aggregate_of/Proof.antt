@@ -1,0 +1,36 @@
+use mathlib.Core.Path.{refl}
+use native.Mathlib.Omega.{arith}
+use denote.Ref.{now}
+use Rattle.model.specs.Syntax.{AGGREGATE}
+use Rattle.branches.proofs.Operands.{unknown-means, recalled-means}
+use borrow.Author.Needs.{needs}
+use Rattle.branches.proofs.aggregate_of.Statement.{statement}
+use Rattle.branches.proofs.aggregate_of.Tie as tie
+
+knows-requires : tie.Need-knows-requires
+knows-requires c κs = search needs
+
+unknown-requires : tie.Need-unknown-requires
+unknown-requires c κs = search needs
+
+returns : tie.Need-returns
+returns c =
+    let args = c .before .before .before .args in
+    λ f r a d. unknown-means (c .unknown .result) (now (args .memo)) (AGGREGATE f (args .variable) r a d) (c .unknown .ensures)
+
+wide-requires : tie.Need-wide-requires
+wide-requires c κs = search needs
+
+add-t6 : tie.Need-add-t6
+add-t6 c = search needs
+
+returns-2 : tie.Need-returns-2
+returns-2 c =
+    let args = c .before .before .before .args in
+    let knows = c .before .before .knows in
+    let if1 = c .before .if1 in
+    recalled-means (now (args .memo)) (args .variable) (c .wide .result) (knows .result) _ (knows .ensures) (if1 .left) (c .wide .ensures) (omega arith) refl
+
+pub aggregate-of-spec : {M : Type 1} → statement M
+aggregate-of-spec =
+    tie.close (tie.spec knows-requires unknown-requires returns wide-requires add-t6 returns-2)

@@ -1,0 +1,75 @@
+use mathlib.Core.Path.{_∙_}
+use native.Mathlib.Omega.{arith}
+use mir.Facts.{toZ-ofZ}
+use mir.Syntax.{w32}
+use denote.Ref.{now}
+use Rattle.sizes.specs.Decode.{decodeT}
+use Rattle.branches.proofs.Operands.{unknown-means, constant-means, attribute-means, aggregate-means}
+use borrow.Author.Needs.{needs}
+use Rattle.branches.proofs.operand_at.Statement.{statement}
+use Rattle.branches.proofs.operand_at.Tie as tie
+
+unknown-requires : tie.Need-unknown-requires
+unknown-requires c κs = search needs
+
+returns : tie.Need-returns
+returns c = λ z. unknown-means (c .unknown .result) (now (c .before .before .before .args .memo)) (decodeT (c .before .before .before .args .level) (now (c .before .before .before .args .q)) z) (c .unknown .ensures)
+
+read-requires : tie.Need-read-requires
+read-requires c κs = search needs
+
+enum-known-a : tie.Need-enum-known-a
+enum-known-a c = search needs
+
+constant-requires : tie.Need-constant-requires
+constant-requires c κs = search needs
+
+number-of-requires : tie.Need-number-of-requires
+number-of-requires c κs = search needs
+
+enum-known-variable : tie.Need-enum-known-variable
+enum-known-variable c = search needs
+
+attribute-of-requires : tie.Need-attribute-of-requires
+attribute-of-requires c κs = search needs
+
+enum-known-variable-2 : tie.Need-enum-known-variable-2
+enum-known-variable-2 c = search needs
+
+aggregate-of-requires : tie.Need-aggregate-of-requires
+aggregate-of-requires c κs = search needs
+
+unknown-requires-2 : tie.Need-unknown-requires-2
+unknown-requires-2 c κs = search needs
+
+returns-2 : tie.Need-returns-2
+returns-2 c = constant-means (now (c .before .before .before .before .before .before .before .before .args .memo)) (now (c .before .before .before .before .before .before .before .before .args .q)) (c .before .before .before .before .before .before .before .before .args .level) _ (c .before .before .before .before .before .before .if1 .left) (c .before .before .before .before .before .read .ensures) (c .number-of .result) _ _ _ _ _ (c .before .before .before .a .given .1) (toZ-ofZ {w = w32} (record { sfits = c .before .constant .ok }) ∙ c .before .constant .ensures .0) (c .number-of .ensures)
+
+returns-3 : tie.Need-returns-3
+returns-3 c = attribute-means (now (c .before .before .before .before .before .before .before .args .memo)) (now (c .before .before .before .before .before .before .before .args .q)) (c .before .before .before .before .before .before .before .args .level) _ (c .before .before .before .before .before .if1 .left) (c .before .before .before .before .read .ensures) (c .attribute-of .result) _ _ (omega arith) (c .before .before .variable .given .1) (c .attribute-of .ensures)
+
+returns-4 : tie.Need-returns-4
+returns-4 c = aggregate-means (now (c .before .before .before .before .before .before .before .args .memo)) (now (c .before .before .before .before .before .before .before .args .q)) (c .before .before .before .before .before .before .before .args .level) _ (c .before .before .before .before .before .if1 .left) (c .before .before .before .before .read .ensures) (c .aggregate-of .result) _ _ _ _ (c .before .before .variable2 .given .1) (c .aggregate-of .ensures)
+
+returns-5 : tie.Need-returns-5
+returns-5 c = λ z. unknown-means (c .unknown2 .result) (now (c .before .before .before .before .before .args .memo)) (decodeT (c .before .before .before .before .before .args .level) (now (c .before .before .before .before .before .args .q)) z) (c .unknown2 .ensures)
+
+pub operand-at-spec : {M : Type 1} → statement M
+operand-at-spec =
+    tie.close
+    (tie.spec
+    unknown-requires
+    returns
+    read-requires
+    enum-known-a
+    constant-requires
+    number-of-requires
+    enum-known-variable
+    attribute-of-requires
+    enum-known-variable-2
+    aggregate-of-requires
+    unknown-requires-2
+    returns-2
+    returns-3
+    returns-4
+    returns-5)

@@ -1,0 +1,62 @@
+-- What the functions that fill a table of branches promise.
+use Prim.Native.Nat.{ℕ, _-_, _*_, _≤_, _<_}
+use mathlib.Core.Path.{_≡_}
+use mathlib.Core.Bool.{true, cond}
+use mathlib.Core.List.{List, [], _∷_}
+use lib.Dec.{eqb}
+use lib.IntN.{ℤ, pos}
+use lib.ListN.{getD, drop}
+use Rattle.model.specs.Syntax.{Condition, Term, NOT, AND, OR}
+use Rattle.model.specs.Meaning.{Assignment, Rows, Ratio, compare}
+use Rattle.kinds.specs.declared.Record.{Record}
+use Rattle.kinds.specs.declared.Record.the-variants as R
+use Rattle.sizes.specs.Decode.{decode}
+use Rattle.evaluator.specs.Recalled.{holdsBy, valueBy}
+use Rattle.evaluator.specs.Evaluation.{rowsIn}
+use Rattle.branches.specs.Branches.{operand, runs}
+use Rattle.branches.specs.declared.Operand.{Operand}
+use Rattle.branches.specs.declared.Comparison.{Comparison}
+use Rattle.branches.specs.declared.Parts.{Parts}
+
+-- the value of an operand; where it is known, it is the value of the term
+abbrev pub sideOf : List ℤ → Operand → Assignment → Ratio
+sideOf m o e = operand m (o .variable) (o .attribute) (o .number) e
+
+abbrev pub Means : Operand → List ℤ → Term → Type 0
+Means o m x = o .known ≡ true → (R : Rows) (e : Assignment) → valueBy m x R e ≡ sideOf m o e
+
+-- a comparison that has an operator holds where the condition holds
+abbrev pub Compares : Comparison → List ℤ → Condition → Type 0
+Compares x m c = (x .operator ≡ 0 → ⊥) → (R : Rows) (e : Assignment) → holdsBy m c R e ≡ compare (x .operator) (sideOf m (x .left) e) (sideOf m (x .right) e)
+
+-- the eight numbers of a branch: a comparison's, and those of a condition at a place
+abbrev pub comparing : Comparison → ℕ → ℕ → List ℕ
+comparing x met unmet = x .operator ∷ x .left .variable ∷ x .left .attribute ∷ x .right .variable ∷ x .right .attribute ∷ met ∷ unmet ∷ 0 ∷ []
+
+abbrev pub placing : ℕ → ℕ → ℕ → ℕ → List ℕ
+placing place level met unmet = 0 ∷ place ∷ level ∷ 0 ∷ 0 ∷ met ∷ unmet ∷ 0 ∷ []
+
+-- what stands before branch k is as it was
+pub record Kept (k : ℕ) (t t′ : List ℕ) (xs xs′ : List ℤ) : Type 0 where
+  pub fields : (i : ℕ) → i < 8 * k → getD t′ i 0 ≡ getD t i 0
+  pub numbers : (i : ℕ) → i < 2 * k → getD xs′ i (pos 0) ≡ getD xs i (pos 0)
+
+-- branch r decides the condition c: it leads where `met` leads if c holds, else where `unmet` leads
+pub record Compiled (k r met unmet : ℕ) (t t′ : List ℕ) (xs xs′ : List ℤ) (q z : List ℕ) (m : List ℤ) (c : Condition) : Type 0 where
+  pub kept : Kept k t t′ xs xs′
+  pub means : (cb : List ℕ) (vs : List ℤ) (e : Assignment) → runs t′ xs′ q z cb vs m r e ≡ cond (holdsBy m c (rowsIn cb vs) e) (runs t xs q z cb vs m met e) (runs t xs q z cb vs m unmet e)
+
+-- 1 NOT, 2 AND, 3 OR: the record, and the condition of its parts
+abbrev pub node : ℕ → Record
+node k = cond (eqb k 1) R.Not (cond (eqb k 2) R.And R.Or)
+
+abbrev pub joined : ℕ → Condition → Condition → Condition
+joined k c d = cond (eqb k 1) (NOT c) (cond (eqb k 2) (AND c d) (OR c d))
+
+-- the condition at a place consists of these parts; where they are two, there is room for two branches
+pub record Parted (x : Parts) (n l place : ℕ) (q z : List ℕ) : Type 0 where
+  pub room : 2 ≤ x .kind → 2 ≤ n
+  pub deep : l ≡ 0 → ⊥
+  pub first : x .first ≤ 65535
+  pub second : x .second ≤ 65535
+  pub whole : decode l (drop place q) (drop place z) ≡ joined (x .kind) (decode (l - 1) (drop (x .first) q) (drop (x .first) z)) (decode (l - 1) (drop (x .second) q) (drop (x .second) z))

@@ -1,0 +1,436 @@
+// The condition of a query as a table of branches (specs/Branches), so that no record is read again for each row. A comparison of attributes,
+// numbers and known aggregates is kept as such, SOME by its place in the query.
+use kinds::Record;
+use numbers::Ratio;
+ghost use mathlib.Core.Path.{_≡_};
+ghost use Prim.Native.Nat.{ℕ, _+_, _*_, _≤_, _<_};
+ghost use lib.IntN.{pos};
+ghost use lib.ListN.{length, getD, drop};
+ghost use lib.Seq.{sets};
+ghost use mathlib.Core.Bool.{true, false};
+ghost use mathlib.Core.List.{List, [], _∷_};
+ghost use Rattle.model.specs.Syntax.{Condition, AGGREGATE};
+ghost use Rattle.numbers.specs.Numbers.{represent, Small};
+ghost use Rattle.kinds.specs.Record.{recordAt};
+ghost use Rattle.sizes.specs.Decode.{decode, decodeT};
+ghost use Rattle.evaluator.specs.Evaluation.{assigned};
+ghost use Rattle.branches.specs.Branches as B;
+ghost use Rattle.branches.specs.Compiled as C;
+
+// The number at i, 0 past the end.
+fn number(xs: &[i32], i: usize) -> i32
+    ensures { λ r. ⌜ r ≡ getD (now (xs .entry)) i (pos 0) ⌝ }
+{
+    if i < xs.len() { xs[i] } else { 0 }
+}
+
+fn byte_of(x: usize) -> u8
+    requires { ⌜ x < 256 ⌝ }
+    ensures { λ r. ⌜ r ≡ x ⌝ }
+{
+    x as u8
+}
+
+// What the memo has for a variable, 0 where it has nothing.
+fn recalled(memo: &[i64], variable: u8) -> Ratio
+    ensures { λ r. ⌜ r ≡ represent (B.recalledOr0 (now (memo .entry)) variable) ⌝ }
+    ensures { λ r. ⌜ Small r ⌝ }
+{
+    if !numbers::knows(memo, variable) {
+        return numbers::whole(0);
+    }
+    numbers::recall(memo, variable)
+}
+
+// One side of a comparison: the operand at i of the table, whose number is number j.
+pub fn side(
+    t: &[u16],
+    i: usize,
+    xs: &[i32],
+    j: usize,
+    values: &[i32],
+    memo: &[i64],
+    env: &[usize],
+) -> Ratio
+    requires { ⌜ (256 ≤ length (now env)) × (i ≤ 1048576) ⌝ }
+    ensures { λ r. ⌜ r ≡ represent (B.operand (now (memo .entry)) (getD (now (t .entry)) i 0) (getD (now (t .entry)) (i + 1) 0) (getD (now (xs .entry)) j (pos 0)) (assigned (now (values .entry)) (now (env .entry)))) ⌝ }
+    ensures { λ r. ⌜ Small r ⌝ }
+{
+    let v = kinds::size_at(t, i);
+    if v < 256 {
+        let row = env[v];
+        return numbers::whole(catalogue::value(values, row, kinds::size_at(t, i + 1)));
+    }
+    if v < 512 {
+        return recalled(memo, byte_of(v - 256));
+    }
+    numbers::whole(number(xs, j))
+}
+
+// Whether branch i holds.
+fn branch(
+    t: &[u16],
+    xs: &[i32],
+    i: usize,
+    q: &[u8],
+    z: &[u16],
+    catalogue: &[u8],
+    values: &[i32],
+    memo: &[i64],
+    env: &mut [usize],
+) -> bool
+    requires { ⌜ (256 ≤ length (now env)) × (i ≤ 65535) ⌝ }
+    ensures { λ r. ⌜ r ≡ B.branchHolds (now (t .entry)) (now (xs .entry)) (now (q .entry)) (now (z .entry)) (now (catalogue .entry)) (now (values .entry)) (now (memo .entry)) i (assigned (now (values .entry)) (now (env .entry))) ⌝ }
+    ensures { λ _. ⌜ now (env .exit) ≡ now (env .entry) ⌝ }
+{
+    let p = 8 * i;
+    let operator = kinds::size_at(t, p);
+    if operator == 0 {
+        let place = kinds::size_at(t, p + 1);
+        let level = kinds::size_at(t, p + 2);
+        let c = kinds::tail(q, place);
+        let sizes = kinds::tail_sizes(z, place);
+        return evaluator::condition(c, sizes, level, catalogue, values, memo, env);
+    }
+    let a = side(t, p + 1, xs, 2 * i, values, memo, env);
+    let b = side(t, p + 3, xs, 2 * i + 1, values, memo, env);
+    numbers::compared(operator, a, b)
+}
+
+// Where branch i leads.
+fn next(
+    t: &[u16],
+    xs: &[i32],
+    i: usize,
+    q: &[u8],
+    z: &[u16],
+    catalogue: &[u8],
+    values: &[i32],
+    memo: &[i64],
+    env: &mut [usize],
+) -> usize
+    requires { ⌜ (256 ≤ length (now env)) × (i ≤ 65535) ⌝ }
+    ensures { λ r. ⌜ r ≡ B.next (now (t .entry)) (now (xs .entry)) (now (q .entry)) (now (z .entry)) (now (catalogue .entry)) (now (values .entry)) (now (memo .entry)) i (assigned (now (values .entry)) (now (env .entry))) ⌝ }
+    ensures { λ _. ⌜ now (env .exit) ≡ now (env .entry) ⌝ }
+{
+    if branch(t, xs, i, q, z, catalogue, values, memo, env) {
+        return kinds::size_at(t, 8 * i + 5);
+    }
+    kinds::size_at(t, 8 * i + 6)
+}
+
+// Whether branch i leads to 0.
+pub fn holds(
+    t: &[u16],
+    xs: &[i32],
+    i: usize,
+    q: &[u8],
+    z: &[u16],
+    catalogue: &[u8],
+    values: &[i32],
+    memo: &[i64],
+    env: &mut [usize],
+) -> bool
+    requires { ⌜ (256 ≤ length (now env)) × (i ≤ 65535) ⌝ }
+    ensures { λ r. ⌜ r ≡ B.runs (now (t .entry)) (now (xs .entry)) (now (q .entry)) (now (z .entry)) (now (catalogue .entry)) (now (values .entry)) (now (memo .entry)) i (assigned (now (values .entry)) (now (env .entry))) ⌝ }
+    ensures { λ _. ⌜ now (env .exit) ≡ now (env .entry) ⌝ }
+{
+    let mut at = i;
+    while 2 <= at {
+        let to = next(t, xs, at, q, z, catalogue, values, memo, env);
+        if at <= to {
+            return false;
+        }
+        at = to;
+    }
+    at == 0
+}
+
+// One side of a comparison, where it can be kept in numbers: an attribute of a variable, from variable 256 on a known aggregate, 512 a number.
+struct Operand {
+    known: bool,
+    variable: u16,
+    attribute: u16,
+    number: i32,
+}
+
+// A comparison; operator 0 where there is none.
+struct Comparison {
+    operator: u8,
+    left: Operand,
+    right: Operand,
+}
+
+fn wide(x: u8) -> u16
+    ensures { λ r. ⌜ r ≡ x ⌝ }
+{
+    x as u16
+}
+
+fn unknown() -> Operand
+    ensures { λ r. ⌜ r .known ≡ false ⌝ }
+{
+    Operand {
+        known: false,
+        variable: 0,
+        attribute: 0,
+        number: 0,
+    }
+}
+
+fn number_of(x: i32) -> Operand
+    ensures { λ r. ⌜ r ≡ record { known = true; variable = 512; attribute = 0; number = x } ⌝ }
+{
+    Operand {
+        known: true,
+        variable: 512,
+        attribute: 0,
+        number: x,
+    }
+}
+
+fn attribute_of(variable: u8, attribute: u8) -> Operand
+    ensures { λ r. ⌜ r ≡ record { known = true; variable = variable; attribute = attribute; number = pos 0 } ⌝ }
+{
+    Operand {
+        known: true,
+        variable: wide(variable),
+        attribute: wide(attribute),
+        number: 0,
+    }
+}
+
+// An aggregate that the memo knows.
+fn aggregate_of(memo: &[i64], variable: u8) -> Operand
+    ensures { λ o. ⌜ ((f r a : ℕ) (c : Condition) → C.Means o (now (memo .entry)) (AGGREGATE f variable r a c)) ⌝ }
+{
+    if !numbers::knows(memo, variable) {
+        return unknown();
+    }
+    Operand {
+        known: true,
+        variable: wide(variable) + 256,
+        attribute: 0,
+        number: 0,
+    }
+}
+
+// The term that q starts with.
+fn operand_at(q: &[u8], level: usize, memo: &[i64]) -> Operand
+    ensures { λ o. ⌜ ((z : List ℕ) → C.Means o (now (memo .entry)) (decodeT level (now (q .entry)) z)) ⌝ }
+{
+    if level == 0 {
+        return unknown();
+    }
+    match kinds::read(q) {
+        Record::Constant(a, b, c, d) => number_of(kinds::constant(a, b, c, d)),
+        Record::Attribute(variable, attribute) => attribute_of(variable, attribute),
+        Record::Aggregate(_, variable, _, _) => aggregate_of(memo, variable),
+        _ => unknown(),
+    }
+}
+
+fn compared(operator: u8, left: Operand, right: Operand) -> Comparison
+    ensures { λ r. ⌜ r ≡ record { operator = operator; left = left; right = right } ⌝ }
+{
+    Comparison {
+        operator,
+        left,
+        right,
+    }
+}
+
+// The condition that q starts with, where it is a comparison of such terms.
+fn comparison_at(q: &[u8], z: &[u16], level: usize, memo: &[i64]) -> Comparison
+    ensures { λ r. ⌜ C.Compares r (now (memo .entry)) (decode level (now (q .entry)) (now (z .entry))) ⌝ }
+{
+    if level == 0 {
+        return compared(0, unknown(), unknown());
+    }
+    let Record::Compare(operator) = kinds::read(q) else {
+        return compared(0, unknown(), unknown());
+    };
+    let a = kinds::record_length(kinds::byte(q, 0));
+    let b = a + kinds::size_at(z, a);
+    let left = operand_at(kinds::tail(q, a), level - 1, memo);
+    let right = operand_at(kinds::tail(q, b), level - 1, memo);
+    if !left.known {
+        return compared(0, left, right);
+    }
+    if !right.known {
+        return compared(0, left, right);
+    }
+    compared(operator, left, right)
+}
+
+fn narrow(x: usize) -> u16
+    requires { ⌜ x ≤ 65535 ⌝ }
+    ensures { λ r. ⌜ r ≡ x ⌝ }
+{
+    x as u16
+}
+
+// Writes eight numbers for branch k.
+fn write(
+    t: &mut [u16],
+    k: usize,
+    operator: u16,
+    a: u16,
+    b: u16,
+    c: u16,
+    d: u16,
+    met: usize,
+    unmet: usize,
+)
+    requires { ⌜ (8 * k + 8 ≤ length (now t)) × (k < 64) × (met ≤ 65535) × (unmet ≤ 65535) ⌝ }
+    ensures { λ _. ⌜ now (t .exit) ≡ sets (now (t .entry)) (8 * k) (operator ∷ a ∷ b ∷ c ∷ d ∷ met ∷ unmet ∷ 0 ∷ []) ⌝ }
+{
+    let i = 8 * k;
+    t[i] = operator;
+    t[i + 1] = a;
+    t[i + 2] = b;
+    t[i + 3] = c;
+    t[i + 4] = d;
+    t[i + 5] = narrow(met);
+    t[i + 6] = narrow(unmet);
+    t[i + 7] = 0;
+}
+
+// Writes the two numbers of branch k.
+fn write_numbers(xs: &mut [i32], k: usize, x: i32, y: i32)
+    requires { ⌜ (2 * k + 2 ≤ length (now xs)) × (k < 64) ⌝ }
+    ensures { λ _. ⌜ now (xs .exit) ≡ sets (now (xs .entry)) (2 * k) (x ∷ y ∷ []) ⌝ }
+{
+    let i = 2 * k;
+    xs[i] = x;
+    xs[i + 1] = y;
+}
+
+// Branch k for the condition at a place: a comparison where it is one.
+fn single(
+    q: &[u8],
+    z: &[u16],
+    place: usize,
+    level: usize,
+    memo: &[i64],
+    t: &mut [u16],
+    xs: &mut [i32],
+    k: usize,
+    met: usize,
+    unmet: usize,
+)
+    requires { ⌜ (8 * k + 8 ≤ length (now t)) × (2 * k + 2 ≤ length (now xs)) × (2 ≤ k) × (k < 64) × (met < k) × (unmet < k) × (place ≤ 65535) × (level ≤ 65535) ⌝ }
+    ensures { λ _. ⌜ C.Compiled k k met unmet (now (t .entry)) (now (t .exit)) (now (xs .entry)) (now (xs .exit)) (now (q .entry)) (now (z .entry)) (now (memo .entry)) (decode level (drop place (now (q .entry))) (drop place (now (z .entry)))) ⌝ }
+{
+    let c = kinds::tail(q, place);
+    let sizes = kinds::tail_sizes(z, place);
+    let x = comparison_at(c, sizes, level, memo);
+    let operator = x.operator;
+    if operator == 0 {
+        write(t, k, 0, narrow(place), narrow(level), 0, 0, met, unmet);
+        return;
+    }
+    let a = x.left;
+    let b = x.right;
+    write(
+        t,
+        k,
+        wide(operator),
+        a.variable,
+        a.attribute,
+        b.variable,
+        b.attribute,
+        met,
+        unmet,
+    );
+    write_numbers(xs, k, a.number, b.number);
+}
+
+// The parts of a condition and their places: kind 1 for NOT, 2 for AND, 3 for OR; 0 for any other, or two parts with no room for two branches.
+pub struct Parts {
+    pub kind: usize,
+    pub first: usize,
+    pub second: usize,
+}
+
+fn parts_of(kind: usize, first: usize, second: usize) -> Parts
+    ensures { λ r. ⌜ r ≡ record { kind = kind; first = first; second = second } ⌝ }
+{
+    Parts {
+        kind,
+        first,
+        second,
+    }
+}
+
+fn kind_at(q: &[u8]) -> usize
+    ensures { λ r. ⌜ ((r ≡ 0 → ⊥) → recordAt (now (q .entry)) ≡ C.node r) ⌝ }
+{
+    match kinds::read(q) {
+        Record::Not => 1,
+        Record::And => 2,
+        Record::Or => 3,
+        _ => 0,
+    }
+}
+
+pub fn parts_at(q: &[u8], z: &[u16], place: usize, level: usize, room: usize) -> Parts
+    requires { ⌜ place ≤ 65535 ⌝ }
+    ensures { λ r. ⌜ ((r .kind ≡ 0 → ⊥) → C.Parted r room level place (now (q .entry)) (now (z .entry))) ⌝ }
+{
+    if level == 0 {
+        return parts_of(0, 0, 0);
+    }
+    let here = kinds::tail(q, place);
+    let first = place + kinds::record_length(kinds::byte(here, 0));
+    let second = first + kinds::size_at(z, first);
+    if 65535 < second {
+        return parts_of(0, 0, 0);
+    }
+    let kind = kind_at(here);
+    if kind < 2 {
+        return parts_of(kind, first, second);
+    }
+    if room < 2 {
+        return parts_of(0, 0, 0);
+    }
+    parts_of(kind, first, second)
+}
+
+// Branches from k on and below `end` for the condition at a place; the number of the last, with which it starts. The second part of an
+// AND or an OR comes first, so that the first part can lead to it.
+pub fn compile(
+    q: &[u8],
+    z: &[u16],
+    place: usize,
+    level: usize,
+    memo: &[i64],
+    t: &mut [u16],
+    xs: &mut [i32],
+    k: usize,
+    end: usize,
+    met: usize,
+    unmet: usize,
+) -> usize
+    requires { ⌜ (8 * end ≤ length (now t)) × (2 * end ≤ length (now xs)) × (2 ≤ k) × (k < end) × (end ≤ 64) × (met < k) × (unmet < k) × (place ≤ 65535) × (level ≤ 65535) ⌝ }
+    ensures { λ r. ⌜ (k ≤ r) × (r < end) ⌝ }
+    ensures { λ r. ⌜ C.Compiled k r met unmet (now (t .entry)) (now (t .exit)) (now (xs .entry)) (now (xs .exit)) (now (q .entry)) (now (z .entry)) (now (memo .entry)) (decode level (drop place (now (q .entry))) (drop place (now (z .entry)))) ⌝ }
+{
+    let x = parts_at(q, z, place, level, end - k);
+    let kind = x.kind;
+    if kind == 0 {
+        single(q, z, place, level, memo, t, xs, k, met, unmet);
+        return k;
+    }
+    let first = x.first;
+    let second = x.second;
+    let l = level - 1;
+    if kind == 1 {
+        return compile(q, z, first, l, memo, t, xs, k, end, unmet, met);
+    }
+    let r = compile(q, z, second, l, memo, t, xs, k, end - 1, met, unmet);
+    if kind == 2 {
+        return compile(q, z, first, l, memo, t, xs, r + 1, end, r, unmet);
+    }
+    compile(q, z, first, l, memo, t, xs, r + 1, end, met, r)
+}
