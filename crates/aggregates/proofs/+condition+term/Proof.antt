@@ -56,7 +56,10 @@ abbrev term-claims : ℕ → term-lts.Claims
 term-claims t = (read-reads.Asked, read-reads.Learnt, byte-reads.Asked, byte-reads.Learnt, record-length-reads.Asked, record-length-reads.Learnt, tail-reads.Asked, tail-reads.Learnt, tail-sizes-reads.Asked, tail-sizes-reads.Learnt, condition-below t, condition.Post, value-reads.Asked, value-reads.Learnt, remember-reads.Asked, remember-reads.Learnt)
 
 condition-returns : (t : ℕ) → condition-lts.Need-returns (condition-claims t) (condition-at t) condition.Post
-condition-returns t c = (none-left (rowsIn (now (c .before .before .before .before .before .args .cb)) (now (c .before .before .before .before .before .args .vs))) (assigned (now (c .before .before .before .before .before .args .vs)) (now (c .before .before .before .before .before .args .env))) (now (c .before .before .before .before .before .args .q)) (now (c .before .before .before .before .before .args .z)) (now (c .before .before .before .before .before .args .memo)) (c .before .before .before .before .before .args .level) (c .if1 .taken), search needs)
+condition-returns t c =
+    let c₅ = c .before .before .before .before .before in let args = c₅ .args in
+    let vs = now (args .vs) in
+    (none-left (rowsIn (now (args .cb)) vs) (assigned vs (now (args .env))) (now (args .q)) (now (args .z)) (now (args .memo)) (args .level) (c .if1 .taken), search needs)
 
 condition-sub-l : (t : ℕ) → condition-lts.Need-sub-l (condition-claims t) (condition-at t) condition.Post
 condition-sub-l t c = search needs
@@ -101,7 +104,11 @@ condition-tail-sizes-requires-2 : (t : ℕ) → condition-lts.Need-tail-sizes-re
 condition-tail-sizes-requires-2 t c κs = search needs
 
 condition-condition-requires-3 : (t : ℕ) → condition-lts.Need-condition-requires-3 (condition-claims t) (condition-at t) condition.Post
-condition-condition-requires-3 t c κs = (omega (arith, c .before .before .before .before .before .before .before .before .before .before .before .before .before .before .before .before .before .before .before .before .before .before .before .pre .0, c .before .before .before .before .before .before .before .before .before .before .before .before .before .before .before .before .before .before .if1 .left), omega (arith, c .before .before .before .before .before .before .before .before .before .before .before .before .before .before .before .before .before .before .before .before .before .before .before .pre .1, ap length (c .before .before .before .before .before .before .before .condition2 .ensures .1)))
+condition-condition-requires-3 t c κs =
+    let c₇ = c .before .before .before .before .before .before .before in let condition2 = c₇ .condition2 in
+    let c₁₈ = c₇ .before .before .before .before .before .before .before .before .before .before .before in let if1 = c₁₈ .if1 in
+    let c₂₃ = c₁₈ .before .before .before .before .before in let pre = c₂₃ .pre in
+    (omega (arith, pre .0, if1 .left), omega (arith, pre .1, ap length (condition2 .ensures .1)))
 
 condition-enum-told-3 : (t : ℕ) → condition-lts.Need-enum-told-3 (condition-claims t) (condition-at t) condition.Post
 condition-enum-told-3 t c = search needs
@@ -116,7 +123,11 @@ condition-tail-sizes-requires-3 : (t : ℕ) → condition-lts.Need-tail-sizes-re
 condition-tail-sizes-requires-3 t c κs = search needs
 
 condition-condition-requires-5 : (t : ℕ) → condition-lts.Need-condition-requires-5 (condition-claims t) (condition-at t) condition.Post
-condition-condition-requires-5 t c κs = (omega (arith, c .before .before .before .before .before .before .before .before .before .before .before .before .before .before .before .before .before .before .before .before .before .before .before .pre .0, c .before .before .before .before .before .before .before .before .before .before .before .before .before .before .before .before .before .before .if1 .left), omega (arith, c .before .before .before .before .before .before .before .before .before .before .before .before .before .before .before .before .before .before .before .before .before .before .before .pre .1, ap length (c .before .before .before .before .before .before .before .condition4 .ensures .1)))
+condition-condition-requires-5 t c κs =
+    let c₇ = c .before .before .before .before .before .before .before in let condition4 = c₇ .condition4 in
+    let c₁₈ = c₇ .before .before .before .before .before .before .before .before .before .before .before in let if1 = c₁₈ .if1 in
+    let c₂₃ = c₁₈ .before .before .before .before .before in let pre = c₂₃ .pre in
+    (omega (arith, pre .0, if1 .left), omega (arith, pre .1, ap length (condition4 .ensures .1)))
 
 condition-enum-told-4 : (t : ℕ) → condition-lts.Need-enum-told-4 (condition-claims t) (condition-at t) condition.Post
 condition-enum-told-4 t c = search needs
@@ -131,7 +142,11 @@ condition-tail-sizes-requires-4 : (t : ℕ) → condition-lts.Need-tail-sizes-re
 condition-tail-sizes-requires-4 t c κs = search needs
 
 condition-term-requires-2 : (t : ℕ) → condition-lts.Need-term-requires-2 (condition-claims t) (condition-at t) condition.Post
-condition-term-requires-2 t c κs = (omega (arith, c .before .before .before .before .before .before .before .before .before .before .before .before .before .before .before .before .before .before .before .before .before .before .before .pre .0, c .before .before .before .before .before .before .before .before .before .before .before .before .before .before .before .before .before .before .if1 .left), omega (arith, c .before .before .before .before .before .before .before .before .before .before .before .before .before .before .before .before .before .before .before .before .before .before .before .pre .1, ap length (c .before .before .before .before .before .before .before .term .ensures .1)))
+condition-term-requires-2 t c κs =
+    let c₇ = c .before .before .before .before .before .before .before in let term = c₇ .term in
+    let c₁₈ = c₇ .before .before .before .before .before .before .before .before .before .before .before in let if1 = c₁₈ .if1 in
+    let c₂₃ = c₁₈ .before .before .before .before .before in let pre = c₂₃ .pre in
+    (omega (arith, pre .0, if1 .left), omega (arith, pre .1, ap length (term .ensures .1)))
 
 condition-enum-told-5 : (t : ℕ) → condition-lts.Need-enum-told-5 (condition-claims t) (condition-at t) condition.Post
 condition-enum-told-5 t c = search needs
@@ -146,7 +161,18 @@ condition-same-length-2 : (t : ℕ) → condition-lts.Need-same-length-2 (condit
 condition-same-length-2 t c = search needs
 
 condition-returns-2 : (t : ℕ) → condition-lts.Need-returns-2 (condition-claims t) (condition-at t) condition.Post
-condition-returns-2 t c = (not-is (rowsIn (now (c .before .before .before .before .before .before .before .before .before .before .before .before .before .before .before .before .before .before .before .args .cb)) (now (c .before .before .before .before .before .before .before .before .before .before .before .before .before .before .before .before .before .before .before .args .vs))) (assigned (now (c .before .before .before .before .before .before .before .before .before .before .before .before .before .before .before .before .before .before .before .args .vs)) (now (c .before .before .before .before .before .before .before .before .before .before .before .before .before .before .before .before .before .before .before .args .env))) (now (c .before .before .before .before .before .before .before .before .before .before .before .before .before .before .before .before .before .before .before .args .q)) (now (c .before .before .before .before .before .before .before .before .before .before .before .before .before .before .before .before .before .before .before .args .z)) (now (c .before .before .before .before .before .before .before .before .before .before .before .before .before .before .before .before .before .before .before .args .memo)) (c .before .before .before .before .before .before .before .before .before .before .before .before .before .before .before .before .before .before .before .args .level) _ _ _ (c .before .before .before .before .before .before .before .before .before .before .before .before .before .before .if1 .left) (c .before .before .before .before .before .before .before .before .before .before .before .before .before .byte .ensures) (c .before .before .before .before .before .before .before .before .before .before .before .before .record-length .ensures .0) (c .before .before .before .before .before .before .before .before .read .ensures) _ _ (c .before .before .before .before .before .before .before .before .before .before .before .tail .ensures) (c .before .before .before .before .before .before .before .before .before .before .tail-sizes .ensures) _ (c .before .before .before .before .before .before .enum-told .given .1) (c .before .before .before .condition .ensures .0), c .before .before .before .condition .ensures .1)
+condition-returns-2 t c =
+    let c₃ = c .before .before .before in let condition = c₃ .condition in
+    let c₆ = c₃ .before .before .before in let enum-told = c₆ .enum-told in
+    let c₈ = c₆ .before .before in let read = c₈ .read in
+    let c₁₀ = c₈ .before .before in let tail-sizes = c₁₀ .tail-sizes in
+    let c₁₁ = c₁₀ .before in let tail = c₁₁ .tail in
+    let c₁₂ = c₁₁ .before in let record-length = c₁₂ .record-length in
+    let c₁₃ = c₁₂ .before in let byte = c₁₃ .byte in
+    let c₁₄ = c₁₃ .before in let if1 = c₁₄ .if1 in
+    let c₁₉ = c₁₄ .before .before .before .before .before in let args = c₁₉ .args in
+    let vs = now (args .vs) in
+    (not-is (rowsIn (now (args .cb)) vs) (assigned vs (now (args .env))) (now (args .q)) (now (args .z)) (now (args .memo)) (args .level) _ _ _ (if1 .left) (byte .ensures) (record-length .ensures .0) (read .ensures) _ _ (tail .ensures) (tail-sizes .ensures) _ (enum-told .given .1) (condition .ensures .0), condition .ensures .1)
 
 condition-same-length-3 : (t : ℕ) → condition-lts.Need-same-length-3 (condition-claims t) (condition-at t) condition.Post
 condition-same-length-3 t c = search needs
@@ -155,7 +181,22 @@ condition-same-length-4 : (t : ℕ) → condition-lts.Need-same-length-4 (condit
 condition-same-length-4 t c = search needs
 
 condition-returns-3 : (t : ℕ) → condition-lts.Need-returns-3 (condition-claims t) (condition-at t) condition.Post
-condition-returns-3 t c = (and-is (rowsIn (now (c .before .before .before .before .before .before .before .before .before .before .before .before .before .before .before .before .before .before .before .before .before .before .before .before .before .before .before .args .cb)) (now (c .before .before .before .before .before .before .before .before .before .before .before .before .before .before .before .before .before .before .before .before .before .before .before .before .before .before .before .args .vs))) (assigned (now (c .before .before .before .before .before .before .before .before .before .before .before .before .before .before .before .before .before .before .before .before .before .before .before .before .before .before .before .args .vs)) (now (c .before .before .before .before .before .before .before .before .before .before .before .before .before .before .before .before .before .before .before .before .before .before .before .before .before .before .before .args .env))) (now (c .before .before .before .before .before .before .before .before .before .before .before .before .before .before .before .before .before .before .before .before .before .before .before .before .before .before .before .args .q)) (now (c .before .before .before .before .before .before .before .before .before .before .before .before .before .before .before .before .before .before .before .before .before .before .before .before .before .before .before .args .z)) (now (c .before .before .before .before .before .before .before .before .before .before .before .before .before .before .before .before .before .before .before .before .before .before .before .before .before .before .before .args .memo)) (c .before .before .before .before .before .before .before .before .before .before .before .before .before .before .before .before .before .before .before .before .before .before .before .before .before .before .before .args .level) _ _ _ (c .before .before .before .before .before .before .before .before .before .before .before .before .before .before .before .before .before .before .before .before .before .before .if1 .left) (c .before .before .before .before .before .before .before .before .before .before .before .before .before .before .before .before .before .before .before .before .before .byte .ensures) (c .before .before .before .before .before .before .before .before .before .before .before .before .before .before .before .before .before .before .before .before .record-length .ensures .0) (c .before .before .before .before .before .before .before .before .before .before .before .before .before .before .before .before .read .ensures) _ _ (c .before .before .before .before .before .before .before .before .before .before .before .before .before .before .before .before .before .before .before .tail .ensures) (c .before .before .before .before .before .before .before .before .before .before .before .before .before .before .before .before .before .before .tail-sizes .ensures) _ _ _ _ (c .before .before .before .before .before .before .before .before .before .before .before .before .before .before .before .before .before .size-at .ensures .0) refl (c .before .before .before .before .before .before .before .tail2 .ensures) (c .before .before .before .before .before .before .tail-sizes2 .ensures) _ _ _ (ap (assigned (now (c .before .before .before .before .before .before .before .before .before .before .before .before .before .before .before .before .before .before .before .before .before .before .before .before .before .before .before .args .vs))) (c .before .before .before .before .before .before .before .before .before .before .before .condition2 .ensures .1)) (c .before .before .before .before .before .before .before .before .before .before .before .condition2 .ensures .0) (c .before .before .before .condition3 .ensures .0) (c .before .before .before .before .before .before .before .before .before .before .before .before .before .before .enum-told2 .given .1), c .before .before .before .condition3 .ensures .1 ∙ c .before .before .before .before .before .before .before .before .before .before .before .condition2 .ensures .1)
+condition-returns-3 t c =
+    let c₃ = c .before .before .before in let condition3 = c₃ .condition3 in
+    let c₆ = c₃ .before .before .before in let tail-sizes2 = c₆ .tail-sizes2 in
+    let c₇ = c₆ .before in let tail2 = c₇ .tail2 in
+    let c₁₁ = c₇ .before .before .before .before in let condition2 = c₁₁ .condition2 in
+    let c₁₄ = c₁₁ .before .before .before in let enum-told2 = c₁₄ .enum-told2 in
+    let c₁₆ = c₁₄ .before .before in let read = c₁₆ .read in
+    let c₁₇ = c₁₆ .before in let size-at = c₁₇ .size-at in
+    let c₁₈ = c₁₇ .before in let tail-sizes = c₁₈ .tail-sizes in
+    let c₁₉ = c₁₈ .before in let tail = c₁₉ .tail in
+    let c₂₀ = c₁₉ .before in let record-length = c₂₀ .record-length in
+    let c₂₁ = c₂₀ .before in let byte = c₂₁ .byte in
+    let c₂₂ = c₂₁ .before in let if1 = c₂₂ .if1 in
+    let c₂₇ = c₂₂ .before .before .before .before .before in let args = c₂₇ .args in
+    let vs = now (args .vs) in
+    (and-is (rowsIn (now (args .cb)) vs) (assigned vs (now (args .env))) (now (args .q)) (now (args .z)) (now (args .memo)) (args .level) _ _ _ (if1 .left) (byte .ensures) (record-length .ensures .0) (read .ensures) _ _ (tail .ensures) (tail-sizes .ensures) _ _ _ _ (size-at .ensures .0) refl (tail2 .ensures) (tail-sizes2 .ensures) _ _ _ (ap (assigned vs) (condition2 .ensures .1)) (condition2 .ensures .0) (condition3 .ensures .0) (enum-told2 .given .1), condition3 .ensures .1 ∙ condition2 .ensures .1)
 
 condition-same-length-5 : (t : ℕ) → condition-lts.Need-same-length-5 (condition-claims t) (condition-at t) condition.Post
 condition-same-length-5 t c = search needs
@@ -164,7 +205,22 @@ condition-same-length-6 : (t : ℕ) → condition-lts.Need-same-length-6 (condit
 condition-same-length-6 t c = search needs
 
 condition-returns-4 : (t : ℕ) → condition-lts.Need-returns-4 (condition-claims t) (condition-at t) condition.Post
-condition-returns-4 t c = (or-is (rowsIn (now (c .before .before .before .before .before .before .before .before .before .before .before .before .before .before .before .before .before .before .before .before .before .before .before .before .before .before .before .args .cb)) (now (c .before .before .before .before .before .before .before .before .before .before .before .before .before .before .before .before .before .before .before .before .before .before .before .before .before .before .before .args .vs))) (assigned (now (c .before .before .before .before .before .before .before .before .before .before .before .before .before .before .before .before .before .before .before .before .before .before .before .before .before .before .before .args .vs)) (now (c .before .before .before .before .before .before .before .before .before .before .before .before .before .before .before .before .before .before .before .before .before .before .before .before .before .before .before .args .env))) (now (c .before .before .before .before .before .before .before .before .before .before .before .before .before .before .before .before .before .before .before .before .before .before .before .before .before .before .before .args .q)) (now (c .before .before .before .before .before .before .before .before .before .before .before .before .before .before .before .before .before .before .before .before .before .before .before .before .before .before .before .args .z)) (now (c .before .before .before .before .before .before .before .before .before .before .before .before .before .before .before .before .before .before .before .before .before .before .before .before .before .before .before .args .memo)) (c .before .before .before .before .before .before .before .before .before .before .before .before .before .before .before .before .before .before .before .before .before .before .before .before .before .before .before .args .level) _ _ _ (c .before .before .before .before .before .before .before .before .before .before .before .before .before .before .before .before .before .before .before .before .before .before .if1 .left) (c .before .before .before .before .before .before .before .before .before .before .before .before .before .before .before .before .before .before .before .before .before .byte .ensures) (c .before .before .before .before .before .before .before .before .before .before .before .before .before .before .before .before .before .before .before .before .record-length .ensures .0) (c .before .before .before .before .before .before .before .before .before .before .before .before .before .before .before .before .read .ensures) _ _ (c .before .before .before .before .before .before .before .before .before .before .before .before .before .before .before .before .before .before .before .tail .ensures) (c .before .before .before .before .before .before .before .before .before .before .before .before .before .before .before .before .before .before .tail-sizes .ensures) _ _ _ _ (c .before .before .before .before .before .before .before .before .before .before .before .before .before .before .before .before .before .size-at .ensures .0) refl (c .before .before .before .before .before .before .before .tail3 .ensures) (c .before .before .before .before .before .before .tail-sizes3 .ensures) _ _ _ (ap (assigned (now (c .before .before .before .before .before .before .before .before .before .before .before .before .before .before .before .before .before .before .before .before .before .before .before .before .before .before .before .args .vs))) (c .before .before .before .before .before .before .before .before .before .before .before .condition4 .ensures .1)) (c .before .before .before .before .before .before .before .before .before .before .before .condition4 .ensures .0) (c .before .before .before .condition5 .ensures .0) (c .before .before .before .before .before .before .before .before .before .before .before .before .before .before .enum-told3 .given .1), c .before .before .before .condition5 .ensures .1 ∙ c .before .before .before .before .before .before .before .before .before .before .before .condition4 .ensures .1)
+condition-returns-4 t c =
+    let c₃ = c .before .before .before in let condition5 = c₃ .condition5 in
+    let c₆ = c₃ .before .before .before in let tail-sizes3 = c₆ .tail-sizes3 in
+    let c₇ = c₆ .before in let tail3 = c₇ .tail3 in
+    let c₁₁ = c₇ .before .before .before .before in let condition4 = c₁₁ .condition4 in
+    let c₁₄ = c₁₁ .before .before .before in let enum-told3 = c₁₄ .enum-told3 in
+    let c₁₆ = c₁₄ .before .before in let read = c₁₆ .read in
+    let c₁₇ = c₁₆ .before in let size-at = c₁₇ .size-at in
+    let c₁₈ = c₁₇ .before in let tail-sizes = c₁₈ .tail-sizes in
+    let c₁₉ = c₁₈ .before in let tail = c₁₉ .tail in
+    let c₂₀ = c₁₉ .before in let record-length = c₂₀ .record-length in
+    let c₂₁ = c₂₀ .before in let byte = c₂₁ .byte in
+    let c₂₂ = c₂₁ .before in let if1 = c₂₂ .if1 in
+    let c₂₇ = c₂₂ .before .before .before .before .before in let args = c₂₇ .args in
+    let vs = now (args .vs) in
+    (or-is (rowsIn (now (args .cb)) vs) (assigned vs (now (args .env))) (now (args .q)) (now (args .z)) (now (args .memo)) (args .level) _ _ _ (if1 .left) (byte .ensures) (record-length .ensures .0) (read .ensures) _ _ (tail .ensures) (tail-sizes .ensures) _ _ _ _ (size-at .ensures .0) refl (tail3 .ensures) (tail-sizes3 .ensures) _ _ _ (ap (assigned vs) (condition4 .ensures .1)) (condition4 .ensures .0) (condition5 .ensures .0) (enum-told3 .given .1), condition5 .ensures .1 ∙ condition4 .ensures .1)
 
 condition-same-length-7 : (t : ℕ) → condition-lts.Need-same-length-7 (condition-claims t) (condition-at t) condition.Post
 condition-same-length-7 t c = search needs
@@ -173,7 +229,22 @@ condition-same-length-8 : (t : ℕ) → condition-lts.Need-same-length-8 (condit
 condition-same-length-8 t c = search needs
 
 condition-returns-5 : (t : ℕ) → condition-lts.Need-returns-5 (condition-claims t) (condition-at t) condition.Post
-condition-returns-5 t c = (compare-is (rowsIn (now (c .before .before .before .before .before .before .before .before .before .before .before .before .before .before .before .before .before .before .before .before .before .before .before .before .before .before .before .args .cb)) (now (c .before .before .before .before .before .before .before .before .before .before .before .before .before .before .before .before .before .before .before .before .before .before .before .before .before .before .before .args .vs))) (assigned (now (c .before .before .before .before .before .before .before .before .before .before .before .before .before .before .before .before .before .before .before .before .before .before .before .before .before .before .before .args .vs)) (now (c .before .before .before .before .before .before .before .before .before .before .before .before .before .before .before .before .before .before .before .before .before .before .before .before .before .before .before .args .env))) (now (c .before .before .before .before .before .before .before .before .before .before .before .before .before .before .before .before .before .before .before .before .before .before .before .before .before .before .before .args .q)) (now (c .before .before .before .before .before .before .before .before .before .before .before .before .before .before .before .before .before .before .before .before .before .before .before .before .before .before .before .args .z)) (now (c .before .before .before .before .before .before .before .before .before .before .before .before .before .before .before .before .before .before .before .before .before .before .before .before .before .before .before .args .memo)) (c .before .before .before .before .before .before .before .before .before .before .before .before .before .before .before .before .before .before .before .before .before .before .before .before .before .before .before .args .level) _ _ _ (c .before .before .before .before .before .before .before .before .before .before .before .before .before .before .before .before .before .before .before .before .before .before .if1 .left) (c .before .before .before .before .before .before .before .before .before .before .before .before .before .before .before .before .before .before .before .before .before .byte .ensures) (c .before .before .before .before .before .before .before .before .before .before .before .before .before .before .before .before .before .before .before .before .record-length .ensures .0) (c .before .before .before .before .before .before .before .before .before .before .before .before .before .before .before .before .read .ensures) _ _ (c .before .before .before .before .before .before .before .before .before .before .before .before .before .before .before .before .before .before .before .tail .ensures) (c .before .before .before .before .before .before .before .before .before .before .before .before .before .before .before .before .before .before .tail-sizes .ensures) _ _ _ _ (c .before .before .before .before .before .before .before .before .before .before .before .before .before .before .before .before .before .size-at .ensures .0) refl (c .before .before .before .before .before .before .before .tail4 .ensures) (c .before .before .before .before .before .before .tail-sizes4 .ensures) _ _ _ (ap (assigned (now (c .before .before .before .before .before .before .before .before .before .before .before .before .before .before .before .before .before .before .before .before .before .before .before .before .before .before .before .args .vs))) (c .before .before .before .before .before .before .before .before .before .before .before .term .ensures .1)) _ (c .before .before .before .before .before .before .before .before .before .before .before .before .before .before .enum-told4 .given .1) (c .before .before .before .before .before .before .before .before .before .before .before .term .ensures .0) (c .before .before .before .term2 .ensures .0), c .before .before .before .term2 .ensures .1 ∙ c .before .before .before .before .before .before .before .before .before .before .before .term .ensures .1)
+condition-returns-5 t c =
+    let c₃ = c .before .before .before in let term2 = c₃ .term2 in
+    let c₆ = c₃ .before .before .before in let tail-sizes4 = c₆ .tail-sizes4 in
+    let c₇ = c₆ .before in let tail4 = c₇ .tail4 in
+    let c₁₁ = c₇ .before .before .before .before in let term = c₁₁ .term in
+    let c₁₄ = c₁₁ .before .before .before in let enum-told4 = c₁₄ .enum-told4 in
+    let c₁₆ = c₁₄ .before .before in let read = c₁₆ .read in
+    let c₁₇ = c₁₆ .before in let size-at = c₁₇ .size-at in
+    let c₁₈ = c₁₇ .before in let tail-sizes = c₁₈ .tail-sizes in
+    let c₁₉ = c₁₈ .before in let tail = c₁₉ .tail in
+    let c₂₀ = c₁₉ .before in let record-length = c₂₀ .record-length in
+    let c₂₁ = c₂₀ .before in let byte = c₂₁ .byte in
+    let c₂₂ = c₂₁ .before in let if1 = c₂₂ .if1 in
+    let c₂₇ = c₂₂ .before .before .before .before .before in let args = c₂₇ .args in
+    let vs = now (args .vs) in
+    (compare-is (rowsIn (now (args .cb)) vs) (assigned vs (now (args .env))) (now (args .q)) (now (args .z)) (now (args .memo)) (args .level) _ _ _ (if1 .left) (byte .ensures) (record-length .ensures .0) (read .ensures) _ _ (tail .ensures) (tail-sizes .ensures) _ _ _ _ (size-at .ensures .0) refl (tail4 .ensures) (tail-sizes4 .ensures) _ _ _ (ap (assigned vs) (term .ensures .1)) _ (enum-told4 .given .1) (term .ensures .0) (term2 .ensures .0), term2 .ensures .1 ∙ term .ensures .1)
 
 condition-same-length-9 : (t : ℕ) → condition-lts.Need-same-length-9 (condition-claims t) (condition-at t) condition.Post
 condition-same-length-9 t c = search needs
@@ -182,13 +253,31 @@ condition-same-length-10 : (t : ℕ) → condition-lts.Need-same-length-10 (cond
 condition-same-length-10 t c = search needs
 
 condition-returns-6 : (t : ℕ) → condition-lts.Need-returns-6 (condition-claims t) (condition-at t) condition.Post
-condition-returns-6 t c = (some-is (rowsIn (now (c .before .before .before .before .before .before .before .before .before .before .before .before .before .before .before .before .before .before .before .args .cb)) (now (c .before .before .before .before .before .before .before .before .before .before .before .before .before .before .before .before .before .before .before .args .vs))) (assigned (now (c .before .before .before .before .before .before .before .before .before .before .before .before .before .before .before .before .before .before .before .args .vs)) (now (c .before .before .before .before .before .before .before .before .before .before .before .before .before .before .before .before .before .before .before .args .env))) (now (c .before .before .before .before .before .before .before .before .before .before .before .before .before .before .before .before .before .before .before .args .q)) (now (c .before .before .before .before .before .before .before .before .before .before .before .before .before .before .before .before .before .before .before .args .z)) (now (c .before .before .before .before .before .before .before .before .before .before .before .before .before .before .before .before .before .before .before .args .memo)) (c .before .before .before .before .before .before .before .before .before .before .before .before .before .before .before .before .before .before .before .args .level) _ _ _ (c .before .before .before .before .before .before .before .before .before .before .before .before .before .before .if1 .left) (c .before .before .before .before .before .before .before .before .before .before .before .before .before .byte .ensures) (c .before .before .before .before .before .before .before .before .before .before .before .before .record-length .ensures .0) (c .before .before .before .before .before .before .before .before .read .ensures) _ _ (c .before .before .before .before .before .before .before .before .before .before .before .tail .ensures) (c .before .before .before .before .before .before .before .before .before .before .tail-sizes .ensures) _ _ _ (c .before .before .before .before .before .before .enum-told5 .given .1) (c .before .before .before .condition6 .ensures .0), c .before .before .before .condition6 .ensures .1)
+condition-returns-6 t c =
+    let c₃ = c .before .before .before in let condition6 = c₃ .condition6 in
+    let c₆ = c₃ .before .before .before in let enum-told5 = c₆ .enum-told5 in
+    let c₈ = c₆ .before .before in let read = c₈ .read in
+    let c₁₀ = c₈ .before .before in let tail-sizes = c₁₀ .tail-sizes in
+    let c₁₁ = c₁₀ .before in let tail = c₁₁ .tail in
+    let c₁₂ = c₁₁ .before in let record-length = c₁₂ .record-length in
+    let c₁₃ = c₁₂ .before in let byte = c₁₃ .byte in
+    let c₁₄ = c₁₃ .before in let if1 = c₁₄ .if1 in
+    let c₁₉ = c₁₄ .before .before .before .before .before in let args = c₁₉ .args in
+    let vs = now (args .vs) in
+    (some-is (rowsIn (now (args .cb)) vs) (assigned vs (now (args .env))) (now (args .q)) (now (args .z)) (now (args .memo)) (args .level) _ _ _ (if1 .left) (byte .ensures) (record-length .ensures .0) (read .ensures) _ _ (tail .ensures) (tail-sizes .ensures) _ _ _ (enum-told5 .given .1) (condition6 .ensures .0), condition6 .ensures .1)
 
 condition-returns-7 : (t : ℕ) → condition-lts.Need-returns-7 (condition-claims t) (condition-at t) condition.Post
-condition-returns-7 t c = (no-aggregate (rowsIn (now (c .before .before .before .before .before .before .before .before .before .before .before .before .args .cb)) (now (c .before .before .before .before .before .before .before .before .before .before .before .before .args .vs))) (assigned (now (c .before .before .before .before .before .before .before .before .before .before .before .before .args .vs)) (now (c .before .before .before .before .before .before .before .before .before .before .before .before .args .env))) (now (c .before .before .before .before .before .before .before .before .before .before .before .before .args .q)) (now (c .before .before .before .before .before .before .before .before .before .before .before .before .args .z)) (now (c .before .before .before .before .before .before .before .before .before .before .before .before .args .memo)) (c .before .before .before .before .before .before .before .before .before .before .before .before .args .level) _ (c .before .before .before .before .before .before .before .if1 .left) (c .before .read .ensures) (c .match .keys6), search needs)
+condition-returns-7 t c =
+    let c₇ = c .before .before .before .before .before .before .before in let if1 = c₇ .if1 in
+    let c₁₂ = c₇ .before .before .before .before .before in let args = c₁₂ .args in
+    let vs = now (args .vs) in
+    (no-aggregate (rowsIn (now (args .cb)) vs) (assigned vs (now (args .env))) (now (args .q)) (now (args .z)) (now (args .memo)) (args .level) _ (if1 .left) (c .before .read .ensures) (c .match .keys6), search needs)
 
 term-returns : (t : ℕ) → term-lts.Need-returns (term-claims t) (term-at t) term.Post
-term-returns t c = (none-leftT (rowsIn (now (c .before .before .before .before .before .args .cb)) (now (c .before .before .before .before .before .args .vs))) (assigned (now (c .before .before .before .before .before .args .vs)) (now (c .before .before .before .before .before .args .env))) (now (c .before .before .before .before .before .args .q)) (now (c .before .before .before .before .before .args .z)) (now (c .before .before .before .before .before .args .memo)) (c .before .before .before .before .before .args .level) (c .if1 .taken), search needs)
+term-returns t c =
+    let c₅ = c .before .before .before .before .before in let args = c₅ .args in
+    let vs = now (args .vs) in
+    (none-leftT (rowsIn (now (args .cb)) vs) (assigned vs (now (args .env))) (now (args .q)) (now (args .z)) (now (args .memo)) (args .level) (c .if1 .taken), search needs)
 
 term-read-requires : (t : ℕ) → term-lts.Need-read-requires (term-claims t) (term-at t) term.Post
 term-read-requires t c κs = search needs
@@ -197,7 +286,10 @@ term-enum-known-variable : (t : ℕ) → term-lts.Need-enum-known-variable (term
 term-enum-known-variable t c = search needs
 
 term-returns-2 : (t : ℕ) → term-lts.Need-returns-2 (term-claims t) (term-at t) term.Post
-term-returns-2 t c = (no-term (rowsIn (now (c .before .before .before .before .before .before .before .args .cb)) (now (c .before .before .before .before .before .before .before .args .vs))) (assigned (now (c .before .before .before .before .before .before .before .args .vs)) (now (c .before .before .before .before .before .before .before .args .env))) (now (c .before .before .before .before .before .before .before .args .q)) (now (c .before .before .before .before .before .before .before .args .z)) (now (c .before .before .before .before .before .before .before .args .memo)) (c .before .before .before .before .before .before .before .args .level) _ (c .before .before .if1 .left) (c .before .read .ensures) (c .match .keys2), search needs)
+term-returns-2 t c =
+    let c₇ = c .before .before .before .before .before .before .before in let args = c₇ .args in
+    let vs = now (args .vs) in
+    (no-term (rowsIn (now (args .cb)) vs) (assigned vs (now (args .env))) (now (args .q)) (now (args .z)) (now (args .memo)) (args .level) _ (c .before .before .if1 .left) (c .before .read .ensures) (c .match .keys2), search needs)
 
 term-byte-requires : (t : ℕ) → term-lts.Need-byte-requires (term-claims t) (term-at t) term.Post
 term-byte-requires t c κs = search needs
@@ -230,7 +322,19 @@ term-same-length-2 : (t : ℕ) → term-lts.Need-same-length-2 (term-claims t) (
 term-same-length-2 t c = search needs
 
 term-returns-3 : (t : ℕ) → term-lts.Need-returns-3 (term-claims t) (term-at t) term.Post
-term-returns-3 t c = (aggregate-is (rowsIn (now (c .before .before .before .before .before .before .before .before .before .before .before .before .before .before .before .before .before .before .before .before .before .before .before .before .before .before .before .args .cb)) (now (c .before .before .before .before .before .before .before .before .before .before .before .before .before .before .before .before .before .before .before .before .before .before .before .before .before .before .before .args .vs))) (assigned (now (c .before .before .before .before .before .before .before .before .before .before .before .before .before .before .before .before .before .before .before .before .before .before .before .before .before .before .before .args .vs)) (now (c .before .before .before .before .before .before .before .before .before .before .before .before .before .before .before .before .before .before .before .before .before .before .before .before .before .before .before .args .env))) (now (c .before .before .before .before .before .before .before .before .before .before .before .before .before .before .before .before .before .before .before .before .before .before .before .before .before .before .before .args .q)) (now (c .before .before .before .before .before .before .before .before .before .before .before .before .before .before .before .before .before .before .before .before .before .before .before .before .before .before .before .args .z)) (now (c .before .before .before .before .before .before .before .before .before .before .before .before .before .before .before .before .before .before .before .before .before .before .before .before .before .before .before .args .memo)) (c .before .before .before .before .before .before .before .before .before .before .before .before .before .before .before .before .before .before .before .before .before .before .before .before .before .before .before .args .level) _ _ _ (c .before .before .before .before .before .before .before .before .before .before .before .before .before .before .before .before .before .before .before .before .before .before .if1 .left) (c .before .before .before .before .before .before .before .before .before .before .before .before .before .before .before .before .before .byte .ensures) (c .before .before .before .before .before .before .before .before .before .before .before .before .before .before .before .before .record-length .ensures .0) (c .before .before .before .before .before .before .before .before .before .before .before .before .before .before .before .before .before .before .before .before .before .read .ensures) _ _ (c .before .before .before .before .before .before .before .before .before .before .before .before .before .before .before .tail .ensures) (c .before .before .before .before .before .before .before .before .before .before .before .before .before .before .tail-sizes .ensures) _ _ _ _ _ _ _ (c .before .before .before .before .before .before .before .before .before .before .before .before .before .before .before .before .before .before .before .variable .given .1) (c .before .before .before .before .before .before .before .before .before .before .before .condition .ensures .0) (term-is (c .before .before .before .before .before .before .before .before .before .before .before .before .before .before .before .before .before .before .before .before .before .before .before .before .before .before .before .args .level) (now (c .before .before .before .before .before .before .before .before .before .before .before .before .before .before .before .before .before .before .before .before .before .before .before .before .before .before .before .args .q)) (now (c .before .before .before .before .before .before .before .before .before .before .before .before .before .before .before .before .before .before .before .before .before .before .before .before .before .before .before .args .z)) (now (c .before .before .before .before .before .before .before .before .before .before .before .before .before .before .before .before .before .before .before .before .before .before .before .before .before .before .before .args .cb)) (now (c .before .before .before .before .before .before .before .before .before .before .before .before .before .before .before .before .before .before .before .before .before .before .before .before .before .before .before .args .vs)) _ (now (c .before .before .before .before .before .before .before .before .before .before .before .before .before .before .before .before .before .before .before .before .before .before .before .before .before .before .before .args .env)) _ _ (c .before .before .before .before .before .before .before .before .before .before .before .condition .ensures .1) (c .before .before .before .before .before .value .ensures .0)) (c .before .remember .ensures), c .before .before .before .before .before .value .ensures .1 .1 ∙ c .before .before .before .before .before .before .before .before .before .before .before .condition .ensures .1)
+term-returns-3 t c =
+    let c₅ = c .before .before .before .before .before in let value = c₅ .value in
+    let c₁₁ = c₅ .before .before .before .before .before .before in let condition = c₁₁ .condition in
+    let c₁₄ = c₁₁ .before .before .before in let tail-sizes = c₁₄ .tail-sizes in
+    let c₁₅ = c₁₄ .before in let tail = c₁₅ .tail in
+    let c₁₆ = c₁₅ .before in let record-length = c₁₆ .record-length in
+    let c₁₇ = c₁₆ .before in let byte = c₁₇ .byte in
+    let c₁₉ = c₁₇ .before .before in let variable = c₁₉ .variable in
+    let c₂₁ = c₁₉ .before .before in let read = c₂₁ .read in
+    let c₂₂ = c₂₁ .before in let if1 = c₂₂ .if1 in
+    let c₂₇ = c₂₂ .before .before .before .before .before in let args = c₂₇ .args in
+    let cb = now (args .cb) in let env = now (args .env) in let q = now (args .q) in let vs = now (args .vs) in let z = now (args .z) in let level = args .level in
+    (aggregate-is (rowsIn cb vs) (assigned vs env) q z (now (args .memo)) level _ _ _ (if1 .left) (byte .ensures) (record-length .ensures .0) (read .ensures) _ _ (tail .ensures) (tail-sizes .ensures) _ _ _ _ _ _ _ (variable .given .1) (condition .ensures .0) (term-is level q z cb vs _ env _ _ (condition .ensures .1) (value .ensures .0)) (c .before .remember .ensures), value .ensures .1 .1 ∙ condition .ensures .1)
 
 pub +condition+term-spec : {M : Type 1} → statement M
 +condition+term-spec = close μ-condition μ-term (λ t. condition-lts.spec (condition-claims t)

@@ -31,7 +31,10 @@ abbrev targets-claims : ℕ → targets-lts.Claims
 targets-claims t = (term-reads.Asked, term-reads.Learnt, size-at-reads.Asked, size-at-reads.Learnt, tail-reads.Asked, tail-reads.Learnt, tail-sizes-reads.Asked, tail-sizes-reads.Learnt, targets-below t, targets.Post)
 
 targets-returns : (t : ℕ) → targets-lts.Need-returns (targets-claims t) (targets-at t) targets.Post
-targets-returns t c = (targets-none (rowsIn (now (c .before .before .before .before .before .args .cb)) (now (c .before .before .before .before .before .args .vs))) (assigned (now (c .before .before .before .before .before .args .vs)) (now (c .before .before .before .before .before .args .env))) (now (c .before .before .before .before .before .args .q)) (now (c .before .before .before .before .before .args .z)) (now (c .before .before .before .before .before .args .memo)) (c .before .before .before .before .before .args .left) (c .before .before .before .before .before .args .level) (c .if1 .taken), search needs)
+targets-returns t c =
+    let c₅ = c .before .before .before .before .before in let args = c₅ .args in
+    let vs = now (args .vs) in
+    (targets-none (rowsIn (now (args .cb)) vs) (assigned vs (now (args .env))) (now (args .q)) (now (args .z)) (now (args .memo)) (args .left) (args .level) (c .if1 .taken), search needs)
 
 targets-term-requires : (t : ℕ) → targets-lts.Need-term-requires (targets-claims t) (targets-at t) targets.Post
 targets-term-requires t c κs = search needs
@@ -58,7 +61,16 @@ targets-same-length-2 : (t : ℕ) → targets-lts.Need-same-length-2 (targets-cl
 targets-same-length-2 t c = search needs
 
 targets-returns-2 : (t : ℕ) → targets-lts.Need-returns-2 (targets-claims t) (targets-at t) targets.Post
-targets-returns-2 t c = (targets-more (rowsIn (now (c .before .before .before .before .before .before .before .before .before .before .before .before .before .before .before .before .before .before .before .before .args .cb)) (now (c .before .before .before .before .before .before .before .before .before .before .before .before .before .before .before .before .before .before .before .before .args .vs))) (assigned (now (c .before .before .before .before .before .before .before .before .before .before .before .before .before .before .before .before .before .before .before .before .args .vs)) (now (c .before .before .before .before .before .before .before .before .before .before .before .before .before .before .before .before .before .before .before .before .args .env))) (now (c .before .before .before .before .before .before .before .before .before .before .before .before .before .before .before .before .before .before .before .before .args .q)) (now (c .before .before .before .before .before .before .before .before .before .before .before .before .before .before .before .before .before .before .before .before .args .z)) (now (c .before .before .before .before .before .before .before .before .before .before .before .before .before .before .before .before .before .before .before .before .args .memo)) (c .before .before .before .before .before .before .before .before .before .before .before .before .before .before .before .before .before .before .before .before .args .left) (c .before .before .before .before .before .before .before .before .before .before .before .before .before .before .before .before .before .before .before .before .args .level) _ _ _ _ _ _ (c .before .before .before .before .before .before .before .before .before .before .before .before .before .before .before .if1 .left) (c .before .before .before .before .before .before .before .before .before .before .before .before .term .ensures .0) (c .before .before .before .before .before .before .before .before .size-at .ensures .0) (c .before .before .before .before .before .before .before .tail .ensures) (c .before .before .before .before .before .before .tail-sizes .ensures) (ap (assigned (now (c .before .before .before .before .before .before .before .before .before .before .before .before .before .before .before .before .before .before .before .before .args .vs))) (c .before .before .before .before .before .before .before .before .before .before .before .before .term .ensures .1)) (c .before .before .before .targets .ensures .0), c .before .before .before .targets .ensures .1 ∙ c .before .before .before .before .before .before .before .before .before .before .before .before .term .ensures .1)
+targets-returns-2 t c =
+    let c₃ = c .before .before .before in let targets = c₃ .targets in
+    let c₆ = c₃ .before .before .before in let tail-sizes = c₆ .tail-sizes in
+    let c₇ = c₆ .before in let tail = c₇ .tail in
+    let c₈ = c₇ .before in let size-at = c₈ .size-at in
+    let c₁₂ = c₈ .before .before .before .before in let term = c₁₂ .term in
+    let c₁₅ = c₁₂ .before .before .before in let if1 = c₁₅ .if1 in
+    let c₂₀ = c₁₅ .before .before .before .before .before in let args = c₂₀ .args in
+    let vs = now (args .vs) in
+    (targets-more (rowsIn (now (args .cb)) vs) (assigned vs (now (args .env))) (now (args .q)) (now (args .z)) (now (args .memo)) (args .left) (args .level) _ _ _ _ _ _ (if1 .left) (term .ensures .0) (size-at .ensures .0) (tail .ensures) (tail-sizes .ensures) (ap (assigned vs) (term .ensures .1)) (targets .ensures .0), targets .ensures .1 ∙ term .ensures .1)
 
 pub +targets-spec : {M : Type 1} → statement M
 +targets-spec = close μ-targets λ t. targets-lts.spec (targets-claims t)

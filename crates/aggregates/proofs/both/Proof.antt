@@ -18,7 +18,10 @@ same-length c = search needs
 
 -- src/lib.rt:41:9
 returns : tie.Need-returns
-returns c = (both-no (now (c .before .before .before .before .before .before .before .before .before .before .args .t)) (now (c .before .before .before .before .before .before .before .before .before .before .args .xs)) (now (c .before .before .before .before .before .before .before .before .before .before .args .q)) (now (c .before .before .before .before .before .before .before .before .before .before .args .z)) (now (c .before .before .before .before .before .before .before .before .before .before .args .cb)) (now (c .before .before .before .before .before .before .before .before .before .before .args .vs)) (now (c .before .before .before .before .before .before .before .before .before .before .args .memo)) (now (c .before .before .before .before .before .before .before .before .before .before .args .env)) _ (c .before .before .before .holds .ensures .0) (c .if1 .taken), c .before .before .before .holds .ensures .1)
+returns c =
+    let c₃ = c .before .before .before in let holds = c₃ .holds in
+    let c₁₀ = c₃ .before .before .before .before .before .before .before in let args = c₁₀ .args in
+    (both-no (now (args .t)) (now (args .xs)) (now (args .q)) (now (args .z)) (now (args .cb)) (now (args .vs)) (now (args .memo)) (now (args .env)) _ (holds .ensures .0) (c .if1 .taken), holds .ensures .1)
 
 -- src/lib.rt:43:5
 holds-requires-2 : tie.Need-holds-requires-2
@@ -30,7 +33,12 @@ same-length-2 c = search needs
 
 -- src/lib.rt:26:1
 returns-2 : tie.Need-returns-2
-returns-2 c = (both-yes (now (c .before .before .before .before .before .before .before .before .before .before .before .before .before .before .args .t)) (now (c .before .before .before .before .before .before .before .before .before .before .before .before .before .before .args .xs)) (now (c .before .before .before .before .before .before .before .before .before .before .before .before .before .before .args .q)) (now (c .before .before .before .before .before .before .before .before .before .before .before .before .before .before .args .z)) (now (c .before .before .before .before .before .before .before .before .before .before .before .before .before .before .args .cb)) (now (c .before .before .before .before .before .before .before .before .before .before .before .before .before .before .args .vs)) (now (c .before .before .before .before .before .before .before .before .before .before .before .before .before .before .args .memo)) (now (c .before .before .before .before .before .before .before .before .before .before .before .before .before .before .args .env)) _ _ _ (c .before .before .before .before .before .before .before .holds .ensures .0) (c .before .before .before .before .if1 .left) (c .before .before .before .before .before .before .before .holds .ensures .1) (c .before .before .holds2 .ensures .0), c .before .before .holds2 .ensures .1 ∙ c .before .before .before .before .before .before .before .holds .ensures .1)
+returns-2 c =
+    let c₂ = c .before .before in let holds2 = c₂ .holds2 in
+    let c₄ = c₂ .before .before in let if1 = c₄ .if1 in
+    let c₇ = c₄ .before .before .before in let holds = c₇ .holds in
+    let c₁₄ = c₇ .before .before .before .before .before .before .before in let args = c₁₄ .args in
+    (both-yes (now (args .t)) (now (args .xs)) (now (args .q)) (now (args .z)) (now (args .cb)) (now (args .vs)) (now (args .memo)) (now (args .env)) _ _ _ (holds .ensures .0) (if1 .left) (holds .ensures .1) (holds2 .ensures .0), holds2 .ensures .1 ∙ holds .ensures .1)
 
 pub both-spec : {M : Type 1} → statement M
 both-spec =

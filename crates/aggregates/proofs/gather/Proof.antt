@@ -43,7 +43,12 @@ same-length c = search needs
 
 -- src/lib.rt:115:1
 returns : tie.Need-returns
-returns c = (taken-planned _ _ (now (c .before .before .before .before .before .before .before .before .before .before .before .before .before .before .before .args .q)) (now (c .before .before .before .before .before .before .before .before .before .before .before .before .before .before .before .args .z)) (now (c .before .before .before .before .before .before .before .before .before .before .before .before .before .before .before .args .cb)) (now (c .before .before .before .before .before .before .before .before .before .before .before .before .before .before .before .args .vs)) (now (c .before .before .before .before .before .before .before .before .before .before .before .before .before .before .before .args .memo)) (c .before .before .before .before .before .before .before .before .before .before .before .before .before .before .before .args .level) (now (c .before .before .before .before .before .before .before .before .before .before .before .before .before .before .before .args .env)) (c .before .before .before .before .before .before .before .before .before .before .before .before .before .before .before .args .variable) (c .before .before .before .before .before .before .before .before .before .before .before .before .before .before .before .args .relation) (c .before .before .before .before .before .before .before .before .before .before .before .before .before .before .before .args .attribute) _ (c .before .before .before .before .before .before .before .before .plan .ensures (now (c .before .before .before .before .before .before .before .before .before .before .before .before .before .before .before .args .vs))) (c .before .before .take .ensures .0), (c .before .before .take .ensures .1 .0, c .before .before .take .ensures .1 .1))
+returns c =
+    let c₂ = c .before .before in let take = c₂ .take in
+    let c₈ = c₂ .before .before .before .before .before .before in let plan = c₈ .plan in
+    let c₁₅ = c₈ .before .before .before .before .before .before .before in let args = c₁₅ .args in
+    let vs = now (args .vs) in
+    (taken-planned _ _ (now (args .q)) (now (args .z)) (now (args .cb)) vs (now (args .memo)) (args .level) (now (args .env)) (args .variable) (args .relation) (args .attribute) _ (plan .ensures vs) (take .ensures .0), (take .ensures .1 .0, take .ensures .1 .1))
 
 pub gather-spec : {M : Type 1} → statement M
 gather-spec =

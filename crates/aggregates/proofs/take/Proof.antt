@@ -49,7 +49,11 @@ base-requires c κs = search needs
 
 -- src/lib.rt:94:9
 ahead-requires : tie.Need-ahead-requires Inv-loop μ-loop
-ahead-requires c κs = (c .before .before .before .before .before .before .before .before .before .before .before .pre, omega (arith, places-fit _ _ _ _ _ (c .before .base .ensures .1) (omega (arith, c .before .before .before .before .before .before .before .before .before .before .before .good)) (le-refl _) (c .before .before .before .before .before .rows .ensures .1) (c .before .before .before .before .attributes .ensures .1)))
+ahead-requires c κs =
+    let c₄ = c .before .before .before .before in let attributes = c₄ .attributes in
+    let c₅ = c₄ .before in let rows = c₅ .rows in
+    let c₁₁ = c₅ .before .before .before .before .before .before in let good = c₁₁ .good in let pre = c₁₁ .pre in
+    (pre, omega (arith, places-fit _ _ _ _ _ (c .before .base .ensures .1) (omega (arith, good)) (le-refl _) (rows .ensures .1) (attributes .ensures .1)))
 
 -- src/lib.rt:95:26
 mul-row : tie.Need-mul-row Inv-loop μ-loop
@@ -57,7 +61,11 @@ mul-row c = omega (arith, steps-fit _ _ _ (c .ahead .ensures .0) (c .before .bef
 
 -- src/lib.rt:95:19
 add-row : tie.Need-add-row Inv-loop μ-loop
-add-row c = omega (arith, places-fit _ _ _ _ _ (c .before .before .base .ensures .1) (omega (arith, c .before .before .before .before .before .before .before .before .before .before .before .before .good)) (c .ahead .ensures .0) (c .before .before .before .before .before .before .rows .ensures .1) (c .before .before .before .before .before .attributes .ensures .1))
+add-row c =
+    let c₅ = c .before .before .before .before .before in let attributes = c₅ .attributes in
+    let c₆ = c₅ .before in let rows = c₆ .rows in
+    let c₁₂ = c₆ .before .before .before .before .before .before in let good = c₁₂ .good in
+    omega (arith, places-fit _ _ _ _ _ (c .before .before .base .ensures .1) (omega (arith, good)) (c .ahead .ensures .0) (rows .ensures .1) (attributes .ensures .1))
 
 -- src/lib.rt:96:9
 empty-requires : tie.Need-empty-requires Inv-loop μ-loop
@@ -65,7 +73,14 @@ empty-requires c κs = search needs
 
 -- src/lib.rt:97:5
 loop-holds : tie.Need-loop-holds Inv-loop μ-loop
-loop-holds c = ((places-start (now (c .before .before .before .before .before .before .before .before .before .before .before .before .before .args .env)) (c .before .before .before .before .before .before .before .before .before .before .before .before .before .args .variable) (c .before .before .before .before .place .result) (c .before .before .before .before .place .ensures)), take-first (now (c .before .before .before .before .before .before .before .before .before .before .before .before .before .args .t)) (now (c .before .before .before .before .before .before .before .before .before .before .before .before .before .args .xs)) (now (c .before .before .before .before .before .before .before .before .before .before .before .before .before .args .q)) (now (c .before .before .before .before .before .before .before .before .before .before .before .before .before .args .z)) (now (c .before .before .before .before .before .before .before .before .before .before .before .before .before .args .cb)) (now (c .before .before .before .before .before .before .before .before .before .before .before .before .before .args .vs)) (now (c .before .before .before .before .before .before .before .before .before .before .before .before .before .args .memo)) (now (c .before .before .before .before .before .before .before .before .before .before .before .before .before .args .env)) (c .before .before .before .before .before .before .before .before .before .before .before .before .before .args .variable) (c .before .before .before .before .before .before .before .before .before .before .before .before .before .args .attribute) (c .before .before .before .base .result) (c .before .before .before .before .before .before .attributes .result) (c .before .before .before .before .place .result) (c .before .ahead .result) _ (places-start (now (c .before .before .before .before .before .before .before .before .before .before .before .before .before .args .env)) (c .before .before .before .before .before .before .before .before .before .before .before .before .before .args .variable) (c .before .before .before .before .place .result) (c .before .before .before .before .place .ensures)) (c .empty .ensures) (c .before .ahead .ensures .1 (now (c .before .before .before .before .before .before .before .before .before .before .before .before .before .args .q)) (now (c .before .before .before .before .before .before .before .before .before .before .before .before .before .args .z)) (now (c .before .before .before .before .before .before .before .before .before .before .before .before .before .args .cb))), refl, c .before .ahead .ensures .0, refl)
+loop-holds c =
+    let c₁ = c .before in let ahead = c₁ .ahead in
+    let c₃ = c₁ .before .before in let base = c₃ .base in
+    let c₄ = c₃ .before in let place = c₄ .place in
+    let c₆ = c₄ .before .before in let attributes = c₆ .attributes in
+    let c₁₃ = c₆ .before .before .before .before .before .before .before in let args = c₁₃ .args in
+    let cb = now (args .cb) in let env = now (args .env) in let q = now (args .q) in let z = now (args .z) in let variable = args .variable in
+    ((places-start env variable (place .result) (place .ensures)), take-first (now (args .t)) (now (args .xs)) q z cb (now (args .vs)) (now (args .memo)) env variable (args .attribute) (base .result) (attributes .result) (place .result) (ahead .result) _ (places-start env variable (place .result) (place .ensures)) (c .empty .ensures) (ahead .ensures .1 q z cb), refl, ahead .ensures .0, refl)
 
 -- src/lib.rt:98:9
 set-place-requires : tie.Need-set-place-requires Inv-loop μ-loop
@@ -73,11 +88,27 @@ set-place-requires c κs = search needs
 
 -- src/lib.rt:99:9
 with-row-requires : tie.Need-with-row-requires Inv-loop μ-loop
-with-row-requires c κs = (omega (arith, c .before .before .before .before .before .before .before .before .before .before .before .before .before .before .before .before .before .before .before .before .pre, c .before .before .before .before .before .before .loop .inv .4, ap length (c .before .before .before .set-place .ensures), length-set (c .before .before .before .before .before .before .loop .env) (c .before .before .before .before .before .before .before .before .before .before .before .before .before .before .before .before .before .before .before .before .args .variable) (c .before .before .before .before .before .before .loop .row)), omega (arith, taken-few (now (c .before .before .before .before .before .before .before .before .before .before .before .before .before .before .before .before .before .before .before .before .args .vs)) (meets (now (c .before .before .before .before .before .before .before .before .before .before .before .before .before .before .before .before .before .before .before .before .args .t)) (now (c .before .before .before .before .before .before .before .before .before .before .before .before .before .before .before .before .before .before .before .before .args .xs)) (now (c .before .before .before .before .before .before .before .before .before .before .before .before .before .before .before .before .before .before .before .before .args .q)) (now (c .before .before .before .before .before .before .before .before .before .before .before .before .before .before .before .before .before .before .before .before .args .z)) (now (c .before .before .before .before .before .before .before .before .before .before .before .before .before .before .before .before .before .before .before .before .args .cb)) (now (c .before .before .before .before .before .before .before .before .before .before .before .before .before .before .before .before .before .before .before .before .args .vs)) (now (c .before .before .before .before .before .before .before .before .before .before .before .before .before .before .before .before .before .before .before .before .args .memo)) (now (c .before .before .before .before .before .before .before .before .before .before .before .before .before .before .before .before .before .before .before .before .args .env)) (c .before .before .before .before .before .before .before .before .before .before .before .before .before .before .before .before .before .before .before .before .args .variable)) (c .before .before .before .before .before .before .before .before .before .before .before .before .before .before .before .before .before .before .before .before .args .attribute) (c .before .before .before .before .before .before .before .before .before .before .base .result) (c .before .before .before .before .before .before .before .before .before .before .before .before .before .attributes .result) (c .before .before .before .before .before .before .loop .i) (c .before .before .before .before .before .before .loop .taken) (c .before .before .before .before .before .before .loop .inv .1) (c .before .before .before .before .before .before .loop .i) (omega arith), c .before .before .before .before .before .loop-test .taken, c .before .before .before .before .before .before .before .before .before .before .before .before .before .before .rows .ensures .1), c .before .before .before .before .before .before .loop .inv .1 .bounded)
+with-row-requires c κs =
+    let c₃ = c .before .before .before in let set-place = c₃ .set-place in
+    let c₅ = c₃ .before .before in let loop-test = c₅ .loop-test in
+    let c₆ = c₅ .before in let loop = c₆ .loop in
+    let c₁₀ = c₆ .before .before .before .before in let base = c₁₀ .base in
+    let c₁₃ = c₁₀ .before .before .before in let attributes = c₁₃ .attributes in
+    let c₁₄ = c₁₃ .before in let rows = c₁₄ .rows in
+    let c₂₀ = c₁₄ .before .before .before .before .before .before in let args = c₂₀ .args in let pre = c₂₀ .pre in
+    let vs = now (args .vs) in let variable = args .variable in
+    (omega (arith, pre, loop .inv .4, ap length (set-place .ensures), length-set (loop .env) variable (loop .row)), omega (arith, taken-few vs (meets (now (args .t)) (now (args .xs)) (now (args .q)) (now (args .z)) (now (args .cb)) vs (now (args .memo)) (now (args .env)) variable) (args .attribute) (base .result) (attributes .result) (loop .i) (loop .taken) (loop .inv .1) (loop .i) (omega arith), loop-test .taken, rows .ensures .1), loop .inv .1 .bounded)
 
 -- src/lib.rt:100:70
 add-ahead : tie.Need-add-ahead Inv-loop μ-loop
-add-ahead c = omega (arith, rest-fit _ _ _ _ _ _ (c .before .before .before .before .before .before .before .before .before .before .loop .inv .2) (c .before .before .before .before .before .before .before .before .before .loop-test .taken) (c .before .before .before .before .before .before .before .before .before .before .before .before .before .before .base .ensures .1) (omega (arith, c .before .before .before .before .before .before .before .before .before .before .before .before .before .before .before .before .before .before .before .before .before .before .before .before .good)) (c .before .before .before .before .before .before .before .before .before .before .before .before .before .before .before .before .before .before .rows .ensures .1) (c .before .before .before .before .before .before .before .before .before .before .before .before .before .before .before .before .before .attributes .ensures .1))
+add-ahead c =
+    let c₉ = c .before .before .before .before .before .before .before .before .before in let loop-test = c₉ .loop-test in
+    let c₁₀ = c₉ .before in let loop = c₁₀ .loop in
+    let c₁₄ = c₁₀ .before .before .before .before in let base = c₁₄ .base in
+    let c₁₇ = c₁₄ .before .before .before in let attributes = c₁₇ .attributes in
+    let c₁₈ = c₁₇ .before in let rows = c₁₈ .rows in
+    let c₂₄ = c₁₈ .before .before .before .before .before .before in let good = c₂₄ .good in
+    omega (arith, rest-fit _ _ _ _ _ _ (loop .inv .2) (loop-test .taken) (base .ensures .1) (omega (arith, good)) (rows .ensures .1) (attributes .ensures .1))
 
 -- src/lib.rt:100:82
 sub-ahead : tie.Need-sub-ahead Inv-loop μ-loop
@@ -89,27 +120,53 @@ sub-ahead-2 c = search needs
 
 -- src/lib.rt:100:13
 ahead-requires-2 : tie.Need-ahead-requires-2 Inv-loop μ-loop
-ahead-requires-2 c κs = (omega (arith, c .before .before .before .before .before .before .before .before .before .before .before .before .before .before .before .before .before .before .before .before .before .before .before .before .pre, c .before .before .before .before .before .before .before .before .before .before .loop .inv .4, ap length (c .before .before .before .before .before .before .before .set-place .ensures), length-set (c .before .before .before .before .before .before .before .before .before .before .loop .env) (c .before .before .before .before .before .before .before .before .before .before .before .before .before .before .before .before .before .before .before .before .before .before .before .before .args .variable) (c .before .before .before .before .before .before .before .before .before .before .loop .row), ap length (c .before .before .before .with-row .ensures .1 .1)), rest-fit _ _ _ _ _ _ (c .before .before .before .before .before .before .before .before .before .before .loop .inv .2) (c .before .before .before .before .before .before .before .before .before .loop-test .taken) (c .before .before .before .before .before .before .before .before .before .before .before .before .before .before .base .ensures .1) (omega (arith, c .before .before .before .before .before .before .before .before .before .before .before .before .before .before .before .before .before .before .before .before .before .before .before .before .good)) (c .before .before .before .before .before .before .before .before .before .before .before .before .before .before .before .before .before .before .rows .ensures .1) (c .before .before .before .before .before .before .before .before .before .before .before .before .before .before .before .before .before .attributes .ensures .1))
+ahead-requires-2 c κs =
+    let c₃ = c .before .before .before in let with-row = c₃ .with-row in
+    let c₇ = c₃ .before .before .before .before in let set-place = c₇ .set-place in
+    let c₉ = c₇ .before .before in let loop-test = c₉ .loop-test in
+    let c₁₀ = c₉ .before in let loop = c₁₀ .loop in
+    let c₁₄ = c₁₀ .before .before .before .before in let base = c₁₄ .base in
+    let c₁₇ = c₁₄ .before .before .before in let attributes = c₁₇ .attributes in
+    let c₁₈ = c₁₇ .before in let rows = c₁₈ .rows in
+    let c₂₄ = c₁₈ .before .before .before .before .before .before in let args = c₂₄ .args in let good = c₂₄ .good in let pre = c₂₄ .pre in
+    (omega (arith, pre, loop .inv .4, ap length (set-place .ensures), length-set (loop .env) (args .variable) (loop .row), ap length (with-row .ensures .1 .1)), rest-fit _ _ _ _ _ _ (loop .inv .2) (loop-test .taken) (base .ensures .1) (omega (arith, good)) (rows .ensures .1) (attributes .ensures .1))
 
 -- src/lib.rt:101:20
 mul-row-2 : tie.Need-mul-row-2 Inv-loop μ-loop
-mul-row-2 c = omega (arith, steps-fit (c .before .before .before .before .before .before .before .before .before .before .before .before .before .before .before .before .before .before .attributes .result) (c .ahead2 .result) (c .before .before .before .before .before .before .before .before .before .before .before .before .before .before .before .before .before .before .before .rows .result) (omega (arith, c .ahead2 .ensures .0)) (c .before .before .before .before .before .before .before .before .before .before .before .before .before .before .before .before .before .before .before .rows .ensures .1) (c .before .before .before .before .before .before .before .before .before .before .before .before .before .before .before .before .before .before .attributes .ensures .1))
+mul-row-2 c =
+    let c₁₈ = c .before .before .before .before .before .before .before .before .before .before .before .before .before .before .before .before .before .before in let attributes = c₁₈ .attributes in
+    let c₁₉ = c₁₈ .before in let rows = c₁₉ .rows in
+    omega (arith, steps-fit (attributes .result) (c .ahead2 .result) (rows .result) (omega (arith, c .ahead2 .ensures .0)) (rows .ensures .1) (attributes .ensures .1))
 
 -- src/lib.rt:101:16
 add-row-2 : tie.Need-add-row-2 Inv-loop μ-loop
-add-row-2 c = omega (arith, steps-fit (c .before .before .before .before .before .before .before .before .before .before .before .before .before .before .before .before .before .before .attributes .result) (c .ahead2 .result) (c .before .before .before .before .before .before .before .before .before .before .before .before .before .before .before .before .before .before .before .rows .result) (omega (arith, c .ahead2 .ensures .0)) (c .before .before .before .before .before .before .before .before .before .before .before .before .before .before .before .before .before .before .before .rows .ensures .1) (c .before .before .before .before .before .before .before .before .before .before .before .before .before .before .before .before .before .before .attributes .ensures .1), c .before .before .before .before .before .before .before .before .before .before .before .before .before .before .before .before .before .before .attributes .ensures .1)
+add-row-2 c =
+    let c₁₈ = c .before .before .before .before .before .before .before .before .before .before .before .before .before .before .before .before .before .before in let attributes = c₁₈ .attributes in
+    let c₁₉ = c₁₈ .before in let rows = c₁₉ .rows in
+    omega (arith, steps-fit (attributes .result) (c .ahead2 .result) (rows .result) (omega (arith, c .ahead2 .ensures .0)) (rows .ensures .1) (attributes .ensures .1), attributes .ensures .1)
 
 -- src/lib.rt:101:9
 add-row-3 : tie.Need-add-row-3 Inv-loop μ-loop
-add-row-3 c = omega (arith, steps-fit (c .before .before .before .before .before .before .before .before .before .before .before .before .before .before .before .before .before .before .attributes .result) (c .ahead2 .result) (c .before .before .before .before .before .before .before .before .before .before .before .before .before .before .before .before .before .before .before .rows .result) (omega (arith, c .ahead2 .ensures .0)) (c .before .before .before .before .before .before .before .before .before .before .before .before .before .before .before .before .before .before .before .rows .ensures .1) (c .before .before .before .before .before .before .before .before .before .before .before .before .before .before .before .before .before .before .attributes .ensures .1), places-fit _ _ (c .before .before .before .before .before .before .before .before .before .before .before .loop .i) _ _ (c .before .before .before .before .before .before .before .before .before .before .before .before .before .before .before .base .ensures .1) (omega (arith, c .before .before .before .before .before .before .before .before .before .before .before .before .before .before .before .before .before .before .before .before .before .before .before .before .before .good)) (c .before .before .before .before .before .before .before .before .before .before .before .loop .inv .3) (c .before .before .before .before .before .before .before .before .before .before .before .before .before .before .before .before .before .before .before .rows .ensures .1) (c .before .before .before .before .before .before .before .before .before .before .before .before .before .before .before .before .before .before .attributes .ensures .1), c .before .before .before .before .before .before .before .before .before .before .before .loop .inv .2, c .before .before .before .before .before .before .before .before .before .before .before .before .before .before .before .before .before .before .attributes .ensures .1)
+add-row-3 c =
+    let c₁₁ = c .before .before .before .before .before .before .before .before .before .before .before in let loop = c₁₁ .loop in
+    let c₁₅ = c₁₁ .before .before .before .before in let base = c₁₅ .base in
+    let c₁₈ = c₁₅ .before .before .before in let attributes = c₁₈ .attributes in
+    let c₁₉ = c₁₈ .before in let rows = c₁₉ .rows in
+    let c₂₅ = c₁₉ .before .before .before .before .before .before in let good = c₂₅ .good in
+    omega (arith, steps-fit (attributes .result) (c .ahead2 .result) (rows .result) (omega (arith, c .ahead2 .ensures .0)) (rows .ensures .1) (attributes .ensures .1), places-fit _ _ (loop .i) _ _ (base .ensures .1) (omega (arith, good)) (loop .inv .3) (rows .ensures .1) (attributes .ensures .1), loop .inv .2, attributes .ensures .1)
 
 -- src/lib.rt:102:14
 add-i : tie.Need-add-i Inv-loop μ-loop
-add-i c = omega (arith, c .ahead2 .ensures .0, c .before .before .before .before .before .before .before .before .before .before .before .before .before .before .before .before .before .before .before .rows .ensures .1)
+add-i c =
+    let c₁₉ = c .before .before .before .before .before .before .before .before .before .before .before .before .before .before .before .before .before .before .before in let rows = c₁₉ .rows in
+    omega (arith, c .ahead2 .ensures .0, rows .ensures .1)
 
 -- src/lib.rt:102:9
 add-i-2 : tie.Need-add-i-2 Inv-loop μ-loop
-add-i-2 c = omega (arith, c .ahead2 .ensures .0, c .before .before .before .before .before .before .before .before .before .before .before .before .before .before .before .before .before .before .before .rows .ensures .1, c .before .before .before .before .before .before .before .before .before .before .loop-test .taken)
+add-i-2 c =
+    let c₁₀ = c .before .before .before .before .before .before .before .before .before .before in let loop-test = c₁₀ .loop-test in
+    let c₁₉ = c₁₀ .before .before .before .before .before .before .before .before .before in let rows = c₁₉ .rows in
+    omega (arith, c .ahead2 .ensures .0, rows .ensures .1, loop-test .taken)
 
 -- src/lib.rt:97:5
 loop-less : tie.Need-loop-less Inv-loop μ-loop
@@ -117,7 +174,17 @@ loop-less c = omega (arith, c .ahead2 .ensures .0, c .before .before .before .be
 
 -- src/lib.rt:97:5
 loop-again : tie.Need-loop-again Inv-loop μ-loop
-loop-again c = ((places-back (c .before .before .before .before .before .before .before .before .before .before .before .loop .env) (now (c .before .before .before .before .before .before .before .before .before .before .before .before .before .before .before .before .before .before .before .before .before .before .before .before .before .args .env)) _ (c .before .before .before .before .before .before .before .before .before .before .before .before .before .before .before .before .before .before .before .before .before .before .before .before .before .args .variable) (c .before .before .before .before .before .before .before .before .before .before .before .before .before .before .before .before .place .result) (c .before .before .before .before .before .before .before .before .before .before .before .loop .row) (c .before .before .before .before .before .before .before .before .before .before .before .loop .inv .0) (c .before .before .before .before .before .before .before .before .set-place .ensures) _ (c .before .before .before .before .with-row .ensures .1 .1)), take-next (now (c .before .before .before .before .before .before .before .before .before .before .before .before .before .before .before .before .before .before .before .before .before .before .before .before .before .args .t)) (now (c .before .before .before .before .before .before .before .before .before .before .before .before .before .before .before .before .before .before .before .before .before .before .before .before .before .args .xs)) (now (c .before .before .before .before .before .before .before .before .before .before .before .before .before .before .before .before .before .before .before .before .before .before .before .before .before .args .q)) (now (c .before .before .before .before .before .before .before .before .before .before .before .before .before .before .before .before .before .before .before .before .before .before .before .before .before .args .z)) (now (c .before .before .before .before .before .before .before .before .before .before .before .before .before .before .before .before .before .before .before .before .before .before .before .before .before .args .cb)) (now (c .before .before .before .before .before .before .before .before .before .before .before .before .before .before .before .before .before .before .before .before .before .before .before .before .before .args .vs)) (now (c .before .before .before .before .before .before .before .before .before .before .before .before .before .before .before .before .before .before .before .before .before .before .before .before .before .args .memo)) (now (c .before .before .before .before .before .before .before .before .before .before .before .before .before .before .before .before .before .before .before .before .before .before .before .before .before .args .env)) (c .before .before .before .before .before .before .before .before .before .before .before .before .before .before .before .before .before .before .before .before .before .before .before .before .before .args .variable) (c .before .before .before .before .before .before .before .before .before .before .before .before .before .before .before .before .before .before .before .before .before .before .before .before .before .args .attribute) (c .before .before .before .before .before .before .before .before .before .before .before .before .before .before .before .base .result) (c .before .before .before .before .before .before .before .before .before .before .before .before .before .before .before .before .before .before .attributes .result) (c .before .before .before .before .before .before .before .before .before .before .before .loop .env) _ _ (c .before .before .before .before .before .before .before .before .before .before .before .before .before .before .before .before .place .result) (c .before .before .before .before .before .before .before .before .before .before .before .loop .i) (c .ahead2 .result) (c .before .before .before .before .before .before .before .before .before .before .before .loop .row) (c .before .before .before .before .before .before .before .before .before .before .before .loop .taken) _ (c .before .before .before .before .before .before .before .before .before .before .before .loop .inv .0) (c .before .before .before .before .before .before .before .before .before .before .before .loop .inv .2) (places-on (c .before .before .before .before .before .before .before .before .before .before .before .loop .env) (now (c .before .before .before .before .before .before .before .before .before .before .before .before .before .before .before .before .before .before .before .before .before .before .before .before .before .args .env)) _ (c .before .before .before .before .before .before .before .before .before .before .before .before .before .before .before .before .before .before .before .before .before .before .before .before .before .args .variable) (c .before .before .before .before .before .before .before .before .before .before .before .before .before .before .before .before .place .result) (c .before .before .before .before .before .before .before .before .before .before .before .loop .row) (c .before .before .before .before .before .before .before .before .before .before .before .loop .inv .0) (c .before .before .before .before .before .before .before .before .set-place .ensures)) (omega (arith, c .before .before .before .before .before .before .before .before .before .before .before .before .before .before .before .before .before .before .before .before .before .before .before .before .before .pre, c .before .before .before .before .before .before .before .before .before .before .before .before .before .before .before .before .before .before .before .before .before .before .before .before .before .good)) (c .before .before .before .before .with-row .ensures .1 .1) (places-back (c .before .before .before .before .before .before .before .before .before .before .before .loop .env) (now (c .before .before .before .before .before .before .before .before .before .before .before .before .before .before .before .before .before .before .before .before .before .before .before .before .before .args .env)) _ (c .before .before .before .before .before .before .before .before .before .before .before .before .before .before .before .before .before .before .before .before .before .before .before .before .before .args .variable) (c .before .before .before .before .before .before .before .before .before .before .before .before .before .before .before .before .place .result) (c .before .before .before .before .before .before .before .before .before .before .before .loop .row) (c .before .before .before .before .before .before .before .before .before .before .before .loop .inv .0) (c .before .before .before .before .before .before .before .before .set-place .ensures) _ refl) (c .before .before .before .before .before .before .before .before .before .before .before .loop .inv .1) (c .before .before .before .before .with-row .ensures .0) (c .before .before .before .before .with-row .ensures .1 .0) (c .ahead2 .ensures .1 (now (c .before .before .before .before .before .before .before .before .before .before .before .before .before .before .before .before .before .before .before .before .before .before .before .before .before .args .q)) (now (c .before .before .before .before .before .before .before .before .before .before .before .before .before .before .before .before .before .before .before .before .before .before .before .before .before .args .z)) (now (c .before .before .before .before .before .before .before .before .before .before .before .before .before .before .before .before .before .before .before .before .before .before .before .before .before .args .cb))), row-next _ _ _ _ _ (c .before .before .before .before .before .before .before .before .before .before .before .loop .inv .2), omega (arith, c .ahead2 .ensures .0, c .before .before .before .before .before .before .before .before .before .before .loop-test .taken), (places-length (c .before .before .before .before .before .before .before .before .before .before .before .loop .env) (now (c .before .before .before .before .before .before .before .before .before .before .before .before .before .before .before .before .before .before .before .before .before .before .before .before .before .args .env)) _ (c .before .before .before .before .before .before .before .before .before .before .before .before .before .before .before .before .before .before .before .before .before .before .before .before .before .args .variable) (c .before .before .before .before .before .before .before .before .before .before .before .before .before .before .before .before .place .result) (c .before .before .before .before .before .before .before .before .before .before .before .loop .row) (c .before .before .before .before .before .before .before .before .before .before .before .loop .inv .0) (c .before .before .before .before .before .before .before .before .set-place .ensures) _ (c .before .before .before .before .with-row .ensures .1 .1) (c .before .before .before .before .before .before .before .before .before .before .before .loop .inv .4)))
+loop-again c =
+    let c₄ = c .before .before .before .before in let with-row = c₄ .with-row in
+    let c₈ = c₄ .before .before .before .before in let set-place = c₈ .set-place in
+    let c₁₀ = c₈ .before .before in let loop-test = c₁₀ .loop-test in
+    let c₁₁ = c₁₀ .before in let loop = c₁₁ .loop in
+    let c₁₅ = c₁₁ .before .before .before .before in let base = c₁₅ .base in
+    let c₁₆ = c₁₅ .before in let place = c₁₆ .place in
+    let c₁₈ = c₁₆ .before .before in let attributes = c₁₈ .attributes in
+    let c₂₅ = c₁₈ .before .before .before .before .before .before .before in let args = c₂₅ .args in let good = c₂₅ .good in let pre = c₂₅ .pre in
+    let cb = now (args .cb) in let env = now (args .env) in let q = now (args .q) in let z = now (args .z) in let variable = args .variable in
+    ((places-back (loop .env) env _ variable (place .result) (loop .row) (loop .inv .0) (set-place .ensures) _ (with-row .ensures .1 .1)), take-next (now (args .t)) (now (args .xs)) q z cb (now (args .vs)) (now (args .memo)) env variable (args .attribute) (base .result) (attributes .result) (loop .env) _ _ (place .result) (loop .i) (c .ahead2 .result) (loop .row) (loop .taken) _ (loop .inv .0) (loop .inv .2) (places-on (loop .env) env _ variable (place .result) (loop .row) (loop .inv .0) (set-place .ensures)) (omega (arith, pre, good)) (with-row .ensures .1 .1) (places-back (loop .env) env _ variable (place .result) (loop .row) (loop .inv .0) (set-place .ensures) _ refl) (loop .inv .1) (with-row .ensures .0) (with-row .ensures .1 .0) (c .ahead2 .ensures .1 q z cb), row-next _ _ _ _ _ (loop .inv .2), omega (arith, c .ahead2 .ensures .0, loop-test .taken), (places-length (loop .env) env _ variable (place .result) (loop .row) (loop .inv .0) (set-place .ensures) _ (with-row .ensures .1 .1) (loop .inv .4)))
 
 -- src/lib.rt:104:5
 set-place-requires-2 : tie.Need-set-place-requires-2 Inv-loop μ-loop
@@ -129,7 +196,15 @@ same-length c = search needs
 
 -- src/lib.rt:72:1
 returns : tie.Need-returns Inv-loop μ-loop
-returns c = (take-all (now (c .before .before .before .before .before .before .before .before .before .before .before .before .before .before .before .before .before .before .before .args .t)) (now (c .before .before .before .before .before .before .before .before .before .before .before .before .before .before .before .before .before .before .before .args .xs)) (now (c .before .before .before .before .before .before .before .before .before .before .before .before .before .before .before .before .before .before .before .args .q)) (now (c .before .before .before .before .before .before .before .before .before .before .before .before .before .before .before .before .before .before .before .args .z)) (now (c .before .before .before .before .before .before .before .before .before .before .before .before .before .before .before .before .before .before .before .args .cb)) (now (c .before .before .before .before .before .before .before .before .before .before .before .before .before .before .before .before .before .before .before .args .vs)) (now (c .before .before .before .before .before .before .before .before .before .before .before .before .before .before .before .before .before .before .before .args .memo)) (now (c .before .before .before .before .before .before .before .before .before .before .before .before .before .before .before .before .before .before .before .args .env)) (c .before .before .before .before .before .before .before .before .before .before .before .before .before .before .before .before .before .before .before .args .variable) (c .before .before .before .before .before .before .before .before .before .before .before .before .before .before .before .before .before .before .before .args .attribute) (c .before .before .before .before .before .before .before .before .before .base .result) (c .before .before .before .before .before .before .before .before .before .before .before .before .attributes .result) (c .before .before .before .before .before .before .before .before .before .before .before .before .before .before .before .before .before .before .before .args .relation) (c .before .before .before .before .before .before .before .before .before .before .before .before .before .rows .result) (c .before .before .before .before .before .loop .i) _ (c .before .before .before .before .before .before .before .before .before .before .before .before .before .rows .ensures .0) (c .before .before .before .before .before .before .before .before .before .before .before .before .attributes .ensures .0) (c .before .before .before .before .before .before .before .before .before .base .ensures .0) (omega (arith, c .before .before .before .before .loop-test .left, c .before .before .before .before .before .loop .inv .3)) (c .before .before .before .before .before .loop .inv .1), (omega (arith, taken-few (now (c .before .before .before .before .before .before .before .before .before .before .before .before .before .before .before .before .before .before .before .args .vs)) (meets (now (c .before .before .before .before .before .before .before .before .before .before .before .before .before .before .before .before .before .before .before .args .t)) (now (c .before .before .before .before .before .before .before .before .before .before .before .before .before .before .before .before .before .before .before .args .xs)) (now (c .before .before .before .before .before .before .before .before .before .before .before .before .before .before .before .before .before .before .before .args .q)) (now (c .before .before .before .before .before .before .before .before .before .before .before .before .before .before .before .before .before .before .before .args .z)) (now (c .before .before .before .before .before .before .before .before .before .before .before .before .before .before .before .before .before .before .before .args .cb)) (now (c .before .before .before .before .before .before .before .before .before .before .before .before .before .before .before .before .before .before .before .args .vs)) (now (c .before .before .before .before .before .before .before .before .before .before .before .before .before .before .before .before .before .before .before .args .memo)) (now (c .before .before .before .before .before .before .before .before .before .before .before .before .before .before .before .before .before .before .before .args .env)) (c .before .before .before .before .before .before .before .before .before .before .before .before .before .before .before .before .before .before .before .args .variable)) (c .before .before .before .before .before .before .before .before .before .before .before .before .before .before .before .before .before .before .before .args .attribute) (c .before .before .before .before .before .before .before .before .before .base .result) (c .before .before .before .before .before .before .before .before .before .before .before .before .attributes .result) (c .before .before .before .before .before .loop .i) (c .before .before .before .before .before .loop .taken) (c .before .before .before .before .before .loop .inv .1) (c .before .before .before .before .before .loop .i) (omega arith), c .before .before .before .before .before .loop .inv .3, c .before .before .before .before .before .before .before .before .before .before .before .before .before .rows .ensures .1), c .before .before .set-place2 .ensures ∙ c .before .before .before .before .before .loop .inv .0))
+returns c =
+    let c₄ = c .before .before .before .before in let loop-test = c₄ .loop-test in
+    let c₅ = c₄ .before in let loop = c₅ .loop in
+    let c₉ = c₅ .before .before .before .before in let base = c₉ .base in
+    let c₁₂ = c₉ .before .before .before in let attributes = c₁₂ .attributes in
+    let c₁₃ = c₁₂ .before in let rows = c₁₃ .rows in
+    let c₁₉ = c₁₃ .before .before .before .before .before .before in let args = c₁₉ .args in
+    let cb = now (args .cb) in let env = now (args .env) in let memo = now (args .memo) in let q = now (args .q) in let vs = now (args .vs) in let xs = now (args .xs) in let z = now (args .z) in let attribute = args .attribute in let variable = args .variable in
+    (take-all (now (args .t)) xs q z cb vs memo env variable attribute (base .result) (attributes .result) (args .relation) (rows .result) (loop .i) _ (rows .ensures .0) (attributes .ensures .0) (base .ensures .0) (omega (arith, loop-test .left, loop .inv .3)) (loop .inv .1), (omega (arith, taken-few vs (meets (now (args .t)) xs q z cb vs memo env variable) attribute (base .result) (attributes .result) (loop .i) (loop .taken) (loop .inv .1) (loop .i) (omega arith), loop .inv .3, rows .ensures .1), c .before .before .set-place2 .ensures ∙ loop .inv .0))
 
 pub take-spec : {M : Type 1} → statement M
 take-spec =

@@ -69,7 +69,13 @@ recall-requires c κs = sym (c .before .knows .ensures) ∙ c .if2 .taken
 
 -- src/lib.rt:157:9
 returns-3 : tie.Need-returns-3
-returns-3 c = (c .recall .ensures .0 ∙ ap represent (known-is (now (c .before .before .before .before .before .before .before .before .before .before .before .before .before .args .cb)) (now (c .before .before .before .before .before .before .before .before .before .before .before .before .before .args .vs)) (now (c .before .before .before .before .before .before .before .before .before .before .before .before .before .args .memo)) (now (c .before .before .before .before .before .before .before .before .before .before .before .before .before .args .env)) (now (c .before .before .before .before .before .before .before .before .before .before .before .before .before .args .q)) (now (c .before .before .before .before .before .before .before .before .before .before .before .before .before .args .z)) (c .before .before .before .before .before .before .before .before .before .before .before .before .before .args .level) _ _ _ (nonzero _ (c .before .before .before .before .before .before .before .before .compiled .ensures (not-no _ (c .before .before .before .before .before .before .before .if1 .left)) .0)) refl refl (c .before .before .before .before .before .before .read .ensures) _ _ _ _ _ _ (c .before .before .before .before .function .given .1) (c .before .before .knows .ensures) (c .before .if2 .taken) refl), (c .recall .ensures .1, refl))
+returns-3 c =
+    let c₄ = c .before .before .before .before in let function = c₄ .function in
+    let c₆ = c₄ .before .before in let read = c₆ .read in
+    let c₇ = c₆ .before in let if1 = c₇ .if1 in
+    let c₈ = c₇ .before in let compiled = c₈ .compiled in
+    let c₁₃ = c₈ .before .before .before .before .before in let args = c₁₃ .args in
+    (c .recall .ensures .0 ∙ ap represent (known-is (now (args .cb)) (now (args .vs)) (now (args .memo)) (now (args .env)) (now (args .q)) (now (args .z)) (args .level) _ _ _ (nonzero _ (compiled .ensures (not-no _ (if1 .left)) .0)) refl refl (read .ensures) _ _ _ _ _ _ (function .given .1) (c .before .before .knows .ensures) (c .before .if2 .taken) refl), (c .recall .ensures .1, refl))
 
 -- src/lib.rt:159:34
 byte-requires : tie.Need-byte-requires
@@ -89,11 +95,18 @@ tail-sizes-requires c κs = search needs
 
 -- src/lib.rt:162:13
 sub-l : tie.Need-sub-l
-sub-l c = c .before .before .before .before .before .before .before .before .before .before .before .compiled .ensures (not-no _ (c .before .before .before .before .before .before .before .before .before .before .if1 .left)) .0
+sub-l c =
+    let c₁₀ = c .before .before .before .before .before .before .before .before .before .before in let if1 = c₁₀ .if1 in
+    let c₁₁ = c₁₀ .before in let compiled = c₁₁ .compiled in
+    compiled .ensures (not-no _ (if1 .left)) .0
 
 -- src/lib.rt:163:9
 gather-requires : tie.Need-gather-requires
-gather-requires c κs = (c .before .before .before .before .before .before .before .before .before .before .before .before .before .before .before .before .before .pre, omega (arith, c .before .before .before .before .before .before .before .before .before .before .before .before .compiled .ensures (not-no _ (c .before .before .before .before .before .before .before .before .before .before .before .if1 .left)) .1))
+gather-requires c κs =
+    let c₁₁ = c .before .before .before .before .before .before .before .before .before .before .before in let if1 = c₁₁ .if1 in
+    let c₁₂ = c₁₁ .before in let compiled = c₁₂ .compiled in
+    let c₁₇ = c₁₂ .before .before .before .before .before in let pre = c₁₇ .pre in
+    (pre, omega (arith, compiled .ensures (not-no _ (if1 .left)) .1))
 
 -- src/lib.rt:164:5
 finish-requires : tie.Need-finish-requires
@@ -105,7 +118,20 @@ same-length-3 c = search needs
 
 -- src/lib.rt:136:1
 returns-4 : tie.Need-returns-4
-returns-4 c = (ends _ _ _ _ (c .before .before .before .gather .ensures .0) (c .finish .ensures .0) ∙ ap represent (aggregate-is (now (c .before .before .before .before .before .before .before .before .before .before .before .before .before .before .before .before .before .before .before .before .before .args .cb)) (now (c .before .before .before .before .before .before .before .before .before .before .before .before .before .before .before .before .before .before .before .before .before .args .vs)) (now (c .before .before .before .before .before .before .before .before .before .before .before .before .before .before .before .before .before .before .before .before .before .args .memo)) (now (c .before .before .before .before .before .before .before .before .before .before .before .before .before .before .before .before .before .before .before .before .before .args .env)) (now (c .before .before .before .before .before .before .before .before .before .before .before .before .before .before .before .before .before .before .before .before .before .args .q)) (now (c .before .before .before .before .before .before .before .before .before .before .before .before .before .before .before .before .before .before .before .before .before .args .z)) (c .before .before .before .before .before .before .before .before .before .before .before .before .before .before .before .before .before .before .before .before .before .args .level) _ _ _ (nonzero _ (c .before .before .before .before .before .before .before .before .before .before .before .before .before .before .before .before .compiled .ensures (not-no _ (c .before .before .before .before .before .before .before .before .before .before .before .before .before .before .before .if1 .left)) .0)) (c .before .before .before .before .before .before .before .before .byte .ensures) (c .before .before .before .before .before .before .before .record-length .ensures .0) (c .before .before .before .before .before .before .before .before .before .before .before .before .before .before .read .ensures) _ _ (c .before .before .before .before .before .before .tail .ensures) (c .before .before .before .before .before .tail-sizes .ensures) _ _ _ _ _ _ (c .before .before .before .before .before .before .before .before .before .before .before .before .function .given .1) (c .before .before .before .before .before .before .before .before .before .before .knows .ensures) (c .before .before .before .before .before .before .before .before .before .if2 .left) refl), (c .finish .ensures .1, c .before .before .before .gather .ensures .1 .1))
+returns-4 c =
+    let c₃ = c .before .before .before in let gather = c₃ .gather in
+    let c₅ = c₃ .before .before in let tail-sizes = c₅ .tail-sizes in
+    let c₆ = c₅ .before in let tail = c₆ .tail in
+    let c₇ = c₆ .before in let record-length = c₇ .record-length in
+    let c₈ = c₇ .before in let byte = c₈ .byte in
+    let c₉ = c₈ .before in let if2 = c₉ .if2 in
+    let c₁₀ = c₉ .before in let knows = c₁₀ .knows in
+    let c₁₂ = c₁₀ .before .before in let function = c₁₂ .function in
+    let c₁₄ = c₁₂ .before .before in let read = c₁₄ .read in
+    let c₁₅ = c₁₄ .before in let if1 = c₁₅ .if1 in
+    let c₁₆ = c₁₅ .before in let compiled = c₁₆ .compiled in
+    let c₂₁ = c₁₆ .before .before .before .before .before in let args = c₂₁ .args in
+    (ends _ _ _ _ (gather .ensures .0) (c .finish .ensures .0) ∙ ap represent (aggregate-is (now (args .cb)) (now (args .vs)) (now (args .memo)) (now (args .env)) (now (args .q)) (now (args .z)) (args .level) _ _ _ (nonzero _ (compiled .ensures (not-no _ (if1 .left)) .0)) (byte .ensures) (record-length .ensures .0) (read .ensures) _ _ (tail .ensures) (tail-sizes .ensures) _ _ _ _ _ _ (function .given .1) (knows .ensures) (if2 .left) refl), (c .finish .ensures .1, gather .ensures .1 .1))
 
 pub value-spec : {M : Type 1} → statement M
 value-spec =

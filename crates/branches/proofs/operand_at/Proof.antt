@@ -43,16 +43,32 @@ unknown-requires-2 : tie.Need-unknown-requires-2
 unknown-requires-2 c κs = search needs
 
 returns-2 : tie.Need-returns-2
-returns-2 c = constant-means (now (c .before .before .before .before .before .before .before .before .args .memo)) (now (c .before .before .before .before .before .before .before .before .args .q)) (c .before .before .before .before .before .before .before .before .args .level) _ (c .before .before .before .before .before .before .if1 .left) (c .before .before .before .before .before .read .ensures) (c .number-of .result) _ _ _ _ _ (c .before .before .before .a .given .1) (toZ-ofZ {w = w32} (record { sfits = c .before .constant .ok }) ∙ c .before .constant .ensures .0) (c .number-of .ensures)
+returns-2 c =
+    let c₁ = c .before in let constant = c₁ .constant in
+    let c₃ = c₁ .before .before in let a = c₃ .a in
+    let c₅ = c₃ .before .before in let read = c₅ .read in
+    let c₆ = c₅ .before in let if1 = c₆ .if1 in
+    let c₈ = c₆ .before .before in let args = c₈ .args in
+    constant-means (now (args .memo)) (now (args .q)) (args .level) _ (if1 .left) (read .ensures) (c .number-of .result) _ _ _ _ _ (a .given .1) (toZ-ofZ {w = w32} (record { sfits = constant .ok }) ∙ constant .ensures .0) (c .number-of .ensures)
 
 returns-3 : tie.Need-returns-3
-returns-3 c = attribute-means (now (c .before .before .before .before .before .before .before .args .memo)) (now (c .before .before .before .before .before .before .before .args .q)) (c .before .before .before .before .before .before .before .args .level) _ (c .before .before .before .before .before .if1 .left) (c .before .before .before .before .read .ensures) (c .attribute-of .result) _ _ (omega arith) (c .before .before .variable .given .1) (c .attribute-of .ensures)
+returns-3 c =
+    let c₄ = c .before .before .before .before in let read = c₄ .read in
+    let c₅ = c₄ .before in let if1 = c₅ .if1 in
+    let c₇ = c₅ .before .before in let args = c₇ .args in
+    attribute-means (now (args .memo)) (now (args .q)) (args .level) _ (if1 .left) (read .ensures) (c .attribute-of .result) _ _ (omega arith) (c .before .before .variable .given .1) (c .attribute-of .ensures)
 
 returns-4 : tie.Need-returns-4
-returns-4 c = aggregate-means (now (c .before .before .before .before .before .before .before .args .memo)) (now (c .before .before .before .before .before .before .before .args .q)) (c .before .before .before .before .before .before .before .args .level) _ (c .before .before .before .before .before .if1 .left) (c .before .before .before .before .read .ensures) (c .aggregate-of .result) _ _ _ _ (c .before .before .variable2 .given .1) (c .aggregate-of .ensures)
+returns-4 c =
+    let c₄ = c .before .before .before .before in let read = c₄ .read in
+    let c₅ = c₄ .before in let if1 = c₅ .if1 in
+    let c₇ = c₅ .before .before in let args = c₇ .args in
+    aggregate-means (now (args .memo)) (now (args .q)) (args .level) _ (if1 .left) (read .ensures) (c .aggregate-of .result) _ _ _ _ (c .before .before .variable2 .given .1) (c .aggregate-of .ensures)
 
 returns-5 : tie.Need-returns-5
-returns-5 c = λ z. unknown-means (c .unknown2 .result) (now (c .before .before .before .before .before .args .memo)) (decodeT (c .before .before .before .before .before .args .level) (now (c .before .before .before .before .before .args .q)) z) (c .unknown2 .ensures)
+returns-5 c =
+    let c₅ = c .before .before .before .before .before in let args = c₅ .args in
+    λ z. unknown-means (c .unknown2 .result) (now (args .memo)) (decodeT (args .level) (now (args .q)) z) (c .unknown2 .ensures)
 
 pub operand-at-spec : {M : Type 1} → statement M
 operand-at-spec =

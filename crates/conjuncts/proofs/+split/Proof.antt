@@ -51,16 +51,31 @@ split-returns : (t : ℕ) → split-lts.Need-returns (split-claims t) (split-at 
 split-returns t c = c .before .before .before .join .ensures
 
 split-sub-l : (t : ℕ) → split-lts.Need-sub-l (split-claims t) (split-at t) split.Post
-split-sub-l t c = positive (c .before .before .before .before .before .before .before .args .level) ((parts (c .before .before .parts-at .result) ((c .before .before .before .before .before .before .before .args .end) - (c .before .before .before .before .before .before .before .args .k)) (c .before .before .before .before .before .before .before .args .level) (c .before .before .before .before .before .before .before .args .place) (now (c .before .before .before .before .before .before .before .args .q)) (now (c .before .before .before .before .before .before .before .args .z)) (c .before .before .parts-at .ensures) (c .if1 .left)) .deep)
+split-sub-l t c =
+    let c₂ = c .before .before in let parts-at = c₂ .parts-at in
+    let c₇ = c₂ .before .before .before .before .before in let args = c₇ .args in
+    let level = args .level in
+    positive level ((parts (parts-at .result) ((args .end) - (args .k)) level (args .place) (now (args .q)) (now (args .z)) (parts-at .ensures) (c .if1 .left)) .deep)
 
 split-sub-last : (t : ℕ) → split-lts.Need-sub-last (split-claims t) (split-at t) split.Post
 split-sub-last t c = search needs
 
 split-split-requires : (t : ℕ) → split-lts.Need-split-requires (split-claims t) (split-at t) split.Post
-split-split-requires t c κs = (falls-by (c .before .before .before .before .before .before .before .before .before .args .level) t ((parts (c .before .before .before .before .parts-at .result) ((c .before .before .before .before .before .before .before .before .before .args .end) - (c .before .before .before .before .before .before .before .before .before .args .k)) (c .before .before .before .before .before .before .before .before .before .args .level) (c .before .before .before .before .before .before .before .before .before .args .place) (now (c .before .before .before .before .before .before .before .before .before .args .q)) (now (c .before .before .before .before .before .before .before .before .before .args .z)) (c .before .before .before .before .parts-at .ensures) (c .before .before .if1 .left)) .deep) (c .before .before .before .before .before .before .before .before .before .pre .0), (omega (arith, c .before .before .before .before .before .before .before .before .before .pre .1 .0), omega (arith, c .before .before .before .before .before .before .before .before .before .pre .1 .1), c .before .before .before .before .before .before .before .before .before .pre .1 .2, omega (arith, and-room (c .before .before .before .before .parts-at .result) ((c .before .before .before .before .before .before .before .before .before .args .end) - (c .before .before .before .before .before .before .before .before .before .args .k)) (c .before .before .before .before .before .before .before .before .before .args .level) (c .before .before .before .before .before .before .before .before .before .args .place) (now (c .before .before .before .before .before .before .before .before .before .args .q)) (now (c .before .before .before .before .before .before .before .before .before .args .z)) (c .before .before .before .before .parts-at .ensures) (c .before .before .if1 .left), c .before .before .before .before .before .before .before .before .before .pre .1 .3), omega (arith, c .before .before .before .before .before .before .before .before .before .pre .1 .4), c .before .before .before .before .before .before .before .before .before .pre .1 .5, (parts (c .before .before .before .before .parts-at .result) ((c .before .before .before .before .before .before .before .before .before .args .end) - (c .before .before .before .before .before .before .before .before .before .args .k)) (c .before .before .before .before .before .before .before .before .before .args .level) (c .before .before .before .before .before .before .before .before .before .args .place) (now (c .before .before .before .before .before .before .before .before .before .args .q)) (now (c .before .before .before .before .before .before .before .before .before .args .z)) (c .before .before .before .before .parts-at .ensures) (c .before .before .if1 .left)) .second, omega (arith, c .before .before .before .before .before .before .before .before .before .pre .1 .7), c .before .before .before .before .before .before .before .before .before .pre .1 .8))
+split-split-requires t c κs =
+    let c₂ = c .before .before in let if1 = c₂ .if1 in
+    let c₄ = c₂ .before .before in let parts-at = c₄ .parts-at in
+    let c₉ = c₄ .before .before .before .before .before in let args = c₉ .args in let pre = c₉ .pre in
+    let q = now (args .q) in let z = now (args .z) in let end = args .end in let k = args .k in let level = args .level in let place = args .place in
+    (falls-by level t ((parts (parts-at .result) (end - k) level place q z (parts-at .ensures) (if1 .left)) .deep) (pre .0), (omega (arith, pre .1 .0), omega (arith, pre .1 .1), pre .1 .2, omega (arith, and-room (parts-at .result) (end - k) level place q z (parts-at .ensures) (if1 .left), pre .1 .3), omega (arith, pre .1 .4), pre .1 .5, (parts (parts-at .result) (end - k) level place q z (parts-at .ensures) (if1 .left)) .second, omega (arith, pre .1 .7), pre .1 .8))
 
 split-split-requires-2 : (t : ℕ) → split-lts.Need-split-requires-2 (split-claims t) (split-at t) split.Post
-split-split-requires-2 t c κs = (falls-by (c .before .before .before .before .before .before .before .before .before .before .before .before .before .before .before .args .level) t ((parts (c .before .before .before .before .before .before .before .before .before .before .parts-at .result) ((c .before .before .before .before .before .before .before .before .before .before .before .before .before .before .before .args .end) - (c .before .before .before .before .before .before .before .before .before .before .before .before .before .before .before .args .k)) (c .before .before .before .before .before .before .before .before .before .before .before .before .before .before .before .args .level) (c .before .before .before .before .before .before .before .before .before .before .before .before .before .before .before .args .place) (now (c .before .before .before .before .before .before .before .before .before .before .before .before .before .before .before .args .q)) (now (c .before .before .before .before .before .before .before .before .before .before .before .before .before .before .before .args .z)) (c .before .before .before .before .before .before .before .before .before .before .parts-at .ensures) (c .before .before .before .before .before .before .before .before .if1 .left)) .deep) (c .before .before .before .before .before .before .before .before .before .before .before .before .before .before .before .pre .0), (omega (arith, c .before .before .before .before .before .before .before .before .before .before .before .before .before .before .before .pre .1 .0, c .before .before .before .before .before .split .kept), omega (arith, c .before .before .before .before .before .before .before .before .before .before .before .before .before .before .before .pre .1 .1, c .before .before .before .before .before .split .kept), omega (arith, c .before .before .before .before .before .before .before .before .before .before .before .before .before .before .before .pre .1 .2, c .before .before .before .before .before .split .ensures .0 .0), omega (arith, c .before .before .before .before .before .split .ensures .0 .1, and-room (c .before .before .before .before .before .before .before .before .before .before .parts-at .result) ((c .before .before .before .before .before .before .before .before .before .before .before .before .before .before .before .args .end) - (c .before .before .before .before .before .before .before .before .before .before .before .before .before .before .before .args .k)) (c .before .before .before .before .before .before .before .before .before .before .before .before .before .before .before .args .level) (c .before .before .before .before .before .before .before .before .before .before .before .before .before .before .before .args .place) (now (c .before .before .before .before .before .before .before .before .before .before .before .before .before .before .before .args .q)) (now (c .before .before .before .before .before .before .before .before .before .before .before .before .before .before .before .args .z)) (c .before .before .before .before .before .before .before .before .before .before .parts-at .ensures) (c .before .before .before .before .before .before .before .before .if1 .left), c .before .before .before .before .before .before .before .before .before .before .before .before .before .before .before .pre .1 .3), c .before .before .before .before .before .before .before .before .before .before .before .before .before .before .before .pre .1 .4, c .before .before .before .before .before .before .before .before .before .before .before .before .before .before .before .pre .1 .5, (parts (c .before .before .before .before .before .before .before .before .before .before .parts-at .result) ((c .before .before .before .before .before .before .before .before .before .before .before .before .before .before .before .args .end) - (c .before .before .before .before .before .before .before .before .before .before .before .before .before .before .before .args .k)) (c .before .before .before .before .before .before .before .before .before .before .before .before .before .before .before .args .level) (c .before .before .before .before .before .before .before .before .before .before .before .before .before .before .before .args .place) (now (c .before .before .before .before .before .before .before .before .before .before .before .before .before .before .before .args .q)) (now (c .before .before .before .before .before .before .before .before .before .before .before .before .before .before .before .args .z)) (c .before .before .before .before .before .before .before .before .before .before .parts-at .ensures) (c .before .before .before .before .before .before .before .before .if1 .left)) .first, omega (arith, c .before .before .before .before .before .before .before .before .before .before .before .before .before .before .before .pre .1 .7), c .before .before .before .before .before .split .ensures .1 .begun))
+split-split-requires-2 t c κs =
+    let c₅ = c .before .before .before .before .before in let split = c₅ .split in
+    let c₈ = c₅ .before .before .before in let if1 = c₈ .if1 in
+    let c₁₀ = c₈ .before .before in let parts-at = c₁₀ .parts-at in
+    let c₁₅ = c₁₀ .before .before .before .before .before in let args = c₁₅ .args in let pre = c₁₅ .pre in
+    let q = now (args .q) in let z = now (args .z) in let end = args .end in let k = args .k in let level = args .level in let place = args .place in
+    (falls-by level t ((parts (parts-at .result) (end - k) level place q z (parts-at .ensures) (if1 .left)) .deep) (pre .0), (omega (arith, pre .1 .0, split .kept), omega (arith, pre .1 .1, split .kept), omega (arith, pre .1 .2, split .ensures .0 .0), omega (arith, split .ensures .0 .1, and-room (parts-at .result) (end - k) level place q z (parts-at .ensures) (if1 .left), pre .1 .3), pre .1 .4, pre .1 .5, (parts (parts-at .result) (end - k) level place q z (parts-at .ensures) (if1 .left)) .first, omega (arith, pre .1 .7), split .ensures .1 .begun))
 
 split-same-length-3 : (t : ℕ) → split-lts.Need-same-length-3 (split-claims t) (split-at t) split.Post
 split-same-length-3 t c = search needs
@@ -69,7 +84,14 @@ split-same-length-4 : (t : ℕ) → split-lts.Need-same-length-4 (split-claims t
 split-same-length-4 t c = search needs
 
 split-returns-2 : (t : ℕ) → split-lts.Need-returns-2 (split-claims t) (split-at t) split.Post
-split-returns-2 t c = ((omega (arith, c .before .before .before .before .before .before .before .before .before .split .ensures .0 .0, c .before .before .before .split2 .ensures .0 .0), c .before .before .before .split2 .ensures .0 .1), subst (λ (d : Condition). Joined (c .before .before .before .split2 .result) (now (c .before .before .before .before .before .before .before .before .before .before .before .before .before .before .before .before .before .before .before .args .t)) (c .before .before .before .split2 .last .1 .1 .1 .1 .1 .1 .1 .1 .0) (now (c .before .before .before .before .before .before .before .before .before .before .before .before .before .before .before .before .before .before .before .args .xs)) (c .before .before .before .split2 .last .1 .1 .1 .1 .1 .1 .1 .1 .1 .0) (now (c .before .before .before .before .before .before .before .before .before .before .before .before .before .before .before .before .before .before .before .args .q)) (now (c .before .before .before .before .before .before .before .before .before .before .before .before .before .before .before .before .before .before .before .args .z)) (now (c .before .before .before .before .before .before .before .before .before .before .before .before .before .before .before .before .before .before .before .args .cb)) (now (c .before .before .before .before .before .before .before .before .before .before .before .before .before .before .before .before .before .before .before .args .memo)) d (rangesAt (c .before .before .before .before .before .before .before .before .before .before .before .before .before .before .before .before .before .before .before .args .ranges) (now (c .before .before .before .before .before .before .before .before .before .before .before .before .before .before .before .before .before .before .before .args .q)))) (sym (and-whole (c .before .before .before .before .before .before .before .before .before .before .before .before .before .before .parts-at .result) ((c .before .before .before .before .before .before .before .before .before .before .before .before .before .before .before .before .before .before .before .args .end) - (c .before .before .before .before .before .before .before .before .before .before .before .before .before .before .before .before .before .before .before .args .k)) (c .before .before .before .before .before .before .before .before .before .before .before .before .before .before .before .before .before .before .before .args .level) (c .before .before .before .before .before .before .before .before .before .before .before .before .before .before .before .before .before .before .before .args .place) (now (c .before .before .before .before .before .before .before .before .before .before .before .before .before .before .before .before .before .before .before .args .q)) (now (c .before .before .before .before .before .before .before .before .before .before .before .before .before .before .before .before .before .before .before .args .z)) (c .before .before .before .before .before .before .before .before .before .before .before .before .before .before .parts-at .ensures) (c .before .before .before .before .before .before .before .before .before .before .before .before .if1 .left))) (joined-both (c .before .before .before .before .before .before .before .before .before .split .result) (c .before .before .before .split2 .result) (now (c .before .before .before .before .before .before .before .before .before .before .before .before .before .before .before .before .before .before .before .args .t)) (c .before .before .before .before .before .before .before .before .before .split .last .1 .1 .1 .1 .1 .1 .1 .1 .0) (c .before .before .before .split2 .last .1 .1 .1 .1 .1 .1 .1 .1 .0) (now (c .before .before .before .before .before .before .before .before .before .before .before .before .before .before .before .before .before .before .before .args .xs)) (c .before .before .before .before .before .before .before .before .before .split .last .1 .1 .1 .1 .1 .1 .1 .1 .1 .0) (c .before .before .before .split2 .last .1 .1 .1 .1 .1 .1 .1 .1 .1 .0) (now (c .before .before .before .before .before .before .before .before .before .before .before .before .before .before .before .before .before .before .before .args .q)) (now (c .before .before .before .before .before .before .before .before .before .before .before .before .before .before .before .before .before .before .before .args .z)) (now (c .before .before .before .before .before .before .before .before .before .before .before .before .before .before .before .before .before .before .before .args .cb)) (now (c .before .before .before .before .before .before .before .before .before .before .before .before .before .before .before .before .before .before .before .args .memo)) (decode ((c .before .before .before .before .before .before .before .before .before .before .before .before .before .before .before .before .before .before .before .args .level) - 1) (drop (c .before .before .before .before .before .before .before .before .before .before .before .before .before .before .parts-at .result .first) (now (c .before .before .before .before .before .before .before .before .before .before .before .before .before .before .before .before .before .before .before .args .q))) (drop (c .before .before .before .before .before .before .before .before .before .before .before .before .before .before .parts-at .result .first) (now (c .before .before .before .before .before .before .before .before .before .before .before .before .before .before .before .before .before .before .before .args .z)))) (decode ((c .before .before .before .before .before .before .before .before .before .before .before .before .before .before .before .before .before .before .before .args .level) - 1) (drop (c .before .before .before .before .before .before .before .before .before .before .before .before .before .before .parts-at .result .second) (now (c .before .before .before .before .before .before .before .before .before .before .before .before .before .before .before .before .before .before .before .args .q))) (drop (c .before .before .before .before .before .before .before .before .before .before .before .before .before .before .parts-at .result .second) (now (c .before .before .before .before .before .before .before .before .before .before .before .before .before .before .before .before .before .before .before .args .z)))) (rangesAt (c .before .before .before .before .before .before .before .before .before .before .before .before .before .before .before .before .before .before .before .args .ranges) (now (c .before .before .before .before .before .before .before .before .before .before .before .before .before .before .before .before .before .before .before .args .q))) (c .before .before .before .before .before .before .before .before .before .split .ensures .1) (c .before .before .before .split2 .ensures .1)))
+split-returns-2 t c =
+    let c₃ = c .before .before .before in let split2 = c₃ .split2 in
+    let c₉ = c₃ .before .before .before .before .before .before in let split = c₉ .split in
+    let c₁₂ = c₉ .before .before .before in let if1 = c₁₂ .if1 in
+    let c₁₄ = c₁₂ .before .before in let parts-at = c₁₄ .parts-at in
+    let c₁₉ = c₁₄ .before .before .before .before .before in let args = c₁₉ .args in
+    let cb = now (args .cb) in let memo = now (args .memo) in let q = now (args .q) in let xs = now (args .xs) in let z = now (args .z) in let level = args .level in let ranges = args .ranges in
+    ((omega (arith, split .ensures .0 .0, split2 .ensures .0 .0), split2 .ensures .0 .1), subst (λ (d : Condition). Joined (split2 .result) (now (args .t)) (split2 .last .1 .1 .1 .1 .1 .1 .1 .1 .0) xs (split2 .last .1 .1 .1 .1 .1 .1 .1 .1 .1 .0) q z cb memo d (rangesAt ranges q)) (sym (and-whole (parts-at .result) ((args .end) - (args .k)) level (args .place) q z (parts-at .ensures) (if1 .left))) (joined-both (split .result) (split2 .result) (now (args .t)) (split .last .1 .1 .1 .1 .1 .1 .1 .1 .0) (split2 .last .1 .1 .1 .1 .1 .1 .1 .1 .0) xs (split .last .1 .1 .1 .1 .1 .1 .1 .1 .1 .0) (split2 .last .1 .1 .1 .1 .1 .1 .1 .1 .1 .0) q z cb memo (decode (level - 1) (drop (parts-at .result .first) q) (drop (parts-at .result .first) z)) (decode (level - 1) (drop (parts-at .result .second) q) (drop (parts-at .result .second) z)) (rangesAt ranges q) (split .ensures .1) (split2 .ensures .1)))
 
 pub +split-spec : {M : Type 1} → statement M
 +split-spec = close μ-split λ t. split-lts.spec (split-claims t)

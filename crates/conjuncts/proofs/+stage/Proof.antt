@@ -34,7 +34,10 @@ abbrev stage-claims : ℕ → stage-lts.Claims
 stage-claims t = (record-length-reads.Asked, record-length-reads.Learnt, tail-reads.Asked, tail-reads.Learnt, stage-below t, stage.Post, byte-reads.Asked, byte-reads.Learnt, unbind-reads.Asked, unbind-reads.Learnt, condition-reads.Asked, condition-reads.Learnt)
 
 stage-returns : (t : ℕ) → stage-lts.Need-returns (stage-claims t) (stage-at t) stage.Post
-stage-returns t c = (omega arith, (none-stable (decode (c .before .before .before .before .before .before .args .level) (now (c .before .before .before .before .before .before .args .q)) (now (c .before .before .before .before .before .before .args .z))) (c .before .before .before .before .before .before .args .left) (now (c .before .before .before .before .before .before .args .ranges)) (c .if1 .taken), λ _. none-reached (now (c .before .before .before .before .before .before .args .reach)) (c .before .before .before .before .before .before .args .left) (now (c .before .before .before .before .before .before .args .ranges)) (c .if1 .taken)))
+stage-returns t c =
+    let c₆ = c .before .before .before .before .before .before in let args = c₆ .args in
+    let ranges = now (args .ranges) in let left = args .left in
+    (omega arith, (none-stable (decode (args .level) (now (args .q)) (now (args .z))) left ranges (c .if1 .taken), λ _. none-reached (now (args .reach)) left ranges (c .if1 .taken)))
 
 stage-record-length-requires : (t : ℕ) → stage-lts.Need-record-length-requires (stage-claims t) (stage-at t) stage.Post
 stage-record-length-requires t c κs = search needs
@@ -55,7 +58,13 @@ stage-same-length : (t : ℕ) → stage-lts.Need-same-length (stage-claims t) (s
 stage-same-length t c = search needs
 
 stage-returns-2 : (t : ℕ) → stage-lts.Need-returns-2 (stage-claims t) (stage-at t) stage.Post
-stage-returns-2 t c = (omega (arith, c .before .before .before .stage .ensures .0), (more-stable (c .before .before .before .before .before .before .before .before .before .before .before .before .before .args .left) (now (c .before .before .before .before .before .before .before .before .before .before .before .before .before .args .ranges)) _ _ (c .before .before .before .before .before .before .before .if1 .left) (c .before .before .before .before .before .before .record-length .ensures .0) (c .before .before .before .before .before .tail .ensures) (decode (c .before .before .before .before .before .before .before .before .before .before .before .before .before .args .level) (now (c .before .before .before .before .before .before .before .before .before .before .before .before .before .args .q)) (now (c .before .before .before .before .before .before .before .before .before .before .before .before .before .args .z))) (c .before .before .before .stage .result) (c .before .before .before .stage .ensures .1 .0), λ z. absurd (omega (arith, z))))
+stage-returns-2 t c =
+    let c₃ = c .before .before .before in let stage = c₃ .stage in
+    let c₅ = c₃ .before .before in let tail = c₅ .tail in
+    let c₆ = c₅ .before in let record-length = c₆ .record-length in
+    let c₇ = c₆ .before in let if1 = c₇ .if1 in
+    let c₁₃ = c₇ .before .before .before .before .before .before in let args = c₁₃ .args in
+    (omega (arith, stage .ensures .0), (more-stable (args .left) (now (args .ranges)) _ _ (if1 .left) (record-length .ensures .0) (tail .ensures) (decode (args .level) (now (args .q)) (now (args .z))) (stage .result) (stage .ensures .1 .0), λ z. absurd (omega (arith, z))))
 
 stage-byte-requires : (t : ℕ) → stage-lts.Need-byte-requires (stage-claims t) (stage-at t) stage.Post
 stage-byte-requires t c κs = search needs
@@ -70,13 +79,31 @@ stage-same-length-2 : (t : ℕ) → stage-lts.Need-same-length-2 (stage-claims t
 stage-same-length-2 t c = search needs
 
 stage-returns-3 : (t : ℕ) → stage-lts.Need-returns-3 (stage-claims t) (stage-at t) stage.Post
-stage-returns-3 t c = let u = more-reached (c .before .before .before .before .before .before .before .before .before .before .before .before .before .before .before .before .before .before .before .before .before .before .before .args .left) (now (c .before .before .before .before .before .before .before .before .before .before .before .before .before .before .before .before .before .before .before .before .before .before .before .args .ranges)) _ _ (c .before .before .before .before .before .before .before .before .before .before .before .before .before .before .before .before .before .if1 .left) (c .before .before .before .before .before .before .before .before .before .before .before .before .before .before .before .before .record-length .ensures .0) (c .before .before .before .before .before .before .before .before .before .before .before .before .before .before .before .tail .ensures) _ (c .before .before .before .before .before .before .before .before .before .before .before .before .before .stage .last .1 .1 .1 .1 .1 .1 .1 .0) (c .before .before .before .before .before .before .before .unbind .last .0) (c .before .before .before .before .before .before .before .before .byte .ensures) (c .before .before .before .before .before .before .before .unbind .ensures) (c .before .before .before .before .before .before .before .before .before .before .before .before .before .stage .ensures .1 .1 (c .before .before .before .before .before .before .before .before .before .before .if2 .left)) in (omega arith, (scope-stable (shapeIn (now (c .before .before .before .before .before .before .before .before .before .before .before .before .before .before .before .before .before .before .before .before .before .before .before .args .catalogue))) (c .before .before .before .before .before .before .before .before .before .before .before .before .before .before .before .before .before .before .before .before .before .before .before .args .limit) (decode (c .before .before .before .before .before .before .before .before .before .before .before .before .before .before .before .before .before .before .before .before .before .before .before .args .level) (now (c .before .before .before .before .before .before .before .before .before .before .before .before .before .before .before .before .before .before .before .before .before .before .before .args .q)) (now (c .before .before .before .before .before .before .before .before .before .before .before .before .before .before .before .before .before .before .before .before .before .before .before .args .z))) (rangesAt (c .before .before .before .before .before .before .before .before .before .before .before .before .before .before .before .before .before .before .before .before .before .before .before .args .left) (now (c .before .before .before .before .before .before .before .before .before .before .before .before .before .before .before .before .before .before .before .before .before .before .before .args .ranges))) (c .before .before .before .before .before .before .before .unbind .last .0) u (sym (c .if3 .taken) ∙ c .before .before .before .condition .ensures .0), λ _. subst (Unreached (rangesAt (c .before .before .before .before .before .before .before .before .before .before .before .before .before .before .before .before .before .before .before .before .before .before .before .args .left) (now (c .before .before .before .before .before .before .before .before .before .before .before .before .before .before .before .before .before .before .before .before .before .before .before .args .ranges)))) (sym (c .before .before .before .condition .ensures .1)) u))
+stage-returns-3 t c =
+    let c₃ = c .before .before .before in let condition = c₃ .condition in
+    let c₇ = c₃ .before .before .before .before in let unbind = c₇ .unbind in
+    let c₈ = c₇ .before in let byte = c₈ .byte in
+    let c₁₀ = c₈ .before .before in let if2 = c₁₀ .if2 in
+    let c₁₃ = c₁₀ .before .before .before in let stage = c₁₃ .stage in
+    let c₁₅ = c₁₃ .before .before in let tail = c₁₅ .tail in
+    let c₁₆ = c₁₅ .before in let record-length = c₁₆ .record-length in
+    let c₁₇ = c₁₆ .before in let if1 = c₁₇ .if1 in
+    let c₂₃ = c₁₇ .before .before .before .before .before .before in let args = c₂₃ .args in
+    let ranges = now (args .ranges) in let left = args .left in
+    let u = more-reached left ranges _ _ (if1 .left) (record-length .ensures .0) (tail .ensures) _ (stage .last .1 .1 .1 .1 .1 .1 .1 .0) (unbind .last .0) (byte .ensures) (unbind .ensures) (stage .ensures .1 .1 (if2 .left)) in (omega arith, (scope-stable (shapeIn (now (args .catalogue))) (args .limit) (decode (args .level) (now (args .q)) (now (args .z))) (rangesAt left ranges) (unbind .last .0) u (sym (c .if3 .taken) ∙ condition .ensures .0), λ _. subst (Unreached (rangesAt left ranges)) (sym (condition .ensures .1)) u))
 
 stage-same-length-3 : (t : ℕ) → stage-lts.Need-same-length-3 (stage-claims t) (stage-at t) stage.Post
 stage-same-length-3 t c = search needs
 
 stage-returns-4 : (t : ℕ) → stage-lts.Need-returns-4 (stage-claims t) (stage-at t) stage.Post
-stage-returns-4 t c = (omega arith, (first-stable (c .before .before .before .before .before .before .before .before .before .before .before .before .before .before .before .before .before .before .before .before .before .before .before .args .left) (now (c .before .before .before .before .before .before .before .before .before .before .before .before .before .before .before .before .before .before .before .before .before .before .before .args .ranges)) _ _ (c .before .before .before .before .before .before .before .before .before .before .before .before .before .before .before .before .before .if1 .left) (c .before .before .before .before .before .before .before .before .before .before .before .before .before .before .before .before .record-length .ensures .0) (c .before .before .before .before .before .before .before .before .before .before .before .before .before .before .before .tail .ensures) (decode (c .before .before .before .before .before .before .before .before .before .before .before .before .before .before .before .before .before .before .before .before .before .before .before .args .level) (now (c .before .before .before .before .before .before .before .before .before .before .before .before .before .before .before .before .before .before .before .before .before .before .before .args .q)) (now (c .before .before .before .before .before .before .before .before .before .before .before .before .before .before .before .before .before .before .before .before .before .before .before .args .z))) (c .before .before .before .before .before .before .before .before .before .before .before .before .before .stage .result) (c .before .before .before .before .before .before .before .before .before .before .if2 .left) (c .before .before .before .before .before .before .before .before .before .before .before .before .before .stage .ensures .1 .0), λ z. absurd (omega (arith, z))))
+stage-returns-4 t c =
+    let c₁₀ = c .before .before .before .before .before .before .before .before .before .before in let if2 = c₁₀ .if2 in
+    let c₁₃ = c₁₀ .before .before .before in let stage = c₁₃ .stage in
+    let c₁₅ = c₁₃ .before .before in let tail = c₁₅ .tail in
+    let c₁₆ = c₁₅ .before in let record-length = c₁₆ .record-length in
+    let c₁₇ = c₁₆ .before in let if1 = c₁₇ .if1 in
+    let c₂₃ = c₁₇ .before .before .before .before .before .before in let args = c₂₃ .args in
+    (omega arith, (first-stable (args .left) (now (args .ranges)) _ _ (if1 .left) (record-length .ensures .0) (tail .ensures) (decode (args .level) (now (args .q)) (now (args .z))) (stage .result) (if2 .left) (stage .ensures .1 .0), λ z. absurd (omega (arith, z))))
 
 pub +stage-spec : {M : Type 1} → statement M
 +stage-spec = close μ-stage λ t. stage-lts.spec (stage-claims t)

@@ -29,7 +29,11 @@ enum-told c = search needs
 
 -- src/lib.rt:138:1
 returns-2 : tie.Need-returns-2
-returns-2 c = λ h z. true-there (now (c .before .before .before .before .before .before .args .q)) (c .before .before .before .before .before .before .args .place) (c .before .before .before .before .before .before .args .level) _ _ (c .before .before .before .before .if1 .left) (c .before .before .before .tail .ensures) (c .before .before .read .ensures) (c .enum-told .given .1) z
+returns-2 c =
+    let c₃ = c .before .before .before in let tail = c₃ .tail in
+    let c₄ = c₃ .before in let if1 = c₄ .if1 in
+    let c₆ = c₄ .before .before in let args = c₆ .args in
+    λ h z. true-there (now (args .q)) (args .place) (args .level) _ _ (if1 .left) (tail .ensures) (c .before .before .read .ensures) (c .enum-told .given .1) z
 
 -- src/lib.rt:138:1
 returns-3 : tie.Need-returns-3

@@ -20,7 +20,12 @@ same-length : tie.Need-same-length
 same-length c = search needs
 
 returns : tie.Need-returns
-returns c = (c .before .before .holds .ensures .0 ∙ from-start (now (c .before .before .before .before .before .before .before .before .before .before .args .t)) (now (c .before .before .before .before .before .before .before .before .before .before .args .xs)) (now (c .before .before .before .before .before .before .before .before .before .before .args .q)) (now (c .before .before .before .before .before .before .before .before .before .before .args .z)) (now (c .before .before .before .before .before .before .before .before .before .before .args .catalogue)) (now (c .before .before .before .before .before .before .before .before .before .before .args .values)) (now (c .before .before .before .before .before .before .before .before .before .before .args .memo)) (c .before .before .before .before .size-at .result) (c .before .before .before .before .before .before .before .before .before .before .args .stage) (assigned (now (c .before .before .before .before .before .before .before .before .before .before .args .values)) (now (c .before .before .before .before .before .before .before .before .before .before .args .env))) (c .before .before .before .before .size-at .ensures .0), c .before .before .holds .ensures .1)
+returns c =
+    let c₂ = c .before .before in let holds = c₂ .holds in
+    let c₄ = c₂ .before .before in let size-at = c₄ .size-at in
+    let c₁₀ = c₄ .before .before .before .before .before .before in let args = c₁₀ .args in
+    let values = now (args .values) in
+    (holds .ensures .0 ∙ from-start (now (args .t)) (now (args .xs)) (now (args .q)) (now (args .z)) (now (args .catalogue)) values (now (args .memo)) (size-at .result) (args .stage) (assigned values (now (args .env))) (size-at .ensures .0), holds .ensures .1)
 
 pub holds-spec : {M : Type 1} → statement M
 holds-spec = tie.close (tie.spec size-at-requires holds-requires same-length returns)

@@ -25,7 +25,10 @@ always-requires c κs = search needs
 
 -- src/lib.rt:170:9
 returns : tie.Need-returns
-returns c = ((le-refl _, omega (arith, c .before .before .before .before .before .before .pre .3)), joined-true (c .before .before .before .before .before .before .args .k) (now (c .before .before .before .before .before .before .args .t)) (now (c .before .before .before .before .before .before .args .xs)) (now (c .before .before .before .before .before .before .args .q)) (now (c .before .before .before .before .before .before .args .z)) (now (c .before .before .before .before .before .before .args .cb)) (now (c .before .before .before .before .before .before .args .memo)) (decode (c .before .before .before .before .before .before .args .level) (drop (c .before .before .before .before .before .before .args .place) (now (c .before .before .before .before .before .before .args .q))) (drop (c .before .before .before .before .before .before .args .place) (now (c .before .before .before .before .before .before .args .z)))) (rangesAt (c .before .before .before .before .before .before .args .ranges) (now (c .before .before .before .before .before .before .args .q))) (c .before .before .before .before .before .before .pre .8) (c .before .always .ensures (c .if1 .taken) (drop (c .before .before .before .before .before .before .args .place) (now (c .before .before .before .before .before .before .args .z)))))
+returns c =
+    let c₆ = c .before .before .before .before .before .before in let args = c₆ .args in let pre = c₆ .pre in
+    let q = now (args .q) in let z = now (args .z) in let place = args .place in
+    ((le-refl _, omega (arith, pre .3)), joined-true (args .k) (now (args .t)) (now (args .xs)) q z (now (args .cb)) (now (args .memo)) (decode (args .level) (drop place q) (drop place z)) (rangesAt (args .ranges) q) (pre .8) (c .before .always .ensures (c .if1 .taken) (drop place z)))
 
 -- src/lib.rt:172:9
 stage-at-requires : tie.Need-stage-at-requires
@@ -41,7 +44,11 @@ size-at-requires c κs = search needs
 
 -- src/lib.rt:175:9
 compile-requires : tie.Need-compile-requires
-compile-requires c κs = (c .before .before .before .before .before .before .before .before .before .before .before .before .pre .0, c .before .before .before .before .before .before .before .before .before .before .before .before .pre .1, c .before .before .before .before .before .before .before .before .before .before .before .before .pre .2, c .before .before .before .before .before .before .before .before .before .before .before .before .pre .3, c .before .before .before .before .before .before .before .before .before .before .before .before .pre .4, omega (arith, c .before .before .size-at .ensures .0, c .before .before .before .before .before .before .before .before .before .before .before .before .pre .8 (c .before .before .before .before .stage-number .result) (omega (arith, c .before .before .before .before .stage-number .ensures .1, c .before .before .before .before .before .stage-at .ensures .0, c .before .before .before .before .before .before .before .before .before .before .before .before .pre .5))), omega (arith, c .before .before .before .before .before .before .before .before .before .before .before .before .pre .2), c .before .before .before .before .before .before .before .before .before .before .before .before .pre .6, c .before .before .before .before .before .before .before .before .before .before .before .before .pre .7)
+compile-requires c κs =
+    let c₄ = c .before .before .before .before in let stage-number = c₄ .stage-number in
+    let c₅ = c₄ .before in let stage-at = c₅ .stage-at in
+    let c₁₂ = c₅ .before .before .before .before .before .before .before in let pre = c₁₂ .pre in
+    (pre .0, pre .1, pre .2, pre .3, pre .4, omega (arith, c .before .before .size-at .ensures .0, pre .8 (stage-number .result) (omega (arith, stage-number .ensures .1, stage-at .ensures .0, pre .5))), omega (arith, pre .2), pre .6, pre .7)
 
 -- src/lib.rt:176:12
 narrow-requires : tie.Need-narrow-requires
@@ -69,7 +76,14 @@ same-length-2 c = search needs
 
 -- src/lib.rt:151:1
 returns-2 : tie.Need-returns-2
-returns-2 c = ((omega (arith, c .before .before .before .before .compile .ensures .0 .0), omega (arith, c .before .before .before .before .compile .ensures .0 .1)), joined (c .before .before .before .before .before .before .before .before .before .before .before .before .before .before .before .before .before .args .k) (c .before .before .before .before .compile .result) (c .before .before .before .before .before .before .before .before .before .stage-number .result) (c .before .before .before .before .before .before .before .size-at .result) (now (c .before .before .before .before .before .before .before .before .before .before .before .before .before .before .before .before .before .args .t)) (c .before .before .before .before .compile .last .1 .1 .1 .1 .1 .0) _ (now (c .before .before .before .before .before .before .before .before .before .before .before .before .before .before .before .before .before .args .xs)) (c .before .before .before .before .compile .last .1 .1 .1 .1 .1 .1 .0) (now (c .before .before .before .before .before .before .before .before .before .before .before .before .before .before .before .before .before .args .q)) (now (c .before .before .before .before .before .before .before .before .before .before .before .before .before .before .before .before .before .args .z)) (now (c .before .before .before .before .before .before .before .before .before .before .before .before .before .before .before .before .before .args .cb)) (now (c .before .before .before .before .before .before .before .before .before .before .before .before .before .before .before .before .before .args .memo)) (decode (c .before .before .before .before .before .before .before .before .before .before .before .before .before .before .before .before .before .args .level) (drop (c .before .before .before .before .before .before .before .before .before .before .before .before .before .before .before .before .before .args .place) (now (c .before .before .before .before .before .before .before .before .before .before .before .before .before .before .before .before .before .args .q))) (drop (c .before .before .before .before .before .before .before .before .before .before .before .before .before .before .before .before .before .args .place) (now (c .before .before .before .before .before .before .before .before .before .before .before .before .before .before .before .before .before .args .z)))) (rangesAt (c .before .before .before .before .before .before .before .before .before .before .before .before .before .before .before .before .before .args .ranges) (now (c .before .before .before .before .before .before .before .before .before .before .before .before .before .before .before .before .before .args .q))) (c .before .before .before .before .compile .ensures .1) (c .before .before .before .before .before .before .before .size-at .ensures .0) (ap (set (c .before .before .before .before .compile .last .1 .1 .1 .1 .1 .0) (c .before .before .before .before .before .before .before .before .before .stage-number .result)) (c .narrow .ensures)) (c .before .before .before .before .before .before .before .before .before .before .before .before .before .before .before .before .before .pre .2) (c .before .before .before .before .compile .ensures .0 .0) (omega (arith, c .before .before .before .before .compile .kept .1 .1 .1 .1 .1 .0, c .before .before .before .before .before .before .before .before .before .before .before .before .before .before .before .before .before .pre .0, c .before .before .before .before .before .before .before .before .before .before .before .before .before .before .before .before .before .pre .2, c .before .before .before .before .before .before .before .before .before .before .before .before .before .before .before .before .before .pre .3)) (c .before .before .before .before .before .before .before .before .before .before .before .before .before .before .before .before .before .pre .8) (omega (arith, (length-ranges (c .before .before .before .before .before .before .before .before .before .before .before .before .before .before .before .before .before .args .ranges) (now (c .before .before .before .before .before .before .before .before .before .before .before .before .before .before .before .before .before .args .q))), c .before .before .before .before .before .before .before .before .before .before .before .before .before .before .before .before .before .pre .5)) (c .before .before .before .before .before .before .before .before .before .before .stage-at .result) (omega (arith, (length-ranges (c .before .before .before .before .before .before .before .before .before .before .before .before .before .before .before .before .before .args .ranges) (now (c .before .before .before .before .before .before .before .before .before .before .before .before .before .before .before .before .before .args .q))), c .before .before .before .before .before .before .before .before .before .before .stage-at .ensures .0)) (c .before .before .before .before .before .before .before .before .before .stage-number .ensures .0) (c .before .before .before .before .before .before .before .before .before .stage-number .ensures .1) (c .before .before .before .before .before .before .before .before .before .before .stage-at .ensures .1))
+returns-2 c =
+    let c₄ = c .before .before .before .before in let compile = c₄ .compile in
+    let c₇ = c₄ .before .before .before in let size-at = c₇ .size-at in
+    let c₉ = c₇ .before .before in let stage-number = c₉ .stage-number in
+    let c₁₀ = c₉ .before in let stage-at = c₁₀ .stage-at in
+    let c₁₇ = c₁₀ .before .before .before .before .before .before .before in let args = c₁₇ .args in let pre = c₁₇ .pre in
+    let q = now (args .q) in let z = now (args .z) in let place = args .place in let ranges = args .ranges in
+    ((omega (arith, compile .ensures .0 .0), omega (arith, compile .ensures .0 .1)), joined (args .k) (compile .result) (stage-number .result) (size-at .result) (now (args .t)) (compile .last .1 .1 .1 .1 .1 .0) _ (now (args .xs)) (compile .last .1 .1 .1 .1 .1 .1 .0) q z (now (args .cb)) (now (args .memo)) (decode (args .level) (drop place q) (drop place z)) (rangesAt ranges q) (compile .ensures .1) (size-at .ensures .0) (ap (set (compile .last .1 .1 .1 .1 .1 .0) (stage-number .result)) (c .narrow .ensures)) (pre .2) (compile .ensures .0 .0) (omega (arith, compile .kept .1 .1 .1 .1 .1 .0, pre .0, pre .2, pre .3)) (pre .8) (omega (arith, (length-ranges ranges q), pre .5)) (stage-at .result) (omega (arith, (length-ranges ranges q), stage-at .ensures .0)) (stage-number .ensures .0) (stage-number .ensures .1) (stage-at .ensures .1))
 
 pub join-spec : {M : Type 1} → statement M
 join-spec =

@@ -12,7 +12,9 @@ use Rattle.conjuncts.proofs.plan.Lts as lts
 use Rattle.conjuncts.proofs.split.Reads as split-reads
 
 split-requires : tie.Need-split-requires
-split-requires c κs = (omega (arith, c .before .before .before .before .before .before .pre .0), omega (arith, c .before .before .before .before .before .before .pre .1), omega arith, omega arith, omega arith, c .before .before .before .before .before .before .pre .2, c .before .before .before .before .before .before .pre .3, c .before .before .before .before .before .before .pre .4, cleared-begun (now (c .before .before .before .before .before .before .args .t)) (c .before .before .before .before .before .before .pre .5))
+split-requires c κs =
+    let c₆ = c .before .before .before .before .before .before in let args = c₆ .args in let pre = c₆ .pre in
+    (omega (arith, pre .0), omega (arith, pre .1), omega arith, omega arith, omega arith, pre .2, pre .3, pre .4, cleared-begun (now (args .t)) (pre .5))
 
 same-length : tie.Need-same-length
 same-length c = search needs
@@ -21,7 +23,11 @@ same-length-2 : tie.Need-same-length-2
 same-length-2 c = search needs
 
 returns : tie.Need-returns
-returns c = λ vs. planned (now (c .before .before .before .before .before .before .before .before .before .before .args .t)) (c .before .before .before .before .before .before .before .before .before .before .pre .5) (now (c .before .before .before .before .before .before .before .before .before .before .args .xs)) (now (c .before .before .before .before .before .before .before .before .before .before .args .q)) (now (c .before .before .before .before .before .before .before .before .before .before .args .z)) (now (c .before .before .before .before .before .before .before .before .before .before .args .catalogue)) vs (now (c .before .before .before .before .before .before .before .before .before .before .args .memo)) (c .before .before .before .split .result) (c .before .before .before .split .last .1 .1 .1 .1 .1 .1 .1 .1 .0) (c .before .before .before .split .last .1 .1 .1 .1 .1 .1 .1 .1 .1 .0) (decode (c .before .before .before .before .before .before .before .before .before .before .args .level) (drop (c .before .before .before .before .before .before .before .before .before .before .args .condition) (now (c .before .before .before .before .before .before .before .before .before .before .args .q))) (drop (c .before .before .before .before .before .before .before .before .before .before .args .condition) (now (c .before .before .before .before .before .before .before .before .before .before .args .z)))) (rangesAt (c .before .before .before .before .before .before .before .before .before .before .args .ranges) (now (c .before .before .before .before .before .before .before .before .before .before .args .q))) (c .before .before .before .split .ensures .1)
+returns c =
+    let c₃ = c .before .before .before in let split = c₃ .split in
+    let c₁₀ = c₃ .before .before .before .before .before .before .before in let args = c₁₀ .args in let pre = c₁₀ .pre in
+    let q = now (args .q) in let z = now (args .z) in let condition = args .condition in
+    λ vs. planned (now (args .t)) (pre .5) (now (args .xs)) q z (now (args .catalogue)) vs (now (args .memo)) (split .result) (split .last .1 .1 .1 .1 .1 .1 .1 .1 .0) (split .last .1 .1 .1 .1 .1 .1 .1 .1 .1 .0) (decode (args .level) (drop condition q) (drop condition z)) (rangesAt (args .ranges) q) (split .ensures .1)
 
 pub plan-spec : {M : Type 1} → statement M
 plan-spec = tie.close (tie.spec split-requires same-length same-length-2 returns)

@@ -25,7 +25,10 @@ one-range-requires c κs = search needs
 
 -- src/lib.rt:109:9
 returns : tie.Need-returns
-returns c = (le-refl _, all-stable (decode (c .before .before .before .before .before .args .level) (drop (c .before .before .before .before .before .args .place) (now (c .before .before .before .before .before .args .q))) (drop (c .before .before .before .before .before .args .place) (now (c .before .before .before .before .before .args .z)))) (c .before .before .before .before .before .args .ranges) (now (c .before .before .before .before .before .args .q)))
+returns c =
+    let c₅ = c .before .before .before .before .before in let args = c₅ .args in
+    let q = now (args .q) in let place = args .place in
+    (le-refl _, all-stable (decode (args .level) (drop place q) (drop place (now (args .z)))) (args .ranges) q)
 
 -- src/lib.rt:112:28
 slice-aggregate-bind-ranges : tie.Need-slice-aggregate-bind-ranges
@@ -53,7 +56,12 @@ stage-requires c κs = search needs
 
 -- src/lib.rt:95:1
 returns-2 : tie.Need-returns-2
-returns-2 c = (c .before .stage .ensures .0, subst₂ (λ (a b : List ℕ). Stable (decode (c .before .before .before .before .before .before .before .before .before .before .before .before .before .args .level) a b) (c .before .stage .result) (rangesAt (c .before .before .before .before .before .before .before .before .before .before .before .before .before .args .ranges) (now (c .before .before .before .before .before .before .before .before .before .before .before .before .before .args .q)))) (c .before .before .before .before .tail .ensures) (c .before .before .before .tail-sizes .ensures) (c .before .stage .ensures .1 .0))
+returns-2 c =
+    let c₁ = c .before in let stage = c₁ .stage in
+    let c₃ = c₁ .before .before in let tail-sizes = c₃ .tail-sizes in
+    let c₄ = c₃ .before in let tail = c₄ .tail in
+    let c₁₃ = c₄ .before .before .before .before .before .before .before .before .before in let args = c₁₃ .args in
+    (stage .ensures .0, subst₂ (λ (a b : List ℕ). Stable (decode (args .level) a b) (stage .result) (rangesAt (args .ranges) (now (args .q)))) (tail .ensures) (tail-sizes .ensures) (stage .ensures .1 .0))
 
 pub stage-at-spec : {M : Type 1} → statement M
 stage-at-spec =

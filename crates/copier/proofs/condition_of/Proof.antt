@@ -35,7 +35,11 @@ head-requires : tie.Need-head-requires
 head-requires c κs = search needs
 
 returns : tie.Need-returns
-returns c = part-is (now (c .before .before .before .before .before .before .before .args .permits)) (now (c .before .before .before .before .before .before .before .args .places)) (c .before .before .before .before .before .before .before .args .k) _ _ _ _ _ (ap (λ (i : ℕ). 2 * i) (c .before .before .before .before .wide .ensures .0)) (c .before .before .before .place .ensures) (c .before .place2 .ensures) (c .before .before .tail .ensures) (c .head .ensures)
+returns c =
+    let c₃ = c .before .before .before in let place = c₃ .place in
+    let c₄ = c₃ .before in let wide = c₄ .wide in
+    let c₇ = c₄ .before .before .before in let args = c₇ .args in
+    part-is (now (args .permits)) (now (args .places)) (args .k) _ _ _ _ _ (ap (λ (i : ℕ). 2 * i) (wide .ensures .0)) (place .ensures) (c .before .place2 .ensures) (c .before .before .tail .ensures) (c .head .ensures)
 
 pub condition-of-spec : {M : Type 1} → statement M
 condition-of-spec =

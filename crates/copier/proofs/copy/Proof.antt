@@ -36,7 +36,12 @@ loop-less : tie.Need-loop-less Inv-loop μ-loop
 loop-less c = omega arith
 
 loop-again : tie.Need-loop-again Inv-loop μ-loop
-loop-again c = (turn (now (c .before .before .before .before .before .before .before .before .before .args .out)) (now (c .before .before .before .before .before .before .before .before .before .args .src)) (c .before .before .before .before .before .before .loop .out) (c .before .before .before .before .before .before .before .before .before .args .at) (c .before .before .before .before .before .before .loop .i) (c .before .before .put .last .0) (c .before .before .before .before .before .loop-test .taken) (c .before .before .before .before .before .before .loop .inv .0) (c .before .before .put .ensures .1), omega arith, c .before .before .put .kept .0 ∙ c .before .before .before .before .before .before .loop .inv .2)
+loop-again c =
+    let c₂ = c .before .before in let put = c₂ .put in
+    let c₅ = c₂ .before .before .before in let loop-test = c₅ .loop-test in
+    let c₆ = c₅ .before in let loop = c₆ .loop in
+    let c₉ = c₆ .before .before .before in let args = c₉ .args in
+    (turn (now (args .out)) (now (args .src)) (loop .out) (args .at) (loop .i) (put .last .0) (loop-test .taken) (loop .inv .0) (put .ensures .1), omega arith, put .kept .0 ∙ loop .inv .2)
 
 add-result : tie.Need-add-result Inv-loop μ-loop
 add-result c = omega arith
@@ -45,7 +50,10 @@ same-length : tie.Need-same-length Inv-loop μ-loop
 same-length c = c .before .loop .inv .2
 
 returns : tie.Need-returns Inv-loop μ-loop
-returns c = (omega arith, done (now (c .before .before .before .before .args .out)) (now (c .before .before .before .before .args .src)) (c .before .loop .out) (c .before .before .before .before .args .at) (c .before .loop .i) (omega arith) (c .before .loop .inv .0))
+returns c =
+    let c₁ = c .before in let loop = c₁ .loop in
+    let c₄ = c₁ .before .before .before in let args = c₄ .args in
+    (omega arith, done (now (args .out)) (now (args .src)) (loop .out) (args .at) (loop .i) (omega arith) (loop .inv .0))
 
 pub copy-spec : {M : Type 1} → statement M
 copy-spec =

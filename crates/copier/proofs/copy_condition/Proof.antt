@@ -37,7 +37,12 @@ renamed-requires : tie.Need-renamed-requires Inv-loop μ-loop
 renamed-requires c κs = search needs
 
 put-record-requires : tie.Need-put-record-requires Inv-loop μ-loop
-put-record-requires c κs = copy-room (now (c .before .before .before .before .before .before .before .before .args .condition)) (c .before .before .before .before .before .before .before .before .args .variable) (c .before .before .before .before .before .before .before .before .args .next) (c .before .before .before .before .before .loop .i) _ (c .before .before .before .before .loop-test .taken) refl _ (c .before .before .before .tail .ensures) _ (c .renamed .result) (c .before .before .read .ensures) (c .renamed .ensures) (now (c .before .before .before .before .before .before .before .before .args .out)) (c .before .before .before .before .before .before .before .before .args .at) (c .before .before .before .before .before .loop .out) (c .before .before .before .before .before .loop .to) (c .before .before .before .before .before .loop .inv .0) (c .before .before .before .before .before .before .before .before .pre .0)
+put-record-requires c κs =
+    let c₃ = c .before .before .before in let tail = c₃ .tail in
+    let c₄ = c₃ .before in let loop-test = c₄ .loop-test in
+    let c₅ = c₄ .before in let loop = c₅ .loop in
+    let c₈ = c₅ .before .before .before in let args = c₈ .args in let pre = c₈ .pre in
+    copy-room (now (args .condition)) (args .variable) (args .next) (loop .i) _ (loop-test .taken) refl _ (tail .ensures) _ (c .renamed .result) (c .before .before .read .ensures) (c .renamed .ensures) (now (args .out)) (args .at) (loop .out) (loop .to) (loop .inv .0) (pre .0)
 
 step-requires : tie.Need-step-requires Inv-loop μ-loop
 step-requires c κs = search needs
@@ -49,13 +54,25 @@ loop-less : tie.Need-loop-less Inv-loop μ-loop
 loop-less c = search needs
 
 loop-again : tie.Need-loop-again Inv-loop μ-loop
-loop-again c = (copy-turn (now (c .before .before .before .before .before .before .before .before .before .before .before .before .args .condition)) (c .before .before .before .before .before .before .before .before .before .before .before .before .args .variable) (c .before .before .before .before .before .before .before .before .before .before .before .before .args .next) (c .before .before .before .before .before .before .before .before .before .loop .i) _ (c .before .before .before .before .before .before .before .before .loop-test .taken) (c .step .ensures .0) _ (c .before .before .before .before .before .before .before .tail .ensures) _ (c .before .before .before .before .renamed .result) (c .before .before .before .before .before .before .read .ensures) (c .before .before .before .before .renamed .ensures) (now (c .before .before .before .before .before .before .before .before .before .before .before .before .args .out)) (c .before .before .before .before .before .before .before .before .before .before .before .before .args .at) (c .before .before .before .before .before .before .before .before .before .loop .out) (c .before .before .before .before .before .before .before .before .before .loop .to) (c .before .before .before .before .before .before .before .before .before .loop .inv .0) _ _ (c .before .before .before .put-record .ensures), c .before .before .before .put-record .kept .0 ∙ c .before .before .before .before .before .before .before .before .before .loop .inv .1)
+loop-again c =
+    let c₃ = c .before .before .before in let put-record = c₃ .put-record in
+    let c₄ = c₃ .before in let renamed = c₄ .renamed in
+    let c₆ = c₄ .before .before in let read = c₆ .read in
+    let c₇ = c₆ .before in let tail = c₇ .tail in
+    let c₈ = c₇ .before in let loop-test = c₈ .loop-test in
+    let c₉ = c₈ .before in let loop = c₉ .loop in
+    let c₁₂ = c₉ .before .before .before in let args = c₁₂ .args in
+    (copy-turn (now (args .condition)) (args .variable) (args .next) (loop .i) _ (loop-test .taken) (c .step .ensures .0) _ (tail .ensures) _ (renamed .result) (read .ensures) (renamed .ensures) (now (args .out)) (args .at) (loop .out) (loop .to) (loop .inv .0) _ _ (put-record .ensures), put-record .kept .0 ∙ loop .inv .1)
 
 same-length : tie.Need-same-length Inv-loop μ-loop
 same-length c = c .before .loop .inv .1
 
 returns : tie.Need-returns Inv-loop μ-loop
-returns c = left-end (now (c .before .before .before .before .args .out)) (c .before .before .before .before .args .at) (copiedBytes (now (c .before .before .before .before .args .condition)) (c .before .before .before .before .args .variable) (c .before .before .before .before .args .next)) (c .before .loop .out) (c .before .loop .to) _ (copy-end (now (c .before .before .before .before .args .condition)) (c .before .before .before .before .args .variable) (c .before .before .before .before .args .next) (c .before .loop .i) (c .loop-test .left)) (c .before .loop .inv .0)
+returns c =
+    let c₁ = c .before in let loop = c₁ .loop in
+    let c₄ = c₁ .before .before .before in let args = c₄ .args in
+    let condition = now (args .condition) in let next = args .next in let variable = args .variable in
+    left-end (now (args .out)) (args .at) (copiedBytes condition variable next) (loop .out) (loop .to) _ (copy-end condition variable next (loop .i) (c .loop-test .left)) (loop .inv .0)
 
 pub copy-condition-spec : {M : Type 1} → statement M
 copy-condition-spec =

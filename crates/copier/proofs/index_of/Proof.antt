@@ -33,7 +33,12 @@ binds-requires : tie.Need-binds-requires Inv-loop μ-loop
 binds-requires c κs = search needs
 
 returns : tie.Need-returns Inv-loop μ-loop
-returns c = index-found (now (c .before .before .before .before .before .before .args .q)) (c .before .before .before .before .loop .at) (c .before .before .before .loop-test .taken) (c .before .before .binding .result) (c .before .before .binding .ensures) (c .before .before .before .before .before .before .args .w) _ (c .if1 .taken) (c .before .binds .ensures) _ _ (c .before .before .before .before .loop .inv .0)
+returns c =
+    let c₂ = c .before .before in let binding = c₂ .binding in
+    let c₃ = c₂ .before in let loop-test = c₃ .loop-test in
+    let c₄ = c₃ .before in let loop = c₄ .loop in
+    let c₆ = c₄ .before .before in let args = c₆ .args in
+    index-found (now (args .q)) (loop .at) (loop-test .taken) (binding .result) (binding .ensures) (args .w) _ (c .if1 .taken) (c .before .binds .ensures) _ _ (loop .inv .0)
 
 binding-requires-2 : tie.Need-binding-requires-2 Inv-loop μ-loop
 binding-requires-2 c κs = search needs
@@ -54,7 +59,15 @@ loop-less : tie.Need-loop-less Inv-loop μ-loop
 loop-less c = search needs
 
 loop-again : tie.Need-loop-again Inv-loop μ-loop
-loop-again c = (index-on (now (c .before .before .before .before .before .before .before .before .before .args .q)) (c .before .before .before .before .before .before .before .loop .at) _ (c .before .before .before .before .before .before .loop-test .taken) (c .step .ensures .0) (c .before .before .before .before .before .binding .result) (c .before .before .before .before .before .binding .ensures) (c .before .before .before .before .before .before .before .before .before .args .w) _ (c .before .before .before .if1 .left) (c .before .before .before .before .binds .ensures) (c .before .before .binding2 .result) (c .before .before .binding2 .ensures) _ (c .before .before .before .before .before .before .before .loop .i) _ (c .before .one .ensures .0) (c .before .before .before .before .before .before .before .loop .inv .0), omega arith)
+loop-again c =
+    let c₂ = c .before .before in let binding2 = c₂ .binding2 in
+    let c₃ = c₂ .before in let if1 = c₃ .if1 in
+    let c₄ = c₃ .before in let binds = c₄ .binds in
+    let c₅ = c₄ .before in let binding = c₅ .binding in
+    let c₆ = c₅ .before in let loop-test = c₆ .loop-test in
+    let c₇ = c₆ .before in let loop = c₇ .loop in
+    let c₉ = c₇ .before .before in let args = c₉ .args in
+    (index-on (now (args .q)) (loop .at) _ (loop-test .taken) (c .step .ensures .0) (binding .result) (binding .ensures) (args .w) _ (if1 .left) (binds .ensures) (binding2 .result) (binding2 .ensures) _ (loop .i) _ (c .before .one .ensures .0) (loop .inv .0), omega arith)
 
 returns-2 : tie.Need-returns-2 Inv-loop μ-loop
 returns-2 c = index-end (now (c .before .before .before .args .q)) (c .before .loop .at) (c .loop-test .left) (c .before .before .before .args .w) _ _ (c .before .loop .inv .0)

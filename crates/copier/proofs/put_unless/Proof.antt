@@ -21,7 +21,10 @@ same-length : tie.Need-same-length
 same-length c = search needs
 
 returns-2 : tie.Need-returns-2
-returns-2 c = wrote-as (now (c .before .before .before .before .before .before .args .out)) (c .before .before .before .before .before .before .args .at) _ _ _ _ (something-is (c .before .before .before .before .before .before .args .mask) ((c .before .before .before .before .before .before .args .b) ∷ []) (c .before .before .before .before .if1 .left)) (c .before .before .put .ensures)
+returns-2 c =
+    let c₄ = c .before .before .before .before in let if1 = c₄ .if1 in
+    let c₆ = c₄ .before .before in let args = c₆ .args in
+    wrote-as (now (args .out)) (args .at) _ _ _ _ (something-is (args .mask) ((args .b) ∷ []) (if1 .left)) (c .before .before .put .ensures)
 
 pub put-unless-spec : {M : Type 1} → statement M
 put-unless-spec = tie.close (tie.spec returns put-requires same-length returns-2)

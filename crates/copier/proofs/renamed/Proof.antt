@@ -27,13 +27,19 @@ number-requires-3 : tie.Need-number-requires-3
 number-requires-3 c κs = search needs
 
 returns : tie.Need-returns
-returns c = some-renamed (numberIn (now (c .before .before .before .before .before .args .q)) (c .before .before .before .before .before .args .variable) (c .before .before .before .before .before .args .next)) _ _ _ (c .number .ensures) _ (c .before .before .item .given .1)
+returns c =
+    let c₅ = c .before .before .before .before .before in let args = c₅ .args in
+    some-renamed (numberIn (now (args .q)) (args .variable) (args .next)) _ _ _ (c .number .ensures) _ (c .before .before .item .given .1)
 
 returns-2 : tie.Need-returns-2
-returns-2 c = attribute-renamed (numberIn (now (c .before .before .before .before .before .args .q)) (c .before .before .before .before .before .args .variable) (c .before .before .before .before .before .args .next)) _ _ _ (c .number2 .ensures) _ (c .before .before .item2 .given .1)
+returns-2 c =
+    let c₅ = c .before .before .before .before .before in let args = c₅ .args in
+    attribute-renamed (numberIn (now (args .q)) (args .variable) (args .next)) _ _ _ (c .number2 .ensures) _ (c .before .before .item2 .given .1)
 
 returns-3 : tie.Need-returns-3
-returns-3 c = aggregate-renamed (numberIn (now (c .before .before .before .before .before .args .q)) (c .before .before .before .before .before .args .variable) (c .before .before .before .before .before .args .next)) _ _ _ (c .number3 .ensures) _ _ _ (c .before .before .item3 .given .1)
+returns-3 c =
+    let c₅ = c .before .before .before .before .before in let args = c₅ .args in
+    aggregate-renamed (numberIn (now (args .q)) (args .variable) (args .next)) _ _ _ (c .number3 .ensures) _ _ _ (c .before .before .item3 .given .1)
 
 returns-4 : tie.Need-returns-4
 returns-4 c = unnamed (c .before .before .args .item) (numberIn (now (c .before .before .args .q)) (c .before .before .args .variable) (c .before .before .args .next)) (c .match .keys4)

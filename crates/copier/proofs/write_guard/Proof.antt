@@ -20,13 +20,18 @@ abbrev μ-loop : tie.MeasureT-loop
 μ-loop out₀ at permits places mask variable next m₀ k₀ to₀ n₀ out m k to n = m
 
 loop-holds : tie.Need-loop-holds Inv-loop μ-loop
-loop-holds c = (state-start (now (c .before .before .before .args .out)) (c .before .before .before .args .at) (c .before .before .before .args .mask) (part (now (c .before .before .before .args .permits)) (now (c .before .before .before .args .places))) (c .before .before .before .args .variable) (c .before .before .before .args .next), refl)
+loop-holds c =
+    let c₃ = c .before .before .before in let args = c₃ .args in
+    (state-start (now (args .out)) (args .at) (args .mask) (part (now (args .permits)) (now (args .places))) (args .variable) (args .next), refl)
 
 condition-of-requires : tie.Need-condition-of-requires Inv-loop μ-loop
 condition-of-requires c κs = search needs
 
 write-turn-requires : tie.Need-write-turn-requires Inv-loop μ-loop
-write-turn-requires c κs = state-room (now (c .before .before .before .before .before .before .before .args .out)) (c .before .before .before .before .before .before .before .args .at) (c .before .before .before .before .before .before .before .args .mask) (part (now (c .before .before .before .before .before .before .before .args .permits)) (now (c .before .before .before .before .before .before .before .args .places))) (c .before .before .before .before .before .before .before .args .variable) (c .before .before .before .before .before .before .before .args .next) (c .before .before .before .loop .out) (c .before .before .before .loop .to) (c .before .before .before .loop .m) (c .before .before .before .loop .k) (c .before .before .before .loop .n) (c .before .before .before .loop .inv .0) (c .before .before .loop-test .taken) (now (c .condition-of .result)) (c .condition-of .ensures) (c .before .before .before .before .before .before .before .pre .0) (c .before .before .before .before .before .before .before .pre .1)
+write-turn-requires c κs =
+    let c₃ = c .before .before .before in let loop = c₃ .loop in
+    let c₇ = c₃ .before .before .before .before in let args = c₇ .args in let pre = c₇ .pre in
+    state-room (now (args .out)) (args .at) (args .mask) (part (now (args .permits)) (now (args .places))) (args .variable) (args .next) (loop .out) (loop .to) (loop .m) (loop .k) (loop .n) (loop .inv .0) (c .before .before .loop-test .taken) (now (c .condition-of .result)) (c .condition-of .ensures) (pre .0) (pre .1)
 
 add-k : tie.Need-add-k Inv-loop μ-loop
 add-k c = omega (arith, c .before .before .before .before .before .before .loop .inv .0 .2, c .before .before .before .before .before .loop-test .taken)
@@ -35,13 +40,22 @@ loop-less : tie.Need-loop-less Inv-loop μ-loop
 loop-less c = omega (arith, c .before .before .before .before .before .before .loop .inv .0 .2, c .before .before .before .before .before .loop-test .taken)
 
 loop-again : tie.Need-loop-again Inv-loop μ-loop
-loop-again c = (state-again (now (c .before .before .before .before .before .before .before .before .before .before .args .out)) (c .before .before .before .before .before .before .before .before .before .before .args .at) (c .before .before .before .before .before .before .before .before .before .before .args .mask) (part (now (c .before .before .before .before .before .before .before .before .before .before .args .permits)) (now (c .before .before .before .before .before .before .before .before .before .before .args .places))) (c .before .before .before .before .before .before .before .before .before .before .args .variable) (c .before .before .before .before .before .before .before .before .before .before .args .next) (c .before .before .before .before .before .before .loop .out) (c .before .before .before .before .before .before .loop .to) (c .before .before .before .before .before .before .loop .m) (c .before .before .before .before .before .before .loop .k) (c .before .before .before .before .before .before .loop .n) (c .before .before .before .before .before .before .loop .inv .0) (c .before .before .before .before .before .loop-test .taken) (now (c .before .before .before .condition-of .result)) (c .before .before .before .condition-of .ensures) _ _ _ (c .before .before .write-turn .ensures), c .before .before .write-turn .kept .0 ∙ c .before .before .before .before .before .before .loop .inv .1)
+loop-again c =
+    let c₂ = c .before .before in let write-turn = c₂ .write-turn in
+    let c₃ = c₂ .before in let condition-of = c₃ .condition-of in
+    let c₅ = c₃ .before .before in let loop-test = c₅ .loop-test in
+    let c₆ = c₅ .before in let loop = c₆ .loop in
+    let c₁₀ = c₆ .before .before .before .before in let args = c₁₀ .args in
+    (state-again (now (args .out)) (args .at) (args .mask) (part (now (args .permits)) (now (args .places))) (args .variable) (args .next) (loop .out) (loop .to) (loop .m) (loop .k) (loop .n) (loop .inv .0) (loop-test .taken) (now (condition-of .result)) (condition-of .ensures) _ _ _ (write-turn .ensures), write-turn .kept .0 ∙ loop .inv .1)
 
 same-length : tie.Need-same-length Inv-loop μ-loop
 same-length c = c .before .loop .inv .1
 
 returns : tie.Need-returns Inv-loop μ-loop
-returns c = state-end (now (c .before .before .before .before .before .args .out)) (c .before .before .before .before .before .args .at) (c .before .before .before .before .before .args .mask) (part (now (c .before .before .before .before .before .args .permits)) (now (c .before .before .before .before .before .args .places))) (c .before .before .before .before .before .args .variable) (c .before .before .before .before .before .args .next) (c .before .loop .out) (c .before .loop .to) (c .before .loop .m) (c .before .loop .k) (c .before .loop .n) (c .before .loop .inv .0) (c .loop-test .left)
+returns c =
+    let c₁ = c .before in let loop = c₁ .loop in
+    let c₅ = c₁ .before .before .before .before in let args = c₅ .args in
+    state-end (now (args .out)) (args .at) (args .mask) (part (now (args .permits)) (now (args .places))) (args .variable) (args .next) (loop .out) (loop .to) (loop .m) (loop .k) (loop .n) (loop .inv .0) (c .loop-test .left)
 
 pub write-guard-spec : {M : Type 1} → statement M
 write-guard-spec =

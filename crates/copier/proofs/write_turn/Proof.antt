@@ -11,25 +11,42 @@ use Rattle.copier.proofs.put_unless.Reads as put-unless-reads
 use Rattle.scans.proofs.count_bindings.Reads as count-bindings-reads
 
 returns : tie.Need-returns
-returns c = turn-not (now (c .before .before .before .args .out)) (now (c .before .before .before .args .condition)) (c .before .before .before .args .at) (c .before .before .before .args .mask) (c .before .before .before .args .variable) (c .before .before .before .args .next) (c .if1 .taken)
+returns c =
+    let c₃ = c .before .before .before in let args = c₃ .args in
+    turn-not (now (args .out)) (now (args .condition)) (args .at) (args .mask) (args .variable) (args .next) (c .if1 .taken)
 
 put-unless-requires : tie.Need-put-unless-requires
-put-unless-requires c κs = turn-first (now (c .before .before .before .before .args .condition)) (c .before .before .before .before .args .mask) (c .before .before .before .before .args .variable) (c .before .before .before .before .args .next) (c .before .if1 .left) (c .before .before .before .before .args .at) (c .before .before .before .before .pre .0)
+put-unless-requires c κs =
+    let c₄ = c .before .before .before .before in let args = c₄ .args in let pre = c₄ .pre in
+    turn-first (now (args .condition)) (args .mask) (args .variable) (args .next) (c .before .if1 .left) (args .at) (pre .0)
 
 copy-condition-requires : tie.Need-copy-condition-requires
-copy-condition-requires c κs = turn-second (now (c .before .before .before .before .before .before .before .before .args .condition)) (c .before .before .before .before .before .before .before .before .args .mask) (c .before .before .before .before .before .before .before .before .args .variable) (c .before .before .before .before .before .before .before .before .args .next) (c .before .before .before .before .before .if1 .left) (now (c .before .before .before .before .before .before .before .before .args .out)) (c .before .before .before .before .before .before .before .before .args .at) _ _ (c .before .before .before .put-unless .ensures) (c .before .before .before .before .before .before .before .before .pre .0) (c .before .before .before .before .before .before .before .before .pre .1)
+copy-condition-requires c κs =
+    let c₃ = c .before .before .before in let put-unless = c₃ .put-unless in
+    let c₅ = c₃ .before .before in let if1 = c₅ .if1 in
+    let c₈ = c₅ .before .before .before in let args = c₈ .args in let pre = c₈ .pre in
+    turn-second (now (args .condition)) (args .mask) (args .variable) (args .next) (if1 .left) (now (args .out)) (args .at) _ _ (put-unless .ensures) (pre .0) (pre .1)
 
 count-bindings-requires : tie.Need-count-bindings-requires
 count-bindings-requires c κs = search needs
 
 add-t16 : tie.Need-add-t16
-add-t16 c = omega (arith, c .count-bindings .ensures, turn-second (now (c .before .before .before .before .before .before .before .before .before .before .before .before .args .condition)) (c .before .before .before .before .before .before .before .before .before .before .before .before .args .mask) (c .before .before .before .before .before .before .before .before .before .before .before .before .args .variable) (c .before .before .before .before .before .before .before .before .before .before .before .before .args .next) (c .before .before .before .before .before .before .before .before .before .if1 .left) (now (c .before .before .before .before .before .before .before .before .before .before .before .before .args .out)) (c .before .before .before .before .before .before .before .before .before .before .before .before .args .at) (c .before .before .before .before .before .before .before .put-unless .last .0) (c .before .before .before .before .before .before .before .put-unless .result) (c .before .before .before .before .before .before .before .put-unless .ensures) (c .before .before .before .before .before .before .before .before .before .before .before .before .pre .0) (c .before .before .before .before .before .before .before .before .before .before .before .before .pre .1) .1)
+add-t16 c =
+    let c₇ = c .before .before .before .before .before .before .before in let put-unless = c₇ .put-unless in
+    let c₉ = c₇ .before .before in let if1 = c₉ .if1 in
+    let c₁₂ = c₉ .before .before .before in let args = c₁₂ .args in let pre = c₁₂ .pre in
+    omega (arith, c .count-bindings .ensures, turn-second (now (args .condition)) (args .mask) (args .variable) (args .next) (if1 .left) (now (args .out)) (args .at) (put-unless .last .0) (put-unless .result) (put-unless .ensures) (pre .0) (pre .1) .1)
 
 same-length : tie.Need-same-length
 same-length c = search needs
 
 returns-2 : tie.Need-returns-2
-returns-2 c = turn-done (now (c .before .before .before .before .before .before .before .before .before .before .before .before .args .condition)) (c .before .before .before .before .before .before .before .before .before .before .before .before .args .mask) (c .before .before .before .before .before .before .before .before .before .before .before .before .args .variable) (c .before .before .before .before .before .before .before .before .before .before .before .before .args .next) (c .before .before .before .before .before .before .before .before .before .if1 .left) (now (c .before .before .before .before .before .before .before .before .before .before .before .before .args .out)) (c .before .before .before .before .before .before .before .before .before .before .before .before .args .at) _ _ (c .before .before .before .before .before .before .before .put-unless .ensures) _ _ _ (c .before .before .before .copy-condition .ensures) (c .count-bindings .ensures)
+returns-2 c =
+    let c₃ = c .before .before .before in let copy-condition = c₃ .copy-condition in
+    let c₇ = c₃ .before .before .before .before in let put-unless = c₇ .put-unless in
+    let c₉ = c₇ .before .before in let if1 = c₉ .if1 in
+    let c₁₂ = c₉ .before .before .before in let args = c₁₂ .args in
+    turn-done (now (args .condition)) (args .mask) (args .variable) (args .next) (if1 .left) (now (args .out)) (args .at) _ _ (put-unless .ensures) _ _ _ (copy-condition .ensures) (c .count-bindings .ensures)
 
 pub write-turn-spec : {M : Type 1} → statement M
 write-turn-spec =

@@ -104,7 +104,9 @@ abbrev term-claims : ℕ → term-lts.Claims
 term-claims t = (whole-reads.Asked, whole-reads.Learnt, byte-reads.Asked, byte-reads.Learnt, record-length-reads.Asked, record-length-reads.Learnt, read-reads.Asked, read-reads.Learnt, constant-reads.Asked, constant-reads.Learnt, place-reads.Asked, place-reads.Learnt, cell-reads.Asked, cell-reads.Learnt, knows-reads.Asked, knows-reads.Learnt, recall-reads.Asked, recall-reads.Learnt, tail-reads.Asked, tail-reads.Learnt, tail-sizes-reads.Asked, tail-sizes-reads.Learnt, gather-below t, gather.Post, finish-reads.Asked, finish-reads.Learnt)
 
 condition-returns : (t : ℕ) → condition-lts.Need-returns (condition-claims t) (condition-at t) condition.Post
-condition-returns t c = (holds-zero (now (c .before .before .before .before .before .args .cb)) (now (c .before .before .before .before .before .args .vs)) (now (c .before .before .before .before .before .args .memo)) (now (c .before .before .before .before .before .args .env)) (now (c .before .before .before .before .before .args .q)) (now (c .before .before .before .before .before .args .z)) (c .before .before .before .before .before .args .level) (c .if1 .taken), search needs)
+condition-returns t c =
+    let c₅ = c .before .before .before .before .before in let args = c₅ .args in
+    (holds-zero (now (args .cb)) (now (args .vs)) (now (args .memo)) (now (args .env)) (now (args .q)) (now (args .z)) (args .level) (c .if1 .taken), search needs)
 
 condition-sub-l : (t : ℕ) → condition-lts.Need-sub-l (condition-claims t) (condition-at t) condition.Post
 condition-sub-l t c = search needs
@@ -149,7 +151,17 @@ condition-same-length : (t : ℕ) → condition-lts.Need-same-length (condition-
 condition-same-length t c = search needs
 
 condition-returns-2 : (t : ℕ) → condition-lts.Need-returns-2 (condition-claims t) (condition-at t) condition.Post
-condition-returns-2 t c = (and-no (now (c .before .before .before .before .before .before .before .before .before .before .before .before .before .before .before .before .before .args .cb)) (now (c .before .before .before .before .before .before .before .before .before .before .before .before .before .before .before .before .before .args .vs)) (now (c .before .before .before .before .before .before .before .before .before .before .before .before .before .before .before .before .before .args .memo)) (now (c .before .before .before .before .before .before .before .before .before .before .before .before .before .before .before .before .before .args .env)) (now (c .before .before .before .before .before .before .before .before .before .before .before .before .before .before .before .before .before .args .q)) (now (c .before .before .before .before .before .before .before .before .before .before .before .before .before .before .before .before .before .args .z)) (c .before .before .before .before .before .before .before .before .before .before .before .before .before .before .before .before .before .args .level) _ _ _ (c .before .before .before .before .before .before .before .before .before .before .before .before .if1 .left) (c .before .before .before .before .before .before .before .before .before .before .before .byte .ensures) (c .before .before .before .before .before .before .before .before .before .before .record-length .ensures .0) (c .before .before .before .before .before .before .before .before .before .read .ensures) _ _ (c .before .before .before .before .before .before .tail2 .ensures) (c .before .before .before .before .before .tail-sizes2 .ensures) _ (c .before .before .before .before .before .before .before .enum-told3 .given .1) (c .before .before .before .condition2 .ensures .0) (c .if2 .taken), c .before .before .before .condition2 .ensures .1)
+condition-returns-2 t c =
+    let c₃ = c .before .before .before in let condition2 = c₃ .condition2 in
+    let c₅ = c₃ .before .before in let tail-sizes2 = c₅ .tail-sizes2 in
+    let c₆ = c₅ .before in let tail2 = c₆ .tail2 in
+    let c₇ = c₆ .before in let enum-told3 = c₇ .enum-told3 in
+    let c₉ = c₇ .before .before in let read = c₉ .read in
+    let c₁₀ = c₉ .before in let record-length = c₁₀ .record-length in
+    let c₁₁ = c₁₀ .before in let byte = c₁₁ .byte in
+    let c₁₂ = c₁₁ .before in let if1 = c₁₂ .if1 in
+    let c₁₇ = c₁₂ .before .before .before .before .before in let args = c₁₇ .args in
+    (and-no (now (args .cb)) (now (args .vs)) (now (args .memo)) (now (args .env)) (now (args .q)) (now (args .z)) (args .level) _ _ _ (if1 .left) (byte .ensures) (record-length .ensures .0) (read .ensures) _ _ (tail2 .ensures) (tail-sizes2 .ensures) _ (enum-told3 .given .1) (condition2 .ensures .0) (c .if2 .taken), condition2 .ensures .1)
 
 condition-size-at-requires : (t : ℕ) → condition-lts.Need-size-at-requires (condition-claims t) (condition-at t) condition.Post
 condition-size-at-requires t c κs = search needs
@@ -182,7 +194,17 @@ condition-same-length-2 : (t : ℕ) → condition-lts.Need-same-length-2 (condit
 condition-same-length-2 t c = search needs
 
 condition-returns-3 : (t : ℕ) → condition-lts.Need-returns-3 (condition-claims t) (condition-at t) condition.Post
-condition-returns-3 t c = (or-yes (now (c .before .before .before .before .before .before .before .before .before .before .before .before .before .before .before .before .before .args .cb)) (now (c .before .before .before .before .before .before .before .before .before .before .before .before .before .before .before .before .before .args .vs)) (now (c .before .before .before .before .before .before .before .before .before .before .before .before .before .before .before .before .before .args .memo)) (now (c .before .before .before .before .before .before .before .before .before .before .before .before .before .before .before .before .before .args .env)) (now (c .before .before .before .before .before .before .before .before .before .before .before .before .before .before .before .before .before .args .q)) (now (c .before .before .before .before .before .before .before .before .before .before .before .before .before .before .before .before .before .args .z)) (c .before .before .before .before .before .before .before .before .before .before .before .before .before .before .before .before .before .args .level) _ _ _ (c .before .before .before .before .before .before .before .before .before .before .before .before .if1 .left) (c .before .before .before .before .before .before .before .before .before .before .before .byte .ensures) (c .before .before .before .before .before .before .before .before .before .before .record-length .ensures .0) (c .before .before .before .before .before .before .before .before .before .read .ensures) _ _ (c .before .before .before .before .before .before .tail4 .ensures) (c .before .before .before .before .before .tail-sizes4 .ensures) _ (c .before .before .before .before .before .before .before .enum-told4 .given .1) (c .before .before .before .condition4 .ensures .0) (c .if3 .taken), c .before .before .before .condition4 .ensures .1)
+condition-returns-3 t c =
+    let c₃ = c .before .before .before in let condition4 = c₃ .condition4 in
+    let c₅ = c₃ .before .before in let tail-sizes4 = c₅ .tail-sizes4 in
+    let c₆ = c₅ .before in let tail4 = c₆ .tail4 in
+    let c₇ = c₆ .before in let enum-told4 = c₇ .enum-told4 in
+    let c₉ = c₇ .before .before in let read = c₉ .read in
+    let c₁₀ = c₉ .before in let record-length = c₁₀ .record-length in
+    let c₁₁ = c₁₀ .before in let byte = c₁₁ .byte in
+    let c₁₂ = c₁₁ .before in let if1 = c₁₂ .if1 in
+    let c₁₇ = c₁₂ .before .before .before .before .before in let args = c₁₇ .args in
+    (or-yes (now (args .cb)) (now (args .vs)) (now (args .memo)) (now (args .env)) (now (args .q)) (now (args .z)) (args .level) _ _ _ (if1 .left) (byte .ensures) (record-length .ensures .0) (read .ensures) _ _ (tail4 .ensures) (tail-sizes4 .ensures) _ (enum-told4 .given .1) (condition4 .ensures .0) (c .if3 .taken), condition4 .ensures .1)
 
 condition-size-at-requires-2 : (t : ℕ) → condition-lts.Need-size-at-requires-2 (condition-claims t) (condition-at t) condition.Post
 condition-size-at-requires-2 t c κs = search needs
@@ -224,7 +246,11 @@ condition-tail-sizes-requires-7 : (t : ℕ) → condition-lts.Need-tail-sizes-re
 condition-tail-sizes-requires-7 t c κs = search needs
 
 condition-term-requires-2 : (t : ℕ) → condition-lts.Need-term-requires-2 (condition-claims t) (condition-at t) condition.Post
-condition-term-requires-2 t c κs = (omega (arith, c .before .before .before .before .before .before .before .before .before .before .before .before .before .before .before .before .before .before .before .before .before .pre .0, c .before .before .before .before .before .before .before .before .before .before .before .before .before .before .before .before .if1 .left), omega (arith, c .before .before .before .before .before .before .before .before .before .before .before .before .before .before .before .before .before .before .before .before .before .pre .1, ap length (c .before .before .before .before .before .before .term .ensures .1 .1)))
+condition-term-requires-2 t c κs =
+    let c₆ = c .before .before .before .before .before .before in let term = c₆ .term in
+    let c₁₆ = c₆ .before .before .before .before .before .before .before .before .before .before in let if1 = c₁₆ .if1 in
+    let c₂₁ = c₁₆ .before .before .before .before .before in let pre = c₂₁ .pre in
+    (omega (arith, pre .0, if1 .left), omega (arith, pre .1, ap length (term .ensures .1 .1)))
 
 condition-compare-requires : (t : ℕ) → condition-lts.Need-compare-requires (condition-claims t) (condition-at t) condition.Post
 condition-compare-requires t c κs = search needs
@@ -242,40 +268,112 @@ condition-some-row-requires : (t : ℕ) → condition-lts.Need-some-row-requires
 condition-some-row-requires t c κs = search needs
 
 condition-returns-4 : (t : ℕ) → condition-lts.Need-returns-4 (condition-claims t) (condition-at t) condition.Post
-condition-returns-4 t c = (true-is (now (c .before .before .before .before .before .before .before .before .before .before .args .cb)) (now (c .before .before .before .before .before .before .before .before .before .before .args .vs)) (now (c .before .before .before .before .before .before .before .before .before .before .args .memo)) (now (c .before .before .before .before .before .before .before .before .before .before .args .env)) (now (c .before .before .before .before .before .before .before .before .before .before .args .q)) (now (c .before .before .before .before .before .before .before .before .before .before .args .z)) (c .before .before .before .before .before .before .before .before .before .before .args .level) _ _ _ (c .before .before .before .before .before .if1 .left) (c .before .before .before .before .byte .ensures) (c .before .before .before .record-length .ensures .0) (c .before .before .read .ensures) (c .enum-told .given .1), search needs)
+condition-returns-4 t c =
+    let c₃ = c .before .before .before in let record-length = c₃ .record-length in
+    let c₄ = c₃ .before in let byte = c₄ .byte in
+    let c₅ = c₄ .before in let if1 = c₅ .if1 in
+    let c₁₀ = c₅ .before .before .before .before .before in let args = c₁₀ .args in
+    (true-is (now (args .cb)) (now (args .vs)) (now (args .memo)) (now (args .env)) (now (args .q)) (now (args .z)) (args .level) _ _ _ (if1 .left) (byte .ensures) (record-length .ensures .0) (c .before .before .read .ensures) (c .enum-told .given .1), search needs)
 
 condition-same-length-3 : (t : ℕ) → condition-lts.Need-same-length-3 (condition-claims t) (condition-at t) condition.Post
 condition-same-length-3 t c = search needs
 
 condition-returns-5 : (t : ℕ) → condition-lts.Need-returns-5 (condition-claims t) (condition-at t) condition.Post
-condition-returns-5 t c = (not-is (now (c .before .before .before .before .before .before .before .before .before .before .before .before .before .before .before .before .args .cb)) (now (c .before .before .before .before .before .before .before .before .before .before .before .before .before .before .before .before .args .vs)) (now (c .before .before .before .before .before .before .before .before .before .before .before .before .before .before .before .before .args .memo)) (now (c .before .before .before .before .before .before .before .before .before .before .before .before .before .before .before .before .args .env)) (now (c .before .before .before .before .before .before .before .before .before .before .before .before .before .before .before .before .args .q)) (now (c .before .before .before .before .before .before .before .before .before .before .before .before .before .before .before .before .args .z)) (c .before .before .before .before .before .before .before .before .before .before .before .before .before .before .before .before .args .level) _ _ _ (c .before .before .before .before .before .before .before .before .before .before .before .if1 .left) (c .before .before .before .before .before .before .before .before .before .before .byte .ensures) (c .before .before .before .before .before .before .before .before .before .record-length .ensures .0) (c .before .before .before .before .before .before .before .before .read .ensures) _ _ (c .before .before .before .before .before .tail .ensures) (c .before .before .before .before .tail-sizes .ensures) _ (c .before .before .before .before .before .before .enum-told2 .given .1) (c .before .before .condition .ensures .0), c .before .before .condition .ensures .1)
+condition-returns-5 t c =
+    let c₂ = c .before .before in let condition = c₂ .condition in
+    let c₄ = c₂ .before .before in let tail-sizes = c₄ .tail-sizes in
+    let c₅ = c₄ .before in let tail = c₅ .tail in
+    let c₆ = c₅ .before in let enum-told2 = c₆ .enum-told2 in
+    let c₈ = c₆ .before .before in let read = c₈ .read in
+    let c₉ = c₈ .before in let record-length = c₉ .record-length in
+    let c₁₀ = c₉ .before in let byte = c₁₀ .byte in
+    let c₁₁ = c₁₀ .before in let if1 = c₁₁ .if1 in
+    let c₁₆ = c₁₁ .before .before .before .before .before in let args = c₁₆ .args in
+    (not-is (now (args .cb)) (now (args .vs)) (now (args .memo)) (now (args .env)) (now (args .q)) (now (args .z)) (args .level) _ _ _ (if1 .left) (byte .ensures) (record-length .ensures .0) (read .ensures) _ _ (tail .ensures) (tail-sizes .ensures) _ (enum-told2 .given .1) (condition .ensures .0), condition .ensures .1)
 
 condition-same-length-4 : (t : ℕ) → condition-lts.Need-same-length-4 (condition-claims t) (condition-at t) condition.Post
 condition-same-length-4 t c = search needs
 
 condition-returns-6 : (t : ℕ) → condition-lts.Need-returns-6 (condition-claims t) (condition-at t) condition.Post
-condition-returns-6 t c = (and-yes (now (c .before .before .before .before .before .before .before .before .before .before .before .before .before .before .before .before .before .before .before .before .before .before .before .before .args .cb)) (now (c .before .before .before .before .before .before .before .before .before .before .before .before .before .before .before .before .before .before .before .before .before .before .before .before .args .vs)) (now (c .before .before .before .before .before .before .before .before .before .before .before .before .before .before .before .before .before .before .before .before .before .before .before .before .args .memo)) (now (c .before .before .before .before .before .before .before .before .before .before .before .before .before .before .before .before .before .before .before .before .before .before .before .before .args .env)) (now (c .before .before .before .before .before .before .before .before .before .before .before .before .before .before .before .before .before .before .before .before .before .before .before .before .args .q)) (now (c .before .before .before .before .before .before .before .before .before .before .before .before .before .before .before .before .before .before .before .before .before .before .before .before .args .z)) (c .before .before .before .before .before .before .before .before .before .before .before .before .before .before .before .before .before .before .before .before .before .before .before .before .args .level) _ _ _ (c .before .before .before .before .before .before .before .before .before .before .before .before .before .before .before .before .before .before .before .if1 .left) (c .before .before .before .before .before .before .before .before .before .before .before .before .before .before .before .before .before .before .byte .ensures) (c .before .before .before .before .before .before .before .before .before .before .before .before .before .before .before .before .before .record-length .ensures .0) (c .before .before .before .before .before .before .before .before .before .before .before .before .before .before .before .before .read .ensures) _ _ (c .before .before .before .before .before .before .before .before .before .before .before .before .before .tail2 .ensures) (c .before .before .before .before .before .before .before .before .before .before .before .before .tail-sizes2 .ensures) _ _ _ _ (c .before .before .before .before .before .before .size-at .ensures .0) refl (c .before .before .before .before .before .tail3 .ensures) (c .before .before .before .before .tail-sizes3 .ensures) _ _ _ (c .before .before .before .before .before .before .before .before .before .before .before .before .before .before .enum-told3 .given .1) (c .before .before .before .before .before .before .before .before .before .before .condition2 .ensures .0) (c .before .before .before .before .before .before .before .if2 .left) (c .before .before .before .before .before .before .before .before .before .before .condition2 .ensures .1) (c .before .before .condition3 .ensures .0), c .before .before .condition3 .ensures .1 ∙ c .before .before .before .before .before .before .before .before .before .before .condition2 .ensures .1)
+condition-returns-6 t c =
+    let c₂ = c .before .before in let condition3 = c₂ .condition3 in
+    let c₄ = c₂ .before .before in let tail-sizes3 = c₄ .tail-sizes3 in
+    let c₅ = c₄ .before in let tail3 = c₅ .tail3 in
+    let c₆ = c₅ .before in let size-at = c₆ .size-at in
+    let c₇ = c₆ .before in let if2 = c₇ .if2 in
+    let c₁₀ = c₇ .before .before .before in let condition2 = c₁₀ .condition2 in
+    let c₁₂ = c₁₀ .before .before in let tail-sizes2 = c₁₂ .tail-sizes2 in
+    let c₁₃ = c₁₂ .before in let tail2 = c₁₃ .tail2 in
+    let c₁₄ = c₁₃ .before in let enum-told3 = c₁₄ .enum-told3 in
+    let c₁₆ = c₁₄ .before .before in let read = c₁₆ .read in
+    let c₁₇ = c₁₆ .before in let record-length = c₁₇ .record-length in
+    let c₁₈ = c₁₇ .before in let byte = c₁₈ .byte in
+    let c₁₉ = c₁₈ .before in let if1 = c₁₉ .if1 in
+    let c₂₄ = c₁₉ .before .before .before .before .before in let args = c₂₄ .args in
+    (and-yes (now (args .cb)) (now (args .vs)) (now (args .memo)) (now (args .env)) (now (args .q)) (now (args .z)) (args .level) _ _ _ (if1 .left) (byte .ensures) (record-length .ensures .0) (read .ensures) _ _ (tail2 .ensures) (tail-sizes2 .ensures) _ _ _ _ (size-at .ensures .0) refl (tail3 .ensures) (tail-sizes3 .ensures) _ _ _ (enum-told3 .given .1) (condition2 .ensures .0) (if2 .left) (condition2 .ensures .1) (condition3 .ensures .0), condition3 .ensures .1 ∙ condition2 .ensures .1)
 
 condition-same-length-5 : (t : ℕ) → condition-lts.Need-same-length-5 (condition-claims t) (condition-at t) condition.Post
 condition-same-length-5 t c = search needs
 
 condition-returns-7 : (t : ℕ) → condition-lts.Need-returns-7 (condition-claims t) (condition-at t) condition.Post
-condition-returns-7 t c = (or-no (now (c .before .before .before .before .before .before .before .before .before .before .before .before .before .before .before .before .before .before .before .before .before .before .before .before .args .cb)) (now (c .before .before .before .before .before .before .before .before .before .before .before .before .before .before .before .before .before .before .before .before .before .before .before .before .args .vs)) (now (c .before .before .before .before .before .before .before .before .before .before .before .before .before .before .before .before .before .before .before .before .before .before .before .before .args .memo)) (now (c .before .before .before .before .before .before .before .before .before .before .before .before .before .before .before .before .before .before .before .before .before .before .before .before .args .env)) (now (c .before .before .before .before .before .before .before .before .before .before .before .before .before .before .before .before .before .before .before .before .before .before .before .before .args .q)) (now (c .before .before .before .before .before .before .before .before .before .before .before .before .before .before .before .before .before .before .before .before .before .before .before .before .args .z)) (c .before .before .before .before .before .before .before .before .before .before .before .before .before .before .before .before .before .before .before .before .before .before .before .before .args .level) _ _ _ (c .before .before .before .before .before .before .before .before .before .before .before .before .before .before .before .before .before .before .before .if1 .left) (c .before .before .before .before .before .before .before .before .before .before .before .before .before .before .before .before .before .before .byte .ensures) (c .before .before .before .before .before .before .before .before .before .before .before .before .before .before .before .before .before .record-length .ensures .0) (c .before .before .before .before .before .before .before .before .before .before .before .before .before .before .before .before .read .ensures) _ _ (c .before .before .before .before .before .before .before .before .before .before .before .before .before .tail4 .ensures) (c .before .before .before .before .before .before .before .before .before .before .before .before .tail-sizes4 .ensures) _ _ _ _ (c .before .before .before .before .before .before .size-at2 .ensures .0) refl (c .before .before .before .before .before .tail5 .ensures) (c .before .before .before .before .tail-sizes5 .ensures) _ _ _ (c .before .before .before .before .before .before .before .before .before .before .before .before .before .before .enum-told4 .given .1) (c .before .before .before .before .before .before .before .before .before .before .condition4 .ensures .0) (c .before .before .before .before .before .before .before .if3 .left) (c .before .before .before .before .before .before .before .before .before .before .condition4 .ensures .1) (c .before .before .condition5 .ensures .0), c .before .before .condition5 .ensures .1 ∙ c .before .before .before .before .before .before .before .before .before .before .condition4 .ensures .1)
+condition-returns-7 t c =
+    let c₂ = c .before .before in let condition5 = c₂ .condition5 in
+    let c₄ = c₂ .before .before in let tail-sizes5 = c₄ .tail-sizes5 in
+    let c₅ = c₄ .before in let tail5 = c₅ .tail5 in
+    let c₆ = c₅ .before in let size-at2 = c₆ .size-at2 in
+    let c₇ = c₆ .before in let if3 = c₇ .if3 in
+    let c₁₀ = c₇ .before .before .before in let condition4 = c₁₀ .condition4 in
+    let c₁₂ = c₁₀ .before .before in let tail-sizes4 = c₁₂ .tail-sizes4 in
+    let c₁₃ = c₁₂ .before in let tail4 = c₁₃ .tail4 in
+    let c₁₄ = c₁₃ .before in let enum-told4 = c₁₄ .enum-told4 in
+    let c₁₆ = c₁₄ .before .before in let read = c₁₆ .read in
+    let c₁₇ = c₁₆ .before in let record-length = c₁₇ .record-length in
+    let c₁₈ = c₁₇ .before in let byte = c₁₈ .byte in
+    let c₁₉ = c₁₈ .before in let if1 = c₁₉ .if1 in
+    let c₂₄ = c₁₉ .before .before .before .before .before in let args = c₂₄ .args in
+    (or-no (now (args .cb)) (now (args .vs)) (now (args .memo)) (now (args .env)) (now (args .q)) (now (args .z)) (args .level) _ _ _ (if1 .left) (byte .ensures) (record-length .ensures .0) (read .ensures) _ _ (tail4 .ensures) (tail-sizes4 .ensures) _ _ _ _ (size-at2 .ensures .0) refl (tail5 .ensures) (tail-sizes5 .ensures) _ _ _ (enum-told4 .given .1) (condition4 .ensures .0) (if3 .left) (condition4 .ensures .1) (condition5 .ensures .0), condition5 .ensures .1 ∙ condition4 .ensures .1)
 
 condition-same-length-6 : (t : ℕ) → condition-lts.Need-same-length-6 (condition-claims t) (condition-at t) condition.Post
 condition-same-length-6 t c = search needs
 
 condition-returns-8 : (t : ℕ) → condition-lts.Need-returns-8 (condition-claims t) (condition-at t) condition.Post
-condition-returns-8 t c = (compare-is (now (c .before .before .before .before .before .before .before .before .before .before .before .before .before .before .before .before .before .before .before .before .before .before .before .before .before .args .cb)) (now (c .before .before .before .before .before .before .before .before .before .before .before .before .before .before .before .before .before .before .before .before .before .before .before .before .before .args .vs)) (now (c .before .before .before .before .before .before .before .before .before .before .before .before .before .before .before .before .before .before .before .before .before .before .before .before .before .args .memo)) (now (c .before .before .before .before .before .before .before .before .before .before .before .before .before .before .before .before .before .before .before .before .before .before .before .before .before .args .env)) (now (c .before .before .before .before .before .before .before .before .before .before .before .before .before .before .before .before .before .before .before .before .before .before .before .before .before .args .q)) (now (c .before .before .before .before .before .before .before .before .before .before .before .before .before .before .before .before .before .before .before .before .before .before .before .before .before .args .z)) (c .before .before .before .before .before .before .before .before .before .before .before .before .before .before .before .before .before .before .before .before .before .before .before .before .before .args .level) _ _ _ (c .before .before .before .before .before .before .before .before .before .before .before .before .before .before .before .before .before .before .before .before .if1 .left) (c .before .before .before .before .before .before .before .before .before .before .before .before .before .before .before .before .before .before .before .byte .ensures) (c .before .before .before .before .before .before .before .before .before .before .before .before .before .before .before .before .before .before .record-length .ensures .0) (c .before .before .before .before .before .before .before .before .before .before .before .before .before .before .before .before .before .read .ensures) _ _ (c .before .before .before .before .before .before .before .before .before .before .before .before .before .tail6 .ensures) (c .before .before .before .before .before .before .before .before .before .before .before .before .tail-sizes6 .ensures) _ _ _ _ (c .before .before .before .before .before .before .before .size-at3 .ensures .0) refl (c .before .before .before .before .before .before .tail7 .ensures) (c .before .before .before .before .before .tail-sizes7 .ensures) _ _ _ _ _ (c .before .before .before .before .before .before .before .before .before .before .before .before .before .before .before .operator .given .1) (ap ratioOf (c .before .before .before .before .before .before .before .before .before .before .term .ensures .0)) (c .before .before .before .before .before .before .before .before .before .before .term .ensures .1 .1) (ap ratioOf (c .before .before .before .term2 .ensures .0)) (c .compare .ensures), c .before .before .before .term2 .ensures .1 .1 ∙ c .before .before .before .before .before .before .before .before .before .before .term .ensures .1 .1)
+condition-returns-8 t c =
+    let c₃ = c .before .before .before in let term2 = c₃ .term2 in
+    let c₅ = c₃ .before .before in let tail-sizes7 = c₅ .tail-sizes7 in
+    let c₆ = c₅ .before in let tail7 = c₆ .tail7 in
+    let c₇ = c₆ .before in let size-at3 = c₇ .size-at3 in
+    let c₁₀ = c₇ .before .before .before in let term = c₁₀ .term in
+    let c₁₂ = c₁₀ .before .before in let tail-sizes6 = c₁₂ .tail-sizes6 in
+    let c₁₃ = c₁₂ .before in let tail6 = c₁₃ .tail6 in
+    let c₁₅ = c₁₃ .before .before in let operator = c₁₅ .operator in
+    let c₁₇ = c₁₅ .before .before in let read = c₁₇ .read in
+    let c₁₈ = c₁₇ .before in let record-length = c₁₈ .record-length in
+    let c₁₉ = c₁₈ .before in let byte = c₁₉ .byte in
+    let c₂₀ = c₁₉ .before in let if1 = c₂₀ .if1 in
+    let c₂₅ = c₂₀ .before .before .before .before .before in let args = c₂₅ .args in
+    (compare-is (now (args .cb)) (now (args .vs)) (now (args .memo)) (now (args .env)) (now (args .q)) (now (args .z)) (args .level) _ _ _ (if1 .left) (byte .ensures) (record-length .ensures .0) (read .ensures) _ _ (tail6 .ensures) (tail-sizes6 .ensures) _ _ _ _ (size-at3 .ensures .0) refl (tail7 .ensures) (tail-sizes7 .ensures) _ _ _ _ _ (operator .given .1) (ap ratioOf (term .ensures .0)) (term .ensures .1 .1) (ap ratioOf (term2 .ensures .0)) (c .compare .ensures), term2 .ensures .1 .1 ∙ term .ensures .1 .1)
 
 condition-same-length-7 : (t : ℕ) → condition-lts.Need-same-length-7 (condition-claims t) (condition-at t) condition.Post
 condition-same-length-7 t c = search needs
 
 condition-returns-9 : (t : ℕ) → condition-lts.Need-returns-9 (condition-claims t) (condition-at t) condition.Post
-condition-returns-9 t c = (some-is (now (c .before .before .before .before .before .before .before .before .before .before .before .before .before .before .before .before .before .args .cb)) (now (c .before .before .before .before .before .before .before .before .before .before .before .before .before .before .before .before .before .args .vs)) (now (c .before .before .before .before .before .before .before .before .before .before .before .before .before .before .before .before .before .args .memo)) (now (c .before .before .before .before .before .before .before .before .before .before .before .before .before .before .before .before .before .args .env)) (now (c .before .before .before .before .before .before .before .before .before .before .before .before .before .before .before .before .before .args .q)) (now (c .before .before .before .before .before .before .before .before .before .before .before .before .before .before .before .before .before .args .z)) (c .before .before .before .before .before .before .before .before .before .before .before .before .before .before .before .before .before .args .level) _ _ _ (c .before .before .before .before .before .before .before .before .before .before .before .before .if1 .left) (c .before .before .before .before .before .before .before .before .before .before .before .byte .ensures) (c .before .before .before .before .before .before .before .before .before .before .record-length .ensures .0) (c .before .before .before .before .before .before .before .before .before .read .ensures) _ _ (c .before .before .before .before .before .tail8 .ensures) (c .before .before .before .before .tail-sizes8 .ensures) _ _ _ (c .before .before .before .before .before .before .before .variable .given .1) (c .before .before .some-row .ensures .0), c .before .before .some-row .ensures .1)
+condition-returns-9 t c =
+    let c₂ = c .before .before in let some-row = c₂ .some-row in
+    let c₄ = c₂ .before .before in let tail-sizes8 = c₄ .tail-sizes8 in
+    let c₅ = c₄ .before in let tail8 = c₅ .tail8 in
+    let c₇ = c₅ .before .before in let variable = c₇ .variable in
+    let c₉ = c₇ .before .before in let read = c₉ .read in
+    let c₁₀ = c₉ .before in let record-length = c₁₀ .record-length in
+    let c₁₁ = c₁₀ .before in let byte = c₁₁ .byte in
+    let c₁₂ = c₁₁ .before in let if1 = c₁₂ .if1 in
+    let c₁₇ = c₁₂ .before .before .before .before .before in let args = c₁₇ .args in
+    (some-is (now (args .cb)) (now (args .vs)) (now (args .memo)) (now (args .env)) (now (args .q)) (now (args .z)) (args .level) _ _ _ (if1 .left) (byte .ensures) (record-length .ensures .0) (read .ensures) _ _ (tail8 .ensures) (tail-sizes8 .ensures) _ _ _ (variable .given .1) (some-row .ensures .0), some-row .ensures .1)
 
 condition-returns-10 : (t : ℕ) → condition-lts.Need-returns-10 (condition-claims t) (condition-at t) condition.Post
-condition-returns-10 t c = (no-condition (now (c .before .before .before .before .before .before .before .before .before .args .cb)) (now (c .before .before .before .before .before .before .before .before .before .args .vs)) (now (c .before .before .before .before .before .before .before .before .before .args .memo)) (now (c .before .before .before .before .before .before .before .before .before .args .env)) (now (c .before .before .before .before .before .before .before .before .before .args .q)) (now (c .before .before .before .before .before .before .before .before .before .args .z)) (c .before .before .before .before .before .before .before .before .before .args .level) _ (c .before .before .before .before .if1 .left) (c .before .read .ensures) (c .match .keys7), search needs)
+condition-returns-10 t c =
+    let c₄ = c .before .before .before .before in let if1 = c₄ .if1 in
+    let c₉ = c₄ .before .before .before .before .before in let args = c₉ .args in
+    (no-condition (now (args .cb)) (now (args .vs)) (now (args .memo)) (now (args .env)) (now (args .q)) (now (args .z)) (args .level) _ (if1 .left) (c .before .read .ensures) (c .match .keys7), search needs)
 
 abbrev gather-Inv-loop : gather-lts.InvT-loop
 gather-Inv-loop q z level catalogue values memo env₀ variable relation attribute n w old taken₀ row₀ i₀ env taken row i =
@@ -302,7 +400,13 @@ gather-base-requires : (t : ℕ) → gather-lts.Need-base-requires (gather-claim
 gather-base-requires t c κs = search needs
 
 gather-loop-holds : (t : ℕ) → gather-lts.Need-loop-holds (gather-claims t) (gather-at t) gather.Post gather-Inv-loop gather-μ-loop
-gather-loop-holds t c = (places-start (now (c .before .before .before .before .before .before .before .before .before .before .args .env)) (c .before .before .before .before .before .before .before .before .before .before .args .variable) (c .before .before .place .result) (c .before .before .place .ensures), taken-start (now (c .before .before .before .before .before .before .before .before .before .before .args .vs)) (holdsOn (c .before .before .before .before .before .before .before .before .before .before .args .level) (now (c .before .before .before .before .before .before .before .before .before .before .args .q)) (now (c .before .before .before .before .before .before .before .before .before .before .args .z)) (now (c .before .before .before .before .before .before .before .before .before .before .args .cb)) (now (c .before .before .before .before .before .before .before .before .before .before .args .vs)) (now (c .before .before .before .before .before .before .before .before .before .before .args .memo)) (now (c .before .before .before .before .before .before .before .before .before .before .args .env)) (c .before .before .before .before .before .before .before .before .before .before .args .variable)) (c .before .before .before .before .before .before .before .before .before .before .args .attribute) (c .base .result) (c .before .before .before .before .attributes .result) (c .before .empty .result) (c .before .empty .ensures), omega arith, omega arith, refl)
+gather-loop-holds t c =
+    let c₁ = c .before in let empty = c₁ .empty in
+    let c₂ = c₁ .before in let place = c₂ .place in
+    let c₄ = c₂ .before .before in let attributes = c₄ .attributes in
+    let c₁₀ = c₄ .before .before .before .before .before .before in let args = c₁₀ .args in
+    let env = now (args .env) in let vs = now (args .vs) in let variable = args .variable in
+    (places-start env variable (place .result) (place .ensures), taken-start vs (holdsOn (args .level) (now (args .q)) (now (args .z)) (now (args .cb)) vs (now (args .memo)) env variable) (args .attribute) (c .base .result) (attributes .result) (empty .result) (empty .ensures), omega arith, omega arith, refl)
 
 gather-set-place-requires : (t : ℕ) → gather-lts.Need-set-place-requires (gather-claims t) (gather-at t) gather.Post gather-Inv-loop gather-μ-loop
 gather-set-place-requires t c κs = search needs
@@ -314,10 +418,25 @@ gather-cell-requires : (t : ℕ) → gather-lts.Need-cell-requires (gather-claim
 gather-cell-requires t c κs = search needs
 
 gather-add-requires : (t : ℕ) → gather-lts.Need-add-requires (gather-claims t) (gather-at t) gather.Post gather-Inv-loop gather-μ-loop
-gather-add-requires t c κs = (c .before .before .before .before .before .before .before .before .before .before .before .loop .inv .1 .bounded, omega (arith, taken-few (now (c .before .before .before .before .before .before .before .before .before .before .before .before .before .before .before .before .before .before .before .before .before .before .args .vs)) (holdsOn (c .before .before .before .before .before .before .before .before .before .before .before .before .before .before .before .before .before .before .before .before .before .before .args .level) (now (c .before .before .before .before .before .before .before .before .before .before .before .before .before .before .before .before .before .before .before .before .before .before .args .q)) (now (c .before .before .before .before .before .before .before .before .before .before .before .before .before .before .before .before .before .before .before .before .before .before .args .z)) (now (c .before .before .before .before .before .before .before .before .before .before .before .before .before .before .before .before .before .before .before .before .before .before .args .cb)) (now (c .before .before .before .before .before .before .before .before .before .before .before .before .before .before .before .before .before .before .before .before .before .before .args .vs)) (now (c .before .before .before .before .before .before .before .before .before .before .before .before .before .before .before .before .before .before .before .before .before .before .args .memo)) (now (c .before .before .before .before .before .before .before .before .before .before .before .before .before .before .before .before .before .before .before .before .before .before .args .env)) (c .before .before .before .before .before .before .before .before .before .before .before .before .before .before .before .before .before .before .before .before .before .before .args .variable)) (c .before .before .before .before .before .before .before .before .before .before .before .before .before .before .before .before .before .before .before .before .before .before .args .attribute) (c .before .before .before .before .before .before .before .before .before .before .before .before .base .result) (c .before .before .before .before .before .before .before .before .before .before .before .before .before .before .before .before .attributes .result) (c .before .before .before .before .before .before .before .before .before .before .before .loop .i) (c .before .before .before .before .before .before .before .before .before .before .before .loop .taken) (c .before .before .before .before .before .before .before .before .before .before .before .loop .inv .1) (c .before .before .before .before .before .before .before .before .before .before .before .loop .i) (omega arith), c .before .before .before .before .before .before .before .before .before .before .loop-test .taken, c .before .before .before .before .before .before .before .before .before .before .before .before .before .before .before .before .before .rows .ensures .1))
+gather-add-requires t c κs =
+    let c₁₀ = c .before .before .before .before .before .before .before .before .before .before in let loop-test = c₁₀ .loop-test in
+    let c₁₁ = c₁₀ .before in let loop = c₁₁ .loop in
+    let c₁₂ = c₁₁ .before in let base = c₁₂ .base in
+    let c₁₆ = c₁₂ .before .before .before .before in let attributes = c₁₆ .attributes in
+    let c₁₇ = c₁₆ .before in let rows = c₁₇ .rows in
+    let c₂₂ = c₁₇ .before .before .before .before .before in let args = c₂₂ .args in
+    let vs = now (args .vs) in
+    (loop .inv .1 .bounded, omega (arith, taken-few vs (holdsOn (args .level) (now (args .q)) (now (args .z)) (now (args .cb)) vs (now (args .memo)) (now (args .env)) (args .variable)) (args .attribute) (base .result) (attributes .result) (loop .i) (loop .taken) (loop .inv .1) (loop .i) (omega arith), loop-test .taken, rows .ensures .1))
 
 gather-add-row : (t : ℕ) → gather-lts.Need-add-row (gather-claims t) (gather-at t) gather.Post gather-Inv-loop gather-μ-loop
-gather-add-row t c = omega (arith, row-fits _ _ _ _ _ _ (c .before .before .before .before .before .before .before .before .before .before .loop .inv .2) (c .before .before .before .before .before .before .before .before .before .before .before .base .ensures .1) (omega (arith, c .before .before .before .before .before .before .before .before .before .before .before .before .before .before .before .before .before .before .before .before .before .good)) (c .before .before .before .before .before .before .before .before .before .loop-test .taken) (c .before .before .before .before .before .before .before .before .before .before .before .before .before .before .before .before .rows .ensures .1) (c .before .before .before .before .before .before .before .before .before .before .before .before .before .before .before .attributes .ensures .1))
+gather-add-row t c =
+    let c₉ = c .before .before .before .before .before .before .before .before .before in let loop-test = c₉ .loop-test in
+    let c₁₀ = c₉ .before in let loop = c₁₀ .loop in
+    let c₁₁ = c₁₀ .before in let base = c₁₁ .base in
+    let c₁₅ = c₁₁ .before .before .before .before in let attributes = c₁₅ .attributes in
+    let c₁₆ = c₁₅ .before in let rows = c₁₆ .rows in
+    let c₂₁ = c₁₆ .before .before .before .before .before in let good = c₂₁ .good in
+    omega (arith, row-fits _ _ _ _ _ _ (loop .inv .2) (base .ensures .1) (omega (arith, good)) (loop-test .taken) (rows .ensures .1) (attributes .ensures .1))
 
 gather-add-i : (t : ℕ) → gather-lts.Need-add-i (gather-claims t) (gather-at t) gather.Post gather-Inv-loop gather-μ-loop
 gather-add-i t c = search needs
@@ -326,7 +445,16 @@ gather-loop-less : (t : ℕ) → gather-lts.Need-loop-less (gather-claims t) (ga
 gather-loop-less t c = search needs
 
 gather-loop-again : (t : ℕ) → gather-lts.Need-loop-again (gather-claims t) (gather-at t) gather.Post gather-Inv-loop gather-μ-loop
-gather-loop-again t c = (places-back (c .before .before .before .before .before .before .before .before .before .before .loop .env) (now (c .before .before .before .before .before .before .before .before .before .before .before .before .before .before .before .before .before .before .before .before .before .args .env)) _ (c .before .before .before .before .before .before .before .before .before .before .before .before .before .before .before .before .before .before .before .before .before .args .variable) (c .before .before .before .before .before .before .before .before .before .before .before .before .before .place .result) (c .before .before .before .before .before .before .before .before .before .before .loop .row) (c .before .before .before .before .before .before .before .before .before .before .loop .inv .0) (c .before .before .before .before .before .before .before .set-place .ensures) _ (c .before .before .before .condition .ensures .1), ⊎-elim (λ h. subst (λ (u : Accumulator). Accumulates u (kept (now (c .before .before .before .before .before .before .before .before .before .before .before .before .before .before .before .before .before .before .before .before .before .args .vs)) (holdsOn (c .before .before .before .before .before .before .before .before .before .before .before .before .before .before .before .before .before .before .before .before .before .args .level) (now (c .before .before .before .before .before .before .before .before .before .before .before .before .before .before .before .before .before .before .before .before .before .args .q)) (now (c .before .before .before .before .before .before .before .before .before .before .before .before .before .before .before .before .before .before .before .before .before .args .z)) (now (c .before .before .before .before .before .before .before .before .before .before .before .before .before .before .before .before .before .before .before .before .before .args .cb)) (now (c .before .before .before .before .before .before .before .before .before .before .before .before .before .before .before .before .before .before .before .before .before .args .vs)) (now (c .before .before .before .before .before .before .before .before .before .before .before .before .before .before .before .before .before .before .before .before .before .args .memo)) (now (c .before .before .before .before .before .before .before .before .before .before .before .before .before .before .before .before .before .before .before .before .before .args .env)) (c .before .before .before .before .before .before .before .before .before .before .before .before .before .before .before .before .before .before .before .before .before .args .variable)) (c .before .before .before .before .before .before .before .before .before .before .before .before .before .before .before .before .before .before .before .before .before .args .attribute) (c .before .before .before .before .before .before .before .before .before .before .before .base .result) (c .before .before .before .before .before .before .before .before .before .before .before .before .before .before .before .attributes .result) (c .before .before .before .before .before .before .before .before .before .before .loop .i + 1))) (sym (h .3)) (taken-hit (now (c .before .before .before .before .before .before .before .before .before .before .before .before .before .before .before .before .before .before .before .before .before .args .vs)) (holdsOn (c .before .before .before .before .before .before .before .before .before .before .before .before .before .before .before .before .before .before .before .before .before .args .level) (now (c .before .before .before .before .before .before .before .before .before .before .before .before .before .before .before .before .before .before .before .before .before .args .q)) (now (c .before .before .before .before .before .before .before .before .before .before .before .before .before .before .before .before .before .before .before .before .before .args .z)) (now (c .before .before .before .before .before .before .before .before .before .before .before .before .before .before .before .before .before .before .before .before .before .args .cb)) (now (c .before .before .before .before .before .before .before .before .before .before .before .before .before .before .before .before .before .before .before .before .before .args .vs)) (now (c .before .before .before .before .before .before .before .before .before .before .before .before .before .before .before .before .before .before .before .before .before .args .memo)) (now (c .before .before .before .before .before .before .before .before .before .before .before .before .before .before .before .before .before .before .before .before .before .args .env)) (c .before .before .before .before .before .before .before .before .before .before .before .before .before .before .before .before .before .before .before .before .before .args .variable)) (c .before .before .before .before .before .before .before .before .before .before .before .before .before .before .before .before .before .before .before .before .before .args .attribute) (c .before .before .before .before .before .before .before .before .before .before .before .base .result) (c .before .before .before .before .before .before .before .before .before .before .before .before .before .before .before .attributes .result) (c .before .before .before .before .before .before .before .before .before .before .loop .i) (c .before .before .before .before .before .before .before .before .before .before .loop .taken) (c .before .before .before .before .before .before .before .before .before .before .loop .inv .1) _ (c .before .before .before .before .before .before .before .before .before .before .loop .inv .2) _ _ (on-row (c .before .before .before .before .before .before .before .before .before .before .loop .env) (now (c .before .before .before .before .before .before .before .before .before .before .before .before .before .before .before .before .before .before .before .before .before .args .env)) _ (c .before .before .before .before .before .before .before .before .before .before .before .before .before .before .before .before .before .before .before .before .before .args .variable) (c .before .before .before .before .before .before .before .before .before .before .before .before .before .place .result) (c .before .before .before .before .before .before .before .before .before .before .loop .row) (c .before .before .before .before .before .before .before .before .before .before .loop .inv .0) (c .before .before .before .before .before .before .before .set-place .ensures) (c .before .before .before .before .before .before .before .before .before .before .before .before .before .before .before .before .before .before .before .before .before .args .level) (now (c .before .before .before .before .before .before .before .before .before .before .before .before .before .before .before .before .before .before .before .before .before .args .q)) (now (c .before .before .before .before .before .before .before .before .before .before .before .before .before .before .before .before .before .before .before .before .before .args .z)) (now (c .before .before .before .before .before .before .before .before .before .before .before .before .before .before .before .before .before .before .before .before .before .args .cb)) (now (c .before .before .before .before .before .before .before .before .before .before .before .before .before .before .before .before .before .before .before .before .before .args .vs)) (now (c .before .before .before .before .before .before .before .before .before .before .before .before .before .before .before .before .before .before .before .before .before .args .memo)) _ (omega (arith, c .before .before .before .before .before .before .before .before .before .before .before .before .before .before .before .before .before .before .before .before .before .pre, c .before .before .before .before .before .before .before .before .before .before .before .before .before .before .before .before .before .before .before .before .before .good)) (c .before .before .before .condition .ensures .0) ∙ h .0 .taken) (toZ-ofZ {w = w32} (record { sfits = h .1 .ok }) ∙ h .1 .ensures) (h .2 .ensures .0) (h .2 .ensures .1))) (λ h. taken-miss (now (c .before .before .before .before .before .before .before .before .before .before .before .before .before .before .before .before .before .before .before .before .before .args .vs)) (holdsOn (c .before .before .before .before .before .before .before .before .before .before .before .before .before .before .before .before .before .before .before .before .before .args .level) (now (c .before .before .before .before .before .before .before .before .before .before .before .before .before .before .before .before .before .before .before .before .before .args .q)) (now (c .before .before .before .before .before .before .before .before .before .before .before .before .before .before .before .before .before .before .before .before .before .args .z)) (now (c .before .before .before .before .before .before .before .before .before .before .before .before .before .before .before .before .before .before .before .before .before .args .cb)) (now (c .before .before .before .before .before .before .before .before .before .before .before .before .before .before .before .before .before .before .before .before .before .args .vs)) (now (c .before .before .before .before .before .before .before .before .before .before .before .before .before .before .before .before .before .before .before .before .before .args .memo)) (now (c .before .before .before .before .before .before .before .before .before .before .before .before .before .before .before .before .before .before .before .before .before .args .env)) (c .before .before .before .before .before .before .before .before .before .before .before .before .before .before .before .before .before .before .before .before .before .args .variable)) (c .before .before .before .before .before .before .before .before .before .before .before .before .before .before .before .before .before .before .before .before .before .args .attribute) (c .before .before .before .before .before .before .before .before .before .before .before .base .result) (c .before .before .before .before .before .before .before .before .before .before .before .before .before .before .before .attributes .result) (c .before .before .before .before .before .before .before .before .before .before .loop .i) (c .before .before .before .before .before .before .before .before .before .before .loop .taken) (c .before .before .before .before .before .before .before .before .before .before .loop .inv .1) _ (c .before .before .before .before .before .before .before .before .before .before .loop .inv .2) _ (on-row (c .before .before .before .before .before .before .before .before .before .before .loop .env) (now (c .before .before .before .before .before .before .before .before .before .before .before .before .before .before .before .before .before .before .before .before .before .args .env)) _ (c .before .before .before .before .before .before .before .before .before .before .before .before .before .before .before .before .before .before .before .before .before .args .variable) (c .before .before .before .before .before .before .before .before .before .before .before .before .before .place .result) (c .before .before .before .before .before .before .before .before .before .before .loop .row) (c .before .before .before .before .before .before .before .before .before .before .loop .inv .0) (c .before .before .before .before .before .before .before .set-place .ensures) (c .before .before .before .before .before .before .before .before .before .before .before .before .before .before .before .before .before .before .before .before .before .args .level) (now (c .before .before .before .before .before .before .before .before .before .before .before .before .before .before .before .before .before .before .before .before .before .args .q)) (now (c .before .before .before .before .before .before .before .before .before .before .before .before .before .before .before .before .before .before .before .before .before .args .z)) (now (c .before .before .before .before .before .before .before .before .before .before .before .before .before .before .before .before .before .before .before .before .before .args .cb)) (now (c .before .before .before .before .before .before .before .before .before .before .before .before .before .before .before .before .before .before .before .before .before .args .vs)) (now (c .before .before .before .before .before .before .before .before .before .before .before .before .before .before .before .before .before .before .before .before .before .args .memo)) _ (omega (arith, c .before .before .before .before .before .before .before .before .before .before .before .before .before .before .before .before .before .before .before .before .before .pre, c .before .before .before .before .before .before .before .before .before .before .before .before .before .before .before .before .before .before .before .before .before .good)) (c .before .before .before .condition .ensures .0) ∙ h .0 .left) (h .1)) (c .if1 .came), next-row _ _ _ _ (c .before .before .before .before .before .before .before .before .before .before .loop .inv .2), search needs, places-length (c .before .before .before .before .before .before .before .before .before .before .loop .env) (now (c .before .before .before .before .before .before .before .before .before .before .before .before .before .before .before .before .before .before .before .before .before .args .env)) _ (c .before .before .before .before .before .before .before .before .before .before .before .before .before .before .before .before .before .before .before .before .before .args .variable) (c .before .before .before .before .before .before .before .before .before .before .before .before .before .place .result) (c .before .before .before .before .before .before .before .before .before .before .loop .row) (c .before .before .before .before .before .before .before .before .before .before .loop .inv .0) (c .before .before .before .before .before .before .before .set-place .ensures) _ (c .before .before .before .condition .ensures .1) (c .before .before .before .before .before .before .before .before .before .before .loop .inv .4))
+gather-loop-again t c =
+    let c₃ = c .before .before .before in let condition = c₃ .condition in
+    let c₇ = c₃ .before .before .before .before in let set-place = c₇ .set-place in
+    let c₁₀ = c₇ .before .before .before in let loop = c₁₀ .loop in
+    let c₁₁ = c₁₀ .before in let base = c₁₁ .base in
+    let c₁₃ = c₁₁ .before .before in let place = c₁₃ .place in
+    let c₁₅ = c₁₃ .before .before in let attributes = c₁₅ .attributes in
+    let c₂₁ = c₁₅ .before .before .before .before .before .before in let args = c₂₁ .args in let good = c₂₁ .good in let pre = c₂₁ .pre in
+    let cb = now (args .cb) in let env = now (args .env) in let memo = now (args .memo) in let q = now (args .q) in let vs = now (args .vs) in let z = now (args .z) in let attribute = args .attribute in let level = args .level in let variable = args .variable in
+    (places-back (loop .env) env _ variable (place .result) (loop .row) (loop .inv .0) (set-place .ensures) _ (condition .ensures .1), ⊎-elim (λ h. subst (λ (u : Accumulator). Accumulates u (kept vs (holdsOn level q z cb vs memo env variable) attribute (base .result) (attributes .result) (loop .i + 1))) (sym (h .3)) (taken-hit vs (holdsOn level q z cb vs memo env variable) attribute (base .result) (attributes .result) (loop .i) (loop .taken) (loop .inv .1) _ (loop .inv .2) _ _ (on-row (loop .env) env _ variable (place .result) (loop .row) (loop .inv .0) (set-place .ensures) level q z cb vs memo _ (omega (arith, pre, good)) (condition .ensures .0) ∙ h .0 .taken) (toZ-ofZ {w = w32} (record { sfits = h .1 .ok }) ∙ h .1 .ensures) (h .2 .ensures .0) (h .2 .ensures .1))) (λ h. taken-miss vs (holdsOn level q z cb vs memo env variable) attribute (base .result) (attributes .result) (loop .i) (loop .taken) (loop .inv .1) _ (loop .inv .2) _ (on-row (loop .env) env _ variable (place .result) (loop .row) (loop .inv .0) (set-place .ensures) level q z cb vs memo _ (omega (arith, pre, good)) (condition .ensures .0) ∙ h .0 .left) (h .1)) (c .if1 .came), next-row _ _ _ _ (loop .inv .2), omega (arith, c₇ .before .before .loop-test .taken), places-length (loop .env) env _ variable (place .result) (loop .row) (loop .inv .0) (set-place .ensures) _ (condition .ensures .1) (loop .inv .4))
 
 gather-set-place-requires-2 : (t : ℕ) → gather-lts.Need-set-place-requires-2 (gather-claims t) (gather-at t) gather.Post gather-Inv-loop gather-μ-loop
 gather-set-place-requires-2 t c κs = search needs
@@ -335,7 +463,15 @@ gather-same-length : (t : ℕ) → gather-lts.Need-same-length (gather-claims t)
 gather-same-length t c = search needs
 
 gather-returns : (t : ℕ) → gather-lts.Need-returns (gather-claims t) (gather-at t) gather.Post gather-Inv-loop gather-μ-loop
-gather-returns t c = (subst (Accumulates (c .before .before .before .before .before .loop .taken)) (taken-all (c .before .before .before .before .before .before .before .before .before .before .before .before .before .before .before .before .args .level) (now (c .before .before .before .before .before .before .before .before .before .before .before .before .before .before .before .before .args .q)) (now (c .before .before .before .before .before .before .before .before .before .before .before .before .before .before .before .before .args .z)) (now (c .before .before .before .before .before .before .before .before .before .before .before .before .before .before .before .before .args .cb)) (now (c .before .before .before .before .before .before .before .before .before .before .before .before .before .before .before .before .args .vs)) (now (c .before .before .before .before .before .before .before .before .before .before .before .before .before .before .before .before .args .memo)) (now (c .before .before .before .before .before .before .before .before .before .before .before .before .before .before .before .before .args .env)) (c .before .before .before .before .before .before .before .before .before .before .before .before .before .before .before .before .args .variable) (c .before .before .before .before .before .before .before .before .before .before .before .before .before .before .before .before .args .relation) (c .before .before .before .before .before .before .before .before .before .before .before .before .before .before .before .before .args .attribute) _ _ _ _ (c .before .before .before .before .before .before .before .before .before .before .before .rows .ensures .0) (c .before .before .before .before .before .before .before .before .before .before .attributes .ensures .0) (c .before .before .before .before .before .before .base .ensures .0) (omega (arith, c .before .before .before .before .loop-test .left, c .before .before .before .before .before .loop .inv .3))) (c .before .before .before .before .before .loop .inv .1), (omega (arith, taken-few (now (c .before .before .before .before .before .before .before .before .before .before .before .before .before .before .before .before .args .vs)) (holdsOn (c .before .before .before .before .before .before .before .before .before .before .before .before .before .before .before .before .args .level) (now (c .before .before .before .before .before .before .before .before .before .before .before .before .before .before .before .before .args .q)) (now (c .before .before .before .before .before .before .before .before .before .before .before .before .before .before .before .before .args .z)) (now (c .before .before .before .before .before .before .before .before .before .before .before .before .before .before .before .before .args .cb)) (now (c .before .before .before .before .before .before .before .before .before .before .before .before .before .before .before .before .args .vs)) (now (c .before .before .before .before .before .before .before .before .before .before .before .before .before .before .before .before .args .memo)) (now (c .before .before .before .before .before .before .before .before .before .before .before .before .before .before .before .before .args .env)) (c .before .before .before .before .before .before .before .before .before .before .before .before .before .before .before .before .args .variable)) (c .before .before .before .before .before .before .before .before .before .before .before .before .before .before .before .before .args .attribute) (c .before .before .before .before .before .before .base .result) (c .before .before .before .before .before .before .before .before .before .before .attributes .result) (c .before .before .before .before .before .loop .i) (c .before .before .before .before .before .loop .taken) (c .before .before .before .before .before .loop .inv .1) _ (c .before .before .before .before .before .loop .inv .3), c .before .before .before .before .before .before .before .before .before .before .before .rows .ensures .1), c .before .before .set-place2 .ensures ∙ c .before .before .before .before .before .loop .inv .0))
+gather-returns t c =
+    let c₄ = c .before .before .before .before in let loop-test = c₄ .loop-test in
+    let c₅ = c₄ .before in let loop = c₅ .loop in
+    let c₆ = c₅ .before in let base = c₆ .base in
+    let c₁₀ = c₆ .before .before .before .before in let attributes = c₁₀ .attributes in
+    let c₁₁ = c₁₀ .before in let rows = c₁₁ .rows in
+    let c₁₆ = c₁₁ .before .before .before .before .before in let args = c₁₆ .args in
+    let cb = now (args .cb) in let env = now (args .env) in let memo = now (args .memo) in let q = now (args .q) in let vs = now (args .vs) in let z = now (args .z) in let attribute = args .attribute in let level = args .level in let variable = args .variable in
+    (subst (Accumulates (loop .taken)) (taken-all level q z cb vs memo env variable (args .relation) attribute _ _ _ _ (rows .ensures .0) (attributes .ensures .0) (base .ensures .0) (omega (arith, loop-test .left, loop .inv .3))) (loop .inv .1), (omega (arith, taken-few vs (holdsOn level q z cb vs memo env variable) attribute (base .result) (attributes .result) (loop .i) (loop .taken) (loop .inv .1) _ (loop .inv .3), rows .ensures .1), c .before .before .set-place2 .ensures ∙ loop .inv .0))
 
 abbrev some-row-Inv-loop : some-row-lts.InvT-loop
 some-row-Inv-loop q z level catalogue values memo env₀ variable relation n w old row₀ i₀ env row i =
@@ -359,7 +495,13 @@ some-row-base-requires : (t : ℕ) → some-row-lts.Need-base-requires (some-row
 some-row-base-requires t c κs = search needs
 
 some-row-loop-holds : (t : ℕ) → some-row-lts.Need-loop-holds (some-row-claims t) (some-row-at t) some-row.Post some-row-Inv-loop some-row-μ-loop
-some-row-loop-holds t c = (places-start (now (c .before .before .before .before .before .before .before .before .before .args .env)) (c .before .before .before .before .before .before .before .before .before .args .variable) (c .before .place .result) (c .before .place .ensures), search-start (holdsOn (c .before .before .before .before .before .before .before .before .before .args .level) (now (c .before .before .before .before .before .before .before .before .before .args .q)) (now (c .before .before .before .before .before .before .before .before .before .args .z)) (now (c .before .before .before .before .before .before .before .before .before .args .cb)) (now (c .before .before .before .before .before .before .before .before .before .args .vs)) (now (c .before .before .before .before .before .before .before .before .before .args .memo)) (now (c .before .before .before .before .before .before .before .before .before .args .env)) (c .before .before .before .before .before .before .before .before .before .args .variable)) (now (c .before .before .before .before .before .before .before .before .before .args .cb)) (now (c .before .before .before .before .before .before .before .before .before .args .vs)) (c .before .before .before .before .before .before .before .before .before .args .relation) _ _ _ (c .before .before .before .before .rows .ensures .0) (c .before .before .before .attributes .ensures .0) (c .base .ensures .0), omega arith, omega arith, refl)
+some-row-loop-holds t c =
+    let c₁ = c .before in let place = c₁ .place in
+    let c₃ = c₁ .before .before in let attributes = c₃ .attributes in
+    let c₄ = c₃ .before in let rows = c₄ .rows in
+    let c₉ = c₄ .before .before .before .before .before in let args = c₉ .args in
+    let cb = now (args .cb) in let env = now (args .env) in let vs = now (args .vs) in let variable = args .variable in
+    (places-start env variable (place .result) (place .ensures), search-start (holdsOn (args .level) (now (args .q)) (now (args .z)) cb vs (now (args .memo)) env variable) cb vs (args .relation) _ _ _ (rows .ensures .0) (attributes .ensures .0) (c .base .ensures .0), omega arith, omega arith, refl)
 
 some-row-set-place-requires : (t : ℕ) → some-row-lts.Need-set-place-requires (some-row-claims t) (some-row-at t) some-row.Post some-row-Inv-loop some-row-μ-loop
 some-row-set-place-requires t c κs = search needs
@@ -374,7 +516,18 @@ some-row-same-length : (t : ℕ) → some-row-lts.Need-same-length (some-row-cla
 some-row-same-length t c = search needs
 
 some-row-returns : (t : ℕ) → some-row-lts.Need-returns (some-row-claims t) (some-row-at t) some-row.Post some-row-Inv-loop some-row-μ-loop
-some-row-returns t c = (search-found (holdsOn (c .before .before .before .before .before .before .before .before .before .before .before .before .before .before .before .before .before .before .before .before .before .before .before .before .args .level) (now (c .before .before .before .before .before .before .before .before .before .before .before .before .before .before .before .before .before .before .before .before .before .before .before .before .args .q)) (now (c .before .before .before .before .before .before .before .before .before .before .before .before .before .before .before .before .before .before .before .before .before .before .before .before .args .z)) (now (c .before .before .before .before .before .before .before .before .before .before .before .before .before .before .before .before .before .before .before .before .before .before .before .before .args .cb)) (now (c .before .before .before .before .before .before .before .before .before .before .before .before .before .before .before .before .before .before .before .before .before .before .before .before .args .vs)) (now (c .before .before .before .before .before .before .before .before .before .before .before .before .before .before .before .before .before .before .before .before .before .before .before .before .args .memo)) (now (c .before .before .before .before .before .before .before .before .before .before .before .before .before .before .before .before .before .before .before .before .before .before .before .before .args .env)) (c .before .before .before .before .before .before .before .before .before .before .before .before .before .before .before .before .before .before .before .before .before .before .before .before .args .variable)) (now (c .before .before .before .before .before .before .before .before .before .before .before .before .before .before .before .before .before .before .before .before .before .before .before .before .args .cb)) (now (c .before .before .before .before .before .before .before .before .before .before .before .before .before .before .before .before .before .before .before .before .before .before .before .before .args .vs)) (c .before .before .before .before .before .before .before .before .before .before .before .before .before .before .before .before .before .before .before .before .before .before .before .before .args .relation) (c .before .before .before .before .before .before .before .before .before .before .before .before .before .before .before .before .before .before .before .rows .result) (c .before .before .before .before .before .before .before .before .before .before .before .before .before .before .before .before .before .before .attributes .result) (c .before .before .before .before .before .before .before .before .before .before .before .before .before .before .loop .row) (c .before .before .before .before .before .before .before .before .before .before .before .before .before .before .loop .i) (c .before .before .before .before .before .before .before .before .before .before .before .before .before .before .loop .inv .1) (c .before .before .before .before .before .before .before .before .before .before .before .before .before .loop-test .taken) (on-row (c .before .before .before .before .before .before .before .before .before .before .before .before .before .before .loop .env) (now (c .before .before .before .before .before .before .before .before .before .before .before .before .before .before .before .before .before .before .before .before .before .before .before .before .args .env)) _ (c .before .before .before .before .before .before .before .before .before .before .before .before .before .before .before .before .before .before .before .before .before .before .before .before .args .variable) (c .before .before .before .before .before .before .before .before .before .before .before .before .before .before .before .before .place .result) (c .before .before .before .before .before .before .before .before .before .before .before .before .before .before .loop .row) (c .before .before .before .before .before .before .before .before .before .before .before .before .before .before .loop .inv .0) (c .before .before .before .before .before .before .before .before .before .before .before .set-place .ensures) (c .before .before .before .before .before .before .before .before .before .before .before .before .before .before .before .before .before .before .before .before .before .before .before .before .args .level) (now (c .before .before .before .before .before .before .before .before .before .before .before .before .before .before .before .before .before .before .before .before .before .before .before .before .args .q)) (now (c .before .before .before .before .before .before .before .before .before .before .before .before .before .before .before .before .before .before .before .before .before .before .before .before .args .z)) (now (c .before .before .before .before .before .before .before .before .before .before .before .before .before .before .before .before .before .before .before .before .before .before .before .before .args .cb)) (now (c .before .before .before .before .before .before .before .before .before .before .before .before .before .before .before .before .before .before .before .before .before .before .before .before .args .vs)) (now (c .before .before .before .before .before .before .before .before .before .before .before .before .before .before .before .before .before .before .before .before .before .before .before .before .args .memo)) _ (omega (arith, c .before .before .before .before .before .before .before .before .before .before .before .before .before .before .before .before .before .before .before .before .before .before .before .before .pre, c .before .before .before .before .before .before .before .before .before .before .before .before .before .before .before .before .before .before .before .before .before .before .before .before .good)) (c .before .before .before .before .before .before .before .condition .ensures .0) ∙ c .before .before .before .before .if1 .taken), c .before .before .set-place2 .ensures ∙ places-back (c .before .before .before .before .before .before .before .before .before .before .before .before .before .before .loop .env) (now (c .before .before .before .before .before .before .before .before .before .before .before .before .before .before .before .before .before .before .before .before .before .before .before .before .args .env)) _ (c .before .before .before .before .before .before .before .before .before .before .before .before .before .before .before .before .before .before .before .before .before .before .before .before .args .variable) (c .before .before .before .before .before .before .before .before .before .before .before .before .before .before .before .before .place .result) (c .before .before .before .before .before .before .before .before .before .before .before .before .before .before .loop .row) (c .before .before .before .before .before .before .before .before .before .before .before .before .before .before .loop .inv .0) (c .before .before .before .before .before .before .before .before .before .before .before .set-place .ensures) _ (c .before .before .before .before .before .before .before .condition .ensures .1))
+some-row-returns t c =
+    let c₄ = c .before .before .before .before in let if1 = c₄ .if1 in
+    let c₇ = c₄ .before .before .before in let condition = c₇ .condition in
+    let c₁₁ = c₇ .before .before .before .before in let set-place = c₁₁ .set-place in
+    let c₁₃ = c₁₁ .before .before in let loop-test = c₁₃ .loop-test in
+    let c₁₄ = c₁₃ .before in let loop = c₁₄ .loop in
+    let c₁₆ = c₁₄ .before .before in let place = c₁₆ .place in
+    let c₁₈ = c₁₆ .before .before in let attributes = c₁₈ .attributes in
+    let c₁₉ = c₁₈ .before in let rows = c₁₉ .rows in
+    let c₂₄ = c₁₉ .before .before .before .before .before in let args = c₂₄ .args in let good = c₂₄ .good in let pre = c₂₄ .pre in
+    let cb = now (args .cb) in let env = now (args .env) in let memo = now (args .memo) in let q = now (args .q) in let vs = now (args .vs) in let z = now (args .z) in let level = args .level in let variable = args .variable in
+    (search-found (holdsOn level q z cb vs memo env variable) cb vs (args .relation) (rows .result) (attributes .result) (loop .row) (loop .i) (loop .inv .1) (loop-test .taken) (on-row (loop .env) env _ variable (place .result) (loop .row) (loop .inv .0) (set-place .ensures) level q z cb vs memo _ (omega (arith, pre, good)) (condition .ensures .0) ∙ if1 .taken), c .before .before .set-place2 .ensures ∙ places-back (loop .env) env _ variable (place .result) (loop .row) (loop .inv .0) (set-place .ensures) _ (condition .ensures .1))
 
 some-row-add-row : (t : ℕ) → some-row-lts.Need-add-row (some-row-claims t) (some-row-at t) some-row.Post some-row-Inv-loop some-row-μ-loop
 some-row-add-row t c = omega (arith, row-fits _ _ _ _ _ _ (c .before .before .before .before .before .before .before .before .before .before .loop .inv .2) (c .before .before .before .before .before .before .before .before .before .before .before .base .ensures .1) (search needs) (c .before .before .before .before .before .before .before .before .before .loop-test .taken) (c .before .before .before .before .before .before .before .before .before .before .before .before .before .before .before .rows .ensures .1) (c .before .before .before .before .before .before .before .before .before .before .before .before .before .before .attributes .ensures .1))
@@ -386,7 +539,17 @@ some-row-loop-less : (t : ℕ) → some-row-lts.Need-loop-less (some-row-claims 
 some-row-loop-less t c = search needs
 
 some-row-loop-again : (t : ℕ) → some-row-lts.Need-loop-again (some-row-claims t) (some-row-at t) some-row.Post some-row-Inv-loop some-row-μ-loop
-some-row-loop-again t c = (places-back (c .before .before .before .before .before .before .before .before .before .before .loop .env) (now (c .before .before .before .before .before .before .before .before .before .before .before .before .before .before .before .before .before .before .before .before .args .env)) _ (c .before .before .before .before .before .before .before .before .before .before .before .before .before .before .before .before .before .before .before .before .args .variable) (c .before .before .before .before .before .before .before .before .before .before .before .before .place .result) (c .before .before .before .before .before .before .before .before .before .before .loop .row) (c .before .before .before .before .before .before .before .before .before .before .loop .inv .0) (c .before .before .before .before .before .before .before .set-place .ensures) _ (c .before .before .before .condition .ensures .1), search-next (holdsOn (c .before .before .before .before .before .before .before .before .before .before .before .before .before .before .before .before .before .before .before .before .args .level) (now (c .before .before .before .before .before .before .before .before .before .before .before .before .before .before .before .before .before .before .before .before .args .q)) (now (c .before .before .before .before .before .before .before .before .before .before .before .before .before .before .before .before .before .before .before .before .args .z)) (now (c .before .before .before .before .before .before .before .before .before .before .before .before .before .before .before .before .before .before .before .before .args .cb)) (now (c .before .before .before .before .before .before .before .before .before .before .before .before .before .before .before .before .before .before .before .before .args .vs)) (now (c .before .before .before .before .before .before .before .before .before .before .before .before .before .before .before .before .before .before .before .before .args .memo)) (now (c .before .before .before .before .before .before .before .before .before .before .before .before .before .before .before .before .before .before .before .before .args .env)) (c .before .before .before .before .before .before .before .before .before .before .before .before .before .before .before .before .before .before .before .before .args .variable)) (now (c .before .before .before .before .before .before .before .before .before .before .before .before .before .before .before .before .before .before .before .before .args .cb)) (now (c .before .before .before .before .before .before .before .before .before .before .before .before .before .before .before .before .before .before .before .before .args .vs)) (c .before .before .before .before .before .before .before .before .before .before .before .before .before .before .before .before .before .before .before .before .args .relation) (c .before .before .before .before .before .before .before .before .before .before .before .before .before .before .before .rows .result) (c .before .before .before .before .before .before .before .before .before .before .before .before .before .before .attributes .result) (c .before .before .before .before .before .before .before .before .before .before .loop .row) (c .before .before .before .before .before .before .before .before .before .before .loop .i) (c .before .before .before .before .before .before .before .before .before .before .loop .inv .1) (c .before .before .before .before .before .before .before .before .before .loop-test .taken) (on-row (c .before .before .before .before .before .before .before .before .before .before .loop .env) (now (c .before .before .before .before .before .before .before .before .before .before .before .before .before .before .before .before .before .before .before .before .args .env)) _ (c .before .before .before .before .before .before .before .before .before .before .before .before .before .before .before .before .before .before .before .before .args .variable) (c .before .before .before .before .before .before .before .before .before .before .before .before .place .result) (c .before .before .before .before .before .before .before .before .before .before .loop .row) (c .before .before .before .before .before .before .before .before .before .before .loop .inv .0) (c .before .before .before .before .before .before .before .set-place .ensures) (c .before .before .before .before .before .before .before .before .before .before .before .before .before .before .before .before .before .before .before .before .args .level) (now (c .before .before .before .before .before .before .before .before .before .before .before .before .before .before .before .before .before .before .before .before .args .q)) (now (c .before .before .before .before .before .before .before .before .before .before .before .before .before .before .before .before .before .before .before .before .args .z)) (now (c .before .before .before .before .before .before .before .before .before .before .before .before .before .before .before .before .before .before .before .before .args .cb)) (now (c .before .before .before .before .before .before .before .before .before .before .before .before .before .before .before .before .before .before .before .before .args .vs)) (now (c .before .before .before .before .before .before .before .before .before .before .before .before .before .before .before .before .before .before .before .before .args .memo)) _ (omega (arith, c .before .before .before .before .before .before .before .before .before .before .before .before .before .before .before .before .before .before .before .before .pre, c .before .before .before .before .before .before .before .before .before .before .before .before .before .before .before .before .before .before .before .before .good)) (c .before .before .before .condition .ensures .0) ∙ c .if1 .left), next-row _ _ _ _ (c .before .before .before .before .before .before .before .before .before .before .loop .inv .2), search needs, places-length (c .before .before .before .before .before .before .before .before .before .before .loop .env) (now (c .before .before .before .before .before .before .before .before .before .before .before .before .before .before .before .before .before .before .before .before .args .env)) _ (c .before .before .before .before .before .before .before .before .before .before .before .before .before .before .before .before .before .before .before .before .args .variable) (c .before .before .before .before .before .before .before .before .before .before .before .before .place .result) (c .before .before .before .before .before .before .before .before .before .before .loop .row) (c .before .before .before .before .before .before .before .before .before .before .loop .inv .0) (c .before .before .before .before .before .before .before .set-place .ensures) _ (c .before .before .before .condition .ensures .1) (c .before .before .before .before .before .before .before .before .before .before .loop .inv .4))
+some-row-loop-again t c =
+    let c₃ = c .before .before .before in let condition = c₃ .condition in
+    let c₇ = c₃ .before .before .before .before in let set-place = c₇ .set-place in
+    let c₉ = c₇ .before .before in let loop-test = c₉ .loop-test in
+    let c₁₀ = c₉ .before in let loop = c₁₀ .loop in
+    let c₁₂ = c₁₀ .before .before in let place = c₁₂ .place in
+    let c₁₄ = c₁₂ .before .before in let attributes = c₁₄ .attributes in
+    let c₁₅ = c₁₄ .before in let rows = c₁₅ .rows in
+    let c₂₀ = c₁₅ .before .before .before .before .before in let args = c₂₀ .args in let good = c₂₀ .good in let pre = c₂₀ .pre in
+    let cb = now (args .cb) in let env = now (args .env) in let memo = now (args .memo) in let q = now (args .q) in let vs = now (args .vs) in let z = now (args .z) in let level = args .level in let variable = args .variable in
+    (places-back (loop .env) env _ variable (place .result) (loop .row) (loop .inv .0) (set-place .ensures) _ (condition .ensures .1), search-next (holdsOn level q z cb vs memo env variable) cb vs (args .relation) (rows .result) (attributes .result) (loop .row) (loop .i) (loop .inv .1) (loop-test .taken) (on-row (loop .env) env _ variable (place .result) (loop .row) (loop .inv .0) (set-place .ensures) level q z cb vs memo _ (omega (arith, pre, good)) (condition .ensures .0) ∙ c .if1 .left), next-row _ _ _ _ (loop .inv .2), search needs, places-length (loop .env) env _ variable (place .result) (loop .row) (loop .inv .0) (set-place .ensures) _ (condition .ensures .1) (loop .inv .4))
 
 some-row-set-place-requires-3 : (t : ℕ) → some-row-lts.Need-set-place-requires-3 (some-row-claims t) (some-row-at t) some-row.Post some-row-Inv-loop some-row-μ-loop
 some-row-set-place-requires-3 t c κs = search needs
@@ -395,13 +558,22 @@ some-row-same-length-2 : (t : ℕ) → some-row-lts.Need-same-length-2 (some-row
 some-row-same-length-2 t c = search needs
 
 some-row-returns-2 : (t : ℕ) → some-row-lts.Need-returns-2 (some-row-claims t) (some-row-at t) some-row.Post some-row-Inv-loop some-row-μ-loop
-some-row-returns-2 t c = (search-none (holdsOn (c .before .before .before .before .before .before .before .before .before .before .before .before .before .before .before .args .level) (now (c .before .before .before .before .before .before .before .before .before .before .before .before .before .before .before .args .q)) (now (c .before .before .before .before .before .before .before .before .before .before .before .before .before .before .before .args .z)) (now (c .before .before .before .before .before .before .before .before .before .before .before .before .before .before .before .args .cb)) (now (c .before .before .before .before .before .before .before .before .before .before .before .before .before .before .before .args .vs)) (now (c .before .before .before .before .before .before .before .before .before .before .before .before .before .before .before .args .memo)) (now (c .before .before .before .before .before .before .before .before .before .before .before .before .before .before .before .args .env)) (c .before .before .before .before .before .before .before .before .before .before .before .before .before .before .before .args .variable)) (now (c .before .before .before .before .before .before .before .before .before .before .before .before .before .before .before .args .cb)) (now (c .before .before .before .before .before .before .before .before .before .before .before .before .before .before .before .args .vs)) (c .before .before .before .before .before .before .before .before .before .before .before .before .before .before .before .args .relation) (c .before .before .before .before .before .before .before .before .before .before .rows .result) (c .before .before .before .before .before .before .before .before .before .attributes .result) (c .before .before .before .before .before .loop .row) (c .before .before .before .before .before .loop .i) (c .before .before .before .before .before .loop .inv .1) (c .before .before .before .before .loop-test .left), c .before .before .set-place3 .ensures ∙ c .before .before .before .before .before .loop .inv .0)
+some-row-returns-2 t c =
+    let c₄ = c .before .before .before .before in let loop-test = c₄ .loop-test in
+    let c₅ = c₄ .before in let loop = c₅ .loop in
+    let c₉ = c₅ .before .before .before .before in let attributes = c₉ .attributes in
+    let c₁₀ = c₉ .before in let rows = c₁₀ .rows in
+    let c₁₅ = c₁₀ .before .before .before .before .before in let args = c₁₅ .args in
+    let cb = now (args .cb) in let vs = now (args .vs) in
+    (search-none (holdsOn (args .level) (now (args .q)) (now (args .z)) cb vs (now (args .memo)) (now (args .env)) (args .variable)) cb vs (args .relation) (rows .result) (attributes .result) (loop .row) (loop .i) (loop .inv .1) (loop-test .left), c .before .before .set-place3 .ensures ∙ loop .inv .0)
 
 term-whole-requires : (t : ℕ) → term-lts.Need-whole-requires (term-claims t) (term-at t) term.Post
 term-whole-requires t c κs = search needs
 
 term-returns : (t : ℕ) → term-lts.Need-returns (term-claims t) (term-at t) term.Post
-term-returns t c = ((c .whole .ensures .0) ∙ ap represent (value-zero (now (c .before .before .before .before .before .before .args .cb)) (now (c .before .before .before .before .before .before .args .vs)) (now (c .before .before .before .before .before .before .args .memo)) (now (c .before .before .before .before .before .before .args .env)) (now (c .before .before .before .before .before .before .args .q)) (now (c .before .before .before .before .before .before .args .z)) (c .before .before .before .before .before .before .args .level) (c .before .if1 .taken)), (c .whole .ensures .1, search needs))
+term-returns t c =
+    let c₆ = c .before .before .before .before .before .before in let args = c₆ .args in
+    ((c .whole .ensures .0) ∙ ap represent (value-zero (now (args .cb)) (now (args .vs)) (now (args .memo)) (now (args .env)) (now (args .q)) (now (args .z)) (args .level) (c .before .if1 .taken)), (c .whole .ensures .1, search needs))
 
 term-sub-l : (t : ℕ) → term-lts.Need-sub-l (term-claims t) (term-at t) term.Post
 term-sub-l t c = search needs
@@ -446,7 +618,14 @@ term-recall-requires : (t : ℕ) → term-lts.Need-recall-requires (term-claims 
 term-recall-requires t c κs = sym (c .before .knows .ensures) ∙ c .if2 .taken
 
 term-returns-2 : (t : ℕ) → term-lts.Need-returns-2 (term-claims t) (term-at t) term.Post
-term-returns-2 t c = (c .recall .ensures .0 ∙ ap represent (known-is (now (c .before .before .before .before .before .before .before .before .before .before .before .before .before .before .args .cb)) (now (c .before .before .before .before .before .before .before .before .before .before .before .before .before .before .args .vs)) (now (c .before .before .before .before .before .before .before .before .before .before .before .before .before .before .args .memo)) (now (c .before .before .before .before .before .before .before .before .before .before .before .before .before .before .args .env)) (now (c .before .before .before .before .before .before .before .before .before .before .before .before .before .before .args .q)) (now (c .before .before .before .before .before .before .before .before .before .before .before .before .before .before .args .z)) (c .before .before .before .before .before .before .before .before .before .before .before .before .before .before .args .level) _ _ _ (c .before .before .before .before .before .before .before .before .before .if1 .left) (c .before .before .before .before .before .before .before .before .byte .ensures) (c .before .before .before .before .before .before .before .record-length .ensures .0) (c .before .before .before .before .before .before .read .ensures) _ _ _ _ _ _ (c .before .before .before .before .function .given .1) (c .before .before .knows .ensures) (c .before .if2 .taken) refl), (c .recall .ensures .1, search needs))
+term-returns-2 t c =
+    let c₄ = c .before .before .before .before in let function = c₄ .function in
+    let c₆ = c₄ .before .before in let read = c₆ .read in
+    let c₇ = c₆ .before in let record-length = c₇ .record-length in
+    let c₈ = c₇ .before in let byte = c₈ .byte in
+    let c₉ = c₈ .before in let if1 = c₉ .if1 in
+    let c₁₄ = c₉ .before .before .before .before .before in let args = c₁₄ .args in
+    (c .recall .ensures .0 ∙ ap represent (known-is (now (args .cb)) (now (args .vs)) (now (args .memo)) (now (args .env)) (now (args .q)) (now (args .z)) (args .level) _ _ _ (if1 .left) (byte .ensures) (record-length .ensures .0) (read .ensures) _ _ _ _ _ _ (function .given .1) (c .before .before .knows .ensures) (c .before .if2 .taken) refl), (c .recall .ensures .1, search needs))
 
 term-tail-requires : (t : ℕ) → term-lts.Need-tail-requires (term-claims t) (term-at t) term.Post
 term-tail-requires t c κs = search needs
@@ -464,22 +643,50 @@ term-whole-requires-4 : (t : ℕ) → term-lts.Need-whole-requires-4 (term-claim
 term-whole-requires-4 t c κs = search needs
 
 term-returns-3 : (t : ℕ) → term-lts.Need-returns-3 (term-claims t) (term-at t) term.Post
-term-returns-3 t c = ((c .whole2 .ensures .0) ∙ ap represent (constant-is (now (c .before .before .before .before .before .before .before .before .before .before .before .before .before .args .cb)) (now (c .before .before .before .before .before .before .before .before .before .before .before .before .before .args .vs)) (now (c .before .before .before .before .before .before .before .before .before .before .before .before .before .args .memo)) (now (c .before .before .before .before .before .before .before .before .before .before .before .before .before .args .env)) (now (c .before .before .before .before .before .before .before .before .before .before .before .before .before .args .q)) (now (c .before .before .before .before .before .before .before .before .before .before .before .before .before .args .z)) (c .before .before .before .before .before .before .before .before .before .before .before .before .before .args .level) _ _ _ _ _ _ (c .before .before .before .before .before .before .before .before .if1 .left) (c .before .before .before .before .before .read .ensures) (c .before .before .before .a .given .1) (toZ-ofZ {w = w32} (record { sfits = c .before .constant .ok }) ∙ c .before .constant .ensures .0)), (c .whole2 .ensures .1, search needs))
+term-returns-3 t c =
+    let c₁ = c .before in let constant = c₁ .constant in
+    let c₃ = c₁ .before .before in let a = c₃ .a in
+    let c₅ = c₃ .before .before in let read = c₅ .read in
+    let c₈ = c₅ .before .before .before in let if1 = c₈ .if1 in
+    let c₁₃ = c₈ .before .before .before .before .before in let args = c₁₃ .args in
+    ((c .whole2 .ensures .0) ∙ ap represent (constant-is (now (args .cb)) (now (args .vs)) (now (args .memo)) (now (args .env)) (now (args .q)) (now (args .z)) (args .level) _ _ _ _ _ _ (if1 .left) (read .ensures) (a .given .1) (toZ-ofZ {w = w32} (record { sfits = constant .ok }) ∙ constant .ensures .0)), (c .whole2 .ensures .1, search needs))
 
 term-same-length : (t : ℕ) → term-lts.Need-same-length (term-claims t) (term-at t) term.Post
 term-same-length t c = search needs
 
 term-returns-4 : (t : ℕ) → term-lts.Need-returns-4 (term-claims t) (term-at t) term.Post
-term-returns-4 t c = ((c .whole3 .ensures .0) ∙ ap represent (attribute-is (now (c .before .before .before .before .before .before .before .before .before .before .before .before .before .before .before .args .cb)) (now (c .before .before .before .before .before .before .before .before .before .before .before .before .before .before .before .args .vs)) (now (c .before .before .before .before .before .before .before .before .before .before .before .before .before .before .before .args .memo)) (now (c .before .before .before .before .before .before .before .before .before .before .before .before .before .before .before .args .env)) (now (c .before .before .before .before .before .before .before .before .before .before .before .before .before .before .before .args .q)) (now (c .before .before .before .before .before .before .before .before .before .before .before .before .before .before .before .args .z)) (c .before .before .before .before .before .before .before .before .before .before .before .before .before .before .before .args .level) _ _ _ _ _ (c .before .before .before .before .before .before .before .before .before .before .if1 .left) (c .before .before .before .before .before .before .before .read .ensures) (c .before .before .before .before .before .variable .given .1) (omega (arith, c .before .before .before .before .before .before .before .before .before .before .before .before .before .before .before .pre .1, c .before .before .before .before .known-told2 .given)) (c .before .before .place .ensures) (toZ-ofZ {w = w32} (record { sfits = c .before .cell .ok }) ∙ c .before .cell .ensures)), (c .whole3 .ensures .1, search needs))
+term-returns-4 t c =
+    let c₁ = c .before in let cell = c₁ .cell in
+    let c₄ = c₁ .before .before .before in let known-told2 = c₄ .known-told2 in
+    let c₅ = c₄ .before in let variable = c₅ .variable in
+    let c₇ = c₅ .before .before in let read = c₇ .read in
+    let c₁₀ = c₇ .before .before .before in let if1 = c₁₀ .if1 in
+    let c₁₅ = c₁₀ .before .before .before .before .before in let args = c₁₅ .args in let pre = c₁₅ .pre in
+    ((c .whole3 .ensures .0) ∙ ap represent (attribute-is (now (args .cb)) (now (args .vs)) (now (args .memo)) (now (args .env)) (now (args .q)) (now (args .z)) (args .level) _ _ _ _ _ (if1 .left) (read .ensures) (variable .given .1) (omega (arith, pre .1, known-told2 .given)) (c .before .before .place .ensures) (toZ-ofZ {w = w32} (record { sfits = cell .ok }) ∙ cell .ensures)), (c .whole3 .ensures .1, search needs))
 
 term-same-length-2 : (t : ℕ) → term-lts.Need-same-length-2 (term-claims t) (term-at t) term.Post
 term-same-length-2 t c = search needs
 
 term-returns-5 : (t : ℕ) → term-lts.Need-returns-5 (term-claims t) (term-at t) term.Post
-term-returns-5 t c = (ends _ _ _ _ (c .before .before .before .gather .ensures .0) (c .finish .ensures .0) ∙ ap represent (aggregate-is (now (c .before .before .before .before .before .before .before .before .before .before .before .before .before .before .before .before .before .before .before .before .args .cb)) (now (c .before .before .before .before .before .before .before .before .before .before .before .before .before .before .before .before .before .before .before .before .args .vs)) (now (c .before .before .before .before .before .before .before .before .before .before .before .before .before .before .before .before .before .before .before .before .args .memo)) (now (c .before .before .before .before .before .before .before .before .before .before .before .before .before .before .before .before .before .before .before .before .args .env)) (now (c .before .before .before .before .before .before .before .before .before .before .before .before .before .before .before .before .before .before .before .before .args .q)) (now (c .before .before .before .before .before .before .before .before .before .before .before .before .before .before .before .before .before .before .before .before .args .z)) (c .before .before .before .before .before .before .before .before .before .before .before .before .before .before .before .before .before .before .before .before .args .level) _ _ _ (c .before .before .before .before .before .before .before .before .before .before .before .before .before .before .before .if1 .left) (c .before .before .before .before .before .before .before .before .before .before .before .before .before .before .byte .ensures) (c .before .before .before .before .before .before .before .before .before .before .before .before .before .record-length .ensures .0) (c .before .before .before .before .before .before .before .before .before .before .before .before .read .ensures) _ _ (c .before .before .before .before .before .before .tail .ensures) (c .before .before .before .before .before .tail-sizes .ensures) _ _ _ _ _ _ (c .before .before .before .before .before .before .before .before .before .before .function .given .1) (c .before .before .before .before .before .before .before .before .knows .ensures) (c .before .before .before .before .before .before .before .if2 .left) refl), (c .finish .ensures .1, c .before .before .before .gather .ensures .1 .1))
+term-returns-5 t c =
+    let c₃ = c .before .before .before in let gather = c₃ .gather in
+    let c₅ = c₃ .before .before in let tail-sizes = c₅ .tail-sizes in
+    let c₆ = c₅ .before in let tail = c₆ .tail in
+    let c₇ = c₆ .before in let if2 = c₇ .if2 in
+    let c₈ = c₇ .before in let knows = c₈ .knows in
+    let c₁₀ = c₈ .before .before in let function = c₁₀ .function in
+    let c₁₂ = c₁₀ .before .before in let read = c₁₂ .read in
+    let c₁₃ = c₁₂ .before in let record-length = c₁₃ .record-length in
+    let c₁₄ = c₁₃ .before in let byte = c₁₄ .byte in
+    let c₁₅ = c₁₄ .before in let if1 = c₁₅ .if1 in
+    let c₂₀ = c₁₅ .before .before .before .before .before in let args = c₂₀ .args in
+    (ends _ _ _ _ (gather .ensures .0) (c .finish .ensures .0) ∙ ap represent (aggregate-is (now (args .cb)) (now (args .vs)) (now (args .memo)) (now (args .env)) (now (args .q)) (now (args .z)) (args .level) _ _ _ (if1 .left) (byte .ensures) (record-length .ensures .0) (read .ensures) _ _ (tail .ensures) (tail-sizes .ensures) _ _ _ _ _ _ (function .given .1) (knows .ensures) (if2 .left) refl), (c .finish .ensures .1, gather .ensures .1 .1))
 
 term-returns-6 : (t : ℕ) → term-lts.Need-returns-6 (term-claims t) (term-at t) term.Post
-term-returns-6 t c = ((c .whole4 .ensures .0) ∙ ap represent (no-term (now (c .before .before .before .before .before .before .before .before .before .before .args .cb)) (now (c .before .before .before .before .before .before .before .before .before .before .args .vs)) (now (c .before .before .before .before .before .before .before .before .before .before .args .memo)) (now (c .before .before .before .before .before .before .before .before .before .before .args .env)) (now (c .before .before .before .before .before .before .before .before .before .before .args .q)) (now (c .before .before .before .before .before .before .before .before .before .before .args .z)) (c .before .before .before .before .before .before .before .before .before .before .args .level) _ (c .before .before .before .before .before .if1 .left) (c .before .before .read .ensures) (c .before .match .keys4)), (c .whole4 .ensures .1, search needs))
+term-returns-6 t c =
+    let c₅ = c .before .before .before .before .before in let if1 = c₅ .if1 in
+    let c₁₀ = c₅ .before .before .before .before .before in let args = c₁₀ .args in
+    ((c .whole4 .ensures .0) ∙ ap represent (no-term (now (args .cb)) (now (args .vs)) (now (args .memo)) (now (args .env)) (now (args .q)) (now (args .z)) (args .level) _ (if1 .left) (c .before .before .read .ensures) (c .before .match .keys4)), (c .whole4 .ensures .1, search needs))
 
 pub +condition+gather+some-row+term-spec : {M : Type 1} → statement M
 +condition+gather+some-row+term-spec =

@@ -162,7 +162,14 @@ conditions-returns : (t : ℕ) → conditions-lts.Need-returns (
   children-reads.Asked,
   children-reads.Learnt,
 ) (conditions-at t) conditions.Post conditions-Inv-loop conditions-μ-loop
-conditions-returns t c = halt (now (c .before .before .before .before .before .before .before .before .args .q)) (now (c .before .before .before .tail .result)) (c .before .before .before .before .before .loop .at) (c .before .before .before .before .before .loop .pending) (c .before .before .head .result) (many conditionSize (c .before .before .before .before .before .before .before .before .args .n) (now (c .before .before .before .before .before .before .before .before .args .q))) (c .before .before .before .tail .ensures) (c .enum-told .given .1) (c .before .before .before .before .before .loop .inv .0) (c .before .before .before .before .loop-test .taken) (c .before .before .head .ensures)
+conditions-returns t c =
+    let c₂ = c .before .before in let head = c₂ .head in
+    let c₃ = c₂ .before in let tail = c₃ .tail in
+    let c₄ = c₃ .before in let loop-test = c₄ .loop-test in
+    let c₅ = c₄ .before in let loop = c₅ .loop in
+    let c₈ = c₅ .before .before .before in let args = c₈ .args in
+    let q = now (args .q) in
+    halt q (now (tail .result)) (loop .at) (loop .pending) (head .result) (many conditionSize (args .n) q) (tail .ensures) (c .enum-told .given .1) (loop .inv .0) (loop-test .taken) (head .ensures)
 
 conditions-sub-pending : (t : ℕ) → conditions-lts.Need-sub-pending (
   wide-reads.Asked,
@@ -232,7 +239,13 @@ conditions-add-at : (t : ℕ) → conditions-lts.Need-add-at (
   children-reads.Asked,
   children-reads.Learnt,
 ) (conditions-at t) conditions.Post conditions-Inv-loop conditions-μ-loop
-conditions-add-at t c = let h = part-takes headSize (now (c .before .before .before .before .before .before .before .before .before .before .before .args .q)) (now (c .before .before .before .before .before .before .tail .result)) (c .before .before .before .before .before .before .before .before .loop .at) (c .before .before .before .m .given .0 .0) (c .before .before .before .before .before .head .result) (c .before .before .before .before .before .before .tail .ensures) (c .before .before .before .before .before .head .ensures) (c .before .before .before .m .given .1) head-takes in omega (arith, c .before .before .before .before .before .before .before .before .loop .inv .1)
+conditions-add-at t c =
+    let c₃ = c .before .before .before in let m = c₃ .m in
+    let c₅ = c₃ .before .before in let head = c₅ .head in
+    let c₆ = c₅ .before in let tail = c₆ .tail in
+    let c₈ = c₆ .before .before in let loop = c₈ .loop in
+    let c₁₁ = c₈ .before .before .before in let args = c₁₁ .args in
+    let h = part-takes headSize (now (args .q)) (now (tail .result)) (loop .at) (m .given .0 .0) (head .result) (tail .ensures) (head .ensures) (m .given .1) head-takes in omega (arith, loop .inv .1)
 
 conditions-loop-less : (t : ℕ) → conditions-lts.Need-loop-less (
   wide-reads.Asked,
@@ -246,7 +259,13 @@ conditions-loop-less : (t : ℕ) → conditions-lts.Need-loop-less (
   children-reads.Asked,
   children-reads.Learnt,
 ) (conditions-at t) conditions.Post conditions-Inv-loop conditions-μ-loop
-conditions-loop-less t c = let h = part-takes headSize (now (c .before .before .before .before .before .before .before .before .before .before .before .args .q)) (now (c .before .before .before .before .before .before .tail .result)) (c .before .before .before .before .before .before .before .before .loop .at) (c .before .before .before .m .given .0 .0) (c .before .before .before .before .before .head .result) (c .before .before .before .before .before .before .tail .ensures) (c .before .before .before .before .before .head .ensures) (c .before .before .before .m .given .1) head-takes in omega (arith, c .before .before .before .before .before .before .before .before .loop .inv .1)
+conditions-loop-less t c =
+    let c₃ = c .before .before .before in let m = c₃ .m in
+    let c₅ = c₃ .before .before in let head = c₅ .head in
+    let c₆ = c₅ .before in let tail = c₆ .tail in
+    let c₈ = c₆ .before .before in let loop = c₈ .loop in
+    let c₁₁ = c₈ .before .before .before in let args = c₁₁ .args in
+    let h = part-takes headSize (now (args .q)) (now (tail .result)) (loop .at) (m .given .0 .0) (head .result) (tail .ensures) (head .ensures) (m .given .1) head-takes in omega (arith, loop .inv .1)
 
 conditions-loop-again : (t : ℕ) → conditions-lts.Need-loop-again (
   wide-reads.Asked,
@@ -260,7 +279,16 @@ conditions-loop-again : (t : ℕ) → conditions-lts.Need-loop-again (
   children-reads.Asked,
   children-reads.Learnt,
 ) (conditions-at t) conditions.Post conditions-Inv-loop conditions-μ-loop
-conditions-loop-again t c = let h = part-takes headSize (now (c .before .before .before .before .before .before .before .before .before .before .before .args .q)) (now (c .before .before .before .before .before .before .tail .result)) (c .before .before .before .before .before .before .before .before .loop .at) (c .before .before .before .m .given .0 .0) (c .before .before .before .before .before .head .result) (c .before .before .before .before .before .before .tail .ensures) (c .before .before .before .before .before .head .ensures) (c .before .before .before .m .given .1) head-takes in (turn (now (c .before .before .before .before .before .before .before .before .before .before .before .args .q)) (now (c .before .before .before .before .before .before .tail .result)) (c .before .before .before .before .before .before .before .before .loop .at) (c .before .before .before .before .before .before .before .before .loop .pending) (c .before .before .before .m .given .0 .0) (c .before .before .before .before .before .head .result) (many conditionSize (c .before .before .before .before .before .before .before .before .before .before .before .args .n) (now (c .before .before .before .before .before .before .before .before .before .before .before .args .q))) (c .before .before .before .before .before .before .tail .ensures) (c .before .before .before .m .given .1) (c .before .byte .result) (c .children .result) (c .before .before .before .before .before .before .before .before .loop .inv .0) (c .before .before .before .before .before .before .before .loop-test .taken) (c .before .before .before .before .before .head .ensures) (c .before .byte .ensures) (c .children .ensures .0), omega (arith, c .before .before .before .before .before .before .before .before .loop .inv .1), omega (arith, c .before .before .before .before .before .before .before .before .loop .inv .2))
+conditions-loop-again t c =
+    let c₁ = c .before in let byte = c₁ .byte in
+    let c₃ = c₁ .before .before in let m = c₃ .m in
+    let c₅ = c₃ .before .before in let head = c₅ .head in
+    let c₆ = c₅ .before in let tail = c₆ .tail in
+    let c₇ = c₆ .before in let loop-test = c₇ .loop-test in
+    let c₈ = c₇ .before in let loop = c₈ .loop in
+    let c₁₁ = c₈ .before .before .before in let args = c₁₁ .args in
+    let q = now (args .q) in
+    let h = part-takes headSize q (now (tail .result)) (loop .at) (m .given .0 .0) (head .result) (tail .ensures) (head .ensures) (m .given .1) head-takes in (turn q (now (tail .result)) (loop .at) (loop .pending) (m .given .0 .0) (head .result) (many conditionSize (args .n) q) (tail .ensures) (m .given .1) (byte .result) (c .children .result) (loop .inv .0) (loop-test .taken) (head .ensures) (byte .ensures) (c .children .ensures .0), omega (arith, loop .inv .1), omega (arith, loop .inv .2))
 
 conditions-returns-2 : (t : ℕ) → conditions-lts.Need-returns-2 (
   wide-reads.Asked,
@@ -274,7 +302,11 @@ conditions-returns-2 : (t : ℕ) → conditions-lts.Need-returns-2 (
   children-reads.Asked,
   children-reads.Learnt,
 ) (conditions-at t) conditions.Post conditions-Inv-loop conditions-μ-loop
-conditions-returns-2 t c = end conditionSize (now (c .before .before .before .before .args .q)) (c .before .loop .at) (c .before .loop .pending) (many conditionSize (c .before .before .before .before .args .n) (now (c .before .before .before .before .args .q))) (c .before .loop .inv .0) (c .loop-test .left)
+conditions-returns-2 t c =
+    let c₁ = c .before in let loop = c₁ .loop in
+    let c₄ = c₁ .before .before .before in let args = c₄ .args in
+    let q = now (args .q) in
+    end conditionSize q (loop .at) (loop .pending) (many conditionSize (args .n) q) (loop .inv .0) (c .loop-test .left)
 
 abbrev head-Inv-loop : head-lts.InvT-loop
 head-Inv-loop q k at₀ left₀ at left = (after at (many termSize left (drop at q)) ≡ headSize q) × (at ≤ length q) × (1 ≤ at)
@@ -406,7 +438,15 @@ head-loop-holds : (t : ℕ) → head-lts.Need-loop-holds (
   term-below t,
   term.Post,
 ) (head-at t) head.Post head-Inv-loop head-μ-loop
-head-loop-holds t c = let h = head-whole (now (c .before .before .before .before .before .before .before .args .q)) (c .before .before .before .before .before .read .result) (c .before .before .before .before .is-condition .result) (c .before .before .before .before .before .read .ensures) (c .before .before .byte .result) (c .before .record-length .result) (c .before .before .byte .ensures) (c .before .record-length .ensures .0) (c .before .before .before .if1 .left) (c .before .before .before .before .is-condition .ensures) in (head-is (now (c .before .before .before .before .before .before .before .args .q)) (c .before .before .before .before .before .read .result) (c .before .before .before .before .is-condition .result) (c .before .before .before .before .before .read .ensures) (c .before .before .byte .result) (c .before .record-length .result) (c .before .before .byte .ensures) (c .before .record-length .ensures .0) (c .before .before .before .if1 .left) (c .before .before .before .before .is-condition .ensures) (c .child-terms .result) (c .child-terms .ensures), h .1, h .0)
+head-loop-holds t c =
+    let c₁ = c .before in let record-length = c₁ .record-length in
+    let c₂ = c₁ .before in let byte = c₂ .byte in
+    let c₃ = c₂ .before in let if1 = c₃ .if1 in
+    let c₄ = c₃ .before in let is-condition = c₄ .is-condition in
+    let c₅ = c₄ .before in let read = c₅ .read in
+    let c₇ = c₅ .before .before in let args = c₇ .args in
+    let q = now (args .q) in
+    let h = head-whole q (read .result) (is-condition .result) (read .ensures) (byte .result) (record-length .result) (byte .ensures) (record-length .ensures .0) (if1 .left) (is-condition .ensures) in (head-is q (read .result) (is-condition .result) (read .ensures) (byte .result) (record-length .result) (byte .ensures) (record-length .ensures .0) (if1 .left) (is-condition .ensures) (c .child-terms .result) (c .child-terms .ensures), h .1, h .0)
 
 head-tail-requires : (t : ℕ) → head-lts.Need-tail-requires (
   read-reads.Asked,
@@ -442,7 +482,10 @@ head-term-requires : (t : ℕ) → head-lts.Need-term-requires (
   term-below t,
   term.Post,
 ) (head-at t) head.Post head-Inv-loop head-μ-loop
-head-term-requires t c κs = (omega (arith, ap length (c .tail .ensures), length-drop (c .before .before .loop .at) (now (c .before .before .before .before .before .before .before .before .before .before .args .q)), c .before .before .loop .inv .1, c .before .before .loop .inv .2), tt)
+head-term-requires t c κs =
+    let c₂ = c .before .before in let loop = c₂ .loop in
+    let c₁₀ = c₂ .before .before .before .before .before .before .before .before in let args = c₁₀ .args in
+    (omega (arith, ap length (c .tail .ensures), length-drop (loop .at) (now (args .q)), loop .inv .1, loop .inv .2), tt)
 
 head-enum-known-n : (t : ℕ) → head-lts.Need-enum-known-n (
   read-reads.Asked,
@@ -496,7 +539,14 @@ head-returns-2 : (t : ℕ) → head-lts.Need-returns-2 (
   term-below t,
   term.Post,
 ) (head-at t) head.Post head-Inv-loop head-μ-loop
-head-returns-2 t c = stop (now (c .before .before .before .before .before .before .before .before .before .before .before .before .before .args .q)) (now (c .before .before .before .tail .result)) (c .before .before .before .before .before .loop .at) (c .before .before .before .before .before .loop .left) (c .before .before .term .result) (headSize (now (c .before .before .before .before .before .before .before .before .before .before .before .before .before .args .q))) (c .before .before .before .tail .ensures) (c .enum-told .given .1) termSize (c .before .before .before .before .before .loop .inv .0) (c .before .before .before .before .loop-test .taken) (c .before .before .term .ensures)
+head-returns-2 t c =
+    let c₂ = c .before .before in let term = c₂ .term in
+    let c₃ = c₂ .before in let tail = c₃ .tail in
+    let c₄ = c₃ .before in let loop-test = c₄ .loop-test in
+    let c₅ = c₄ .before in let loop = c₅ .loop in
+    let c₁₃ = c₅ .before .before .before .before .before .before .before .before in let args = c₁₃ .args in
+    let q = now (args .q) in
+    stop q (now (tail .result)) (loop .at) (loop .left) (term .result) (headSize q) (tail .ensures) (c .enum-told .given .1) termSize (loop .inv .0) (loop-test .taken) (term .ensures)
 
 head-add-at : (t : ℕ) → head-lts.Need-add-at (
   read-reads.Asked,
@@ -514,7 +564,13 @@ head-add-at : (t : ℕ) → head-lts.Need-add-at (
   term-below t,
   term.Post,
 ) (head-at t) head.Post head-Inv-loop head-μ-loop
-head-add-at t c = let h = part-takes termSize (now (c .before .before .before .before .before .before .before .before .before .before .before .before .before .before .args .q)) (now (c .before .before .before .before .tail .result)) (c .before .before .before .before .before .before .loop .at) (c .before .n .given .0 .0) (c .before .before .before .term .result) (c .before .before .before .before .tail .ensures) (c .before .before .before .term .ensures) (c .before .n .given .1) term-takes in omega (arith, c .before .before .before .before .before .before .loop .inv .1)
+head-add-at t c =
+    let c₁ = c .before in let n = c₁ .n in
+    let c₃ = c₁ .before .before in let term = c₃ .term in
+    let c₄ = c₃ .before in let tail = c₄ .tail in
+    let c₆ = c₄ .before .before in let loop = c₆ .loop in
+    let c₁₄ = c₆ .before .before .before .before .before .before .before .before in let args = c₁₄ .args in
+    let h = part-takes termSize (now (args .q)) (now (tail .result)) (loop .at) (n .given .0 .0) (term .result) (tail .ensures) (term .ensures) (n .given .1) term-takes in omega (arith, loop .inv .1)
 
 head-sub-left : (t : ℕ) → head-lts.Need-sub-left (
   read-reads.Asked,
@@ -568,7 +624,15 @@ head-loop-again : (t : ℕ) → head-lts.Need-loop-again (
   term-below t,
   term.Post,
 ) (head-at t) head.Post head-Inv-loop head-μ-loop
-head-loop-again t c = let h = part-takes termSize (now (c .before .before .before .before .before .before .before .before .before .before .before .before .before .before .args .q)) (now (c .before .before .before .before .tail .result)) (c .before .before .before .before .before .before .loop .at) (c .before .n .given .0 .0) (c .before .before .before .term .result) (c .before .before .before .before .tail .ensures) (c .before .before .before .term .ensures) (c .before .n .given .1) term-takes in (next (now (c .before .before .before .before .before .before .before .before .before .before .before .before .before .before .args .q)) (now (c .before .before .before .before .tail .result)) (c .before .before .before .before .before .before .loop .at) (c .before .before .before .before .before .before .loop .left) (c .before .n .given .0 .0) (c .before .before .before .term .result) (headSize (now (c .before .before .before .before .before .before .before .before .before .before .before .before .before .before .args .q))) (c .before .before .before .before .tail .ensures) (c .before .n .given .1) termSize (c .before .before .before .before .before .before .loop .inv .0) (c .before .before .before .before .before .loop-test .taken) (c .before .before .before .term .ensures), omega (arith, c .before .before .before .before .before .before .loop .inv .1), omega (arith, c .before .before .before .before .before .before .loop .inv .2))
+head-loop-again t c =
+    let c₁ = c .before in let n = c₁ .n in
+    let c₃ = c₁ .before .before in let term = c₃ .term in
+    let c₄ = c₃ .before in let tail = c₄ .tail in
+    let c₅ = c₄ .before in let loop-test = c₅ .loop-test in
+    let c₆ = c₅ .before in let loop = c₆ .loop in
+    let c₁₄ = c₆ .before .before .before .before .before .before .before .before in let args = c₁₄ .args in
+    let q = now (args .q) in
+    let h = part-takes termSize q (now (tail .result)) (loop .at) (n .given .0 .0) (term .result) (tail .ensures) (term .ensures) (n .given .1) term-takes in (next q (now (tail .result)) (loop .at) (loop .left) (n .given .0 .0) (term .result) (headSize q) (tail .ensures) (n .given .1) termSize (loop .inv .0) (loop-test .taken) (term .ensures), omega (arith, loop .inv .1), omega (arith, loop .inv .2))
 
 head-returns-3 : (t : ℕ) → head-lts.Need-returns-3 (
   read-reads.Asked,
@@ -586,7 +650,11 @@ head-returns-3 : (t : ℕ) → head-lts.Need-returns-3 (
   term-below t,
   term.Post,
 ) (head-at t) head.Post head-Inv-loop head-μ-loop
-head-returns-3 t c = end termSize (now (c .before .before .before .before .before .before .before .before .before .args .q)) (c .before .loop .at) (c .before .loop .left) (headSize (now (c .before .before .before .before .before .before .before .before .before .args .q))) (c .before .loop .inv .0) (c .loop-test .left)
+head-returns-3 t c =
+    let c₁ = c .before in let loop = c₁ .loop in
+    let c₉ = c₁ .before .before .before .before .before .before .before .before in let args = c₉ .args in
+    let q = now (args .q) in
+    end termSize q (loop .at) (loop .left) (headSize q) (loop .inv .0) (c .loop-test .left)
 
 term-read-requires : (t : ℕ) → term-lts.Need-read-requires (
   read-reads.Asked,
@@ -730,7 +798,15 @@ term-conditions-requires : (t : ℕ) → term-lts.Need-conditions-requires (
   conditions-below t,
   conditions.Post,
 ) (term-at t) term.Post
-term-conditions-requires t c κs = let h = leaf-whole (now (c .before .before .before .before .before .before .before .before .args .q)) (c .before .before .before .before .before .before .read .result) (c .before .before .before .before .before .is-term .result) (c .before .before .before .before .before .before .read .ensures) (c .before .before .before .byte .result) (c .before .before .record-length .result) (c .before .before .before .byte .ensures) (c .before .before .record-length .ensures .0) (c .before .before .before .before .if1 .left) (c .before .before .before .before .before .is-term .ensures) in (omega (arith, ap length (c .before .tail .ensures), length-drop (c .before .before .record-length .result) (now (c .before .before .before .before .before .before .before .before .args .q))), tt)
+term-conditions-requires t c κs =
+    let c₂ = c .before .before in let record-length = c₂ .record-length in
+    let c₃ = c₂ .before in let byte = c₃ .byte in
+    let c₄ = c₃ .before in let if1 = c₄ .if1 in
+    let c₅ = c₄ .before in let is-term = c₅ .is-term in
+    let c₆ = c₅ .before in let read = c₆ .read in
+    let c₈ = c₆ .before .before in let args = c₈ .args in
+    let q = now (args .q) in
+    let h = leaf-whole q (read .result) (is-term .result) (read .ensures) (byte .result) (record-length .result) (byte .ensures) (record-length .ensures .0) (if1 .left) (is-term .ensures) in (omega (arith, ap length (c .before .tail .ensures), length-drop (record-length .result) q), tt)
 
 term-enum-known-n : (t : ℕ) → term-lts.Need-enum-known-n (
   read-reads.Asked,
@@ -784,7 +860,17 @@ term-returns-2 : (t : ℕ) → term-lts.Need-returns-2 (
   conditions-below t,
   conditions.Post,
 ) (term-at t) term.Post
-term-returns-2 t c = ap (after (c .before .before .before .before .before .record-length .result)) (sym (c .enum-told .given .1)) ∙ leaf-is (now (c .before .before .before .before .before .before .before .before .before .before .before .args .q)) (c .before .before .before .before .before .before .before .before .before .read .result) (c .before .before .before .before .before .before .before .before .is-term .result) (c .before .before .before .before .before .before .before .before .before .read .ensures) (c .before .before .before .before .before .before .byte .result) (c .before .before .before .before .before .record-length .result) (c .before .before .before .before .before .before .byte .ensures) (c .before .before .before .before .before .record-length .ensures .0) (c .before .before .before .before .before .before .before .if1 .left) (c .before .before .before .before .before .before .before .before .is-term .ensures) (c .before .before .before .child-conditions .result) (now (c .before .before .before .before .tail .result)) (c .before .before .conditions .result) (c .before .before .before .child-conditions .ensures) (c .before .before .before .before .tail .ensures) (c .before .before .conditions .ensures)
+term-returns-2 t c =
+    let c₂ = c .before .before in let conditions = c₂ .conditions in
+    let c₃ = c₂ .before in let child-conditions = c₃ .child-conditions in
+    let c₄ = c₃ .before in let tail = c₄ .tail in
+    let c₅ = c₄ .before in let record-length = c₅ .record-length in
+    let c₆ = c₅ .before in let byte = c₆ .byte in
+    let c₇ = c₆ .before in let if1 = c₇ .if1 in
+    let c₈ = c₇ .before in let is-term = c₈ .is-term in
+    let c₉ = c₈ .before in let read = c₉ .read in
+    let c₁₁ = c₉ .before .before in let args = c₁₁ .args in
+    ap (after (record-length .result)) (sym (c .enum-told .given .1)) ∙ leaf-is (now (args .q)) (read .result) (is-term .result) (read .ensures) (byte .result) (record-length .result) (byte .ensures) (record-length .ensures .0) (if1 .left) (is-term .ensures) (child-conditions .result) (now (tail .result)) (conditions .result) (child-conditions .ensures) (tail .ensures) (conditions .ensures)
 
 term-add-t11 : (t : ℕ) → term-lts.Need-add-t11 (
   read-reads.Asked,
@@ -802,7 +888,18 @@ term-add-t11 : (t : ℕ) → term-lts.Need-add-t11 (
   conditions-below t,
   conditions.Post,
 ) (term-at t) term.Post
-term-add-t11 t c = let h = leaf-whole (now (c .before .before .before .before .before .before .before .before .before .before .before .before .args .q)) (c .before .before .before .before .before .before .before .before .before .before .read .result) (c .before .before .before .before .before .before .before .before .before .is-term .result) (c .before .before .before .before .before .before .before .before .before .before .read .ensures) (c .before .before .before .before .before .before .before .byte .result) (c .before .before .before .before .before .before .record-length .result) (c .before .before .before .before .before .before .before .byte .ensures) (c .before .before .before .before .before .before .record-length .ensures .0) (c .before .before .before .before .before .before .before .before .if1 .left) (c .before .before .before .before .before .before .before .before .before .is-term .ensures) in omega (arith, part-within (λ q. many conditionSize (c .before .before .before .before .child-conditions .result) q) (now (c .before .before .before .before .before .before .before .before .before .before .before .before .args .q)) (now (c .before .before .before .before .before .tail .result)) (c .before .before .before .before .before .before .record-length .result) (c .before .n .given .0 .0) (c .before .before .before .conditions .result) (c .before .before .before .before .before .tail .ensures) (c .before .before .before .conditions .ensures) (c .before .n .given .1) (many-within conditionSize condition-within (c .before .before .before .before .child-conditions .result)))
+term-add-t11 t c =
+    let c₁ = c .before in let n = c₁ .n in
+    let c₃ = c₁ .before .before in let conditions = c₃ .conditions in
+    let c₄ = c₃ .before in let child-conditions = c₄ .child-conditions in
+    let c₅ = c₄ .before in let tail = c₅ .tail in
+    let c₆ = c₅ .before in let record-length = c₆ .record-length in
+    let c₇ = c₆ .before in let byte = c₇ .byte in
+    let c₈ = c₇ .before in let if1 = c₈ .if1 in
+    let c₉ = c₈ .before in let is-term = c₉ .is-term in
+    let c₁₀ = c₉ .before in let read = c₁₀ .read in
+    let c₁₂ = c₁₀ .before .before in let args = c₁₂ .args in
+    let h = leaf-whole (now (args .q)) (read .result) (is-term .result) (read .ensures) (byte .result) (record-length .result) (byte .ensures) (record-length .ensures .0) (if1 .left) (is-term .ensures) in omega (arith, part-within (λ q. many conditionSize (child-conditions .result) q) (now (args .q)) (now (tail .result)) (record-length .result) (n .given .0 .0) (conditions .result) (tail .ensures) (conditions .ensures) (n .given .1) (many-within conditionSize condition-within (child-conditions .result)))
 
 term-returns-3 : (t : ℕ) → term-lts.Need-returns-3 (
   read-reads.Asked,
@@ -820,7 +917,17 @@ term-returns-3 : (t : ℕ) → term-lts.Need-returns-3 (
   conditions-below t,
   conditions.Post,
 ) (term-at t) term.Post
-term-returns-3 t c = ap (after (c .before .before .before .before .before .before .record-length .result)) (sym (c .before .n .given .1)) ∙ leaf-is (now (c .before .before .before .before .before .before .before .before .before .before .before .before .args .q)) (c .before .before .before .before .before .before .before .before .before .before .read .result) (c .before .before .before .before .before .before .before .before .before .is-term .result) (c .before .before .before .before .before .before .before .before .before .before .read .ensures) (c .before .before .before .before .before .before .before .byte .result) (c .before .before .before .before .before .before .record-length .result) (c .before .before .before .before .before .before .before .byte .ensures) (c .before .before .before .before .before .before .record-length .ensures .0) (c .before .before .before .before .before .before .before .before .if1 .left) (c .before .before .before .before .before .before .before .before .before .is-term .ensures) (c .before .before .before .before .child-conditions .result) (now (c .before .before .before .before .before .tail .result)) (c .before .before .before .conditions .result) (c .before .before .before .before .child-conditions .ensures) (c .before .before .before .before .before .tail .ensures) (c .before .before .before .conditions .ensures)
+term-returns-3 t c =
+    let c₃ = c .before .before .before in let conditions = c₃ .conditions in
+    let c₄ = c₃ .before in let child-conditions = c₄ .child-conditions in
+    let c₅ = c₄ .before in let tail = c₅ .tail in
+    let c₆ = c₅ .before in let record-length = c₆ .record-length in
+    let c₇ = c₆ .before in let byte = c₇ .byte in
+    let c₈ = c₇ .before in let if1 = c₈ .if1 in
+    let c₉ = c₈ .before in let is-term = c₉ .is-term in
+    let c₁₀ = c₉ .before in let read = c₁₀ .read in
+    let c₁₂ = c₁₀ .before .before in let args = c₁₂ .args in
+    ap (after (record-length .result)) (sym (c .before .n .given .1)) ∙ leaf-is (now (args .q)) (read .result) (is-term .result) (read .ensures) (byte .result) (record-length .result) (byte .ensures) (record-length .ensures .0) (if1 .left) (is-term .ensures) (child-conditions .result) (now (tail .result)) (conditions .result) (child-conditions .ensures) (tail .ensures) (conditions .ensures)
 
 pub +conditions+head+term-spec : {M : Type 1} → statement M
 +conditions+head+term-spec = close μ-conditions μ-head μ-term (λ t. conditions-lts.spec (

@@ -49,13 +49,35 @@ enum-told-2 : tie.Need-enum-told-2
 enum-told-2 c = search needs
 
 returns-2 : tie.Need-returns-2
-returns-2 c = ap (after (c .before .before .before .before .record-length .result)) (sym (c .enum-told2 .given .1)) ∙ permit-found (now (c .before .before .before .before .before .before .before .before .before .before .args .q)) (c .before .before .before .before .before .before .before .before .read .result) (c .before .before .before .before .before .before .before .before .read .ensures) _ _ _ (c .before .before .before .before .before .before .enum-told .given .1) (c .before .before .before .before .before .byte .result) (c .before .before .before .before .record-length .result) (c .before .before .before .before .before .byte .ensures) (c .before .before .before .before .record-length .ensures .0) (now (c .before .before .before .tail .result)) (c .before .before .condition .result) (c .before .before .before .tail .ensures) (c .before .before .condition .ensures)
+returns-2 c =
+    let c₂ = c .before .before in let condition = c₂ .condition in
+    let c₃ = c₂ .before in let tail = c₃ .tail in
+    let c₄ = c₃ .before in let record-length = c₄ .record-length in
+    let c₅ = c₄ .before in let byte = c₅ .byte in
+    let c₆ = c₅ .before in let enum-told = c₆ .enum-told in
+    let c₈ = c₆ .before .before in let read = c₈ .read in
+    let c₁₀ = c₈ .before .before in let args = c₁₀ .args in
+    ap (after (record-length .result)) (sym (c .enum-told2 .given .1)) ∙ permit-found (now (args .q)) (read .result) (read .ensures) _ _ _ (enum-told .given .1) (byte .result) (record-length .result) (byte .ensures) (record-length .ensures .0) (now (tail .result)) (condition .result) (tail .ensures) (condition .ensures)
 
 add-t8 : tie.Need-add-t8
-add-t8 c = omega (arith, c .before .before .before .before .before .record-length .ensures .1, part-within conditionSize (now (c .before .before .before .before .before .before .before .before .before .before .before .args .q)) (now (c .before .before .before .before .tail .result)) (c .before .before .before .before .before .record-length .result) (c .before .n .given .0 .0) (c .before .before .before .condition .result) (c .before .before .before .before .tail .ensures) (c .before .before .before .condition .ensures) (c .before .n .given .1) condition-within)
+add-t8 c =
+    let c₁ = c .before in let n = c₁ .n in
+    let c₃ = c₁ .before .before in let condition = c₃ .condition in
+    let c₄ = c₃ .before in let tail = c₄ .tail in
+    let c₅ = c₄ .before in let record-length = c₅ .record-length in
+    let c₁₁ = c₅ .before .before .before .before .before .before in let args = c₁₁ .args in
+    omega (arith, record-length .ensures .1, part-within conditionSize (now (args .q)) (now (tail .result)) (record-length .result) (n .given .0 .0) (condition .result) (tail .ensures) (condition .ensures) (n .given .1) condition-within)
 
 returns-3 : tie.Need-returns-3
-returns-3 c = ap (after (c .before .before .before .before .before .record-length .result)) (sym (c .before .n .given .1)) ∙ permit-found (now (c .before .before .before .before .before .before .before .before .before .before .before .args .q)) (c .before .before .before .before .before .before .before .before .before .read .result) (c .before .before .before .before .before .before .before .before .before .read .ensures) _ _ _ (c .before .before .before .before .before .before .before .enum-told .given .1) (c .before .before .before .before .before .before .byte .result) (c .before .before .before .before .before .record-length .result) (c .before .before .before .before .before .before .byte .ensures) (c .before .before .before .before .before .record-length .ensures .0) (now (c .before .before .before .before .tail .result)) (c .before .before .before .condition .result) (c .before .before .before .before .tail .ensures) (c .before .before .before .condition .ensures)
+returns-3 c =
+    let c₃ = c .before .before .before in let condition = c₃ .condition in
+    let c₄ = c₃ .before in let tail = c₄ .tail in
+    let c₅ = c₄ .before in let record-length = c₅ .record-length in
+    let c₆ = c₅ .before in let byte = c₆ .byte in
+    let c₇ = c₆ .before in let enum-told = c₇ .enum-told in
+    let c₉ = c₇ .before .before in let read = c₉ .read in
+    let c₁₁ = c₉ .before .before in let args = c₁₁ .args in
+    ap (after (record-length .result)) (sym (c .before .n .given .1)) ∙ permit-found (now (args .q)) (read .result) (read .ensures) _ _ _ (enum-told .given .1) (byte .result) (record-length .result) (byte .ensures) (record-length .ensures .0) (now (tail .result)) (condition .result) (tail .ensures) (condition .ensures)
 
 pub permit-spec : {M : Type 1} → statement M
 permit-spec =

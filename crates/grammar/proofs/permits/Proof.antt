@@ -33,16 +33,42 @@ enum-told : tie.Need-enum-told Inv-loop μ-loop
 enum-told c = search needs
 
 returns : tie.Need-returns Inv-loop μ-loop
-returns c = refused-at (now (c .before .before .before .before .before .before .before .args .list)) (now (c .before .before .before .tail .result)) (c .before .before .before .before .before .loop .at) (c .before .before .permit .result) (c .before .before .before .tail .ensures) (c .before .before .permit .ensures) (c .before .before .before .before .loop-test .taken) (c .before .before .before .before .before .loop .inv .0) (c .enum-told .given .1)
+returns c =
+    let c₂ = c .before .before in let permit = c₂ .permit in
+    let c₃ = c₂ .before in let tail = c₃ .tail in
+    let c₄ = c₃ .before in let loop-test = c₄ .loop-test in
+    let c₅ = c₄ .before in let loop = c₅ .loop in
+    let c₇ = c₅ .before .before in let args = c₇ .args in
+    refused-at (now (args .list)) (now (tail .result)) (loop .at) (permit .result) (tail .ensures) (permit .ensures) (loop-test .taken) (loop .inv .0) (c .enum-told .given .1)
 
 add-at : tie.Need-add-at Inv-loop μ-loop
-add-at c = let h = part-takes permitSize (now (c .before .before .before .before .before .before .before .before .args .list)) (now (c .before .before .before .before .tail .result)) (c .before .before .before .before .before .before .loop .at) (c .before .n .given .0 .0) (c .before .before .before .permit .result) (c .before .before .before .before .tail .ensures) (c .before .before .before .permit .ensures) (c .before .n .given .1) permit-takes in omega (arith, c .before .before .before .before .before .before .loop .inv .1)
+add-at c =
+    let c₁ = c .before in let n = c₁ .n in
+    let c₃ = c₁ .before .before in let permit = c₃ .permit in
+    let c₄ = c₃ .before in let tail = c₄ .tail in
+    let c₆ = c₄ .before .before in let loop = c₆ .loop in
+    let c₈ = c₆ .before .before in let args = c₈ .args in
+    let h = part-takes permitSize (now (args .list)) (now (tail .result)) (loop .at) (n .given .0 .0) (permit .result) (tail .ensures) (permit .ensures) (n .given .1) permit-takes in omega (arith, loop .inv .1)
 
 loop-less : tie.Need-loop-less Inv-loop μ-loop
-loop-less c = let h = part-takes permitSize (now (c .before .before .before .before .before .before .before .before .args .list)) (now (c .before .before .before .before .tail .result)) (c .before .before .before .before .before .before .loop .at) (c .before .n .given .0 .0) (c .before .before .before .permit .result) (c .before .before .before .before .tail .ensures) (c .before .before .before .permit .ensures) (c .before .n .given .1) permit-takes in omega (arith, c .before .before .before .before .before .before .loop .inv .1)
+loop-less c =
+    let c₁ = c .before in let n = c₁ .n in
+    let c₃ = c₁ .before .before in let permit = c₃ .permit in
+    let c₄ = c₃ .before in let tail = c₄ .tail in
+    let c₆ = c₄ .before .before in let loop = c₆ .loop in
+    let c₈ = c₆ .before .before in let args = c₈ .args in
+    let h = part-takes permitSize (now (args .list)) (now (tail .result)) (loop .at) (n .given .0 .0) (permit .result) (tail .ensures) (permit .ensures) (n .given .1) permit-takes in omega (arith, loop .inv .1)
 
 loop-again : tie.Need-loop-again Inv-loop μ-loop
-loop-again c = let h = part-takes permitSize (now (c .before .before .before .before .before .before .before .before .args .list)) (now (c .before .before .before .before .tail .result)) (c .before .before .before .before .before .before .loop .at) (c .before .n .given .0 .0) (c .before .before .before .permit .result) (c .before .before .before .before .tail .ensures) (c .before .before .before .permit .ensures) (c .before .n .given .1) permit-takes in (turned-at (now (c .before .before .before .before .before .before .before .before .args .list)) (now (c .before .before .before .before .tail .result)) (c .before .before .before .before .before .before .loop .at) (c .before .before .before .permit .result) (c .before .before .before .before .tail .ensures) (c .before .before .before .permit .ensures) (c .before .before .before .before .before .loop-test .taken) (c .before .before .before .before .before .before .loop .inv .0) (c .before .n .given .0 .0) (c .before .n .given .1), omega (arith, c .before .before .before .before .before .before .loop .inv .1))
+loop-again c =
+    let c₁ = c .before in let n = c₁ .n in
+    let c₃ = c₁ .before .before in let permit = c₃ .permit in
+    let c₄ = c₃ .before in let tail = c₄ .tail in
+    let c₅ = c₄ .before in let loop-test = c₅ .loop-test in
+    let c₆ = c₅ .before in let loop = c₆ .loop in
+    let c₈ = c₆ .before .before in let args = c₈ .args in
+    let list = now (args .list) in
+    let h = part-takes permitSize list (now (tail .result)) (loop .at) (n .given .0 .0) (permit .result) (tail .ensures) (permit .ensures) (n .given .1) permit-takes in (turned-at list (now (tail .result)) (loop .at) (permit .result) (tail .ensures) (permit .ensures) (loop-test .taken) (loop .inv .0) (n .given .0 .0) (n .given .1), omega (arith, loop .inv .1))
 
 returns-2 : tie.Need-returns-2 Inv-loop μ-loop
 returns-2 c = passed-at (now (c .before .before .before .args .list)) (c .before .loop .at) (c .loop-test .left) (c .before .loop .inv .0)

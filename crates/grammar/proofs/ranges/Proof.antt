@@ -43,7 +43,15 @@ enum-told : tie.Need-enum-told Inv-loop μ-loop
 enum-told c = search needs
 
 returns : tie.Need-returns Inv-loop μ-loop
-returns c = range-cut (now (c .before .before .before .before .before .before .before .args .q)) (c .before .before .before .before .before .loop .at) (c .before .before .before .before .before .loop .n) (rangesPart (now (c .before .before .before .before .before .before .before .args .q))) (c .before .before .before .before .byte .result) (c .before .before .before .before .byte .ensures) (c .before .before .before .before .before .loop .inv .0) (c .before .before .before .if1 .taken) (now (c .before .before .tail .result)) (c .before .read .result) (c .before .before .tail .ensures) (c .before .read .ensures) (not-range (c .before .read .result) (c .match .keys2))
+returns c =
+    let c₁ = c .before in let read = c₁ .read in
+    let c₂ = c₁ .before in let tail = c₂ .tail in
+    let c₃ = c₂ .before in let if1 = c₃ .if1 in
+    let c₄ = c₃ .before in let byte = c₄ .byte in
+    let c₅ = c₄ .before in let loop = c₅ .loop in
+    let c₇ = c₅ .before .before in let args = c₇ .args in
+    let q = now (args .q) in
+    range-cut q (loop .at) (loop .n) (rangesPart q) (byte .result) (byte .ensures) (loop .inv .0) (if1 .taken) (now (tail .result)) (read .result) (tail .ensures) (read .ensures) (not-range (read .result) (c .match .keys2))
 
 record-length-requires : tie.Need-record-length-requires Inv-loop μ-loop
 record-length-requires c κs = search needs
@@ -55,13 +63,36 @@ add-n : tie.Need-add-n Inv-loop μ-loop
 add-n c = search needs
 
 loop-less : tie.Need-loop-less Inv-loop μ-loop
-loop-less c = let h = range-fits (now (c .before .before .before .before .before .before .before .before .before .args .q)) (c .before .before .before .before .before .before .before .loop .at) (c .before .before .before .before .before .before .before .loop .n) (rangesPart (now (c .before .before .before .before .before .before .before .before .before .args .q))) (c .before .before .before .before .before .before .byte .result) (c .before .before .before .before .before .before .byte .ensures) (c .before .before .before .before .before .before .before .loop .inv .0) (c .before .before .before .before .before .if1 .taken) (now (c .before .before .before .before .tail .result)) (c .before .before .before .read .result) (c .before .before .before .before .tail .ensures) (c .before .before .before .read .ensures) (c .before .enum-told .given .0 .0) (c .before .enum-told .given .0 .1 .0) (c .before .enum-told .given .1) (c .record-length .result) (c .record-length .ensures .0) in omega (arith, c .before .before .before .before .before .before .before .loop .inv .1)
+loop-less c =
+    let c₁ = c .before in let enum-told = c₁ .enum-told in
+    let c₃ = c₁ .before .before in let read = c₃ .read in
+    let c₄ = c₃ .before in let tail = c₄ .tail in
+    let c₅ = c₄ .before in let if1 = c₅ .if1 in
+    let c₆ = c₅ .before in let byte = c₆ .byte in
+    let c₇ = c₆ .before in let loop = c₇ .loop in
+    let c₉ = c₇ .before .before in let args = c₉ .args in
+    let q = now (args .q) in
+    let h = range-fits q (loop .at) (loop .n) (rangesPart q) (byte .result) (byte .ensures) (loop .inv .0) (if1 .taken) (now (tail .result)) (read .result) (tail .ensures) (read .ensures) (enum-told .given .0 .0) (enum-told .given .0 .1 .0) (enum-told .given .1) (c .record-length .result) (c .record-length .ensures .0) in omega (arith, loop .inv .1)
 
 loop-again : tie.Need-loop-again Inv-loop μ-loop
-loop-again c = let h = range-fits (now (c .before .before .before .before .before .before .before .before .before .args .q)) (c .before .before .before .before .before .before .before .loop .at) (c .before .before .before .before .before .before .before .loop .n) (rangesPart (now (c .before .before .before .before .before .before .before .before .before .args .q))) (c .before .before .before .before .before .before .byte .result) (c .before .before .before .before .before .before .byte .ensures) (c .before .before .before .before .before .before .before .loop .inv .0) (c .before .before .before .before .before .if1 .taken) (now (c .before .before .before .before .tail .result)) (c .before .before .before .read .result) (c .before .before .before .before .tail .ensures) (c .before .before .before .read .ensures) (c .before .enum-told .given .0 .0) (c .before .enum-told .given .0 .1 .0) (c .before .enum-told .given .1) (c .record-length .result) (c .record-length .ensures .0) in (range-turn (now (c .before .before .before .before .before .before .before .before .before .args .q)) (c .before .before .before .before .before .before .before .loop .at) (c .before .before .before .before .before .before .before .loop .n) (rangesPart (now (c .before .before .before .before .before .before .before .before .before .args .q))) (c .before .before .before .before .before .before .byte .result) (c .before .before .before .before .before .before .byte .ensures) (c .before .before .before .before .before .before .before .loop .inv .0) (c .before .before .before .before .before .if1 .taken) (now (c .before .before .before .before .tail .result)) (c .before .before .before .read .result) (c .before .before .before .before .tail .ensures) (c .before .before .before .read .ensures) (c .before .enum-told .given .0 .0) (c .before .enum-told .given .0 .1 .0) (c .before .enum-told .given .1) (c .record-length .result) (c .record-length .ensures .0), omega (arith, c .before .before .before .before .before .before .before .loop .inv .1), omega (arith, c .before .before .before .before .before .before .before .loop .inv .2))
+loop-again c =
+    let c₁ = c .before in let enum-told = c₁ .enum-told in
+    let c₃ = c₁ .before .before in let read = c₃ .read in
+    let c₄ = c₃ .before in let tail = c₄ .tail in
+    let c₅ = c₄ .before in let if1 = c₅ .if1 in
+    let c₆ = c₅ .before in let byte = c₆ .byte in
+    let c₇ = c₆ .before in let loop = c₇ .loop in
+    let c₉ = c₇ .before .before in let args = c₉ .args in
+    let q = now (args .q) in
+    let h = range-fits q (loop .at) (loop .n) (rangesPart q) (byte .result) (byte .ensures) (loop .inv .0) (if1 .taken) (now (tail .result)) (read .result) (tail .ensures) (read .ensures) (enum-told .given .0 .0) (enum-told .given .0 .1 .0) (enum-told .given .1) (c .record-length .result) (c .record-length .ensures .0) in (range-turn q (loop .at) (loop .n) (rangesPart q) (byte .result) (byte .ensures) (loop .inv .0) (if1 .taken) (now (tail .result)) (read .result) (tail .ensures) (read .ensures) (enum-told .given .0 .0) (enum-told .given .0 .1 .0) (enum-told .given .1) (c .record-length .result) (c .record-length .ensures .0), omega (arith, loop .inv .1), omega (arith, loop .inv .2))
 
 returns-2 : tie.Need-returns-2 Inv-loop μ-loop
-returns-2 c = range-end (now (c .before .before .before .before .args .q)) (c .before .before .loop .at) (c .before .before .loop .n) (rangesPart (now (c .before .before .before .before .args .q))) (c .before .byte .result) (c .before .byte .ensures) (c .before .before .loop .inv .0) (c .if1 .left)
+returns-2 c =
+    let c₁ = c .before in let byte = c₁ .byte in
+    let c₂ = c₁ .before in let loop = c₂ .loop in
+    let c₄ = c₂ .before .before in let args = c₄ .args in
+    let q = now (args .q) in
+    range-end q (loop .at) (loop .n) (rangesPart q) (byte .result) (byte .ensures) (loop .inv .0) (c .if1 .left)
 
 pub ranges-spec : {M : Type 1} → statement M
 ranges-spec =

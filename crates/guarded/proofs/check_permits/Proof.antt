@@ -21,7 +21,9 @@ check-requires : tie.Need-check-requires
 check-requires c κs = search needs
 
 returns-2 : tie.Need-returns-2
-returns-2 c = listed-is (now (c .before .before .before .before .before .args .catalogue)) (now (c .before .before .before .before .before .args .list)) (c .before .before .before .before .before .pre) _ _ (c .before .before .permits-refused .ensures) (c .before .if1 .left) (c .check .ensures)
+returns-2 c =
+    let c₅ = c .before .before .before .before .before in let args = c₅ .args in let pre = c₅ .pre in
+    listed-is (now (args .catalogue)) (now (args .list)) (pre) _ _ (c .before .before .permits-refused .ensures) (c .before .if1 .left) (c .check .ensures)
 
 pub check-permits-spec : {M : Type 1} → statement M
 check-permits-spec = tie.close (tie.spec permits-refused-requires returns check-requires returns-2)

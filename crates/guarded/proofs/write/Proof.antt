@@ -16,7 +16,9 @@ slice-aggregate-fill-places : tie.Need-slice-aggregate-fill-places
 slice-aggregate-fill-places c = search needs
 
 fill-places-requires : tie.Need-fill-places-requires
-fill-places-requires c κs = (omega arith, omega arith, list-short (c .before .before .before .before .before .before .args .layout) (now (c .before .before .before .before .before .before .args .catalogue)) (now (c .before .before .before .before .before .before .args .list)) (now (c .before .before .before .before .before .before .args .query)) (now (c .before .before .before .before .before .before .args .z)) _ (c .before .before .before .before .before .before .pre))
+fill-places-requires c κs =
+    let c₆ = c .before .before .before .before .before .before in let args = c₆ .args in let pre = c₆ .pre in
+    (omega arith, omega arith, list-short (args .layout) (now (args .catalogue)) (now (args .list)) (now (args .query)) (now (args .z)) _ (pre))
 
 slice-aggregate-fill-masks : tie.Need-slice-aggregate-fill-masks
 slice-aggregate-fill-masks c = search needs
@@ -31,13 +33,21 @@ slice-aggregate-rewrite-query-2 : tie.Need-slice-aggregate-rewrite-query-2
 slice-aggregate-rewrite-query-2 c = search needs
 
 rewrite-query-requires : tie.Need-rewrite-query-requires
-rewrite-query-requires c κs = roomy (c .before .before .before .before .before .before .before .before .before .before .before .before .before .before .args .layout) (now (c .before .before .before .before .before .before .before .before .before .before .before .before .before .before .args .catalogue)) (now (c .before .before .before .before .before .before .before .before .before .before .before .before .before .before .args .list)) (now (c .before .before .before .before .before .before .before .before .before .before .before .before .before .before .args .query)) (now (c .before .before .before .before .before .before .before .before .before .before .before .before .before .before .args .z)) _ (c .before .before .before .before .before .before .before .before .before .before .before .before .before .before .pre) _ _ (omega arith) (omega arith) _ _ (c .before .before .before .before .before .before .before .fill-places .ensures) (c .before .before .before .before .fill-masks .ensures)
+rewrite-query-requires c κs =
+    let c₄ = c .before .before .before .before in let fill-masks = c₄ .fill-masks in
+    let c₇ = c₄ .before .before .before in let fill-places = c₇ .fill-places in
+    let c₁₄ = c₇ .before .before .before .before .before .before .before in let args = c₁₄ .args in let pre = c₁₄ .pre in
+    roomy (args .layout) (now (args .catalogue)) (now (args .list)) (now (args .query)) (now (args .z)) _ (pre) _ _ (omega arith) (omega arith) _ _ (fill-places .ensures) (fill-masks .ensures)
 
 same-length : tie.Need-same-length
 same-length c = search needs
 
 returns : tie.Need-returns
-returns c = written-all (c .before .before .before .before .before .before .before .before .before .before .before .before .before .before .before .before .before .args .layout) (now (c .before .before .before .before .before .before .before .before .before .before .before .before .before .before .before .before .before .args .catalogue)) (now (c .before .before .before .before .before .before .before .before .before .before .before .before .before .before .before .before .before .args .list)) (now (c .before .before .before .before .before .before .before .before .before .before .before .before .before .before .before .before .before .args .query)) (now (c .before .before .before .before .before .before .before .before .before .before .before .before .before .before .before .before .before .args .z)) _ (c .before .before .before .before .before .before .before .before .before .before .before .before .before .before .before .before .before .pre) _ _ (omega arith) (omega arith) _ _ (c .before .before .before .before .before .before .before .before .before .before .fill-places .ensures) (c .before .before .before .before .before .before .before .fill-masks .ensures) _ _ (c .before .before .rewrite-query .ensures .1)
+returns c =
+    let c₇ = c .before .before .before .before .before .before .before in let fill-masks = c₇ .fill-masks in
+    let c₁₀ = c₇ .before .before .before in let fill-places = c₁₀ .fill-places in
+    let c₁₇ = c₁₀ .before .before .before .before .before .before .before in let args = c₁₇ .args in let pre = c₁₇ .pre in
+    written-all (args .layout) (now (args .catalogue)) (now (args .list)) (now (args .query)) (now (args .z)) _ (pre) _ _ (omega arith) (omega arith) _ _ (fill-places .ensures) (fill-masks .ensures) _ _ (c .before .before .rewrite-query .ensures .1)
 
 pub write-spec : {M : Type 1} → statement M
 write-spec =

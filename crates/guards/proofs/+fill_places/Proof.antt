@@ -34,10 +34,14 @@ abbrev fill-places-claims : ℕ → fill-places-lts.Claims
 fill-places-claims t = (tail-reads.Asked, tail-reads.Learnt, put-place-reads.Asked, put-place-reads.Learnt, condition-reads.Asked, condition-reads.Learnt, size-reads.Asked, size-reads.Learnt, fill-places-below t, fill-places.Post)
 
 fill-places-returns : (t : ℕ) → fill-places-lts.Need-returns (fill-places-claims t) (fill-places-at t) fill-places.Post
-fill-places-returns t c = places-none (c .before .before .before .args .left) (now (c .before .before .before .args .list)) (c .before .before .before .args .at) (c .before .before .before .args .k) (now (c .before .before .before .args .places)) (c .if1 .taken)
+fill-places-returns t c =
+    let c₃ = c .before .before .before in let args = c₃ .args in
+    places-none (args .left) (now (args .list)) (args .at) (args .k) (now (args .places)) (c .if1 .taken)
 
 fill-places-returns-2 : (t : ℕ) → fill-places-lts.Need-returns-2 (fill-places-claims t) (fill-places-at t) fill-places.Post
-fill-places-returns-2 t c = places-end (c .before .before .before .before .args .left) (now (c .before .before .before .before .args .list)) (c .before .before .before .before .args .at) (c .before .before .before .before .args .k) (now (c .before .before .before .before .args .places)) (c .if2 .taken)
+fill-places-returns-2 t c =
+    let c₄ = c .before .before .before .before in let args = c₄ .args in
+    places-end (args .left) (now (args .list)) (args .at) (args .k) (now (args .places)) (c .if2 .taken)
 
 fill-places-tail-requires : (t : ℕ) → fill-places-lts.Need-tail-requires (fill-places-claims t) (fill-places-at t) fill-places.Post
 fill-places-tail-requires t c κs = search needs
@@ -76,13 +80,28 @@ fill-places-sub-fill-places : (t : ℕ) → fill-places-lts.Need-sub-fill-places
 fill-places-sub-fill-places t c = search needs
 
 fill-places-fill-places-requires : (t : ℕ) → fill-places-lts.Need-fill-places-requires (fill-places-claims t) (fill-places-at t) fill-places.Post
-fill-places-fill-places-requires t c κs = (omega (arith, c .before .before .before .before .before .before .before .before .before .before .before .before .before .before .before .before .pre .0, c .before .before .before .before .before .before .before .before .before .before .before .before .before .if1 .left), (next-near (c .before .before .before .before .before .before .before .before .before .before .before .before .before .before .before .before .args .at) (c .before .size .result) (now (c .before .before .before .before .before .before .before .before .before .before .before .before .before .before .before .before .args .list)) _ (c .before .before .before .before .before .before .before .before .before .before .before .tail .ensures) (omega (arith, c .before .before .before .before .before .before .before .before .before .before .before .before .if2 .left)) (c .before .size .ensures .1 .1) (c .before .before .before .before .before .before .before .before .before .before .before .before .before .before .before .before .pre .1 .2), omega (arith, c .before .before .before .before .before .before .before .before .before .before .before .before .before .before .before .before .pre .1 .1, c .before .before .before .before .before .before .before .before .before .before .before .before .before .if1 .left), c .before .before .before .before .before .before .before .before .before .before .before .before .before .before .before .before .pre .1 .2))
+fill-places-fill-places-requires t c κs =
+    let c₁ = c .before in let size = c₁ .size in
+    let c₁₁ = c₁ .before .before .before .before .before .before .before .before .before .before in let tail = c₁₁ .tail in
+    let c₁₂ = c₁₁ .before in let if2 = c₁₂ .if2 in
+    let c₁₃ = c₁₂ .before in let if1 = c₁₃ .if1 in
+    let c₁₆ = c₁₃ .before .before .before in let args = c₁₆ .args in let pre = c₁₆ .pre in
+    (omega (arith, pre .0, if1 .left), (next-near (args .at) (size .result) (now (args .list)) _ (tail .ensures) (omega (arith, if2 .left)) (size .ensures .1 .1) (pre .1 .2), omega (arith, pre .1 .1, if1 .left), pre .1 .2))
 
 fill-places-same-length : (t : ℕ) → fill-places-lts.Need-same-length (fill-places-claims t) (fill-places-at t) fill-places.Post
 fill-places-same-length t c = search needs
 
 fill-places-returns-3 : (t : ℕ) → fill-places-lts.Need-returns-3 (fill-places-claims t) (fill-places-at t) fill-places.Post
-fill-places-returns-3 t c = places-next (c .before .before .before .before .before .before .before .before .before .before .before .before .before .before .before .before .before .before .before .args .left) (now (c .before .before .before .before .before .before .before .before .before .before .before .before .before .before .before .before .before .before .before .args .list)) (c .before .before .before .before .before .before .before .before .before .before .before .before .before .before .before .before .before .before .before .args .at) (c .before .before .before .before .before .before .before .before .before .before .before .before .before .before .before .before .before .before .before .args .k) (now (c .before .before .before .before .before .before .before .before .before .before .before .before .before .before .before .before .before .before .before .args .places)) _ _ _ _ _ _ (c .before .before .before .before .before .before .before .before .before .before .before .before .before .before .before .before .if1 .left) (omega (arith, c .before .before .before .before .before .before .before .before .before .before .before .before .before .before .before .if2 .left)) (c .before .before .before .before .before .before .before .before .before .before .before .before .before .before .tail .ensures) (c .before .before .before .before .before .before .before .before .before .before .before .before .put-place .ensures) (c .before .before .before .before .before .before .before .before .condition .ensures) (c .before .before .before .before .before .before .before .put-place2 .ensures) (c .before .before .before .before .size .ensures .0) (c .before .before .fill-places .ensures)
+fill-places-returns-3 t c =
+    let c₄ = c .before .before .before .before in let size = c₄ .size in
+    let c₇ = c₄ .before .before .before in let put-place2 = c₇ .put-place2 in
+    let c₈ = c₇ .before in let condition = c₈ .condition in
+    let c₁₂ = c₈ .before .before .before .before in let put-place = c₁₂ .put-place in
+    let c₁₄ = c₁₂ .before .before in let tail = c₁₄ .tail in
+    let c₁₅ = c₁₄ .before in let if2 = c₁₅ .if2 in
+    let c₁₆ = c₁₅ .before in let if1 = c₁₆ .if1 in
+    let c₁₉ = c₁₆ .before .before .before in let args = c₁₉ .args in
+    places-next (args .left) (now (args .list)) (args .at) (args .k) (now (args .places)) _ _ _ _ _ _ (if1 .left) (omega (arith, if2 .left)) (tail .ensures) (put-place .ensures) (condition .ensures) (put-place2 .ensures) (size .ensures .0) (c .before .before .fill-places .ensures)
 
 pub +fill-places-spec : {M : Type 1} → statement M
 +fill-places-spec = close μ-fill-places λ t. fill-places-lts.spec (fill-places-claims t)

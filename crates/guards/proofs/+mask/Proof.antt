@@ -35,7 +35,10 @@ mask-returns : (t : ℕ) → mask-lts.Need-returns (mask-claims t) (mask-at t) m
 mask-returns t c = (mask-none (appliesTo (λ a. bit (c .before .before .args .used) a) (c .before .before .args .relation)) (c .before .before .args .left) (now (c .before .before .args .list)) (c .if1 .taken), omega (arith, pow-pos (c .before .before .args .left)))
 
 mask-returns-2 : (t : ℕ) → mask-lts.Need-returns-2 (mask-claims t) (mask-at t) mask.Post
-mask-returns-2 t c = (mask-empty (appliesTo (λ a. bit (c .before .before .before .args .used) a) (c .before .before .before .args .relation)) (c .before .before .before .args .left) (now (c .before .before .before .args .list)) (c .if2 .taken), omega (arith, pow-pos (c .before .before .before .args .left)))
+mask-returns-2 t c =
+    let c₃ = c .before .before .before in let args = c₃ .args in
+    let left = args .left in
+    (mask-empty (appliesTo (λ a. bit (args .used) a) (args .relation)) left (now (args .list)) (c .if2 .taken), omega (arith, pow-pos left))
 
 mask-applies-requires : (t : ℕ) → mask-lts.Need-applies-requires (mask-claims t) (mask-at t) mask.Post
 mask-applies-requires t c κs = search needs
@@ -56,13 +59,30 @@ mask-mask-requires : (t : ℕ) → mask-lts.Need-mask-requires (mask-claims t) (
 mask-mask-requires t c κs = search needs
 
 mask-mul-result : (t : ℕ) → mask-lts.Need-mul-result (mask-claims t) (mask-at t) mask.Post
-mask-mul-result t c = record { fits = omega (arith, c .mask .ensures .1, pow-step (c .before .before .before .before .before .before .before .before .args .left) (c .before .before .before .before .before .before .if1 .left), pow-few (c .before .before .before .before .before .before .before .before .args .left) (c .before .before .before .before .before .before .before .before .pre .1), c .before .before .before .one-if .ensures .1) }
+mask-mul-result t c =
+    let c₃ = c .before .before .before in let one-if = c₃ .one-if in
+    let c₆ = c₃ .before .before .before in let if1 = c₆ .if1 in
+    let c₈ = c₆ .before .before in let args = c₈ .args in let pre = c₈ .pre in
+    let left = args .left in
+    record { fits = omega (arith, c .mask .ensures .1, pow-step left (if1 .left), pow-few left (pre .1), one-if .ensures .1) }
 
 mask-add-result : (t : ℕ) → mask-lts.Need-add-result (mask-claims t) (mask-at t) mask.Post
-mask-add-result t c = record { fits = omega (arith, c .mask .ensures .1, pow-step (c .before .before .before .before .before .before .before .before .args .left) (c .before .before .before .before .before .before .if1 .left), pow-few (c .before .before .before .before .before .before .before .before .args .left) (c .before .before .before .before .before .before .before .before .pre .1), c .before .before .before .one-if .ensures .1) }
+mask-add-result t c =
+    let c₃ = c .before .before .before in let one-if = c₃ .one-if in
+    let c₆ = c₃ .before .before .before in let if1 = c₆ .if1 in
+    let c₈ = c₆ .before .before in let args = c₈ .args in let pre = c₈ .pre in
+    let left = args .left in
+    record { fits = omega (arith, c .mask .ensures .1, pow-step left (if1 .left), pow-few left (pre .1), one-if .ensures .1) }
 
 mask-returns-3 : (t : ℕ) → mask-lts.Need-returns-3 (mask-claims t) (mask-at t) mask.Post
-mask-returns-3 t c = (mask-next (appliesTo (λ a. bit (c .before .before .before .before .before .before .before .before .args .used) a) (c .before .before .before .before .before .before .before .before .args .relation)) (c .before .before .before .before .before .before .before .before .args .left) (now (c .before .before .before .before .before .before .before .before .args .list)) _ _ _ _ _ (c .before .before .before .before .before .before .if1 .left) (c .before .before .before .before .before .if2 .left) (c .before .before .before .before .applies .ensures) (c .before .before .before .one-if .ensures .0) (c .before .before .size .ensures .0) (c .before .tail .ensures) (c .mask .ensures .0), omega (arith, c .mask .ensures .1, pow-step (c .before .before .before .before .before .before .before .before .args .left) (c .before .before .before .before .before .before .if1 .left), pow-few (c .before .before .before .before .before .before .before .before .args .left) (c .before .before .before .before .before .before .before .before .pre .1), c .before .before .before .one-if .ensures .1))
+mask-returns-3 t c =
+    let c₃ = c .before .before .before in let one-if = c₃ .one-if in
+    let c₄ = c₃ .before in let applies = c₄ .applies in
+    let c₅ = c₄ .before in let if2 = c₅ .if2 in
+    let c₆ = c₅ .before in let if1 = c₆ .if1 in
+    let c₈ = c₆ .before .before in let args = c₈ .args in let pre = c₈ .pre in
+    let left = args .left in
+    (mask-next (appliesTo (λ a. bit (args .used) a) (args .relation)) left (now (args .list)) _ _ _ _ _ (if1 .left) (if2 .left) (applies .ensures) (one-if .ensures .0) (c .before .before .size .ensures .0) (c .before .tail .ensures) (c .mask .ensures .0), omega (arith, c .mask .ensures .1, pow-step left (if1 .left), pow-few left (pre .1), one-if .ensures .1))
 
 pub +mask-spec : {M : Type 1} → statement M
 +mask-spec = close μ-mask λ t. mask-lts.spec (mask-claims t)

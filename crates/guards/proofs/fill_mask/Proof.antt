@@ -18,7 +18,9 @@ enum-told : tie.Need-enum-told
 enum-told c = search needs
 
 returns : tie.Need-returns
-returns c = masked-none (now (c .before .before .before .before .before .before .args .query)) (now (c .before .before .before .before .before .before .args .list)) (now (c .before .before .before .before .before .before .args .catalogue)) (c .before .before .before .before .before .before .args .b) (now (c .before .before .before .before .before .before .args .masks)) (c .enum-told .given .1)
+returns c =
+    let c₆ = c .before .before .before .before .before .before in let args = c₆ .args in
+    masked-none (now (args .query)) (now (args .list)) (now (args .catalogue)) (args .b) (now (args .masks)) (c .enum-told .given .1)
 
 mask-for-requires : tie.Need-mask-for-requires
 mask-for-requires c κs = search needs
@@ -30,7 +32,11 @@ same-length : tie.Need-same-length
 same-length c = search needs
 
 returns-2 : tie.Need-returns-2
-returns-2 c = masked-one (now (c .before .before .before .before .before .before .before .before .before .before .before .before .args .query)) (now (c .before .before .before .before .before .before .before .before .before .before .before .before .args .list)) (now (c .before .before .before .before .before .before .before .before .before .before .before .before .args .catalogue)) (c .before .before .before .before .before .before .before .before .before .before .before .before .args .b) (now (c .before .before .before .before .before .before .before .before .before .before .before .before .args .masks)) _ _ (c .before .before .before .before .before .before .b .given .1) _ _ (c .before .before .before .mask-for .ensures) (c .before .before .put-mask .ensures)
+returns-2 c =
+    let c₃ = c .before .before .before in let mask-for = c₃ .mask-for in
+    let c₆ = c₃ .before .before .before in let b = c₆ .b in
+    let c₁₂ = c₆ .before .before .before .before .before .before in let args = c₁₂ .args in
+    masked-one (now (args .query)) (now (args .list)) (now (args .catalogue)) (args .b) (now (args .masks)) _ _ (b .given .1) _ _ (mask-for .ensures) (c .before .before .put-mask .ensures)
 
 pub fill-mask-spec : {M : Type 1} → statement M
 fill-mask-spec =

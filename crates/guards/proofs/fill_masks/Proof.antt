@@ -40,13 +40,22 @@ loop-less : tie.Need-loop-less Inv-loop μ-loop
 loop-less c = search needs
 
 loop-again : tie.Need-loop-again Inv-loop μ-loop
-loop-again c = (masked-on (now (c .before .before .before .before .before .before .before .before .before .before .before .before .args .query)) (now (c .before .before .before .before .before .before .before .before .before .before .before .before .args .list)) (now (c .before .before .before .before .before .before .before .before .before .before .before .before .args .catalogue)) (c .before .before .before .before .before .before .before .loop .at) (c .step .result) (c .before .before .before .before .before .before .loop-test .taken) (c .step .ensures .0) (c .before .before .before .before .before .binding .result) (c .before .before .before .before .before .binding .ensures) _ _ _ (c .before .before .before .fill-mask .ensures) (c .before .before .before .before .before .before .before .loop .inv .0), c .before .before .before .fill-mask .kept .1 .1 .1 .1 .0 ∙ c .before .before .before .before .before .before .before .loop .inv .1)
+loop-again c =
+    let c₃ = c .before .before .before in let fill-mask = c₃ .fill-mask in
+    let c₅ = c₃ .before .before in let binding = c₅ .binding in
+    let c₆ = c₅ .before in let loop-test = c₆ .loop-test in
+    let c₇ = c₆ .before in let loop = c₇ .loop in
+    let c₁₂ = c₇ .before .before .before .before .before in let args = c₁₂ .args in
+    (masked-on (now (args .query)) (now (args .list)) (now (args .catalogue)) (loop .at) (c .step .result) (loop-test .taken) (c .step .ensures .0) (binding .result) (binding .ensures) _ _ _ (fill-mask .ensures) (loop .inv .0), fill-mask .kept .1 .1 .1 .1 .0 ∙ loop .inv .1)
 
 same-length : tie.Need-same-length Inv-loop μ-loop
 same-length c = search needs
 
 returns : tie.Need-returns Inv-loop μ-loop
-returns c = masked-end (now (c .before .before .before .before .before .before .args .query)) (now (c .before .before .before .before .before .before .args .list)) (now (c .before .before .before .before .before .before .args .catalogue)) (c .before .loop .at) (c .loop-test .left) _ _ (c .before .loop .inv .0)
+returns c =
+    let c₁ = c .before in let loop = c₁ .loop in
+    let c₆ = c₁ .before .before .before .before .before in let args = c₆ .args in
+    masked-end (now (args .query)) (now (args .list)) (now (args .catalogue)) (loop .at) (c .loop-test .left) _ _ (loop .inv .0)
 
 pub fill-masks-spec : {M : Type 1} → statement M
 fill-masks-spec =

@@ -16,7 +16,10 @@ stored-requires : tie.Need-stored-requires
 stored-requires c κs = search needs
 
 returns : tie.Need-returns
-returns c = mask-free (now (c .before .before .before .before .before .args .query)) (now (c .before .before .before .before .before .args .list)) (now (c .before .before .before .before .before .args .catalogue)) (c .before .before .before .before .before .args .variable) (c .before .before .before .before .before .args .relation) (c .before .stored .result) (c .before .stored .ensures) (c .if1 .taken)
+returns c =
+    let c₁ = c .before in let stored = c₁ .stored in
+    let c₅ = c₁ .before .before .before .before in let args = c₅ .args in
+    mask-free (now (args .query)) (now (args .list)) (now (args .catalogue)) (args .variable) (args .relation) (stored .result) (stored .ensures) (c .if1 .taken)
 
 used-mask-requires : tie.Need-used-mask-requires
 used-mask-requires c κs = search needs
@@ -25,7 +28,11 @@ mask-requires : tie.Need-mask-requires
 mask-requires c κs = search needs
 
 returns-2 : tie.Need-returns-2
-returns-2 c = mask-is (now (c .before .before .before .before .before .before .before .args .query)) (now (c .before .before .before .before .before .before .before .args .list)) (now (c .before .before .before .before .before .before .before .args .catalogue)) (c .before .before .before .before .before .before .before .args .variable) (c .before .before .before .before .before .before .before .args .relation) (c .before .before .before .stored .result) (c .before .before .before .stored .ensures) (c .before .used-mask .result) _ (c .before .before .if1 .left) (c .before .used-mask .ensures) (c .mask .ensures .0)
+returns-2 c =
+    let c₁ = c .before in let used-mask = c₁ .used-mask in
+    let c₃ = c₁ .before .before in let stored = c₃ .stored in
+    let c₇ = c₃ .before .before .before .before in let args = c₇ .args in
+    mask-is (now (args .query)) (now (args .list)) (now (args .catalogue)) (args .variable) (args .relation) (stored .result) (stored .ensures) (used-mask .result) _ (c .before .before .if1 .left) (used-mask .ensures) (c .mask .ensures .0)
 
 pub mask-for-spec : {M : Type 1} → statement M
 mask-for-spec =

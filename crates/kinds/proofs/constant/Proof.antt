@@ -66,11 +66,19 @@ sub-result-2 c = fits (4294967295 - (c .before .before .before .before .wide-byt
 
 -- src/lib.rt:190:1
 returns : tie.Need-returns
-returns c = below-half (c .before .before .before .before .before .args .a) (c .before .before .before .before .before .args .b) (c .before .before .before .before .before .args .c) (c .before .before .before .before .before .args .d) (c .before .before .before .before .wide-byte .result + 256 * c .before .before .before .wide-byte2 .result + 65536 * c .before .before .wide-byte3 .result + 16777216 * c .before .wide-byte4 .result) (omega arith) (c .if1 .taken)
+returns c =
+    let c₃ = c .before .before .before in let wide-byte2 = c₃ .wide-byte2 in
+    let c₄ = c₃ .before in let wide-byte = c₄ .wide-byte in
+    let c₅ = c₄ .before in let args = c₅ .args in
+    below-half (args .a) (args .b) (args .c) (args .d) (wide-byte .result + 256 * wide-byte2 .result + 65536 * c .before .before .wide-byte3 .result + 16777216 * c .before .wide-byte4 .result) (omega arith) (c .if1 .taken)
 
 -- src/lib.rt:190:1
 returns-2 : tie.Need-returns-2
-returns-2 c = from-half (c .before .before .before .before .before .args .a) (c .before .before .before .before .before .args .b) (c .before .before .before .before .before .args .c) (c .before .before .before .before .before .args .d) (c .before .before .before .before .wide-byte .result + 256 * c .before .before .before .wide-byte2 .result + 65536 * c .before .before .wide-byte3 .result + 16777216 * c .before .wide-byte4 .result) (omega arith) (c .if1 .left) (omega arith)
+returns-2 c =
+    let c₃ = c .before .before .before in let wide-byte2 = c₃ .wide-byte2 in
+    let c₄ = c₃ .before in let wide-byte = c₄ .wide-byte in
+    let c₅ = c₄ .before in let args = c₅ .args in
+    from-half (args .a) (args .b) (args .c) (args .d) (wide-byte .result + 256 * wide-byte2 .result + 65536 * c .before .before .wide-byte3 .result + 16777216 * c .before .wide-byte4 .result) (omega arith) (c .if1 .left) (omega arith)
 
 pub constant-spec : {M : Type 1} → statement M
 constant-spec =

@@ -26,7 +26,11 @@ within-requires c κs = search needs
 
 -- src/lib.rt:212:9
 returns : tie.Need-returns
-returns c = knows-no (now (c .before .before .before .before .args .memo)) (c .before .before .before .before .args .variable) _ _ _ (c .before .before .before .place .ensures .0) (toZ-ofZ {w = w64} (record { sfits = c .before .before .at .ok }) ∙ c .before .before .at .ensures) (c .before .within .ensures) (c .if1 .taken)
+returns c =
+    let c₂ = c .before .before in let at′ = c₂ .at in
+    let c₃ = c₂ .before in let place = c₃ .place in
+    let c₄ = c₃ .before in let args = c₄ .args in
+    knows-no (now (args .memo)) (args .variable) _ _ _ (place .ensures .0) (toZ-ofZ {w = w64} (record { sfits = at′ .ok }) ∙ at′ .ensures) (c .before .within .ensures) (c .if1 .taken)
 
 -- src/lib.rt:214:24
 add-at : tie.Need-add-at
@@ -42,7 +46,13 @@ within-requires-2 c κs = search needs
 
 -- src/lib.rt:207:1
 returns-2 : tie.Need-returns-2
-returns-2 c = knows-yes (now (c .before .before .before .before .before .before .args .memo)) (c .before .before .before .before .before .before .args .variable) _ _ _ (c .before .before .before .before .before .place .ensures .0) (toZ-ofZ {w = w64} (record { sfits = c .before .before .before .before .at .ok }) ∙ c .before .before .before .before .at .ensures) (c .before .before .before .within .ensures) _ _ (c .before .before .if1 .left) (toZ-ofZ {w = w64} (record { sfits = c .before .at2 .ok }) ∙ c .before .at2 .ensures) (c .within2 .ensures)
+returns-2 c =
+    let c₁ = c .before in let at2 = c₁ .at2 in
+    let c₃ = c₁ .before .before in let within = c₃ .within in
+    let c₄ = c₃ .before in let at′ = c₄ .at in
+    let c₅ = c₄ .before in let place = c₅ .place in
+    let c₆ = c₅ .before in let args = c₆ .args in
+    knows-yes (now (args .memo)) (args .variable) _ _ _ (place .ensures .0) (toZ-ofZ {w = w64} (record { sfits = at′ .ok }) ∙ at′ .ensures) (within .ensures) _ _ (c .before .before .if1 .left) (toZ-ofZ {w = w64} (record { sfits = at2 .ok }) ∙ at2 .ensures) (c .within2 .ensures)
 
 pub knows-spec : {M : Type 1} → statement M
 knows-spec =

@@ -34,7 +34,12 @@ over-requires c κs = search needs
 
 -- src/lib.rt:220:1
 returns : tie.Need-returns
-returns c = recall-is (now (c .before .before .before .before .args .memo)) (c .before .before .before .before .args .variable) _ _ _ _ (c .before .before .before .before .pre) (c .before .before .before .place .ensures .0) (toZ-ofZ {w = w64} (record { sfits = c .before .before .at .ok }) ∙ c .before .before .at .ensures) (toZ-ofZ {w = w64} (record { sfits = c .before .at2 .ok }) ∙ c .before .at2 .ensures) (c .over .ensures)
+returns c =
+    let c₁ = c .before in let at2 = c₁ .at2 in
+    let c₂ = c₁ .before in let at′ = c₂ .at in
+    let c₃ = c₂ .before in let place = c₃ .place in
+    let c₄ = c₃ .before in let args = c₄ .args in let pre = c₄ .pre in
+    recall-is (now (args .memo)) (args .variable) _ _ _ _ (pre) (place .ensures .0) (toZ-ofZ {w = w64} (record { sfits = at′ .ok }) ∙ at′ .ensures) (toZ-ofZ {w = w64} (record { sfits = at2 .ok }) ∙ at2 .ensures) (c .over .ensures)
 
 pub recall-spec : {M : Type 1} → statement M
 recall-spec =

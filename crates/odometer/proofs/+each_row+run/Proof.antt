@@ -98,13 +98,22 @@ each-row-base-requires : (t : ℕ) → each-row-lts.Need-base-requires (each-row
 each-row-base-requires t c κs = search needs
 
 each-row-ahead-requires : (t : ℕ) → each-row-lts.Need-ahead-requires (each-row-claims t) (each-row-at t) each-row.Post each-row-Inv-loop each-row-μ-loop
-each-row-ahead-requires t c κs = (c .before .before .before .before .before .before .before .before .before .before .before .before .before .before .before .before .before .before .pre .1 .0, omega (arith, places-fit _ _ _ _ _ (c .before .base .ensures .1) (omega (arith, c .before .before .before .before .before .before .before .before .before .before .byte2 .ok)) (le-refl _) (c .before .before .before .before .before .before .rows .ensures .1) (c .before .before .before .before .before .attributes .ensures .1)))
+each-row-ahead-requires t c κs =
+    let c₅ = c .before .before .before .before .before in let attributes = c₅ .attributes in
+    let c₆ = c₅ .before in let rows = c₆ .rows in
+    let c₁₀ = c₆ .before .before .before .before in let byte2 = c₁₀ .byte2 in
+    let c₁₈ = c₁₀ .before .before .before .before .before .before .before .before in let pre = c₁₈ .pre in
+    (pre .1 .0, omega (arith, places-fit _ _ _ _ _ (c .before .base .ensures .1) (omega (arith, byte2 .ok)) (le-refl _) (rows .ensures .1) (attributes .ensures .1)))
 
 each-row-mul-row : (t : ℕ) → each-row-lts.Need-mul-row (each-row-claims t) (each-row-at t) each-row.Post each-row-Inv-loop each-row-μ-loop
 each-row-mul-row t c = omega (arith, steps-fit _ _ _ (c .ahead .ensures .0) (c .before .before .before .before .before .before .before .rows .ensures .1) (c .before .before .before .before .before .before .attributes .ensures .1))
 
 each-row-add-row : (t : ℕ) → each-row-lts.Need-add-row (each-row-claims t) (each-row-at t) each-row.Post each-row-Inv-loop each-row-μ-loop
-each-row-add-row t c = omega (arith, places-fit _ _ _ _ _ (c .before .before .base .ensures .1) (omega (arith, c .before .before .before .before .before .before .before .before .before .before .before .byte2 .ok)) (c .ahead .ensures .0) (c .before .before .before .before .before .before .before .rows .ensures .1) (c .before .before .before .before .before .before .attributes .ensures .1))
+each-row-add-row t c =
+    let c₆ = c .before .before .before .before .before .before in let attributes = c₆ .attributes in
+    let c₇ = c₆ .before in let rows = c₇ .rows in
+    let c₁₁ = c₇ .before .before .before .before in let byte2 = c₁₁ .byte2 in
+    omega (arith, places-fit _ _ _ _ _ (c .before .before .base .ensures .1) (omega (arith, byte2 .ok)) (c .ahead .ensures .0) (rows .ensures .1) (attributes .ensures .1))
 
 each-row-loop-holds : (t : ℕ) → each-row-lts.Need-loop-holds (each-row-claims t) (each-row-at t) each-row.Post each-row-Inv-loop each-row-μ-loop
 each-row-loop-holds t c =
@@ -120,7 +129,14 @@ each-row-run-requires t c κs =
     (omega (arith, c .before .before .before .before .before .before .before .before .before .before .before .before .before .before .before .before .before .before .before .before .before .before .before .before .before .before .before .pre .0, ap (λ (u : Plan). u .left) (c .before .before .before .before .before .before .before .before .before .before .before .before .before .before .before .before .deeper .ensures .0), c .before .before .before .before .before .before .before .before .before .before .before .before .before .before .before .before .before .before .before .before .before .before .before .before .before .before .before .pre .1 .2), (omega (arith, c .before .before .before .before .before .before .before .before .before .before .before .before .before .before .before .before .before .before .before .before .before .before .before .before .before .before .before .pre .1 .0, loop .inv .4, ap length (c .before .before .before .before .set-place .ensures), length-set (loop .env) (c .before .before .before .before .before .before .before .before .before .before .before .before .before .before .before .before .before .before .before .before .byte .result) (loop .row)), c .before .before .before .before .before .before .before .before .before .before .before .before .before .before .before .before .deeper .ensures .1))
 
 each-row-add-ahead : (t : ℕ) → each-row-lts.Need-add-ahead (each-row-claims t) (each-row-at t) each-row.Post each-row-Inv-loop each-row-μ-loop
-each-row-add-ahead t c = omega (arith, rest-fit _ _ _ _ _ _ (c .before .before .before .before .before .before .before .before .before .before .before .before .loop .inv .2) (c .before .before .before .before .before .before .before .before .before .before .before .loop-test .taken) (c .before .before .before .before .before .before .before .before .before .before .before .before .before .before .before .base .ensures .1) (omega (arith, c .before .before .before .before .before .before .before .before .before .before .before .before .before .before .before .before .before .before .before .before .before .before .before .before .byte2 .ok)) (c .before .before .before .before .before .before .before .before .before .before .before .before .before .before .before .before .before .before .before .before .rows .ensures .1) (c .before .before .before .before .before .before .before .before .before .before .before .before .before .before .before .before .before .before .before .attributes .ensures .1))
+each-row-add-ahead t c =
+    let c₁₁ = c .before .before .before .before .before .before .before .before .before .before .before in let loop-test = c₁₁ .loop-test in
+    let c₁₂ = c₁₁ .before in let loop = c₁₂ .loop in
+    let c₁₅ = c₁₂ .before .before .before in let base = c₁₅ .base in
+    let c₁₉ = c₁₅ .before .before .before .before in let attributes = c₁₉ .attributes in
+    let c₂₀ = c₁₉ .before in let rows = c₂₀ .rows in
+    let c₂₄ = c₂₀ .before .before .before .before in let byte2 = c₂₄ .byte2 in
+    omega (arith, rest-fit _ _ _ _ _ _ (loop .inv .2) (loop-test .taken) (base .ensures .1) (omega (arith, byte2 .ok)) (rows .ensures .1) (attributes .ensures .1))
 
 each-row-sub-ahead : (t : ℕ) → each-row-lts.Need-sub-ahead (each-row-claims t) (each-row-at t) each-row.Post each-row-Inv-loop each-row-μ-loop
 each-row-sub-ahead t c = search needs
@@ -134,10 +150,16 @@ each-row-ahead-requires-2 t c κs =
     (omega (arith, c .before .before .before .before .before .before .before .before .before .before .before .before .before .before .before .before .before .before .before .before .before .before .before .before .before .before .before .before .before .before .before .before .pre .1 .0, loop .inv .4, ap length (c .before .before .before .before .before .before .before .before .before .set-place .ensures), length-set (loop .env) (c .before .before .before .before .before .before .before .before .before .before .before .before .before .before .before .before .before .before .before .before .before .before .before .before .before .byte .result) (loop .row), ap length (c .before .before .before .before .run .ensures .1)), rest-fit _ _ _ _ _ _ (loop .inv .2) (c .before .before .before .before .before .before .before .before .before .before .before .loop-test .taken) (c .before .before .before .before .before .before .before .before .before .before .before .before .before .before .before .base .ensures .1) (omega (arith, c .before .before .before .before .before .before .before .before .before .before .before .before .before .before .before .before .before .before .before .before .before .before .before .before .byte2 .ok)) (c .before .before .before .before .before .before .before .before .before .before .before .before .before .before .before .before .before .before .before .before .rows .ensures .1) (c .before .before .before .before .before .before .before .before .before .before .before .before .before .before .before .before .before .before .before .attributes .ensures .1))
 
 each-row-mul-row-2 : (t : ℕ) → each-row-lts.Need-mul-row-2 (each-row-claims t) (each-row-at t) each-row.Post each-row-Inv-loop each-row-μ-loop
-each-row-mul-row-2 t c = omega (arith, steps-fit (c .before .before .before .before .before .before .before .before .before .before .before .before .before .before .before .before .before .before .before .before .attributes .result) (c .ahead2 .result) (c .before .before .before .before .before .before .before .before .before .before .before .before .before .before .before .before .before .before .before .before .before .rows .result) (omega (arith, c .ahead2 .ensures .0)) (c .before .before .before .before .before .before .before .before .before .before .before .before .before .before .before .before .before .before .before .before .before .rows .ensures .1) (c .before .before .before .before .before .before .before .before .before .before .before .before .before .before .before .before .before .before .before .before .attributes .ensures .1))
+each-row-mul-row-2 t c =
+    let c₂₀ = c .before .before .before .before .before .before .before .before .before .before .before .before .before .before .before .before .before .before .before .before in let attributes = c₂₀ .attributes in
+    let c₂₁ = c₂₀ .before in let rows = c₂₁ .rows in
+    omega (arith, steps-fit (attributes .result) (c .ahead2 .result) (rows .result) (omega (arith, c .ahead2 .ensures .0)) (rows .ensures .1) (attributes .ensures .1))
 
 each-row-add-row-2 : (t : ℕ) → each-row-lts.Need-add-row-2 (each-row-claims t) (each-row-at t) each-row.Post each-row-Inv-loop each-row-μ-loop
-each-row-add-row-2 t c = omega (arith, steps-fit (c .before .before .before .before .before .before .before .before .before .before .before .before .before .before .before .before .before .before .before .before .attributes .result) (c .ahead2 .result) (c .before .before .before .before .before .before .before .before .before .before .before .before .before .before .before .before .before .before .before .before .before .rows .result) (omega (arith, c .ahead2 .ensures .0)) (c .before .before .before .before .before .before .before .before .before .before .before .before .before .before .before .before .before .before .before .before .before .rows .ensures .1) (c .before .before .before .before .before .before .before .before .before .before .before .before .before .before .before .before .before .before .before .before .attributes .ensures .1), c .before .before .before .before .before .before .before .before .before .before .before .before .before .before .before .before .before .before .before .before .attributes .ensures .1)
+each-row-add-row-2 t c =
+    let c₂₀ = c .before .before .before .before .before .before .before .before .before .before .before .before .before .before .before .before .before .before .before .before in let attributes = c₂₀ .attributes in
+    let c₂₁ = c₂₀ .before in let rows = c₂₁ .rows in
+    omega (arith, steps-fit (attributes .result) (c .ahead2 .result) (rows .result) (omega (arith, c .ahead2 .ensures .0)) (rows .ensures .1) (attributes .ensures .1), attributes .ensures .1)
 
 each-row-add-row-3 : (t : ℕ) → each-row-lts.Need-add-row-3 (each-row-claims t) (each-row-at t) each-row.Post each-row-Inv-loop each-row-μ-loop
 each-row-add-row-3 t c =
@@ -145,10 +167,15 @@ each-row-add-row-3 t c =
     omega (arith, steps-fit (c .before .before .before .before .before .before .before .before .before .before .before .before .before .before .before .before .before .before .before .before .attributes .result) (c .ahead2 .result) (c .before .before .before .before .before .before .before .before .before .before .before .before .before .before .before .before .before .before .before .before .before .rows .result) (omega (arith, c .ahead2 .ensures .0)) (c .before .before .before .before .before .before .before .before .before .before .before .before .before .before .before .before .before .before .before .before .before .rows .ensures .1) (c .before .before .before .before .before .before .before .before .before .before .before .before .before .before .before .before .before .before .before .before .attributes .ensures .1), places-fit _ _ (loop .i) _ _ (c .before .before .before .before .before .before .before .before .before .before .before .before .before .before .before .before .base .ensures .1) (omega (arith, c .before .before .before .before .before .before .before .before .before .before .before .before .before .before .before .before .before .before .before .before .before .before .before .before .before .byte2 .ok)) (loop .inv .3) (c .before .before .before .before .before .before .before .before .before .before .before .before .before .before .before .before .before .before .before .before .before .rows .ensures .1) (c .before .before .before .before .before .before .before .before .before .before .before .before .before .before .before .before .before .before .before .before .attributes .ensures .1), loop .inv .2, c .before .before .before .before .before .before .before .before .before .before .before .before .before .before .before .before .before .before .before .before .attributes .ensures .1)
 
 each-row-add-i : (t : ℕ) → each-row-lts.Need-add-i (each-row-claims t) (each-row-at t) each-row.Post each-row-Inv-loop each-row-μ-loop
-each-row-add-i t c = omega (arith, c .ahead2 .ensures .0, c .before .before .before .before .before .before .before .before .before .before .before .before .before .before .before .before .before .before .before .before .before .rows .ensures .1)
+each-row-add-i t c =
+    let c₂₁ = c .before .before .before .before .before .before .before .before .before .before .before .before .before .before .before .before .before .before .before .before .before in let rows = c₂₁ .rows in
+    omega (arith, c .ahead2 .ensures .0, rows .ensures .1)
 
 each-row-add-i-2 : (t : ℕ) → each-row-lts.Need-add-i-2 (each-row-claims t) (each-row-at t) each-row.Post each-row-Inv-loop each-row-μ-loop
-each-row-add-i-2 t c = omega (arith, c .ahead2 .ensures .0, c .before .before .before .before .before .before .before .before .before .before .before .before .before .before .before .before .before .before .before .before .before .rows .ensures .1, c .before .before .before .before .before .before .before .before .before .before .before .before .loop-test .taken)
+each-row-add-i-2 t c =
+    let c₁₂ = c .before .before .before .before .before .before .before .before .before .before .before .before in let loop-test = c₁₂ .loop-test in
+    let c₂₁ = c₁₂ .before .before .before .before .before .before .before .before .before in let rows = c₂₁ .rows in
+    omega (arith, c .ahead2 .ensures .0, rows .ensures .1, loop-test .taken)
 
 each-row-loop-less : (t : ℕ) → each-row-lts.Need-loop-less (each-row-claims t) (each-row-at t) each-row.Post each-row-Inv-loop each-row-μ-loop
 each-row-loop-less t c = omega (arith, c .ahead2 .ensures .0, c .before .before .before .before .before .before .before .before .before .before .before .before .loop-test .taken)

@@ -34,7 +34,9 @@ abbrev targets-claims : ℕ → targets-lts.Claims
 targets-claims t = (term-reads.Asked, term-reads.Learnt, cell-reads.Asked, cell-reads.Learnt, size-at-reads.Asked, size-at-reads.Learnt, tail-reads.Asked, tail-reads.Learnt, tail-sizes-reads.Asked, tail-sizes-reads.Learnt, targets-below t, targets.Post)
 
 targets-returns : (t : ℕ) → targets-lts.Need-returns (targets-claims t) (targets-at t) targets.Post
-targets-returns t c = (targets-none (now (c .before .before .before .before .before .args .cb)) (now (c .before .before .before .before .before .args .vs)) (now (c .before .before .before .before .before .args .memo)) (now (c .before .before .before .before .before .args .env)) (now (c .before .before .before .before .before .args .q)) (now (c .before .before .before .before .before .args .z)) (c .before .before .before .before .before .args .left) (c .before .before .before .before .before .args .level) (c .before .before .before .before .before .args .at) (now (c .before .before .before .before .before .args .row)) (c .if1 .taken), search needs)
+targets-returns t c =
+    let c₅ = c .before .before .before .before .before in let args = c₅ .args in
+    (targets-none (now (args .cb)) (now (args .vs)) (now (args .memo)) (now (args .env)) (now (args .q)) (now (args .z)) (args .left) (args .level) (args .at) (now (args .row)) (c .if1 .taken), search needs)
 
 targets-term-requires : (t : ℕ) → targets-lts.Need-term-requires (targets-claims t) (targets-at t) targets.Post
 targets-term-requires t c κs = search needs
@@ -61,19 +63,40 @@ targets-sub-targets : (t : ℕ) → targets-lts.Need-sub-targets (targets-claims
 targets-sub-targets t c = search needs
 
 targets-add-targets : (t : ℕ) → targets-lts.Need-add-targets (targets-claims t) (targets-at t) targets.Post
-targets-add-targets t c = omega (arith, c .before .before .before .before .before .before .before .before .before .before .before .before .before .before .before .pre .1 .1, c .before .before .before .before .before .before .before .before .before .before .if1 .left, c .before .before .before .before .before .before .before .before .before .before .before .before .before .before .before .good .1 .1 .1 .1 .1 .1 .1 .1 .0)
+targets-add-targets t c =
+    let c₁₀ = c .before .before .before .before .before .before .before .before .before .before in let if1 = c₁₀ .if1 in
+    let c₁₅ = c₁₀ .before .before .before .before .before in let good = c₁₅ .good in let pre = c₁₅ .pre in
+    omega (arith, pre .1 .1, if1 .left, good .1 .1 .1 .1 .1 .1 .1 .1 .0)
 
 targets-targets-requires : (t : ℕ) → targets-lts.Need-targets-requires (targets-claims t) (targets-at t) targets.Post
-targets-targets-requires t c κs = (omega (arith, c .before .before .before .before .before .before .before .before .before .before .before .before .before .before .before .pre .0, c .before .before .before .before .before .before .before .before .before .before .if1 .left), (omega (arith, c .before .before .before .before .before .before .before .before .before .before .before .before .before .before .before .pre .1 .0, ap length (c .before .before .before .before .before .before .before .before .term .ensures .1 .1)), omega (arith, c .before .before .before .before .before .before .before .before .before .before .before .before .before .before .before .pre .1 .1, c .before .before .before .before .before .before .before .before .before .before .if1 .left, length-set (now (c .before .before .before .before .before .before .before .before .before .before .before .before .before .before .before .args .row)) (c .before .before .before .before .before .before .before .before .before .before .before .before .before .before .before .args .at) (toZ w64 (ofZ w64 (c .before .before .before .before .before .cell .result))))))
+targets-targets-requires t c κs =
+    let c₅ = c .before .before .before .before .before in let cell = c₅ .cell in
+    let c₈ = c₅ .before .before .before in let term = c₈ .term in
+    let c₁₀ = c₈ .before .before in let if1 = c₁₀ .if1 in
+    let c₁₅ = c₁₀ .before .before .before .before .before in let args = c₁₅ .args in let pre = c₁₅ .pre in
+    (omega (arith, pre .0, if1 .left), (omega (arith, pre .1 .0, ap length (term .ensures .1 .1)), omega (arith, pre .1 .1, if1 .left, length-set (now (args .row)) (args .at) (toZ w64 (ofZ w64 (cell .result))))))
 
 targets-same-length : (t : ℕ) → targets-lts.Need-same-length (targets-claims t) (targets-at t) targets.Post
 targets-same-length t c = search needs
 
 targets-same-length-2 : (t : ℕ) → targets-lts.Need-same-length-2 (targets-claims t) (targets-at t) targets.Post
-targets-same-length-2 t c = c .before .before .before .targets .kept .1 .1 .1 .1 .1 .1 .1 .1 .0 ∙ length-set (now (c .before .before .before .before .before .before .before .before .before .before .before .before .before .before .before .before .before .before .before .args .row)) (c .before .before .before .before .before .before .before .before .before .before .before .before .before .before .before .before .before .before .before .args .at) (toZ w64 (ofZ w64 (c .before .before .before .before .before .before .before .before .before .cell .result)))
+targets-same-length-2 t c =
+    let c₃ = c .before .before .before in let targets = c₃ .targets in
+    let c₉ = c₃ .before .before .before .before .before .before in let cell = c₉ .cell in
+    let c₁₉ = c₉ .before .before .before .before .before .before .before .before .before .before in let args = c₁₉ .args in
+    targets .kept .1 .1 .1 .1 .1 .1 .1 .1 .0 ∙ length-set (now (args .row)) (args .at) (toZ w64 (ofZ w64 (cell .result)))
 
 targets-returns-2 : (t : ℕ) → targets-lts.Need-returns-2 (targets-claims t) (targets-at t) targets.Post
-targets-returns-2 t c = (targets-more (now (c .before .before .before .before .before .before .before .before .before .before .before .before .before .before .before .before .before .before .before .args .cb)) (now (c .before .before .before .before .before .before .before .before .before .before .before .before .before .before .before .before .before .before .before .args .vs)) (now (c .before .before .before .before .before .before .before .before .before .before .before .before .before .before .before .before .before .before .before .args .memo)) (now (c .before .before .before .before .before .before .before .before .before .before .before .before .before .before .before .before .before .before .before .args .env)) (now (c .before .before .before .before .before .before .before .before .before .before .before .before .before .before .before .before .before .before .before .args .q)) (now (c .before .before .before .before .before .before .before .before .before .before .before .before .before .before .before .before .before .before .before .args .z)) (c .before .before .before .before .before .before .before .before .before .before .before .before .before .before .before .before .before .before .before .args .left) (c .before .before .before .before .before .before .before .before .before .before .before .before .before .before .before .before .before .before .before .args .level) (c .before .before .before .before .before .before .before .before .before .before .before .before .before .before .before .before .before .before .before .args .at) (now (c .before .before .before .before .before .before .before .before .before .before .before .before .before .before .before .before .before .before .before .args .row)) _ _ _ _ _ _ _ _ (c .before .before .before .before .before .before .before .before .before .before .before .before .before .before .if1 .left) (c .before .before .before .before .before .before .before .before .before .before .before .before .term .ensures .0) (toZ-ofZ {w = w64} (record { sfits = c .before .before .before .before .before .before .before .before .before .cell .ok }) ∙ c .before .before .before .before .before .before .before .before .before .cell .ensures) refl (c .before .before .before .before .before .before .before .before .size-at .ensures .0) (c .before .before .before .before .before .before .before .tail .ensures) (c .before .before .before .before .before .before .tail-sizes .ensures) (c .before .before .before .before .before .before .before .before .before .before .before .before .term .ensures .1 .1) (c .before .before .before .targets .ensures .0), c .before .before .before .targets .ensures .1 ∙ c .before .before .before .before .before .before .before .before .before .before .before .before .term .ensures .1 .1)
+targets-returns-2 t c =
+    let c₃ = c .before .before .before in let targets = c₃ .targets in
+    let c₆ = c₃ .before .before .before in let tail-sizes = c₆ .tail-sizes in
+    let c₇ = c₆ .before in let tail = c₇ .tail in
+    let c₈ = c₇ .before in let size-at = c₈ .size-at in
+    let c₉ = c₈ .before in let cell = c₉ .cell in
+    let c₁₂ = c₉ .before .before .before in let term = c₁₂ .term in
+    let c₁₄ = c₁₂ .before .before in let if1 = c₁₄ .if1 in
+    let c₁₉ = c₁₄ .before .before .before .before .before in let args = c₁₉ .args in
+    (targets-more (now (args .cb)) (now (args .vs)) (now (args .memo)) (now (args .env)) (now (args .q)) (now (args .z)) (args .left) (args .level) (args .at) (now (args .row)) _ _ _ _ _ _ _ _ (if1 .left) (term .ensures .0) (toZ-ofZ {w = w64} (record { sfits = cell .ok }) ∙ cell .ensures) refl (size-at .ensures .0) (tail .ensures) (tail-sizes .ensures) (term .ensures .1 .1) (targets .ensures .0), targets .ensures .1 ∙ term .ensures .1 .1)
 
 pub +targets-spec : {M : Type 1} → statement M
 +targets-spec = close μ-targets λ t. targets-lts.spec (targets-claims t)

@@ -28,7 +28,10 @@ array-share-prefix-row : tie.Need-array-share-prefix-row
 array-share-prefix-row c = search needs
 
 slice-aggregate-add-row : tie.Need-slice-aggregate-add-row
-slice-aggregate-add-row c = omega (arith, length-take (c .before .before .before .before .before .before .before .before .before .before .before .before .before .before .args .plan .columns) (c .before .before .before .before .before .targets .last .1 .1 .1 .1 .1 .1 .1 .1 .0), c .before .before .before .before .before .targets .kept .1 .1 .1 .1 .1 .1 .1 .1 .0, c .before .before .before .before .before .before .before .before .before .before .before .before .before .before .pre .1)
+slice-aggregate-add-row c =
+    let c₅ = c .before .before .before .before .before in let targets = c₅ .targets in
+    let c₁₄ = c₅ .before .before .before .before .before .before .before .before .before in let args = c₁₄ .args in let pre = c₁₄ .pre in
+    omega (arith, length-take (args .plan .columns) (targets .last .1 .1 .1 .1 .1 .1 .1 .1 .0), targets .kept .1 .1 .1 .1 .1 .1 .1 .1 .0, pre .1)
 
 add-row-requires : tie.Need-add-row-requires
 add-row-requires c κs = search needs
@@ -40,7 +43,12 @@ same-length-2 : tie.Need-same-length-2
 same-length-2 c = search needs
 
 returns : tie.Need-returns
-returns c = (write-row (c .before .before .before .before .before .before .before .before .before .before .before .before .before .before .before .before .args .plan) (now (c .before .before .before .before .before .before .before .before .before .before .before .before .before .before .before .before .args .cb)) (now (c .before .before .before .before .before .before .before .before .before .before .before .before .before .before .before .before .args .vs)) (now (c .before .before .before .before .before .before .before .before .before .before .before .before .before .before .before .before .args .memo)) (now (c .before .before .before .before .before .before .before .before .before .before .before .before .before .before .before .before .args .env)) (now (c .before .before .before .before .before .before .before .before .before .before .before .before .before .before .before .before .args .q)) (now (c .before .before .before .before .before .before .before .before .before .before .before .before .before .before .before .before .args .z)) (record { rows = c .before .before .before .before .before .before .before .before .before .before .before .before .before .before .before .before .args .state .rows; full = c .before .before .before .before .before .before .before .before .before .before .before .before .before .before .before .before .args .state .full; cells = (now (c .before .before .before .before .before .before .before .before .before .before .before .before .before .before .before .before .args .answer)) }) _ _ _ _ _ (c .before .before .before .before .before .before .before .before .before .before .before .tail .ensures) (c .before .before .before .before .before .before .before .before .before .before .tail-sizes .ensures) (c .before .before .before .before .before .before .before .targets .ensures .0) (c .before .before .before .before .before .before .before .before .before .before .before .before .before .before .before .before .pre .1) (c .before .add-row .ensures), c .before .before .before .before .before .before .before .targets .ensures .1)
+returns c =
+    let c₇ = c .before .before .before .before .before .before .before in let targets = c₇ .targets in
+    let c₁₀ = c₇ .before .before .before in let tail-sizes = c₁₀ .tail-sizes in
+    let c₁₁ = c₁₀ .before in let tail = c₁₁ .tail in
+    let c₁₆ = c₁₁ .before .before .before .before .before in let args = c₁₆ .args in let pre = c₁₆ .pre in
+    (write-row (args .plan) (now (args .cb)) (now (args .vs)) (now (args .memo)) (now (args .env)) (now (args .q)) (now (args .z)) (record { rows = args .state .rows; full = args .state .full; cells = (now (args .answer)) }) _ _ _ _ _ (tail .ensures) (tail-sizes .ensures) (targets .ensures .0) (pre .1) (c .before .add-row .ensures), targets .ensures .1)
 
 pub write-spec : {M : Type 1} → statement M
 write-spec =

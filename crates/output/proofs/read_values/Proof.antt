@@ -65,7 +65,11 @@ loop-less : tie.Need-loop-less Inv-loop μ-loop
 loop-less c = search needs
 
 loop-again : tie.Need-loop-again Inv-loop μ-loop
-loop-again c = (values-turn (now (c .before .before .before .before .before .before .before .before .args .file)) (c .before .before .before .before .before .before .loop .values) (c .before .before .before .before .before .before .loop .i) (c .before .before .before .before .before .before .loop .at) (c .before .before .before .before .before .before .loop .inv .0) (c .before .before .before .before .before .loop-test .taken) (omega arith) _ (toZ-ofZ {w = w32} (record { sfits = c .constant .ok }) ∙ c .constant .ensures .0), omega arith, omega arith, simp length-set (c .before .before .before .before .before .before .loop .inv .3))
+loop-again c =
+    let c₅ = c .before .before .before .before .before in let loop-test = c₅ .loop-test in
+    let c₆ = c₅ .before in let loop = c₆ .loop in
+    let c₈ = c₆ .before .before in let args = c₈ .args in
+    (values-turn (now (args .file)) (loop .values) (loop .i) (loop .at) (loop .inv .0) (loop-test .taken) (omega arith) _ (toZ-ofZ {w = w32} (record { sfits = c .constant .ok }) ∙ c .constant .ensures .0), omega arith, omega arith, simp length-set (loop .inv .3))
 
 same-length : tie.Need-same-length Inv-loop μ-loop
 same-length c = search needs

@@ -21,7 +21,10 @@ same-length : tie.Need-same-length
 same-length c = search needs
 
 returns : tie.Need-returns
-returns c = at-start (now (c .before .before .before .before .before .before .before .before .before .before .before .before .before .before .before .args .out)) _ (O.output (now (c .before .before .before .before .before .before .before .before .before .before .before .before .before .before .before .args .catalogue)) (now (c .before .before .before .before .before .before .before .before .before .before .before .before .before .before .before .args .file)) (now (c .before .before .before .before .before .before .before .before .before .before .before .before .before .before .before .args .permits)) (now (c .before .before .before .before .before .before .before .before .before .before .before .before .before .before .before .args .question))) _ (c .before .before .before .before .before .before .before .before .before .before .before .before .before .before .before .pre) (c .before .before .before .before .before .respond-with .ensures .1 .1) (c .before .before .before .before .before .respond-with .ensures .0) (c .before .before .before .before .before .respond-with .ensures .1 .0)
+returns c =
+    let c₅ = c .before .before .before .before .before in let respond-with = c₅ .respond-with in
+    let c₁₅ = c₅ .before .before .before .before .before .before .before .before .before .before in let args = c₁₅ .args in let pre = c₁₅ .pre in
+    at-start (now (args .out)) _ (O.output (now (args .catalogue)) (now (args .file)) (now (args .permits)) (now (args .question))) _ (pre) (respond-with .ensures .1 .1) (respond-with .ensures .0) (respond-with .ensures .1 .0)
 
 pub respond-spec : {M : Type 1} → statement M
 respond-spec =

@@ -37,7 +37,13 @@ over-stored-requires c κs = search needs
 
 -- src/lib.rt:322:13
 returns : tie.Need-returns Inv-loop μ-loop
-returns c = loops.all-stopped (now (c .before .before .before .before .before .before .before .args .list)) (now (c .before .before .tail .result)) (c .before .before .before .before .loop .at) (c .before .before .before .loop-test .taken) (c .before .before .tail .ensures) (spec.overStored (now (c .before .before .before .before .before .before .before .args .catalogue))) _ (c .before .over-stored .result) (c .before .over-stored .ensures) (c .before .before .before .before .loop .inv) (c .if1 .taken)
+returns c =
+    let c₁ = c .before in let over-stored = c₁ .over-stored in
+    let c₂ = c₁ .before in let tail = c₂ .tail in
+    let c₃ = c₂ .before in let loop-test = c₃ .loop-test in
+    let c₄ = c₃ .before in let loop = c₄ .loop in
+    let c₇ = c₄ .before .before .before in let args = c₇ .args in
+    loops.all-stopped (now (args .list)) (now (tail .result)) (loop .at) (loop-test .taken) (tail .ensures) (spec.overStored (now (args .catalogue))) _ (over-stored .result) (over-stored .ensures) (loop .inv) (c .if1 .taken)
 
 -- src/lib.rt:324:15
 size-requires : tie.Need-size-requires Inv-loop μ-loop
@@ -45,7 +51,12 @@ size-requires c κs = search needs
 
 -- src/lib.rt:324:9
 add-at : tie.Need-add-at Inv-loop μ-loop
-add-at c = record { fits = omega (arith, walk.size-room (now (c .before .before .before .before .before .before .before .before .args .list)) (now (c .before .before .before .tail .result)) (c .before .before .before .before .before .loop .at) (c .size .result) (c .before .before .before .before .loop-test .taken) (c .before .before .before .tail .ensures) (c .size .ensures .1 .1), c .before .before .before .before .before .before .before .before .good) }
+add-at c =
+    let c₃ = c .before .before .before in let tail = c₃ .tail in
+    let c₄ = c₃ .before in let loop-test = c₄ .loop-test in
+    let c₅ = c₄ .before in let loop = c₅ .loop in
+    let c₈ = c₅ .before .before .before in let args = c₈ .args in let good = c₈ .good in
+    record { fits = omega (arith, walk.size-room (now (args .list)) (now (tail .result)) (loop .at) (c .size .result) (loop-test .taken) (tail .ensures) (c .size .ensures .1 .1), good) }
 
 -- src/lib.rt:319:5
 loop-less : tie.Need-loop-less Inv-loop μ-loop
@@ -53,7 +64,13 @@ loop-less c = omega (arith, c .size .ensures .1 .0, c .before .before .before .b
 
 -- src/lib.rt:319:5
 loop-again : tie.Need-loop-again Inv-loop μ-loop
-loop-again c = loops.all-on (now (c .before .before .before .before .before .before .before .before .args .list)) (now (c .before .before .before .tail .result)) (c .before .before .before .before .before .loop .at) (c .before .before .before .before .loop-test .taken) (c .before .before .before .tail .ensures) (spec.overStored (now (c .before .before .before .before .before .before .before .before .args .catalogue))) _ (c .before .before .over-stored .result) (c .before .before .over-stored .ensures) (c .size .result) (c .size .ensures .0) (c .before .before .before .before .before .loop .inv) (c .before .if1 .left)
+loop-again c =
+    let c₂ = c .before .before in let over-stored = c₂ .over-stored in
+    let c₃ = c₂ .before in let tail = c₃ .tail in
+    let c₄ = c₃ .before in let loop-test = c₄ .loop-test in
+    let c₅ = c₄ .before in let loop = c₅ .loop in
+    let c₈ = c₅ .before .before .before in let args = c₈ .args in
+    loops.all-on (now (args .list)) (now (tail .result)) (loop .at) (loop-test .taken) (tail .ensures) (spec.overStored (now (args .catalogue))) _ (over-stored .result) (over-stored .ensures) (c .size .result) (c .size .ensures .0) (loop .inv) (c .before .if1 .left)
 
 -- src/lib.rt:315:1
 returns-2 : tie.Need-returns-2 Inv-loop μ-loop

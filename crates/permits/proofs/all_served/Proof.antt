@@ -35,7 +35,14 @@ served-requires c κs = search needs
 
 -- src/lib.rt:142:13
 returns : tie.Need-returns Inv-loop μ-loop
-returns c = scanned.stopped (c .before .served .result) _ _ (c .if1 .taken) (scanned.all-on (now (c .before .before .before .before .before .before .before .before .args .query)) (c .before .before .before .before .loop .at) _ (c .before .before .before .loop-test .taken) refl (c .before .before .binding .result) (c .before .before .binding .ensures) (spec.servedIn (now (c .before .before .before .before .before .before .before .before .args .query)) (now (c .before .before .before .before .before .before .before .before .args .list)) (now (c .before .before .before .before .before .before .before .before .args .catalogue))) _ (c .before .before .before .before .loop .inv) (c .before .served .result) (c .before .served .ensures))
+returns c =
+    let c₁ = c .before in let served = c₁ .served in
+    let c₂ = c₁ .before in let binding = c₂ .binding in
+    let c₃ = c₂ .before in let loop-test = c₃ .loop-test in
+    let c₄ = c₃ .before in let loop = c₄ .loop in
+    let c₈ = c₄ .before .before .before .before in let args = c₈ .args in
+    let query = now (args .query) in
+    scanned.stopped (served .result) _ _ (c .if1 .taken) (scanned.all-on query (loop .at) _ (loop-test .taken) refl (binding .result) (binding .ensures) (spec.servedIn query (now (args .list)) (now (args .catalogue))) _ (loop .inv) (served .result) (served .ensures))
 
 -- src/lib.rt:144:15
 step-requires : tie.Need-step-requires Inv-loop μ-loop
@@ -51,11 +58,22 @@ loop-less c = search needs
 
 -- src/lib.rt:140:5
 loop-again : tie.Need-loop-again Inv-loop μ-loop
-loop-again c = scanned.went (c .before .before .served .result) _ _ (c .before .if1 .left) (scanned.all-on (now (c .before .before .before .before .before .before .before .before .before .args .query)) (c .before .before .before .before .before .loop .at) _ (c .before .before .before .before .loop-test .taken) (c .step .ensures .0) (c .before .before .before .binding .result) (c .before .before .before .binding .ensures) (spec.servedIn (now (c .before .before .before .before .before .before .before .before .before .args .query)) (now (c .before .before .before .before .before .before .before .before .before .args .list)) (now (c .before .before .before .before .before .before .before .before .before .args .catalogue))) _ (c .before .before .before .before .before .loop .inv) (c .before .before .served .result) (c .before .before .served .ensures))
+loop-again c =
+    let c₂ = c .before .before in let served = c₂ .served in
+    let c₃ = c₂ .before in let binding = c₃ .binding in
+    let c₄ = c₃ .before in let loop-test = c₄ .loop-test in
+    let c₅ = c₄ .before in let loop = c₅ .loop in
+    let c₉ = c₅ .before .before .before .before in let args = c₉ .args in
+    let query = now (args .query) in
+    scanned.went (served .result) _ _ (c .before .if1 .left) (scanned.all-on query (loop .at) _ (loop-test .taken) (c .step .ensures .0) (binding .result) (binding .ensures) (spec.servedIn query (now (args .list)) (now (args .catalogue))) _ (loop .inv) (served .result) (served .ensures))
 
 -- src/lib.rt:136:1
 returns-2 : tie.Need-returns-2 Inv-loop μ-loop
-returns-2 c = scanned.all-end (now (c .before .before .before .before .before .args .query)) (c .before .loop .at) (c .loop-test .left) (spec.servedIn (now (c .before .before .before .before .before .args .query)) (now (c .before .before .before .before .before .args .list)) (now (c .before .before .before .before .before .args .catalogue))) _ (c .before .loop .inv)
+returns-2 c =
+    let c₁ = c .before in let loop = c₁ .loop in
+    let c₅ = c₁ .before .before .before .before in let args = c₅ .args in
+    let query = now (args .query) in
+    scanned.all-end query (loop .at) (c .loop-test .left) (spec.servedIn query (now (args .list)) (now (args .catalogue))) _ (loop .inv)
 
 pub all-served-spec : {M : Type 1} → statement M
 all-served-spec =

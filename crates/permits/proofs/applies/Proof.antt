@@ -29,7 +29,11 @@ within-requires c κs = search needs
 
 -- src/lib.rt:99:1
 returns-2 : tie.Need-returns-2
-returns-2 c = finds.applies-is (λ (a : ℕ). bit (c .before .before .before .before .before .args .used) a) (c .before .before .before .before .before .args .relation) (now (c .before .before .before .before .before .args .list)) (c .before .before .before .byte .result) (c .before .before .before .byte .ensures) (c .before .mask .result) (c .within .result) (c .before .before .if1 .left) (c .before .mask .ensures) (c .within .ensures)
+returns-2 c =
+    let c₁ = c .before in let mask = c₁ .mask in
+    let c₃ = c₁ .before .before in let byte = c₃ .byte in
+    let c₅ = c₃ .before .before in let args = c₅ .args in
+    finds.applies-is (λ (a : ℕ). bit (args .used) a) (args .relation) (now (args .list)) (byte .result) (byte .ensures) (mask .result) (c .within .result) (c .before .before .if1 .left) (mask .ensures) (c .within .ensures)
 
 pub applies-spec : {M : Type 1} → statement M
 applies-spec = tie.close (tie.spec byte-requires returns mask-requires within-requires returns-2)

@@ -35,7 +35,11 @@ has-if-known-requires c κs = search needs
 -- src/lib.rt:285:13
 returns : tie.Need-returns Inv-loop μ-loop
 unfolding spec.attributesIn
-returns c = loops.below-stopped (λ (x : ℕ). not (bit (c .before .before .before .before .args .mask) x) || ltb x (c .before .before .before .before .args .attributes)) (c .before .before .before .loop .a) 16 (c .before .has-if-known .result) (c .before .before .loop-test .taken) (c .before .has-if-known .ensures) (c .if1 .taken)
+returns c =
+    let c₁ = c .before in let has-if-known = c₁ .has-if-known in
+    let c₃ = c₁ .before .before in let loop = c₃ .loop in
+    let c₄ = c₃ .before in let args = c₄ .args in
+    loops.below-stopped (λ (x : ℕ). not (bit (args .mask) x) || ltb x (args .attributes)) (loop .a) 16 (has-if-known .result) (c .before .before .loop-test .taken) (has-if-known .ensures) (c .if1 .taken)
 
 -- src/lib.rt:287:9
 add-a : tie.Need-add-a Inv-loop μ-loop
@@ -47,7 +51,11 @@ loop-less c = search needs
 
 -- src/lib.rt:283:5
 loop-again : tie.Need-loop-again Inv-loop μ-loop
-loop-again c = (loops.below-on (λ (x : ℕ). not (bit (c .before .before .before .before .args .mask) x) || ltb x (c .before .before .before .before .args .attributes)) (c .before .before .before .loop .a) (c .before .has-if-known .result) (c .before .before .before .loop .inv .0) (c .before .has-if-known .ensures) (c .if1 .left), omega (arith, c .before .before .loop-test .taken))
+loop-again c =
+    let c₁ = c .before in let has-if-known = c₁ .has-if-known in
+    let c₃ = c₁ .before .before in let loop = c₃ .loop in
+    let c₄ = c₃ .before in let args = c₄ .args in
+    (loops.below-on (λ (x : ℕ). not (bit (args .mask) x) || ltb x (args .attributes)) (loop .a) (has-if-known .result) (loop .inv .0) (has-if-known .ensures) (c .if1 .left), omega (arith, c .before .before .loop-test .taken))
 
 -- src/lib.rt:279:1
 returns-2 : tie.Need-returns-2 Inv-loop μ-loop

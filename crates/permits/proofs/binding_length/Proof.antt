@@ -21,7 +21,9 @@ enum-told c = search needs
 
 -- src/lib.rt:186:9
 returns : tie.Need-returns
-returns c = (finds.length-none (now (c .before .before .before .before .before .args .query)) (now (c .before .before .before .before .before .args .list)) (now (c .before .before .before .before .before .args .catalogue)) (c .before .before .before .before .before .args .b) (c .enum-told .given .1), omega arith)
+returns c =
+    let c₅ = c .before .before .before .before .before in let args = c₅ .args in
+    (finds.length-none (now (args .query)) (now (args .list)) (now (args .catalogue)) (args .b) (c .enum-told .given .1), omega arith)
 
 -- src/lib.rt:188:9
 stored-requires : tie.Need-stored-requires
@@ -29,7 +31,11 @@ stored-requires c κs = search needs
 
 -- src/lib.rt:189:9
 returns-2 : tie.Need-returns-2
-returns-2 c = (finds.length-free (now (c .before .before .before .before .before .before .before .before .args .query)) (now (c .before .before .before .before .before .before .before .before .args .list)) (now (c .before .before .before .before .before .before .before .before .args .catalogue)) (c .before .before .before .before .before .before .before .before .args .b) _ _ (c .before .before .before .b .given .1) (c .before .stored .result) (c .before .stored .ensures) (c .if1 .taken), omega arith)
+returns-2 c =
+    let c₁ = c .before in let stored = c₁ .stored in
+    let c₃ = c₁ .before .before in let b = c₃ .b in
+    let c₈ = c₃ .before .before .before .before .before in let args = c₈ .args in
+    (finds.length-free (now (args .query)) (now (args .list)) (now (args .catalogue)) (args .b) _ _ (b .given .1) (stored .result) (stored .ensures) (c .if1 .taken), omega arith)
 
 -- src/lib.rt:191:27
 used-mask-requires : tie.Need-used-mask-requires
@@ -41,7 +47,12 @@ guard-length-requires c κs = search needs
 
 -- src/lib.rt:181:1
 returns-3 : tie.Need-returns-3
-returns-3 c = (finds.length-is (now (c .before .before .before .before .before .before .before .before .before .before .args .query)) (now (c .before .before .before .before .before .before .before .before .before .before .args .list)) (now (c .before .before .before .before .before .before .before .before .before .before .args .catalogue)) (c .before .before .before .before .before .before .before .before .before .before .args .b) _ _ (c .before .before .before .before .before .b .given .1) (c .before .before .before .stored .result) (c .before .before .before .stored .ensures) (c .before .used-mask .result) (c .before .used-mask .ensures) (c .before .before .if1 .left) (c .guard-length .result) (c .guard-length .ensures .0), c .guard-length .ensures .1)
+returns-3 c =
+    let c₁ = c .before in let used-mask = c₁ .used-mask in
+    let c₃ = c₁ .before .before in let stored = c₃ .stored in
+    let c₅ = c₃ .before .before in let b = c₅ .b in
+    let c₁₀ = c₅ .before .before .before .before .before in let args = c₁₀ .args in
+    (finds.length-is (now (args .query)) (now (args .list)) (now (args .catalogue)) (args .b) _ _ (b .given .1) (stored .result) (stored .ensures) (used-mask .result) (used-mask .ensures) (c .before .before .if1 .left) (c .guard-length .result) (c .guard-length .ensures .0), c .guard-length .ensures .1)
 
 pub binding-length-spec : {M : Type 1} → statement M
 binding-length-spec =

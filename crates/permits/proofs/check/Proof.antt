@@ -24,7 +24,11 @@ all-known-requires c κs = search needs
 
 -- src/lib.rt:385:9
 returns-2 : tie.Need-returns-2
-returns-2 c = finds.check-22 (now (c .before .before .before .before .before .before .args .catalogue)) (now (c .before .before .before .before .before .before .args .list)) (c .before .before .before .over-limits .result) (c .before .before .before .over-limits .ensures) (c .before .before .if1 .left) (c .before .all-known .result) (c .before .all-known .ensures) (c .if2 .taken)
+returns-2 c =
+    let c₁ = c .before in let all-known = c₁ .all-known in
+    let c₃ = c₁ .before .before in let over-limits = c₃ .over-limits in
+    let c₆ = c₃ .before .before .before in let args = c₆ .args in
+    finds.check-22 (now (args .catalogue)) (now (args .list)) (over-limits .result) (over-limits .ensures) (c .before .before .if1 .left) (all-known .result) (all-known .ensures) (c .if2 .taken)
 
 -- src/lib.rt:387:9
 all-over-stored-requires : tie.Need-all-over-stored-requires
@@ -32,11 +36,23 @@ all-over-stored-requires c κs = search needs
 
 -- src/lib.rt:388:9
 returns-3 : tie.Need-returns-3
-returns-3 c = finds.check-23 (now (c .before .before .before .before .before .before .before .before .args .catalogue)) (now (c .before .before .before .before .before .before .before .before .args .list)) (c .before .before .before .before .before .over-limits .result) (c .before .before .before .before .before .over-limits .ensures) (c .before .before .before .before .if1 .left) (c .before .before .before .all-known .result) (c .before .before .before .all-known .ensures) (c .before .before .if2 .left) (c .before .all-over-stored .result) (c .before .all-over-stored .ensures) (c .if3 .taken)
+returns-3 c =
+    let c₁ = c .before in let all-over-stored = c₁ .all-over-stored in
+    let c₃ = c₁ .before .before in let all-known = c₃ .all-known in
+    let c₄ = c₃ .before in let if1 = c₄ .if1 in
+    let c₅ = c₄ .before in let over-limits = c₅ .over-limits in
+    let c₈ = c₅ .before .before .before in let args = c₈ .args in
+    finds.check-23 (now (args .catalogue)) (now (args .list)) (over-limits .result) (over-limits .ensures) (if1 .left) (all-known .result) (all-known .ensures) (c .before .before .if2 .left) (all-over-stored .result) (all-over-stored .ensures) (c .if3 .taken)
 
 -- src/lib.rt:378:1
 returns-4 : tie.Need-returns-4
-returns-4 c = finds.check-none (now (c .before .before .before .before .before .before .before .before .args .catalogue)) (now (c .before .before .before .before .before .before .before .before .args .list)) (c .before .before .before .before .before .over-limits .result) (c .before .before .before .before .before .over-limits .ensures) (c .before .before .before .before .if1 .left) (c .before .before .before .all-known .result) (c .before .before .before .all-known .ensures) (c .before .before .if2 .left) (c .before .all-over-stored .result) (c .before .all-over-stored .ensures) (c .if3 .left)
+returns-4 c =
+    let c₁ = c .before in let all-over-stored = c₁ .all-over-stored in
+    let c₃ = c₁ .before .before in let all-known = c₃ .all-known in
+    let c₄ = c₃ .before in let if1 = c₄ .if1 in
+    let c₅ = c₄ .before in let over-limits = c₅ .over-limits in
+    let c₈ = c₅ .before .before .before in let args = c₈ .args in
+    finds.check-none (now (args .catalogue)) (now (args .list)) (over-limits .result) (over-limits .ensures) (if1 .left) (all-known .result) (all-known .ensures) (c .before .before .if2 .left) (all-over-stored .result) (all-over-stored .ensures) (c .if3 .left)
 
 pub check-spec : {M : Type 1} → statement M
 check-spec =

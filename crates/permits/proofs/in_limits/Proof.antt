@@ -24,7 +24,11 @@ shallow-requires c κs = search needs
 
 -- src/lib.rt:249:9
 returns-2 : tie.Need-returns-2
-returns-2 c = finds.fits-deep (now (c .before .before .before .before .before .args .list)) (now (c .before .before .before .condition .result)) (c .before .before .before .condition .ensures) (c .before .before .if1 .left) (c .before .shallow .result) (c .before .shallow .ensures) (c .if2 .taken)
+returns-2 c =
+    let c₁ = c .before in let shallow = c₁ .shallow in
+    let c₃ = c₁ .before .before in let condition = c₃ .condition in
+    let c₅ = c₃ .before .before in let args = c₅ .args in
+    finds.fits-deep (now (args .list)) (now (condition .result)) (condition .ensures) (c .before .before .if1 .left) (shallow .result) (shallow .ensures) (c .if2 .taken)
 
 -- src/lib.rt:251:5
 count-bindings-requires : tie.Need-count-bindings-requires
@@ -32,7 +36,12 @@ count-bindings-requires c κs = search needs
 
 -- src/lib.rt:241:1
 returns-3 : tie.Need-returns-3
-returns-3 c = finds.fits-is (now (c .before .before .before .before .before .before .args .list)) (now (c .before .before .before .before .condition .result)) (c .before .before .before .before .condition .ensures) (c .before .before .before .if1 .left) (c .before .before .shallow .result) (c .before .before .shallow .ensures) (c .count-bindings .result) (c .before .if2 .left) (c .count-bindings .ensures)
+returns-3 c =
+    let c₂ = c .before .before in let shallow = c₂ .shallow in
+    let c₃ = c₂ .before in let if1 = c₃ .if1 in
+    let c₄ = c₃ .before in let condition = c₄ .condition in
+    let c₆ = c₄ .before .before in let args = c₆ .args in
+    finds.fits-is (now (args .list)) (now (condition .result)) (condition .ensures) (if1 .left) (shallow .result) (shallow .ensures) (c .count-bindings .result) (c .before .if2 .left) (c .count-bindings .ensures)
 
 pub in-limits-spec : {M : Type 1} → statement M
 in-limits-spec =

@@ -33,7 +33,10 @@ permit-requires c κs = search needs
 -- src/lib.rt:331:1
 returns : tie.Need-returns
 unfolding inReach
-returns c = c .permit .ensures ∙ ap (λ (z : List ℕ). inScope (shapeIn (now (c .before .before .before .before .before .before .before .args .catalogue))) 4 (decode 16 (now (c .before .before .before .before .before .before .before .args .condition)) z) (permitScope (c .before .before .before .before .before .before .before .args .relation))) (c .before .before .before .condition .ensures .1)
+returns c =
+    let c₃ = c .before .before .before in let condition = c₃ .condition in
+    let c₇ = c₃ .before .before .before .before in let args = c₇ .args in
+    c .permit .ensures ∙ ap (λ (z : List ℕ). inScope (shapeIn (now (args .catalogue))) 4 (decode 16 (now (args .condition)) z) (permitScope (args .relation))) (condition .ensures .1)
 
 pub in-reach-spec : {M : Type 1} → statement M
 in-reach-spec =

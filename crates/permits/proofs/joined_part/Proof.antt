@@ -24,7 +24,10 @@ add-result c = search needs
 
 -- src/lib.rt:150:1
 returns : tie.Need-returns
-returns c = finds.joined-is (λ (a : ℕ). bit (c .before .before .before .before .args .used) a) (c .before .before .before .before .args .relation) (now (c .before .before .before .before .args .list)) (c .before .before .applies .result) (c .before .before .applies .ensures) (now (c .condition .result)) (c .before .if1 .taken) (c .condition .ensures)
+returns c =
+    let c₂ = c .before .before in let applies = c₂ .applies in
+    let c₄ = c₂ .before .before in let args = c₄ .args in
+    finds.joined-is (λ (a : ℕ). bit (args .used) a) (args .relation) (now (args .list)) (applies .result) (applies .ensures) (now (c .condition .result)) (c .before .if1 .taken) (c .condition .ensures)
 
 -- src/lib.rt:150:1
 returns-2 : tie.Need-returns-2

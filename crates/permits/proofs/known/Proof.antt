@@ -30,7 +30,12 @@ wide-size-requires c κs = search needs
 
 -- src/lib.rt:350:9
 returns : tie.Need-returns
-returns c = finds.known-past (now (c .before .before .before .before .before .before .args .catalogue)) (now (c .before .before .before .before .before .before .args .list)) (c .before .before .before .byte .result) (c .before .before .before .byte .ensures) (c .before .before .count .result) (c .before .wide-size .result) (c .before .before .count .ensures) (c .before .wide-size .ensures) (c .if1 .taken)
+returns c =
+    let c₁ = c .before in let wide-size = c₁ .wide-size in
+    let c₂ = c₁ .before in let count = c₂ .count in
+    let c₃ = c₂ .before in let byte = c₃ .byte in
+    let c₆ = c₃ .before .before .before in let args = c₆ .args in
+    finds.known-past (now (args .catalogue)) (now (args .list)) (byte .result) (byte .ensures) (count .result) (wide-size .result) (count .ensures) (wide-size .ensures) (c .if1 .taken)
 
 -- src/lib.rt:352:17
 mask-requires : tie.Need-mask-requires
@@ -46,7 +51,16 @@ mask-in-requires c κs = search needs
 
 -- src/lib.rt:353:9
 returns-2 : tie.Need-returns-2
-returns-2 c = finds.known-mask (now (c .before .before .before .before .before .before .before .before .before .before .args .catalogue)) (now (c .before .before .before .before .before .before .before .before .before .before .args .list)) (c .before .before .before .before .before .before .before .byte .result) (c .before .before .before .before .before .before .before .byte .ensures) (c .before .before .before .before .before .before .count .result) (c .before .before .before .before .before .wide-size .result) (c .before .before .before .before .before .before .count .ensures) (c .before .before .before .before .before .wide-size .ensures) (c .before .before .before .before .if1 .left) (c .before .before .before .mask .result) (c .before .before .attributes .result) (c .before .before .before .mask .ensures) (c .before .before .attributes .ensures .0) (c .before .mask-in .result) (c .before .mask-in .ensures) (c .if2 .taken)
+returns-2 c =
+    let c₁ = c .before in let mask-in = c₁ .mask-in in
+    let c₂ = c₁ .before in let attributes = c₂ .attributes in
+    let c₃ = c₂ .before in let mask = c₃ .mask in
+    let c₄ = c₃ .before in let if1 = c₄ .if1 in
+    let c₅ = c₄ .before in let wide-size = c₅ .wide-size in
+    let c₆ = c₅ .before in let count = c₆ .count in
+    let c₇ = c₆ .before in let byte = c₇ .byte in
+    let c₁₀ = c₇ .before .before .before in let args = c₁₀ .args in
+    finds.known-mask (now (args .catalogue)) (now (args .list)) (byte .result) (byte .ensures) (count .result) (wide-size .result) (count .ensures) (wide-size .ensures) (if1 .left) (mask .result) (attributes .result) (mask .ensures) (attributes .ensures .0) (mask-in .result) (mask-in .ensures) (c .if2 .taken)
 
 -- src/lib.rt:355:9
 condition-requires : tie.Need-condition-requires
@@ -58,7 +72,19 @@ in-reach-requires c κs = search needs
 
 -- src/lib.rt:357:9
 returns-3 : tie.Need-returns-3
-returns-3 c = finds.known-reach (now (c .before .before .before .before .before .before .before .before .before .before .before .before .before .args .catalogue)) (now (c .before .before .before .before .before .before .before .before .before .before .before .before .before .args .list)) (c .before .before .before .before .before .before .before .before .before .before .byte .result) (c .before .before .before .before .before .before .before .before .before .before .byte .ensures) (c .before .before .before .before .before .before .before .before .before .count .result) (c .before .before .before .before .before .before .before .before .wide-size .result) (c .before .before .before .before .before .before .before .before .before .count .ensures) (c .before .before .before .before .before .before .before .before .wide-size .ensures) (c .before .before .before .before .before .before .before .if1 .left) (c .before .before .before .before .before .before .mask .result) (c .before .before .before .before .before .attributes .result) (c .before .before .before .before .before .before .mask .ensures) (c .before .before .before .before .before .attributes .ensures .0) (c .before .before .before .before .mask-in .result) (c .before .before .before .before .mask-in .ensures) (c .before .before .before .if2 .left) (now (c .before .before .condition .result)) (c .before .before .condition .ensures) (c .before .in-reach .result) (c .before .in-reach .ensures) (c .if3 .taken)
+returns-3 c =
+    let c₁ = c .before in let in-reach = c₁ .in-reach in
+    let c₂ = c₁ .before in let condition = c₂ .condition in
+    let c₃ = c₂ .before in let if2 = c₃ .if2 in
+    let c₄ = c₃ .before in let mask-in = c₄ .mask-in in
+    let c₅ = c₄ .before in let attributes = c₅ .attributes in
+    let c₆ = c₅ .before in let mask = c₆ .mask in
+    let c₇ = c₆ .before in let if1 = c₇ .if1 in
+    let c₈ = c₇ .before in let wide-size = c₈ .wide-size in
+    let c₉ = c₈ .before in let count = c₉ .count in
+    let c₁₀ = c₉ .before in let byte = c₁₀ .byte in
+    let c₁₃ = c₁₀ .before .before .before in let args = c₁₃ .args in
+    finds.known-reach (now (args .catalogue)) (now (args .list)) (byte .result) (byte .ensures) (count .result) (wide-size .result) (count .ensures) (wide-size .ensures) (if1 .left) (mask .result) (attributes .result) (mask .ensures) (attributes .ensures .0) (mask-in .result) (mask-in .ensures) (if2 .left) (now (condition .result)) (condition .ensures) (in-reach .result) (in-reach .ensures) (c .if3 .taken)
 
 -- src/lib.rt:359:5
 bound-once-requires : tie.Need-bound-once-requires
@@ -66,7 +92,19 @@ bound-once-requires c κs = search needs
 
 -- src/lib.rt:345:1
 returns-4 : tie.Need-returns-4
-returns-4 c = finds.known-is (now (c .before .before .before .before .before .before .before .before .before .before .before .before .before .before .args .catalogue)) (now (c .before .before .before .before .before .before .before .before .before .before .before .before .before .before .args .list)) (c .before .before .before .before .before .before .before .before .before .before .before .byte .result) (c .before .before .before .before .before .before .before .before .before .before .before .byte .ensures) (c .before .before .before .before .before .before .before .before .before .before .count .result) (c .before .before .before .before .before .before .before .before .before .wide-size .result) (c .before .before .before .before .before .before .before .before .before .before .count .ensures) (c .before .before .before .before .before .before .before .before .before .wide-size .ensures) (c .before .before .before .before .before .before .before .before .if1 .left) (c .before .before .before .before .before .before .before .mask .result) (c .before .before .before .before .before .before .attributes .result) (c .before .before .before .before .before .before .before .mask .ensures) (c .before .before .before .before .before .before .attributes .ensures .0) (c .before .before .before .before .before .mask-in .result) (c .before .before .before .before .before .mask-in .ensures) (c .before .before .before .before .if2 .left) (now (c .before .before .before .condition .result)) (c .before .before .before .condition .ensures) (c .before .before .in-reach .result) (c .before .before .in-reach .ensures) (c .bound-once .result) (c .before .if3 .left) (c .bound-once .ensures)
+returns-4 c =
+    let c₂ = c .before .before in let in-reach = c₂ .in-reach in
+    let c₃ = c₂ .before in let condition = c₃ .condition in
+    let c₄ = c₃ .before in let if2 = c₄ .if2 in
+    let c₅ = c₄ .before in let mask-in = c₅ .mask-in in
+    let c₆ = c₅ .before in let attributes = c₆ .attributes in
+    let c₇ = c₆ .before in let mask = c₇ .mask in
+    let c₈ = c₇ .before in let if1 = c₈ .if1 in
+    let c₉ = c₈ .before in let wide-size = c₉ .wide-size in
+    let c₁₀ = c₉ .before in let count = c₁₀ .count in
+    let c₁₁ = c₁₀ .before in let byte = c₁₁ .byte in
+    let c₁₄ = c₁₁ .before .before .before in let args = c₁₄ .args in
+    finds.known-is (now (args .catalogue)) (now (args .list)) (byte .result) (byte .ensures) (count .result) (wide-size .result) (count .ensures) (wide-size .ensures) (if1 .left) (mask .result) (attributes .result) (mask .ensures) (attributes .ensures .0) (mask-in .result) (mask-in .ensures) (if2 .left) (now (condition .result)) (condition .ensures) (in-reach .result) (in-reach .ensures) (c .bound-once .result) (c .before .if3 .left) (c .bound-once .ensures)
 
 pub known-spec : {M : Type 1} → statement M
 known-spec =

@@ -25,7 +25,11 @@ count-bindings-requires c κs = search needs
 
 -- src/lib.rt:208:1
 returns : tie.Need-returns
-returns c = finds.numbers-is (λ (a : ℕ). bit (c .before .before .before .before .before .args .used) a) (c .before .before .before .before .before .args .relation) (now (c .before .before .before .before .before .args .list)) (c .before .before .before .applies .result) (c .before .before .before .applies .ensures) (now (c .before .condition .result)) (c .count-bindings .result) (c .before .before .if1 .taken) (c .before .condition .ensures) (c .count-bindings .ensures)
+returns c =
+    let c₁ = c .before in let condition = c₁ .condition in
+    let c₃ = c₁ .before .before in let applies = c₃ .applies in
+    let c₅ = c₃ .before .before in let args = c₅ .args in
+    finds.numbers-is (λ (a : ℕ). bit (args .used) a) (args .relation) (now (args .list)) (applies .result) (applies .ensures) (now (condition .result)) (c .count-bindings .result) (c .before .before .if1 .taken) (condition .ensures) (c .count-bindings .ensures)
 
 -- src/lib.rt:208:1
 returns-2 : tie.Need-returns-2

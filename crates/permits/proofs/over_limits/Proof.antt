@@ -39,7 +39,14 @@ in-limits-requires c κs = search needs
 
 -- src/lib.rt:263:13
 returns : tie.Need-returns Inv-loop μ-loop
-returns c = finds.over-found (entries (now (c .before .before .before .before .before .before .args .list))) (loops.all-stopped (now (c .before .before .before .before .before .before .args .list)) (now (c .before .before .tail .result)) (c .before .before .before .before .loop .at) (c .before .before .before .loop-test .taken) (c .before .before .tail .ensures) spec.fitsLimits _ (c .before .in-limits .result) (c .before .in-limits .ensures) (c .before .before .before .before .loop .inv .1) (c .if1 .taken))
+returns c =
+    let c₁ = c .before in let in-limits = c₁ .in-limits in
+    let c₂ = c₁ .before in let tail = c₂ .tail in
+    let c₃ = c₂ .before in let loop-test = c₃ .loop-test in
+    let c₄ = c₃ .before in let loop = c₄ .loop in
+    let c₆ = c₄ .before .before in let args = c₆ .args in
+    let list = now (args .list) in
+    finds.over-found (entries list) (loops.all-stopped list (now (tail .result)) (loop .at) (loop-test .taken) (tail .ensures) spec.fitsLimits _ (in-limits .result) (in-limits .ensures) (loop .inv .1) (c .if1 .taken))
 
 -- src/lib.rt:265:9
 add-n : tie.Need-add-n Inv-loop μ-loop
@@ -51,7 +58,12 @@ size-requires c κs = search needs
 
 -- src/lib.rt:266:9
 add-at : tie.Need-add-at Inv-loop μ-loop
-add-at c = record { fits = omega (arith, walk.size-room (now (c .before .before .before .before .before .before .before .args .list)) (now (c .before .before .before .tail .result)) (c .before .before .before .before .before .loop .at) (c .size .result) (c .before .before .before .before .loop-test .taken) (c .before .before .before .tail .ensures) (c .size .ensures .1 .1), c .before .before .before .before .before .before .before .good) }
+add-at c =
+    let c₃ = c .before .before .before in let tail = c₃ .tail in
+    let c₄ = c₃ .before in let loop-test = c₄ .loop-test in
+    let c₅ = c₄ .before in let loop = c₅ .loop in
+    let c₇ = c₅ .before .before in let args = c₇ .args in let good = c₇ .good in
+    record { fits = omega (arith, walk.size-room (now (args .list)) (now (tail .result)) (loop .at) (c .size .result) (loop-test .taken) (tail .ensures) (c .size .ensures .1 .1), good) }
 
 -- src/lib.rt:260:5
 loop-less : tie.Need-loop-less Inv-loop μ-loop
@@ -59,11 +71,22 @@ loop-less c = omega (arith, c .size .ensures .1 .0, c .before .before .before .b
 
 -- src/lib.rt:260:5
 loop-again : tie.Need-loop-again Inv-loop μ-loop
-loop-again c = (loops.count-on (now (c .before .before .before .before .before .before .before .args .list)) (now (c .before .before .before .tail .result)) (c .before .before .before .before .before .loop .at) (c .before .before .before .before .loop-test .taken) (c .before .before .before .tail .ensures) (c .size .result) (c .before .before .before .before .before .loop .n) _ (c .size .ensures .0) (c .before .before .before .before .before .loop .inv .0), loops.all-on (now (c .before .before .before .before .before .before .before .args .list)) (now (c .before .before .before .tail .result)) (c .before .before .before .before .before .loop .at) (c .before .before .before .before .loop-test .taken) (c .before .before .before .tail .ensures) spec.fitsLimits _ (c .before .before .in-limits .result) (c .before .before .in-limits .ensures) (c .size .result) (c .size .ensures .0) (c .before .before .before .before .before .loop .inv .1) (c .before .if1 .left), omega (arith, c .before .before .before .before .before .loop .inv .2, c .size .ensures .1 .0))
+loop-again c =
+    let c₂ = c .before .before in let in-limits = c₂ .in-limits in
+    let c₃ = c₂ .before in let tail = c₃ .tail in
+    let c₄ = c₃ .before in let loop-test = c₄ .loop-test in
+    let c₅ = c₄ .before in let loop = c₅ .loop in
+    let c₇ = c₅ .before .before in let args = c₇ .args in
+    let list = now (args .list) in
+    (loops.count-on list (now (tail .result)) (loop .at) (loop-test .taken) (tail .ensures) (c .size .result) (loop .n) _ (c .size .ensures .0) (loop .inv .0), loops.all-on list (now (tail .result)) (loop .at) (loop-test .taken) (tail .ensures) spec.fitsLimits _ (in-limits .result) (in-limits .ensures) (c .size .result) (c .size .ensures .0) (loop .inv .1) (c .before .if1 .left), omega (arith, loop .inv .2, c .size .ensures .1 .0))
 
 -- src/lib.rt:255:1
 returns-2 : tie.Need-returns-2 Inv-loop μ-loop
-returns-2 c = finds.over-count (entries (now (c .before .before .before .args .list))) (c .before .loop .n) (loops.count-end (now (c .before .before .before .args .list)) (c .before .loop .at) (c .loop-test .left) (c .before .loop .n) _ (c .before .loop .inv .0)) (loops.all-end (now (c .before .before .before .args .list)) (c .before .loop .at) (c .loop-test .left) spec.fitsLimits _ (c .before .loop .inv .1))
+returns-2 c =
+    let c₁ = c .before in let loop = c₁ .loop in
+    let c₃ = c₁ .before .before in let args = c₃ .args in
+    let list = now (args .list) in
+    finds.over-count (entries list) (loop .n) (loops.count-end list (loop .at) (c .loop-test .left) (loop .n) _ (loop .inv .0)) (loops.all-end list (loop .at) (c .loop-test .left) spec.fitsLimits _ (loop .inv .1))
 
 pub over-limits-spec : {M : Type 1} → statement M
 over-limits-spec =

@@ -21,7 +21,11 @@ stored-requires c κs = search needs
 
 -- src/lib.rt:309:9
 returns : tie.Need-returns
-returns c = finds.stored-not (now (c .before .before .before .before .before .args .catalogue)) (now (c .before .before .before .before .before .args .list)) (c .before .before .byte .result) (c .before .stored .result) (c .before .before .byte .ensures) (c .before .stored .ensures) (c .if1 .taken)
+returns c =
+    let c₁ = c .before in let stored = c₁ .stored in
+    let c₂ = c₁ .before in let byte = c₂ .byte in
+    let c₅ = c₂ .before .before .before in let args = c₅ .args in
+    finds.stored-not (now (args .catalogue)) (now (args .list)) (byte .result) (stored .result) (byte .ensures) (stored .ensures) (c .if1 .taken)
 
 -- src/lib.rt:311:23
 condition-requires : tie.Need-condition-requires
@@ -33,7 +37,12 @@ all-stored-requires c κs = search needs
 
 -- src/lib.rt:305:1
 returns-2 : tie.Need-returns-2
-returns-2 c = finds.stored-is (now (c .before .before .before .before .before .before .before .args .catalogue)) (now (c .before .before .before .before .before .before .before .args .list)) (c .before .before .before .before .byte .result) (c .before .before .before .stored .result) (c .before .before .before .before .byte .ensures) (c .before .before .before .stored .ensures) (now (c .before .condition .result)) (c .all-stored .result) (c .before .before .if1 .left) (c .before .condition .ensures) (c .all-stored .ensures)
+returns-2 c =
+    let c₁ = c .before in let condition = c₁ .condition in
+    let c₃ = c₁ .before .before in let stored = c₃ .stored in
+    let c₄ = c₃ .before in let byte = c₄ .byte in
+    let c₇ = c₄ .before .before .before in let args = c₇ .args in
+    finds.stored-is (now (args .catalogue)) (now (args .list)) (byte .result) (stored .result) (byte .ensures) (stored .ensures) (now (condition .result)) (c .all-stored .result) (c .before .before .if1 .left) (condition .ensures) (c .all-stored .ensures)
 
 pub over-stored-spec : {M : Type 1} → statement M
 over-stored-spec =

@@ -54,11 +54,22 @@ loop-less c = search needs
 
 -- src/lib.rt:201:5
 loop-again : tie.Need-loop-again Inv-loop μ-loop
-loop-again c = (finds.length-on (now (c .before .before .before .before .before .before .before .before .args .query)) (c .before .before .before .before .loop .at) (c .step .result) (c .before .before .before .loop-test .taken) (c .step .ensures .0) (c .before .before .binding .result) (c .before .before .binding .ensures) (spec.lengthFor (now (c .before .before .before .before .before .before .before .before .args .query)) (now (c .before .before .before .before .before .before .before .before .args .list)) (now (c .before .before .before .before .before .before .before .before .args .catalogue))) (c .before .before .before .before .loop .n) _ _ (c .before .binding-length .ensures .0) (c .before .before .before .before .loop .inv .0), omega (arith, c .before .before .before .before .loop .inv .1, c .before .before .before .before .loop .inv .3, c .before .binding-length .ensures .1, c .step .ensures .1 .0), c .before .before .before .before .loop .inv .2, c .before .before .before .before .loop .inv .3)
+loop-again c =
+    let c₁ = c .before in let binding-length = c₁ .binding-length in
+    let c₂ = c₁ .before in let binding = c₂ .binding in
+    let c₃ = c₂ .before in let loop-test = c₃ .loop-test in
+    let c₄ = c₃ .before in let loop = c₄ .loop in
+    let c₈ = c₄ .before .before .before .before in let args = c₈ .args in
+    let query = now (args .query) in
+    (finds.length-on query (loop .at) (c .step .result) (loop-test .taken) (c .step .ensures .0) (binding .result) (binding .ensures) (spec.lengthFor query (now (args .list)) (now (args .catalogue))) (loop .n) _ _ (binding-length .ensures .0) (loop .inv .0), omega (arith, loop .inv .1, loop .inv .3, binding-length .ensures .1, c .step .ensures .1 .0), loop .inv .2, loop .inv .3)
 
 -- src/lib.rt:195:1
 returns : tie.Need-returns Inv-loop μ-loop
-returns c = finds.length-end (now (c .before .before .before .before .before .args .query)) (c .before .loop .at) (c .loop-test .left) (spec.lengthFor (now (c .before .before .before .before .before .args .query)) (now (c .before .before .before .before .before .args .list)) (now (c .before .before .before .before .before .args .catalogue))) (c .before .loop .n) _ (c .before .loop .inv .0)
+returns c =
+    let c₁ = c .before in let loop = c₁ .loop in
+    let c₅ = c₁ .before .before .before .before in let args = c₅ .args in
+    let query = now (args .query) in
+    finds.length-end query (loop .at) (c .loop-test .left) (spec.lengthFor query (now (args .list)) (now (args .catalogue))) (loop .n) _ (loop .inv .0)
 
 pub rewritten-length-spec : {M : Type 1} → statement M
 rewritten-length-spec =

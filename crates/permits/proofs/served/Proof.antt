@@ -20,7 +20,9 @@ enum-told c = search needs
 
 -- src/lib.rt:127:9
 returns : tie.Need-returns
-returns c = finds.served-none (now (c .before .before .before .before .before .args .query)) (now (c .before .before .before .before .before .args .list)) (now (c .before .before .before .before .before .args .catalogue)) (c .before .before .before .before .before .args .b) (c .enum-told .given .1)
+returns c =
+    let c₅ = c .before .before .before .before .before in let args = c₅ .args in
+    finds.served-none (now (args .query)) (now (args .list)) (now (args .catalogue)) (args .b) (c .enum-told .given .1)
 
 -- src/lib.rt:129:9
 stored-requires : tie.Need-stored-requires
@@ -28,7 +30,11 @@ stored-requires c κs = search needs
 
 -- src/lib.rt:130:9
 returns-2 : tie.Need-returns-2
-returns-2 c = finds.served-free (now (c .before .before .before .before .before .before .before .before .args .query)) (now (c .before .before .before .before .before .before .before .before .args .list)) (now (c .before .before .before .before .before .before .before .before .args .catalogue)) (c .before .before .before .before .before .before .before .before .args .b) _ _ (c .before .before .before .b .given .1) (c .before .stored .result) (c .before .stored .ensures) (c .if1 .taken)
+returns-2 c =
+    let c₁ = c .before in let stored = c₁ .stored in
+    let c₃ = c₁ .before .before in let b = c₃ .b in
+    let c₈ = c₃ .before .before .before .before .before in let args = c₈ .args in
+    finds.served-free (now (args .query)) (now (args .list)) (now (args .catalogue)) (args .b) _ _ (b .given .1) (stored .result) (stored .ensures) (c .if1 .taken)
 
 -- src/lib.rt:132:27
 used-mask-requires : tie.Need-used-mask-requires
@@ -40,7 +46,12 @@ some-applies-requires c κs = search needs
 
 -- src/lib.rt:123:1
 returns-3 : tie.Need-returns-3
-returns-3 c = finds.served-is (now (c .before .before .before .before .before .before .before .before .before .before .args .query)) (now (c .before .before .before .before .before .before .before .before .before .before .args .list)) (now (c .before .before .before .before .before .before .before .before .before .before .args .catalogue)) (c .before .before .before .before .before .before .before .before .before .before .args .b) _ _ (c .before .before .before .before .before .b .given .1) (c .before .before .before .stored .result) (c .before .before .before .stored .ensures) (c .before .used-mask .result) (c .before .used-mask .ensures) (c .before .before .if1 .left) (c .some-applies .result) (c .some-applies .ensures)
+returns-3 c =
+    let c₁ = c .before in let used-mask = c₁ .used-mask in
+    let c₃ = c₁ .before .before in let stored = c₃ .stored in
+    let c₅ = c₃ .before .before in let b = c₅ .b in
+    let c₁₀ = c₅ .before .before .before .before .before in let args = c₁₀ .args in
+    finds.served-is (now (args .query)) (now (args .list)) (now (args .catalogue)) (args .b) _ _ (b .given .1) (stored .result) (stored .ensures) (used-mask .result) (used-mask .ensures) (c .before .before .if1 .left) (c .some-applies .result) (c .some-applies .ensures)
 
 pub served-spec : {M : Type 1} → statement M
 served-spec =

@@ -38,7 +38,13 @@ applies-requires c κs = search needs
 
 -- src/lib.rt:116:13
 returns : tie.Need-returns Inv-loop μ-loop
-returns c = loops.any-found (now (c .before .before .before .before .before .before .args .list)) (now (c .before .before .tail .result)) (c .before .before .before .before .loop .at) (c .before .before .before .loop-test .taken) (c .before .before .tail .ensures) (spec.appliesTo (λ (a : ℕ). bit (c .before .before .before .before .before .before .args .used) a) (c .before .before .before .before .before .before .args .relation)) _ (c .before .applies .result) (c .before .applies .ensures) (c .before .before .before .before .loop .inv) (c .if1 .taken)
+returns c =
+    let c₁ = c .before in let applies = c₁ .applies in
+    let c₂ = c₁ .before in let tail = c₂ .tail in
+    let c₃ = c₂ .before in let loop-test = c₃ .loop-test in
+    let c₄ = c₃ .before in let loop = c₄ .loop in
+    let c₆ = c₄ .before .before in let args = c₆ .args in
+    loops.any-found (now (args .list)) (now (tail .result)) (loop .at) (loop-test .taken) (tail .ensures) (spec.appliesTo (λ (a : ℕ). bit (args .used) a) (args .relation)) _ (applies .result) (applies .ensures) (loop .inv) (c .if1 .taken)
 
 -- src/lib.rt:118:15
 size-requires : tie.Need-size-requires Inv-loop μ-loop
@@ -46,7 +52,12 @@ size-requires c κs = search needs
 
 -- src/lib.rt:118:9
 add-at : tie.Need-add-at Inv-loop μ-loop
-add-at c = record { fits = omega (arith, walk.size-room (now (c .before .before .before .before .before .before .before .args .list)) (now (c .before .before .before .tail .result)) (c .before .before .before .before .before .loop .at) (c .size .result) (c .before .before .before .before .loop-test .taken) (c .before .before .before .tail .ensures) (c .size .ensures .1 .1), c .before .before .before .before .before .before .before .good) }
+add-at c =
+    let c₃ = c .before .before .before in let tail = c₃ .tail in
+    let c₄ = c₃ .before in let loop-test = c₄ .loop-test in
+    let c₅ = c₄ .before in let loop = c₅ .loop in
+    let c₇ = c₅ .before .before in let args = c₇ .args in let good = c₇ .good in
+    record { fits = omega (arith, walk.size-room (now (args .list)) (now (tail .result)) (loop .at) (c .size .result) (loop-test .taken) (tail .ensures) (c .size .ensures .1 .1), good) }
 
 -- src/lib.rt:113:5
 loop-less : tie.Need-loop-less Inv-loop μ-loop
@@ -54,7 +65,13 @@ loop-less c = omega (arith, c .size .ensures .1 .0, c .before .before .before .b
 
 -- src/lib.rt:113:5
 loop-again : tie.Need-loop-again Inv-loop μ-loop
-loop-again c = loops.any-on (now (c .before .before .before .before .before .before .before .args .list)) (now (c .before .before .before .tail .result)) (c .before .before .before .before .before .loop .at) (c .before .before .before .before .loop-test .taken) (c .before .before .before .tail .ensures) (spec.appliesTo (λ (a : ℕ). bit (c .before .before .before .before .before .before .before .args .used) a) (c .before .before .before .before .before .before .before .args .relation)) _ (c .before .before .applies .result) (c .before .before .applies .ensures) (c .size .result) (c .size .ensures .0) (c .before .before .before .before .before .loop .inv) (c .before .if1 .left)
+loop-again c =
+    let c₂ = c .before .before in let applies = c₂ .applies in
+    let c₃ = c₂ .before in let tail = c₃ .tail in
+    let c₄ = c₃ .before in let loop-test = c₄ .loop-test in
+    let c₅ = c₄ .before in let loop = c₅ .loop in
+    let c₇ = c₅ .before .before in let args = c₇ .args in
+    loops.any-on (now (args .list)) (now (tail .result)) (loop .at) (loop-test .taken) (tail .ensures) (spec.appliesTo (λ (a : ℕ). bit (args .used) a) (args .relation)) _ (applies .result) (applies .ensures) (c .size .result) (c .size .ensures .0) (loop .inv) (c .before .if1 .left)
 
 -- src/lib.rt:109:1
 returns-2 : tie.Need-returns-2 Inv-loop μ-loop

@@ -30,7 +30,11 @@ byte-requires c κs = search needs
 
 -- src/lib.rt:25:13
 returns : tie.Need-returns Inv-loop μ-loop
-returns c = (span-found (now (c .before .before .before .before .before .args .q)) (c .before .before .before .loop .at) (c .before .byte .result) (c .before .before .loop-test .taken) (c .before .byte .ensures) _ (c .if1 .taken) (c .before .before .before .loop .inv .0), c .before .before .before .loop .inv .1)
+returns c =
+    let c₁ = c .before in let byte = c₁ .byte in
+    let c₃ = c₁ .before .before in let loop = c₃ .loop in
+    let c₅ = c₃ .before .before in let args = c₅ .args in
+    (span-found (now (args .q)) (loop .at) (byte .result) (c .before .before .loop-test .taken) (byte .ensures) _ (c .if1 .taken) (loop .inv .0), loop .inv .1)
 
 -- src/lib.rt:27:15
 step-requires : tie.Need-step-requires Inv-loop μ-loop
@@ -46,7 +50,12 @@ loop-less c = search needs
 
 -- src/lib.rt:23:5
 loop-again : tie.Need-loop-again Inv-loop μ-loop
-loop-again c = (span-on (now (c .before .before .before .before .before .before .args .q)) (c .before .before .before .before .loop .at) (c .before .before .byte .result) (c .before .before .before .loop-test .taken) (c .before .before .byte .ensures) (c .step .result) _ (c .before .if1 .left) (c .step .ensures .0) (c .before .before .before .before .loop .inv .0), omega (arith, c .step .ensures .1 .1, c .before .before .before .loop-test .taken))
+loop-again c =
+    let c₂ = c .before .before in let byte = c₂ .byte in
+    let c₃ = c₂ .before in let loop-test = c₃ .loop-test in
+    let c₄ = c₃ .before in let loop = c₄ .loop in
+    let c₆ = c₄ .before .before in let args = c₆ .args in
+    (span-on (now (args .q)) (loop .at) (byte .result) (loop-test .taken) (byte .ensures) (c .step .result) _ (c .before .if1 .left) (c .step .ensures .0) (loop .inv .0), omega (arith, c .step .ensures .1 .1, loop-test .taken))
 
 -- src/lib.rt:18:1
 returns-2 : tie.Need-returns-2 Inv-loop μ-loop

@@ -34,7 +34,11 @@ has-if-used-requires c κs = search needs
 -- src/lib.rt:91:13
 returns : tie.Need-returns Inv-loop μ-loop
 unfolding spec.within
-returns c = loops.below-stopped (λ (x : ℕ). not (bit (c .before .before .before .before .args .used) x) || bit (c .before .before .before .before .args .mask) x) (c .before .before .before .loop .a) 16 (c .before .has-if-used .result) (c .before .before .loop-test .taken) (c .before .has-if-used .ensures) (c .if1 .taken)
+returns c =
+    let c₁ = c .before in let has-if-used = c₁ .has-if-used in
+    let c₃ = c₁ .before .before in let loop = c₃ .loop in
+    let c₄ = c₃ .before in let args = c₄ .args in
+    loops.below-stopped (λ (x : ℕ). not (bit (args .used) x) || bit (args .mask) x) (loop .a) 16 (has-if-used .result) (c .before .before .loop-test .taken) (has-if-used .ensures) (c .if1 .taken)
 
 -- src/lib.rt:93:9
 add-a : tie.Need-add-a Inv-loop μ-loop
@@ -46,7 +50,11 @@ loop-less c = search needs
 
 -- src/lib.rt:89:5
 loop-again : tie.Need-loop-again Inv-loop μ-loop
-loop-again c = (loops.below-on (λ (x : ℕ). not (bit (c .before .before .before .before .args .used) x) || bit (c .before .before .before .before .args .mask) x) (c .before .before .before .loop .a) (c .before .has-if-used .result) (c .before .before .before .loop .inv .0) (c .before .has-if-used .ensures) (c .if1 .left), omega (arith, c .before .before .loop-test .taken))
+loop-again c =
+    let c₁ = c .before in let has-if-used = c₁ .has-if-used in
+    let c₃ = c₁ .before .before in let loop = c₃ .loop in
+    let c₄ = c₃ .before in let args = c₄ .args in
+    (loops.below-on (λ (x : ℕ). not (bit (args .used) x) || bit (args .mask) x) (loop .a) (has-if-used .result) (loop .inv .0) (has-if-used .ensures) (c .if1 .left), omega (arith, c .before .before .loop-test .taken))
 
 -- src/lib.rt:85:1
 returns-2 : tie.Need-returns-2 Inv-loop μ-loop

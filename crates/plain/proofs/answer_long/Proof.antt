@@ -14,7 +14,9 @@ slice-aggregate-answer-with c = search needs
 
 -- src/lib.rt:225:5
 answer-with-requires : tie.Need-answer-with-requires
-answer-with-requires c κs = (c .before .before .before .before .pre, omega (arith, short-enough (c .before .before .before .before .args .like) (now (c .before .before .before .before .args .catalogue)) (now (c .before .before .before .before .args .values)) (now (c .before .before .before .before .args .query)) (c .before .before .before .before .pre)))
+answer-with-requires c κs =
+    let c₄ = c .before .before .before .before in let args = c₄ .args in let pre = c₄ .pre in
+    (pre, omega (arith, short-enough (args .like) (now (args .catalogue)) (now (args .values)) (now (args .query)) (pre)))
 
 -- src/lib.rt:214:1
 same-length : tie.Need-same-length

@@ -38,7 +38,9 @@ slice-aggregate-plan-3 c = search needs
 
 -- src/lib.rt:101:5
 plan-requires : tie.Need-plan-requires
-plan-requires c κs = (omega arith, omega arith, omega (arith, c .before .before .before .before .before .before .before .before .before .before .before .pre .ranges), omega (arith, c .before .before .before .before .before .before .before .before .before .before .before .pre .place), omega (arith, c .before .before .before .before .before .before .before .before .before .before .before .pre .level), getD-same 512 0)
+plan-requires c κs =
+    let c₁₁ = c .before .before .before .before .before .before .before .before .before .before .before in let pre = c₁₁ .pre in
+    (omega arith, omega arith, omega (arith, pre .ranges), omega (arith, pre .place), omega (arith, pre .level), getD-same 512 0)
 
 -- src/lib.rt:118:9
 slice-aggregate-run : tie.Need-slice-aggregate-run

@@ -10,11 +10,16 @@ use Rattle.plain.proofs.Again.{roomy, answerable-again, accepted-again}
 
 -- src/lib.rt:196:9
 prepare-requires : tie.Need-prepare-requires
-prepare-requires c κs = (c .before .before .before .before .pre .0 .alike, roomy (c .before .before .before .before .args .like) (now (c .before .before .before .before .args .catalogue)) (now (c .before .before .before .before .args .values)) (now (c .before .before .before .before .args .query)) (c .before .before .before .before .pre .0) (now (c .before .before .before .before .args .z)) (c .before .before .before .before .pre .1))
+prepare-requires c κs =
+    let c₄ = c .before .before .before .before in let args = c₄ .args in let pre = c₄ .pre in
+    (pre .0 .alike, roomy (args .like) (now (args .catalogue)) (now (args .values)) (now (args .query)) (pre .0) (now (args .z)) (pre .1))
 
 -- src/lib.rt:197:5
 answer-query-requires : tie.Need-answer-query-requires
-answer-query-requires c κs = answerable-again (c .before .before .before .before .before .before .before .before .before .args .like) (now (c .before .before .before .before .before .before .before .before .before .args .catalogue)) (now (c .before .before .before .before .before .before .before .before .before .args .values)) (now (c .before .before .before .before .before .before .before .before .before .args .query)) (c .before .before .before .before .before .before .before .before .before .pre .0) (now (c .before .before .before .before .before .before .before .before .before .args .answer)) (c .before .before .before .before .prepare .result) _ (c .before .before .before .before .prepare .ensures .0) (c .before .before .before .before .prepare .ensures .1)
+answer-query-requires c κs =
+    let c₄ = c .before .before .before .before in let prepare = c₄ .prepare in
+    let c₉ = c₄ .before .before .before .before .before in let args = c₉ .args in let pre = c₉ .pre in
+    answerable-again (args .like) (now (args .catalogue)) (now (args .values)) (now (args .query)) (pre .0) (now (args .answer)) (prepare .result) _ (prepare .ensures .0) (prepare .ensures .1)
 
 -- src/lib.rt:185:1
 same-length : tie.Need-same-length
@@ -26,7 +31,10 @@ same-length-2 c = search needs
 
 -- src/lib.rt:185:1
 returns : tie.Need-returns
-returns c = accepted-again (c .before .before .before .before .before .before .before .before .before .before .before .args .like) (now (c .before .before .before .before .before .before .before .before .before .before .before .args .catalogue)) (now (c .before .before .before .before .before .before .before .before .before .before .before .args .values)) (now (c .before .before .before .before .before .before .before .before .before .before .before .args .query)) (c .before .before .before .before .before .before .before .before .before .before .before .pre .0) (now (c .before .before .before .before .before .before .before .before .before .before .before .args .answer)) (c .before .before .before .before .before .before .prepare .result) (now (c .before .before .before .before .before .before .before .before .before .before .before .args .z)) _ _ (c .before .answer-query .ensures)
+returns c =
+    let c₆ = c .before .before .before .before .before .before in let prepare = c₆ .prepare in
+    let c₁₁ = c₆ .before .before .before .before .before in let args = c₁₁ .args in let pre = c₁₁ .pre in
+    accepted-again (args .like) (now (args .catalogue)) (now (args .values)) (now (args .query)) (pre .0) (now (args .answer)) (prepare .result) (now (args .z)) _ _ (c .before .answer-query .ensures)
 
 pub answer-with-spec : {M : Type 1} → statement M
 answer-with-spec =

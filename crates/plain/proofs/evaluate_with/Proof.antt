@@ -22,10 +22,14 @@ refused-requires : tie.Need-refused-requires
 refused-requires c κs = search needs
 
 returns : tie.Need-returns
-returns c = refused-first (now (c .before .before .before .before .before .before .args .catalogue)) (now (c .before .before .before .before .before .before .args .values)) (now (c .before .before .before .before .before .before .args .query)) (now (c .before .before .before .before .before .before .args .answer)) _ (c .before .before .check .ensures) _ (c .before .if1 .taken) (c .refused .ensures)
+returns c =
+    let c₆ = c .before .before .before .before .before .before in let args = c₆ .args in
+    refused-first (now (args .catalogue)) (now (args .values)) (now (args .query)) (now (args .answer)) _ (c .before .before .check .ensures) _ (c .before .if1 .taken) (c .refused .ensures)
 
 check-requires-2 : tie.Need-check-requires-2
-check-requires-2 c κs = (catalogue-passes (now (c .before .before .before .before .before .before .args .catalogue)) (now (c .before .before .before .before .before .before .args .values)) (now (c .before .before .before .before .before .before .args .query)) (now (c .before .before .before .before .before .before .args .answer)) _ (c .before .before .check .ensures) (c .before .if1 .left), c .before .before .before .before .before .before .pre, omega arith)
+check-requires-2 c κs =
+    let c₆ = c .before .before .before .before .before .before in let args = c₆ .args in let pre = c₆ .pre in
+    (catalogue-passes (now (args .catalogue)) (now (args .values)) (now (args .query)) (now (args .answer)) _ (c .before .before .check .ensures) (c .before .if1 .left), pre, omega arith)
 
 enum-known-n : tie.Need-enum-known-n
 enum-known-n c = search needs
@@ -37,13 +41,27 @@ enum-known-layout : tie.Need-enum-known-layout
 enum-known-layout c = search needs
 
 answer-query-requires : tie.Need-answer-query-requires
-answer-query-requires c κs = let h = subst (λ (r : Checked). Ready r 64 (now (c .before .before .before .before .before .before .before .before .before .before .before .before .before .before .args .query)) (c .before .before .before .before .before .before .before .check2 .last .1 .1 .1 .0)) (c .before .before .before .layout .given .1) (c .before .before .before .before .before .before .before .check2 .ensures .1) in answerable (now (c .before .before .before .before .before .before .before .before .before .before .before .before .before .before .args .catalogue)) (now (c .before .before .before .before .before .before .before .before .before .before .before .before .before .before .args .values)) (now (c .before .before .before .before .before .before .before .before .before .before .before .before .before .before .args .query)) (now (c .before .before .before .before .before .before .before .before .before .before .before .before .before .before .args .answer)) _ (c .before .before .before .before .before .before .before .before .before .before .check .ensures) (c .before .before .before .before .before .before .before .before .before .if1 .left) (c .before .before .before .layout .given .0 .0) (c .before .before .before .before .before .before .before .check2 .last .1 .1 .1 .0) (sym (ap numberOf (c .before .before .before .layout .given .1)) ∙ c .before .before .before .before .before .before .before .check2 .ensures .0) (h .0) (h .1)
+answer-query-requires c κs =
+    let c₃ = c .before .before .before in let layout = c₃ .layout in
+    let c₇ = c₃ .before .before .before .before in let check2 = c₇ .check2 in
+    let c₉ = c₇ .before .before in let if1 = c₉ .if1 in
+    let c₁₀ = c₉ .before in let check = c₁₀ .check in
+    let c₁₄ = c₁₀ .before .before .before .before in let args = c₁₄ .args in
+    let query = now (args .query) in
+    let h = subst (λ (r : Checked). Ready r 64 query (check2 .last .1 .1 .1 .0)) (layout .given .1) (check2 .ensures .1) in answerable (now (args .catalogue)) (now (args .values)) query (now (args .answer)) _ (check .ensures) (if1 .left) (layout .given .0 .0) (check2 .last .1 .1 .1 .0) (sym (ap numberOf (layout .given .1)) ∙ check2 .ensures .0) (h .0) (h .1)
 
 same-length : tie.Need-same-length
 same-length c = search needs
 
 returns-2 : tie.Need-returns-2
-returns-2 c = refused-second (now (c .before .before .before .before .before .before .before .before .before .before .before .before .before .args .catalogue)) (now (c .before .before .before .before .before .before .before .before .before .before .before .before .before .args .values)) (now (c .before .before .before .before .before .before .before .before .before .before .before .before .before .args .query)) (now (c .before .before .before .before .before .before .before .before .before .before .before .before .before .args .answer)) _ (c .before .before .before .before .before .before .before .before .before .check .ensures) (c .before .before .before .before .before .before .before .before .if1 .left) _ _ (sym (ap numberOf (c .before .before .n .given .1)) ∙ c .before .before .before .before .before .before .check2 .ensures .0) (subst (λ (r : Checked). Ready r 64 (now (c .before .before .before .before .before .before .before .before .before .before .before .before .before .args .query)) (c .before .before .before .before .before .before .check2 .last .1 .1 .1 .0)) (c .before .before .n .given .1) (c .before .before .before .before .before .before .check2 .ensures .1)) (c .refused2 .ensures)
+returns-2 c =
+    let c₂ = c .before .before in let n = c₂ .n in
+    let c₆ = c₂ .before .before .before .before in let check2 = c₆ .check2 in
+    let c₈ = c₆ .before .before in let if1 = c₈ .if1 in
+    let c₉ = c₈ .before in let check = c₉ .check in
+    let c₁₃ = c₉ .before .before .before .before in let args = c₁₃ .args in
+    let query = now (args .query) in
+    refused-second (now (args .catalogue)) (now (args .values)) query (now (args .answer)) _ (check .ensures) (if1 .left) _ _ (sym (ap numberOf (n .given .1)) ∙ check2 .ensures .0) (subst (λ (r : Checked). Ready r 64 query (check2 .last .1 .1 .1 .0)) (n .given .1) (check2 .ensures .1)) (c .refused2 .ensures)
 
 same-length-2 : tie.Need-same-length-2
 same-length-2 c = search needs
@@ -52,7 +70,13 @@ same-length-3 : tie.Need-same-length-3
 same-length-3 c = search needs
 
 returns-3 : tie.Need-returns-3
-returns-3 c = accepted (now (c .before .before .before .before .before .before .before .before .before .before .before .before .before .before .before .before .args .catalogue)) (now (c .before .before .before .before .before .before .before .before .before .before .before .before .before .before .before .before .args .values)) (now (c .before .before .before .before .before .before .before .before .before .before .before .before .before .before .before .before .args .query)) (now (c .before .before .before .before .before .before .before .before .before .before .before .before .before .before .before .before .args .answer)) _ (c .before .before .before .before .before .before .before .before .before .before .before .before .check .ensures) (c .before .before .before .before .before .before .before .before .before .before .before .if1 .left) (c .before .before .before .before .before .layout .given .0 .0) (c .before .before .before .before .before .before .before .before .before .check2 .last .1 .1 .1 .0) (sym (ap numberOf (c .before .before .before .before .before .layout .given .1)) ∙ c .before .before .before .before .before .before .before .before .before .check2 .ensures .0) _ _ (c .before .answer-query .ensures)
+returns-3 c =
+    let c₅ = c .before .before .before .before .before in let layout = c₅ .layout in
+    let c₉ = c₅ .before .before .before .before in let check2 = c₉ .check2 in
+    let c₁₁ = c₉ .before .before in let if1 = c₁₁ .if1 in
+    let c₁₂ = c₁₁ .before in let check = c₁₂ .check in
+    let c₁₆ = c₁₂ .before .before .before .before in let args = c₁₆ .args in
+    accepted (now (args .catalogue)) (now (args .values)) (now (args .query)) (now (args .answer)) _ (check .ensures) (if1 .left) (layout .given .0 .0) (check2 .last .1 .1 .1 .0) (sym (ap numberOf (layout .given .1)) ∙ check2 .ensures .0) _ _ (c .before .answer-query .ensures)
 
 pub evaluate-with-spec : {M : Type 1} → statement M
 evaluate-with-spec =

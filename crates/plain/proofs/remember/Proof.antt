@@ -45,7 +45,15 @@ same-length-2 c = search needs
 
 -- src/lib.rt:56:1
 returns : tie.Need-returns
-returns c = (remembered-is (c .before .before .before .before .before .before .before .before .before .before .before .before .before .before .before .before .before .before .before .before .args .layout) (c .before .before .before .before .before .before .before .before .before .before .before .before .before .before .before .before .before .before .before .before .args .level) (now (c .before .before .before .before .before .before .before .before .before .before .before .before .before .before .before .before .before .before .before .before .args .q)) (now (c .before .before .before .before .before .before .before .before .before .before .before .before .before .before .before .before .before .before .before .before .args .z)) (now (c .before .before .before .before .before .before .before .before .before .before .before .before .before .before .before .before .before .before .before .before .args .catalogue)) (now (c .before .before .before .before .before .before .before .before .before .before .before .before .before .before .before .before .before .before .before .before .args .values)) (now (c .before .before .before .before .before .before .before .before .before .before .before .before .before .before .before .before .before .before .before .before .args .env)) _ _ _ _ _ (now (c .before .before .before .before .before .before .before .before .before .before .before .before .before .before .before .before .before .before .before .before .args .memo)) _ _ (c .before .before .before .before .before .before .before .before .before .before .before .before .before .before .before .tail .ensures) (c .before .before .before .before .before .before .before .before .before .before .before .before .before .before .tail-sizes .ensures) (c .before .before .before .before .before .before .before .before .before .before .before .targets .ensures .0) (c .before .before .before .before .before .before .before .before .before .before .before .targets .ensures .1) (c .before .before .before .before .before .before .before .tail2 .ensures) (c .before .before .before .before .before .before .tail-sizes2 .ensures) (c .before .before .before .condition .ensures .0), c .before .before .before .condition .ensures .1 ∙ c .before .before .before .before .before .before .before .before .before .before .before .targets .ensures .1)
+returns c =
+    let c₃ = c .before .before .before in let condition = c₃ .condition in
+    let c₆ = c₃ .before .before .before in let tail-sizes2 = c₆ .tail-sizes2 in
+    let c₇ = c₆ .before in let tail2 = c₇ .tail2 in
+    let c₁₁ = c₇ .before .before .before .before in let targets = c₁₁ .targets in
+    let c₁₄ = c₁₁ .before .before .before in let tail-sizes = c₁₄ .tail-sizes in
+    let c₁₅ = c₁₄ .before in let tail = c₁₅ .tail in
+    let c₂₀ = c₁₅ .before .before .before .before .before in let args = c₂₀ .args in
+    (remembered-is (args .layout) (args .level) (now (args .q)) (now (args .z)) (now (args .catalogue)) (now (args .values)) (now (args .env)) _ _ _ _ _ (now (args .memo)) _ _ (tail .ensures) (tail-sizes .ensures) (targets .ensures .0) (targets .ensures .1) (tail2 .ensures) (tail-sizes2 .ensures) (condition .ensures .0), condition .ensures .1 ∙ targets .ensures .1)
 
 pub remember-spec : {M : Type 1} → statement M
 remember-spec =

@@ -52,7 +52,11 @@ returns c =
 
 -- src/lib.rt:61:9
 add-at : tie.Need-add-at Inv-loop μ-loop
-add-at c = omega (arith, place-fits _ _ _ _ _ (c .before .before .before .before .before .loop .inv .0) (c .before .before .before .before .loop-test .taken) (c .before .before .before .before .before .before .before .before .pre .0))
+add-at c =
+    let c₄ = c .before .before .before .before in let loop-test = c₄ .loop-test in
+    let c₅ = c₄ .before in let loop = c₅ .loop in
+    let c₈ = c₅ .before .before .before in let pre = c₈ .pre in
+    omega (arith, place-fits _ _ _ _ _ (loop .inv .0) (loop-test .taken) (pre .0))
 
 -- src/lib.rt:62:9
 add-j : tie.Need-add-j Inv-loop μ-loop

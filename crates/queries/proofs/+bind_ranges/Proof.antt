@@ -63,7 +63,15 @@ bind-ranges-same-length : (t : ℕ) → bind-ranges-lts.Need-same-length (bind-r
 bind-ranges-same-length t c = search needs
 
 bind-ranges-returns-2 : (t : ℕ) → bind-ranges-lts.Need-returns-2 (bind-ranges-claims t) (bind-ranges-at t) bind-ranges.Post
-bind-ranges-returns-2 t c = range-bound (c .before .before .before .before .before .before .before .before .before .before .before .before .before .before .before .args .left) (now (c .before .before .before .before .before .before .before .before .before .before .before .before .before .before .before .args .ranges)) (now (c .before .before .before .before .before .before .before .before .before .before .before .before .before .before .before .args .reach)) (c .before .before .before .before .before .before .before .before .bind-ranges .last .1 .1 .0) _ _ _ (c .before .before .before .before .before .byte .result) _ (c .before .before .before .before .before .before .before .before .before .before .before .before .if1 .left) (c .before .before .before .before .before .before .before .before .before .before .before .record-length .ensures .0) (c .before .before .before .before .before .before .before .before .before .before .tail .ensures) (c .before .before .before .before .before .before .before .before .bind-ranges .ensures) (c .before .before .before .before .before .byte .ensures) (c .before .before .before .before .byte2 .ensures) (omega (arith, c .before .before .before .before .before .before .before .before .before .before .before .before .before .before .before .pre .1, c .before .before .before .before .before .before .before .before .bind-ranges .kept .1 .1 .0, c .before .before .before .before .before .byte .ok)) (c .before .before .bind .ensures)
+bind-ranges-returns-2 t c =
+    let c₄ = c .before .before .before .before in let byte2 = c₄ .byte2 in
+    let c₅ = c₄ .before in let byte = c₅ .byte in
+    let c₈ = c₅ .before .before .before in let bind-ranges = c₈ .bind-ranges in
+    let c₁₀ = c₈ .before .before in let tail = c₁₀ .tail in
+    let c₁₁ = c₁₀ .before in let record-length = c₁₁ .record-length in
+    let c₁₂ = c₁₁ .before in let if1 = c₁₂ .if1 in
+    let c₁₅ = c₁₂ .before .before .before in let args = c₁₅ .args in let pre = c₁₅ .pre in
+    range-bound (args .left) (now (args .ranges)) (now (args .reach)) (bind-ranges .last .1 .1 .0) _ _ _ (byte .result) _ (if1 .left) (record-length .ensures .0) (tail .ensures) (bind-ranges .ensures) (byte .ensures) (byte2 .ensures) (omega (arith, pre .1, bind-ranges .kept .1 .1 .0, byte .ok)) (c .before .before .bind .ensures)
 
 pub +bind-ranges-spec : {M : Type 1} → statement M
 +bind-ranges-spec = close μ-bind-ranges λ t. bind-ranges-lts.spec (bind-ranges-claims t)

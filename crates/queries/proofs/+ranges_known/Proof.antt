@@ -52,7 +52,11 @@ ranges-known-known-requires : (t : ℕ) → ranges-known-lts.Need-known-requires
 ranges-known-known-requires t c κs = search needs
 
 ranges-known-returns-2 : (t : ℕ) → ranges-known-lts.Need-returns-2 (ranges-known-claims t) (ranges-known-at t) ranges-known.Post
-ranges-known-returns-2 t c = range-unknown (shapeIn (now (c .before .before .before .before .before .before .before .args .catalogue))) (c .before .before .before .before .before .before .before .args .limit) (c .before .before .before .before .before .before .before .args .left) (now (c .before .before .before .before .before .before .before .args .ranges)) _ _ _ (c .before .before .before .before .if1 .left) (c .before .before .before .byte .ensures) (c .before .before .byte2 .ensures) (c .before .known .ensures) (c .if2 .taken)
+ranges-known-returns-2 t c =
+    let c₃ = c .before .before .before in let byte = c₃ .byte in
+    let c₄ = c₃ .before in let if1 = c₄ .if1 in
+    let c₇ = c₄ .before .before .before in let args = c₇ .args in
+    range-unknown (shapeIn (now (args .catalogue))) (args .limit) (args .left) (now (args .ranges)) _ _ _ (if1 .left) (byte .ensures) (c .before .before .byte2 .ensures) (c .before .known .ensures) (c .if2 .taken)
 
 ranges-known-record-length-requires : (t : ℕ) → ranges-known-lts.Need-record-length-requires (ranges-known-claims t) (ranges-known-at t) ranges-known.Post
 ranges-known-record-length-requires t c κs = search needs
@@ -67,7 +71,14 @@ ranges-known-ranges-known-requires : (t : ℕ) → ranges-known-lts.Need-ranges-
 ranges-known-ranges-known-requires t c κs = search needs
 
 ranges-known-returns-3 : (t : ℕ) → ranges-known-lts.Need-returns-3 (ranges-known-claims t) (ranges-known-at t) ranges-known.Post
-ranges-known-returns-3 t c = range-known (shapeIn (now (c .before .before .before .before .before .before .before .before .before .before .args .catalogue))) (c .before .before .before .before .before .before .before .before .before .before .args .limit) (c .before .before .before .before .before .before .before .before .before .before .args .left) (now (c .before .before .before .before .before .before .before .before .before .before .args .ranges)) _ _ _ (c .before .before .before .before .before .before .before .if1 .left) (c .before .before .before .before .before .before .byte .ensures) (c .before .before .before .before .before .byte2 .ensures) (c .before .before .before .before .known .ensures) _ _ _ (c .before .before .before .if2 .left) (c .before .before .record-length .ensures .0) (c .before .tail .ensures) (c .ranges-known .ensures)
+ranges-known-returns-3 t c =
+    let c₃ = c .before .before .before in let if2 = c₃ .if2 in
+    let c₄ = c₃ .before in let known = c₄ .known in
+    let c₅ = c₄ .before in let byte2 = c₅ .byte2 in
+    let c₆ = c₅ .before in let byte = c₆ .byte in
+    let c₇ = c₆ .before in let if1 = c₇ .if1 in
+    let c₁₀ = c₇ .before .before .before in let args = c₁₀ .args in
+    range-known (shapeIn (now (args .catalogue))) (args .limit) (args .left) (now (args .ranges)) _ _ _ (if1 .left) (byte .ensures) (byte2 .ensures) (known .ensures) _ _ _ (if2 .left) (c .before .before .record-length .ensures .0) (c .before .tail .ensures) (c .ranges-known .ensures)
 
 pub +ranges-known-spec : {M : Type 1} → statement M
 +ranges-known-spec = close μ-ranges-known λ t. ranges-known-lts.spec (ranges-known-claims t)

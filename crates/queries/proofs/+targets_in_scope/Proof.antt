@@ -44,13 +44,17 @@ abbrev targets-in-scope-claims : ℕ → targets-in-scope-lts.Claims
 targets-in-scope-claims t = (term-reads.Asked, term-reads.Learnt, size-at-reads.Asked, size-at-reads.Learnt, tail-reads.Asked, tail-reads.Learnt, tail-sizes-reads.Asked, tail-sizes-reads.Learnt, targets-in-scope-below t, targets-in-scope.Post)
 
 targets-in-scope-returns : (t : ℕ) → targets-in-scope-lts.Need-returns (targets-in-scope-claims t) (targets-in-scope-at t) targets-in-scope.Post
-targets-in-scope-returns t c = targets-none (λ t. inScopeT (shapeIn (now (c .before .before .before .before .before .args .catalogue))) (c .before .before .before .before .before .args .limit) t (scopeOf (now (c .before .before .before .before .before .args .reach)))) (c .before .before .before .before .before .args .left) (c .before .before .before .before .before .args .level) (now (c .before .before .before .before .before .args .q)) (now (c .before .before .before .before .before .args .z)) (c .if1 .taken)
+targets-in-scope-returns t c =
+    let c₅ = c .before .before .before .before .before in let args = c₅ .args in
+    targets-none (λ t. inScopeT (shapeIn (now (args .catalogue))) (args .limit) t (scopeOf (now (args .reach)))) (args .left) (args .level) (now (args .q)) (now (args .z)) (c .if1 .taken)
 
 targets-in-scope-term-requires : (t : ℕ) → targets-in-scope-lts.Need-term-requires (targets-in-scope-claims t) (targets-in-scope-at t) targets-in-scope.Post
 targets-in-scope-term-requires t c κs = search needs
 
 targets-in-scope-returns-2 : (t : ℕ) → targets-in-scope-lts.Need-returns-2 (targets-in-scope-claims t) (targets-in-scope-at t) targets-in-scope.Post
-targets-in-scope-returns-2 t c = target-out (λ t. inScopeT (shapeIn (now (c .before .before .before .before .before .before .before .args .catalogue))) (c .before .before .before .before .before .before .before .args .limit) t (scopeOf (now (c .before .before .before .before .before .before .before .args .reach)))) (c .before .before .before .before .before .before .before .args .left) (c .before .before .before .before .before .before .before .args .level) (now (c .before .before .before .before .before .before .before .args .q)) (now (c .before .before .before .before .before .before .before .args .z)) _ (c .before .before .if1 .left) (c .before .term .ensures) (c .if2 .taken)
+targets-in-scope-returns-2 t c =
+    let c₇ = c .before .before .before .before .before .before .before in let args = c₇ .args in
+    target-out (λ t. inScopeT (shapeIn (now (args .catalogue))) (args .limit) t (scopeOf (now (args .reach)))) (args .left) (args .level) (now (args .q)) (now (args .z)) _ (c .before .before .if1 .left) (c .before .term .ensures) (c .if2 .taken)
 
 targets-in-scope-size-at-requires : (t : ℕ) → targets-in-scope-lts.Need-size-at-requires (targets-in-scope-claims t) (targets-in-scope-at t) targets-in-scope.Post
 targets-in-scope-size-at-requires t c κs = search needs
@@ -69,7 +73,13 @@ targets-in-scope-targets-in-scope-requires :
 targets-in-scope-targets-in-scope-requires t c κs = search needs
 
 targets-in-scope-returns-3 : (t : ℕ) → targets-in-scope-lts.Need-returns-3 (targets-in-scope-claims t) (targets-in-scope-at t) targets-in-scope.Post
-targets-in-scope-returns-3 t c = target-in (λ t. inScopeT (shapeIn (now (c .before .before .before .before .before .before .before .before .before .before .before .args .catalogue))) (c .before .before .before .before .before .before .before .before .before .before .before .args .limit) t (scopeOf (now (c .before .before .before .before .before .before .before .before .before .before .before .args .reach)))) (c .before .before .before .before .before .before .before .before .before .before .before .args .left) (c .before .before .before .before .before .before .before .before .before .before .before .args .level) (now (c .before .before .before .before .before .before .before .before .before .before .before .args .q)) (now (c .before .before .before .before .before .before .before .before .before .before .before .args .z)) _ (c .before .before .before .before .before .before .if1 .left) (c .before .before .before .before .before .term .ensures) _ _ _ _ (c .before .before .before .before .if2 .left) (c .before .before .before .size-at .ensures .0) (c .before .before .tail .ensures) (c .before .tail-sizes .ensures) (c .targets-in-scope .ensures)
+targets-in-scope-returns-3 t c =
+    let c₃ = c .before .before .before in let size-at = c₃ .size-at in
+    let c₄ = c₃ .before in let if2 = c₄ .if2 in
+    let c₅ = c₄ .before in let term = c₅ .term in
+    let c₆ = c₅ .before in let if1 = c₆ .if1 in
+    let c₁₁ = c₆ .before .before .before .before .before in let args = c₁₁ .args in
+    target-in (λ t. inScopeT (shapeIn (now (args .catalogue))) (args .limit) t (scopeOf (now (args .reach)))) (args .left) (args .level) (now (args .q)) (now (args .z)) _ (if1 .left) (term .ensures) _ _ _ _ (if2 .left) (size-at .ensures .0) (c .before .before .tail .ensures) (c .before .tail-sizes .ensures) (c .targets-in-scope .ensures)
 
 pub +targets-in-scope-spec : {M : Type 1} → statement M
 +targets-in-scope-spec = close μ-targets-in-scope λ t. targets-in-scope-lts.spec (targets-in-scope-claims t)

@@ -17,7 +17,11 @@ same-length c = search needs
 
 -- src/lib.rt:180:1
 returns : tie.Need-returns
-returns c = let y = alike-laid (c .before .before .before .before .before .before .args .like) (c .before .before .before .before .before .before .args .level) (now (c .before .before .before .before .before .before .args .q)) (c .before .before .before .before .before .before .pre .0) (now (c .before .before .before .before .before .before .args .z)) (c .before .before .fill .result) (c .before .before .before .before .before .before .pre .1) (c .before .before .fill .ensures .0) in (y, ready-is _ (now (c .before .before .before .before .before .before .args .q)) y (c .before .before .before .before .before .before .args .level) (now (c .before .before .before .before .before .before .args .z)) _ (c .before .before .before .before .before .before .pre .1) (c .before .before .before .before .before .before .pre .0 .nesting) (c .before .before .fill .ensures .1))
+returns c =
+    let c₂ = c .before .before in let fill = c₂ .fill in
+    let c₆ = c₂ .before .before .before .before in let args = c₆ .args in let pre = c₆ .pre in
+    let q = now (args .q) in let z = now (args .z) in let level = args .level in
+    let y = alike-laid (args .like) level q (pre .0) z (fill .result) (pre .1) (fill .ensures .0) in (y, ready-is _ q y level z _ (pre .1) (pre .0 .nesting) (fill .ensures .1))
 
 pub prepare-spec : {M : Type 1} → statement M
 prepare-spec = tie.close (tie.spec fill-requires same-length returns)

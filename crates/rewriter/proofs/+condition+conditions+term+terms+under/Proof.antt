@@ -103,13 +103,18 @@ abbrev under-claims : ℕ → under-lts.Claims
 under-claims t = (mask-reads.Asked, mask-reads.Learnt, first-child-reads.Asked, first-child-reads.Learnt, open-guard-reads.Asked, open-guard-reads.Learnt, tail-reads.Asked, tail-reads.Learnt, tail-sizes-reads.Asked, tail-sizes-reads.Learnt, condition-below t, condition.Post, write-guard-reads.Asked, write-guard-reads.Learnt)
 
 condition-leaf-requires : (t : ℕ) → condition-lts.Need-leaf-requires (condition-claims t) (condition-at t) condition.Post
-condition-leaf-requires t c κs = leaf-room _ _ _ (zero-leaf (now (c .before .before .before .before .before .before .before .before .args .masks)) (part (now (c .before .before .before .before .before .before .before .before .args .permits)) (now (c .before .before .before .before .before .before .before .before .args .places))) (c .before .before .before .before .before .before .before .before .args .level) (now (c .before .before .before .before .before .before .before .before .args .q)) (now (c .before .before .before .before .before .before .before .before .args .z)) (c .before .if1 .taken)) (c .before .before .before .before .before .before .before .before .args .at) (c .before .before .before .before .before .before .before .before .args .next) (c .before .before .before .before .before .before .before .before .pre .1)
+condition-leaf-requires t c κs =
+    let c₈ = c .before .before .before .before .before .before .before .before in let args = c₈ .args in let pre = c₈ .pre in
+    leaf-room _ _ _ (zero-leaf (now (args .masks)) (part (now (args .permits)) (now (args .places))) (args .level) (now (args .q)) (now (args .z)) (c .before .if1 .taken)) (args .at) (args .next) (pre .1)
 
 condition-same-length : (t : ℕ) → condition-lts.Need-same-length (condition-claims t) (condition-at t) condition.Post
 condition-same-length t c = search needs
 
 condition-returns : (t : ℕ) → condition-lts.Need-returns (condition-claims t) (condition-at t) condition.Post
-condition-returns t c = leaf-did _ _ _ (zero-leaf (now (c .before .before .before .before .before .before .before .before .before .before .before .args .masks)) (part (now (c .before .before .before .before .before .before .before .before .before .before .before .args .permits)) (now (c .before .before .before .before .before .before .before .before .before .before .before .args .places))) (c .before .before .before .before .before .before .before .before .before .before .before .args .level) (now (c .before .before .before .before .before .before .before .before .before .before .before .args .q)) (now (c .before .before .before .before .before .before .before .before .before .before .before .args .z)) (c .before .before .before .before .if1 .taken)) (c .before .before .before .before .before .before .before .before .before .before .before .args .at) (c .before .before .before .before .before .before .before .before .before .before .before .args .next) (now (c .before .before .before .before .before .before .before .before .before .before .before .args .out)) _ _ _ (c .before .before .leaf .ensures)
+condition-returns t c =
+    let c₄ = c .before .before .before .before in let if1 = c₄ .if1 in
+    let c₁₁ = c₄ .before .before .before .before .before .before .before in let args = c₁₁ .args in
+    leaf-did _ _ _ (zero-leaf (now (args .masks)) (part (now (args .permits)) (now (args .places))) (args .level) (now (args .q)) (now (args .z)) (if1 .taken)) (args .at) (args .next) (now (args .out)) _ _ _ (c .before .before .leaf .ensures)
 
 condition-read-requires : (t : ℕ) → condition-lts.Need-read-requires (condition-claims t) (condition-at t) condition.Post
 condition-read-requires t c κs = search needs
@@ -118,13 +123,21 @@ condition-enum-told : (t : ℕ) → condition-lts.Need-enum-told (condition-clai
 condition-enum-told t c = search needs
 
 condition-leaf-requires-2 : (t : ℕ) → condition-lts.Need-leaf-requires-2 (condition-claims t) (condition-at t) condition.Post
-condition-leaf-requires-2 t c κs = leaf-room _ _ _ (true-leaf (now (c .before .before .before .before .before .before .before .before .before .before .before .args .masks)) (part (now (c .before .before .before .before .before .before .before .before .before .before .before .args .permits)) (now (c .before .before .before .before .before .before .before .before .before .before .before .args .places))) (c .before .before .before .before .before .before .before .before .before .before .before .args .level) (now (c .before .before .before .before .before .before .before .before .before .before .before .args .q)) (now (c .before .before .before .before .before .before .before .before .before .before .before .args .z)) (c .before .before .before .before .if1 .left) (sym (c .before .before .before .read .ensures) ∙ c .before .enum-told .given .1)) (c .before .before .before .before .before .before .before .before .before .before .before .args .at) (c .before .before .before .before .before .before .before .before .before .before .before .args .next) (c .before .before .before .before .before .before .before .before .before .before .before .pre .1)
+condition-leaf-requires-2 t c κs =
+    let c₃ = c .before .before .before in let read = c₃ .read in
+    let c₄ = c₃ .before in let if1 = c₄ .if1 in
+    let c₁₁ = c₄ .before .before .before .before .before .before .before in let args = c₁₁ .args in let pre = c₁₁ .pre in
+    leaf-room _ _ _ (true-leaf (now (args .masks)) (part (now (args .permits)) (now (args .places))) (args .level) (now (args .q)) (now (args .z)) (if1 .left) (sym (read .ensures) ∙ c .before .enum-told .given .1)) (args .at) (args .next) (pre .1)
 
 condition-enum-told-2 : (t : ℕ) → condition-lts.Need-enum-told-2 (condition-claims t) (condition-at t) condition.Post
 condition-enum-told-2 t c = search needs
 
 condition-put-requires : (t : ℕ) → condition-lts.Need-put-requires (condition-claims t) (condition-at t) condition.Post
-condition-put-requires t c κs = head-room _ _ _ _ _ (not-shape (now (c .before .before .before .before .before .before .before .before .before .before .before .args .masks)) (part (now (c .before .before .before .before .before .before .before .before .before .before .before .args .permits)) (now (c .before .before .before .before .before .before .before .before .before .before .before .args .places))) (c .before .before .before .before .before .before .before .before .before .before .before .args .level) (now (c .before .before .before .before .before .before .before .before .before .before .before .args .q)) (now (c .before .before .before .before .before .before .before .before .before .before .before .args .z)) (c .before .before .before .before .if1 .left) (sym (c .before .before .before .read .ensures) ∙ c .before .enum-told2 .given .1)) (c .before .before .before .before .before .before .before .before .before .before .before .args .at) (c .before .before .before .before .before .before .before .before .before .before .before .args .next) (c .before .before .before .before .before .before .before .before .before .before .before .pre .1)
+condition-put-requires t c κs =
+    let c₃ = c .before .before .before in let read = c₃ .read in
+    let c₄ = c₃ .before in let if1 = c₄ .if1 in
+    let c₁₁ = c₄ .before .before .before .before .before .before .before in let args = c₁₁ .args in let pre = c₁₁ .pre in
+    head-room _ _ _ _ _ (not-shape (now (args .masks)) (part (now (args .permits)) (now (args .places))) (args .level) (now (args .q)) (now (args .z)) (if1 .left) (sym (read .ensures) ∙ c .before .enum-told2 .given .1)) (args .at) (args .next) (pre .1)
 
 condition-first-child-requires : (t : ℕ) → condition-lts.Need-first-child-requires (condition-claims t) (condition-at t) condition.Post
 condition-first-child-requires t c κs = search needs
@@ -139,100 +152,196 @@ condition-sub-condition : (t : ℕ) → condition-lts.Need-sub-condition (condit
 condition-sub-condition t c = search needs
 
 condition-condition-requires : (t : ℕ) → condition-lts.Need-condition-requires (condition-claims t) (condition-at t) condition.Post
-condition-condition-requires t c κs = (omega (arith, c .before .before .before .before .before .before .before .before .before .before .before .before .before .before .before .before .before .before .pre .0, c .before .before .before .before .before .before .before .before .before .before .before .if1 .left), child-room (λ x y i. conditionBytes (now (c .before .before .before .before .before .before .before .before .before .before .before .before .before .before .before .before .before .before .args .masks)) (part (now (c .before .before .before .before .before .before .before .before .before .before .before .before .before .before .before .before .before .before .args .permits)) (now (c .before .before .before .before .before .before .before .before .before .before .before .before .before .before .before .before .before .before .args .places))) ((c .before .before .before .before .before .before .before .before .before .before .before .before .before .before .before .before .before .before .args .level) - 1) x y i) (λ x y. conditionNew (now (c .before .before .before .before .before .before .before .before .before .before .before .before .before .before .before .before .before .before .args .masks)) (part (now (c .before .before .before .before .before .before .before .before .before .before .before .before .before .before .before .before .before .before .args .permits)) (now (c .before .before .before .before .before .before .before .before .before .before .before .before .before .before .before .before .before .before .args .places))) ((c .before .before .before .before .before .before .before .before .before .before .before .before .before .before .before .before .before .before .args .level) - 1) x y) (now (c .before .before .before .before .before .before .before .before .before .before .before .before .before .before .before .before .before .before .args .q)) (now (c .before .before .before .before .before .before .before .before .before .before .before .before .before .before .before .before .before .before .args .z)) 0 (c .before .before .before .before .before .before .before .before .before .before .before .before .before .before .before .before .before .before .args .next) _ (c .before .before .before .first-child .ensures .0) _ _ (c .before .before .tail .ensures) (c .before .tail-sizes .ensures) _ (body-room _ _ _ _ _ (not-shape (now (c .before .before .before .before .before .before .before .before .before .before .before .before .before .before .before .before .before .before .args .masks)) (part (now (c .before .before .before .before .before .before .before .before .before .before .before .before .before .before .before .before .before .before .args .permits)) (now (c .before .before .before .before .before .before .before .before .before .before .before .before .before .before .before .before .before .before .args .places))) (c .before .before .before .before .before .before .before .before .before .before .before .before .before .before .before .before .before .before .args .level) (now (c .before .before .before .before .before .before .before .before .before .before .before .before .before .before .before .before .before .before .args .q)) (now (c .before .before .before .before .before .before .before .before .before .before .before .before .before .before .before .before .before .before .args .z)) (c .before .before .before .before .before .before .before .before .before .before .before .if1 .left) (sym (c .before .before .before .before .before .before .before .before .before .before .read .ensures) ∙ c .before .before .before .before .before .before .before .before .enum-told2 .given .1)) (c .before .before .before .before .before .before .before .before .before .before .before .before .before .before .before .before .before .before .args .at) (c .before .before .before .before .before .before .before .before .before .before .before .before .before .before .before .before .before .before .args .next) (now (c .before .before .before .before .before .before .before .before .before .before .before .before .before .before .before .before .before .before .args .out)) _ _ (c .before .before .before .before .before .before .put .ensures) (c .before .before .before .before .before .before .before .before .before .before .before .before .before .before .before .before .before .before .pre .1)))
+condition-condition-requires t c κs =
+    let c₃ = c .before .before .before in let first-child = c₃ .first-child in
+    let c₆ = c₃ .before .before .before in let put = c₆ .put in
+    let c₈ = c₆ .before .before in let enum-told2 = c₈ .enum-told2 in
+    let c₁₀ = c₈ .before .before in let read = c₁₀ .read in
+    let c₁₁ = c₁₀ .before in let if1 = c₁₁ .if1 in
+    let c₁₈ = c₁₁ .before .before .before .before .before .before .before in let args = c₁₈ .args in let pre = c₁₈ .pre in
+    let masks = now (args .masks) in let permits = now (args .permits) in let places = now (args .places) in let q = now (args .q) in let z = now (args .z) in let level = args .level in let next = args .next in
+    (omega (arith, pre .0, if1 .left), child-room (λ x y i. conditionBytes masks (part permits places) (level - 1) x y i) (λ x y. conditionNew masks (part permits places) (level - 1) x y) q z 0 next _ (first-child .ensures .0) _ _ (c .before .before .tail .ensures) (c .before .tail-sizes .ensures) _ (body-room _ _ _ _ _ (not-shape masks (part permits places) level q z (if1 .left) (sym (read .ensures) ∙ enum-told2 .given .1)) (args .at) next (now (args .out)) _ _ (put .ensures) (pre .1)))
 
 condition-enum-told-3 : (t : ℕ) → condition-lts.Need-enum-told-3 (condition-claims t) (condition-at t) condition.Post
 condition-enum-told-3 t c = search needs
 
 condition-put-requires-2 : (t : ℕ) → condition-lts.Need-put-requires-2 (condition-claims t) (condition-at t) condition.Post
-condition-put-requires-2 t c κs = head-room _ _ _ _ _ (and-shape (now (c .before .before .before .before .before .before .before .before .before .before .before .args .masks)) (part (now (c .before .before .before .before .before .before .before .before .before .before .before .args .permits)) (now (c .before .before .before .before .before .before .before .before .before .before .before .args .places))) (c .before .before .before .before .before .before .before .before .before .before .before .args .level) (now (c .before .before .before .before .before .before .before .before .before .before .before .args .q)) (now (c .before .before .before .before .before .before .before .before .before .before .before .args .z)) (c .before .before .before .before .if1 .left) (sym (c .before .before .before .read .ensures) ∙ c .before .enum-told3 .given .1)) (c .before .before .before .before .before .before .before .before .before .before .before .args .at) (c .before .before .before .before .before .before .before .before .before .before .before .args .next) (c .before .before .before .before .before .before .before .before .before .before .before .pre .1)
+condition-put-requires-2 t c κs =
+    let c₃ = c .before .before .before in let read = c₃ .read in
+    let c₄ = c₃ .before in let if1 = c₄ .if1 in
+    let c₁₁ = c₄ .before .before .before .before .before .before .before in let args = c₁₁ .args in let pre = c₁₁ .pre in
+    head-room _ _ _ _ _ (and-shape (now (args .masks)) (part (now (args .permits)) (now (args .places))) (args .level) (now (args .q)) (now (args .z)) (if1 .left) (sym (read .ensures) ∙ c .before .enum-told3 .given .1)) (args .at) (args .next) (pre .1)
 
 condition-sub-conditions : (t : ℕ) → condition-lts.Need-sub-conditions (condition-claims t) (condition-at t) condition.Post
 condition-sub-conditions t c = search needs
 
 condition-conditions-requires : (t : ℕ) → condition-lts.Need-conditions-requires (condition-claims t) (condition-at t) condition.Post
-condition-conditions-requires t c κs = (omega (arith, c .before .before .before .before .before .before .before .before .before .before .before .before .before .before .before .pre .0, c .before .before .before .before .before .before .before .before .if1 .left), body-room _ _ _ _ _ (and-shape (now (c .before .before .before .before .before .before .before .before .before .before .before .before .before .before .before .args .masks)) (part (now (c .before .before .before .before .before .before .before .before .before .before .before .before .before .before .before .args .permits)) (now (c .before .before .before .before .before .before .before .before .before .before .before .before .before .before .before .args .places))) (c .before .before .before .before .before .before .before .before .before .before .before .before .before .before .before .args .level) (now (c .before .before .before .before .before .before .before .before .before .before .before .before .before .before .before .args .q)) (now (c .before .before .before .before .before .before .before .before .before .before .before .before .before .before .before .args .z)) (c .before .before .before .before .before .before .before .before .if1 .left) (sym (c .before .before .before .before .before .before .before .read .ensures) ∙ c .before .before .before .before .before .enum-told3 .given .1)) (c .before .before .before .before .before .before .before .before .before .before .before .before .before .before .before .args .at) (c .before .before .before .before .before .before .before .before .before .before .before .before .before .before .before .args .next) (now (c .before .before .before .before .before .before .before .before .before .before .before .before .before .before .before .args .out)) _ _ (c .before .before .before .put2 .ensures) (c .before .before .before .before .before .before .before .before .before .before .before .before .before .before .before .pre .1))
+condition-conditions-requires t c κs =
+    let c₃ = c .before .before .before in let put2 = c₃ .put2 in
+    let c₅ = c₃ .before .before in let enum-told3 = c₅ .enum-told3 in
+    let c₇ = c₅ .before .before in let read = c₇ .read in
+    let c₈ = c₇ .before in let if1 = c₈ .if1 in
+    let c₁₅ = c₈ .before .before .before .before .before .before .before in let args = c₁₅ .args in let pre = c₁₅ .pre in
+    (omega (arith, pre .0, if1 .left), body-room _ _ _ _ _ (and-shape (now (args .masks)) (part (now (args .permits)) (now (args .places))) (args .level) (now (args .q)) (now (args .z)) (if1 .left) (sym (read .ensures) ∙ enum-told3 .given .1)) (args .at) (args .next) (now (args .out)) _ _ (put2 .ensures) (pre .1))
 
 condition-enum-told-4 : (t : ℕ) → condition-lts.Need-enum-told-4 (condition-claims t) (condition-at t) condition.Post
 condition-enum-told-4 t c = search needs
 
 condition-put-requires-3 : (t : ℕ) → condition-lts.Need-put-requires-3 (condition-claims t) (condition-at t) condition.Post
-condition-put-requires-3 t c κs = head-room _ _ _ _ _ (or-shape (now (c .before .before .before .before .before .before .before .before .before .before .before .args .masks)) (part (now (c .before .before .before .before .before .before .before .before .before .before .before .args .permits)) (now (c .before .before .before .before .before .before .before .before .before .before .before .args .places))) (c .before .before .before .before .before .before .before .before .before .before .before .args .level) (now (c .before .before .before .before .before .before .before .before .before .before .before .args .q)) (now (c .before .before .before .before .before .before .before .before .before .before .before .args .z)) (c .before .before .before .before .if1 .left) (sym (c .before .before .before .read .ensures) ∙ c .before .enum-told4 .given .1)) (c .before .before .before .before .before .before .before .before .before .before .before .args .at) (c .before .before .before .before .before .before .before .before .before .before .before .args .next) (c .before .before .before .before .before .before .before .before .before .before .before .pre .1)
+condition-put-requires-3 t c κs =
+    let c₃ = c .before .before .before in let read = c₃ .read in
+    let c₄ = c₃ .before in let if1 = c₄ .if1 in
+    let c₁₁ = c₄ .before .before .before .before .before .before .before in let args = c₁₁ .args in let pre = c₁₁ .pre in
+    head-room _ _ _ _ _ (or-shape (now (args .masks)) (part (now (args .permits)) (now (args .places))) (args .level) (now (args .q)) (now (args .z)) (if1 .left) (sym (read .ensures) ∙ c .before .enum-told4 .given .1)) (args .at) (args .next) (pre .1)
 
 condition-sub-conditions-2 : (t : ℕ) → condition-lts.Need-sub-conditions-2 (condition-claims t) (condition-at t) condition.Post
 condition-sub-conditions-2 t c = search needs
 
 condition-conditions-requires-2 : (t : ℕ) → condition-lts.Need-conditions-requires-2 (condition-claims t) (condition-at t) condition.Post
-condition-conditions-requires-2 t c κs = (omega (arith, c .before .before .before .before .before .before .before .before .before .before .before .before .before .before .before .pre .0, c .before .before .before .before .before .before .before .before .if1 .left), body-room _ _ _ _ _ (or-shape (now (c .before .before .before .before .before .before .before .before .before .before .before .before .before .before .before .args .masks)) (part (now (c .before .before .before .before .before .before .before .before .before .before .before .before .before .before .before .args .permits)) (now (c .before .before .before .before .before .before .before .before .before .before .before .before .before .before .before .args .places))) (c .before .before .before .before .before .before .before .before .before .before .before .before .before .before .before .args .level) (now (c .before .before .before .before .before .before .before .before .before .before .before .before .before .before .before .args .q)) (now (c .before .before .before .before .before .before .before .before .before .before .before .before .before .before .before .args .z)) (c .before .before .before .before .before .before .before .before .if1 .left) (sym (c .before .before .before .before .before .before .before .read .ensures) ∙ c .before .before .before .before .before .enum-told4 .given .1)) (c .before .before .before .before .before .before .before .before .before .before .before .before .before .before .before .args .at) (c .before .before .before .before .before .before .before .before .before .before .before .before .before .before .before .args .next) (now (c .before .before .before .before .before .before .before .before .before .before .before .before .before .before .before .args .out)) _ _ (c .before .before .before .put3 .ensures) (c .before .before .before .before .before .before .before .before .before .before .before .before .before .before .before .pre .1))
+condition-conditions-requires-2 t c κs =
+    let c₃ = c .before .before .before in let put3 = c₃ .put3 in
+    let c₅ = c₃ .before .before in let enum-told4 = c₅ .enum-told4 in
+    let c₇ = c₅ .before .before in let read = c₇ .read in
+    let c₈ = c₇ .before in let if1 = c₈ .if1 in
+    let c₁₅ = c₈ .before .before .before .before .before .before .before in let args = c₁₅ .args in let pre = c₁₅ .pre in
+    (omega (arith, pre .0, if1 .left), body-room _ _ _ _ _ (or-shape (now (args .masks)) (part (now (args .permits)) (now (args .places))) (args .level) (now (args .q)) (now (args .z)) (if1 .left) (sym (read .ensures) ∙ enum-told4 .given .1)) (args .at) (args .next) (now (args .out)) _ _ (put3 .ensures) (pre .1))
 
 condition-enum-known-o : (t : ℕ) → condition-lts.Need-enum-known-o (condition-claims t) (condition-at t) condition.Post
 condition-enum-known-o t c = search needs
 
 condition-put-record-requires : (t : ℕ) → condition-lts.Need-put-record-requires (condition-claims t) (condition-at t) condition.Post
-condition-put-record-requires t c κs = head-room _ _ _ _ _ (compare-shape (now (c .before .before .before .before .before .before .before .before .before .before .before .before .args .masks)) (part (now (c .before .before .before .before .before .before .before .before .before .before .before .before .args .permits)) (now (c .before .before .before .before .before .before .before .before .before .before .before .before .args .places))) (c .before .before .before .before .before .before .before .before .before .before .before .before .args .level) (now (c .before .before .before .before .before .before .before .before .before .before .before .before .args .q)) (now (c .before .before .before .before .before .before .before .before .before .before .before .before .args .z)) (c .before .before .before .before .before .if1 .left) _ (sym (c .before .before .before .before .read .ensures) ∙ c .before .before .o .given .1)) (c .before .before .before .before .before .before .before .before .before .before .before .before .args .at) (c .before .before .before .before .before .before .before .before .before .before .before .before .args .next) (c .before .before .before .before .before .before .before .before .before .before .before .before .pre .1)
+condition-put-record-requires t c κs =
+    let c₄ = c .before .before .before .before in let read = c₄ .read in
+    let c₅ = c₄ .before in let if1 = c₅ .if1 in
+    let c₁₂ = c₅ .before .before .before .before .before .before .before in let args = c₁₂ .args in let pre = c₁₂ .pre in
+    head-room _ _ _ _ _ (compare-shape (now (args .masks)) (part (now (args .permits)) (now (args .places))) (args .level) (now (args .q)) (now (args .z)) (if1 .left) _ (sym (read .ensures) ∙ c .before .before .o .given .1)) (args .at) (args .next) (pre .1)
 
 condition-sub-terms : (t : ℕ) → condition-lts.Need-sub-terms (condition-claims t) (condition-at t) condition.Post
 condition-sub-terms t c = search needs
 
 condition-terms-requires : (t : ℕ) → condition-lts.Need-terms-requires (condition-claims t) (condition-at t) condition.Post
-condition-terms-requires t c κs = (omega (arith, c .before .before .before .before .before .before .before .before .before .before .before .before .before .before .before .before .pre .0, c .before .before .before .before .before .before .before .before .before .if1 .left), body-room _ _ _ _ _ (compare-shape (now (c .before .before .before .before .before .before .before .before .before .before .before .before .before .before .before .before .args .masks)) (part (now (c .before .before .before .before .before .before .before .before .before .before .before .before .before .before .before .before .args .permits)) (now (c .before .before .before .before .before .before .before .before .before .before .before .before .before .before .before .before .args .places))) (c .before .before .before .before .before .before .before .before .before .before .before .before .before .before .before .before .args .level) (now (c .before .before .before .before .before .before .before .before .before .before .before .before .before .before .before .before .args .q)) (now (c .before .before .before .before .before .before .before .before .before .before .before .before .before .before .before .before .args .z)) (c .before .before .before .before .before .before .before .before .before .if1 .left) _ (sym (c .before .before .before .before .before .before .before .before .read .ensures) ∙ c .before .before .before .before .before .before .o .given .1)) (c .before .before .before .before .before .before .before .before .before .before .before .before .before .before .before .before .args .at) (c .before .before .before .before .before .before .before .before .before .before .before .before .before .before .before .before .args .next) (now (c .before .before .before .before .before .before .before .before .before .before .before .before .before .before .before .before .args .out)) _ _ (c .before .before .before .put-record .ensures) (c .before .before .before .before .before .before .before .before .before .before .before .before .before .before .before .before .pre .1))
+condition-terms-requires t c κs =
+    let c₃ = c .before .before .before in let put-record = c₃ .put-record in
+    let c₆ = c₃ .before .before .before in let o = c₆ .o in
+    let c₈ = c₆ .before .before in let read = c₈ .read in
+    let c₉ = c₈ .before in let if1 = c₉ .if1 in
+    let c₁₆ = c₉ .before .before .before .before .before .before .before in let args = c₁₆ .args in let pre = c₁₆ .pre in
+    (omega (arith, pre .0, if1 .left), body-room _ _ _ _ _ (compare-shape (now (args .masks)) (part (now (args .permits)) (now (args .places))) (args .level) (now (args .q)) (now (args .z)) (if1 .left) _ (sym (read .ensures) ∙ o .given .1)) (args .at) (args .next) (now (args .out)) _ _ (put-record .ensures) (pre .1))
 
 condition-enum-known-v : (t : ℕ) → condition-lts.Need-enum-known-v (condition-claims t) (condition-at t) condition.Post
 condition-enum-known-v t c = search needs
 
 condition-put-record-requires-2 : (t : ℕ) → condition-lts.Need-put-record-requires-2 (condition-claims t) (condition-at t) condition.Post
-condition-put-record-requires-2 t c κs = head-room _ _ _ _ _ (some-shape (now (c .before .before .before .before .before .before .before .before .before .before .before .before .args .masks)) (part (now (c .before .before .before .before .before .before .before .before .before .before .before .before .args .permits)) (now (c .before .before .before .before .before .before .before .before .before .before .before .before .args .places))) (c .before .before .before .before .before .before .before .before .before .before .before .before .args .level) (now (c .before .before .before .before .before .before .before .before .before .before .before .before .args .q)) (now (c .before .before .before .before .before .before .before .before .before .before .before .before .args .z)) (c .before .before .before .before .before .if1 .left) _ _ (sym (c .before .before .before .before .read .ensures) ∙ c .before .before .v .given .1)) (c .before .before .before .before .before .before .before .before .before .before .before .before .args .at) (c .before .before .before .before .before .before .before .before .before .before .before .before .args .next) (c .before .before .before .before .before .before .before .before .before .before .before .before .pre .1)
+condition-put-record-requires-2 t c κs =
+    let c₄ = c .before .before .before .before in let read = c₄ .read in
+    let c₅ = c₄ .before in let if1 = c₅ .if1 in
+    let c₁₂ = c₅ .before .before .before .before .before .before .before in let args = c₁₂ .args in let pre = c₁₂ .pre in
+    head-room _ _ _ _ _ (some-shape (now (args .masks)) (part (now (args .permits)) (now (args .places))) (args .level) (now (args .q)) (now (args .z)) (if1 .left) _ _ (sym (read .ensures) ∙ c .before .before .v .given .1)) (args .at) (args .next) (pre .1)
 
 condition-sub-under : (t : ℕ) → condition-lts.Need-sub-under (condition-claims t) (condition-at t) condition.Post
 condition-sub-under t c = search needs
 
 condition-under-requires : (t : ℕ) → condition-lts.Need-under-requires (condition-claims t) (condition-at t) condition.Post
-condition-under-requires t c κs = (omega (arith, c .before .before .before .before .before .before .before .before .before .before .before .before .before .before .before .before .pre .0, c .before .before .before .before .before .before .before .before .before .if1 .left), body-room _ _ _ _ _ (some-shape (now (c .before .before .before .before .before .before .before .before .before .before .before .before .before .before .before .before .args .masks)) (part (now (c .before .before .before .before .before .before .before .before .before .before .before .before .before .before .before .before .args .permits)) (now (c .before .before .before .before .before .before .before .before .before .before .before .before .before .before .before .before .args .places))) (c .before .before .before .before .before .before .before .before .before .before .before .before .before .before .before .before .args .level) (now (c .before .before .before .before .before .before .before .before .before .before .before .before .before .before .before .before .args .q)) (now (c .before .before .before .before .before .before .before .before .before .before .before .before .before .before .before .before .args .z)) (c .before .before .before .before .before .before .before .before .before .if1 .left) _ _ (sym (c .before .before .before .before .before .before .before .before .read .ensures) ∙ c .before .before .before .before .before .before .v .given .1)) (c .before .before .before .before .before .before .before .before .before .before .before .before .before .before .before .before .args .at) (c .before .before .before .before .before .before .before .before .before .before .before .before .before .before .before .before .args .next) (now (c .before .before .before .before .before .before .before .before .before .before .before .before .before .before .before .before .args .out)) _ _ (c .before .before .before .put-record2 .ensures) (c .before .before .before .before .before .before .before .before .before .before .before .before .before .before .before .before .pre .1))
+condition-under-requires t c κs =
+    let c₃ = c .before .before .before in let put-record2 = c₃ .put-record2 in
+    let c₆ = c₃ .before .before .before in let v = c₆ .v in
+    let c₈ = c₆ .before .before in let read = c₈ .read in
+    let c₉ = c₈ .before in let if1 = c₉ .if1 in
+    let c₁₆ = c₉ .before .before .before .before .before .before .before in let args = c₁₆ .args in let pre = c₁₆ .pre in
+    (omega (arith, pre .0, if1 .left), body-room _ _ _ _ _ (some-shape (now (args .masks)) (part (now (args .permits)) (now (args .places))) (args .level) (now (args .q)) (now (args .z)) (if1 .left) _ _ (sym (read .ensures) ∙ v .given .1)) (args .at) (args .next) (now (args .out)) _ _ (put-record2 .ensures) (pre .1))
 
 condition-leaf-requires-3 : (t : ℕ) → condition-lts.Need-leaf-requires-3 (condition-claims t) (condition-at t) condition.Post
-condition-leaf-requires-3 t c κs = leaf-room _ _ _ (rest-leaf (now (c .before .before .before .before .before .before .before .before .before .before .args .masks)) (part (now (c .before .before .before .before .before .before .before .before .before .before .args .permits)) (now (c .before .before .before .before .before .before .before .before .before .before .args .places))) (c .before .before .before .before .before .before .before .before .before .before .args .level) (now (c .before .before .before .before .before .before .before .before .before .before .args .q)) (now (c .before .before .before .before .before .before .before .before .before .before .args .z)) (c .before .before .before .if1 .left) (c .before .before .read .result) (c .before .before .read .ensures) (c .before .match .keys7)) (c .before .before .before .before .before .before .before .before .before .before .args .at) (c .before .before .before .before .before .before .before .before .before .before .args .next) (c .before .before .before .before .before .before .before .before .before .before .pre .1)
+condition-leaf-requires-3 t c κs =
+    let c₂ = c .before .before in let read = c₂ .read in
+    let c₃ = c₂ .before in let if1 = c₃ .if1 in
+    let c₁₀ = c₃ .before .before .before .before .before .before .before in let args = c₁₀ .args in let pre = c₁₀ .pre in
+    leaf-room _ _ _ (rest-leaf (now (args .masks)) (part (now (args .permits)) (now (args .places))) (args .level) (now (args .q)) (now (args .z)) (if1 .left) (read .result) (read .ensures) (c .before .match .keys7)) (args .at) (args .next) (pre .1)
 
 condition-same-length-2 : (t : ℕ) → condition-lts.Need-same-length-2 (condition-claims t) (condition-at t) condition.Post
 condition-same-length-2 t c = search needs
 
 condition-returns-2 : (t : ℕ) → condition-lts.Need-returns-2 (condition-claims t) (condition-at t) condition.Post
-condition-returns-2 t c = leaf-did _ _ _ (true-leaf (now (c .before .before .before .before .before .before .before .before .before .before .before .before .before .before .args .masks)) (part (now (c .before .before .before .before .before .before .before .before .before .before .before .before .before .before .args .permits)) (now (c .before .before .before .before .before .before .before .before .before .before .before .before .before .before .args .places))) (c .before .before .before .before .before .before .before .before .before .before .before .before .before .before .args .level) (now (c .before .before .before .before .before .before .before .before .before .before .before .before .before .before .args .q)) (now (c .before .before .before .before .before .before .before .before .before .before .before .before .before .before .args .z)) (c .before .before .before .before .before .before .before .if1 .left) (sym (c .before .before .before .before .before .before .read .ensures) ∙ c .before .before .before .before .enum-told .given .1)) (c .before .before .before .before .before .before .before .before .before .before .before .before .before .before .args .at) (c .before .before .before .before .before .before .before .before .before .before .before .before .before .before .args .next) (now (c .before .before .before .before .before .before .before .before .before .before .before .before .before .before .args .out)) _ _ _ (c .before .before .leaf2 .ensures)
+condition-returns-2 t c =
+    let c₄ = c .before .before .before .before in let enum-told = c₄ .enum-told in
+    let c₆ = c₄ .before .before in let read = c₆ .read in
+    let c₇ = c₆ .before in let if1 = c₇ .if1 in
+    let c₁₄ = c₇ .before .before .before .before .before .before .before in let args = c₁₄ .args in
+    leaf-did _ _ _ (true-leaf (now (args .masks)) (part (now (args .permits)) (now (args .places))) (args .level) (now (args .q)) (now (args .z)) (if1 .left) (sym (read .ensures) ∙ enum-told .given .1)) (args .at) (args .next) (now (args .out)) _ _ _ (c .before .before .leaf2 .ensures)
 
 condition-same-length-3 : (t : ℕ) → condition-lts.Need-same-length-3 (condition-claims t) (condition-at t) condition.Post
 condition-same-length-3 t c = search needs
 
 condition-returns-3 : (t : ℕ) → condition-lts.Need-returns-3 (condition-claims t) (condition-at t) condition.Post
-condition-returns-3 t c = body-did _ _ _ _ _ (not-shape (now (c .before .before .before .before .before .before .before .before .before .before .before .before .before .before .before .before .before .before .before .before .before .args .masks)) (part (now (c .before .before .before .before .before .before .before .before .before .before .before .before .before .before .before .before .before .before .before .before .before .args .permits)) (now (c .before .before .before .before .before .before .before .before .before .before .before .before .before .before .before .before .before .before .before .before .before .args .places))) (c .before .before .before .before .before .before .before .before .before .before .before .before .before .before .before .before .before .before .before .before .before .args .level) (now (c .before .before .before .before .before .before .before .before .before .before .before .before .before .before .before .before .before .before .before .before .before .args .q)) (now (c .before .before .before .before .before .before .before .before .before .before .before .before .before .before .before .before .before .before .before .before .before .args .z)) (c .before .before .before .before .before .before .before .before .before .before .before .before .before .before .if1 .left) (sym (c .before .before .before .before .before .before .before .before .before .before .before .before .before .read .ensures) ∙ c .before .before .before .before .before .before .before .before .before .before .before .enum-told2 .given .1)) (c .before .before .before .before .before .before .before .before .before .before .before .before .before .before .before .before .before .before .before .before .before .args .at) (c .before .before .before .before .before .before .before .before .before .before .before .before .before .before .before .before .before .before .before .before .before .args .next) (now (c .before .before .before .before .before .before .before .before .before .before .before .before .before .before .before .before .before .before .before .before .before .args .out)) _ _ (c .before .before .before .before .before .before .before .before .before .put .ensures) _ _ _ (child-did (λ x y i. conditionBytes (now (c .before .before .before .before .before .before .before .before .before .before .before .before .before .before .before .before .before .before .before .before .before .args .masks)) (part (now (c .before .before .before .before .before .before .before .before .before .before .before .before .before .before .before .before .before .before .before .before .before .args .permits)) (now (c .before .before .before .before .before .before .before .before .before .before .before .before .before .before .before .before .before .before .before .before .before .args .places))) ((c .before .before .before .before .before .before .before .before .before .before .before .before .before .before .before .before .before .before .before .before .before .args .level) - 1) x y i) (λ x y. conditionNew (now (c .before .before .before .before .before .before .before .before .before .before .before .before .before .before .before .before .before .before .before .before .before .args .masks)) (part (now (c .before .before .before .before .before .before .before .before .before .before .before .before .before .before .before .before .before .before .before .before .before .args .permits)) (now (c .before .before .before .before .before .before .before .before .before .before .before .before .before .before .before .before .before .before .before .before .before .args .places))) ((c .before .before .before .before .before .before .before .before .before .before .before .before .before .before .before .before .before .before .before .before .before .args .level) - 1) x y) (now (c .before .before .before .before .before .before .before .before .before .before .before .before .before .before .before .before .before .before .before .before .before .args .q)) (now (c .before .before .before .before .before .before .before .before .before .before .before .before .before .before .before .before .before .before .before .before .before .args .z)) _ (c .before .before .before .before .before .before .before .before .before .before .before .before .before .before .before .before .before .before .before .before .before .args .next) _ (c .before .before .before .before .before .before .first-child .ensures .0) _ _ (c .before .before .before .before .before .tail .ensures) (c .before .before .before .before .tail-sizes .ensures) _ _ _ _ (c .before .before .condition .ensures))
+condition-returns-3 t c =
+    let c₄ = c .before .before .before .before in let tail-sizes = c₄ .tail-sizes in
+    let c₅ = c₄ .before in let tail = c₅ .tail in
+    let c₆ = c₅ .before in let first-child = c₆ .first-child in
+    let c₉ = c₆ .before .before .before in let put = c₉ .put in
+    let c₁₁ = c₉ .before .before in let enum-told2 = c₁₁ .enum-told2 in
+    let c₁₃ = c₁₁ .before .before in let read = c₁₃ .read in
+    let c₁₄ = c₁₃ .before in let if1 = c₁₄ .if1 in
+    let c₂₁ = c₁₄ .before .before .before .before .before .before .before in let args = c₂₁ .args in
+    let masks = now (args .masks) in let permits = now (args .permits) in let places = now (args .places) in let q = now (args .q) in let z = now (args .z) in let level = args .level in let next = args .next in
+    body-did _ _ _ _ _ (not-shape masks (part permits places) level q z (if1 .left) (sym (read .ensures) ∙ enum-told2 .given .1)) (args .at) next (now (args .out)) _ _ (put .ensures) _ _ _ (child-did (λ x y i. conditionBytes masks (part permits places) (level - 1) x y i) (λ x y. conditionNew masks (part permits places) (level - 1) x y) q z _ next _ (first-child .ensures .0) _ _ (tail .ensures) (tail-sizes .ensures) _ _ _ _ (c .before .before .condition .ensures))
 
 condition-same-length-4 : (t : ℕ) → condition-lts.Need-same-length-4 (condition-claims t) (condition-at t) condition.Post
 condition-same-length-4 t c = search needs
 
 condition-returns-4 : (t : ℕ) → condition-lts.Need-returns-4 (condition-claims t) (condition-at t) condition.Post
-condition-returns-4 t c = body-did _ _ _ _ _ (and-shape (now (c .before .before .before .before .before .before .before .before .before .before .before .before .before .before .before .before .before .before .args .masks)) (part (now (c .before .before .before .before .before .before .before .before .before .before .before .before .before .before .before .before .before .before .args .permits)) (now (c .before .before .before .before .before .before .before .before .before .before .before .before .before .before .before .before .before .before .args .places))) (c .before .before .before .before .before .before .before .before .before .before .before .before .before .before .before .before .before .before .args .level) (now (c .before .before .before .before .before .before .before .before .before .before .before .before .before .before .before .before .before .before .args .q)) (now (c .before .before .before .before .before .before .before .before .before .before .before .before .before .before .before .before .before .before .args .z)) (c .before .before .before .before .before .before .before .before .before .before .before .if1 .left) (sym (c .before .before .before .before .before .before .before .before .before .before .read .ensures) ∙ c .before .before .before .before .before .before .before .before .enum-told3 .given .1)) (c .before .before .before .before .before .before .before .before .before .before .before .before .before .before .before .before .before .before .args .at) (c .before .before .before .before .before .before .before .before .before .before .before .before .before .before .before .before .before .before .args .next) (now (c .before .before .before .before .before .before .before .before .before .before .before .before .before .before .before .before .before .before .args .out)) _ _ (c .before .before .before .before .before .before .put2 .ensures) _ _ _ (c .before .before .conditions .ensures)
+condition-returns-4 t c =
+    let c₆ = c .before .before .before .before .before .before in let put2 = c₆ .put2 in
+    let c₈ = c₆ .before .before in let enum-told3 = c₈ .enum-told3 in
+    let c₁₀ = c₈ .before .before in let read = c₁₀ .read in
+    let c₁₁ = c₁₀ .before in let if1 = c₁₁ .if1 in
+    let c₁₈ = c₁₁ .before .before .before .before .before .before .before in let args = c₁₈ .args in
+    body-did _ _ _ _ _ (and-shape (now (args .masks)) (part (now (args .permits)) (now (args .places))) (args .level) (now (args .q)) (now (args .z)) (if1 .left) (sym (read .ensures) ∙ enum-told3 .given .1)) (args .at) (args .next) (now (args .out)) _ _ (put2 .ensures) _ _ _ (c .before .before .conditions .ensures)
 
 condition-same-length-5 : (t : ℕ) → condition-lts.Need-same-length-5 (condition-claims t) (condition-at t) condition.Post
 condition-same-length-5 t c = search needs
 
 condition-returns-5 : (t : ℕ) → condition-lts.Need-returns-5 (condition-claims t) (condition-at t) condition.Post
-condition-returns-5 t c = body-did _ _ _ _ _ (or-shape (now (c .before .before .before .before .before .before .before .before .before .before .before .before .before .before .before .before .before .before .args .masks)) (part (now (c .before .before .before .before .before .before .before .before .before .before .before .before .before .before .before .before .before .before .args .permits)) (now (c .before .before .before .before .before .before .before .before .before .before .before .before .before .before .before .before .before .before .args .places))) (c .before .before .before .before .before .before .before .before .before .before .before .before .before .before .before .before .before .before .args .level) (now (c .before .before .before .before .before .before .before .before .before .before .before .before .before .before .before .before .before .before .args .q)) (now (c .before .before .before .before .before .before .before .before .before .before .before .before .before .before .before .before .before .before .args .z)) (c .before .before .before .before .before .before .before .before .before .before .before .if1 .left) (sym (c .before .before .before .before .before .before .before .before .before .before .read .ensures) ∙ c .before .before .before .before .before .before .before .before .enum-told4 .given .1)) (c .before .before .before .before .before .before .before .before .before .before .before .before .before .before .before .before .before .before .args .at) (c .before .before .before .before .before .before .before .before .before .before .before .before .before .before .before .before .before .before .args .next) (now (c .before .before .before .before .before .before .before .before .before .before .before .before .before .before .before .before .before .before .args .out)) _ _ (c .before .before .before .before .before .before .put3 .ensures) _ _ _ (c .before .before .conditions2 .ensures)
+condition-returns-5 t c =
+    let c₆ = c .before .before .before .before .before .before in let put3 = c₆ .put3 in
+    let c₈ = c₆ .before .before in let enum-told4 = c₈ .enum-told4 in
+    let c₁₀ = c₈ .before .before in let read = c₁₀ .read in
+    let c₁₁ = c₁₀ .before in let if1 = c₁₁ .if1 in
+    let c₁₈ = c₁₁ .before .before .before .before .before .before .before in let args = c₁₈ .args in
+    body-did _ _ _ _ _ (or-shape (now (args .masks)) (part (now (args .permits)) (now (args .places))) (args .level) (now (args .q)) (now (args .z)) (if1 .left) (sym (read .ensures) ∙ enum-told4 .given .1)) (args .at) (args .next) (now (args .out)) _ _ (put3 .ensures) _ _ _ (c .before .before .conditions2 .ensures)
 
 condition-same-length-6 : (t : ℕ) → condition-lts.Need-same-length-6 (condition-claims t) (condition-at t) condition.Post
 condition-same-length-6 t c = search needs
 
 condition-returns-6 : (t : ℕ) → condition-lts.Need-returns-6 (condition-claims t) (condition-at t) condition.Post
-condition-returns-6 t c = body-did _ _ _ _ _ (compare-shape (now (c .before .before .before .before .before .before .before .before .before .before .before .before .before .before .before .before .before .before .before .args .masks)) (part (now (c .before .before .before .before .before .before .before .before .before .before .before .before .before .before .before .before .before .before .before .args .permits)) (now (c .before .before .before .before .before .before .before .before .before .before .before .before .before .before .before .before .before .before .before .args .places))) (c .before .before .before .before .before .before .before .before .before .before .before .before .before .before .before .before .before .before .before .args .level) (now (c .before .before .before .before .before .before .before .before .before .before .before .before .before .before .before .before .before .before .before .args .q)) (now (c .before .before .before .before .before .before .before .before .before .before .before .before .before .before .before .before .before .before .before .args .z)) (c .before .before .before .before .before .before .before .before .before .before .before .before .if1 .left) _ (sym (c .before .before .before .before .before .before .before .before .before .before .before .read .ensures) ∙ c .before .before .before .before .before .before .before .before .before .o .given .1)) (c .before .before .before .before .before .before .before .before .before .before .before .before .before .before .before .before .before .before .before .args .at) (c .before .before .before .before .before .before .before .before .before .before .before .before .before .before .before .before .before .before .before .args .next) (now (c .before .before .before .before .before .before .before .before .before .before .before .before .before .before .before .before .before .before .before .args .out)) _ _ (c .before .before .before .before .before .before .put-record .ensures) _ _ _ (c .before .before .terms .ensures)
+condition-returns-6 t c =
+    let c₆ = c .before .before .before .before .before .before in let put-record = c₆ .put-record in
+    let c₉ = c₆ .before .before .before in let o = c₉ .o in
+    let c₁₁ = c₉ .before .before in let read = c₁₁ .read in
+    let c₁₂ = c₁₁ .before in let if1 = c₁₂ .if1 in
+    let c₁₉ = c₁₂ .before .before .before .before .before .before .before in let args = c₁₉ .args in
+    body-did _ _ _ _ _ (compare-shape (now (args .masks)) (part (now (args .permits)) (now (args .places))) (args .level) (now (args .q)) (now (args .z)) (if1 .left) _ (sym (read .ensures) ∙ o .given .1)) (args .at) (args .next) (now (args .out)) _ _ (put-record .ensures) _ _ _ (c .before .before .terms .ensures)
 
 condition-same-length-7 : (t : ℕ) → condition-lts.Need-same-length-7 (condition-claims t) (condition-at t) condition.Post
 condition-same-length-7 t c = search needs
 
 condition-returns-7 : (t : ℕ) → condition-lts.Need-returns-7 (condition-claims t) (condition-at t) condition.Post
-condition-returns-7 t c = body-did _ _ _ _ _ (some-shape (now (c .before .before .before .before .before .before .before .before .before .before .before .before .before .before .before .before .before .before .before .args .masks)) (part (now (c .before .before .before .before .before .before .before .before .before .before .before .before .before .before .before .before .before .before .before .args .permits)) (now (c .before .before .before .before .before .before .before .before .before .before .before .before .before .before .before .before .before .before .before .args .places))) (c .before .before .before .before .before .before .before .before .before .before .before .before .before .before .before .before .before .before .before .args .level) (now (c .before .before .before .before .before .before .before .before .before .before .before .before .before .before .before .before .before .before .before .args .q)) (now (c .before .before .before .before .before .before .before .before .before .before .before .before .before .before .before .before .before .before .before .args .z)) (c .before .before .before .before .before .before .before .before .before .before .before .before .if1 .left) _ _ (sym (c .before .before .before .before .before .before .before .before .before .before .before .read .ensures) ∙ c .before .before .before .before .before .before .before .before .before .v .given .1)) (c .before .before .before .before .before .before .before .before .before .before .before .before .before .before .before .before .before .before .before .args .at) (c .before .before .before .before .before .before .before .before .before .before .before .before .before .before .before .before .before .before .before .args .next) (now (c .before .before .before .before .before .before .before .before .before .before .before .before .before .before .before .before .before .before .before .args .out)) _ _ (c .before .before .before .before .before .before .put-record2 .ensures) _ _ _ (c .before .before .under .ensures)
+condition-returns-7 t c =
+    let c₆ = c .before .before .before .before .before .before in let put-record2 = c₆ .put-record2 in
+    let c₉ = c₆ .before .before .before in let v = c₉ .v in
+    let c₁₁ = c₉ .before .before in let read = c₁₁ .read in
+    let c₁₂ = c₁₁ .before in let if1 = c₁₂ .if1 in
+    let c₁₉ = c₁₂ .before .before .before .before .before .before .before in let args = c₁₉ .args in
+    body-did _ _ _ _ _ (some-shape (now (args .masks)) (part (now (args .permits)) (now (args .places))) (args .level) (now (args .q)) (now (args .z)) (if1 .left) _ _ (sym (read .ensures) ∙ v .given .1)) (args .at) (args .next) (now (args .out)) _ _ (put-record2 .ensures) _ _ _ (c .before .before .under .ensures)
 
 condition-same-length-8 : (t : ℕ) → condition-lts.Need-same-length-8 (condition-claims t) (condition-at t) condition.Post
 condition-same-length-8 t c = search needs
 
 condition-returns-8 : (t : ℕ) → condition-lts.Need-returns-8 (condition-claims t) (condition-at t) condition.Post
-condition-returns-8 t c = leaf-did _ _ _ (rest-leaf (now (c .before .before .before .before .before .before .before .before .before .before .before .before .before .args .masks)) (part (now (c .before .before .before .before .before .before .before .before .before .before .before .before .before .args .permits)) (now (c .before .before .before .before .before .before .before .before .before .before .before .before .before .args .places))) (c .before .before .before .before .before .before .before .before .before .before .before .before .before .args .level) (now (c .before .before .before .before .before .before .before .before .before .before .before .before .before .args .q)) (now (c .before .before .before .before .before .before .before .before .before .before .before .before .before .args .z)) (c .before .before .before .before .before .before .if1 .left) (c .before .before .before .before .before .read .result) (c .before .before .before .before .before .read .ensures) (c .before .before .before .before .match .keys7)) (c .before .before .before .before .before .before .before .before .before .before .before .before .before .args .at) (c .before .before .before .before .before .before .before .before .before .before .before .before .before .args .next) (now (c .before .before .before .before .before .before .before .before .before .before .before .before .before .args .out)) _ _ _ (c .before .before .leaf3 .ensures)
+condition-returns-8 t c =
+    let c₄ = c .before .before .before .before in let match = c₄ .match in
+    let c₅ = c₄ .before in let read = c₅ .read in
+    let c₆ = c₅ .before in let if1 = c₆ .if1 in
+    let c₁₃ = c₆ .before .before .before .before .before .before .before in let args = c₁₃ .args in
+    leaf-did _ _ _ (rest-leaf (now (args .masks)) (part (now (args .permits)) (now (args .places))) (args .level) (now (args .q)) (now (args .z)) (if1 .left) (read .result) (read .ensures) (match .keys7)) (args .at) (args .next) (now (args .out)) _ _ _ (c .before .before .leaf3 .ensures)
 
 conditions-first-child-requires : (t : ℕ) → conditions-lts.Need-first-child-requires (conditions-claims t) (conditions-at t) conditions.Post
 conditions-first-child-requires t c κs = search needs
@@ -247,7 +356,11 @@ conditions-tail-sizes-requires : (t : ℕ) → conditions-lts.Need-tail-sizes-re
 conditions-tail-sizes-requires t c κs = search needs
 
 conditions-condition-requires : (t : ℕ) → conditions-lts.Need-condition-requires (conditions-claims t) (conditions-at t) conditions.Post
-conditions-condition-requires t c κs = (omega (arith, c .before .before .before .before .before .before .before .before .before .before .before .pre .0), both-first (λ x y i. conditionBytes (now (c .before .before .before .before .before .before .before .before .before .before .before .args .masks)) (part (now (c .before .before .before .before .before .before .before .before .before .before .before .args .permits)) (now (c .before .before .before .before .before .before .before .before .before .before .before .args .places))) (c .before .before .before .before .before .before .before .before .before .before .before .args .level) x y i) (λ x y. conditionNew (now (c .before .before .before .before .before .before .before .before .before .before .before .args .masks)) (part (now (c .before .before .before .before .before .before .before .before .before .before .before .args .permits)) (now (c .before .before .before .before .before .before .before .before .before .before .before .args .places))) (c .before .before .before .before .before .before .before .before .before .before .before .args .level) x y) (now (c .before .before .before .before .before .before .before .before .before .before .before .args .q)) (now (c .before .before .before .before .before .before .before .before .before .before .before .args .z)) (c .before .before .before .before .before .before .before .before .before .before .before .args .at) (c .before .before .before .before .before .before .before .before .before .before .before .args .next) _ (c .before .before .before .before .first-child .ensures .0) _ _ (c .before .before .tail .ensures) (c .before .tail-sizes .ensures) (c .before .before .before .before .before .before .before .before .before .before .before .pre .1))
+conditions-condition-requires t c κs =
+    let c₄ = c .before .before .before .before in let first-child = c₄ .first-child in
+    let c₁₁ = c₄ .before .before .before .before .before .before .before in let args = c₁₁ .args in let pre = c₁₁ .pre in
+    let masks = now (args .masks) in let permits = now (args .permits) in let places = now (args .places) in let level = args .level in
+    (omega (arith, pre .0), both-first (λ x y i. conditionBytes masks (part permits places) level x y i) (λ x y. conditionNew masks (part permits places) level x y) (now (args .q)) (now (args .z)) (args .at) (args .next) _ (first-child .ensures .0) _ _ (c .before .before .tail .ensures) (c .before .tail-sizes .ensures) (pre .1))
 
 conditions-tail-requires-2 : (t : ℕ) → conditions-lts.Need-tail-requires-2 (conditions-claims t) (conditions-at t) conditions.Post
 conditions-tail-requires-2 t c κs = search needs
@@ -256,22 +369,45 @@ conditions-tail-sizes-requires-2 : (t : ℕ) → conditions-lts.Need-tail-sizes-
 conditions-tail-sizes-requires-2 t c κs = search needs
 
 conditions-condition-requires-2 : (t : ℕ) → conditions-lts.Need-condition-requires-2 (conditions-claims t) (conditions-at t) conditions.Post
-conditions-condition-requires-2 t c κs = (omega (arith, c .before .before .before .before .before .before .before .before .before .before .before .before .before .before .before .before .before .pre .0), both-second (λ x y i. conditionBytes (now (c .before .before .before .before .before .before .before .before .before .before .before .before .before .before .before .before .before .args .masks)) (part (now (c .before .before .before .before .before .before .before .before .before .before .before .before .before .before .before .before .before .args .permits)) (now (c .before .before .before .before .before .before .before .before .before .before .before .before .before .before .before .before .before .args .places))) (c .before .before .before .before .before .before .before .before .before .before .before .before .before .before .before .before .before .args .level) x y i) (λ x y. conditionNew (now (c .before .before .before .before .before .before .before .before .before .before .before .before .before .before .before .before .before .args .masks)) (part (now (c .before .before .before .before .before .before .before .before .before .before .before .before .before .before .before .before .before .args .permits)) (now (c .before .before .before .before .before .before .before .before .before .before .before .before .before .before .before .before .before .args .places))) (c .before .before .before .before .before .before .before .before .before .before .before .before .before .before .before .before .before .args .level) x y) (now (c .before .before .before .before .before .before .before .before .before .before .before .before .before .before .before .before .before .args .q)) (now (c .before .before .before .before .before .before .before .before .before .before .before .before .before .before .before .before .before .args .z)) (c .before .before .before .before .before .before .before .before .before .before .before .before .before .before .before .before .before .args .at) (c .before .before .before .before .before .before .before .before .before .before .before .before .before .before .before .before .before .args .next) _ (c .before .before .before .before .before .before .before .before .before .before .first-child .ensures .0) _ _ (c .before .before .before .before .before .before .before .before .tail .ensures) (c .before .before .before .before .before .before .before .tail-sizes .ensures) (now (c .before .before .before .before .before .before .before .before .before .before .before .before .before .before .before .before .before .args .out)) _ _ _ (c .before .before .before .before .before .condition .ensures) _ (c .before .before .before .before .before .before .before .before .before .second-child .ensures) _ _ (c .before .before .tail2 .ensures) (c .before .tail-sizes2 .ensures) (c .before .before .before .before .before .before .before .before .before .before .before .before .before .before .before .before .before .pre .1))
+conditions-condition-requires-2 t c κs =
+    let c₅ = c .before .before .before .before .before in let condition = c₅ .condition in
+    let c₇ = c₅ .before .before in let tail-sizes = c₇ .tail-sizes in
+    let c₈ = c₇ .before in let tail = c₈ .tail in
+    let c₉ = c₈ .before in let second-child = c₉ .second-child in
+    let c₁₀ = c₉ .before in let first-child = c₁₀ .first-child in
+    let c₁₇ = c₁₀ .before .before .before .before .before .before .before in let args = c₁₇ .args in let pre = c₁₇ .pre in
+    let masks = now (args .masks) in let permits = now (args .permits) in let places = now (args .places) in let level = args .level in
+    (omega (arith, pre .0), both-second (λ x y i. conditionBytes masks (part permits places) level x y i) (λ x y. conditionNew masks (part permits places) level x y) (now (args .q)) (now (args .z)) (args .at) (args .next) _ (first-child .ensures .0) _ _ (tail .ensures) (tail-sizes .ensures) (now (args .out)) _ _ _ (condition .ensures) _ (second-child .ensures) _ _ (c .before .before .tail2 .ensures) (c .before .tail-sizes2 .ensures) (pre .1))
 
 conditions-same-length : (t : ℕ) → conditions-lts.Need-same-length (conditions-claims t) (conditions-at t) conditions.Post
 conditions-same-length t c = search needs
 
 conditions-returns : (t : ℕ) → conditions-lts.Need-returns (conditions-claims t) (conditions-at t) conditions.Post
-conditions-returns t c = both-did (λ x y i. conditionBytes (now (c .before .before .before .before .before .before .before .before .before .before .before .before .before .before .before .before .before .before .before .before .args .masks)) (part (now (c .before .before .before .before .before .before .before .before .before .before .before .before .before .before .before .before .before .before .before .before .args .permits)) (now (c .before .before .before .before .before .before .before .before .before .before .before .before .before .before .before .before .before .before .before .before .args .places))) (c .before .before .before .before .before .before .before .before .before .before .before .before .before .before .before .before .before .before .before .before .args .level) x y i) (λ x y. conditionNew (now (c .before .before .before .before .before .before .before .before .before .before .before .before .before .before .before .before .before .before .before .before .args .masks)) (part (now (c .before .before .before .before .before .before .before .before .before .before .before .before .before .before .before .before .before .before .before .before .args .permits)) (now (c .before .before .before .before .before .before .before .before .before .before .before .before .before .before .before .before .before .before .before .before .args .places))) (c .before .before .before .before .before .before .before .before .before .before .before .before .before .before .before .before .before .before .before .before .args .level) x y) (now (c .before .before .before .before .before .before .before .before .before .before .before .before .before .before .before .before .before .before .before .before .args .q)) (now (c .before .before .before .before .before .before .before .before .before .before .before .before .before .before .before .before .before .before .before .before .args .z)) (c .before .before .before .before .before .before .before .before .before .before .before .before .before .before .before .before .before .before .before .before .args .at) (c .before .before .before .before .before .before .before .before .before .before .before .before .before .before .before .before .before .before .before .before .args .next) _ (c .before .before .before .before .before .before .before .before .before .before .before .before .before .first-child .ensures .0) _ _ (c .before .before .before .before .before .before .before .before .before .before .before .tail .ensures) (c .before .before .before .before .before .before .before .before .before .before .tail-sizes .ensures) (now (c .before .before .before .before .before .before .before .before .before .before .before .before .before .before .before .before .before .before .before .before .args .out)) _ _ _ (c .before .before .before .before .before .before .before .before .condition .ensures) _ (c .before .before .before .before .before .before .before .before .before .before .before .before .second-child .ensures) _ _ (c .before .before .before .before .before .tail2 .ensures) (c .before .before .before .before .tail-sizes2 .ensures) _ _ _ (c .before .before .condition2 .ensures)
+conditions-returns t c =
+    let c₄ = c .before .before .before .before in let tail-sizes2 = c₄ .tail-sizes2 in
+    let c₅ = c₄ .before in let tail2 = c₅ .tail2 in
+    let c₈ = c₅ .before .before .before in let condition = c₈ .condition in
+    let c₁₀ = c₈ .before .before in let tail-sizes = c₁₀ .tail-sizes in
+    let c₁₁ = c₁₀ .before in let tail = c₁₁ .tail in
+    let c₁₂ = c₁₁ .before in let second-child = c₁₂ .second-child in
+    let c₁₃ = c₁₂ .before in let first-child = c₁₃ .first-child in
+    let c₂₀ = c₁₃ .before .before .before .before .before .before .before in let args = c₂₀ .args in
+    let masks = now (args .masks) in let permits = now (args .permits) in let places = now (args .places) in let level = args .level in
+    both-did (λ x y i. conditionBytes masks (part permits places) level x y i) (λ x y. conditionNew masks (part permits places) level x y) (now (args .q)) (now (args .z)) (args .at) (args .next) _ (first-child .ensures .0) _ _ (tail .ensures) (tail-sizes .ensures) (now (args .out)) _ _ _ (condition .ensures) _ (second-child .ensures) _ _ (tail2 .ensures) (tail-sizes2 .ensures) _ _ _ (c .before .before .condition2 .ensures)
 
 term-leaf-requires : (t : ℕ) → term-lts.Need-leaf-requires (term-claims t) (term-at t) term.Post
-term-leaf-requires t c κs = leaf-room _ _ _ (zero-leafT (now (c .before .before .before .before .before .before .before .before .args .masks)) (part (now (c .before .before .before .before .before .before .before .before .args .permits)) (now (c .before .before .before .before .before .before .before .before .args .places))) (c .before .before .before .before .before .before .before .before .args .level) (now (c .before .before .before .before .before .before .before .before .args .q)) (now (c .before .before .before .before .before .before .before .before .args .z)) (c .before .if1 .taken)) (c .before .before .before .before .before .before .before .before .args .at) (c .before .before .before .before .before .before .before .before .args .next) (c .before .before .before .before .before .before .before .before .pre .1)
+term-leaf-requires t c κs =
+    let c₈ = c .before .before .before .before .before .before .before .before in let args = c₈ .args in let pre = c₈ .pre in
+    leaf-room _ _ _ (zero-leafT (now (args .masks)) (part (now (args .permits)) (now (args .places))) (args .level) (now (args .q)) (now (args .z)) (c .before .if1 .taken)) (args .at) (args .next) (pre .1)
 
 term-same-length : (t : ℕ) → term-lts.Need-same-length (term-claims t) (term-at t) term.Post
 term-same-length t c = search needs
 
 term-returns : (t : ℕ) → term-lts.Need-returns (term-claims t) (term-at t) term.Post
-term-returns t c = leaf-did _ _ _ (zero-leafT (now (c .before .before .before .before .before .before .before .before .before .before .before .args .masks)) (part (now (c .before .before .before .before .before .before .before .before .before .before .before .args .permits)) (now (c .before .before .before .before .before .before .before .before .before .before .before .args .places))) (c .before .before .before .before .before .before .before .before .before .before .before .args .level) (now (c .before .before .before .before .before .before .before .before .before .before .before .args .q)) (now (c .before .before .before .before .before .before .before .before .before .before .before .args .z)) (c .before .before .before .before .if1 .taken)) (c .before .before .before .before .before .before .before .before .before .before .before .args .at) (c .before .before .before .before .before .before .before .before .before .before .before .args .next) (now (c .before .before .before .before .before .before .before .before .before .before .before .args .out)) _ _ _ (c .before .before .leaf .ensures)
+term-returns t c =
+    let c₄ = c .before .before .before .before in let if1 = c₄ .if1 in
+    let c₁₁ = c₄ .before .before .before .before .before .before .before in let args = c₁₁ .args in
+    leaf-did _ _ _ (zero-leafT (now (args .masks)) (part (now (args .permits)) (now (args .places))) (args .level) (now (args .q)) (now (args .z)) (if1 .taken)) (args .at) (args .next) (now (args .out)) _ _ _ (c .before .before .leaf .ensures)
 
 term-read-requires : (t : ℕ) → term-lts.Need-read-requires (term-claims t) (term-at t) term.Post
 term-read-requires t c κs = search needs
@@ -280,52 +416,95 @@ term-enum-known-a : (t : ℕ) → term-lts.Need-enum-known-a (term-claims t) (te
 term-enum-known-a t c = search needs
 
 term-leaf-requires-2 : (t : ℕ) → term-lts.Need-leaf-requires-2 (term-claims t) (term-at t) term.Post
-term-leaf-requires-2 t c κs = leaf-room _ _ _ (constant-leaf (now (c .before .before .before .before .before .before .before .before .before .before .before .before .args .masks)) (part (now (c .before .before .before .before .before .before .before .before .before .before .before .before .args .permits)) (now (c .before .before .before .before .before .before .before .before .before .before .before .before .args .places))) (c .before .before .before .before .before .before .before .before .before .before .before .before .args .level) (now (c .before .before .before .before .before .before .before .before .before .before .before .before .args .q)) (now (c .before .before .before .before .before .before .before .before .before .before .before .before .args .z)) (c .before .before .before .before .before .if1 .left) _ _ _ _ (sym (c .before .before .before .before .read .ensures) ∙ c .before .before .a .given .1)) (c .before .before .before .before .before .before .before .before .before .before .before .before .args .at) (c .before .before .before .before .before .before .before .before .before .before .before .before .args .next) (c .before .before .before .before .before .before .before .before .before .before .before .before .pre .1)
+term-leaf-requires-2 t c κs =
+    let c₄ = c .before .before .before .before in let read = c₄ .read in
+    let c₅ = c₄ .before in let if1 = c₅ .if1 in
+    let c₁₂ = c₅ .before .before .before .before .before .before .before in let args = c₁₂ .args in let pre = c₁₂ .pre in
+    leaf-room _ _ _ (constant-leaf (now (args .masks)) (part (now (args .permits)) (now (args .places))) (args .level) (now (args .q)) (now (args .z)) (if1 .left) _ _ _ _ (sym (read .ensures) ∙ c .before .before .a .given .1)) (args .at) (args .next) (pre .1)
 
 term-enum-known-v : (t : ℕ) → term-lts.Need-enum-known-v (term-claims t) (term-at t) term.Post
 term-enum-known-v t c = search needs
 
 term-leaf-requires-3 : (t : ℕ) → term-lts.Need-leaf-requires-3 (term-claims t) (term-at t) term.Post
-term-leaf-requires-3 t c κs = leaf-room _ _ _ (attribute-leaf (now (c .before .before .before .before .before .before .before .before .before .before .before .before .args .masks)) (part (now (c .before .before .before .before .before .before .before .before .before .before .before .before .args .permits)) (now (c .before .before .before .before .before .before .before .before .before .before .before .before .args .places))) (c .before .before .before .before .before .before .before .before .before .before .before .before .args .level) (now (c .before .before .before .before .before .before .before .before .before .before .before .before .args .q)) (now (c .before .before .before .before .before .before .before .before .before .before .before .before .args .z)) (c .before .before .before .before .before .if1 .left) _ _ (sym (c .before .before .before .before .read .ensures) ∙ c .before .before .v .given .1)) (c .before .before .before .before .before .before .before .before .before .before .before .before .args .at) (c .before .before .before .before .before .before .before .before .before .before .before .before .args .next) (c .before .before .before .before .before .before .before .before .before .before .before .before .pre .1)
+term-leaf-requires-3 t c κs =
+    let c₄ = c .before .before .before .before in let read = c₄ .read in
+    let c₅ = c₄ .before in let if1 = c₅ .if1 in
+    let c₁₂ = c₅ .before .before .before .before .before .before .before in let args = c₁₂ .args in let pre = c₁₂ .pre in
+    leaf-room _ _ _ (attribute-leaf (now (args .masks)) (part (now (args .permits)) (now (args .places))) (args .level) (now (args .q)) (now (args .z)) (if1 .left) _ _ (sym (read .ensures) ∙ c .before .before .v .given .1)) (args .at) (args .next) (pre .1)
 
 term-enum-known-f : (t : ℕ) → term-lts.Need-enum-known-f (term-claims t) (term-at t) term.Post
 term-enum-known-f t c = search needs
 
 term-put-record-requires : (t : ℕ) → term-lts.Need-put-record-requires (term-claims t) (term-at t) term.Post
-term-put-record-requires t c κs = head-room _ _ _ _ _ (aggregate-shape (now (c .before .before .before .before .before .before .before .before .before .before .before .before .args .masks)) (part (now (c .before .before .before .before .before .before .before .before .before .before .before .before .args .permits)) (now (c .before .before .before .before .before .before .before .before .before .before .before .before .args .places))) (c .before .before .before .before .before .before .before .before .before .before .before .before .args .level) (now (c .before .before .before .before .before .before .before .before .before .before .before .before .args .q)) (now (c .before .before .before .before .before .before .before .before .before .before .before .before .args .z)) (c .before .before .before .before .before .if1 .left) _ _ _ _ (sym (c .before .before .before .before .read .ensures) ∙ c .before .before .f .given .1)) (c .before .before .before .before .before .before .before .before .before .before .before .before .args .at) (c .before .before .before .before .before .before .before .before .before .before .before .before .args .next) (c .before .before .before .before .before .before .before .before .before .before .before .before .pre .1)
+term-put-record-requires t c κs =
+    let c₄ = c .before .before .before .before in let read = c₄ .read in
+    let c₅ = c₄ .before in let if1 = c₅ .if1 in
+    let c₁₂ = c₅ .before .before .before .before .before .before .before in let args = c₁₂ .args in let pre = c₁₂ .pre in
+    head-room _ _ _ _ _ (aggregate-shape (now (args .masks)) (part (now (args .permits)) (now (args .places))) (args .level) (now (args .q)) (now (args .z)) (if1 .left) _ _ _ _ (sym (read .ensures) ∙ c .before .before .f .given .1)) (args .at) (args .next) (pre .1)
 
 term-sub-under : (t : ℕ) → term-lts.Need-sub-under (term-claims t) (term-at t) term.Post
 term-sub-under t c = search needs
 
 term-under-requires : (t : ℕ) → term-lts.Need-under-requires (term-claims t) (term-at t) term.Post
-term-under-requires t c κs = (omega (arith, c .before .before .before .before .before .before .before .before .before .before .before .before .before .before .before .before .pre .0, c .before .before .before .before .before .before .before .before .before .if1 .left), body-room _ _ _ _ _ (aggregate-shape (now (c .before .before .before .before .before .before .before .before .before .before .before .before .before .before .before .before .args .masks)) (part (now (c .before .before .before .before .before .before .before .before .before .before .before .before .before .before .before .before .args .permits)) (now (c .before .before .before .before .before .before .before .before .before .before .before .before .before .before .before .before .args .places))) (c .before .before .before .before .before .before .before .before .before .before .before .before .before .before .before .before .args .level) (now (c .before .before .before .before .before .before .before .before .before .before .before .before .before .before .before .before .args .q)) (now (c .before .before .before .before .before .before .before .before .before .before .before .before .before .before .before .before .args .z)) (c .before .before .before .before .before .before .before .before .before .if1 .left) _ _ _ _ (sym (c .before .before .before .before .before .before .before .before .read .ensures) ∙ c .before .before .before .before .before .before .f .given .1)) (c .before .before .before .before .before .before .before .before .before .before .before .before .before .before .before .before .args .at) (c .before .before .before .before .before .before .before .before .before .before .before .before .before .before .before .before .args .next) (now (c .before .before .before .before .before .before .before .before .before .before .before .before .before .before .before .before .args .out)) _ _ (c .before .before .before .put-record .ensures) (c .before .before .before .before .before .before .before .before .before .before .before .before .before .before .before .before .pre .1))
+term-under-requires t c κs =
+    let c₃ = c .before .before .before in let put-record = c₃ .put-record in
+    let c₆ = c₃ .before .before .before in let f = c₆ .f in
+    let c₈ = c₆ .before .before in let read = c₈ .read in
+    let c₉ = c₈ .before in let if1 = c₉ .if1 in
+    let c₁₆ = c₉ .before .before .before .before .before .before .before in let args = c₁₆ .args in let pre = c₁₆ .pre in
+    (omega (arith, pre .0, if1 .left), body-room _ _ _ _ _ (aggregate-shape (now (args .masks)) (part (now (args .permits)) (now (args .places))) (args .level) (now (args .q)) (now (args .z)) (if1 .left) _ _ _ _ (sym (read .ensures) ∙ f .given .1)) (args .at) (args .next) (now (args .out)) _ _ (put-record .ensures) (pre .1))
 
 term-leaf-requires-4 : (t : ℕ) → term-lts.Need-leaf-requires-4 (term-claims t) (term-at t) term.Post
-term-leaf-requires-4 t c κs = leaf-room _ _ _ (rest-leafT (now (c .before .before .before .before .before .before .before .before .before .before .args .masks)) (part (now (c .before .before .before .before .before .before .before .before .before .before .args .permits)) (now (c .before .before .before .before .before .before .before .before .before .before .args .places))) (c .before .before .before .before .before .before .before .before .before .before .args .level) (now (c .before .before .before .before .before .before .before .before .before .before .args .q)) (now (c .before .before .before .before .before .before .before .before .before .before .args .z)) (c .before .before .before .if1 .left) (c .before .before .read .result) (c .before .before .read .ensures) (c .before .match .keys4)) (c .before .before .before .before .before .before .before .before .before .before .args .at) (c .before .before .before .before .before .before .before .before .before .before .args .next) (c .before .before .before .before .before .before .before .before .before .before .pre .1)
+term-leaf-requires-4 t c κs =
+    let c₂ = c .before .before in let read = c₂ .read in
+    let c₃ = c₂ .before in let if1 = c₃ .if1 in
+    let c₁₀ = c₃ .before .before .before .before .before .before .before in let args = c₁₀ .args in let pre = c₁₀ .pre in
+    leaf-room _ _ _ (rest-leafT (now (args .masks)) (part (now (args .permits)) (now (args .places))) (args .level) (now (args .q)) (now (args .z)) (if1 .left) (read .result) (read .ensures) (c .before .match .keys4)) (args .at) (args .next) (pre .1)
 
 term-same-length-2 : (t : ℕ) → term-lts.Need-same-length-2 (term-claims t) (term-at t) term.Post
 term-same-length-2 t c = search needs
 
 term-returns-2 : (t : ℕ) → term-lts.Need-returns-2 (term-claims t) (term-at t) term.Post
-term-returns-2 t c = leaf-did _ _ _ (constant-leaf (now (c .before .before .before .before .before .before .before .before .before .before .before .before .before .before .before .args .masks)) (part (now (c .before .before .before .before .before .before .before .before .before .before .before .before .before .before .before .args .permits)) (now (c .before .before .before .before .before .before .before .before .before .before .before .before .before .before .before .args .places))) (c .before .before .before .before .before .before .before .before .before .before .before .before .before .before .before .args .level) (now (c .before .before .before .before .before .before .before .before .before .before .before .before .before .before .before .args .q)) (now (c .before .before .before .before .before .before .before .before .before .before .before .before .before .before .before .args .z)) (c .before .before .before .before .before .before .before .before .if1 .left) _ _ _ _ (sym (c .before .before .before .before .before .before .before .read .ensures) ∙ c .before .before .before .before .before .a .given .1)) (c .before .before .before .before .before .before .before .before .before .before .before .before .before .before .before .args .at) (c .before .before .before .before .before .before .before .before .before .before .before .before .before .before .before .args .next) (now (c .before .before .before .before .before .before .before .before .before .before .before .before .before .before .before .args .out)) _ _ _ (c .before .before .leaf2 .ensures)
+term-returns-2 t c =
+    let c₅ = c .before .before .before .before .before in let a = c₅ .a in
+    let c₇ = c₅ .before .before in let read = c₇ .read in
+    let c₈ = c₇ .before in let if1 = c₈ .if1 in
+    let c₁₅ = c₈ .before .before .before .before .before .before .before in let args = c₁₅ .args in
+    leaf-did _ _ _ (constant-leaf (now (args .masks)) (part (now (args .permits)) (now (args .places))) (args .level) (now (args .q)) (now (args .z)) (if1 .left) _ _ _ _ (sym (read .ensures) ∙ a .given .1)) (args .at) (args .next) (now (args .out)) _ _ _ (c .before .before .leaf2 .ensures)
 
 term-same-length-3 : (t : ℕ) → term-lts.Need-same-length-3 (term-claims t) (term-at t) term.Post
 term-same-length-3 t c = search needs
 
 term-returns-3 : (t : ℕ) → term-lts.Need-returns-3 (term-claims t) (term-at t) term.Post
-term-returns-3 t c = leaf-did _ _ _ (attribute-leaf (now (c .before .before .before .before .before .before .before .before .before .before .before .before .before .before .before .args .masks)) (part (now (c .before .before .before .before .before .before .before .before .before .before .before .before .before .before .before .args .permits)) (now (c .before .before .before .before .before .before .before .before .before .before .before .before .before .before .before .args .places))) (c .before .before .before .before .before .before .before .before .before .before .before .before .before .before .before .args .level) (now (c .before .before .before .before .before .before .before .before .before .before .before .before .before .before .before .args .q)) (now (c .before .before .before .before .before .before .before .before .before .before .before .before .before .before .before .args .z)) (c .before .before .before .before .before .before .before .before .if1 .left) _ _ (sym (c .before .before .before .before .before .before .before .read .ensures) ∙ c .before .before .before .before .before .v .given .1)) (c .before .before .before .before .before .before .before .before .before .before .before .before .before .before .before .args .at) (c .before .before .before .before .before .before .before .before .before .before .before .before .before .before .before .args .next) (now (c .before .before .before .before .before .before .before .before .before .before .before .before .before .before .before .args .out)) _ _ _ (c .before .before .leaf3 .ensures)
+term-returns-3 t c =
+    let c₅ = c .before .before .before .before .before in let v = c₅ .v in
+    let c₇ = c₅ .before .before in let read = c₇ .read in
+    let c₈ = c₇ .before in let if1 = c₈ .if1 in
+    let c₁₅ = c₈ .before .before .before .before .before .before .before in let args = c₁₅ .args in
+    leaf-did _ _ _ (attribute-leaf (now (args .masks)) (part (now (args .permits)) (now (args .places))) (args .level) (now (args .q)) (now (args .z)) (if1 .left) _ _ (sym (read .ensures) ∙ v .given .1)) (args .at) (args .next) (now (args .out)) _ _ _ (c .before .before .leaf3 .ensures)
 
 term-same-length-4 : (t : ℕ) → term-lts.Need-same-length-4 (term-claims t) (term-at t) term.Post
 term-same-length-4 t c = search needs
 
 term-returns-4 : (t : ℕ) → term-lts.Need-returns-4 (term-claims t) (term-at t) term.Post
-term-returns-4 t c = body-did _ _ _ _ _ (aggregate-shape (now (c .before .before .before .before .before .before .before .before .before .before .before .before .before .before .before .before .before .before .before .args .masks)) (part (now (c .before .before .before .before .before .before .before .before .before .before .before .before .before .before .before .before .before .before .before .args .permits)) (now (c .before .before .before .before .before .before .before .before .before .before .before .before .before .before .before .before .before .before .before .args .places))) (c .before .before .before .before .before .before .before .before .before .before .before .before .before .before .before .before .before .before .before .args .level) (now (c .before .before .before .before .before .before .before .before .before .before .before .before .before .before .before .before .before .before .before .args .q)) (now (c .before .before .before .before .before .before .before .before .before .before .before .before .before .before .before .before .before .before .before .args .z)) (c .before .before .before .before .before .before .before .before .before .before .before .before .if1 .left) _ _ _ _ (sym (c .before .before .before .before .before .before .before .before .before .before .before .read .ensures) ∙ c .before .before .before .before .before .before .before .before .before .f .given .1)) (c .before .before .before .before .before .before .before .before .before .before .before .before .before .before .before .before .before .before .before .args .at) (c .before .before .before .before .before .before .before .before .before .before .before .before .before .before .before .before .before .before .before .args .next) (now (c .before .before .before .before .before .before .before .before .before .before .before .before .before .before .before .before .before .before .before .args .out)) _ _ (c .before .before .before .before .before .before .put-record .ensures) _ _ _ (c .before .before .under .ensures)
+term-returns-4 t c =
+    let c₆ = c .before .before .before .before .before .before in let put-record = c₆ .put-record in
+    let c₉ = c₆ .before .before .before in let f = c₉ .f in
+    let c₁₁ = c₉ .before .before in let read = c₁₁ .read in
+    let c₁₂ = c₁₁ .before in let if1 = c₁₂ .if1 in
+    let c₁₉ = c₁₂ .before .before .before .before .before .before .before in let args = c₁₉ .args in
+    body-did _ _ _ _ _ (aggregate-shape (now (args .masks)) (part (now (args .permits)) (now (args .places))) (args .level) (now (args .q)) (now (args .z)) (if1 .left) _ _ _ _ (sym (read .ensures) ∙ f .given .1)) (args .at) (args .next) (now (args .out)) _ _ (put-record .ensures) _ _ _ (c .before .before .under .ensures)
 
 term-same-length-5 : (t : ℕ) → term-lts.Need-same-length-5 (term-claims t) (term-at t) term.Post
 term-same-length-5 t c = search needs
 
 term-returns-5 : (t : ℕ) → term-lts.Need-returns-5 (term-claims t) (term-at t) term.Post
-term-returns-5 t c = leaf-did _ _ _ (rest-leafT (now (c .before .before .before .before .before .before .before .before .before .before .before .before .before .args .masks)) (part (now (c .before .before .before .before .before .before .before .before .before .before .before .before .before .args .permits)) (now (c .before .before .before .before .before .before .before .before .before .before .before .before .before .args .places))) (c .before .before .before .before .before .before .before .before .before .before .before .before .before .args .level) (now (c .before .before .before .before .before .before .before .before .before .before .before .before .before .args .q)) (now (c .before .before .before .before .before .before .before .before .before .before .before .before .before .args .z)) (c .before .before .before .before .before .before .if1 .left) (c .before .before .before .before .before .read .result) (c .before .before .before .before .before .read .ensures) (c .before .before .before .before .match .keys4)) (c .before .before .before .before .before .before .before .before .before .before .before .before .before .args .at) (c .before .before .before .before .before .before .before .before .before .before .before .before .before .args .next) (now (c .before .before .before .before .before .before .before .before .before .before .before .before .before .args .out)) _ _ _ (c .before .before .leaf4 .ensures)
+term-returns-5 t c =
+    let c₄ = c .before .before .before .before in let match = c₄ .match in
+    let c₅ = c₄ .before in let read = c₅ .read in
+    let c₆ = c₅ .before in let if1 = c₆ .if1 in
+    let c₁₃ = c₆ .before .before .before .before .before .before .before in let args = c₁₃ .args in
+    leaf-did _ _ _ (rest-leafT (now (args .masks)) (part (now (args .permits)) (now (args .places))) (args .level) (now (args .q)) (now (args .z)) (if1 .left) (read .result) (read .ensures) (match .keys4)) (args .at) (args .next) (now (args .out)) _ _ _ (c .before .before .leaf4 .ensures)
 
 terms-first-child-requires : (t : ℕ) → terms-lts.Need-first-child-requires (terms-claims t) (terms-at t) terms.Post
 terms-first-child-requires t c κs = search needs
@@ -340,7 +519,11 @@ terms-tail-sizes-requires : (t : ℕ) → terms-lts.Need-tail-sizes-requires (te
 terms-tail-sizes-requires t c κs = search needs
 
 terms-term-requires : (t : ℕ) → terms-lts.Need-term-requires (terms-claims t) (terms-at t) terms.Post
-terms-term-requires t c κs = (omega (arith, c .before .before .before .before .before .before .before .before .before .before .before .pre .0), both-first (λ x y i. termBytes (now (c .before .before .before .before .before .before .before .before .before .before .before .args .masks)) (part (now (c .before .before .before .before .before .before .before .before .before .before .before .args .permits)) (now (c .before .before .before .before .before .before .before .before .before .before .before .args .places))) (c .before .before .before .before .before .before .before .before .before .before .before .args .level) x y i) (λ x y. termNew (now (c .before .before .before .before .before .before .before .before .before .before .before .args .masks)) (part (now (c .before .before .before .before .before .before .before .before .before .before .before .args .permits)) (now (c .before .before .before .before .before .before .before .before .before .before .before .args .places))) (c .before .before .before .before .before .before .before .before .before .before .before .args .level) x y) (now (c .before .before .before .before .before .before .before .before .before .before .before .args .q)) (now (c .before .before .before .before .before .before .before .before .before .before .before .args .z)) (c .before .before .before .before .before .before .before .before .before .before .before .args .at) (c .before .before .before .before .before .before .before .before .before .before .before .args .next) _ (c .before .before .before .before .first-child .ensures .0) _ _ (c .before .before .tail .ensures) (c .before .tail-sizes .ensures) (c .before .before .before .before .before .before .before .before .before .before .before .pre .1))
+terms-term-requires t c κs =
+    let c₄ = c .before .before .before .before in let first-child = c₄ .first-child in
+    let c₁₁ = c₄ .before .before .before .before .before .before .before in let args = c₁₁ .args in let pre = c₁₁ .pre in
+    let masks = now (args .masks) in let permits = now (args .permits) in let places = now (args .places) in let level = args .level in
+    (omega (arith, pre .0), both-first (λ x y i. termBytes masks (part permits places) level x y i) (λ x y. termNew masks (part permits places) level x y) (now (args .q)) (now (args .z)) (args .at) (args .next) _ (first-child .ensures .0) _ _ (c .before .before .tail .ensures) (c .before .tail-sizes .ensures) (pre .1))
 
 terms-tail-requires-2 : (t : ℕ) → terms-lts.Need-tail-requires-2 (terms-claims t) (terms-at t) terms.Post
 terms-tail-requires-2 t c κs = search needs
@@ -349,13 +532,31 @@ terms-tail-sizes-requires-2 : (t : ℕ) → terms-lts.Need-tail-sizes-requires-2
 terms-tail-sizes-requires-2 t c κs = search needs
 
 terms-term-requires-2 : (t : ℕ) → terms-lts.Need-term-requires-2 (terms-claims t) (terms-at t) terms.Post
-terms-term-requires-2 t c κs = (omega (arith, c .before .before .before .before .before .before .before .before .before .before .before .before .before .before .before .before .before .pre .0), both-second (λ x y i. termBytes (now (c .before .before .before .before .before .before .before .before .before .before .before .before .before .before .before .before .before .args .masks)) (part (now (c .before .before .before .before .before .before .before .before .before .before .before .before .before .before .before .before .before .args .permits)) (now (c .before .before .before .before .before .before .before .before .before .before .before .before .before .before .before .before .before .args .places))) (c .before .before .before .before .before .before .before .before .before .before .before .before .before .before .before .before .before .args .level) x y i) (λ x y. termNew (now (c .before .before .before .before .before .before .before .before .before .before .before .before .before .before .before .before .before .args .masks)) (part (now (c .before .before .before .before .before .before .before .before .before .before .before .before .before .before .before .before .before .args .permits)) (now (c .before .before .before .before .before .before .before .before .before .before .before .before .before .before .before .before .before .args .places))) (c .before .before .before .before .before .before .before .before .before .before .before .before .before .before .before .before .before .args .level) x y) (now (c .before .before .before .before .before .before .before .before .before .before .before .before .before .before .before .before .before .args .q)) (now (c .before .before .before .before .before .before .before .before .before .before .before .before .before .before .before .before .before .args .z)) (c .before .before .before .before .before .before .before .before .before .before .before .before .before .before .before .before .before .args .at) (c .before .before .before .before .before .before .before .before .before .before .before .before .before .before .before .before .before .args .next) _ (c .before .before .before .before .before .before .before .before .before .before .first-child .ensures .0) _ _ (c .before .before .before .before .before .before .before .before .tail .ensures) (c .before .before .before .before .before .before .before .tail-sizes .ensures) (now (c .before .before .before .before .before .before .before .before .before .before .before .before .before .before .before .before .before .args .out)) _ _ _ (c .before .before .before .before .before .term .ensures) _ (c .before .before .before .before .before .before .before .before .before .second-child .ensures) _ _ (c .before .before .tail2 .ensures) (c .before .tail-sizes2 .ensures) (c .before .before .before .before .before .before .before .before .before .before .before .before .before .before .before .before .before .pre .1))
+terms-term-requires-2 t c κs =
+    let c₅ = c .before .before .before .before .before in let term = c₅ .term in
+    let c₇ = c₅ .before .before in let tail-sizes = c₇ .tail-sizes in
+    let c₈ = c₇ .before in let tail = c₈ .tail in
+    let c₉ = c₈ .before in let second-child = c₉ .second-child in
+    let c₁₀ = c₉ .before in let first-child = c₁₀ .first-child in
+    let c₁₇ = c₁₀ .before .before .before .before .before .before .before in let args = c₁₇ .args in let pre = c₁₇ .pre in
+    let masks = now (args .masks) in let permits = now (args .permits) in let places = now (args .places) in let level = args .level in
+    (omega (arith, pre .0), both-second (λ x y i. termBytes masks (part permits places) level x y i) (λ x y. termNew masks (part permits places) level x y) (now (args .q)) (now (args .z)) (args .at) (args .next) _ (first-child .ensures .0) _ _ (tail .ensures) (tail-sizes .ensures) (now (args .out)) _ _ _ (term .ensures) _ (second-child .ensures) _ _ (c .before .before .tail2 .ensures) (c .before .tail-sizes2 .ensures) (pre .1))
 
 terms-same-length : (t : ℕ) → terms-lts.Need-same-length (terms-claims t) (terms-at t) terms.Post
 terms-same-length t c = search needs
 
 terms-returns : (t : ℕ) → terms-lts.Need-returns (terms-claims t) (terms-at t) terms.Post
-terms-returns t c = both-did (λ x y i. termBytes (now (c .before .before .before .before .before .before .before .before .before .before .before .before .before .before .before .before .before .before .before .before .args .masks)) (part (now (c .before .before .before .before .before .before .before .before .before .before .before .before .before .before .before .before .before .before .before .before .args .permits)) (now (c .before .before .before .before .before .before .before .before .before .before .before .before .before .before .before .before .before .before .before .before .args .places))) (c .before .before .before .before .before .before .before .before .before .before .before .before .before .before .before .before .before .before .before .before .args .level) x y i) (λ x y. termNew (now (c .before .before .before .before .before .before .before .before .before .before .before .before .before .before .before .before .before .before .before .before .args .masks)) (part (now (c .before .before .before .before .before .before .before .before .before .before .before .before .before .before .before .before .before .before .before .before .args .permits)) (now (c .before .before .before .before .before .before .before .before .before .before .before .before .before .before .before .before .before .before .before .before .args .places))) (c .before .before .before .before .before .before .before .before .before .before .before .before .before .before .before .before .before .before .before .before .args .level) x y) (now (c .before .before .before .before .before .before .before .before .before .before .before .before .before .before .before .before .before .before .before .before .args .q)) (now (c .before .before .before .before .before .before .before .before .before .before .before .before .before .before .before .before .before .before .before .before .args .z)) (c .before .before .before .before .before .before .before .before .before .before .before .before .before .before .before .before .before .before .before .before .args .at) (c .before .before .before .before .before .before .before .before .before .before .before .before .before .before .before .before .before .before .before .before .args .next) _ (c .before .before .before .before .before .before .before .before .before .before .before .before .before .first-child .ensures .0) _ _ (c .before .before .before .before .before .before .before .before .before .before .before .tail .ensures) (c .before .before .before .before .before .before .before .before .before .before .tail-sizes .ensures) (now (c .before .before .before .before .before .before .before .before .before .before .before .before .before .before .before .before .before .before .before .before .args .out)) _ _ _ (c .before .before .before .before .before .before .before .before .term .ensures) _ (c .before .before .before .before .before .before .before .before .before .before .before .before .second-child .ensures) _ _ (c .before .before .before .before .before .tail2 .ensures) (c .before .before .before .before .tail-sizes2 .ensures) _ _ _ (c .before .before .term2 .ensures)
+terms-returns t c =
+    let c₄ = c .before .before .before .before in let tail-sizes2 = c₄ .tail-sizes2 in
+    let c₅ = c₄ .before in let tail2 = c₅ .tail2 in
+    let c₈ = c₅ .before .before .before in let term = c₈ .term in
+    let c₁₀ = c₈ .before .before in let tail-sizes = c₁₀ .tail-sizes in
+    let c₁₁ = c₁₀ .before in let tail = c₁₁ .tail in
+    let c₁₂ = c₁₁ .before in let second-child = c₁₂ .second-child in
+    let c₁₃ = c₁₂ .before in let first-child = c₁₃ .first-child in
+    let c₂₀ = c₁₃ .before .before .before .before .before .before .before in let args = c₂₀ .args in
+    let masks = now (args .masks) in let permits = now (args .permits) in let places = now (args .places) in let level = args .level in
+    both-did (λ x y i. termBytes masks (part permits places) level x y i) (λ x y. termNew masks (part permits places) level x y) (now (args .q)) (now (args .z)) (args .at) (args .next) _ (first-child .ensures .0) _ _ (tail .ensures) (tail-sizes .ensures) (now (args .out)) _ _ _ (term .ensures) _ (second-child .ensures) _ _ (tail2 .ensures) (tail-sizes2 .ensures) _ _ _ (c .before .before .term2 .ensures)
 
 under-mask-requires : (t : ℕ) → under-lts.Need-mask-requires (under-claims t) (under-at t) under.Post
 under-mask-requires t c κs = search needs
@@ -364,7 +565,9 @@ under-first-child-requires : (t : ℕ) → under-lts.Need-first-child-requires (
 under-first-child-requires t c κs = search needs
 
 under-open-guard-requires : (t : ℕ) → under-lts.Need-open-guard-requires (under-claims t) (under-at t) under.Post
-under-open-guard-requires t c κs = under-open (now (c .before .before .before .before .before .before .before .before .before .args .masks)) (part (now (c .before .before .before .before .before .before .before .before .before .args .permits)) (now (c .before .before .before .before .before .before .before .before .before .args .places))) (c .before .before .before .before .before .before .before .before .before .args .level) (now (c .before .before .before .before .before .before .before .before .before .args .q)) (now (c .before .before .before .before .before .before .before .before .before .args .z)) (c .before .before .before .before .before .before .before .before .before .args .at) (c .before .before .before .before .before .before .before .before .before .args .next) (c .before .before .before .before .before .before .before .before .before .args .variable) _ (c .before .before .mask .ensures) (c .before .before .before .before .before .before .before .before .before .pre .1)
+under-open-guard-requires t c κs =
+    let c₉ = c .before .before .before .before .before .before .before .before .before in let args = c₉ .args in let pre = c₉ .pre in
+    under-open (now (args .masks)) (part (now (args .permits)) (now (args .places))) (args .level) (now (args .q)) (now (args .z)) (args .at) (args .next) (args .variable) _ (c .before .before .mask .ensures) (pre .1)
 
 under-tail-requires : (t : ℕ) → under-lts.Need-tail-requires (under-claims t) (under-at t) under.Post
 under-tail-requires t c κs = search needs
@@ -373,16 +576,37 @@ under-tail-sizes-requires : (t : ℕ) → under-lts.Need-tail-sizes-requires (un
 under-tail-sizes-requires t c κs = search needs
 
 under-condition-requires : (t : ℕ) → under-lts.Need-condition-requires (under-claims t) (under-at t) under.Post
-under-condition-requires t c κs = (omega (arith, c .before .before .before .before .before .before .before .before .before .before .before .before .before .before .before .pre .0), under-room (now (c .before .before .before .before .before .before .before .before .before .before .before .before .before .before .before .args .masks)) (part (now (c .before .before .before .before .before .before .before .before .before .before .before .before .before .before .before .args .permits)) (now (c .before .before .before .before .before .before .before .before .before .before .before .before .before .before .before .args .places))) (c .before .before .before .before .before .before .before .before .before .before .before .before .before .before .before .args .level) (now (c .before .before .before .before .before .before .before .before .before .before .before .before .before .before .before .args .q)) (now (c .before .before .before .before .before .before .before .before .before .before .before .before .before .before .before .args .z)) (c .before .before .before .before .before .before .before .before .before .before .before .before .before .before .before .args .at) (c .before .before .before .before .before .before .before .before .before .before .before .before .before .before .before .args .next) (c .before .before .before .before .before .before .before .before .before .before .before .before .before .before .before .args .variable) _ (c .before .before .before .before .before .before .before .before .mask .ensures) (now (c .before .before .before .before .before .before .before .before .before .before .before .before .before .before .before .args .out)) _ _ (c .before .before .before .before .before .open-guard .ensures) _ (c .before .before .before .before .before .before .before .first-child .ensures .0) _ _ (c .before .before .tail .ensures) (c .before .tail-sizes .ensures) (c .before .before .before .before .before .before .before .before .before .before .before .before .before .before .before .pre .1))
+under-condition-requires t c κs =
+    let c₅ = c .before .before .before .before .before in let open-guard = c₅ .open-guard in
+    let c₇ = c₅ .before .before in let first-child = c₇ .first-child in
+    let c₈ = c₇ .before in let mask = c₈ .mask in
+    let c₁₅ = c₈ .before .before .before .before .before .before .before in let args = c₁₅ .args in let pre = c₁₅ .pre in
+    (omega (arith, pre .0), under-room (now (args .masks)) (part (now (args .permits)) (now (args .places))) (args .level) (now (args .q)) (now (args .z)) (args .at) (args .next) (args .variable) _ (mask .ensures) (now (args .out)) _ _ (open-guard .ensures) _ (first-child .ensures .0) _ _ (c .before .before .tail .ensures) (c .before .tail-sizes .ensures) (pre .1))
 
 under-write-guard-requires : (t : ℕ) → under-lts.Need-write-guard-requires (under-claims t) (under-at t) under.Post
-under-write-guard-requires t c κs = under-guard (now (c .before .before .before .before .before .before .before .before .before .before .before .before .before .before .before .before .before .before .before .args .masks)) (part (now (c .before .before .before .before .before .before .before .before .before .before .before .before .before .before .before .before .before .before .before .args .permits)) (now (c .before .before .before .before .before .before .before .before .before .before .before .before .before .before .before .before .before .before .before .args .places))) (c .before .before .before .before .before .before .before .before .before .before .before .before .before .before .before .before .before .before .before .args .level) (now (c .before .before .before .before .before .before .before .before .before .before .before .before .before .before .before .before .before .before .before .args .q)) (now (c .before .before .before .before .before .before .before .before .before .before .before .before .before .before .before .before .before .before .before .args .z)) (c .before .before .before .before .before .before .before .before .before .before .before .before .before .before .before .before .before .before .before .args .at) (c .before .before .before .before .before .before .before .before .before .before .before .before .before .before .before .before .before .before .before .args .next) (c .before .before .before .before .before .before .before .before .before .before .before .before .before .before .before .before .before .before .before .args .variable) _ (c .before .before .before .before .before .before .before .before .before .before .before .before .mask .ensures) (now (c .before .before .before .before .before .before .before .before .before .before .before .before .before .before .before .before .before .before .before .args .out)) _ _ (c .before .before .before .before .before .before .before .before .before .open-guard .ensures) _ (c .before .before .before .before .before .before .before .before .before .before .before .first-child .ensures .0) _ _ (c .before .before .before .before .before .before .tail .ensures) (c .before .before .before .before .before .tail-sizes .ensures) _ _ _ (c .before .before .before .condition .ensures) (c .before .before .before .before .before .before .before .before .before .before .before .before .before .before .before .before .before .before .before .pre .1)
+under-write-guard-requires t c κs =
+    let c₃ = c .before .before .before in let condition = c₃ .condition in
+    let c₅ = c₃ .before .before in let tail-sizes = c₅ .tail-sizes in
+    let c₆ = c₅ .before in let tail = c₆ .tail in
+    let c₉ = c₆ .before .before .before in let open-guard = c₉ .open-guard in
+    let c₁₁ = c₉ .before .before in let first-child = c₁₁ .first-child in
+    let c₁₂ = c₁₁ .before in let mask = c₁₂ .mask in
+    let c₁₉ = c₁₂ .before .before .before .before .before .before .before in let args = c₁₉ .args in let pre = c₁₉ .pre in
+    under-guard (now (args .masks)) (part (now (args .permits)) (now (args .places))) (args .level) (now (args .q)) (now (args .z)) (args .at) (args .next) (args .variable) _ (mask .ensures) (now (args .out)) _ _ (open-guard .ensures) _ (first-child .ensures .0) _ _ (tail .ensures) (tail-sizes .ensures) _ _ _ (condition .ensures) (pre .1)
 
 under-same-length : (t : ℕ) → under-lts.Need-same-length (under-claims t) (under-at t) under.Post
 under-same-length t c = search needs
 
 under-returns : (t : ℕ) → under-lts.Need-returns (under-claims t) (under-at t) under.Post
-under-returns t c = under-did (now (c .before .before .before .before .before .before .before .before .before .before .before .before .before .before .before .before .before .before .before .before .before .before .args .masks)) (part (now (c .before .before .before .before .before .before .before .before .before .before .before .before .before .before .before .before .before .before .before .before .before .before .args .permits)) (now (c .before .before .before .before .before .before .before .before .before .before .before .before .before .before .before .before .before .before .before .before .before .before .args .places))) (c .before .before .before .before .before .before .before .before .before .before .before .before .before .before .before .before .before .before .before .before .before .before .args .level) (now (c .before .before .before .before .before .before .before .before .before .before .before .before .before .before .before .before .before .before .before .before .before .before .args .q)) (now (c .before .before .before .before .before .before .before .before .before .before .before .before .before .before .before .before .before .before .before .before .before .before .args .z)) (c .before .before .before .before .before .before .before .before .before .before .before .before .before .before .before .before .before .before .before .before .before .before .args .at) (c .before .before .before .before .before .before .before .before .before .before .before .before .before .before .before .before .before .before .before .before .before .before .args .next) (c .before .before .before .before .before .before .before .before .before .before .before .before .before .before .before .before .before .before .before .before .before .before .args .variable) _ (c .before .before .before .before .before .before .before .before .before .before .before .before .before .before .before .mask .ensures) (now (c .before .before .before .before .before .before .before .before .before .before .before .before .before .before .before .before .before .before .before .before .before .before .args .out)) _ _ (c .before .before .before .before .before .before .before .before .before .before .before .before .open-guard .ensures) _ (c .before .before .before .before .before .before .before .before .before .before .before .before .before .before .first-child .ensures .0) _ _ (c .before .before .before .before .before .before .before .before .before .tail .ensures) (c .before .before .before .before .before .before .before .before .tail-sizes .ensures) _ _ _ (c .before .before .before .before .before .before .condition .ensures) _ _ _ (c .before .before .write-guard .ensures)
+under-returns t c =
+    let c₆ = c .before .before .before .before .before .before in let condition = c₆ .condition in
+    let c₈ = c₆ .before .before in let tail-sizes = c₈ .tail-sizes in
+    let c₉ = c₈ .before in let tail = c₉ .tail in
+    let c₁₂ = c₉ .before .before .before in let open-guard = c₁₂ .open-guard in
+    let c₁₄ = c₁₂ .before .before in let first-child = c₁₄ .first-child in
+    let c₁₅ = c₁₄ .before in let mask = c₁₅ .mask in
+    let c₂₂ = c₁₅ .before .before .before .before .before .before .before in let args = c₂₂ .args in
+    under-did (now (args .masks)) (part (now (args .permits)) (now (args .places))) (args .level) (now (args .q)) (now (args .z)) (args .at) (args .next) (args .variable) _ (mask .ensures) (now (args .out)) _ _ (open-guard .ensures) _ (first-child .ensures .0) _ _ (tail .ensures) (tail-sizes .ensures) _ _ _ (condition .ensures) _ _ _ (c .before .before .write-guard .ensures)
 
 pub +condition+conditions+term+terms+under-spec : {M : Type 1} → statement M
 +condition+conditions+term+terms+under-spec =

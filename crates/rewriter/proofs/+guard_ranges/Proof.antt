@@ -37,7 +37,9 @@ abbrev guard-ranges-claims : ℕ → guard-ranges-lts.Claims
 guard-ranges-claims t = (byte-reads.Asked, byte-reads.Learnt, mask-reads.Asked, mask-reads.Learnt, write-guard-reads.Asked, write-guard-reads.Learnt, record-length-reads.Asked, record-length-reads.Learnt, tail-reads.Asked, tail-reads.Learnt, guard-ranges-below t, guard-ranges.Post)
 
 guard-ranges-returns : (t : ℕ) → guard-ranges-lts.Need-returns (guard-ranges-claims t) (guard-ranges-at t) guard-ranges.Post
-guard-ranges-returns t c = no-guards (now (c .before .before .before .before .before .before .args .masks)) (part (now (c .before .before .before .before .before .before .args .permits)) (now (c .before .before .before .before .before .before .args .places))) (c .before .before .before .before .before .before .args .left) (now (c .before .before .before .before .before .before .args .q)) (c .if1 .taken) (now (c .before .before .before .before .before .before .args .out)) (c .before .before .before .before .before .before .args .at) (c .before .before .before .before .before .before .args .next)
+guard-ranges-returns t c =
+    let c₆ = c .before .before .before .before .before .before in let args = c₆ .args in
+    no-guards (now (args .masks)) (part (now (args .permits)) (now (args .places))) (args .left) (now (args .q)) (c .if1 .taken) (now (args .out)) (args .at) (args .next)
 
 guard-ranges-byte-requires : (t : ℕ) → guard-ranges-lts.Need-byte-requires (guard-ranges-claims t) (guard-ranges-at t) guard-ranges.Post
 guard-ranges-byte-requires t c κs = search needs
@@ -46,7 +48,10 @@ guard-ranges-mask-requires : (t : ℕ) → guard-ranges-lts.Need-mask-requires (
 guard-ranges-mask-requires t c κs = search needs
 
 guard-ranges-write-guard-requires : (t : ℕ) → guard-ranges-lts.Need-write-guard-requires (guard-ranges-claims t) (guard-ranges-at t) guard-ranges.Post
-guard-ranges-write-guard-requires t c κs = pair-first _ _ _ _ _ _ _ (guard-first (c .before .before .before .before .before .before .before .before .before .args .left) (now (c .before .before .before .before .before .before .before .before .before .args .q)) (c .before .before .before .if1 .left) _ refl _ refl _ (c .before .before .byte .ensures) (now (c .before .before .before .before .before .before .before .before .before .args .masks)) (part (now (c .before .before .before .before .before .before .before .before .before .args .permits)) (now (c .before .before .before .before .before .before .before .before .before .args .places))) _ (c .before .before .before .before .before .before .before .before .before .args .next) (c .mask .ensures)) (c .before .before .before .before .before .before .before .before .before .args .at) (c .before .before .before .before .before .before .before .before .before .pre .1)
+guard-ranges-write-guard-requires t c κs =
+    let c₃ = c .before .before .before in let if1 = c₃ .if1 in
+    let c₉ = c₃ .before .before .before .before .before .before in let args = c₉ .args in let pre = c₉ .pre in
+    pair-first _ _ _ _ _ _ _ (guard-first (args .left) (now (args .q)) (if1 .left) _ refl _ refl _ (c .before .before .byte .ensures) (now (args .masks)) (part (now (args .permits)) (now (args .places))) _ (args .next) (c .mask .ensures)) (args .at) (pre .1)
 
 guard-ranges-record-length-requires : (t : ℕ) → guard-ranges-lts.Need-record-length-requires (guard-ranges-claims t) (guard-ranges-at t) guard-ranges.Post
 guard-ranges-record-length-requires t c κs = search needs
@@ -58,13 +63,27 @@ guard-ranges-sub-guard-ranges : (t : ℕ) → guard-ranges-lts.Need-sub-guard-ra
 guard-ranges-sub-guard-ranges t c = search needs
 
 guard-ranges-guard-ranges-requires : (t : ℕ) → guard-ranges-lts.Need-guard-ranges-requires (guard-ranges-claims t) (guard-ranges-at t) guard-ranges.Post
-guard-ranges-guard-ranges-requires t c κs = (omega (arith, c .before .before .before .before .before .before .before .before .before .before .before .before .before .before .before .pre .0, c .before .before .before .before .before .before .before .before .before .if1 .left), pair-second _ _ _ _ _ _ _ (guard-first (c .before .before .before .before .before .before .before .before .before .before .before .before .before .before .before .args .left) (now (c .before .before .before .before .before .before .before .before .before .before .before .before .before .before .before .args .q)) (c .before .before .before .before .before .before .before .before .before .if1 .left) _ (c .before .before .record-length .ensures .0) _ (c .before .tail .ensures) _ (c .before .before .before .before .before .before .before .before .byte .ensures) (now (c .before .before .before .before .before .before .before .before .before .before .before .before .before .before .before .args .masks)) (part (now (c .before .before .before .before .before .before .before .before .before .before .before .before .before .before .before .args .permits)) (now (c .before .before .before .before .before .before .before .before .before .before .before .before .before .before .before .args .places))) _ (c .before .before .before .before .before .before .before .before .before .before .before .before .before .before .before .args .next) (c .before .before .before .before .before .before .mask .ensures)) (c .before .before .before .before .before .before .before .before .before .before .before .before .before .before .before .args .at) (now (c .before .before .before .before .before .before .before .before .before .before .before .before .before .before .before .args .out)) _ _ _ (c .before .before .before .before .before .write-guard .ensures) (c .before .before .before .before .before .before .before .before .before .before .before .before .before .before .before .pre .1))
+guard-ranges-guard-ranges-requires t c κs =
+    let c₅ = c .before .before .before .before .before in let write-guard = c₅ .write-guard in
+    let c₆ = c₅ .before in let mask = c₆ .mask in
+    let c₈ = c₆ .before .before in let byte = c₈ .byte in
+    let c₉ = c₈ .before in let if1 = c₉ .if1 in
+    let c₁₅ = c₉ .before .before .before .before .before .before in let args = c₁₅ .args in let pre = c₁₅ .pre in
+    (omega (arith, pre .0, if1 .left), pair-second _ _ _ _ _ _ _ (guard-first (args .left) (now (args .q)) (if1 .left) _ (c .before .before .record-length .ensures .0) _ (c .before .tail .ensures) _ (byte .ensures) (now (args .masks)) (part (now (args .permits)) (now (args .places))) _ (args .next) (mask .ensures)) (args .at) (now (args .out)) _ _ _ (write-guard .ensures) (pre .1))
 
 guard-ranges-same-length : (t : ℕ) → guard-ranges-lts.Need-same-length (guard-ranges-claims t) (guard-ranges-at t) guard-ranges.Post
 guard-ranges-same-length t c = search needs
 
 guard-ranges-returns-2 : (t : ℕ) → guard-ranges-lts.Need-returns-2 (guard-ranges-claims t) (guard-ranges-at t) guard-ranges.Post
-guard-ranges-returns-2 t c = pair-did _ _ _ _ _ _ _ (guard-first (c .before .before .before .before .before .before .before .before .before .before .before .before .before .before .before .before .before .before .args .left) (now (c .before .before .before .before .before .before .before .before .before .before .before .before .before .before .before .before .before .before .args .q)) (c .before .before .before .before .before .before .before .before .before .before .before .before .if1 .left) _ (c .before .before .before .before .before .record-length .ensures .0) _ (c .before .before .before .before .tail .ensures) _ (c .before .before .before .before .before .before .before .before .before .before .before .byte .ensures) (now (c .before .before .before .before .before .before .before .before .before .before .before .before .before .before .before .before .before .before .args .masks)) (part (now (c .before .before .before .before .before .before .before .before .before .before .before .before .before .before .before .before .before .before .args .permits)) (now (c .before .before .before .before .before .before .before .before .before .before .before .before .before .before .before .before .before .before .args .places))) _ (c .before .before .before .before .before .before .before .before .before .before .before .before .before .before .before .before .before .before .args .next) (c .before .before .before .before .before .before .before .before .before .mask .ensures)) (c .before .before .before .before .before .before .before .before .before .before .before .before .before .before .before .before .before .before .args .at) (now (c .before .before .before .before .before .before .before .before .before .before .before .before .before .before .before .before .before .before .args .out)) _ _ _ (c .before .before .before .before .before .before .before .before .write-guard .ensures) _ _ _ (c .before .before .guard-ranges .ensures)
+guard-ranges-returns-2 t c =
+    let c₄ = c .before .before .before .before in let tail = c₄ .tail in
+    let c₅ = c₄ .before in let record-length = c₅ .record-length in
+    let c₈ = c₅ .before .before .before in let write-guard = c₈ .write-guard in
+    let c₉ = c₈ .before in let mask = c₉ .mask in
+    let c₁₁ = c₉ .before .before in let byte = c₁₁ .byte in
+    let c₁₂ = c₁₁ .before in let if1 = c₁₂ .if1 in
+    let c₁₈ = c₁₂ .before .before .before .before .before .before in let args = c₁₈ .args in
+    pair-did _ _ _ _ _ _ _ (guard-first (args .left) (now (args .q)) (if1 .left) _ (record-length .ensures .0) _ (tail .ensures) _ (byte .ensures) (now (args .masks)) (part (now (args .permits)) (now (args .places))) _ (args .next) (mask .ensures)) (args .at) (now (args .out)) _ _ _ (write-guard .ensures) _ _ _ (c .before .before .guard-ranges .ensures)
 
 pub +guard-ranges-spec : {M : Type 1} → statement M
 +guard-ranges-spec = close μ-guard-ranges λ t. guard-ranges-lts.spec (guard-ranges-claims t)

@@ -35,7 +35,9 @@ abbrev open-ranges-claims : ℕ → open-ranges-lts.Claims
 open-ranges-claims t = (record-length-reads.Asked, record-length-reads.Learnt, tail-reads.Asked, tail-reads.Learnt, open-ranges-below t, open-ranges.Post, byte-reads.Asked, byte-reads.Learnt, mask-reads.Asked, mask-reads.Learnt, open-guard-reads.Asked, open-guard-reads.Learnt)
 
 open-ranges-returns : (t : ℕ) → open-ranges-lts.Need-returns (open-ranges-claims t) (open-ranges-at t) open-ranges.Post
-open-ranges-returns t c = wrote-nothing (now (c .before .before .before .before .args .out)) (c .before .before .before .before .args .at) _ (no-openings (now (c .before .before .before .before .args .masks)) (c .before .before .before .before .args .left) (now (c .before .before .before .before .args .q)) (c .if1 .taken))
+open-ranges-returns t c =
+    let c₄ = c .before .before .before .before in let args = c₄ .args in
+    wrote-nothing (now (args .out)) (args .at) _ (no-openings (now (args .masks)) (args .left) (now (args .q)) (c .if1 .taken))
 
 open-ranges-record-length-requires : (t : ℕ) → open-ranges-lts.Need-record-length-requires (open-ranges-claims t) (open-ranges-at t) open-ranges.Post
 open-ranges-record-length-requires t c κs = search needs
@@ -47,7 +49,10 @@ open-ranges-sub-open-ranges : (t : ℕ) → open-ranges-lts.Need-sub-open-ranges
 open-ranges-sub-open-ranges t c = search needs
 
 open-ranges-open-ranges-requires : (t : ℕ) → open-ranges-lts.Need-open-ranges-requires (open-ranges-claims t) (open-ranges-at t) open-ranges.Post
-open-ranges-open-ranges-requires t c κs = (omega (arith, c .before .before .before .before .before .before .before .pre .0, c .before .before .before .if1 .left), two-first _ _ _ (opening-last (c .before .before .before .before .before .before .before .args .left) (now (c .before .before .before .before .before .before .before .args .q)) (c .before .before .before .if1 .left) _ (c .before .before .record-length .ensures .0) _ (c .before .tail .ensures) _ refl (now (c .before .before .before .before .before .before .before .args .masks)) _ refl) (c .before .before .before .before .before .before .before .args .at) (c .before .before .before .before .before .before .before .pre .1))
+open-ranges-open-ranges-requires t c κs =
+    let c₃ = c .before .before .before in let if1 = c₃ .if1 in
+    let c₇ = c₃ .before .before .before .before in let args = c₇ .args in let pre = c₇ .pre in
+    (omega (arith, pre .0, if1 .left), two-first _ _ _ (opening-last (args .left) (now (args .q)) (if1 .left) _ (c .before .before .record-length .ensures .0) _ (c .before .tail .ensures) _ refl (now (args .masks)) _ refl) (args .at) (pre .1))
 
 open-ranges-byte-requires : (t : ℕ) → open-ranges-lts.Need-byte-requires (open-ranges-claims t) (open-ranges-at t) open-ranges.Post
 open-ranges-byte-requires t c κs = search needs
@@ -56,13 +61,27 @@ open-ranges-mask-requires : (t : ℕ) → open-ranges-lts.Need-mask-requires (op
 open-ranges-mask-requires t c κs = search needs
 
 open-ranges-open-guard-requires : (t : ℕ) → open-ranges-lts.Need-open-guard-requires (open-ranges-claims t) (open-ranges-at t) open-ranges.Post
-open-ranges-open-guard-requires t c κs = two-second _ _ _ (opening-last (c .before .before .before .before .before .before .before .before .before .before .before .before .before .args .left) (now (c .before .before .before .before .before .before .before .before .before .before .before .before .before .args .q)) (c .before .before .before .before .before .before .before .before .before .if1 .left) _ (c .before .before .before .before .before .before .before .before .record-length .ensures .0) _ (c .before .before .before .before .before .before .before .tail .ensures) _ (c .before .byte .ensures) (now (c .before .before .before .before .before .before .before .before .before .before .before .before .before .args .masks)) _ (c .mask .ensures)) (c .before .before .before .before .before .before .before .before .before .before .before .before .before .args .at) (c .before .before .before .before .before .before .before .before .before .before .before .before .before .pre .1) (now (c .before .before .before .before .before .before .before .before .before .before .before .before .before .args .out)) _ _ (c .before .before .before .before .before .open-ranges .ensures)
+open-ranges-open-guard-requires t c κs =
+    let c₅ = c .before .before .before .before .before in let open-ranges = c₅ .open-ranges in
+    let c₇ = c₅ .before .before in let tail = c₇ .tail in
+    let c₈ = c₇ .before in let record-length = c₈ .record-length in
+    let c₉ = c₈ .before in let if1 = c₉ .if1 in
+    let c₁₃ = c₉ .before .before .before .before in let args = c₁₃ .args in let pre = c₁₃ .pre in
+    two-second _ _ _ (opening-last (args .left) (now (args .q)) (if1 .left) _ (record-length .ensures .0) _ (tail .ensures) _ (c .before .byte .ensures) (now (args .masks)) _ (c .mask .ensures)) (args .at) (pre .1) (now (args .out)) _ _ (open-ranges .ensures)
 
 open-ranges-same-length : (t : ℕ) → open-ranges-lts.Need-same-length (open-ranges-claims t) (open-ranges-at t) open-ranges.Post
 open-ranges-same-length t c = search needs
 
 open-ranges-returns-2 : (t : ℕ) → open-ranges-lts.Need-returns-2 (open-ranges-claims t) (open-ranges-at t) open-ranges.Post
-open-ranges-returns-2 t c = two-wrote _ _ _ (opening-last (c .before .before .before .before .before .before .before .before .before .before .before .before .before .before .before .before .args .left) (now (c .before .before .before .before .before .before .before .before .before .before .before .before .before .before .before .before .args .q)) (c .before .before .before .before .before .before .before .before .before .before .before .before .if1 .left) _ (c .before .before .before .before .before .before .before .before .before .before .before .record-length .ensures .0) _ (c .before .before .before .before .before .before .before .before .before .before .tail .ensures) _ (c .before .before .before .before .byte .ensures) (now (c .before .before .before .before .before .before .before .before .before .before .before .before .before .before .before .before .args .masks)) _ (c .before .before .before .mask .ensures)) (now (c .before .before .before .before .before .before .before .before .before .before .before .before .before .before .before .before .args .out)) (c .before .before .before .before .before .before .before .before .before .before .before .before .before .before .before .before .args .at) _ _ (c .before .before .before .before .before .before .before .before .open-ranges .ensures) _ _ (c .before .before .open-guard .ensures)
+open-ranges-returns-2 t c =
+    let c₃ = c .before .before .before in let mask = c₃ .mask in
+    let c₄ = c₃ .before in let byte = c₄ .byte in
+    let c₈ = c₄ .before .before .before .before in let open-ranges = c₈ .open-ranges in
+    let c₁₀ = c₈ .before .before in let tail = c₁₀ .tail in
+    let c₁₁ = c₁₀ .before in let record-length = c₁₁ .record-length in
+    let c₁₂ = c₁₁ .before in let if1 = c₁₂ .if1 in
+    let c₁₆ = c₁₂ .before .before .before .before in let args = c₁₆ .args in
+    two-wrote _ _ _ (opening-last (args .left) (now (args .q)) (if1 .left) _ (record-length .ensures .0) _ (tail .ensures) _ (byte .ensures) (now (args .masks)) _ (mask .ensures)) (now (args .out)) (args .at) _ _ (open-ranges .ensures) _ _ (c .before .before .open-guard .ensures)
 
 pub +open-ranges-spec : {M : Type 1} → statement M
 +open-ranges-spec = close μ-open-ranges λ t. open-ranges-lts.spec (open-ranges-claims t)

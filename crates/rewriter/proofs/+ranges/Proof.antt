@@ -40,7 +40,10 @@ ranges-byte-requires-2 : (t : ℕ) → ranges-lts.Need-byte-requires-2 (ranges-c
 ranges-byte-requires-2 t c κs = search needs
 
 ranges-put-record-requires : (t : ℕ) → ranges-lts.Need-put-record-requires (ranges-claims t) (ranges-at t) ranges.Post
-ranges-put-record-requires t c κs = two-first _ _ _ (range-first (c .before .before .before .before .before .before .args .left) (now (c .before .before .before .before .before .before .args .q)) (c .before .before .before .if1 .left) _ refl _ refl _ (c .before .byte .ensures) _ (c .byte2 .ensures)) (c .before .before .before .before .before .before .args .at) (c .before .before .before .before .before .before .pre .1)
+ranges-put-record-requires t c κs =
+    let c₃ = c .before .before .before in let if1 = c₃ .if1 in
+    let c₆ = c₃ .before .before .before in let args = c₆ .args in let pre = c₆ .pre in
+    two-first _ _ _ (range-first (args .left) (now (args .q)) (if1 .left) _ refl _ refl _ (c .before .byte .ensures) _ (c .byte2 .ensures)) (args .at) (pre .1)
 
 ranges-record-length-requires : (t : ℕ) → ranges-lts.Need-record-length-requires (ranges-claims t) (ranges-at t) ranges.Post
 ranges-record-length-requires t c κs = search needs
@@ -52,13 +55,27 @@ ranges-sub-ranges : (t : ℕ) → ranges-lts.Need-sub-ranges (ranges-claims t) (
 ranges-sub-ranges t c = search needs
 
 ranges-ranges-requires : (t : ℕ) → ranges-lts.Need-ranges-requires (ranges-claims t) (ranges-at t) ranges.Post
-ranges-ranges-requires t c κs = (omega (arith, c .before .before .before .before .before .before .before .before .before .before .before .before .pre .0, c .before .before .before .before .before .before .before .before .before .if1 .left), two-second _ _ _ (range-first (c .before .before .before .before .before .before .before .before .before .before .before .before .args .left) (now (c .before .before .before .before .before .before .before .before .before .before .before .before .args .q)) (c .before .before .before .before .before .before .before .before .before .if1 .left) _ (c .before .before .record-length .ensures .0) _ (c .before .tail .ensures) _ (c .before .before .before .before .before .before .before .byte .ensures) _ (c .before .before .before .before .before .before .byte2 .ensures)) (c .before .before .before .before .before .before .before .before .before .before .before .before .args .at) (c .before .before .before .before .before .before .before .before .before .before .before .before .pre .1) (now (c .before .before .before .before .before .before .before .before .before .before .before .before .args .out)) _ _ (c .before .before .before .before .before .put-record .ensures))
+ranges-ranges-requires t c κs =
+    let c₅ = c .before .before .before .before .before in let put-record = c₅ .put-record in
+    let c₆ = c₅ .before in let byte2 = c₆ .byte2 in
+    let c₇ = c₆ .before in let byte = c₇ .byte in
+    let c₉ = c₇ .before .before in let if1 = c₉ .if1 in
+    let c₁₂ = c₉ .before .before .before in let args = c₁₂ .args in let pre = c₁₂ .pre in
+    (omega (arith, pre .0, if1 .left), two-second _ _ _ (range-first (args .left) (now (args .q)) (if1 .left) _ (c .before .before .record-length .ensures .0) _ (c .before .tail .ensures) _ (byte .ensures) _ (byte2 .ensures)) (args .at) (pre .1) (now (args .out)) _ _ (put-record .ensures))
 
 ranges-same-length : (t : ℕ) → ranges-lts.Need-same-length (ranges-claims t) (ranges-at t) ranges.Post
 ranges-same-length t c = search needs
 
 ranges-returns-2 : (t : ℕ) → ranges-lts.Need-returns-2 (ranges-claims t) (ranges-at t) ranges.Post
-ranges-returns-2 t c = two-wrote _ _ _ (range-first (c .before .before .before .before .before .before .before .before .before .before .before .before .before .before .before .args .left) (now (c .before .before .before .before .before .before .before .before .before .before .before .before .before .before .before .args .q)) (c .before .before .before .before .before .before .before .before .before .before .before .before .if1 .left) _ (c .before .before .before .before .before .record-length .ensures .0) _ (c .before .before .before .before .tail .ensures) _ (c .before .before .before .before .before .before .before .before .before .before .byte .ensures) _ (c .before .before .before .before .before .before .before .before .before .byte2 .ensures)) (now (c .before .before .before .before .before .before .before .before .before .before .before .before .before .before .before .args .out)) (c .before .before .before .before .before .before .before .before .before .before .before .before .before .before .before .args .at) _ _ (c .before .before .before .before .before .before .before .before .put-record .ensures) _ _ (c .before .before .ranges .ensures)
+ranges-returns-2 t c =
+    let c₄ = c .before .before .before .before in let tail = c₄ .tail in
+    let c₅ = c₄ .before in let record-length = c₅ .record-length in
+    let c₈ = c₅ .before .before .before in let put-record = c₈ .put-record in
+    let c₉ = c₈ .before in let byte2 = c₉ .byte2 in
+    let c₁₀ = c₉ .before in let byte = c₁₀ .byte in
+    let c₁₂ = c₁₀ .before .before in let if1 = c₁₂ .if1 in
+    let c₁₅ = c₁₂ .before .before .before in let args = c₁₅ .args in
+    two-wrote _ _ _ (range-first (args .left) (now (args .q)) (if1 .left) _ (record-length .ensures .0) _ (tail .ensures) _ (byte .ensures) _ (byte2 .ensures)) (now (args .out)) (args .at) _ _ (put-record .ensures) _ _ (c .before .before .ranges .ensures)
 
 pub +ranges-spec : {M : Type 1} → statement M
 +ranges-spec = close μ-ranges λ t. ranges-lts.spec (ranges-claims t)

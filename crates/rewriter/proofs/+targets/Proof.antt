@@ -30,10 +30,14 @@ abbrev targets-claims : ℕ → targets-lts.Claims
 targets-claims t = (term-reads.Asked, term-reads.Learnt, size-at-reads.Asked, size-at-reads.Learnt, tail-reads.Asked, tail-reads.Learnt, tail-sizes-reads.Asked, tail-sizes-reads.Learnt, targets-below t, targets.Post)
 
 targets-returns : (t : ℕ) → targets-lts.Need-returns (targets-claims t) (targets-at t) targets.Post
-targets-returns t c = no-targets (now (c .before .before .before .before .before .before .before .args .masks)) (part (now (c .before .before .before .before .before .before .before .args .permits)) (now (c .before .before .before .before .before .before .before .args .places))) (c .before .before .before .before .before .before .before .args .left) (c .before .before .before .before .before .before .before .args .level) (now (c .before .before .before .before .before .before .before .args .q)) (now (c .before .before .before .before .before .before .before .args .z)) (c .if1 .taken) (now (c .before .before .before .before .before .before .before .args .out)) (c .before .before .before .before .before .before .before .args .at) (c .before .before .before .before .before .before .before .args .next)
+targets-returns t c =
+    let c₇ = c .before .before .before .before .before .before .before in let args = c₇ .args in
+    no-targets (now (args .masks)) (part (now (args .permits)) (now (args .places))) (args .left) (args .level) (now (args .q)) (now (args .z)) (c .if1 .taken) (now (args .out)) (args .at) (args .next)
 
 targets-term-requires : (t : ℕ) → targets-lts.Need-term-requires (targets-claims t) (targets-at t) targets.Post
-targets-term-requires t c κs = pair-first _ _ _ _ _ _ _ (target-first (now (c .before .before .before .before .before .before .before .before .args .masks)) (part (now (c .before .before .before .before .before .before .before .before .args .permits)) (now (c .before .before .before .before .before .before .before .before .args .places))) (c .before .before .before .before .before .before .before .before .args .left) (c .before .before .before .before .before .before .before .before .args .level) (now (c .before .before .before .before .before .before .before .before .args .q)) (now (c .before .before .before .before .before .before .before .before .args .z)) (c .before .if1 .left) _ refl _ _ refl refl (c .before .before .before .before .before .before .before .before .args .next)) (c .before .before .before .before .before .before .before .before .args .at) (c .before .before .before .before .before .before .before .before .pre .1)
+targets-term-requires t c κs =
+    let c₈ = c .before .before .before .before .before .before .before .before in let args = c₈ .args in let pre = c₈ .pre in
+    pair-first _ _ _ _ _ _ _ (target-first (now (args .masks)) (part (now (args .permits)) (now (args .places))) (args .left) (args .level) (now (args .q)) (now (args .z)) (c .before .if1 .left) _ refl _ _ refl refl (args .next)) (args .at) (pre .1)
 
 targets-size-at-requires : (t : ℕ) → targets-lts.Need-size-at-requires (targets-claims t) (targets-at t) targets.Post
 targets-size-at-requires t c κs = search needs
@@ -48,13 +52,25 @@ targets-sub-targets : (t : ℕ) → targets-lts.Need-sub-targets (targets-claims
 targets-sub-targets t c = search needs
 
 targets-targets-requires : (t : ℕ) → targets-lts.Need-targets-requires (targets-claims t) (targets-at t) targets.Post
-targets-targets-requires t c κs = (omega (arith, c .before .before .before .before .before .before .before .before .before .before .before .before .before .before .before .pre .0, c .before .before .before .before .before .before .before .before .if1 .left), pair-second _ _ _ _ _ _ _ (target-first (now (c .before .before .before .before .before .before .before .before .before .before .before .before .before .before .before .args .masks)) (part (now (c .before .before .before .before .before .before .before .before .before .before .before .before .before .before .before .args .permits)) (now (c .before .before .before .before .before .before .before .before .before .before .before .before .before .before .before .args .places))) (c .before .before .before .before .before .before .before .before .before .before .before .before .before .before .before .args .left) (c .before .before .before .before .before .before .before .before .before .before .before .before .before .before .before .args .level) (now (c .before .before .before .before .before .before .before .before .before .before .before .before .before .before .before .args .q)) (now (c .before .before .before .before .before .before .before .before .before .before .before .before .before .before .before .args .z)) (c .before .before .before .before .before .before .before .before .if1 .left) _ (c .before .before .before .size-at .ensures .0) _ _ (c .before .before .tail .ensures) (c .before .tail-sizes .ensures) (c .before .before .before .before .before .before .before .before .before .before .before .before .before .before .before .args .next)) (c .before .before .before .before .before .before .before .before .before .before .before .before .before .before .before .args .at) (now (c .before .before .before .before .before .before .before .before .before .before .before .before .before .before .before .args .out)) _ _ _ (c .before .before .before .before .before .before .term .ensures) (c .before .before .before .before .before .before .before .before .before .before .before .before .before .before .before .pre .1))
+targets-targets-requires t c κs =
+    let c₃ = c .before .before .before in let size-at = c₃ .size-at in
+    let c₆ = c₃ .before .before .before in let term = c₆ .term in
+    let c₈ = c₆ .before .before in let if1 = c₈ .if1 in
+    let c₁₅ = c₈ .before .before .before .before .before .before .before in let args = c₁₅ .args in let pre = c₁₅ .pre in
+    (omega (arith, pre .0, if1 .left), pair-second _ _ _ _ _ _ _ (target-first (now (args .masks)) (part (now (args .permits)) (now (args .places))) (args .left) (args .level) (now (args .q)) (now (args .z)) (if1 .left) _ (size-at .ensures .0) _ _ (c .before .before .tail .ensures) (c .before .tail-sizes .ensures) (args .next)) (args .at) (now (args .out)) _ _ _ (term .ensures) (pre .1))
 
 targets-same-length : (t : ℕ) → targets-lts.Need-same-length (targets-claims t) (targets-at t) targets.Post
 targets-same-length t c = search needs
 
 targets-returns-2 : (t : ℕ) → targets-lts.Need-returns-2 (targets-claims t) (targets-at t) targets.Post
-targets-returns-2 t c = pair-did _ _ _ _ _ _ _ (target-first (now (c .before .before .before .before .before .before .before .before .before .before .before .before .before .before .before .before .before .before .args .masks)) (part (now (c .before .before .before .before .before .before .before .before .before .before .before .before .before .before .before .before .before .before .args .permits)) (now (c .before .before .before .before .before .before .before .before .before .before .before .before .before .before .before .before .before .before .args .places))) (c .before .before .before .before .before .before .before .before .before .before .before .before .before .before .before .before .before .before .args .left) (c .before .before .before .before .before .before .before .before .before .before .before .before .before .before .before .before .before .before .args .level) (now (c .before .before .before .before .before .before .before .before .before .before .before .before .before .before .before .before .before .before .args .q)) (now (c .before .before .before .before .before .before .before .before .before .before .before .before .before .before .before .before .before .before .args .z)) (c .before .before .before .before .before .before .before .before .before .before .before .if1 .left) _ (c .before .before .before .before .before .before .size-at .ensures .0) _ _ (c .before .before .before .before .before .tail .ensures) (c .before .before .before .before .tail-sizes .ensures) (c .before .before .before .before .before .before .before .before .before .before .before .before .before .before .before .before .before .before .args .next)) (c .before .before .before .before .before .before .before .before .before .before .before .before .before .before .before .before .before .before .args .at) (now (c .before .before .before .before .before .before .before .before .before .before .before .before .before .before .before .before .before .before .args .out)) _ _ _ (c .before .before .before .before .before .before .before .before .before .term .ensures) _ _ _ (c .before .before .targets .ensures)
+targets-returns-2 t c =
+    let c₄ = c .before .before .before .before in let tail-sizes = c₄ .tail-sizes in
+    let c₅ = c₄ .before in let tail = c₅ .tail in
+    let c₆ = c₅ .before in let size-at = c₆ .size-at in
+    let c₉ = c₆ .before .before .before in let term = c₉ .term in
+    let c₁₁ = c₉ .before .before in let if1 = c₁₁ .if1 in
+    let c₁₈ = c₁₁ .before .before .before .before .before .before .before in let args = c₁₈ .args in
+    pair-did _ _ _ _ _ _ _ (target-first (now (args .masks)) (part (now (args .permits)) (now (args .places))) (args .left) (args .level) (now (args .q)) (now (args .z)) (if1 .left) _ (size-at .ensures .0) _ _ (tail .ensures) (tail-sizes .ensures) (args .next)) (args .at) (now (args .out)) _ _ _ (term .ensures) _ _ _ (c .before .before .targets .ensures)
 
 pub +targets-spec : {M : Type 1} → statement M
 +targets-spec = close μ-targets λ t. targets-lts.spec (targets-claims t)

@@ -20,7 +20,9 @@ use Rattle.rewriter.proofs.ranges.Reads as ranges-reads
 use Rattle.rewriter.proofs.targets.Reads as targets-reads
 
 ranges-requires : tie.Need-ranges-requires
-ranges-requires c κs = ranges-room _ _ _ _ _ _ _ _ _ _ (query-whole (now (c .before .before .before .before .before .before .before .args .masks)) (part (now (c .before .before .before .before .before .before .before .args .permits)) (now (c .before .before .before .before .before .before .before .args .places))) (c .before .before .before .before .before .before .before .args .layout) (c .before .before .before .before .before .before .before .args .level) (now (c .before .before .before .before .before .before .before .args .q)) (now (c .before .before .before .before .before .before .before .args .z)) _ _ refl refl _ _ refl refl) (c .before .before .before .before .before .before .before .pre)
+ranges-requires c κs =
+    let c₇ = c .before .before .before .before .before .before .before in let args = c₇ .args in let pre = c₇ .pre in
+    ranges-room _ _ _ _ _ _ _ _ _ _ (query-whole (now (args .masks)) (part (now (args .permits)) (now (args .places))) (args .layout) (args .level) (now (args .q)) (now (args .z)) _ _ refl refl _ _ refl refl) (pre)
 
 tail-requires : tie.Need-tail-requires
 tail-requires c κs = search needs
@@ -29,10 +31,19 @@ tail-sizes-requires : tie.Need-tail-sizes-requires
 tail-sizes-requires c κs = search needs
 
 targets-requires : tie.Need-targets-requires
-targets-requires c κs = targets-room _ _ _ _ _ _ _ _ _ _ (query-whole (now (c .before .before .before .before .before .before .before .before .before .before .before .before .before .args .masks)) (part (now (c .before .before .before .before .before .before .before .before .before .before .before .before .before .args .permits)) (now (c .before .before .before .before .before .before .before .before .before .before .before .before .before .args .places))) (c .before .before .before .before .before .before .before .before .before .before .before .before .before .args .layout) (c .before .before .before .before .before .before .before .before .before .before .before .before .before .args .level) (now (c .before .before .before .before .before .before .before .before .before .before .before .before .before .args .q)) (now (c .before .before .before .before .before .before .before .before .before .before .before .before .before .args .z)) _ _ (c .before .before .tail .ensures) (c .before .tail-sizes .ensures) _ _ refl refl) (c .before .before .before .before .before .before .before .before .before .before .before .before .before .pre) (now (c .before .before .before .before .before .before .before .before .before .before .before .before .before .args .out)) _ _ (c .before .before .before .before .before .ranges .ensures)
+targets-requires c κs =
+    let c₅ = c .before .before .before .before .before in let ranges = c₅ .ranges in
+    let c₁₃ = c₅ .before .before .before .before .before .before .before .before in let args = c₁₃ .args in let pre = c₁₃ .pre in
+    targets-room _ _ _ _ _ _ _ _ _ _ (query-whole (now (args .masks)) (part (now (args .permits)) (now (args .places))) (args .layout) (args .level) (now (args .q)) (now (args .z)) _ _ (c .before .before .tail .ensures) (c .before .tail-sizes .ensures) _ _ refl refl) (pre) (now (args .out)) _ _ (ranges .ensures)
 
 open-ranges-requires : tie.Need-open-ranges-requires
-open-ranges-requires c κs = openings-room _ _ _ _ _ _ _ _ _ _ (query-whole (now (c .before .before .before .before .before .before .before .before .before .before .before .before .before .before .before .before .before .args .masks)) (part (now (c .before .before .before .before .before .before .before .before .before .before .before .before .before .before .before .before .before .args .permits)) (now (c .before .before .before .before .before .before .before .before .before .before .before .before .before .before .before .before .before .args .places))) (c .before .before .before .before .before .before .before .before .before .before .before .before .before .before .before .before .before .args .layout) (c .before .before .before .before .before .before .before .before .before .before .before .before .before .before .before .before .before .args .level) (now (c .before .before .before .before .before .before .before .before .before .before .before .before .before .before .before .before .before .args .q)) (now (c .before .before .before .before .before .before .before .before .before .before .before .before .before .before .before .before .before .args .z)) _ _ (c .before .before .before .before .before .before .tail .ensures) (c .before .before .before .before .before .tail-sizes .ensures) _ _ refl refl) (c .before .before .before .before .before .before .before .before .before .before .before .before .before .before .before .before .before .pre) (now (c .before .before .before .before .before .before .before .before .before .before .before .before .before .before .before .before .before .args .out)) _ _ (c .before .before .before .before .before .before .before .before .before .ranges .ensures) _ _ _ (c .before .before .before .targets .ensures)
+open-ranges-requires c κs =
+    let c₃ = c .before .before .before in let targets = c₃ .targets in
+    let c₅ = c₃ .before .before in let tail-sizes = c₅ .tail-sizes in
+    let c₆ = c₅ .before in let tail = c₆ .tail in
+    let c₉ = c₆ .before .before .before in let ranges = c₉ .ranges in
+    let c₁₇ = c₉ .before .before .before .before .before .before .before .before in let args = c₁₇ .args in let pre = c₁₇ .pre in
+    openings-room _ _ _ _ _ _ _ _ _ _ (query-whole (now (args .masks)) (part (now (args .permits)) (now (args .places))) (args .layout) (args .level) (now (args .q)) (now (args .z)) _ _ (tail .ensures) (tail-sizes .ensures) _ _ refl refl) (pre) (now (args .out)) _ _ (ranges .ensures) _ _ _ (targets .ensures)
 
 tail-requires-2 : tie.Need-tail-requires-2
 tail-requires-2 c κs = search needs
@@ -41,16 +52,54 @@ tail-sizes-requires-2 : tie.Need-tail-sizes-requires-2
 tail-sizes-requires-2 c κs = search needs
 
 condition-requires : tie.Need-condition-requires
-condition-requires c κs = condition-room _ _ _ _ _ _ _ _ _ _ (query-whole (now (c .before .before .before .before .before .before .before .before .before .before .before .before .before .before .before .before .before .before .before .before .before .before .before .args .masks)) (part (now (c .before .before .before .before .before .before .before .before .before .before .before .before .before .before .before .before .before .before .before .before .before .before .before .args .permits)) (now (c .before .before .before .before .before .before .before .before .before .before .before .before .before .before .before .before .before .before .before .before .before .before .before .args .places))) (c .before .before .before .before .before .before .before .before .before .before .before .before .before .before .before .before .before .before .before .before .before .before .before .args .layout) (c .before .before .before .before .before .before .before .before .before .before .before .before .before .before .before .before .before .before .before .before .before .before .before .args .level) (now (c .before .before .before .before .before .before .before .before .before .before .before .before .before .before .before .before .before .before .before .before .before .before .before .args .q)) (now (c .before .before .before .before .before .before .before .before .before .before .before .before .before .before .before .before .before .before .before .before .before .before .before .args .z)) _ _ (c .before .before .before .before .before .before .before .before .before .before .before .before .tail .ensures) (c .before .before .before .before .before .before .before .before .before .before .before .tail-sizes .ensures) _ _ (c .before .before .tail2 .ensures) (c .before .tail-sizes2 .ensures)) (c .before .before .before .before .before .before .before .before .before .before .before .before .before .before .before .before .before .before .before .before .before .before .before .pre) (now (c .before .before .before .before .before .before .before .before .before .before .before .before .before .before .before .before .before .before .before .before .before .before .before .args .out)) _ _ (c .before .before .before .before .before .before .before .before .before .before .before .before .before .before .before .ranges .ensures) _ _ _ (c .before .before .before .before .before .before .before .before .before .targets .ensures) _ _ (c .before .before .before .before .before .open-ranges .ensures)
+condition-requires c κs =
+    let c₅ = c .before .before .before .before .before in let open-ranges = c₅ .open-ranges in
+    let c₉ = c₅ .before .before .before .before in let targets = c₉ .targets in
+    let c₁₁ = c₉ .before .before in let tail-sizes = c₁₁ .tail-sizes in
+    let c₁₂ = c₁₁ .before in let tail = c₁₂ .tail in
+    let c₁₅ = c₁₂ .before .before .before in let ranges = c₁₅ .ranges in
+    let c₂₃ = c₁₅ .before .before .before .before .before .before .before .before in let args = c₂₃ .args in let pre = c₂₃ .pre in
+    condition-room _ _ _ _ _ _ _ _ _ _ (query-whole (now (args .masks)) (part (now (args .permits)) (now (args .places))) (args .layout) (args .level) (now (args .q)) (now (args .z)) _ _ (tail .ensures) (tail-sizes .ensures) _ _ (c .before .before .tail2 .ensures) (c .before .tail-sizes2 .ensures)) (pre) (now (args .out)) _ _ (ranges .ensures) _ _ _ (targets .ensures) _ _ (open-ranges .ensures)
 
 guard-ranges-requires : tie.Need-guard-ranges-requires
-guard-ranges-requires c κs = guards-room _ _ _ _ _ _ _ _ _ _ (query-whole (now (c .before .before .before .before .before .before .before .before .before .before .before .before .before .before .before .before .before .before .before .before .before .before .before .before .before .before .before .args .masks)) (part (now (c .before .before .before .before .before .before .before .before .before .before .before .before .before .before .before .before .before .before .before .before .before .before .before .before .before .before .before .args .permits)) (now (c .before .before .before .before .before .before .before .before .before .before .before .before .before .before .before .before .before .before .before .before .before .before .before .before .before .before .before .args .places))) (c .before .before .before .before .before .before .before .before .before .before .before .before .before .before .before .before .before .before .before .before .before .before .before .before .before .before .before .args .layout) (c .before .before .before .before .before .before .before .before .before .before .before .before .before .before .before .before .before .before .before .before .before .before .before .before .before .before .before .args .level) (now (c .before .before .before .before .before .before .before .before .before .before .before .before .before .before .before .before .before .before .before .before .before .before .before .before .before .before .before .args .q)) (now (c .before .before .before .before .before .before .before .before .before .before .before .before .before .before .before .before .before .before .before .before .before .before .before .before .before .before .before .args .z)) _ _ (c .before .before .before .before .before .before .before .before .before .before .before .before .before .before .before .before .tail .ensures) (c .before .before .before .before .before .before .before .before .before .before .before .before .before .before .before .tail-sizes .ensures) _ _ (c .before .before .before .before .before .before .tail2 .ensures) (c .before .before .before .before .before .tail-sizes2 .ensures)) (c .before .before .before .before .before .before .before .before .before .before .before .before .before .before .before .before .before .before .before .before .before .before .before .before .before .before .before .pre) (now (c .before .before .before .before .before .before .before .before .before .before .before .before .before .before .before .before .before .before .before .before .before .before .before .before .before .before .before .args .out)) _ _ (c .before .before .before .before .before .before .before .before .before .before .before .before .before .before .before .before .before .before .before .ranges .ensures) _ _ _ (c .before .before .before .before .before .before .before .before .before .before .before .before .before .targets .ensures) _ _ (c .before .before .before .before .before .before .before .before .before .open-ranges .ensures) _ _ _ (c .before .before .before .condition .ensures)
+guard-ranges-requires c κs =
+    let c₃ = c .before .before .before in let condition = c₃ .condition in
+    let c₅ = c₃ .before .before in let tail-sizes2 = c₅ .tail-sizes2 in
+    let c₆ = c₅ .before in let tail2 = c₆ .tail2 in
+    let c₉ = c₆ .before .before .before in let open-ranges = c₉ .open-ranges in
+    let c₁₃ = c₉ .before .before .before .before in let targets = c₁₃ .targets in
+    let c₁₅ = c₁₃ .before .before in let tail-sizes = c₁₅ .tail-sizes in
+    let c₁₆ = c₁₅ .before in let tail = c₁₆ .tail in
+    let c₁₉ = c₁₆ .before .before .before in let ranges = c₁₉ .ranges in
+    let c₂₇ = c₁₉ .before .before .before .before .before .before .before .before in let args = c₂₇ .args in let pre = c₂₇ .pre in
+    guards-room _ _ _ _ _ _ _ _ _ _ (query-whole (now (args .masks)) (part (now (args .permits)) (now (args .places))) (args .layout) (args .level) (now (args .q)) (now (args .z)) _ _ (tail .ensures) (tail-sizes .ensures) _ _ (tail2 .ensures) (tail-sizes2 .ensures)) (pre) (now (args .out)) _ _ (ranges .ensures) _ _ _ (targets .ensures) _ _ (open-ranges .ensures) _ _ _ (condition .ensures)
 
 same-length : tie.Need-same-length
-same-length c = ap length (query-done _ _ _ _ _ _ _ _ _ _ (query-whole (now (c .before .before .before .before .before .before .before .before .before .before .before .before .before .before .before .before .before .before .before .before .before .before .before .before .before .before .before .before .before .before .args .masks)) (part (now (c .before .before .before .before .before .before .before .before .before .before .before .before .before .before .before .before .before .before .before .before .before .before .before .before .before .before .before .before .before .before .args .permits)) (now (c .before .before .before .before .before .before .before .before .before .before .before .before .before .before .before .before .before .before .before .before .before .before .before .before .before .before .before .before .before .before .args .places))) (c .before .before .before .before .before .before .before .before .before .before .before .before .before .before .before .before .before .before .before .before .before .before .before .before .before .before .before .before .before .before .args .layout) (c .before .before .before .before .before .before .before .before .before .before .before .before .before .before .before .before .before .before .before .before .before .before .before .before .before .before .before .before .before .before .args .level) (now (c .before .before .before .before .before .before .before .before .before .before .before .before .before .before .before .before .before .before .before .before .before .before .before .before .before .before .before .before .before .before .args .q)) (now (c .before .before .before .before .before .before .before .before .before .before .before .before .before .before .before .before .before .before .before .before .before .before .before .before .before .before .before .before .before .before .args .z)) _ _ (c .before .before .before .before .before .before .before .before .before .before .before .before .before .before .before .before .before .before .before .tail .ensures) (c .before .before .before .before .before .before .before .before .before .before .before .before .before .before .before .before .before .before .tail-sizes .ensures) _ _ (c .before .before .before .before .before .before .before .before .before .tail2 .ensures) (c .before .before .before .before .before .before .before .before .tail-sizes2 .ensures)) (c .before .before .before .before .before .before .before .before .before .before .before .before .before .before .before .before .before .before .before .before .before .before .before .before .before .before .before .before .before .before .pre) (now (c .before .before .before .before .before .before .before .before .before .before .before .before .before .before .before .before .before .before .before .before .before .before .before .before .before .before .before .before .before .before .args .out)) _ _ (c .before .before .before .before .before .before .before .before .before .before .before .before .before .before .before .before .before .before .before .before .before .before .ranges .ensures) _ _ _ (c .before .before .before .before .before .before .before .before .before .before .before .before .before .before .before .before .targets .ensures) _ _ (c .before .before .before .before .before .before .before .before .before .before .before .before .open-ranges .ensures) _ _ _ (c .before .before .before .before .before .before .condition .ensures) _ _ _ (c .before .before .guard-ranges .ensures) .1) ∙ length-sets (now (c .before .before .before .before .before .before .before .before .before .before .before .before .before .before .before .before .before .before .before .before .before .before .before .before .before .before .before .before .before .before .args .out)) 0 (queryBytes (now (c .before .before .before .before .before .before .before .before .before .before .before .before .before .before .before .before .before .before .before .before .before .before .before .before .before .before .before .before .before .before .args .masks)) (part (now (c .before .before .before .before .before .before .before .before .before .before .before .before .before .before .before .before .before .before .before .before .before .before .before .before .before .before .before .before .before .before .args .permits)) (now (c .before .before .before .before .before .before .before .before .before .before .before .before .before .before .before .before .before .before .before .before .before .before .before .before .before .before .before .before .before .before .args .places))) (queryAt (c .before .before .before .before .before .before .before .before .before .before .before .before .before .before .before .before .before .before .before .before .before .before .before .before .before .before .before .before .before .before .args .layout) (c .before .before .before .before .before .before .before .before .before .before .before .before .before .before .before .before .before .before .before .before .before .before .before .before .before .before .before .before .before .before .args .level) (now (c .before .before .before .before .before .before .before .before .before .before .before .before .before .before .before .before .before .before .before .before .before .before .before .before .before .before .before .before .before .before .args .q)) (now (c .before .before .before .before .before .before .before .before .before .before .before .before .before .before .before .before .before .before .before .before .before .before .before .before .before .before .before .before .before .before .args .z))))
+same-length c =
+    let c₆ = c .before .before .before .before .before .before in let condition = c₆ .condition in
+    let c₈ = c₆ .before .before in let tail-sizes2 = c₈ .tail-sizes2 in
+    let c₉ = c₈ .before in let tail2 = c₉ .tail2 in
+    let c₁₂ = c₉ .before .before .before in let open-ranges = c₁₂ .open-ranges in
+    let c₁₆ = c₁₂ .before .before .before .before in let targets = c₁₆ .targets in
+    let c₁₈ = c₁₆ .before .before in let tail-sizes = c₁₈ .tail-sizes in
+    let c₁₉ = c₁₈ .before in let tail = c₁₉ .tail in
+    let c₂₂ = c₁₉ .before .before .before in let ranges = c₂₂ .ranges in
+    let c₃₀ = c₂₂ .before .before .before .before .before .before .before .before in let args = c₃₀ .args in let pre = c₃₀ .pre in
+    let masks = now (args .masks) in let out = now (args .out) in let permits = now (args .permits) in let places = now (args .places) in let q = now (args .q) in let z = now (args .z) in let layout = args .layout in let level = args .level in
+    ap length (query-done _ _ _ _ _ _ _ _ _ _ (query-whole masks (part permits places) layout level q z _ _ (tail .ensures) (tail-sizes .ensures) _ _ (tail2 .ensures) (tail-sizes2 .ensures)) (pre) out _ _ (ranges .ensures) _ _ _ (targets .ensures) _ _ (open-ranges .ensures) _ _ _ (condition .ensures) _ _ _ (c .before .before .guard-ranges .ensures) .1) ∙ length-sets out 0 (queryBytes masks (part permits places) (queryAt layout level q z))
 
 returns : tie.Need-returns
-returns c = query-done _ _ _ _ _ _ _ _ _ _ (query-whole (now (c .before .before .before .before .before .before .before .before .before .before .before .before .before .before .before .before .before .before .before .before .before .before .before .before .before .before .before .before .before .before .args .masks)) (part (now (c .before .before .before .before .before .before .before .before .before .before .before .before .before .before .before .before .before .before .before .before .before .before .before .before .before .before .before .before .before .before .args .permits)) (now (c .before .before .before .before .before .before .before .before .before .before .before .before .before .before .before .before .before .before .before .before .before .before .before .before .before .before .before .before .before .before .args .places))) (c .before .before .before .before .before .before .before .before .before .before .before .before .before .before .before .before .before .before .before .before .before .before .before .before .before .before .before .before .before .before .args .layout) (c .before .before .before .before .before .before .before .before .before .before .before .before .before .before .before .before .before .before .before .before .before .before .before .before .before .before .before .before .before .before .args .level) (now (c .before .before .before .before .before .before .before .before .before .before .before .before .before .before .before .before .before .before .before .before .before .before .before .before .before .before .before .before .before .before .args .q)) (now (c .before .before .before .before .before .before .before .before .before .before .before .before .before .before .before .before .before .before .before .before .before .before .before .before .before .before .before .before .before .before .args .z)) _ _ (c .before .before .before .before .before .before .before .before .before .before .before .before .before .before .before .before .before .before .before .tail .ensures) (c .before .before .before .before .before .before .before .before .before .before .before .before .before .before .before .before .before .before .tail-sizes .ensures) _ _ (c .before .before .before .before .before .before .before .before .before .tail2 .ensures) (c .before .before .before .before .before .before .before .before .tail-sizes2 .ensures)) (c .before .before .before .before .before .before .before .before .before .before .before .before .before .before .before .before .before .before .before .before .before .before .before .before .before .before .before .before .before .before .pre) (now (c .before .before .before .before .before .before .before .before .before .before .before .before .before .before .before .before .before .before .before .before .before .before .before .before .before .before .before .before .before .before .args .out)) _ _ (c .before .before .before .before .before .before .before .before .before .before .before .before .before .before .before .before .before .before .before .before .before .before .ranges .ensures) _ _ _ (c .before .before .before .before .before .before .before .before .before .before .before .before .before .before .before .before .targets .ensures) _ _ (c .before .before .before .before .before .before .before .before .before .before .before .before .open-ranges .ensures) _ _ _ (c .before .before .before .before .before .before .condition .ensures) _ _ _ (c .before .before .guard-ranges .ensures)
+returns c =
+    let c₆ = c .before .before .before .before .before .before in let condition = c₆ .condition in
+    let c₈ = c₆ .before .before in let tail-sizes2 = c₈ .tail-sizes2 in
+    let c₉ = c₈ .before in let tail2 = c₉ .tail2 in
+    let c₁₂ = c₉ .before .before .before in let open-ranges = c₁₂ .open-ranges in
+    let c₁₆ = c₁₂ .before .before .before .before in let targets = c₁₆ .targets in
+    let c₁₈ = c₁₆ .before .before in let tail-sizes = c₁₈ .tail-sizes in
+    let c₁₉ = c₁₈ .before in let tail = c₁₉ .tail in
+    let c₂₂ = c₁₉ .before .before .before in let ranges = c₂₂ .ranges in
+    let c₃₀ = c₂₂ .before .before .before .before .before .before .before .before in let args = c₃₀ .args in let pre = c₃₀ .pre in
+    query-done _ _ _ _ _ _ _ _ _ _ (query-whole (now (args .masks)) (part (now (args .permits)) (now (args .places))) (args .layout) (args .level) (now (args .q)) (now (args .z)) _ _ (tail .ensures) (tail-sizes .ensures) _ _ (tail2 .ensures) (tail-sizes2 .ensures)) (pre) (now (args .out)) _ _ (ranges .ensures) _ _ _ (targets .ensures) _ _ (open-ranges .ensures) _ _ _ (condition .ensures) _ _ _ (c .before .before .guard-ranges .ensures)
 
 pub rewrite-query-spec : {M : Type 1} → statement M
 rewrite-query-spec =

@@ -23,7 +23,10 @@ returns-2 c = add-other (c .before .before .before .before .args .mask) (c .befo
 
 -- src/lib.rt:158:9
 returns-3 : tie.Need-returns-3
-returns-3 c = add-past (c .before .before .before .before .before .args .mask) (c .before .before .before .before .before .args .u) (c .before .before .before .before .before .args .variable) _ _ (c .before .before .before .u .given .1) (c .if2 .taken)
+returns-3 c =
+    let c₃ = c .before .before .before in let u = c₃ .u in
+    let c₅ = c₃ .before .before in let args = c₅ .args in
+    add-past (args .mask) (args .u) (args .variable) _ _ (u .given .1) (c .if2 .taken)
 
 -- src/lib.rt:160:19
 cast-result : tie.Need-cast-result
@@ -35,7 +38,10 @@ shl-result c = search needs
 
 -- src/lib.rt:148:1
 returns-4 : tie.Need-returns-4
-returns-4 c = add-bit (c .before .before .before .before .before .args .mask) (c .before .before .before .before .before .args .u) (c .before .before .before .before .before .args .variable) _ _ (c .before .before .before .u .given .1) (c .before .if1 .left) (c .if2 .left)
+returns-4 c =
+    let c₃ = c .before .before .before in let u = c₃ .u in
+    let c₅ = c₃ .before .before in let args = c₅ .args in
+    add-bit (args .mask) (args .u) (args .variable) _ _ (u .given .1) (c .before .if1 .left) (c .if2 .left)
 
 pub add-spec : {M : Type 1} → statement M
 add-spec =

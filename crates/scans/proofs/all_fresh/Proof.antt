@@ -38,7 +38,13 @@ same-length c = search needs
 
 -- src/lib.rt:135:13
 returns : tie.Need-returns Inv-loop μ-loop
-returns c = fresh-stopped (now (c .before .before .before .before .before .before .before .before .before .before .args .q)) (c .before .before .before .before .before .before .before .loop .at) _ (c .before .before .before .before .before .before .loop-test .taken) refl (c .before .before .before .before .binding .result) (c .before .before .before .before .binding .ensures) (c .before .before .before .before .before .before .before .loop .seen) (c .before .before .before .mark .last .0) _ (c .before .before .before .mark .result) (c .before .before .before .before .before .before .before .loop .inv .0) (c .before .before .before .mark .ensures) (c .if1 .taken)
+returns c =
+    let c₃ = c .before .before .before in let mark = c₃ .mark in
+    let c₄ = c₃ .before in let binding = c₄ .binding in
+    let c₆ = c₄ .before .before in let loop-test = c₆ .loop-test in
+    let c₇ = c₆ .before in let loop = c₇ .loop in
+    let c₁₀ = c₇ .before .before .before in let args = c₁₀ .args in
+    fresh-stopped (now (args .q)) (loop .at) _ (loop-test .taken) refl (binding .result) (binding .ensures) (loop .seen) (mark .last .0) _ (mark .result) (loop .inv .0) (mark .ensures) (c .if1 .taken)
 
 -- src/lib.rt:137:15
 step-requires : tie.Need-step-requires Inv-loop μ-loop
@@ -54,7 +60,13 @@ loop-less c = search needs
 
 -- src/lib.rt:133:5
 loop-again : tie.Need-loop-again Inv-loop μ-loop
-loop-again c = (fresh-went (now (c .before .before .before .before .before .before .before .before .before .before .before .args .q)) (c .before .before .before .before .before .before .before .before .loop .at) _ (c .before .before .before .before .before .before .before .loop-test .taken) (c .step .ensures .0) (c .before .before .before .before .before .binding .result) (c .before .before .before .before .before .binding .ensures) (c .before .before .before .before .before .before .before .before .loop .seen) (c .before .before .before .before .mark .last .0) _ (c .before .before .before .before .mark .result) (c .before .before .before .before .before .before .before .before .loop .inv .0) (c .before .before .before .before .mark .ensures) (c .before .if1 .left), search needs, search needs)
+loop-again c =
+    let c₄ = c .before .before .before .before in let mark = c₄ .mark in
+    let c₅ = c₄ .before in let binding = c₅ .binding in
+    let c₇ = c₅ .before .before in let loop-test = c₇ .loop-test in
+    let c₈ = c₇ .before in let loop = c₈ .loop in
+    let c₁₁ = c₈ .before .before .before in let args = c₁₁ .args in
+    (fresh-went (now (args .q)) (loop .at) _ (loop-test .taken) (c .step .ensures .0) (binding .result) (binding .ensures) (loop .seen) (mark .last .0) _ (mark .result) (loop .inv .0) (mark .ensures) (c .before .if1 .left), search needs, search needs)
 
 -- src/lib.rt:128:1
 same-length-2 : tie.Need-same-length-2 Inv-loop μ-loop

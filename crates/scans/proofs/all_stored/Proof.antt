@@ -34,7 +34,13 @@ stored-requires c κs = search needs
 
 -- src/lib.rt:127:13
 returns : tie.Need-returns Inv-loop μ-loop
-returns c = stopped (c .before .stored .result) _ _ (c .if1 .taken) (all-on (now (c .before .before .before .before .before .before .before .args .q)) (c .before .before .before .before .loop .at) _ (c .before .before .before .loop-test .taken) refl (c .before .before .binding .result) (c .before .before .binding .ensures) (storedIn (now (c .before .before .before .before .before .before .before .args .catalogue))) _ (c .before .before .before .before .loop .inv) _ (c .before .stored .ensures))
+returns c =
+    let c₁ = c .before in let stored = c₁ .stored in
+    let c₂ = c₁ .before in let binding = c₂ .binding in
+    let c₃ = c₂ .before in let loop-test = c₃ .loop-test in
+    let c₄ = c₃ .before in let loop = c₄ .loop in
+    let c₇ = c₄ .before .before .before in let args = c₇ .args in
+    stopped (stored .result) _ _ (c .if1 .taken) (all-on (now (args .q)) (loop .at) _ (loop-test .taken) refl (binding .result) (binding .ensures) (storedIn (now (args .catalogue))) _ (loop .inv) _ (stored .ensures))
 
 -- src/lib.rt:129:15
 step-requires : tie.Need-step-requires Inv-loop μ-loop
@@ -50,7 +56,13 @@ loop-less c = search needs
 
 -- src/lib.rt:125:5
 loop-again : tie.Need-loop-again Inv-loop μ-loop
-loop-again c = went (c .before .before .stored .result) _ _ (c .before .if1 .left) (all-on (now (c .before .before .before .before .before .before .before .before .args .q)) (c .before .before .before .before .before .loop .at) _ (c .before .before .before .before .loop-test .taken) (c .step .ensures .0) (c .before .before .before .binding .result) (c .before .before .before .binding .ensures) (storedIn (now (c .before .before .before .before .before .before .before .before .args .catalogue))) _ (c .before .before .before .before .before .loop .inv) _ (c .before .before .stored .ensures))
+loop-again c =
+    let c₂ = c .before .before in let stored = c₂ .stored in
+    let c₃ = c₂ .before in let binding = c₃ .binding in
+    let c₄ = c₃ .before in let loop-test = c₄ .loop-test in
+    let c₅ = c₄ .before in let loop = c₅ .loop in
+    let c₈ = c₅ .before .before .before in let args = c₈ .args in
+    went (stored .result) _ _ (c .before .if1 .left) (all-on (now (args .q)) (loop .at) _ (loop-test .taken) (c .step .ensures .0) (binding .result) (binding .ensures) (storedIn (now (args .catalogue))) _ (loop .inv) _ (stored .ensures))
 
 -- src/lib.rt:121:1
 returns-2 : tie.Need-returns-2 Inv-loop μ-loop

@@ -74,15 +74,27 @@ enum-known-v-3 c = search needs
 
 -- src/lib.rt:51:1
 returns-2 : tie.Need-returns-2
-returns-2 c = found bindingOf _ _ (c .before .before .before .before .before .before .before .before .before .args .at) _ _ (c .before .before .before .before .tail .ensures) (c .before .before .before .read .ensures) (c .before .v .given .1)
+returns-2 c =
+    let c₃ = c .before .before .before in let read = c₃ .read in
+    let c₄ = c₃ .before in let tail = c₄ .tail in
+    let c₉ = c₄ .before .before .before .before .before in let args = c₉ .args in
+    found bindingOf _ _ (args .at) _ _ (tail .ensures) (read .ensures) (c .before .v .given .1)
 
 -- src/lib.rt:51:1
 returns-3 : tie.Need-returns-3
-returns-3 c = found bindingOf _ _ (c .before .before .before .before .before .before .before .before .before .args .at) _ _ (c .before .before .before .before .tail .ensures) (c .before .before .before .read .ensures) (c .before .v2 .given .1)
+returns-3 c =
+    let c₃ = c .before .before .before in let read = c₃ .read in
+    let c₄ = c₃ .before in let tail = c₄ .tail in
+    let c₉ = c₄ .before .before .before .before .before in let args = c₉ .args in
+    found bindingOf _ _ (args .at) _ _ (tail .ensures) (read .ensures) (c .before .v2 .given .1)
 
 -- src/lib.rt:51:1
 returns-4 : tie.Need-returns-4
-returns-4 c = found bindingOf _ _ (c .before .before .before .before .before .before .before .before .before .args .at) _ _ (c .before .before .before .before .tail .ensures) (c .before .before .before .read .ensures) (c .before .v3 .given .1)
+returns-4 c =
+    let c₃ = c .before .before .before in let read = c₃ .read in
+    let c₄ = c₃ .before in let tail = c₄ .tail in
+    let c₉ = c₄ .before .before .before .before .before in let args = c₉ .args in
+    found bindingOf _ _ (args .at) _ _ (tail .ensures) (read .ensures) (c .before .v3 .given .1)
 
 -- src/lib.rt:51:1
 returns-5 : tie.Need-returns-5

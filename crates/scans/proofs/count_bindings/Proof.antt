@@ -50,7 +50,12 @@ loop-less c = search needs
 
 -- src/lib.rt:73:5
 loop-again : tie.Need-loop-again Inv-loop μ-loop
-loop-again c = (count-on (now (c .before .before .before .before .before .before .args .q)) (c .before .before .before .before .loop .at) _ (c .before .before .before .loop-test .taken) (c .step .ensures .0) (c .before .before .binding .result) (c .before .before .binding .ensures) _ (c .before .before .before .before .loop .n) _ (c .before .one .ensures .0) (c .before .before .before .before .loop .inv .0), omega arith)
+loop-again c =
+    let c₂ = c .before .before in let binding = c₂ .binding in
+    let c₃ = c₂ .before in let loop-test = c₃ .loop-test in
+    let c₄ = c₃ .before in let loop = c₄ .loop in
+    let c₆ = c₄ .before .before in let args = c₆ .args in
+    (count-on (now (args .q)) (loop .at) _ (loop-test .taken) (c .step .ensures .0) (binding .result) (binding .ensures) _ (loop .n) _ (c .before .one .ensures .0) (loop .inv .0), omega arith)
 
 -- src/lib.rt:68:1
 returns : tie.Need-returns Inv-loop μ-loop

@@ -29,11 +29,17 @@ wide-requires-2 c κs = search needs
 
 -- src/lib.rt:87:1
 returns-2 : tie.Need-returns-2
-returns-2 c = known-both (c .before .before .before .before .before .before .args .b) (c .before .before .before .before .before .before .args .limit) (c .before .before .before .before .before .before .args .relations) _ _ _ (c .before .before .before .before .b .given .1) (c .before .before .wide .ensures) _ (c .wide2 .ensures) (c .before .if1 .taken)
+returns-2 c =
+    let c₄ = c .before .before .before .before in let b = c₄ .b in
+    let c₆ = c₄ .before .before in let args = c₆ .args in
+    known-both (args .b) (args .limit) (args .relations) _ _ _ (b .given .1) (c .before .before .wide .ensures) _ (c .wide2 .ensures) (c .before .if1 .taken)
 
 -- src/lib.rt:87:1
 returns-3 : tie.Need-returns-3
-returns-3 c = known-not (c .before .before .before .before .before .args .b) (c .before .before .before .before .before .args .limit) (c .before .before .before .before .before .args .relations) _ _ _ (c .before .before .before .b .given .1) (c .before .wide .ensures) (c .if1 .left)
+returns-3 c =
+    let c₃ = c .before .before .before in let b = c₃ .b in
+    let c₅ = c₃ .before .before in let args = c₅ .args in
+    known-not (args .b) (args .limit) (args .relations) _ _ _ (b .given .1) (c .before .wide .ensures) (c .if1 .left)
 
 pub known-spec : {M : Type 1} → statement M
 known-spec =

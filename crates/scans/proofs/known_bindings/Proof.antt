@@ -34,7 +34,13 @@ known-requires c κs = search needs
 
 -- src/lib.rt:103:13
 returns : tie.Need-returns Inv-loop μ-loop
-returns c = stopped (c .before .known .result) _ _ (c .if1 .taken) (all-on (now (c .before .before .before .before .before .before .args .q)) (c .before .before .before .before .loop .at) _ (c .before .before .before .loop-test .taken) refl (c .before .before .binding .result) (c .before .before .binding .ensures) (knownNumbers (c .before .before .before .before .before .before .args .limit) (c .before .before .before .before .before .before .args .relations)) _ (c .before .before .before .before .loop .inv) _ (c .before .known .ensures))
+returns c =
+    let c₁ = c .before in let known = c₁ .known in
+    let c₂ = c₁ .before in let binding = c₂ .binding in
+    let c₃ = c₂ .before in let loop-test = c₃ .loop-test in
+    let c₄ = c₃ .before in let loop = c₄ .loop in
+    let c₆ = c₄ .before .before in let args = c₆ .args in
+    stopped (known .result) _ _ (c .if1 .taken) (all-on (now (args .q)) (loop .at) _ (loop-test .taken) refl (binding .result) (binding .ensures) (knownNumbers (args .limit) (args .relations)) _ (loop .inv) _ (known .ensures))
 
 -- src/lib.rt:105:15
 step-requires : tie.Need-step-requires Inv-loop μ-loop
@@ -50,7 +56,13 @@ loop-less c = search needs
 
 -- src/lib.rt:101:5
 loop-again : tie.Need-loop-again Inv-loop μ-loop
-loop-again c = went (c .before .before .known .result) _ _ (c .before .if1 .left) (all-on (now (c .before .before .before .before .before .before .before .args .q)) (c .before .before .before .before .before .loop .at) _ (c .before .before .before .before .loop-test .taken) (c .step .ensures .0) (c .before .before .before .binding .result) (c .before .before .before .binding .ensures) (knownNumbers (c .before .before .before .before .before .before .before .args .limit) (c .before .before .before .before .before .before .before .args .relations)) _ (c .before .before .before .before .before .loop .inv) _ (c .before .before .known .ensures))
+loop-again c =
+    let c₂ = c .before .before in let known = c₂ .known in
+    let c₃ = c₂ .before in let binding = c₃ .binding in
+    let c₄ = c₃ .before in let loop-test = c₄ .loop-test in
+    let c₅ = c₄ .before in let loop = c₅ .loop in
+    let c₇ = c₅ .before .before in let args = c₇ .args in
+    went (known .result) _ _ (c .before .if1 .left) (all-on (now (args .q)) (loop .at) _ (loop-test .taken) (c .step .ensures .0) (binding .result) (binding .ensures) (knownNumbers (args .limit) (args .relations)) _ (loop .inv) _ (known .ensures))
 
 -- src/lib.rt:97:1
 returns-2 : tie.Need-returns-2 Inv-loop μ-loop

@@ -30,7 +30,10 @@ slice-read-if1 c = search needs
 
 -- src/lib.rt:121:9
 returns-2 : tie.Need-returns-2
-returns-2 c = mark-again (now (c .before .before .before .before .before .before .before .args .seen)) (c .before .before .before .before .before .before .before .args .b) _ _ _ (c .before .before .before .before .b .given .1) (c .before .before .wide .ensures) (c .if1 .taken)
+returns-2 c =
+    let c₄ = c .before .before .before .before in let b = c₄ .b in
+    let c₇ = c₄ .before .before .before in let args = c₇ .args in
+    mark-again (now (args .seen)) (args .b) _ _ _ (b .given .1) (c .before .before .wide .ensures) (c .if1 .taken)
 
 -- src/lib.rt:123:5
 slice-write-seen : tie.Need-slice-write-seen
@@ -42,7 +45,10 @@ same-length c = search needs
 
 -- src/lib.rt:112:1
 returns-3 : tie.Need-returns-3
-returns-3 c = mark-first (now (c .before .before .before .before .before .before .before .args .seen)) (c .before .before .before .before .before .before .before .args .b) _ _ _ (c .before .before .before .before .b .given .1) (c .before .before .wide .ensures) (c .if1 .left) (omega arith)
+returns-3 c =
+    let c₄ = c .before .before .before .before in let b = c₄ .b in
+    let c₇ = c₄ .before .before .before in let args = c₇ .args in
+    mark-first (now (args .seen)) (args .b) _ _ _ (b .given .1) (c .before .before .wide .ensures) (c .if1 .left) (omega arith)
 
 pub mark-spec : {M : Type 1} → statement M
 mark-spec =

@@ -70,11 +70,19 @@ enum-known-v-2 c = search needs
 
 -- src/lib.rt:66:1
 returns-2 : tie.Need-returns-2
-returns-2 c = found useOf _ _ (c .before .before .before .before .before .before .before .before .before .args .at) _ _ (c .before .before .before .before .tail .ensures) (c .before .before .before .read .ensures) (c .before .v .given .1)
+returns-2 c =
+    let c₃ = c .before .before .before in let read = c₃ .read in
+    let c₄ = c₃ .before in let tail = c₄ .tail in
+    let c₉ = c₄ .before .before .before .before .before in let args = c₉ .args in
+    found useOf _ _ (args .at) _ _ (tail .ensures) (read .ensures) (c .before .v .given .1)
 
 -- src/lib.rt:66:1
 returns-3 : tie.Need-returns-3
-returns-3 c = found useOf _ _ (c .before .before .before .before .before .before .before .before .before .args .at) _ _ (c .before .before .before .before .tail .ensures) (c .before .before .before .read .ensures) (c .before .v2 .given .1)
+returns-3 c =
+    let c₃ = c .before .before .before in let read = c₃ .read in
+    let c₄ = c₃ .before in let tail = c₄ .tail in
+    let c₉ = c₄ .before .before .before .before .before in let args = c₉ .args in
+    found useOf _ _ (args .at) _ _ (tail .ensures) (read .ensures) (c .before .v2 .given .1)
 
 -- src/lib.rt:66:1
 returns-4 : tie.Need-returns-4

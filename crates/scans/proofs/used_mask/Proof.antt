@@ -47,7 +47,13 @@ loop-less c = search needs
 
 -- src/lib.rt:169:5
 loop-again : tie.Need-loop-again Inv-loop μ-loop
-loop-again c = λ a h. used-on (now (c .before .before .before .before .before .before .args .q)) (c .before .before .before .before .loop .at) _ (c .before .before .before .loop-test .taken) (c .step .ensures .0) (c .before .before .usage .result) (c .before .before .usage .ensures) (c .before .before .before .before .before .before .args .variable) a (c .before .before .before .before .loop .mask) (c .before .add .result) _ (c .before .add .ensures a h) (c .before .before .before .before .loop .inv a h)
+loop-again c =
+    let c₁ = c .before in let add = c₁ .add in
+    let c₂ = c₁ .before in let usage = c₂ .usage in
+    let c₃ = c₂ .before in let loop-test = c₃ .loop-test in
+    let c₄ = c₃ .before in let loop = c₄ .loop in
+    let c₆ = c₄ .before .before in let args = c₆ .args in
+    λ a h. used-on (now (args .q)) (loop .at) _ (loop-test .taken) (c .step .ensures .0) (usage .result) (usage .ensures) (args .variable) a (loop .mask) (add .result) _ (add .ensures a h) (loop .inv a h)
 
 -- src/lib.rt:164:1
 returns : tie.Need-returns Inv-loop μ-loop

@@ -90,7 +90,10 @@ aggregate-known-requires : (t : ℕ) → aggregate-lts.Need-known-requires (aggr
 aggregate-known-requires t c κs = search needs
 
 aggregate-returns : (t : ℕ) → aggregate-lts.Need-returns (aggregate-claims t) (aggregate-at t) aggregate.Post
-aggregate-returns t c = aggregate-unknown (shapeIn (now (c .before .before .before .before .before .args .catalogue))) (c .before .before .before .before .before .args .limit) (c .before .before .before .before .before .args .variable) (c .before .before .before .before .before .args .relation) [] (decode (c .before .before .before .before .before .args .level) (now (c .before .before .before .before .before .args .q)) (now (c .before .before .before .before .before .args .z))) (c .before .known .result) (c .before .known .ensures) (c .before .before .before .before .before .args .attribute) (c .if1 .taken)
+aggregate-returns t c =
+    let c₁ = c .before in let known = c₁ .known in
+    let c₅ = c₁ .before .before .before .before in let args = c₅ .args in
+    aggregate-unknown (shapeIn (now (args .catalogue))) (args .limit) (args .variable) (args .relation) [] (decode (args .level) (now (args .q)) (now (args .z))) (known .result) (known .ensures) (args .attribute) (c .if1 .taken)
 
 aggregate-wide-requires : (t : ℕ) → aggregate-lts.Need-wide-requires (aggregate-claims t) (aggregate-at t) aggregate.Post
 aggregate-wide-requires t c κs = search needs
@@ -99,7 +102,13 @@ aggregate-has-requires : (t : ℕ) → aggregate-lts.Need-has-requires (aggregat
 aggregate-has-requires t c κs = search needs
 
 aggregate-returns-2 : (t : ℕ) → aggregate-lts.Need-returns-2 (aggregate-claims t) (aggregate-at t) aggregate.Post
-aggregate-returns-2 t c = aggregate-absent (shapeIn (now (c .before .before .before .before .before .before .before .before .args .catalogue))) (c .before .before .before .before .before .before .before .before .args .limit) (c .before .before .before .before .before .before .before .before .args .variable) (c .before .before .before .before .before .before .before .before .args .relation) [] (decode (c .before .before .before .before .before .before .before .before .args .level) (now (c .before .before .before .before .before .before .before .before .args .q)) (now (c .before .before .before .before .before .before .before .before .args .z))) (c .before .before .before .before .known .result) (c .before .before .before .before .known .ensures) (c .before .before .before .before .before .before .before .before .args .attribute) (c .before .before .before .if1 .left) (c .before .has .result) (c .before .before .wide .result) (c .before .before .wide .ensures) (c .before .has .ensures) (c .if2 .taken)
+aggregate-returns-2 t c =
+    let c₁ = c .before in let has = c₁ .has in
+    let c₂ = c₁ .before in let wide = c₂ .wide in
+    let c₃ = c₂ .before in let if1 = c₃ .if1 in
+    let c₄ = c₃ .before in let known = c₄ .known in
+    let c₈ = c₄ .before .before .before .before in let args = c₈ .args in
+    aggregate-absent (shapeIn (now (args .catalogue))) (args .limit) (args .variable) (args .relation) [] (decode (args .level) (now (args .q)) (now (args .z))) (known .result) (known .ensures) (args .attribute) (if1 .left) (has .result) (wide .result) (wide .ensures) (has .ensures) (c .if2 .taken)
 
 aggregate-slice-aggregate-bind : (t : ℕ) → aggregate-lts.Need-slice-aggregate-bind (aggregate-claims t) (aggregate-at t) aggregate.Post
 aggregate-slice-aggregate-bind t c = search needs
@@ -114,10 +123,21 @@ aggregate-condition-requires : (t : ℕ) → aggregate-lts.Need-condition-requir
 aggregate-condition-requires t c κs = search needs
 
 aggregate-returns-3 : (t : ℕ) → aggregate-lts.Need-returns-3 (aggregate-claims t) (aggregate-at t) aggregate.Post
-aggregate-returns-3 t c = aggregate-inside (shapeIn (now (c .before .before .before .before .before .before .before .before .before .before .before .before .before .before .args .catalogue))) (c .before .before .before .before .before .before .before .before .before .before .before .before .before .before .args .limit) (c .before .before .before .before .before .before .before .before .before .before .before .before .before .before .args .variable) (c .before .before .before .before .before .before .before .before .before .before .before .before .before .before .args .relation) [] (decode (c .before .before .before .before .before .before .before .before .before .before .before .before .before .before .args .level) (now (c .before .before .before .before .before .before .before .before .before .before .before .before .before .before .args .q)) (now (c .before .before .before .before .before .before .before .before .before .before .before .before .before .before .args .z))) (c .before .before .before .before .before .before .before .before .before .before .known .result) (c .before .before .before .before .before .before .before .before .before .before .known .ensures) (c .before .before .before .before .before .before .before .before .before .before .before .before .before .before .args .attribute) (c .before .before .before .before .before .before .before .before .before .if1 .left) (c .before .before .before .before .before .before .before .has .result) (c .before .before .before .before .before .before .before .before .wide .result) (c .before .before .before .before .before .before .before .before .wide .ensures) (c .before .before .before .before .before .before .before .has .ensures) (c .before .before .before .before .before .before .if2 .left) (c .before .before .before .before .before .before .before .before .before .before .before .before .before .before .fits .variable .fits) (c .before .before .before .before .bind .last .0) (c .before .before .before .before .bind .ensures) (c .before .condition .result) (c .before .condition .ensures .0)
+aggregate-returns-3 t c =
+    let c₁ = c .before in let condition = c₁ .condition in
+    let c₄ = c₁ .before .before .before in let bind = c₄ .bind in
+    let c₆ = c₄ .before .before in let if2 = c₆ .if2 in
+    let c₇ = c₆ .before in let has = c₇ .has in
+    let c₈ = c₇ .before in let wide = c₈ .wide in
+    let c₉ = c₈ .before in let if1 = c₉ .if1 in
+    let c₁₀ = c₉ .before in let known = c₁₀ .known in
+    let c₁₄ = c₁₀ .before .before .before .before in let args = c₁₄ .args in let fits = c₁₄ .fits in
+    aggregate-inside (shapeIn (now (args .catalogue))) (args .limit) (args .variable) (args .relation) [] (decode (args .level) (now (args .q)) (now (args .z))) (known .result) (known .ensures) (args .attribute) (if1 .left) (has .result) (wide .result) (wide .ensures) (has .ensures) (if2 .left) (fits .variable .fits) (bind .last .0) (bind .ensures) (condition .result) (condition .ensures .0)
 
 condition-returns : (t : ℕ) → condition-lts.Need-returns (condition-claims t) (condition-at t) condition.Post
-condition-returns t c = (zero-is (shapeIn (now (c .before .before .before .before .before .args .catalogue))) (c .before .before .before .before .before .args .limit) (c .before .before .before .before .before .args .level) (now (c .before .before .before .before .before .args .q)) (now (c .before .before .before .before .before .args .z)) (now (c .before .before .before .before .before .args .reach)) (c .if1 .taken), refl)
+condition-returns t c =
+    let c₅ = c .before .before .before .before .before in let args = c₅ .args in
+    (zero-is (shapeIn (now (args .catalogue))) (args .limit) (args .level) (now (args .q)) (now (args .z)) (now (args .reach)) (c .if1 .taken), refl)
 
 condition-byte-requires : (t : ℕ) → condition-lts.Need-byte-requires (condition-claims t) (condition-at t) condition.Post
 condition-byte-requires t c κs = search needs
@@ -162,7 +182,18 @@ condition-same-length : (t : ℕ) → condition-lts.Need-same-length (condition-
 condition-same-length t c = search needs
 
 condition-returns-2 : (t : ℕ) → condition-lts.Need-returns-2 (condition-claims t) (condition-at t) condition.Post
-condition-returns-2 t c = (both-stop (shapeIn (now (c .before .before .before .before .before .before .before .before .before .before .before .before .before .before .before .before .before .before .before .args .catalogue))) (c .before .before .before .before .before .before .before .before .before .before .before .before .before .before .before .before .before .before .before .args .limit) (c .before .before .before .before .before .before .before .before .before .before .before .before .before .before .before .before .before .before .before .args .level) (now (c .before .before .before .before .before .before .before .before .before .before .before .before .before .before .before .before .before .before .before .args .q)) (now (c .before .before .before .before .before .before .before .before .before .before .before .before .before .before .before .before .before .before .before .args .z)) (now (c .before .before .before .before .before .before .before .before .before .before .before .before .before .before .before .before .before .before .before .args .reach)) (c .before .before .before .before .before .before .before .before .before .before .before .before .before .before .if1 .left) (c .before .before .before .before .before .before .read .result) (c .before .before .before .before .before .before .read .ensures) (c .before .before .before .before .before .before .before .before .before .before .before .before .before .byte .result) (c .before .before .before .before .before .before .before .before .before .before .before .before .record-length .result) (c .before .before .before .before .before .before .before .before .before .before .before .before .before .byte .ensures) (c .before .before .before .before .before .before .before .before .before .before .before .before .record-length .ensures .0) (now (c .before .before .before .before .before .before .before .before .before .before .tail .result)) (now (c .before .before .before .before .before .before .before .before .before .tail-sizes .result)) (c .before .before .before .before .before .before .before .before .before .before .tail .ensures) (c .before .before .before .before .before .before .before .before .before .tail-sizes .ensures) (c .before .before .before .before .before .before .before .before .before .before .before .size-at .result) (c .before .before .before .before .before .before .before .before .before .before .before .size-at .ensures .0) (c .before .before .before .before .before .match .keys2) (c .before .before .before .condition2 .result) (c .before .before .before .condition2 .ensures .0) (c .if2 .taken), c .before .before .before .condition2 .ensures .1)
+condition-returns-2 t c =
+    let c₃ = c .before .before .before in let condition2 = c₃ .condition2 in
+    let c₅ = c₃ .before .before in let match = c₅ .match in
+    let c₆ = c₅ .before in let read = c₆ .read in
+    let c₉ = c₆ .before .before .before in let tail-sizes = c₉ .tail-sizes in
+    let c₁₀ = c₉ .before in let tail = c₁₀ .tail in
+    let c₁₁ = c₁₀ .before in let size-at = c₁₁ .size-at in
+    let c₁₂ = c₁₁ .before in let record-length = c₁₂ .record-length in
+    let c₁₃ = c₁₂ .before in let byte = c₁₃ .byte in
+    let c₁₄ = c₁₃ .before in let if1 = c₁₄ .if1 in
+    let c₁₉ = c₁₄ .before .before .before .before .before in let args = c₁₉ .args in
+    (both-stop (shapeIn (now (args .catalogue))) (args .limit) (args .level) (now (args .q)) (now (args .z)) (now (args .reach)) (if1 .left) (read .result) (read .ensures) (byte .result) (record-length .result) (byte .ensures) (record-length .ensures .0) (now (tail .result)) (now (tail-sizes .result)) (tail .ensures) (tail-sizes .ensures) (size-at .result) (size-at .ensures .0) (match .keys2) (condition2 .result) (condition2 .ensures .0) (c .if2 .taken), condition2 .ensures .1)
 
 condition-condition-requires-3 : (t : ℕ) → condition-lts.Need-condition-requires-3 (condition-claims t) (condition-at t) condition.Post
 condition-condition-requires-3 t c κs = search needs
@@ -177,7 +208,18 @@ condition-same-length-2 : (t : ℕ) → condition-lts.Need-same-length-2 (condit
 condition-same-length-2 t c = search needs
 
 condition-returns-3 : (t : ℕ) → condition-lts.Need-returns-3 (condition-claims t) (condition-at t) condition.Post
-condition-returns-3 t c = (compare-stop (shapeIn (now (c .before .before .before .before .before .before .before .before .before .before .before .before .before .before .before .before .before .before .args .catalogue))) (c .before .before .before .before .before .before .before .before .before .before .before .before .before .before .before .before .before .before .args .limit) (c .before .before .before .before .before .before .before .before .before .before .before .before .before .before .before .before .before .before .args .level) (now (c .before .before .before .before .before .before .before .before .before .before .before .before .before .before .before .before .before .before .args .q)) (now (c .before .before .before .before .before .before .before .before .before .before .before .before .before .before .before .before .before .before .args .z)) (now (c .before .before .before .before .before .before .before .before .before .before .before .before .before .before .before .before .before .before .args .reach)) (c .before .before .before .before .before .before .before .before .before .before .before .before .before .if1 .left) (c .before .before .before .before .before .read .result) (c .before .before .before .before .before .read .ensures) (c .before .before .before .before .before .before .before .before .before .before .before .before .byte .result) (c .before .before .before .before .before .before .before .before .before .before .before .record-length .result) (c .before .before .before .before .before .before .before .before .before .before .before .before .byte .ensures) (c .before .before .before .before .before .before .before .before .before .before .before .record-length .ensures .0) (now (c .before .before .before .before .before .before .before .before .before .tail .result)) (now (c .before .before .before .before .before .before .before .before .tail-sizes .result)) (c .before .before .before .before .before .before .before .before .before .tail .ensures) (c .before .before .before .before .before .before .before .before .tail-sizes .ensures) (c .before .before .before .before .before .before .before .before .before .before .size-at .result) (c .before .before .before .before .before .before .before .before .before .before .size-at .ensures .0) _ (c .before .before .before .enum-told2 .given .1) (c .before .term .result) (c .before .term .ensures) (c .if3 .taken), refl)
+condition-returns-3 t c =
+    let c₁ = c .before in let term = c₁ .term in
+    let c₃ = c₁ .before .before in let enum-told2 = c₃ .enum-told2 in
+    let c₅ = c₃ .before .before in let read = c₅ .read in
+    let c₈ = c₅ .before .before .before in let tail-sizes = c₈ .tail-sizes in
+    let c₉ = c₈ .before in let tail = c₉ .tail in
+    let c₁₀ = c₉ .before in let size-at = c₁₀ .size-at in
+    let c₁₁ = c₁₀ .before in let record-length = c₁₁ .record-length in
+    let c₁₂ = c₁₁ .before in let byte = c₁₂ .byte in
+    let c₁₃ = c₁₂ .before in let if1 = c₁₃ .if1 in
+    let c₁₈ = c₁₃ .before .before .before .before .before in let args = c₁₈ .args in
+    (compare-stop (shapeIn (now (args .catalogue))) (args .limit) (args .level) (now (args .q)) (now (args .z)) (now (args .reach)) (if1 .left) (read .result) (read .ensures) (byte .result) (record-length .result) (byte .ensures) (record-length .ensures .0) (now (tail .result)) (now (tail-sizes .result)) (tail .ensures) (tail-sizes .ensures) (size-at .result) (size-at .ensures .0) _ (enum-told2 .given .1) (term .result) (term .ensures) (c .if3 .taken), refl)
 
 condition-term-requires-2 : (t : ℕ) → condition-lts.Need-term-requires-2 (condition-claims t) (condition-at t) condition.Post
 condition-term-requires-2 t c κs = search needs
@@ -192,34 +234,89 @@ condition-same-length-3 : (t : ℕ) → condition-lts.Need-same-length-3 (condit
 condition-same-length-3 t c = search needs
 
 condition-returns-4 : (t : ℕ) → condition-lts.Need-returns-4 (condition-claims t) (condition-at t) condition.Post
-condition-returns-4 t c = (not-is (shapeIn (now (c .before .before .before .before .before .before .before .before .before .before .before .before .before .before .before .before .before .before .before .args .catalogue))) (c .before .before .before .before .before .before .before .before .before .before .before .before .before .before .before .before .before .before .before .args .limit) (c .before .before .before .before .before .before .before .before .before .before .before .before .before .before .before .before .before .before .before .args .level) (now (c .before .before .before .before .before .before .before .before .before .before .before .before .before .before .before .before .before .before .before .args .q)) (now (c .before .before .before .before .before .before .before .before .before .before .before .before .before .before .before .before .before .before .before .args .z)) (now (c .before .before .before .before .before .before .before .before .before .before .before .before .before .before .before .before .before .before .before .args .reach)) (c .before .before .before .before .before .before .before .before .before .before .before .before .before .before .if1 .left) (c .before .before .before .before .before .before .read .result) (c .before .before .before .before .before .before .read .ensures) (c .before .before .before .before .before .before .before .before .before .before .before .before .before .byte .result) (c .before .before .before .before .before .before .before .before .before .before .before .before .record-length .result) (c .before .before .before .before .before .before .before .before .before .before .before .before .before .byte .ensures) (c .before .before .before .before .before .before .before .before .before .before .before .before .record-length .ensures .0) (now (c .before .before .before .before .before .before .before .before .before .before .tail .result)) (now (c .before .before .before .before .before .before .before .before .before .tail-sizes .result)) (c .before .before .before .before .before .before .before .before .before .before .tail .ensures) (c .before .before .before .before .before .before .before .before .before .tail-sizes .ensures) (c .before .before .before .before .enum-told .given .1) _ (c .before .before .condition .ensures .0), c .before .before .condition .ensures .1)
+condition-returns-4 t c =
+    let c₂ = c .before .before in let condition = c₂ .condition in
+    let c₄ = c₂ .before .before in let enum-told = c₄ .enum-told in
+    let c₆ = c₄ .before .before in let read = c₆ .read in
+    let c₉ = c₆ .before .before .before in let tail-sizes = c₉ .tail-sizes in
+    let c₁₀ = c₉ .before in let tail = c₁₀ .tail in
+    let c₁₂ = c₁₀ .before .before in let record-length = c₁₂ .record-length in
+    let c₁₃ = c₁₂ .before in let byte = c₁₃ .byte in
+    let c₁₄ = c₁₃ .before in let if1 = c₁₄ .if1 in
+    let c₁₉ = c₁₄ .before .before .before .before .before in let args = c₁₉ .args in
+    (not-is (shapeIn (now (args .catalogue))) (args .limit) (args .level) (now (args .q)) (now (args .z)) (now (args .reach)) (if1 .left) (read .result) (read .ensures) (byte .result) (record-length .result) (byte .ensures) (record-length .ensures .0) (now (tail .result)) (now (tail-sizes .result)) (tail .ensures) (tail-sizes .ensures) (enum-told .given .1) _ (condition .ensures .0), condition .ensures .1)
 
 condition-same-length-4 : (t : ℕ) → condition-lts.Need-same-length-4 (condition-claims t) (condition-at t) condition.Post
 condition-same-length-4 t c = search needs
 
 condition-returns-5 : (t : ℕ) → condition-lts.Need-returns-5 (condition-claims t) (condition-at t) condition.Post
-condition-returns-5 t c = (both-go (shapeIn (now (c .before .before .before .before .before .before .before .before .before .before .before .before .before .before .before .before .before .before .before .before .before .before .before .args .catalogue))) (c .before .before .before .before .before .before .before .before .before .before .before .before .before .before .before .before .before .before .before .before .before .before .before .args .limit) (c .before .before .before .before .before .before .before .before .before .before .before .before .before .before .before .before .before .before .before .before .before .before .before .args .level) (now (c .before .before .before .before .before .before .before .before .before .before .before .before .before .before .before .before .before .before .before .before .before .before .before .args .q)) (now (c .before .before .before .before .before .before .before .before .before .before .before .before .before .before .before .before .before .before .before .before .before .before .before .args .z)) (now (c .before .before .before .before .before .before .before .before .before .before .before .before .before .before .before .before .before .before .before .before .before .before .before .args .reach)) (c .before .before .before .before .before .before .before .before .before .before .before .before .before .before .before .before .before .before .if1 .left) (c .before .before .before .before .before .before .before .before .before .before .read .result) (c .before .before .before .before .before .before .before .before .before .before .read .ensures) (c .before .before .before .before .before .before .before .before .before .before .before .before .before .before .before .before .before .byte .result) (c .before .before .before .before .before .before .before .before .before .before .before .before .before .before .before .before .record-length .result) (c .before .before .before .before .before .before .before .before .before .before .before .before .before .before .before .before .before .byte .ensures) (c .before .before .before .before .before .before .before .before .before .before .before .before .before .before .before .before .record-length .ensures .0) (now (c .before .before .before .before .before .before .before .before .before .before .before .before .before .before .tail .result)) (now (c .before .before .before .before .before .before .before .before .before .before .before .before .before .tail-sizes .result)) (c .before .before .before .before .before .before .before .before .before .before .before .before .before .before .tail .ensures) (c .before .before .before .before .before .before .before .before .before .before .before .before .before .tail-sizes .ensures) (c .before .before .before .before .before .before .before .before .before .before .before .before .before .before .before .size-at .result) (c .before .before .before .before .before .before .before .before .before .before .before .before .before .before .before .size-at .ensures .0) (c .before .before .before .before .before .before .before .before .before .match .keys2) (c .before .before .before .before .before .before .before .condition2 .result) (c .before .before .before .before .before .before .before .condition2 .ensures .0) (c .before .before .before .before .if2 .left) (now (c .before .before .before .before .before .before .before .before .before .before .before .before .tail2 .result)) (now (c .before .before .before .before .before .before .before .before .before .before .before .tail-sizes2 .result)) (c .before .before .before .before .before .before .before .condition2 .last .1 .1 .1 .1 .0) (c .before .before .before .before .before .before .before .before .before .before .before .before .tail2 .ensures) (c .before .before .before .before .before .before .before .before .before .before .before .tail-sizes2 .ensures) (c .before .before .before .before .before .before .before .condition2 .ensures .1) (c .before .before .condition3 .result) (c .before .before .condition3 .ensures .0), c .before .before .condition3 .ensures .1 ∙ c .before .before .before .before .before .before .before .condition2 .ensures .1)
+condition-returns-5 t c =
+    let c₂ = c .before .before in let condition3 = c₂ .condition3 in
+    let c₄ = c₂ .before .before in let if2 = c₄ .if2 in
+    let c₇ = c₄ .before .before .before in let condition2 = c₇ .condition2 in
+    let c₉ = c₇ .before .before in let match = c₉ .match in
+    let c₁₀ = c₉ .before in let read = c₁₀ .read in
+    let c₁₁ = c₁₀ .before in let tail-sizes2 = c₁₁ .tail-sizes2 in
+    let c₁₂ = c₁₁ .before in let tail2 = c₁₂ .tail2 in
+    let c₁₃ = c₁₂ .before in let tail-sizes = c₁₃ .tail-sizes in
+    let c₁₄ = c₁₃ .before in let tail = c₁₄ .tail in
+    let c₁₅ = c₁₄ .before in let size-at = c₁₅ .size-at in
+    let c₁₆ = c₁₅ .before in let record-length = c₁₆ .record-length in
+    let c₁₇ = c₁₆ .before in let byte = c₁₇ .byte in
+    let c₁₈ = c₁₇ .before in let if1 = c₁₈ .if1 in
+    let c₂₃ = c₁₈ .before .before .before .before .before in let args = c₂₃ .args in
+    (both-go (shapeIn (now (args .catalogue))) (args .limit) (args .level) (now (args .q)) (now (args .z)) (now (args .reach)) (if1 .left) (read .result) (read .ensures) (byte .result) (record-length .result) (byte .ensures) (record-length .ensures .0) (now (tail .result)) (now (tail-sizes .result)) (tail .ensures) (tail-sizes .ensures) (size-at .result) (size-at .ensures .0) (match .keys2) (condition2 .result) (condition2 .ensures .0) (if2 .left) (now (tail2 .result)) (now (tail-sizes2 .result)) (condition2 .last .1 .1 .1 .1 .0) (tail2 .ensures) (tail-sizes2 .ensures) (condition2 .ensures .1) (condition3 .result) (condition3 .ensures .0), condition3 .ensures .1 ∙ condition2 .ensures .1)
 
 condition-same-length-5 : (t : ℕ) → condition-lts.Need-same-length-5 (condition-claims t) (condition-at t) condition.Post
 condition-same-length-5 t c = search needs
 
 condition-returns-6 : (t : ℕ) → condition-lts.Need-returns-6 (condition-claims t) (condition-at t) condition.Post
-condition-returns-6 t c = (compare-go (shapeIn (now (c .before .before .before .before .before .before .before .before .before .before .before .before .before .before .before .before .before .before .before .before .args .catalogue))) (c .before .before .before .before .before .before .before .before .before .before .before .before .before .before .before .before .before .before .before .before .args .limit) (c .before .before .before .before .before .before .before .before .before .before .before .before .before .before .before .before .before .before .before .before .args .level) (now (c .before .before .before .before .before .before .before .before .before .before .before .before .before .before .before .before .before .before .before .before .args .q)) (now (c .before .before .before .before .before .before .before .before .before .before .before .before .before .before .before .before .before .before .before .before .args .z)) (now (c .before .before .before .before .before .before .before .before .before .before .before .before .before .before .before .before .before .before .before .before .args .reach)) (c .before .before .before .before .before .before .before .before .before .before .before .before .before .before .before .if1 .left) (c .before .before .before .before .before .before .before .read .result) (c .before .before .before .before .before .before .before .read .ensures) (c .before .before .before .before .before .before .before .before .before .before .before .before .before .before .byte .result) (c .before .before .before .before .before .before .before .before .before .before .before .before .before .record-length .result) (c .before .before .before .before .before .before .before .before .before .before .before .before .before .before .byte .ensures) (c .before .before .before .before .before .before .before .before .before .before .before .before .before .record-length .ensures .0) (now (c .before .before .before .before .before .before .before .before .before .before .before .tail .result)) (now (c .before .before .before .before .before .before .before .before .before .before .tail-sizes .result)) (c .before .before .before .before .before .before .before .before .before .before .before .tail .ensures) (c .before .before .before .before .before .before .before .before .before .before .tail-sizes .ensures) (c .before .before .before .before .before .before .before .before .before .before .before .before .size-at .result) (c .before .before .before .before .before .before .before .before .before .before .before .before .size-at .ensures .0) _ (c .before .before .before .before .before .enum-told2 .given .1) (c .before .before .before .term .result) (c .before .before .before .term .ensures) (c .before .before .if3 .left) (now (c .before .before .before .before .before .before .before .before .before .tail2 .result)) (now (c .before .before .before .before .before .before .before .before .tail-sizes2 .result)) (c .before .before .before .before .before .before .before .before .before .tail2 .ensures) (c .before .before .before .before .before .before .before .before .tail-sizes2 .ensures) (c .term2 .result) (c .term2 .ensures), refl)
+condition-returns-6 t c =
+    let c₃ = c .before .before .before in let term = c₃ .term in
+    let c₅ = c₃ .before .before in let enum-told2 = c₅ .enum-told2 in
+    let c₇ = c₅ .before .before in let read = c₇ .read in
+    let c₈ = c₇ .before in let tail-sizes2 = c₈ .tail-sizes2 in
+    let c₉ = c₈ .before in let tail2 = c₉ .tail2 in
+    let c₁₀ = c₉ .before in let tail-sizes = c₁₀ .tail-sizes in
+    let c₁₁ = c₁₀ .before in let tail = c₁₁ .tail in
+    let c₁₂ = c₁₁ .before in let size-at = c₁₂ .size-at in
+    let c₁₃ = c₁₂ .before in let record-length = c₁₃ .record-length in
+    let c₁₄ = c₁₃ .before in let byte = c₁₄ .byte in
+    let c₁₅ = c₁₄ .before in let if1 = c₁₅ .if1 in
+    let c₂₀ = c₁₅ .before .before .before .before .before in let args = c₂₀ .args in
+    (compare-go (shapeIn (now (args .catalogue))) (args .limit) (args .level) (now (args .q)) (now (args .z)) (now (args .reach)) (if1 .left) (read .result) (read .ensures) (byte .result) (record-length .result) (byte .ensures) (record-length .ensures .0) (now (tail .result)) (now (tail-sizes .result)) (tail .ensures) (tail-sizes .ensures) (size-at .result) (size-at .ensures .0) _ (enum-told2 .given .1) (term .result) (term .ensures) (c .before .before .if3 .left) (now (tail2 .result)) (now (tail-sizes2 .result)) (tail2 .ensures) (tail-sizes2 .ensures) (c .term2 .result) (c .term2 .ensures), refl)
 
 condition-same-length-6 : (t : ℕ) → condition-lts.Need-same-length-6 (condition-claims t) (condition-at t) condition.Post
 condition-same-length-6 t c = search needs
 
 condition-returns-7 : (t : ℕ) → condition-lts.Need-returns-7 (condition-claims t) (condition-at t) condition.Post
-condition-returns-7 t c = (some-is (shapeIn (now (c .before .before .before .before .before .before .before .before .before .before .before .before .before .before .before .before .before .before .before .before .args .catalogue))) (c .before .before .before .before .before .before .before .before .before .before .before .before .before .before .before .before .before .before .before .before .args .limit) (c .before .before .before .before .before .before .before .before .before .before .before .before .before .before .before .before .before .before .before .before .args .level) (now (c .before .before .before .before .before .before .before .before .before .before .before .before .before .before .before .before .before .before .before .before .args .q)) (now (c .before .before .before .before .before .before .before .before .before .before .before .before .before .before .before .before .before .before .before .before .args .z)) (now (c .before .before .before .before .before .before .before .before .before .before .before .before .before .before .before .before .before .before .before .before .args .reach)) (c .before .before .before .before .before .before .before .before .before .before .before .before .before .before .before .if1 .left) (c .before .before .before .before .before .before .before .read .result) (c .before .before .before .before .before .before .before .read .ensures) (c .before .before .before .before .before .before .before .before .before .before .before .before .before .before .byte .result) (c .before .before .before .before .before .before .before .before .before .before .before .before .before .record-length .result) (c .before .before .before .before .before .before .before .before .before .before .before .before .before .before .byte .ensures) (c .before .before .before .before .before .before .before .before .before .before .before .before .before .record-length .ensures .0) (now (c .before .before .before .before .before .before .before .before .before .before .before .tail .result)) (now (c .before .before .before .before .before .before .before .before .before .before .tail-sizes .result)) (c .before .before .before .before .before .before .before .before .before .before .before .tail .ensures) (c .before .before .before .before .before .before .before .before .before .before .tail-sizes .ensures) _ _ (c .before .before .before .before .before .v .given .1) _ (c .before .before .some .ensures .0), c .before .before .some .ensures .1)
+condition-returns-7 t c =
+    let c₂ = c .before .before in let some = c₂ .some in
+    let c₅ = c₂ .before .before .before in let v = c₅ .v in
+    let c₇ = c₅ .before .before in let read = c₇ .read in
+    let c₁₀ = c₇ .before .before .before in let tail-sizes = c₁₀ .tail-sizes in
+    let c₁₁ = c₁₀ .before in let tail = c₁₁ .tail in
+    let c₁₃ = c₁₁ .before .before in let record-length = c₁₃ .record-length in
+    let c₁₄ = c₁₃ .before in let byte = c₁₄ .byte in
+    let c₁₅ = c₁₄ .before in let if1 = c₁₅ .if1 in
+    let c₂₀ = c₁₅ .before .before .before .before .before in let args = c₂₀ .args in
+    (some-is (shapeIn (now (args .catalogue))) (args .limit) (args .level) (now (args .q)) (now (args .z)) (now (args .reach)) (if1 .left) (read .result) (read .ensures) (byte .result) (record-length .result) (byte .ensures) (record-length .ensures .0) (now (tail .result)) (now (tail-sizes .result)) (tail .ensures) (tail-sizes .ensures) _ _ (v .given .1) _ (some .ensures .0), some .ensures .1)
 
 condition-returns-8 : (t : ℕ) → condition-lts.Need-returns-8 (condition-claims t) (condition-at t) condition.Post
-condition-returns-8 t c = (rest-is (shapeIn (now (c .before .before .before .before .before .before .before .before .before .before .before .before .before .before .args .catalogue))) (c .before .before .before .before .before .before .before .before .before .before .before .before .before .before .args .limit) (c .before .before .before .before .before .before .before .before .before .before .before .before .before .before .args .level) (now (c .before .before .before .before .before .before .before .before .before .before .before .before .before .before .args .q)) (now (c .before .before .before .before .before .before .before .before .before .before .before .before .before .before .args .z)) (now (c .before .before .before .before .before .before .before .before .before .before .before .before .before .before .args .reach)) (c .before .before .before .before .before .before .before .before .before .if1 .left) (c .before .read .result) (c .before .read .ensures) (c .match .keys5), refl)
+condition-returns-8 t c =
+    let c₁ = c .before in let read = c₁ .read in
+    let c₉ = c₁ .before .before .before .before .before .before .before .before in let if1 = c₉ .if1 in
+    let c₁₄ = c₉ .before .before .before .before .before in let args = c₁₄ .args in
+    (rest-is (shapeIn (now (args .catalogue))) (args .limit) (args .level) (now (args .q)) (now (args .z)) (now (args .reach)) (if1 .left) (read .result) (read .ensures) (c .match .keys5), refl)
 
 some-known-requires : (t : ℕ) → some-lts.Need-known-requires (some-claims t) (some-at t) some.Post
 some-known-requires t c κs = search needs
 
 some-returns : (t : ℕ) → some-lts.Need-returns (some-claims t) (some-at t) some.Post
-some-returns t c = (some-unknown (shapeIn (now (c .before .before .before .before .before .before .args .catalogue))) (c .before .before .before .before .before .before .args .limit) (c .before .before .before .before .before .before .args .variable) (c .before .before .before .before .before .before .args .relation) (now (c .before .before .before .before .before .before .args .reach)) (decode (c .before .before .before .before .before .before .args .level) (now (c .before .before .before .before .before .before .args .q)) (now (c .before .before .before .before .before .before .args .z))) (c .before .known .result) (c .before .known .ensures) (c .if1 .taken), refl)
+some-returns t c =
+    let c₁ = c .before in let known = c₁ .known in
+    let c₆ = c₁ .before .before .before .before .before in let args = c₆ .args in
+    (some-unknown (shapeIn (now (args .catalogue))) (args .limit) (args .variable) (args .relation) (now (args .reach)) (decode (args .level) (now (args .q)) (now (args .z))) (known .result) (known .ensures) (c .if1 .taken), refl)
 
 some-entry-requires : (t : ℕ) → some-lts.Need-entry-requires (some-claims t) (some-at t) some.Post
 some-entry-requires t c κs = search needs
@@ -237,10 +334,21 @@ some-same-length : (t : ℕ) → some-lts.Need-same-length (some-claims t) (some
 some-same-length t c = search needs
 
 some-returns-2 : (t : ℕ) → some-lts.Need-returns-2 (some-claims t) (some-at t) some.Post
-some-returns-2 t c = (some-inside (shapeIn (now (c .before .before .before .before .before .before .before .before .before .before .before .before .before .before .before .before .before .before .before .before .args .catalogue))) (c .before .before .before .before .before .before .before .before .before .before .before .before .before .before .before .before .before .before .before .before .args .limit) (c .before .before .before .before .before .before .before .before .before .before .before .before .before .before .before .before .before .before .before .before .args .variable) (c .before .before .before .before .before .before .before .before .before .before .before .before .before .before .before .before .before .before .before .before .args .relation) (now (c .before .before .before .before .before .before .before .before .before .before .before .before .before .before .before .before .before .before .before .before .args .reach)) (decode (c .before .before .before .before .before .before .before .before .before .before .before .before .before .before .before .before .before .before .before .before .args .level) (now (c .before .before .before .before .before .before .before .before .before .before .before .before .before .before .before .before .before .before .before .before .args .q)) (now (c .before .before .before .before .before .before .before .before .before .before .before .before .before .before .before .before .before .before .before .before .args .z))) (c .before .before .before .before .before .before .before .before .before .before .before .before .before .before .before .known .result) (c .before .before .before .before .before .before .before .before .before .before .before .before .before .before .before .known .ensures) (c .before .before .before .before .before .before .before .before .before .before .before .before .before .before .if1 .left) (c .before .before .before .before .before .before .before .before .before .before .before .before .before .before .before .before .before .before .before .before .pre .1) (c .before .before .before .before .before .before .before .before .before .before .bind .last .0) (c .before .before .before .before .before .before .before .before .before .before .bind .ensures) _ (c .before .before .before .before .before .before .condition .ensures .0), put-back (now (c .before .before .before .before .before .before .before .before .before .before .before .before .before .before .before .before .before .before .before .before .args .reach)) (c .before .before .before .before .before .before .condition .last .1 .1 .1 .1 .0) (c .before .before .put .last .0) (c .before .before .before .before .before .before .before .before .before .before .before .before .before .before .before .before .before .before .before .before .args .variable) _ _ (c .before .before .before .before .before .before .condition .ensures .1 ∙ c .before .before .before .before .before .before .before .before .before .before .bind .ensures) (c .before .before .before .before .before .before .before .before .before .before .before .before .entry .ensures) (c .before .before .put .ensures))
+some-returns-2 t c =
+    let c₂ = c .before .before in let put = c₂ .put in
+    let c₆ = c₂ .before .before .before .before in let condition = c₆ .condition in
+    let c₁₀ = c₆ .before .before .before .before in let bind = c₁₀ .bind in
+    let c₁₂ = c₁₀ .before .before in let entry = c₁₂ .entry in
+    let c₁₄ = c₁₂ .before .before in let if1 = c₁₄ .if1 in
+    let c₁₅ = c₁₄ .before in let known = c₁₅ .known in
+    let c₂₀ = c₁₅ .before .before .before .before .before in let args = c₂₀ .args in let pre = c₂₀ .pre in
+    let reach = now (args .reach) in let variable = args .variable in
+    (some-inside (shapeIn (now (args .catalogue))) (args .limit) variable (args .relation) reach (decode (args .level) (now (args .q)) (now (args .z))) (known .result) (known .ensures) (if1 .left) (pre .1) (bind .last .0) (bind .ensures) _ (condition .ensures .0), put-back reach (condition .last .1 .1 .1 .1 .0) (put .last .0) variable _ _ (condition .ensures .1 ∙ bind .ensures) (entry .ensures) (put .ensures))
 
 term-returns : (t : ℕ) → term-lts.Need-returns (term-claims t) (term-at t) term.Post
-term-returns t c = zero-isT (shapeIn (now (c .before .before .before .before .before .args .catalogue))) (c .before .before .before .before .before .args .limit) (c .before .before .before .before .before .args .level) (now (c .before .before .before .before .before .args .q)) (now (c .before .before .before .before .before .args .z)) (now (c .before .before .before .before .before .args .reach)) (c .if1 .taken)
+term-returns t c =
+    let c₅ = c .before .before .before .before .before in let args = c₅ .args in
+    zero-isT (shapeIn (now (args .catalogue))) (args .limit) (args .level) (now (args .q)) (now (args .z)) (now (args .reach)) (c .if1 .taken)
 
 term-read-requires : (t : ℕ) → term-lts.Need-read-requires (term-claims t) (term-at t) term.Post
 term-read-requires t c κs = search needs
@@ -273,13 +381,29 @@ term-aggregate-requires : (t : ℕ) → term-lts.Need-aggregate-requires (term-c
 term-aggregate-requires t c κs = search needs
 
 term-returns-2 : (t : ℕ) → term-lts.Need-returns-2 (term-claims t) (term-at t) term.Post
-term-returns-2 t c = attribute-is (shapeIn (now (c .before .before .before .before .before .before .before .before .before .before .args .catalogue))) (c .before .before .before .before .before .before .before .before .before .before .args .limit) (c .before .before .before .before .before .before .before .before .before .before .args .level) (now (c .before .before .before .before .before .before .before .before .before .before .args .q)) (now (c .before .before .before .before .before .before .before .before .before .before .args .z)) (now (c .before .before .before .before .before .before .before .before .before .before .args .reach)) (c .before .before .before .before .before .if1 .left) (c .before .before .before .before .read .result) (c .before .before .before .before .read .ensures) _ _ (c .before .before .v .given .1) _ (c .attribute .ensures)
+term-returns-2 t c =
+    let c₄ = c .before .before .before .before in let read = c₄ .read in
+    let c₅ = c₄ .before in let if1 = c₅ .if1 in
+    let c₁₀ = c₅ .before .before .before .before .before in let args = c₁₀ .args in
+    attribute-is (shapeIn (now (args .catalogue))) (args .limit) (args .level) (now (args .q)) (now (args .z)) (now (args .reach)) (if1 .left) (read .result) (read .ensures) _ _ (c .before .before .v .given .1) _ (c .attribute .ensures)
 
 term-returns-3 : (t : ℕ) → term-lts.Need-returns-3 (term-claims t) (term-at t) term.Post
-term-returns-3 t c = aggregate-is (shapeIn (now (c .before .before .before .before .before .before .before .before .before .before .before .before .before .before .args .catalogue))) (c .before .before .before .before .before .before .before .before .before .before .before .before .before .before .args .limit) (c .before .before .before .before .before .before .before .before .before .before .before .before .before .before .args .level) (now (c .before .before .before .before .before .before .before .before .before .before .before .before .before .before .args .q)) (now (c .before .before .before .before .before .before .before .before .before .before .before .before .before .before .args .z)) (now (c .before .before .before .before .before .before .before .before .before .before .before .before .before .before .args .reach)) (c .before .before .before .before .before .before .before .before .before .if1 .left) (c .before .before .before .before .before .before .before .before .read .result) (c .before .before .before .before .before .before .before .before .read .ensures) (c .before .before .before .before .byte .result) (c .before .before .before .record-length .result) (c .before .before .before .before .byte .ensures) (c .before .before .before .record-length .ensures .0) (now (c .before .before .tail .result)) (now (c .before .tail-sizes .result)) (c .before .before .tail .ensures) (c .before .tail-sizes .ensures) _ _ _ _ (c .before .before .before .before .before .before .v2 .given .1) _ (c .aggregate .ensures)
+term-returns-3 t c =
+    let c₁ = c .before in let tail-sizes = c₁ .tail-sizes in
+    let c₂ = c₁ .before in let tail = c₂ .tail in
+    let c₃ = c₂ .before in let record-length = c₃ .record-length in
+    let c₄ = c₃ .before in let byte = c₄ .byte in
+    let c₆ = c₄ .before .before in let v2 = c₆ .v2 in
+    let c₈ = c₆ .before .before in let read = c₈ .read in
+    let c₉ = c₈ .before in let if1 = c₉ .if1 in
+    let c₁₄ = c₉ .before .before .before .before .before in let args = c₁₄ .args in
+    aggregate-is (shapeIn (now (args .catalogue))) (args .limit) (args .level) (now (args .q)) (now (args .z)) (now (args .reach)) (if1 .left) (read .result) (read .ensures) (byte .result) (record-length .result) (byte .ensures) (record-length .ensures .0) (now (tail .result)) (now (tail-sizes .result)) (tail .ensures) (tail-sizes .ensures) _ _ _ _ (v2 .given .1) _ (c .aggregate .ensures)
 
 term-returns-4 : (t : ℕ) → term-lts.Need-returns-4 (term-claims t) (term-at t) term.Post
-term-returns-4 t c = rest-isT (shapeIn (now (c .before .before .before .before .before .before .before .args .catalogue))) (c .before .before .before .before .before .before .before .args .limit) (c .before .before .before .before .before .before .before .args .level) (now (c .before .before .before .before .before .before .before .args .q)) (now (c .before .before .before .before .before .before .before .args .z)) (now (c .before .before .before .before .before .before .before .args .reach)) (c .before .before .if1 .left) (c .before .read .result) (c .before .read .ensures) (c .match .keys3)
+term-returns-4 t c =
+    let c₁ = c .before in let read = c₁ .read in
+    let c₇ = c₁ .before .before .before .before .before .before in let args = c₇ .args in
+    rest-isT (shapeIn (now (args .catalogue))) (args .limit) (args .level) (now (args .q)) (now (args .z)) (now (args .reach)) (c .before .before .if1 .left) (read .result) (read .ensures) (c .match .keys3)
 
 pub +aggregate+condition+some+term-spec : {M : Type 1} → statement M
 +aggregate+condition+some+term-spec =

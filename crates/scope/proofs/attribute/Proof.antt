@@ -16,7 +16,9 @@ entry-requires c κs = search needs
 
 -- src/lib.rt:51:9
 returns : tie.Need-returns
-returns c = out-of-reach (shapeIn (now (c .before .before .before .before .args .catalogue))) (now (c .before .before .before .before .args .reach)) (c .before .before .before .before .args .variable) (c .before .before .before .before .args .attribute) _ (c .before .entry .ensures) (c .if1 .taken)
+returns c =
+    let c₄ = c .before .before .before .before in let args = c₄ .args in
+    out-of-reach (shapeIn (now (args .catalogue))) (now (args .reach)) (args .variable) (args .attribute) _ (c .before .entry .ensures) (c .if1 .taken)
 
 -- src/lib.rt:53:31
 sub-wide-entry : tie.Need-sub-wide-entry
@@ -32,7 +34,10 @@ has-requires c κs = search needs
 
 -- src/lib.rt:46:1
 returns-2 : tie.Need-returns-2
-returns-2 c = in-reach (shapeIn (now (c .before .before .before .before .before .before .args .catalogue))) (now (c .before .before .before .before .before .before .args .reach)) (c .before .before .before .before .before .before .args .variable) (c .before .before .before .before .before .before .args .attribute) _ _ _ (c .before .before .before .entry .ensures) (c .before .before .if1 .left) (c .before .wide-entry .ensures) (c .has .ensures)
+returns-2 c =
+    let c₃ = c .before .before .before in let entry = c₃ .entry in
+    let c₆ = c₃ .before .before .before in let args = c₆ .args in
+    in-reach (shapeIn (now (args .catalogue))) (now (args .reach)) (args .variable) (args .attribute) _ _ _ (entry .ensures) (c .before .before .if1 .left) (c .before .wide-entry .ensures) (c .has .ensures)
 
 pub attribute-spec : {M : Type 1} → statement M
 attribute-spec =

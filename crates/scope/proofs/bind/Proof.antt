@@ -24,7 +24,10 @@ same-length c = search needs
 
 -- src/lib.rt:83:1
 returns : tie.Need-returns
-returns c = c .before .before .put .ensures ∙ ap (λ (i : ℕ). set (now (c .before .before .before .before .before .before .args .reach)) (c .before .before .before .before .before .before .args .variable) i) (c .before .before .before .entry-for .ensures)
+returns c =
+    let c₃ = c .before .before .before in let entry-for = c₃ .entry-for in
+    let c₆ = c₃ .before .before .before in let args = c₆ .args in
+    c .before .before .put .ensures ∙ ap (λ (i : ℕ). set (now (args .reach)) (args .variable) i) (entry-for .ensures)
 
 pub bind-spec : {M : Type 1} → statement M
 bind-spec = tie.close (tie.spec entry-for-requires put-requires same-length returns)

@@ -30,7 +30,9 @@ byte-requires c κs = search needs
 
 -- src/lib.rt:26:1
 returns-2 : tie.Need-returns-2
-returns-2 c = has-some (now (c .before .before .before .before .args .catalogue)) (c .before .before .before .before .args .relation) (c .before .before .before .before .args .attribute) _ (c .before .before .count .ensures) (c .before .if1 .left) _ (c .byte .ensures)
+returns-2 c =
+    let c₄ = c .before .before .before .before in let args = c₄ .args in
+    has-some (now (args .catalogue)) (args .relation) (args .attribute) _ (c .before .before .count .ensures) (c .before .if1 .left) _ (c .byte .ensures)
 
 pub has-spec : {M : Type 1} → statement M
 has-spec = tie.close (tie.spec count-requires returns mul-byte add-byte byte-requires returns-2)

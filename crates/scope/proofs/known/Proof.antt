@@ -25,7 +25,10 @@ count-requires c κs = search needs
 
 -- src/lib.rt:36:1
 returns-2 : tie.Need-returns-2
-returns-2 c = known-rest (shapeIn (now (c .before .before .before .before .args .catalogue))) (c .before .before .before .before .args .limit) (c .before .before .before .before .args .variable) (c .before .before .before .before .args .relation) (c .before .before .if1 .left) _ _ (c .before .wide .ensures) (c .count .ensures ∙ sym (shape-length (now (c .before .before .before .before .args .catalogue))))
+returns-2 c =
+    let c₄ = c .before .before .before .before in let args = c₄ .args in
+    let catalogue = now (args .catalogue) in
+    known-rest (shapeIn catalogue) (args .limit) (args .variable) (args .relation) (c .before .before .if1 .left) _ _ (c .before .wide .ensures) (c .count .ensures ∙ sym (shape-length catalogue))
 
 pub known-spec : {M : Type 1} → statement M
 known-spec = tie.close (tie.spec returns wide-requires count-requires returns-2)

@@ -28,7 +28,10 @@ condition-requires c κs = search needs
 
 -- src/lib.rt:168:1
 returns : tie.Need-returns
-returns c = permit-is (shapeIn (now (c .before .before .before .before .before .before .before .before .before .args .catalogue))) (c .before .before .before .before .before .before .before .before .before .args .relation) (decode (c .before .before .before .before .before .before .before .before .before .args .level) (now (c .before .before .before .before .before .before .before .before .before .args .q)) (now (c .before .before .before .before .before .before .before .before .before .args .z))) (c .before .before .before .before .bind .last .0) (c .before .before .before .before .bind .ensures) _ (c .before .condition .ensures .0)
+returns c =
+    let c₄ = c .before .before .before .before in let bind = c₄ .bind in
+    let c₉ = c₄ .before .before .before .before .before in let args = c₉ .args in
+    permit-is (shapeIn (now (args .catalogue))) (args .relation) (decode (args .level) (now (args .q)) (now (args .z))) (bind .last .0) (bind .ensures) _ (c .before .condition .ensures .0)
 
 pub permit-spec : {M : Type 1} → statement M
 permit-spec =

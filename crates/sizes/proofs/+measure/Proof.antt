@@ -61,7 +61,9 @@ measure-returns : (t : ℕ) → measure-lts.Need-returns (
   put-reads.Asked,
   put-reads.Learnt,
 ) (measure-at t) measure.Post measure-Inv-loop measure-μ-loop
-measure-returns t c = (zero-is (c .before .before .before .args .level) (c .before .before .before .args .term) (now (c .before .before .before .args .q)) (c .before .before .before .args .at) (now (c .before .before .before .args .z)) (c .if1 .taken), omega arith)
+measure-returns t c =
+    let c₃ = c .before .before .before in let args = c₃ .args in
+    (zero-is (args .level) (args .term) (now (args .q)) (args .at) (now (args .z)) (c .if1 .taken), omega arith)
 
 -- src/lib.rt:61:18
 measure-read-requires : (t : ℕ) → measure-lts.Need-read-requires (
@@ -130,7 +132,12 @@ measure-returns-2 : (t : ℕ) → measure-lts.Need-returns-2 (
   put-reads.Asked,
   put-reads.Learnt,
 ) (measure-at t) measure.Post measure-Inv-loop measure-μ-loop
-measure-returns-2 t c = (wrong (c .before .before .before .before .before .before .args .level) (c .before .before .before .before .before .before .args .term) (now (c .before .before .before .before .before .before .args .q)) (c .before .before .before .before .before .before .args .at) (now (c .before .before .before .before .before .before .args .z)) (c .before .before .before .if1 .left) (c .before .before .read .result) (c .before .accepted .result) (c .before .before .read .ensures) (c .before .accepted .ensures) (c .if2 .taken), omega arith)
+measure-returns-2 t c =
+    let c₁ = c .before in let accepted = c₁ .accepted in
+    let c₂ = c₁ .before in let read = c₂ .read in
+    let c₃ = c₂ .before in let if1 = c₃ .if1 in
+    let c₆ = c₃ .before .before .before in let args = c₆ .args in
+    (wrong (args .level) (args .term) (now (args .q)) (args .at) (now (args .z)) (if1 .left) (read .result) (accepted .result) (read .ensures) (accepted .ensures) (c .if2 .taken), omega arith)
 
 -- src/lib.rt:64:9
 measure-byte-requires : (t : ℕ) → measure-lts.Need-byte-requires (
@@ -245,7 +252,14 @@ measure-loop-holds : (t : ℕ) → measure-lts.Need-loop-holds (
   put-reads.Asked,
   put-reads.Learnt,
 ) (measure-at t) measure.Post measure-Inv-loop measure-μ-loop
-measure-loop-holds t c = (ap (λ (v : ℕ). children v (c .record-length .result) (λ x m y. measured (c .before .before .before .before .before .before .before .before .before .before .args .level - 1) (c .before .child-sort .result) x m y) (now (c .before .before .before .before .before .before .before .before .before .before .args .q)) (c .before .before .before .before .before .before .before .before .before .before .args .at) (now (c .before .before .before .before .before .before .before .before .before .before .args .z))) (sub-zero (c .before .before .child-count .result)), starts (c .before .before .before .before .before .before .before .before .before .before .args .term) (now (c .before .before .before .before .before .before .before .before .before .before .args .q)) (c .before .before .before .before .before .before .read .result) (c .before .before .before .before .before .accepted .result) (c .before .before .before .byte .result) (c .record-length .result) (c .before .before .before .before .before .before .read .ensures) (c .before .before .before .before .before .accepted .ensures) (c .before .before .before .before .if2 .left) (c .before .before .before .byte .ensures) (c .record-length .ensures .0), omega arith, refl)
+measure-loop-holds t c =
+    let c₃ = c .before .before .before in let byte = c₃ .byte in
+    let c₄ = c₃ .before in let if2 = c₄ .if2 in
+    let c₅ = c₄ .before in let accepted = c₅ .accepted in
+    let c₆ = c₅ .before in let read = c₆ .read in
+    let c₁₀ = c₆ .before .before .before .before in let args = c₁₀ .args in
+    let q = now (args .q) in
+    (ap (λ (v : ℕ). children v (c .record-length .result) (λ x m y. measured (args .level - 1) (c .before .child-sort .result) x m y) q (args .at) (now (args .z))) (sub-zero (c .before .before .child-count .result)), starts (args .term) q (read .result) (accepted .result) (byte .result) (c .record-length .result) (read .ensures) (accepted .ensures) (if2 .left) (byte .ensures) (c .record-length .ensures .0), omega arith, refl)
 
 -- src/lib.rt:70:38
 measure-tail-requires : (t : ℕ) → measure-lts.Need-tail-requires (
@@ -429,7 +443,22 @@ measure-returns-3 : (t : ℕ) → measure-lts.Need-returns-3 (
   put-reads.Asked,
   put-reads.Learnt,
 ) (measure-at t) measure.Post measure-Inv-loop measure-μ-loop
-measure-returns-3 t c = (ap (stored (c .before .before .before .before .before .before .before .before .before .before .before .before .before .before .before .before .before .before .before .args .at)) (stop (c .before .before .before .before .before .before .before .before .before .before .before .child-count .result) (c .before .before .before .before .before .before .before .before .loop .i) (c .before .before .before .before .before .before .before .before .loop .a) (λ x m y. measured (c .before .before .before .before .before .before .before .before .before .before .before .before .before .before .before .before .before .before .before .args .level - 1) (c .before .before .before .before .before .before .before .before .before .before .child-sort .result) x m y) (now (c .before .before .before .before .before .before .before .before .before .before .before .before .before .before .before .before .before .before .before .args .q)) (c .before .before .before .before .before .before .before .before .before .before .before .before .before .before .before .before .before .before .before .args .at) (c .before .before .before .before .before .before .before .before .loop .z) (now (c .before .before .before .before .before .before .tail .result)) (c .before .before .before .before .measure .last .1 .0) (c .before .before .before .before .measure .result) (c .before .before .before .before .before .before .before .loop-test .taken) (c .before .before .before .before .before .before .tail .ensures) (c .before .before .before .before .measure .ensures .0) (c .enum-told .given .1) ∙ c .before .before .before .before .before .before .before .before .loop .inv .0) ∙ whole (c .before .before .before .before .before .before .before .before .before .before .before .before .before .before .before .before .before .before .before .args .level) (c .before .before .before .before .before .before .before .before .before .before .before .before .before .before .before .before .before .before .before .args .term) (now (c .before .before .before .before .before .before .before .before .before .before .before .before .before .before .before .before .before .before .before .args .q)) (c .before .before .before .before .before .before .before .before .before .before .before .before .before .before .before .before .before .before .before .args .at) (now (c .before .before .before .before .before .before .before .before .before .before .before .before .before .before .before .before .before .before .before .args .z)) (c .before .before .before .before .before .before .before .before .before .before .before .before .before .before .before .before .if1 .left) (c .before .before .before .before .before .before .before .before .before .before .before .before .before .before .before .read .result) (c .before .before .before .before .before .before .before .before .before .before .before .before .before .before .accepted .result) (c .before .before .before .before .before .before .before .before .before .before .before .before .byte .result) (c .before .before .before .before .before .before .before .before .before .before .before .child-count .result) (c .before .before .before .before .before .before .before .before .before .record-length .result) (c .before .before .before .before .before .before .before .before .before .before .child-sort .result) (c .before .before .before .before .before .before .before .before .before .before .before .before .before .before .before .read .ensures) (c .before .before .before .before .before .before .before .before .before .before .before .before .before .before .accepted .ensures) (c .before .before .before .before .before .before .before .before .before .before .before .before .before .if2 .left) (c .before .before .before .before .before .before .before .before .before .before .before .before .byte .ensures) (c .before .before .before .before .before .before .before .before .before .before .before .child-count .ensures) (c .before .before .before .before .before .before .before .before .before .before .child-sort .ensures) (c .before .before .before .before .before .before .before .before .before .record-length .ensures .0), omega arith)
+measure-returns-3 t c =
+    let c₄ = c .before .before .before .before in let measure = c₄ .measure in
+    let c₆ = c₄ .before .before in let tail = c₆ .tail in
+    let c₇ = c₆ .before in let loop-test = c₇ .loop-test in
+    let c₈ = c₇ .before in let loop = c₈ .loop in
+    let c₉ = c₈ .before in let record-length = c₉ .record-length in
+    let c₁₀ = c₉ .before in let child-sort = c₁₀ .child-sort in
+    let c₁₁ = c₁₀ .before in let child-count = c₁₁ .child-count in
+    let c₁₂ = c₁₁ .before in let byte = c₁₂ .byte in
+    let c₁₃ = c₁₂ .before in let if2 = c₁₃ .if2 in
+    let c₁₄ = c₁₃ .before in let accepted = c₁₄ .accepted in
+    let c₁₅ = c₁₄ .before in let read = c₁₅ .read in
+    let c₁₆ = c₁₅ .before in let if1 = c₁₆ .if1 in
+    let c₁₉ = c₁₆ .before .before .before in let args = c₁₉ .args in
+    let q = now (args .q) in
+    (ap (stored (args .at)) (stop (child-count .result) (loop .i) (loop .a) (λ x m y. measured (args .level - 1) (child-sort .result) x m y) q (args .at) (loop .z) (now (tail .result)) (measure .last .1 .0) (measure .result) (loop-test .taken) (tail .ensures) (measure .ensures .0) (c .enum-told .given .1) ∙ loop .inv .0) ∙ whole (args .level) (args .term) q (args .at) (now (args .z)) (if1 .left) (read .result) (accepted .result) (byte .result) (child-count .result) (record-length .result) (child-sort .result) (read .ensures) (accepted .ensures) (if2 .left) (byte .ensures) (child-count .ensures) (child-sort .ensures) (record-length .ensures .0), omega arith)
 
 -- src/lib.rt:73:9
 measure-add-a : (t : ℕ) → measure-lts.Need-add-a (
@@ -452,7 +481,13 @@ measure-add-a : (t : ℕ) → measure-lts.Need-add-a (
   put-reads.Asked,
   put-reads.Learnt,
 ) (measure-at t) measure.Post measure-Inv-loop measure-μ-loop
-measure-add-a t c = omega (arith, c .before .before .before .before .before .before .before .before .before .before .before .before .before .before .before .before .before .before .before .before .good, child-fits (now (c .before .before .before .before .before .before .before .before .before .before .before .before .before .before .before .before .before .before .before .before .args .q)) (now (c .before .before .before .before .before .before .before .tail .result)) (c .before .before .before .before .before .before .before .before .before .loop .a) (c .before .m .given .0 .0) (c .before .before .before .before .before .measure .result) (c .before .before .before .before .before .before .before .tail .ensures) (c .before .before .before .before .before .measure .ensures .1) (c .before .m .given .1))
+measure-add-a t c =
+    let c₁ = c .before in let m = c₁ .m in
+    let c₅ = c₁ .before .before .before .before in let measure = c₅ .measure in
+    let c₇ = c₅ .before .before in let tail = c₇ .tail in
+    let c₉ = c₇ .before .before in let loop = c₉ .loop in
+    let c₂₀ = c₉ .before .before .before .before .before .before .before .before .before .before .before in let args = c₂₀ .args in let good = c₂₀ .good in
+    omega (arith, good, child-fits (now (args .q)) (now (tail .result)) (loop .a) (m .given .0 .0) (measure .result) (tail .ensures) (measure .ensures .1) (m .given .1))
 
 -- src/lib.rt:74:9
 measure-add-i : (t : ℕ) → measure-lts.Need-add-i (
@@ -521,7 +556,17 @@ measure-loop-again : (t : ℕ) → measure-lts.Need-loop-again (
   put-reads.Asked,
   put-reads.Learnt,
 ) (measure-at t) measure.Post measure-Inv-loop measure-μ-loop
-measure-loop-again t c = (turn (c .before .before .before .before .before .before .before .before .before .before .before .before .child-count .result) (c .before .before .before .before .before .before .before .before .before .loop .i) (c .before .before .before .before .before .before .before .before .before .loop .a) (λ x m y. measured (c .before .before .before .before .before .before .before .before .before .before .before .before .before .before .before .before .before .before .before .before .args .level - 1) (c .before .before .before .before .before .before .before .before .before .before .before .child-sort .result) x m y) (now (c .before .before .before .before .before .before .before .before .before .before .before .before .before .before .before .before .before .before .before .before .args .q)) (c .before .before .before .before .before .before .before .before .before .before .before .before .before .before .before .before .before .before .before .before .args .at) (c .before .before .before .before .before .before .before .before .before .loop .z) (c .before .m .given .0 .0) (now (c .before .before .before .before .before .before .before .tail .result)) (c .before .before .before .before .before .measure .last .1 .0) (c .before .before .before .before .before .measure .result) (c .before .before .before .before .before .before .before .before .loop-test .taken) (c .before .before .before .before .before .before .before .tail .ensures) (c .before .before .before .before .before .measure .ensures .0) (c .before .m .given .1) ∙ c .before .before .before .before .before .before .before .before .before .loop .inv .0, omega (arith, child-fits (now (c .before .before .before .before .before .before .before .before .before .before .before .before .before .before .before .before .before .before .before .before .args .q)) (now (c .before .before .before .before .before .before .before .tail .result)) (c .before .before .before .before .before .before .before .before .before .loop .a) (c .before .m .given .0 .0) (c .before .before .before .before .before .measure .result) (c .before .before .before .before .before .before .before .tail .ensures) (c .before .before .before .before .before .measure .ensures .1) (c .before .m .given .1)), omega arith, search needs)
+measure-loop-again t c =
+    let c₁ = c .before in let m′ = c₁ .m in
+    let c₅ = c₁ .before .before .before .before in let measure = c₅ .measure in
+    let c₇ = c₅ .before .before in let tail = c₇ .tail in
+    let c₈ = c₇ .before in let loop-test = c₈ .loop-test in
+    let c₉ = c₈ .before in let loop = c₉ .loop in
+    let c₁₁ = c₉ .before .before in let child-sort = c₁₁ .child-sort in
+    let c₁₂ = c₁₁ .before in let child-count = c₁₂ .child-count in
+    let c₂₀ = c₁₂ .before .before .before .before .before .before .before .before in let args = c₂₀ .args in
+    let q = now (args .q) in
+    (turn (child-count .result) (loop .i) (loop .a) (λ x m y. measured (args .level - 1) (child-sort .result) x m y) q (args .at) (loop .z) (m′ .given .0 .0) (now (tail .result)) (measure .last .1 .0) (measure .result) (loop-test .taken) (tail .ensures) (measure .ensures .0) (m′ .given .1) ∙ loop .inv .0, omega (arith, child-fits q (now (tail .result)) (loop .a) (m′ .given .0 .0) (measure .result) (tail .ensures) (measure .ensures .1) (m′ .given .1)), omega arith, search needs)
 
 -- src/lib.rt:76:5
 measure-put-requires : (t : ℕ) → measure-lts.Need-put-requires (
@@ -590,7 +635,21 @@ measure-returns-4 : (t : ℕ) → measure-lts.Need-returns-4 (
   put-reads.Asked,
   put-reads.Learnt,
 ) (measure-at t) measure.Post measure-Inv-loop measure-μ-loop
-measure-returns-4 t c = (put-is (c .before .before .before .before .before .before .before .before .child-count .result) (c .before .before .before .before .before .loop .i) (c .before .before .before .before .before .loop .a) (λ x m y. measured (c .before .before .before .before .before .before .before .before .before .before .before .before .before .before .before .before .args .level - 1) (c .before .before .before .before .before .before .before .child-sort .result) x m y) (now (c .before .before .before .before .before .before .before .before .before .before .before .before .before .before .before .before .args .q)) (c .before .before .before .before .before .before .before .before .before .before .before .before .before .before .before .before .args .at) (now (c .before .before .before .before .before .before .before .before .before .before .before .before .before .before .before .before .args .z)) (c .before .before .before .before .before .loop .z) (c .before .before .put .last .0) _ (c .before .before .before .before .loop-test .left) (c .before .before .put .ensures) (c .before .before .before .before .before .loop .inv .0) ∙ whole (c .before .before .before .before .before .before .before .before .before .before .before .before .before .before .before .before .args .level) (c .before .before .before .before .before .before .before .before .before .before .before .before .before .before .before .before .args .term) (now (c .before .before .before .before .before .before .before .before .before .before .before .before .before .before .before .before .args .q)) (c .before .before .before .before .before .before .before .before .before .before .before .before .before .before .before .before .args .at) (now (c .before .before .before .before .before .before .before .before .before .before .before .before .before .before .before .before .args .z)) (c .before .before .before .before .before .before .before .before .before .before .before .before .before .if1 .left) (c .before .before .before .before .before .before .before .before .before .before .before .before .read .result) (c .before .before .before .before .before .before .before .before .before .before .before .accepted .result) (c .before .before .before .before .before .before .before .before .before .byte .result) (c .before .before .before .before .before .before .before .before .child-count .result) (c .before .before .before .before .before .before .record-length .result) (c .before .before .before .before .before .before .before .child-sort .result) (c .before .before .before .before .before .before .before .before .before .before .before .before .read .ensures) (c .before .before .before .before .before .before .before .before .before .before .before .accepted .ensures) (c .before .before .before .before .before .before .before .before .before .before .if2 .left) (c .before .before .before .before .before .before .before .before .before .byte .ensures) (c .before .before .before .before .before .before .before .before .child-count .ensures) (c .before .before .before .before .before .before .before .child-sort .ensures) (c .before .before .before .before .before .before .record-length .ensures .0), c .before .before .before .before .before .loop .inv .1)
+measure-returns-4 t c =
+    let c₂ = c .before .before in let put = c₂ .put in
+    let c₄ = c₂ .before .before in let loop-test = c₄ .loop-test in
+    let c₅ = c₄ .before in let loop = c₅ .loop in
+    let c₆ = c₅ .before in let record-length = c₆ .record-length in
+    let c₇ = c₆ .before in let child-sort = c₇ .child-sort in
+    let c₈ = c₇ .before in let child-count = c₈ .child-count in
+    let c₉ = c₈ .before in let byte = c₉ .byte in
+    let c₁₀ = c₉ .before in let if2 = c₁₀ .if2 in
+    let c₁₁ = c₁₀ .before in let accepted = c₁₁ .accepted in
+    let c₁₂ = c₁₁ .before in let read = c₁₂ .read in
+    let c₁₃ = c₁₂ .before in let if1 = c₁₃ .if1 in
+    let c₁₆ = c₁₃ .before .before .before in let args = c₁₆ .args in
+    let q = now (args .q) in let z = now (args .z) in
+    (put-is (child-count .result) (loop .i) (loop .a) (λ x m y. measured (args .level - 1) (child-sort .result) x m y) q (args .at) z (loop .z) (put .last .0) _ (loop-test .left) (put .ensures) (loop .inv .0) ∙ whole (args .level) (args .term) q (args .at) z (if1 .left) (read .result) (accepted .result) (byte .result) (child-count .result) (record-length .result) (child-sort .result) (read .ensures) (accepted .ensures) (if2 .left) (byte .ensures) (child-count .ensures) (child-sort .ensures) (record-length .ensures .0), loop .inv .1)
 
 pub +measure-spec : {M : Type 1} → statement M
 +measure-spec = close μ-measure λ t. measure-lts.spec (

@@ -19,7 +19,10 @@ tail-requires c κs = search needs
 
 -- src/lib.rt:99:5
 measure-requires : tie.Need-measure-requires
-measure-requires c κs = part-room (now (c .before .before .before .before .before .args .q)) (now (c .before .tail .result)) (c .before .before .before .before .before .args .at) (c .before .tail .ensures) (c .before .before .if1 .left) (omega (arith, c .before .before .before .before .before .good))
+measure-requires c κs =
+    let c₁ = c .before in let tail = c₁ .tail in
+    let c₅ = c₁ .before .before .before .before in let args = c₅ .args in let good = c₅ .good in
+    part-room (now (args .q)) (now (tail .result)) (args .at) (tail .ensures) (c .before .before .if1 .left) (omega (arith, good))
 
 -- src/lib.rt:92:1
 same-length : tie.Need-same-length
@@ -27,7 +30,11 @@ same-length c = search needs
 
 -- src/lib.rt:92:1
 returns-2 : tie.Need-returns-2
-returns-2 c = is-term (c .before .before .before .before .before .before .before .before .args .level) (now (c .before .before .before .before .before .before .before .before .args .q)) (now (c .before .before .before .before .tail .result)) (c .before .before .before .before .before .before .before .before .args .at) (now (c .before .before .before .before .before .before .before .before .args .z)) (c .before .before .measure .last .1 .0) (c .before .before .measure .result) (c .before .before .before .before .tail .ensures) (c .before .before .measure .ensures .0)
+returns-2 c =
+    let c₂ = c .before .before in let measure = c₂ .measure in
+    let c₄ = c₂ .before .before in let tail = c₄ .tail in
+    let c₈ = c₄ .before .before .before .before in let args = c₈ .args in
+    is-term (args .level) (now (args .q)) (now (tail .result)) (args .at) (now (args .z)) (measure .last .1 .0) (measure .result) (tail .ensures) (measure .ensures .0)
 
 pub term-spec : {M : Type 1} → statement M
 term-spec = tie.close (tie.spec returns tail-requires measure-requires same-length returns-2)

@@ -26,7 +26,9 @@ abbrev targets-claims : ℕ → targets-lts.Claims
 targets-claims t = (term-reads.Asked, term-reads.Learnt, targets-below t, targets.Post)
 
 targets-returns : (t : ℕ) → targets-lts.Need-returns (targets-claims t) (targets-at t) targets.Post
-targets-returns t c = targets-none (c .before .before .before .args .left) (c .before .before .before .args .level) (now (c .before .before .before .args .q)) (c .before .before .before .args .at) (now (c .before .before .before .args .z)) (c .if1 .taken)
+targets-returns t c =
+    let c₃ = c .before .before .before in let args = c₃ .args in
+    targets-none (args .left) (args .level) (now (args .q)) (args .at) (now (args .z)) (c .if1 .taken)
 
 targets-term-requires : (t : ℕ) → targets-lts.Need-term-requires (targets-claims t) (targets-at t) targets.Post
 targets-term-requires t c κs = search needs
@@ -41,22 +43,38 @@ targets-same-length : (t : ℕ) → targets-lts.Need-same-length (targets-claims
 targets-same-length t c = search needs
 
 targets-returns-2 : (t : ℕ) → targets-lts.Need-returns-2 (targets-claims t) (targets-at t) targets.Post
-targets-returns-2 t c = targets-refused (c .before .before .before .before .before .before .before .before .before .args .left) (c .before .before .before .before .before .before .before .before .before .args .level) (now (c .before .before .before .before .before .before .before .before .before .args .q)) (c .before .before .before .before .before .before .before .before .before .args .at) (now (c .before .before .before .before .before .before .before .before .before .args .z)) (c .before .before .before .before .before .before .if1 .left) _ _ (c .before .before .before .before .term .ensures .0) (c .before .before .before .before .term .ensures .1) (c .enum-told .given .1)
+targets-returns-2 t c =
+    let c₄ = c .before .before .before .before in let term = c₄ .term in
+    let c₆ = c₄ .before .before in let if1 = c₆ .if1 in
+    let c₉ = c₆ .before .before .before in let args = c₉ .args in
+    targets-refused (args .left) (args .level) (now (args .q)) (args .at) (now (args .z)) (if1 .left) _ _ (term .ensures .0) (term .ensures .1) (c .enum-told .given .1)
 
 targets-add-targets : (t : ℕ) → targets-lts.Need-add-targets (targets-claims t) (targets-at t) targets.Post
-targets-add-targets t c = omega (arith, term-room (c .before .before .before .before .before .before .before .before .before .before .before .args .level) (now (c .before .before .before .before .before .before .before .before .before .before .before .args .q)) (c .before .before .before .before .before .before .before .before .before .before .before .args .at) _ _ (c .before .before .before .before .before .before .term .ensures .0) (c .before .before .n .given .1), c .before .before .before .before .before .before .before .before .before .before .before .good)
+targets-add-targets t c =
+    let c₆ = c .before .before .before .before .before .before in let term = c₆ .term in
+    let c₁₁ = c₆ .before .before .before .before .before in let args = c₁₁ .args in let good = c₁₁ .good in
+    omega (arith, term-room (args .level) (now (args .q)) (args .at) _ _ (term .ensures .0) (c .before .before .n .given .1), good)
 
 targets-sub-targets : (t : ℕ) → targets-lts.Need-sub-targets (targets-claims t) (targets-at t) targets.Post
 targets-sub-targets t c = search needs
 
 targets-targets-requires : (t : ℕ) → targets-lts.Need-targets-requires (targets-claims t) (targets-at t) targets.Post
-targets-targets-requires t c κs = (omega (arith, c .before .before .before .before .before .before .before .before .before .before .before .pre .0, c .before .before .before .before .before .before .before .before .if1 .left), term-room (c .before .before .before .before .before .before .before .before .before .before .before .args .level) (now (c .before .before .before .before .before .before .before .before .before .before .before .args .q)) (c .before .before .before .before .before .before .before .before .before .before .before .args .at) _ _ (c .before .before .before .before .before .before .term .ensures .0) (c .before .before .n .given .1))
+targets-targets-requires t c κs =
+    let c₆ = c .before .before .before .before .before .before in let term = c₆ .term in
+    let c₈ = c₆ .before .before in let if1 = c₈ .if1 in
+    let c₁₁ = c₈ .before .before .before in let args = c₁₁ .args in let pre = c₁₁ .pre in
+    (omega (arith, pre .0, if1 .left), term-room (args .level) (now (args .q)) (args .at) _ _ (term .ensures .0) (c .before .before .n .given .1))
 
 targets-same-length-2 : (t : ℕ) → targets-lts.Need-same-length-2 (targets-claims t) (targets-at t) targets.Post
 targets-same-length-2 t c = search needs
 
 targets-returns-3 : (t : ℕ) → targets-lts.Need-returns-3 (targets-claims t) (targets-at t) targets.Post
-targets-returns-3 t c = targets-next (c .before .before .before .before .before .before .before .before .before .before .before .before .before .before .args .left) (c .before .before .before .before .before .before .before .before .before .before .before .before .before .before .args .level) (now (c .before .before .before .before .before .before .before .before .before .before .before .before .before .before .args .q)) (c .before .before .before .before .before .before .before .before .before .before .before .before .before .before .args .at) (now (c .before .before .before .before .before .before .before .before .before .before .before .before .before .before .args .z)) (c .before .before .before .before .before .before .before .before .before .before .before .if1 .left) _ _ (c .before .before .before .before .before .before .before .before .before .term .ensures .0) (c .before .before .before .before .before .before .before .before .before .term .ensures .1) _ _ (c .before .before .before .before .before .n .given .1) (c .before .before .targets .ensures)
+targets-returns-3 t c =
+    let c₅ = c .before .before .before .before .before in let n = c₅ .n in
+    let c₉ = c₅ .before .before .before .before in let term = c₉ .term in
+    let c₁₁ = c₉ .before .before in let if1 = c₁₁ .if1 in
+    let c₁₄ = c₁₁ .before .before .before in let args = c₁₄ .args in
+    targets-next (args .left) (args .level) (now (args .q)) (args .at) (now (args .z)) (if1 .left) _ _ (term .ensures .0) (term .ensures .1) _ _ (n .given .1) (c .before .before .targets .ensures)
 
 pub +targets-spec : {M : Type 1} → statement M
 +targets-spec = close μ-targets λ t. targets-lts.spec (targets-claims t)

@@ -28,7 +28,11 @@ same-length c = search needs
 
 -- src/lib.rt:45:9
 returns : tie.Need-returns
-returns c = (ap sizeOr0 (sym (c .enum-told .given .1)) ∙ query-place (c .before .before .before .before .before .before .before .before .args .count) (c .before .before .before .before .before .before .before .before .args .level) (now (c .before .before .before .before .before .before .before .before .args .q)) (c .before .before .before .before .before .before .before .before .args .first) (now (c .before .before .before .before .before .before .before .before .args .z)) _ _ (c .before .before .before .before .targets .ensures), query-refused (c .before .before .before .before .before .before .before .before .args .count) (c .before .before .before .before .before .before .before .before .args .level) (now (c .before .before .before .before .before .before .before .before .args .q)) (c .before .before .before .before .before .before .before .before .args .first) (now (c .before .before .before .before .before .before .before .before .args .z)) _ _ (c .before .before .before .before .targets .ensures) (c .enum-told .given .1) .1)
+returns c =
+    let c₄ = c .before .before .before .before in let targets = c₄ .targets in
+    let c₈ = c₄ .before .before .before .before in let args = c₈ .args in
+    let q = now (args .q) in let z = now (args .z) in let count = args .count in let first = args .first in let level = args .level in
+    (ap sizeOr0 (sym (c .enum-told .given .1)) ∙ query-place count level q first z _ _ (targets .ensures), query-refused count level q first z _ _ (targets .ensures) (c .enum-told .given .1) .1)
 
 -- src/lib.rt:47:5
 condition-requires : tie.Need-condition-requires
@@ -40,7 +44,13 @@ same-length-2 c = search needs
 
 -- src/lib.rt:39:1
 returns-2 : tie.Need-returns-2
-returns-2 c = (ap sizeOr0 (sym (c .before .before .before .before .before .place .given .1)) ∙ query-place (c .before .before .before .before .before .before .before .before .before .before .before .before .before .args .count) (c .before .before .before .before .before .before .before .before .before .before .before .before .before .args .level) (now (c .before .before .before .before .before .before .before .before .before .before .before .before .before .args .q)) (c .before .before .before .before .before .before .before .before .before .before .before .before .before .args .first) (now (c .before .before .before .before .before .before .before .before .before .before .before .before .before .args .z)) _ _ (c .before .before .before .before .before .before .before .before .before .targets .ensures), query-measured (c .before .before .before .before .before .before .before .before .before .before .before .before .before .args .count) (c .before .before .before .before .before .before .before .before .before .before .before .before .before .args .level) (now (c .before .before .before .before .before .before .before .before .before .before .before .before .before .args .q)) (c .before .before .before .before .before .before .before .before .before .before .before .before .before .args .first) (now (c .before .before .before .before .before .before .before .before .before .before .before .before .before .args .z)) _ _ (c .before .before .before .before .before .before .before .before .before .targets .ensures) _ _ _ (c .before .before .before .before .before .place .given .1) (c .before .before .condition .ensures .0) (c .before .before .condition .ensures .1) .1)
+returns-2 c =
+    let c₂ = c .before .before in let condition = c₂ .condition in
+    let c₅ = c₂ .before .before .before in let place = c₅ .place in
+    let c₉ = c₅ .before .before .before .before in let targets = c₉ .targets in
+    let c₁₃ = c₉ .before .before .before .before in let args = c₁₃ .args in
+    let q = now (args .q) in let z = now (args .z) in let count = args .count in let first = args .first in let level = args .level in
+    (ap sizeOr0 (sym (place .given .1)) ∙ query-place count level q first z _ _ (targets .ensures), query-measured count level q first z _ _ (targets .ensures) _ _ _ (place .given .1) (condition .ensures .0) (condition .ensures .1) .1)
 
 pub fill-spec : {M : Type 1} → statement M
 fill-spec =

@@ -23,7 +23,10 @@ same-length : tie.Need-same-length
 same-length c = search needs
 
 returns : tie.Need-returns
-returns c = query-refused (c .before .before .before .before .before .before .before .before .args .count) (c .before .before .before .before .before .before .before .before .args .level) (now (c .before .before .before .before .before .before .before .before .args .q)) (c .before .before .before .before .before .before .before .before .args .first) (now (c .before .before .before .before .before .before .before .before .args .z)) _ _ (c .before .before .before .before .targets .ensures) (c .enum-told .given .1)
+returns c =
+    let c₄ = c .before .before .before .before in let targets = c₄ .targets in
+    let c₈ = c₄ .before .before .before .before in let args = c₈ .args in
+    query-refused (args .count) (args .level) (now (args .q)) (args .first) (now (args .z)) _ _ (targets .ensures) (c .enum-told .given .1)
 
 condition-requires : tie.Need-condition-requires
 condition-requires c κs = search needs
@@ -38,13 +41,23 @@ same-length-2 : tie.Need-same-length-2
 same-length-2 c = search needs
 
 returns-2 : tie.Need-returns-2
-returns-2 c = let h = query-measured (c .before .before .before .before .before .before .before .before .before .before .before .before .before .before .before .args .count) (c .before .before .before .before .before .before .before .before .before .before .before .before .before .before .before .args .level) (now (c .before .before .before .before .before .before .before .before .before .before .before .before .before .before .before .args .q)) (c .before .before .before .before .before .before .before .before .before .before .before .before .before .before .before .args .first) (now (c .before .before .before .before .before .before .before .before .before .before .before .before .before .before .before .args .z)) _ _ (c .before .before .before .before .before .before .before .before .before .before .before .targets .ensures) _ _ _ (c .before .before .before .before .before .before .before .c .given .1) (c .before .before .before .before .condition .ensures .0) (c .before .before .before .before .condition .ensures .1) in (sym (ap succeeded (c .enum-told3 .given .1)) ∙ h .0, h .1)
+returns-2 c =
+    let c₄ = c .before .before .before .before in let condition = c₄ .condition in
+    let c₇ = c₄ .before .before .before in let c′ = c₇ .c in
+    let c₁₁ = c₇ .before .before .before .before in let targets = c₁₁ .targets in
+    let c₁₅ = c₁₁ .before .before .before .before in let args = c₁₅ .args in
+    let h = query-measured (args .count) (args .level) (now (args .q)) (args .first) (now (args .z)) _ _ (targets .ensures) _ _ _ (c′ .given .1) (condition .ensures .0) (condition .ensures .1) in (sym (ap succeeded (c .enum-told3 .given .1)) ∙ h .0, h .1)
 
 same-length-3 : tie.Need-same-length-3
 same-length-3 c = search needs
 
 returns-3 : tie.Need-returns-3
-returns-3 c = let h = query-measured (c .before .before .before .before .before .before .before .before .before .before .before .before .before .before .before .args .count) (c .before .before .before .before .before .before .before .before .before .before .before .before .before .before .before .args .level) (now (c .before .before .before .before .before .before .before .before .before .before .before .before .before .before .before .args .q)) (c .before .before .before .before .before .before .before .before .before .before .before .before .before .before .before .args .first) (now (c .before .before .before .before .before .before .before .before .before .before .before .before .before .before .before .args .z)) _ _ (c .before .before .before .before .before .before .before .before .before .before .before .targets .ensures) _ _ _ (c .before .before .before .before .before .before .before .c .given .1) (c .before .before .before .before .condition .ensures .0) (c .before .before .before .before .condition .ensures .1) in (sym (ap succeeded (c .enum-told2 .given .1)) ∙ h .0, h .1)
+returns-3 c =
+    let c₄ = c .before .before .before .before in let condition = c₄ .condition in
+    let c₇ = c₄ .before .before .before in let c′ = c₇ .c in
+    let c₁₁ = c₇ .before .before .before .before in let targets = c₁₁ .targets in
+    let c₁₅ = c₁₁ .before .before .before .before in let args = c₁₅ .args in
+    let h = query-measured (args .count) (args .level) (now (args .q)) (args .first) (now (args .z)) _ _ (targets .ensures) _ _ _ (c′ .given .1) (condition .ensures .0) (condition .ensures .1) in (sym (ap succeeded (c .enum-told2 .given .1)) ∙ h .0, h .1)
 
 pub measure-spec : {M : Type 1} → statement M
 measure-spec =

@@ -30,43 +30,75 @@ digits-digit-requires : (t : ℕ) → digits-lts.Need-digit-requires (digits-cla
 digits-digit-requires t c κs = search needs
 
 digits-put-requires : (t : ℕ) → digits-lts.Need-put-requires (digits-claims t) (digits-at t) digits.Post
-digits-put-requires t c κs = one-room (T.digits (c .before .before .before .before .args .k) (c .before .before .before .before .args .n)) _ 0 (last (c .before .before .before .before .args .k) (c .before .before .before .before .args .n) (c .before .before .if1 .taken)) (c .before .before .before .before .args .at) (c .before .before .before .before .pre .1)
+digits-put-requires t c κs =
+    let c₄ = c .before .before .before .before in let args = c₄ .args in let pre = c₄ .pre in
+    let k = args .k in let n = args .n in
+    one-room (T.digits k n) _ 0 (last k n (c .before .before .if1 .taken)) (args .at) (pre .1)
 
 digits-same-length : (t : ℕ) → digits-lts.Need-same-length (digits-claims t) (digits-at t) digits.Post
 digits-same-length t c = search needs
 
 digits-returns : (t : ℕ) → digits-lts.Need-returns (digits-claims t) (digits-at t) digits.Post
-digits-returns t c = one-wrote (T.digits (c .before .before .before .before .before .before .before .args .k) (c .before .before .before .before .before .before .before .args .n)) _ _ (last (c .before .before .before .before .before .before .before .args .k) (c .before .before .before .before .before .before .before .args .n) (c .before .before .before .before .before .if1 .taken)) (now (c .before .before .before .before .before .before .before .args .out)) (c .before .before .before .before .before .before .before .args .at) _ _ (c .before .before .before .digit .ensures) (c .before .before .put .ensures)
+digits-returns t c =
+    let c₃ = c .before .before .before in let digit = c₃ .digit in
+    let c₅ = c₃ .before .before in let if1 = c₅ .if1 in
+    let c₇ = c₅ .before .before in let args = c₇ .args in
+    let k = args .k in let n = args .n in
+    one-wrote (T.digits k n) _ _ (last k n (if1 .taken)) (now (args .out)) (args .at) _ _ (digit .ensures) (c .before .before .put .ensures)
 
 digits-digit-requires-2 : (t : ℕ) → digits-lts.Need-digit-requires-2 (digits-claims t) (digits-at t) digits.Post
 digits-digit-requires-2 t c κs = search needs
 
 digits-put-requires-2 : (t : ℕ) → digits-lts.Need-put-requires-2 (digits-claims t) (digits-at t) digits.Post
-digits-put-requires-2 t c κs = one-room (T.digits (c .before .before .before .before .before .args .k) (c .before .before .before .before .before .args .n)) _ 0 (small (c .before .before .before .before .before .args .k) (c .before .before .before .before .before .args .n) (c .before .before .if2 .taken)) (c .before .before .before .before .before .args .at) (c .before .before .before .before .before .pre .1)
+digits-put-requires-2 t c κs =
+    let c₅ = c .before .before .before .before .before in let args = c₅ .args in let pre = c₅ .pre in
+    let k = args .k in let n = args .n in
+    one-room (T.digits k n) _ 0 (small k n (c .before .before .if2 .taken)) (args .at) (pre .1)
 
 digits-same-length-2 : (t : ℕ) → digits-lts.Need-same-length-2 (digits-claims t) (digits-at t) digits.Post
 digits-same-length-2 t c = search needs
 
 digits-returns-2 : (t : ℕ) → digits-lts.Need-returns-2 (digits-claims t) (digits-at t) digits.Post
-digits-returns-2 t c = one-wrote (T.digits (c .before .before .before .before .before .before .before .before .args .k) (c .before .before .before .before .before .before .before .before .args .n)) _ _ (small (c .before .before .before .before .before .before .before .before .args .k) (c .before .before .before .before .before .before .before .before .args .n) (c .before .before .before .before .before .if2 .taken)) (now (c .before .before .before .before .before .before .before .before .args .out)) (c .before .before .before .before .before .before .before .before .args .at) _ _ (c .before .before .before .digit2 .ensures) (c .before .before .put2 .ensures)
+digits-returns-2 t c =
+    let c₃ = c .before .before .before in let digit2 = c₃ .digit2 in
+    let c₅ = c₃ .before .before in let if2 = c₅ .if2 in
+    let c₈ = c₅ .before .before .before in let args = c₈ .args in
+    let k = args .k in let n = args .n in
+    one-wrote (T.digits k n) _ _ (small k n (if2 .taken)) (now (args .out)) (args .at) _ _ (digit2 .ensures) (c .before .before .put2 .ensures)
 
 digits-sub-digits : (t : ℕ) → digits-lts.Need-sub-digits (digits-claims t) (digits-at t) digits.Post
 digits-sub-digits t c = search needs
 
 digits-digits-requires : (t : ℕ) → digits-lts.Need-digits-requires (digits-claims t) (digits-at t) digits.Post
-digits-digits-requires t c κs = (omega arith, front-room (T.digits (c .before .before .before .before .args .k) (c .before .before .before .before .args .n)) (T.digits ((c .before .before .before .before .args .k) - 1) ((c .before .before .before .before .args .n) / 10)) _ (more (c .before .before .before .before .args .k) (c .before .before .before .before .args .n) (c .before .before .if1 .left) (c .before .if2 .left)) (c .before .before .before .before .args .at) (c .before .before .before .before .pre .1))
+digits-digits-requires t c κs =
+    let c₄ = c .before .before .before .before in let args = c₄ .args in let pre = c₄ .pre in
+    let k = args .k in let n = args .n in
+    (omega arith, front-room (T.digits k n) (T.digits (k - 1) (n / 10)) _ (more k n (c .before .before .if1 .left) (c .before .if2 .left)) (args .at) (pre .1))
 
 digits-digit-requires-3 : (t : ℕ) → digits-lts.Need-digit-requires-3 (digits-claims t) (digits-at t) digits.Post
 digits-digit-requires-3 t c κs = search needs
 
 digits-put-requires-3 : (t : ℕ) → digits-lts.Need-put-requires-3 (digits-claims t) (digits-at t) digits.Post
-digits-put-requires-3 t c κs = end-room (T.digits (c .before .before .before .before .before .before .before .before .before .args .k) (c .before .before .before .before .before .before .before .before .before .args .n)) (T.digits ((c .before .before .before .before .before .before .before .before .before .args .k) - 1) ((c .before .before .before .before .before .before .before .before .before .args .n) / 10)) _ (more (c .before .before .before .before .before .before .before .before .before .args .k) (c .before .before .before .before .before .before .before .before .before .args .n) (c .before .before .before .before .before .before .before .if1 .left) (c .before .before .before .before .before .before .if2 .left)) (c .before .before .before .before .before .before .before .before .before .args .at) _ (c .before .before .before .before .before .before .before .before .before .pre .1) (c .before .before .before .before .digits .ensures .0)
+digits-put-requires-3 t c κs =
+    let c₄ = c .before .before .before .before in let digits = c₄ .digits in
+    let c₆ = c₄ .before .before in let if2 = c₆ .if2 in
+    let c₇ = c₆ .before in let if1 = c₇ .if1 in
+    let c₉ = c₇ .before .before in let args = c₉ .args in let pre = c₉ .pre in
+    let k = args .k in let n = args .n in
+    end-room (T.digits k n) (T.digits (k - 1) (n / 10)) _ (more k n (if1 .left) (if2 .left)) (args .at) _ (pre .1) (digits .ensures .0)
 
 digits-same-length-3 : (t : ℕ) → digits-lts.Need-same-length-3 (digits-claims t) (digits-at t) digits.Post
 digits-same-length-3 t c = search needs
 
 digits-returns-3 : (t : ℕ) → digits-lts.Need-returns-3 (digits-claims t) (digits-at t) digits.Post
-digits-returns-3 t c = end-wrote (T.digits (c .before .before .before .before .before .before .before .before .before .before .before .before .args .k) (c .before .before .before .before .before .before .before .before .before .before .before .before .args .n)) (T.digits ((c .before .before .before .before .before .before .before .before .before .before .before .before .args .k) - 1) ((c .before .before .before .before .before .before .before .before .before .before .before .before .args .n) / 10)) _ (more (c .before .before .before .before .before .before .before .before .before .before .before .before .args .k) (c .before .before .before .before .before .before .before .before .before .before .before .before .args .n) (c .before .before .before .before .before .before .before .before .before .before .if1 .left) (c .before .before .before .before .before .before .before .before .before .if2 .left)) (now (c .before .before .before .before .before .before .before .before .before .before .before .before .args .out)) (c .before .before .before .before .before .before .before .before .before .before .before .before .args .at) _ _ _ _ _ (c .before .before .before .before .before .before .before .digits .ensures) (c .before .before .before .digit3 .ensures) (c .before .before .put3 .ensures)
+digits-returns-3 t c =
+    let c₃ = c .before .before .before in let digit3 = c₃ .digit3 in
+    let c₇ = c₃ .before .before .before .before in let digits = c₇ .digits in
+    let c₉ = c₇ .before .before in let if2 = c₉ .if2 in
+    let c₁₀ = c₉ .before in let if1 = c₁₀ .if1 in
+    let c₁₂ = c₁₀ .before .before in let args = c₁₂ .args in
+    let k = args .k in let n = args .n in
+    end-wrote (T.digits k n) (T.digits (k - 1) (n / 10)) _ (more k n (if1 .left) (if2 .left)) (now (args .out)) (args .at) _ _ _ _ _ (digits .ensures) (digit3 .ensures) (c .before .before .put3 .ensures)
 
 pub +digits-spec : {M : Type 1} → statement M
 +digits-spec = close μ-digits λ t. digits-lts.spec (digits-claims t)

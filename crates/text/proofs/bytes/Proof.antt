@@ -26,7 +26,13 @@ wide-requires : tie.Need-wide-requires Inv-loop μ-loop
 wide-requires c κs = search needs
 
 decimal-requires : tie.Need-decimal-requires Inv-loop μ-loop
-decimal-requires c κs = item-room T.decimal (now (c .before .before .before .before .before .before .before .args .items)) (c .before .before .before .before .loop .i) 0 (c .before .before .before .loop-test .taken) (T.decimal (c .before .wide .result)) (ap T.decimal (c .before .wide .ensures)) (now (c .before .before .before .before .before .before .before .args .out)) (T.line T.decimal (now (c .before .before .before .before .before .before .before .args .items))) (c .before .before .before .before .loop .out) (c .before .before .before .before .before .before .before .args .at) (c .before .before .before .before .loop .to) (c .before .before .before .before .loop .inv .0) (c .before .before .before .before .before .before .before .pre)
+decimal-requires c κs =
+    let c₁ = c .before in let wide = c₁ .wide in
+    let c₃ = c₁ .before .before in let loop-test = c₃ .loop-test in
+    let c₄ = c₃ .before in let loop = c₄ .loop in
+    let c₇ = c₄ .before .before .before in let args = c₇ .args in let pre = c₇ .pre in
+    let items = now (args .items) in
+    item-room T.decimal items (loop .i) 0 (loop-test .taken) (T.decimal (wide .result)) (ap T.decimal (wide .ensures)) (now (args .out)) (T.line T.decimal items) (loop .out) (args .at) (loop .to) (loop .inv .0) (pre)
 
 add-i : tie.Need-add-i Inv-loop μ-loop
 add-i c = search needs
@@ -38,19 +44,39 @@ gap-requires : tie.Need-gap-requires Inv-loop μ-loop
 gap-requires c κs = search needs
 
 put-requires : tie.Need-put-requires Inv-loop μ-loop
-put-requires c κs = gap-room T.decimal (now (c .before .before .before .before .before .before .before .before .before .before .before .before .args .items)) (c .before .before .before .before .before .before .before .before .before .loop .i) 0 (c .before .before .before .before .before .before .before .before .loop-test .taken) (T.decimal (c .before .before .before .before .before .before .wide .result)) (ap T.decimal (c .before .before .before .before .before .before .wide .ensures)) (now (c .before .before .before .before .before .before .before .before .before .before .before .before .args .out)) (T.line T.decimal (now (c .before .before .before .before .before .before .before .before .before .before .before .before .args .items))) (c .before .before .before .before .before .before .before .before .before .loop .out) (c .before .before .before .before .before .before .before .before .before .before .before .before .args .at) (c .before .before .before .before .before .before .before .before .before .loop .to) (c .before .before .before .before .before .before .before .before .before .loop .inv .0) (c .before .before .before .before .before .before .before .before .before .before .before .before .pre) _ _ (c .before .before .before .before .decimal .ensures)
+put-requires c κs =
+    let c₄ = c .before .before .before .before in let decimal = c₄ .decimal in
+    let c₆ = c₄ .before .before in let wide = c₆ .wide in
+    let c₈ = c₆ .before .before in let loop-test = c₈ .loop-test in
+    let c₉ = c₈ .before in let loop = c₉ .loop in
+    let c₁₂ = c₉ .before .before .before in let args = c₁₂ .args in let pre = c₁₂ .pre in
+    let items = now (args .items) in
+    gap-room T.decimal items (loop .i) 0 (loop-test .taken) (T.decimal (wide .result)) (ap T.decimal (wide .ensures)) (now (args .out)) (T.line T.decimal items) (loop .out) (args .at) (loop .to) (loop .inv .0) (pre) _ _ (decimal .ensures)
 
 loop-less : tie.Need-loop-less Inv-loop μ-loop
 loop-less c = search needs
 
 loop-again : tie.Need-loop-again Inv-loop μ-loop
-loop-again c = (item-left T.decimal (now (c .before .before .before .before .before .before .before .before .before .before .before .before .before .before .before .args .items)) (c .before .before .before .before .before .before .before .before .before .before .before .before .loop .i) 0 (c .before .before .before .before .before .before .before .before .before .before .before .loop-test .taken) (T.decimal (c .before .before .before .before .before .before .before .before .before .wide .result)) (ap T.decimal (c .before .before .before .before .before .before .before .before .before .wide .ensures)) (now (c .before .before .before .before .before .before .before .before .before .before .before .before .before .before .before .args .out)) (T.line T.decimal (now (c .before .before .before .before .before .before .before .before .before .before .before .before .before .before .before .args .items))) (c .before .before .before .before .before .before .before .before .before .before .before .before .loop .out) (c .before .before .before .before .before .before .before .before .before .before .before .before .before .before .before .args .at) (c .before .before .before .before .before .before .before .before .before .before .before .before .loop .to) (c .before .before .before .before .before .before .before .before .before .before .before .before .loop .inv .0) _ _ _ _ _ (c .before .before .before .before .before .before .before .decimal .ensures) (c .before .before .before .gap .ensures) (c .before .before .put .ensures .0, c .before .before .put .ensures .1), c .before .before .put .kept .0 ∙ c .before .before .before .before .before .before .before .decimal .kept .1 .0 ∙ c .before .before .before .before .before .before .before .before .before .before .before .before .loop .inv .1)
+loop-again c =
+    let c₂ = c .before .before in let put = c₂ .put in
+    let c₃ = c₂ .before in let gap = c₃ .gap in
+    let c₇ = c₃ .before .before .before .before in let decimal = c₇ .decimal in
+    let c₉ = c₇ .before .before in let wide = c₉ .wide in
+    let c₁₁ = c₉ .before .before in let loop-test = c₁₁ .loop-test in
+    let c₁₂ = c₁₁ .before in let loop = c₁₂ .loop in
+    let c₁₅ = c₁₂ .before .before .before in let args = c₁₅ .args in
+    let items = now (args .items) in
+    (item-left T.decimal items (loop .i) 0 (loop-test .taken) (T.decimal (wide .result)) (ap T.decimal (wide .ensures)) (now (args .out)) (T.line T.decimal items) (loop .out) (args .at) (loop .to) (loop .inv .0) _ _ _ _ _ (decimal .ensures) (gap .ensures) (put .ensures .0, put .ensures .1), put .kept .0 ∙ decimal .kept .1 .0 ∙ loop .inv .1)
 
 same-length : tie.Need-same-length Inv-loop μ-loop
 same-length c = search needs
 
 returns : tie.Need-returns Inv-loop μ-loop
-returns c = left-end (now (c .before .before .before .before .args .out)) (c .before .before .before .before .args .at) (T.line T.decimal (now (c .before .before .before .before .args .items))) (c .before .loop .out) (c .before .loop .to) _ (line-end T.decimal (now (c .before .before .before .before .args .items)) (c .before .loop .i) (c .loop-test .left)) (c .before .loop .inv .0)
+returns c =
+    let c₁ = c .before in let loop = c₁ .loop in
+    let c₄ = c₁ .before .before .before in let args = c₄ .args in
+    let items = now (args .items) in
+    left-end (now (args .out)) (args .at) (T.line T.decimal items) (loop .out) (loop .to) _ (line-end T.decimal items (loop .i) (c .loop-test .left)) (loop .inv .0)
 
 pub bytes-spec : {M : Type 1} → statement M
 bytes-spec =

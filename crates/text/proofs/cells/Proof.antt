@@ -29,7 +29,11 @@ shared-slice-copy-out-item : tie.Need-shared-slice-copy-out-item Inv-loop μ-loo
 shared-slice-copy-out-item c = search needs
 
 signed-requires : tie.Need-signed-requires Inv-loop μ-loop
-signed-requires c κs = item-room T.signed (now (c .before .before .before .before .before .args .items)) (c .before .before .before .loop .i) (pos 0) (c .before .before .loop-test .taken) _ (ap T.signed (toZ-ofZ {w = w64} (record { sfits = c .before .item .given }))) (now (c .before .before .before .before .before .args .out)) (T.line T.signed (now (c .before .before .before .before .before .args .items))) (c .before .before .before .loop .out) (c .before .before .before .before .before .args .at) (c .before .before .before .loop .to) (c .before .before .before .loop .inv .0) (c .before .before .before .before .before .pre)
+signed-requires c κs =
+    let c₃ = c .before .before .before in let loop = c₃ .loop in
+    let c₅ = c₃ .before .before in let args = c₅ .args in let pre = c₅ .pre in
+    let items = now (args .items) in
+    item-room T.signed items (loop .i) (pos 0) (c .before .before .loop-test .taken) _ (ap T.signed (toZ-ofZ {w = w64} (record { sfits = c .before .item .given }))) (now (args .out)) (T.line T.signed items) (loop .out) (args .at) (loop .to) (loop .inv .0) (pre)
 
 add-i : tie.Need-add-i Inv-loop μ-loop
 add-i c = search needs
@@ -41,19 +45,39 @@ gap-requires : tie.Need-gap-requires Inv-loop μ-loop
 gap-requires c κs = search needs
 
 put-requires : tie.Need-put-requires Inv-loop μ-loop
-put-requires c κs = gap-room T.signed (now (c .before .before .before .before .before .before .before .before .before .before .args .items)) (c .before .before .before .before .before .before .before .before .loop .i) (pos 0) (c .before .before .before .before .before .before .before .loop-test .taken) _ (ap T.signed (toZ-ofZ {w = w64} (record { sfits = c .before .before .before .before .before .before .item .given }))) (now (c .before .before .before .before .before .before .before .before .before .before .args .out)) (T.line T.signed (now (c .before .before .before .before .before .before .before .before .before .before .args .items))) (c .before .before .before .before .before .before .before .before .loop .out) (c .before .before .before .before .before .before .before .before .before .before .args .at) (c .before .before .before .before .before .before .before .before .loop .to) (c .before .before .before .before .before .before .before .before .loop .inv .0) (c .before .before .before .before .before .before .before .before .before .before .pre) _ _ (c .before .before .before .before .signed .ensures)
+put-requires c κs =
+    let c₄ = c .before .before .before .before in let signed = c₄ .signed in
+    let c₆ = c₄ .before .before in let item = c₆ .item in
+    let c₇ = c₆ .before in let loop-test = c₇ .loop-test in
+    let c₈ = c₇ .before in let loop = c₈ .loop in
+    let c₁₀ = c₈ .before .before in let args = c₁₀ .args in let pre = c₁₀ .pre in
+    let items = now (args .items) in
+    gap-room T.signed items (loop .i) (pos 0) (loop-test .taken) _ (ap T.signed (toZ-ofZ {w = w64} (record { sfits = item .given }))) (now (args .out)) (T.line T.signed items) (loop .out) (args .at) (loop .to) (loop .inv .0) (pre) _ _ (signed .ensures)
 
 loop-less : tie.Need-loop-less Inv-loop μ-loop
 loop-less c = search needs
 
 loop-again : tie.Need-loop-again Inv-loop μ-loop
-loop-again c = (item-left T.signed (now (c .before .before .before .before .before .before .before .before .before .before .before .before .before .args .items)) (c .before .before .before .before .before .before .before .before .before .before .before .loop .i) (pos 0) (c .before .before .before .before .before .before .before .before .before .before .loop-test .taken) _ (ap T.signed (toZ-ofZ {w = w64} (record { sfits = c .before .before .before .before .before .before .before .before .before .item .given }))) (now (c .before .before .before .before .before .before .before .before .before .before .before .before .before .args .out)) (T.line T.signed (now (c .before .before .before .before .before .before .before .before .before .before .before .before .before .args .items))) (c .before .before .before .before .before .before .before .before .before .before .before .loop .out) (c .before .before .before .before .before .before .before .before .before .before .before .before .before .args .at) (c .before .before .before .before .before .before .before .before .before .before .before .loop .to) (c .before .before .before .before .before .before .before .before .before .before .before .loop .inv .0) _ _ _ _ _ (c .before .before .before .before .before .before .before .signed .ensures) (c .before .before .before .gap .ensures) (c .before .before .put .ensures .0, c .before .before .put .ensures .1), c .before .before .put .kept .0 ∙ c .before .before .before .before .before .before .before .signed .kept .1 .0 ∙ c .before .before .before .before .before .before .before .before .before .before .before .loop .inv .1)
+loop-again c =
+    let c₂ = c .before .before in let put = c₂ .put in
+    let c₃ = c₂ .before in let gap = c₃ .gap in
+    let c₇ = c₃ .before .before .before .before in let signed = c₇ .signed in
+    let c₉ = c₇ .before .before in let item = c₉ .item in
+    let c₁₀ = c₉ .before in let loop-test = c₁₀ .loop-test in
+    let c₁₁ = c₁₀ .before in let loop = c₁₁ .loop in
+    let c₁₃ = c₁₁ .before .before in let args = c₁₃ .args in
+    let items = now (args .items) in
+    (item-left T.signed items (loop .i) (pos 0) (loop-test .taken) _ (ap T.signed (toZ-ofZ {w = w64} (record { sfits = item .given }))) (now (args .out)) (T.line T.signed items) (loop .out) (args .at) (loop .to) (loop .inv .0) _ _ _ _ _ (signed .ensures) (gap .ensures) (put .ensures .0, put .ensures .1), put .kept .0 ∙ signed .kept .1 .0 ∙ loop .inv .1)
 
 same-length : tie.Need-same-length Inv-loop μ-loop
 same-length c = search needs
 
 returns : tie.Need-returns Inv-loop μ-loop
-returns c = left-end (now (c .before .before .before .args .out)) (c .before .before .before .args .at) (T.line T.signed (now (c .before .before .before .args .items))) (c .before .loop .out) (c .before .loop .to) _ (line-end T.signed (now (c .before .before .before .args .items)) (c .before .loop .i) (c .loop-test .left)) (c .before .loop .inv .0)
+returns c =
+    let c₁ = c .before in let loop = c₁ .loop in
+    let c₃ = c₁ .before .before in let args = c₃ .args in
+    let items = now (args .items) in
+    left-end (now (args .out)) (args .at) (T.line T.signed items) (loop .out) (loop .to) _ (line-end T.signed items (loop .i) (c .loop-test .left)) (loop .inv .0)
 
 pub cells-spec : {M : Type 1} → statement M
 cells-spec =

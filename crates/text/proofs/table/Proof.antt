@@ -36,7 +36,11 @@ part-cells-end : tie.Need-part-cells-end Inv-loop μ-loop
 part-cells-end c = (row-room (c .before .loop .from) (c .before .loop .left) (c .before .before .before .args .columns) (length (now (c .before .before .before .args .answer))) (c .loop-test .taken) (c .before .loop .inv .1))
 
 cells-requires : tie.Need-cells-requires Inv-loop μ-loop
-cells-requires c κs = left-room (now (c .before .before .before .before .before .args .out)) (c .before .before .before .before .before .args .at) (T.table (c .before .before .before .before .before .args .rows) (c .before .before .before .before .before .args .columns) (now (c .before .before .before .before .before .args .answer))) (c .before .before .before .loop .out) (c .before .before .before .loop .to) _ (T.line T.signed (take (c .before .before .before .loop .from + (c .before .before .before .before .before .args .columns) - c .before .before .before .loop .from) (drop (c .before .before .before .loop .from) (now (c .before .before .before .before .before .args .answer))))) (T.table (c .before .before .before .loop .left - 1) (c .before .before .before .before .before .args .columns) (drop (c .before .before .before .loop .from + (c .before .before .before .before .before .args .columns)) (now (c .before .before .before .before .before .args .answer)))) (table-step (c .before .before .before .loop .left) (c .before .before .before .before .before .args .columns) (c .before .before .before .loop .from) (now (c .before .before .before .before .before .args .answer)) (c .before .before .loop-test .taken)) (c .before .before .before .loop .inv .0) (c .before .before .before .before .before .pre .1)
+cells-requires c κs =
+    let c₃ = c .before .before .before in let loop = c₃ .loop in
+    let c₅ = c₃ .before .before in let args = c₅ .args in let pre = c₅ .pre in
+    let answer = now (args .answer) in let columns = args .columns in
+    left-room (now (args .out)) (args .at) (T.table (args .rows) columns answer) (loop .out) (loop .to) _ (T.line T.signed (take (loop .from + columns - loop .from) (drop (loop .from) answer))) (T.table (loop .left - 1) columns (drop (loop .from + columns) answer)) (table-step (loop .left) columns (loop .from) answer (c .before .before .loop-test .taken)) (loop .inv .0) (pre .1)
 
 sub-left : tie.Need-sub-left Inv-loop μ-loop
 sub-left c = search needs
@@ -45,13 +49,23 @@ loop-less : tie.Need-loop-less Inv-loop μ-loop
 loop-less c = search needs
 
 loop-again : tie.Need-loop-again Inv-loop μ-loop
-loop-again c = (left-then (now (c .before .before .before .before .before .before .before .before .args .out)) (c .before .before .before .before .before .before .before .before .args .at) (T.table (c .before .before .before .before .before .before .before .before .args .rows) (c .before .before .before .before .before .before .before .before .args .columns) (now (c .before .before .before .before .before .before .before .before .args .answer))) (c .before .before .before .before .before .before .loop .out) (c .before .before .before .before .before .before .loop .to) _ (T.line T.signed (take (c .before .before .before .before .before .before .loop .from + (c .before .before .before .before .before .before .before .before .args .columns) - c .before .before .before .before .before .before .loop .from) (drop (c .before .before .before .before .before .before .loop .from) (now (c .before .before .before .before .before .before .before .before .args .answer))))) (T.table (c .before .before .before .before .before .before .loop .left - 1) (c .before .before .before .before .before .before .before .before .args .columns) (drop (c .before .before .before .before .before .before .loop .from + (c .before .before .before .before .before .before .before .before .args .columns)) (now (c .before .before .before .before .before .before .before .before .args .answer)))) _ _ (table-step (c .before .before .before .before .before .before .loop .left) (c .before .before .before .before .before .before .before .before .args .columns) (c .before .before .before .before .before .before .loop .from) (now (c .before .before .before .before .before .before .before .before .args .answer)) (c .before .before .before .before .before .loop-test .taken)) (c .before .before .before .before .before .before .loop .inv .0) (c .before .before .cells .ensures), rows-room (c .before .before .before .before .before .before .loop .from) (c .before .before .before .before .before .before .loop .left) (c .before .before .before .before .before .before .before .before .args .columns) (length (now (c .before .before .before .before .before .before .before .before .args .answer))) (c .before .before .before .before .before .loop-test .taken) (c .before .before .before .before .before .before .loop .inv .1), c .before .before .cells .kept .1 .0 ∙ c .before .before .before .before .before .before .loop .inv .2)
+loop-again c =
+    let c₂ = c .before .before in let cells = c₂ .cells in
+    let c₅ = c₂ .before .before .before in let loop-test = c₅ .loop-test in
+    let c₆ = c₅ .before in let loop = c₆ .loop in
+    let c₈ = c₆ .before .before in let args = c₈ .args in
+    let answer = now (args .answer) in let columns = args .columns in
+    (left-then (now (args .out)) (args .at) (T.table (args .rows) columns answer) (loop .out) (loop .to) _ (T.line T.signed (take (loop .from + columns - loop .from) (drop (loop .from) answer))) (T.table (loop .left - 1) columns (drop (loop .from + columns) answer)) _ _ (table-step (loop .left) columns (loop .from) answer (loop-test .taken)) (loop .inv .0) (cells .ensures), rows-room (loop .from) (loop .left) columns (length answer) (loop-test .taken) (loop .inv .1), cells .kept .1 .0 ∙ loop .inv .2)
 
 same-length : tie.Need-same-length Inv-loop μ-loop
 same-length c = search needs
 
 returns : tie.Need-returns Inv-loop μ-loop
-returns c = left-end (now (c .before .before .before .args .out)) (c .before .before .before .args .at) (T.table (c .before .before .before .args .rows) (c .before .before .before .args .columns) (now (c .before .before .before .args .answer))) (c .before .loop .out) (c .before .loop .to) _ (table-end (c .before .loop .left) (c .before .before .before .args .columns) _ (c .loop-test .left)) (c .before .loop .inv .0)
+returns c =
+    let c₁ = c .before in let loop = c₁ .loop in
+    let c₃ = c₁ .before .before in let args = c₃ .args in
+    let columns = args .columns in
+    left-end (now (args .out)) (args .at) (T.table (args .rows) columns (now (args .answer))) (loop .out) (loop .to) _ (table-end (loop .left) columns _ (c .loop-test .left)) (loop .inv .0)
 
 pub table-spec : {M : Type 1} → statement M
 table-spec =
