@@ -34,21 +34,6 @@ pub fn holds(
     branches::holds(t, xs, i, q, z, catalogue, values, memo, env)
 }
 
-// Puts the variables of so many RANGE records in reach.
-fn bind_ranges(ranges: &[u8], left: usize, reach: &mut [u16]) {
-    if left == 0 {
-        return;
-    }
-    bind_ranges(
-        kinds::tail(ranges, kinds::record_length(1)),
-        left - 1,
-        reach,
-    );
-    let variable = kinds::byte(ranges, 1);
-    let relation = kinds::byte(ranges, 2);
-    scope::bind(reach, variable, relation);
-}
-
 // How many of the RANGE variables must be bound for the condition that q starts with: the last ones leave reach as long as it stays in scope.
 fn stage(
     ranges: &[u8],
@@ -109,7 +94,7 @@ fn stage_at(
         return ranges;
     }
     let mut reach = [0u16; 256];
-    bind_ranges(q, ranges, &mut reach);
+    queries::bind_ranges(q, ranges, &mut reach);
     let c = kinds::tail(q, place);
     let sizes = kinds::tail_sizes(z, place);
     stage(q, ranges, c, sizes, level, catalogue, limit, &mut reach)

@@ -48,7 +48,7 @@ fn ranges_known(ranges: &[u8], left: usize, catalogue: &[u8], limit: u8) -> bool
 }
 
 // Puts the variables of so many RANGE records in reach.
-fn bind_ranges(ranges: &[u8], left: usize, reach: &mut [u16])
+pub fn bind_ranges(ranges: &[u8], left: usize, reach: &mut [u16])
     requires { ⌜ 256 ≤ length (now reach) ⌝ }
     ensures { λ _. ⌜ scopeOf (now (reach .exit)) ≡ reachOn (rangesAt left (now (ranges .entry))) (scopeOf (now (reach .entry))) ⌝ }
 {

@@ -13,7 +13,7 @@ use Rattle.conjuncts.proofs.stage_at.Statement.{statement}
 use Rattle.conjuncts.proofs.stage_at.Tie as tie
 use Rattle.conjuncts.proofs.stage_at.Reads as reads
 use Rattle.conjuncts.proofs.stage_at.Lts as lts
-use Rattle.conjuncts.proofs.bind_ranges.Reads as bind-ranges-reads
+use Rattle.queries.proofs.bind_ranges.Reads as bind-ranges-reads
 use Rattle.conjuncts.proofs.one_range.Reads as one-range-reads
 use Rattle.conjuncts.proofs.stage.Reads as stage-reads
 use Rattle.kinds.proofs.tail.Reads as tail-reads
