@@ -13,7 +13,7 @@ pub and-and : (a b c : Bool) → (a && b) && c ≡ a && (b && c)
 and-and true b c = refl
 and-and false b c = refl
 
-all-last : (f : ℕ → Bool) (xs : List ℕ) (x : ℕ) → all f (xs ++ (x ∷ [])) ≡ all f xs && f x
+pub all-last : (f : ℕ → Bool) (xs : List ℕ) (x : ℕ) → all f (xs ++ (x ∷ [])) ≡ all f xs && f x
 unfolding all
 all-last f [] x = and-true (f x)
 all-last f (y ∷ ys) x = ap (λ b. f y && b) (all-last f ys x) ∙ sym (and-and (f y) (all f ys) (f x))

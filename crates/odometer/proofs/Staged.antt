@@ -18,6 +18,7 @@ use Rattle.model.proofs.Tests.{or-no, and-true}
 use Rattle.sizes.specs.Parts.{rangesAt}
 use Rattle.evaluator.specs.Recalled.{holdsBy}
 use Rattle.evaluator.specs.Evaluation.{rowsIn}
+use Rattle.conjuncts.proofs.Below.{and-and, all-last}
 use Rattle.conjuncts.specs.Stages.{stageHolds, stagesHold, Extends, Steady, Planned}
 use Rattle.odometer.specs.Staged.{stagedFrom, depthHolds}
 use Rattle.odometer.specs.declared.Plan.{Plan}
@@ -96,26 +97,18 @@ staged-all T R d (b ∷ bs) e h =
 abbrev both : (ℕ → Bool) → ℕ → Bool
 both g d = g (2 * d) && g (2 * d + 1)
 
-and-assoc : (a b c : Bool) → (a && b) && c ≡ a && (b && c)
-and-assoc true b c = refl
-and-assoc false b c = refl
-
-all-last : (g : ℕ → Bool) (n : ℕ) → all g (below (suc n)) ≡ all g (below n) && g n
-unfolding all below
-all-last g n = go (below n)
-  where
-    go : (xs : List ℕ) → all g (xs ++ (n ∷ [])) ≡ all g xs && g n
-    go [] = and-true (g n)
-    go (x ∷ xs) = ap (λ (b : Bool). g x && b) (go xs) ∙ sym (and-assoc (g x) (all g xs) (g n))
+all-below : (g : ℕ → Bool) (n : ℕ) → all g (below (suc n)) ≡ all g (below n) && g n
+unfolding below
+all-below g n = all-last g (below n) n
 
 -- one depth more is two stages more
 two-more : (g : ℕ → Bool) (d : ℕ) → all g (below (2 * d)) && both g d ≡ all g (below (2 * suc d))
 two-more g d =
     sym
     (ap (λ (k : ℕ). all g (below k)) (twice d)
-    ∙ all-last g (suc (2 * d))
-    ∙ ap (λ (b : Bool). b && g (suc (2 * d))) (all-last g (2 * d))
-    ∙ and-assoc (all g (below (2 * d))) (g (2 * d)) (g (suc (2 * d)))
+    ∙ all-below g (suc (2 * d))
+    ∙ ap (λ (b : Bool). b && g (suc (2 * d))) (all-below g (2 * d))
+    ∙ and-and (all g (below (2 * d))) (g (2 * d)) (g (suc (2 * d)))
     ∙ ap (λ (k : ℕ). all g (below (2 * d)) && (g (2 * d) && g k)) (sym (add-one (2 * d))))
   where
     twice : (d : ℕ) → 2 * suc d ≡ suc (suc (2 * d))
@@ -125,7 +118,7 @@ depths-from : (g : ℕ → Bool) (d n : ℕ) → all g (below (2 * d)) && depths
 unfolding depths
 depths-from g d zero = two-more g d ∙ ap (λ (k : ℕ). all g (below k)) (omega arith)
 depths-from g d (suc n) =
-    sym (and-assoc (all g (below (2 * d))) (both g d) (depths (both g) (suc d) n))
+    sym (and-and (all g (below (2 * d))) (both g d) (depths (both g) (suc d) n))
     ∙ ap (λ (b : Bool). b && depths (both g) (suc d) n) (two-more g d)
     ∙ depths-from g (suc d) n
     ∙ ap (λ (k : ℕ). all g (below k)) (omega arith)
