@@ -23,7 +23,7 @@ fn wide_entry(x: u16) -> usize
 }
 
 // Whether the relation has the attribute.
-fn has(catalogue: &[u8], relation: usize, attribute: u8) -> bool
+pub fn has(catalogue: &[u8], relation: usize, attribute: u8) -> bool
     ensures { λ r. ⌜ r ≡ ltb attribute (attributesAt (shapeIn (now (catalogue .entry))) relation) ⌝ }
 {
     if catalogue::count(catalogue) <= relation {
@@ -43,7 +43,7 @@ pub fn known(catalogue: &[u8], limit: u8, variable: u8, relation: u8) -> bool
 }
 
 // Whether the variable is in reach and its relation has the attribute.
-fn attribute(catalogue: &[u8], reach: &[u16], variable: u8, attribute: u8) -> bool
+pub fn attribute(catalogue: &[u8], reach: &[u16], variable: u8, attribute: u8) -> bool
     ensures { λ r. ⌜ r ≡ knownAttribute (shapeIn (now (catalogue .entry))) (scopeOf (now (reach .entry)) variable) attribute ⌝ }
 {
     let x = entry(reach, variable);
@@ -54,7 +54,7 @@ fn attribute(catalogue: &[u8], reach: &[u16], variable: u8, attribute: u8) -> bo
 }
 
 // The entry of a variable, 0 past the end.
-fn entry(reach: &[u16], variable: u8) -> u16
+pub fn entry(reach: &[u16], variable: u8) -> u16
     ensures { λ r. ⌜ r ≡ getD (now (reach .entry)) variable 0 ⌝ }
 {
     let v = wide(variable);
@@ -62,7 +62,7 @@ fn entry(reach: &[u16], variable: u8) -> u16
 }
 
 // Writes the entry of a variable.
-fn put(reach: &mut [u16], variable: u8, entry: u16)
+pub fn put(reach: &mut [u16], variable: u8, entry: u16)
     ensures { λ _. ⌜ now (reach .exit) ≡ set (now (reach .entry)) variable entry ⌝ }
 {
     let v = wide(variable);

@@ -42,7 +42,7 @@ fn child_sort(kind: u8) -> bool
     kinds::child_terms(kind) != 0
 }
 
-fn put(z: &mut [u16], at: usize, n: usize)
+pub fn put(z: &mut [u16], at: usize, n: usize)
     ensures { λ _. ⌜ now (z .exit) ≡ store (now (z .entry)) at n ⌝ }
 {
     if 65536 <= n {
