@@ -80,7 +80,7 @@ module _ (f : Term → Bool) (left l : ℕ) (q z : List ℕ) where
         ec ∙ ap₂ (λ (x y : List ℕ). all f (targetsAt (left - 1) l x y)) (eu ∙ ap (λ k. drop k q) en) (ev ∙ ap (λ k. drop k z) en) ∙ sym (ap (all f) (targets-step left l q z nz) ∙ rw g)
 
 -- the whole query
-scope-ranges : (bs : List Binding) → reachOn bs nobody ≡ rangeScope bs
+pub scope-ranges : (bs : List Binding) → reachOn bs nobody ≡ rangeScope bs
 unfolding reachOn rangeScope
 scope-ranges [] = refl
 scope-ranges (b ∷ bs) = ap (λ (σ : Scope). update σ (b .variable) (some (b .relation))) (scope-ranges bs)

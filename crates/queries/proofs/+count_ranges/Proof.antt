@@ -1,0 +1,74 @@
+use Prim.Native.Nat.{ℕ, _<_}
+use native.Mathlib.Omega.{arith}
+use denote.Ref.{now}
+use Rattle.queries.proofs.Admission.{count-none, count-more}
+use borrow.Author.Needs.{needs}
+use borrow.Fn.Kinds.{In}
+use borrow.Fn.PlainCycle.{Measures, is, falls, and}
+use Rattle.queries.proofs.count_ranges.Reads as count-ranges
+use Rattle.queries.proofs.count_ranges.Kinds as count-ranges-kinds
+use Rattle.queries.proofs.+count_ranges.Lts-count_ranges as count-ranges-lts
+use Rattle.kinds.proofs.byte.Reads as byte-reads
+use Rattle.kinds.proofs.record_length.Reads as record-length-reads
+use Rattle.kinds.proofs.tail.Reads as tail-reads
+use Rattle.queries.proofs.+count_ranges.{statement}
+use Rattle.queries.proofs.+count_ranges.Tie.{close}
+
+abbrev μ-count-ranges : Measures 1 count-ranges-kinds.ps ℕ
+μ-count-ranges κs a = a .1 .0
+
+abbrev count-ranges-at : ℕ → In 1 count-ranges-kinds.ps
+count-ranges-at t =
+    and 1 count-ranges-kinds.ps (is 1 count-ranges-kinds.ps μ-count-ranges t) count-ranges.Pre
+
+abbrev count-ranges-below : ℕ → In 1 count-ranges-kinds.ps
+count-ranges-below t =
+    and
+    1
+    count-ranges-kinds.ps
+    (falls 1 count-ranges-kinds.ps _<_ μ-count-ranges t)
+    count-ranges.Pre
+
+abbrev count-ranges-claims : ℕ → count-ranges-lts.Claims
+count-ranges-claims t = (byte-reads.Asked, byte-reads.Learnt, record-length-reads.Asked, record-length-reads.Learnt, tail-reads.Asked, tail-reads.Learnt, count-ranges-below t, count-ranges.Post)
+
+count-ranges-returns : (t : ℕ) → count-ranges-lts.Need-returns (count-ranges-claims t) (count-ranges-at t) count-ranges.Post
+count-ranges-returns t c = (omega arith, count-none (now (c .before .before .args .q)))
+
+count-ranges-byte-requires : (t : ℕ) → count-ranges-lts.Need-byte-requires (count-ranges-claims t) (count-ranges-at t) count-ranges.Post
+count-ranges-byte-requires t c κs = search needs
+
+count-ranges-returns-2 : (t : ℕ) → count-ranges-lts.Need-returns-2 (count-ranges-claims t) (count-ranges-at t) count-ranges.Post
+count-ranges-returns-2 t c = (omega arith, count-none (now (c .before .before .before .before .args .q)))
+
+count-ranges-record-length-requires : (t : ℕ) → count-ranges-lts.Need-record-length-requires (count-ranges-claims t) (count-ranges-at t) count-ranges.Post
+count-ranges-record-length-requires t c κs = search needs
+
+count-ranges-tail-requires : (t : ℕ) → count-ranges-lts.Need-tail-requires (count-ranges-claims t) (count-ranges-at t) count-ranges.Post
+count-ranges-tail-requires t c κs = search needs
+
+count-ranges-sub-count-ranges : (t : ℕ) → count-ranges-lts.Need-sub-count-ranges (count-ranges-claims t) (count-ranges-at t) count-ranges.Post
+count-ranges-sub-count-ranges t c = search needs
+
+count-ranges-count-ranges-requires : (t : ℕ) → count-ranges-lts.Need-count-ranges-requires (count-ranges-claims t) (count-ranges-at t) count-ranges.Post
+count-ranges-count-ranges-requires t c κs = search needs
+
+count-ranges-add-result : (t : ℕ) → count-ranges-lts.Need-add-result (count-ranges-claims t) (count-ranges-at t) count-ranges.Post
+count-ranges-add-result t c = search needs
+
+count-ranges-returns-3 : (t : ℕ) → count-ranges-lts.Need-returns-3 (count-ranges-claims t) (count-ranges-at t) count-ranges.Post
+count-ranges-returns-3 t c = (omega (arith, c .count-ranges .ensures .0, c .before .before .before .before .before .if1 .left), count-more (now (c .before .before .before .before .before .before .before .args .q)) (now (c .before .tail .result)) (c .before .before .before .before .byte .result) (c .before .before .record-length .result) (c .count-ranges .result) (c .before .before .before .before .byte .ensures) (c .before .before .before .if2 .left) (c .before .before .record-length .ensures .0) (c .before .tail .ensures) (c .count-ranges .ensures .1))
+
+pub +count-ranges-spec : {M : Type 1} → statement M
++count-ranges-spec = close μ-count-ranges λ t. count-ranges-lts.spec (count-ranges-claims t)
+    (count-ranges-at t)
+    count-ranges.Post
+    (count-ranges-returns t)
+    (count-ranges-byte-requires t)
+    (count-ranges-returns-2 t)
+    (count-ranges-record-length-requires t)
+    (count-ranges-tail-requires t)
+    (count-ranges-sub-count-ranges t)
+    (count-ranges-count-ranges-requires t)
+    (count-ranges-add-result t)
+    (count-ranges-returns-3 t)
