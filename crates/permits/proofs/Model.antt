@@ -152,7 +152,7 @@ module _ (cb : List ℕ) (hc : fails10 cb ≡ false) where
       (decode-is 16 (encode c []) c [] (conditionTable 16 (encode c []) 0 (replicate 256 0)) e
       (condition-sized 16 (encode c []) 0 (replicate 256 0) c [] e (omega (arith, l, n)) (omega (arith, l))))
 
-  mask-is : (p : Permit) → maskIn (attributesOf cb (p .relation)) (mask p) ≡ maskKnown (shapeOf (catalogueOf cb)) p
+  pub mask-is : (p : Permit) → maskIn (attributesOf cb (p .relation)) (mask p) ≡ maskKnown (shapeOf (catalogueOf cb)) p
   unfolding maskIn attributesIn maskKnown
   mask-is p = ap (λ (n : ℕ). maskIn n (mask p)) (sym (attributes-is cb hc (p .relation)))
 
@@ -166,7 +166,7 @@ module _ (cb : List ℕ) (hc : fails10 cb ≡ false) where
       (ap (λ (bs : List Binding). unique (0 ∷ variables bs)) (bindings-condition (p .condition))))
 
   -- 23
-  stored-permit : (p : Permit) → overStored cb (entryOf p) ≡ permitStored (shapeOf (catalogueOf cb)) p
+  pub stored-permit : (p : Permit) → overStored cb (entryOf p) ≡ permitStored (shapeOf (catalogueOf cb)) p
   unfolding overStored permitStored
   stored-permit p =
       ap₂ (λ (a b : Bool). a && b)

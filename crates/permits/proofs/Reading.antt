@@ -67,7 +67,7 @@ take-first : (x r : List ℕ) → take (length x) (x ++ r) ≡ x
 take-first [] r = refl
 take-first (a ∷ x) r = ap (λ (l : List ℕ). a ∷ l) (take-first x r)
 
-take-encode : (c : Condition) (r : List ℕ) → take (size c) (encode c r) ≡ encode c []
+pub take-encode : (c : Condition) (r : List ℕ) → take (size c) (encode c r) ≡ encode c []
 take-encode c r =
     ap₂ take (sym (size-encode c [] ∙ add-zero (size c))) (encode-join c [] r) ∙ take-first (encode c []) r
 

@@ -31,7 +31,7 @@ fn span(q: &[u8]) -> usize
     at
 }
 
-fn part(q: &[u8], n: usize) -> &[u8]
+pub fn part(q: &[u8], n: usize) -> &[u8]
     ensures { λ r. ⌜ now r ≡ take n (now (q .entry)) ⌝ }
 {
     if n <= q.len() { &q[..n] } else { q }
@@ -61,7 +61,7 @@ fn wide(x: u8) -> u16
 }
 
 // The mask of the permit that a list starts with, low byte first.
-fn mask(list: &[u8]) -> u16
+pub fn mask(list: &[u8]) -> u16
     ensures { λ r. ⌜ r ≡ maskOf (now (list .entry)) ⌝ }
 {
     wide(kinds::byte(list, 2)) + 256 * wide(kinds::byte(list, 3))
@@ -307,7 +307,7 @@ fn attributes_in(mask: u16, attributes: usize) -> bool
 }
 
 // A mask is not 0, and names attributes of the relation, or is ALL.
-fn mask_in(mask: u16, attributes: usize) -> bool
+pub fn mask_in(mask: u16, attributes: usize) -> bool
     ensures { λ r. ⌜ r ≡ Lim.maskIn attributes mask ⌝ }
 {
     if mask == 0 {
