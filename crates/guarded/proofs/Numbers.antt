@@ -1,28 +1,33 @@
 -- The number of a guarded call, check by check.
-use mathlib.Core.Path.{_≡_, refl, sym, ap, _∙_}
+use mathlib.Core.Path.{_≡_, refl, sym, ap, ap₂, subst, _∙_}
 use mathlib.Core.Bool.{Bool, true, false, not, cond}
 use mathlib.Core.List.{List, [], _∷_, _++_}
 use Prim.Native.Nat.{ℕ, zero, suc, _≤_, _<_}
 use native.Mathlib.Omega.{arith}
 use lib.IntN.{ℤ}
-use lib.ListN.{length}
+use lib.ListN.{length, replicate, length-replicate}
 use lib.Dec.{ltb}
 use borrow.Author.Tests.{lt-ltb, le-ltb}
 use Rattle.model.specs.Lists.{all, Every}
-use Rattle.model.specs.Syntax.{Query}
+use Rattle.model.specs.Syntax.{Binding, bindingsQ}
 use Rattle.model.specs.Encoding.{queryOf, permitsOf, encodeQuery}
 use Rattle.model.specs.Catalogue.{catalogueOf, Shape, shapeOf}
 use Rattle.model.specs.Checks.{Check, guardedLimits, fails10, fails20, fails21, fails22, fails23, fails30, fails33, fails40, keeperChecks, permitChecks, queryChecks, guardChecks, shapeChecks, askChecks, refusal}
 use Rattle.model.specs.Calls.{ask, askUnless}
-use Rattle.model.proofs.Passed.{refusal-cons, query-read, query-length}
+use Rattle.model.proofs.Passed.{refusal-cons, query-read, query-length, Scoped, scoped}
 use Rattle.model.proofs.Grounds.{refusal-skip}
 use Rattle.scans.specs.Flat.{flatBindings}
-use Rattle.permits.specs.Applying.{servedIn, rewrittenLength}
 use Rattle.permits.specs.Limits.{listChecks}
-use Rattle.permits.proofs.Model.{check-is, served-all, rewritten-is}
-use Rattle.permits.proofs.Reading.{Listed, listed}
+use Rattle.permits.proofs.Model.{check-is}
+use Rattle.permits.proofs.Reading.{listed}
+use Rattle.grammar.specs.declared.Layout.{Layout}
+use Rattle.queries.specs.Parts.{queryAt}
+use Rattle.guards.specs.Filled.{placedFrom, masked}
+use Rattle.guards.specs.Counted.{servedBy, rewrittenLength, Short}
+use Rattle.guards.proofs.Counts.{served-all, length-all, filled-short}
 use Rattle.guarded.specs.declared.Reply.{Reply}
-use Rattle.guarded.specs.Outcome.{bytesOf, outcomeOf, Checks32}
+use Rattle.guarded.specs.Outcome.{bytesOf, outcomeOf}
+use Rattle.guarded.proofs.Outcomes.{Writable, few-variables}
 
 refusal-some : (xs ys : List Check) → (refusal xs ≡ 0 → ⊥) → refusal (xs ++ ys) ≡ refusal xs
 unfolding refusal
@@ -123,31 +128,63 @@ module _ (cb : List ℕ) (vs : List ℤ) (pb qb rewritten : List ℕ) (cells : L
         pub short-list : length pb ≤ 2048
         short-list = listed pb p20 .short
 
-        served-is : (b : Bool) → b ≡ all (servedIn qb pb cb) (flatBindings qb) → not b ≡ fails33 sh (permitsOf pb) (queryOf qb)
-        served-is b e = ap not e ∙ ap (λ (x : List ℕ). not (all (servedIn x pb cb) (flatBindings x))) bytes ∙ served-all cb (catalogue-passes k) pb p20 (queryOf qb)
+        p21 : fails21 (permitsOf pb) ≡ false
+        unfolding permitChecks
+        p21 = refusal-cons _ 21 _ (omega arith) (refusal-cons _ 20 _ (omega arith) p .1) .0
 
-        pub length-is : (n : ℕ) → n ≡ rewrittenLength qb pb cb → n ≡ length (bytesOf cb pb qb)
-        length-is n e = e ∙ ap (λ (x : List ℕ). rewrittenLength x pb cb) bytes ∙ rewritten-is cb (catalogue-passes k) pb p20 (queryOf qb)
+        in-scope : Scoped sh 8 (queryOf qb)
+        unfolding queryChecks
+        in-scope = scoped guardedLimits sh (queryOf qb) (refusal-cons _ 32 _ (omega arith) (refusal-cons _ 31 _ (omega arith) (refusal-cons _ 30 _ (omega arith) u .1) .1) .0)
 
-        module _ (b : Bool) (eb : b ≡ all (servedIn qb pb cb) (flatBindings qb)) where
-          pub refused-33 : not b ≡ true → (r : Reply) → r ≡ record { number = 33; rows = 0; columns = 0; length = 0 } → outcomeOf r cells rewritten ≡ ask cb vs pb qb rewritten cells
-          unfolding guardChecks refusal
-          refused-33 h r er = let e : fails33 sh (permitsOf pb) (queryOf qb) ≡ true = sym (served-is b eb) ∙ h in refuse-with 33 (ask-shape ∙ shape-guard ∙ rw e) (omega arith) r er
+        few : Every (λ (b : Binding). b .variable < length (replicate {A = ℕ} 256 0)) (bindingsQ (queryOf qb))
+        few = few-variables sh (queryOf qb) in-scope (length (replicate {A = ℕ} 256 0)) (omega (arith, length-replicate {A = ℕ} 256 0))
 
-          module _ (h : not b ≡ false) (n : ℕ) (en : n ≡ rewrittenLength qb pb cb) where
-            pub refused-40 : room < n → (r : Reply) → r ≡ record { number = 40; rows = 0; columns = 0; length = 0 } → outcomeOf r cells rewritten ≡ ask cb vs pb qb rewritten cells
-            unfolding guardChecks refusal fails40
-            refused-40 l r er =
-                let e : fails33 sh (permitsOf pb) (queryOf qb) ≡ false = sym (served-is b eb) ∙ h in
-                let f : ltb room (length (bytesOf cb pb qb)) ≡ true = lt-ltb room _ (omega (arith, l, length-is n en)) in
-                refuse-with 40 (ask-shape ∙ shape-guard ∙ rw (e, f)) (omega arith) r er
+        -- the tables of guards, filled
+        module _ (places masks : List ℕ) (ep : places ≡ placedFrom 8 pb 0 0 (replicate 16 0)) (em : masks ≡ masked qb pb cb (flatBindings qb) (replicate 256 0)) where
+          pub short-places : Short places
+          short-places = subst Short (sym ep) (filled-short pb short-list 16)
 
-            pub all-pass : n ≤ room → refusal (shapeChecks sh pb qb room) ≡ 0
-            unfolding guardChecks refusal fails40
-            all-pass l =
-                let e : fails33 sh (permitsOf pb) (queryOf qb) ≡ false = sym (served-is b eb) ∙ h in
-                let f : ltb room (length (bytesOf cb pb qb)) ≡ false = le-ltb room _ (omega (arith, l, length-is n en)) in
-                shape-guard ∙ rw (e, f)
+          served-is : (b : Bool) → b ≡ all (servedBy cb masks) (flatBindings qb) → not b ≡ fails33 sh (permitsOf pb) (queryOf qb)
+          served-is b e =
+              ap not e
+              ∙ ap (λ (m : List ℕ). not (all (servedBy cb m) (flatBindings qb))) em
+              ∙ ap (λ (x : List ℕ). not (all (servedBy cb (masked x pb cb (flatBindings x) (replicate 256 0))) (flatBindings x))) bytes
+              ∙ served-all cb pb (catalogue-passes k) p20 p21 (queryOf qb) (in-scope .once) (replicate 256 0) (replicate 16 0) few (omega (arith, length-replicate {A = ℕ} 16 0))
 
-            pub ask-passes : n ≤ room → refusal (askChecks cb vs pb qb room) ≡ 0
-            ask-passes l = ask-shape ∙ all-pass l
+          length-33 : fails33 sh (permitsOf pb) (queryOf qb) ≡ false → (n : ℕ) → n ≡ rewrittenLength qb places masks → n ≡ length (bytesOf cb pb qb)
+          length-33 h n e =
+              e
+              ∙ ap₂ (rewrittenLength qb) ep em
+              ∙ ap (λ (x : List ℕ). rewrittenLength x (placedFrom 8 pb 0 0 (replicate 16 0)) (masked x pb cb (flatBindings x) (replicate 256 0))) bytes
+              ∙ length-all cb pb (catalogue-passes k) p20 p21 (queryOf qb) (in-scope .once) (replicate 256 0) (replicate 16 0) few (omega (arith, length-replicate {A = ℕ} 16 0)) h
+
+          module _ (b : Bool) (eb : b ≡ all (servedBy cb masks) (flatBindings qb)) where
+            pub refused-33 : not b ≡ true → (r : Reply) → r ≡ record { number = 33; rows = 0; columns = 0; length = 0 } → outcomeOf r cells rewritten ≡ ask cb vs pb qb rewritten cells
+            unfolding guardChecks refusal
+            refused-33 h r er = let e : fails33 sh (permitsOf pb) (queryOf qb) ≡ true = sym (served-is b eb) ∙ h in refuse-with 33 (ask-shape ∙ shape-guard ∙ rw e) (omega arith) r er
+
+            module _ (h : not b ≡ false) (n : ℕ) (en : n ≡ rewrittenLength qb places masks) where
+              p33 : fails33 sh (permitsOf pb) (queryOf qb) ≡ false
+              p33 = sym (served-is b eb) ∙ h
+
+              pub length-is : n ≡ length (bytesOf cb pb qb)
+              length-is = length-33 p33 n en
+
+              pub refused-40 : room < n → (r : Reply) → r ≡ record { number = 40; rows = 0; columns = 0; length = 0 } → outcomeOf r cells rewritten ≡ ask cb vs pb qb rewritten cells
+              unfolding guardChecks refusal fails40
+              refused-40 l r er =
+                  let f : ltb room (length (bytesOf cb pb qb)) ≡ true = lt-ltb room _ (omega (arith, l, length-is)) in
+                  refuse-with 40 (ask-shape ∙ shape-guard ∙ rw (p33, f)) (omega arith) r er
+
+              module _ (l : n ≤ room) where
+                pub all-pass : refusal (shapeChecks sh pb qb room) ≡ 0
+                unfolding guardChecks refusal fails40
+                all-pass =
+                    let f : ltb room (length (bytesOf cb pb qb)) ≡ false = le-ltb room _ (omega (arith, l, length-is)) in
+                    shape-guard ∙ rw (p33, f)
+
+                pub ask-passes : refusal (askChecks cb vs pb qb room) ≡ 0
+                ask-passes = ask-shape ∙ all-pass
+
+                pub writable : (y : Layout) (z : List ℕ) → queryAt y 32 qb z ≡ queryOf qb → Writable y cb pb qb z room
+                writable y z e = record { catalogue = catalogue-passes k; passed = all-pass; ready = e }

@@ -1,7 +1,7 @@
 -- The rewritten bytes and the answer of a call that passed its checks.
-use mathlib.Core.Path.{_≡_, refl, sym, ap, ap₂, subst, _∙_}
-use mathlib.Core.Bool.{Bool, true, false}
-use mathlib.Core.List.{List, [], _∷_, _++_}
+use mathlib.Core.Path.{_≡_, sym, ap, ap₂, subst, _∙_}
+use mathlib.Core.Bool.{false}
+use mathlib.Core.List.{List, [], _++_}
 use Prim.Native.Nat.{ℕ, _+_, _*_, _≤_, _<_}
 use native.Mathlib.Omega.{arith}
 use lib.IntN.{ℤ}
@@ -9,23 +9,22 @@ use lib.ListN.{length, take, drop}
 use lib.Seq.{sets, sets-eq, take-at}
 use Rattle.model.specs.Lists.{Every, concatMap}
 use Rattle.model.specs.Syntax.{Query, Binding, TRUE, bindings, bindingsT, bindingsQ, levelsQ}
-use Rattle.model.specs.Encoding.{ok, queryOf, permitsOf, encodeQuery}
+use Rattle.model.specs.Encoding.{ok, queryOf, permitsOf}
 use Rattle.model.specs.Catalogue.{catalogueOf, Shape, shapeOf}
 use Rattle.model.specs.Permits.{Guards, guardsOf}
 use Rattle.model.specs.Rewriting.{newFor, rewriteQuery}
-use Rattle.model.specs.Checks.{Check, guardedLimits, keeperChecks, permitChecks, queryChecks, guardChecks, shapeChecks, askChecks, rewrittenBytes, refusal}
+use Rattle.model.specs.Checks.{Check, fails10, guardedLimits, keeperChecks, permitChecks, queryChecks, guardChecks, shapeChecks, askChecks, rewrittenBytes, refusal}
 use Rattle.model.specs.Calls.{Outcome, evaluate, ask}
 use Rattle.model.specs.Demands.{Passes}
 use Rattle.model.proofs.Demands.{demand-2}
 use Rattle.model.proofs.Grounds.{refusal-passes}
 use Rattle.model.proofs.Lists.{every-join, every-map}
 use Rattle.model.proofs.Sizes.{size-query}
-use Rattle.model.proofs.Permitted.{Low, Sound}
-use Rattle.model.proofs.Passed.{Passed, Scoped, Within, within, sound, good-guards, permits-read, query-read}
+use Rattle.model.proofs.Permitted.{Low}
+use Rattle.model.proofs.Passed.{Passed, Scoped, within, sound, good-guards, permits-read, query-read}
 use Rattle.model.proofs.Limits.{ranges-put}
 use Rattle.model.proofs.Accepted.{checks, scope, read-again, query-again, bounds, same-targets, accepted}
 use Rattle.scans.specs.Flat.{flatBindings}
-use Rattle.permits.proofs.Reading.{Listed, listed}
 use Rattle.grammar.specs.declared.Layout.{Layout}
 use Rattle.grammar.specs.Shapes.{layout}
 use Rattle.queries.specs.Parts.{queryAt, Laid, Alike}
@@ -38,10 +37,20 @@ use Rattle.guards.proofs.Stands.{stands}
 use Rattle.plain.specs.declared.Reply as plain
 use Rattle.plain.specs.Reply.{answerOf, Accepted}
 use Rattle.guarded.specs.declared.Reply.{Reply}
-use Rattle.guarded.specs.Outcome.{bytesOf, outcomeOf, Writable}
+use Rattle.guarded.specs.Outcome.{bytesOf, outcomeOf}
 
-pub list-short : (y : Layout) (cb pb qb z : List ℕ) (room : ℕ) → Writable y cb pb qb z room → length pb ≤ 2048
-list-short y cb pb qb z room w = listed pb (checks (shapeOf (catalogueOf cb)) pb qb room (w .passed) .p20) .short
+-- a call that passed 10 to 40, with the query's layout and table
+pub record Writable (y : Layout) (cb pb qb z : List ℕ) (room : ℕ) : Type 0 where
+  pub catalogue : fails10 cb ≡ false
+  pub passed : refusal (shapeChecks (shapeOf (catalogueOf cb)) pb qb room) ≡ 0
+  pub ready : queryAt y 32 qb z ≡ queryOf qb
+
+-- a query in scope has variables below 8
+pub few-variables : (sh : Shape) (q : Query) → Scoped sh 8 q → (n : ℕ) → 256 ≤ n → Every (λ (b : Binding). b .variable < n) (bindingsQ q)
+unfolding bindingsQ
+few-variables sh q c n h =
+    let s = sound sh q c in
+    every-map Low (λ (b : Binding). b .variable < n) (λ b l. omega (arith, l, h)) (bindingsQ q) (every-join Low (q .ranges) _ (s .low-ranges) (every-join Low (concatMap bindingsT (q .targets)) (bindings (q .condition)) (s .low-targets) (s .low-condition)))
 
 module _ (y : Layout) (cb pb qb z : List ℕ) (room : ℕ) (w : Writable y cb pb qb z room) (places₀ masks₀ : List ℕ) (enough : 16 ≤ length places₀) (wide : 256 ≤ length masks₀) where
   abbrev sh : Shape
@@ -62,14 +71,8 @@ module _ (y : Layout) (cb pb qb z : List ℕ) (room : ℕ) (w : Writable y cb pb
   pass : Passed sh pb qb room
   pass = checks sh pb qb room (w .passed)
 
-  few : Every (λ (b : Binding). b .variable < length masks₀) (bindingsQ q)
-  unfolding bindingsQ
-  few =
-      let s = sound sh q (scope sh pb qb room (w .passed)) in
-      every-map Low (λ (b : Binding). b .variable < length masks₀) (λ b l. omega (arith, l, wide)) (bindingsQ q) (every-join Low (q .ranges) _ (s .low-ranges) (every-join Low (concatMap bindingsT (q .targets)) (bindings (q .condition)) (s .low-targets) (s .low-condition)))
-
   stand : Stands G M F (bindingsQ q)
-  stand = subst (λ (x : List ℕ). Stands G (masked x pb cb (flatBindings x) masks₀) F (bindingsQ q)) (sym (query-read guardedLimits qb (pass .p30) .bytes)) (stands cb pb (w .catalogue) (pass .p20) (pass .p21) q (pass .p33) (scope sh pb qb room (w .passed) .once) masks₀ places₀ few enough)
+  stand = subst (λ (x : List ℕ). Stands G (masked x pb cb (flatBindings x) masks₀) F (bindingsQ q)) (sym (query-read guardedLimits qb (pass .p30) .bytes)) (stands cb pb (w .catalogue) (pass .p20) (pass .p21) q (pass .p33) (scope sh pb qb room (w .passed) .once) masks₀ places₀ (few-variables sh q (scope sh pb qb room (w .passed)) (length masks₀) wide) enough)
 
   module _ (places masks : List ℕ) (ep : places ≡ placedFrom 8 pb 0 0 places₀) (em : masks ≡ M) where
     pub written : queryBytes masks (part pb places) (queryAt y 32 qb z) ≡ bytesOf cb pb qb

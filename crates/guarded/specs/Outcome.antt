@@ -1,13 +1,12 @@
 -- What a guarded call returns, with both buffers, as the model's outcome.
-use Prim.Native.Nat.{ℕ, _≤_}
-use mathlib.Core.Bool.{false}
+use Prim.Native.Nat.{ℕ}
 use mathlib.Core.List.{List}
 use mathlib.Core.Path.{_≡_}
 use lib.IntN.{ℤ}
 use Rattle.model.specs.Calls.{Outcome}
 use Rattle.model.specs.Encoding.{queryOf, permitsOf}
 use Rattle.model.specs.Catalogue.{catalogueOf, shapeOf}
-use Rattle.model.specs.Checks.{fails10, guardedLimits, keeperChecks, permitChecks, queryChecks, shapeChecks, rewrittenBytes, refusal}
+use Rattle.model.specs.Checks.{guardedLimits, keeperChecks, permitChecks, queryChecks, rewrittenBytes, refusal}
 use Rattle.grammar.specs.declared.Layout.{Layout}
 use Rattle.queries.specs.Parts.{queryAt, Laid}
 use Rattle.guarded.specs.declared.Reply.{Reply}
@@ -18,12 +17,6 @@ outcomeOf r cells rewritten = record { answer = record { number = r .number; row
 -- the bytes of the rewritten query
 abbrev pub bytesOf : List ℕ → List ℕ → List ℕ → List ℕ
 bytesOf cb pb qb = rewrittenBytes (shapeOf (catalogueOf cb)) (permitsOf pb) (queryOf qb)
-
--- a call that passed 10 to 40, with the query's layout and table
-pub record Writable (y : Layout) (cb pb qb z : List ℕ) (room : ℕ) : Type 0 where
-  pub catalogue : fails10 cb ≡ false
-  pub passed : refusal (shapeChecks (shapeOf (catalogueOf cb)) pb qb room) ≡ 0
-  pub ready : queryAt y 32 qb z ≡ queryOf qb
 
 -- a call that passed 10 to 32
 pub record Checks32 (y : Layout) (cb : List ℕ) (vs : List ℤ) (pb qb z : List ℕ) : Type 0 where

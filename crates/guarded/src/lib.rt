@@ -6,11 +6,10 @@ ghost use mathlib.Core.Path.{_≡_};
 ghost use mathlib.Core.Bool.{false};
 ghost use Prim.Native.Nat.{_≤_};
 ghost use lib.ListN.{length};
-ghost use lib.Seq.{sets};
 ghost use Rattle.model.specs.Catalogue.{catalogueOf, shapeOf};
 ghost use Rattle.model.specs.Checks.{fails10, permitChecks, refusal};
 ghost use Rattle.model.specs.Calls.{ask};
-ghost use Rattle.guarded.specs.Outcome.{bytesOf, outcomeOf, Writable, Checks32};
+ghost use Rattle.guarded.specs.Outcome.{outcomeOf, Checks32};
 
 // The number of a refusal, 0 where there is none, and the counts of rows, columns and rewritten bytes.
 pub struct Reply {
@@ -43,26 +42,8 @@ fn check_permits(list: &[u8], catalogue: &[u8]) -> u8
     permits::check(list, catalogue)
 }
 
-// The rewritten query of a call that passed its checks.
-fn write(
-    query: &[u8],
-    z: &[u16],
-    layout: Layout,
-    list: &[u8],
-    catalogue: &[u8],
-    rewritten: &mut [u8],
-)
-    requires { ⌜ Writable layout (now catalogue) (now list) (now query) (now z) (length (now rewritten)) ⌝ }
-    ensures { λ _. ⌜ now (rewritten .exit) ≡ sets (now (rewritten .entry)) 0 (bytesOf (now (catalogue .entry)) (now (list .entry)) (now (query .entry))) ⌝ }
-{
-    let mut places = [0usize; 16];
-    let mut masks = [0u8; 256];
-    guards::fill_places(list, 0, 0, 8, &mut places);
-    guards::fill_masks(query, list, catalogue, &mut masks);
-    rewriter::rewrite_query(query, z, layout, 32, list, &places, &masks, rewritten);
-}
-
 // 33 and 40, then the answer to the rewritten query. It passes its checks (demand 2), and they are not made again.
+// Which permits apply is found once: 33, the length and the guards are read from the same tables.
 fn answer_query(
     query: &[u8],
     z: &[u16],
@@ -76,14 +57,18 @@ fn answer_query(
     requires { ⌜ Checks32 layout (now catalogue) (now values) (now list) (now query) (now z) ⌝ }
     ensures { λ r. ⌜ outcomeOf r (now (answer .exit)) (now (rewritten .exit)) ≡ ask (now (catalogue .entry)) (now (values .entry)) (now (list .entry)) (now (query .entry)) (now (rewritten .entry)) (now (answer .entry)) ⌝ }
 {
-    if !permits::all_served(query, list, catalogue) {
+    let mut places = [0usize; 16];
+    let mut masks = [0u8; 256];
+    guards::fill_places(list, 0, 0, 8, &mut places);
+    guards::fill_masks(query, list, catalogue, &mut masks);
+    if !guards::all_served(query, catalogue, &masks) {
         return refused(33);
     }
-    let n = permits::rewritten_length(query, list, catalogue);
+    let n = guards::rewritten_length(query, &places, &masks);
     if rewritten.len() < n {
         return refused(40);
     }
-    write(query, z, layout, list, catalogue, rewritten);
+    rewriter::rewrite_query(query, z, layout, 32, list, &places, &masks, rewritten);
     let r = plain::evaluate_accepted(catalogue, values, &rewritten[..n], layout, answer);
     Reply {
         number: r.number,

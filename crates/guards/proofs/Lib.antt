@@ -1,2 +1,4 @@
 pub mod Steps
 pub mod Stands
+pub mod Lengths
+pub mod Counts

@@ -2,7 +2,7 @@
 use mathlib.Core.Path.{_≡_, refl, sym, ap, ap₂, subst, _∙_}
 use mathlib.Core.Bool.{Bool, true, false, not, cond, _||_}
 use mathlib.Core.List.{List, [], _∷_, map, map-map}
-use Prim.Native.Nat.{ℕ, zero, suc, _+_, _*_, _≤_, _<_}
+use Prim.Native.Nat.{ℕ, zero, suc, _+_, _*_, _-_, _≤_, _<_}
 use native.Mathlib.Omega.{arith}
 use lib.Dec.{eqb, ltb}
 use lib.ListN.{length, getD, set, take, drop, length-drop, length-set, length-map}
@@ -17,13 +17,14 @@ use Rattle.model.specs.Scope.{boundOnce}
 use Rattle.model.specs.Checks.{fails10, fails20, permitFits, fails21, served, fails33}
 use Rattle.model.proofs.Tests.{and-inv, or-no, not-no, not-yes}
 use Rattle.model.proofs.Lists.{every-map, every-both}
+use Rattle.model.proofs.Sizes.{size-encode}
 use Rattle.model.proofs.Passed.{all-every}
 use Rattle.catalogue.proofs.Reading.{stored-is}
 use Rattle.scans.specs.Flat.{flatBindings, usedIn}
 use Rattle.scans.proofs.Whole.{bindings-query, uses-query}
-use Rattle.permits.specs.Entries.{spanAfter, spanOf, Entry, conditionOf, sizeOf, entries}
+use Rattle.permits.specs.Entries.{spanOf, Entry, sizeOf, entries}
 use Rattle.permits.specs.Applying.{appliesTo, usedBytes}
-use Rattle.permits.proofs.Reading.{entryOf, encode-join, first-condition, first-rest, listed}
+use Rattle.permits.proofs.Reading.{entryOf, encode-join, first-size, first-rest, permits-span, some-bytes, listed}
 use Rattle.permits.proofs.Model.{applies-is}
 use Rattle.copier.specs.Guard.{part, bitsOf, PartsOf}
 use Rattle.copier.proofs.Encoded.{bits-some, picked-filter}
@@ -55,22 +56,16 @@ kept-place : (n : ℕ) (list : List ℕ) (at k : ℕ) (places : List ℕ) (i : �
 unfolding placedFrom
 kept-place zero list at k places i h = refl
 kept-place (suc n) list at k places i h =
-    let y = set (set places (2 * k) (at + 4)) (2 * k + 1) (length (conditionOf (drop at list))) in
+    let y = set (set places (2 * k) (at + 4)) (2 * k + 1) (sizeOf (drop at list) - 4) in
     go (ltb at (length list))
     (placedFrom n list (at + sizeOf (drop at list)) (k + 1) y)
     (kept-place n list (at + sizeOf (drop at list)) (k + 1) y i (omega arith)
-    ∙ getD-set-other (set places (2 * k) (at + 4)) (2 * k + 1) i (length (conditionOf (drop at list))) 0 (λ e. omega arith)
+    ∙ getD-set-other (set places (2 * k) (at + 4)) (2 * k + 1) i (sizeOf (drop at list) - 4) 0 (λ e. omega arith)
     ∙ getD-set-other places (2 * k) i (at + 4) 0 (λ e. omega arith))
   where
     go : (b : Bool) (x : List ℕ) → getD x i 0 ≡ getD places i 0 → getD (cond b x places) i 0 ≡ getD places i 0
     go true x e = e
     go false x e = refl
-
--- a list of permits starts with a permit, or is empty
-permits-span : (ps : List Permit) → spanOf (encodePermits ps) ≡ 0
-unfolding encodePermits encodePermit spanOf spanAfter
-permits-span [] = refl
-permits-span (p ∷ ps) = refl
 
 -- a permit's condition from its place on
 condition-there : (p : Permit) (r : List ℕ) → take (length (encode (p .condition) [])) (drop 4 (encodePermit p r)) ≡ encode (p .condition) []
@@ -82,19 +77,14 @@ condition-there p r =
 some-left : (list x : List ℕ) (at : ℕ) → drop at list ≡ x → 0 < length x → at < length list
 some-left list x at e h = omega (arith, ap length e, length-drop at list)
 
--- a permit is not empty
-some-bytes : (p : Permit) (r : List ℕ) → 0 < length (encodePermit p r)
-unfolding encodePermit
-some-bytes p r = omega arith
-
 -- the bytes of its condition
-abbrev written : Permit → List ℕ
+abbrev pub written : Permit → List ℕ
 written p = encode (p .condition) []
 
 -- the first permit that is left, and where it was put
 module _ (list : List ℕ) (p : Permit) (r : List ℕ) (hr : spanOf r ≡ 0) (n at k : ℕ) (places : List ℕ) (e : drop at list ≡ encodePermit p r) (room : 2 * k + 2 ≤ length places) where
   abbrev put : List ℕ
-  put = set (set places (2 * k) (at + 4)) (2 * k + 1) (length (conditionOf (drop at list)))
+  put = set (set places (2 * k) (at + 4)) (2 * k + 1) (sizeOf (drop at list) - 4)
 
   abbrev after : List ℕ
   after = placedFrom n list (at + sizeOf (drop at list)) (k + 1) put
@@ -106,15 +96,14 @@ module _ (list : List ℕ) (p : Permit) (r : List ℕ) (hr : spanOf r ≡ 0) (n 
   its-place : getD after (2 * k) 0 ≡ at + 4
   its-place =
       kept-place n list (at + sizeOf (drop at list)) (k + 1) put (2 * k) (omega arith)
-      ∙ getD-set-other (set places (2 * k) (at + 4)) (2 * k + 1) (2 * k) (length (conditionOf (drop at list))) 0 (λ x. omega arith)
+      ∙ getD-set-other (set places (2 * k) (at + 4)) (2 * k + 1) (2 * k) (sizeOf (drop at list) - 4) 0 (λ x. omega arith)
       ∙ getD-set-same places (2 * k) (at + 4) 0 (omega (arith, room))
 
   its-length : getD after (2 * k + 1) 0 ≡ length (written p)
   its-length =
       kept-place n list (at + sizeOf (drop at list)) (k + 1) put (2 * k + 1) (omega arith)
-      ∙ getD-set-same (set places (2 * k) (at + 4)) (2 * k + 1) (length (conditionOf (drop at list))) 0 (omega (arith, room, length-set places (2 * k) (at + 4)))
-      ∙ ap (λ (x : List ℕ). length (conditionOf x)) e
-      ∙ ap length (first-condition p r hr)
+      ∙ getD-set-same (set places (2 * k) (at + 4)) (2 * k + 1) (sizeOf (drop at list) - 4) 0 (omega (arith, room, length-set places (2 * k) (at + 4)))
+      ∙ omega (arith, ap sizeOf e, first-size p r hr, size-encode (p .condition) [])
 
   its-part : part list after k ≡ written p
   unfolding part
@@ -138,19 +127,43 @@ parts-from list (p ∷ ps) (suc n) at k places e l h =
     let next : k + 1 ≡ suc k = omega arith in
     let y = put list p r hr n at k places e room in
     let z = after list p r hr n at k places e room in
-    let more : 2 * ((k + 1) + n) ≤ length y = omega (arith, h, length-set places (2 * k) (at + 4), length-set (set places (2 * k) (at + 4)) (2 * k + 1) (length (conditionOf (drop at list)))) in
+    let more : 2 * ((k + 1) + n) ≤ length y = omega (arith, h, length-set places (2 * k) (at + 4), length-set (set places (2 * k) (at + 4)) (2 * k + 1) (sizeOf (drop at list) - 4)) in
     let i : PartsOf written (part list z) (k + 1) ps = parts-from list ps n (at + sizeOf (drop at list)) (k + 1) y (its-rest list p r hr n at k places e room) (omega arith) more in
     subst (λ (x : List ℕ). PartsOf written (part list x) k (p ∷ ps)) (sym (one-placed list p r hr n at k places e room))
     (its-part list p r hr n at k places e room, subst (λ (j : ℕ). PartsOf written (part list z) j ps) next i)
 
+-- from k on, the lengths beside the places are those of the permits' conditions
+unfoldable pub LengthsOf : List ℕ → ℕ → List Permit → Type 0
+LengthsOf places k [] = Unit
+LengthsOf places k (p ∷ ps) = (getD places (2 * k + 1) 0 ≡ length (written p)) × LengthsOf places (suc k) ps
+
+lengths-from : (list : List ℕ) (ps : List Permit) (n at k : ℕ) (places : List ℕ) → drop at list ≡ encodePermits ps → length ps ≤ n → 2 * (k + n) ≤ length places → LengthsOf (placedFrom n list at k places) k ps
+unfolding LengthsOf encodePermits
+lengths-from list [] n at k places e l h = tt
+lengths-from list (p ∷ ps) zero at k places e l h = absurd (omega arith)
+lengths-from list (p ∷ ps) (suc n) at k places e l h =
+    let r = encodePermits ps in
+    let hr = permits-span ps in
+    let room : 2 * k + 2 ≤ length places = omega arith in
+    let next : k + 1 ≡ suc k = omega arith in
+    let y = put list p r hr n at k places e room in
+    let z = after list p r hr n at k places e room in
+    let more : 2 * ((k + 1) + n) ≤ length y = omega (arith, h, length-set places (2 * k) (at + 4), length-set (set places (2 * k) (at + 4)) (2 * k + 1) (sizeOf (drop at list) - 4)) in
+    let i : LengthsOf z (k + 1) ps = lengths-from list ps n (at + sizeOf (drop at list)) (k + 1) y (its-rest list p r hr n at k places e room) (omega arith) more in
+    subst (λ (x : List ℕ). LengthsOf x k (p ∷ ps)) (sym (one-placed list p r hr n at k places e room))
+    (its-length list p r hr n at k places e room, subst (λ (j : ℕ). LengthsOf z j ps) next i)
+
 -- 21: at most 8 permits
-few-permits : (ps : List Permit) → fails21 ps ≡ false → length ps ≤ 8
+pub few-permits : (ps : List Permit) → fails21 ps ≡ false → length ps ≤ 8
 unfolding fails21
 few-permits ps h = omega (arith, ltb-false 8 (length ps) (or-no (ltb 8 (length ps)) (not (all permitFits ps)) h .0))
 
 -- the parts are the permits' conditions, written out
 pub parts-of : (pb places : List ℕ) → fails20 pb ≡ false → fails21 (permitsOf pb) ≡ false → 16 ≤ length places → PartsOf (λ (p : Permit). encode (p .condition) []) (part pb (placedFrom 8 pb 0 0 places)) 0 (permitsOf pb)
 parts-of pb places hp h21 h = parts-from pb (permitsOf pb) 8 0 0 places (listed pb hp .bytes) (few-permits (permitsOf pb) h21) (omega arith)
+
+pub lengths-of : (pb places : List ℕ) → fails20 pb ≡ false → fails21 (permitsOf pb) ≡ false → 16 ≤ length places → LengthsOf (placedFrom 8 pb 0 0 places) 0 (permitsOf pb)
+lengths-of pb places hp h21 h = lengths-from pb (permitsOf pb) 8 0 0 places (listed pb hp .bytes) (few-permits (permitsOf pb) h21) (omega arith)
 
 -- the mask of the entries is that of the permits
 bits-are : (t : Entry → Bool) (u : Permit → Bool) → ((p : Permit) → t (entryOf p) ≡ u p) → (ps : List Permit) → bitsOf t (map entryOf ps) ≡ bitsOf u ps
@@ -173,7 +186,7 @@ module _ (cb pb : List ℕ) (hc : fails10 cb ≡ false) (hp : fails20 pb ≡ fal
       ∙ bits-are (appliesTo (usedOf q v) r) (applies (usedOf q v) r) (applies-is (usedOf q v) r) ps
 
   -- the mask of a binding by the model
-  mask-is : (b : Binding) → maskFor (encodeQuery q) pb cb b ≡ cond (storedAt (shapeOf (catalogueOf cb)) (b .relation)) (bitsOf (applies (usedOf q (b .variable)) (b .relation)) (permitsOf pb)) 0
+  pub mask-is : (b : Binding) → maskFor (encodeQuery q) pb cb b ≡ cond (storedAt (shapeOf (catalogueOf cb)) (b .relation)) (bitsOf (applies (usedOf q (b .variable)) (b .relation)) (permitsOf pb)) 0
   unfolding maskFor
   mask-is b = ap₂ (λ (d : Bool) (n : ℕ). cond d n 0) (sym (stored-is cb hc (b .relation))) (bits-is (b .variable) (b .relation))
 

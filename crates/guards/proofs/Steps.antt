@@ -1,19 +1,22 @@
 -- One step of each function as an equation over plain variables.
 use mathlib.Core.Path.{_≡_, refl, sym, ap, ap₂, subst, _∙_}
-use mathlib.Core.Bool.{Bool, true, false, not, cond}
+use mathlib.Core.Bool.{Bool, true, false, not, cond, _||_}
 use mathlib.Core.List.{List, [], _∷_, _++_}
-use Prim.Native.Nat.{ℕ, zero, suc, _+_, _*_, _-_, _^_, _≤_, _<_}
-use native.Mathlib.Nat.{pow-suc}
+use Prim.Native.Nat.{ℕ, zero, suc, _+_, _*_, _-_, _/_, _%_, _^_, _≤_, _<_}
+use native.Mathlib.Nat.{pow-suc, add-zero}
 use native.Mathlib.Omega.{arith}
-use native.Mathlib.Numerals.{sub-one}
-use lib.Dec.{ltb}
+use native.Mathlib.Numerals.{add-one, sub-one}
+use lib.Dec.{eqb}
 use lib.ListN.{length, length-drop, drop, set, take, getD}
-use borrow.Author.Tests.{lt-ltb, le-ltb, not-true, not-false}
-use Rattle.permits.specs.Entries.{Entry, conditionOf, sizeOf, entryAt, entries}
+use borrow.Author.Tests.{lt-ltb, le-ltb, eq-eqb, ne-eqb, not-true, not-false}
+use Rattle.permits.specs.Entries.{Entry, sizeOf, entryAt, entries}
 use Rattle.permits.proofs.Walk.{entries-cons, entries-none}
 use Rattle.copier.specs.Guard.{bitsOf}
+use Rattle.model.specs.Lists.{all, total}
 use Rattle.model.specs.Syntax.{Binding}
 use Rattle.model.specs.Permits.{bit}
+use Rattle.model.proofs.Tests.{and-true}
+use Rattle.model.proofs.Lists.{total-append}
 use Rattle.kinds.specs.Record.{recordAt}
 use Rattle.kinds.specs.Tables.{recordLength}
 use Rattle.catalogue.specs.Layout.{storedOf}
@@ -25,6 +28,7 @@ use Rattle.scans.proofs.Loops.{bindings-on}
 use Rattle.permits.specs.Applying.{appliesTo, usedBytes}
 use Rattle.permits.proofs.Finds.{applies-same}
 use Rattle.guards.specs.Filled.{placedFrom, maskFor, masked, bitOf}
+use Rattle.guards.specs.Counted.{servedBy, turnLength, lengthFrom, lengthBy}
 
 module _ (left : ℕ) (list : List ℕ) (at k : ℕ) (places : List ℕ) where
   pub places-none : left ≡ 0 → places ≡ placedFrom left list at k places
@@ -39,14 +43,14 @@ module _ (left : ℕ) (list : List ℕ) (at k : ℕ) (places : List ℕ) where
       go zero = refl
       go (suc n) = rw (le-ltb at (length list) h)
 
-  pub places-next : (rest x y c : List ℕ) (n : ℕ) (w : List ℕ) → (left ≡ 0 → ⊥) → at < length list → rest ≡ drop at list → x ≡ set places (2 * k) (at + 4) → c ≡ conditionOf rest → y ≡ set x (2 * k + 1) (length c) → n ≡ sizeOf rest
+  pub places-next : (rest x y : List ℕ) (n : ℕ) (w : List ℕ) → (left ≡ 0 → ⊥) → at < length list → rest ≡ drop at list → x ≡ set places (2 * k) (at + 4) → n ≡ sizeOf rest → y ≡ set x (2 * k + 1) (n - 4)
       → w ≡ placedFrom (left - 1) list (at + n) (k + 1) y → w ≡ placedFrom left list at k places
   unfolding placedFrom
-  places-next rest x y c n w nz l er ex ec ey en ew = go left nz ew
+  places-next rest x y n w nz l er ex en ey ew = go left nz ew
     where
       go : (m : ℕ) → (m ≡ 0 → ⊥) → w ≡ placedFrom (m - 1) list (at + n) (k + 1) y → w ≡ placedFrom m list at k places
       go zero h e = absurd (h refl)
-      go (suc m) h e = e ∙ rw (sub-one, lt-ltb at (length list) l, en, ey, ec, ex, er)
+      go (suc m) h e = e ∙ rw (sub-one, lt-ltb at (length list) l, ey, en, ex, er)
 
 pub pow-step : (n : ℕ) → (n ≡ 0 → ⊥) → 2 ^ n ≡ 2 * 2 ^ (n - 1)
 pow-step zero h = absurd (h refl)
@@ -131,3 +135,71 @@ module _ (q list cb : List ℕ) where
   pub masked-end : (at : ℕ) → length q ≤ at → (m w : List ℕ) → masked q list cb (flatBindings (drop at q)) m ≡ w → m ≡ w
   unfolding masked
   masked-end at h m w e = sym (ap (λ (bs : List Binding). masked q list cb bs m) (flat-end bindingOf q at h)) ∙ e
+
+-- 33 of one binding
+module _ (cb masks : List ℕ) (b : Bound) where
+  pub served-none : b ≡ Nothing → true ≡ all (servedBy cb masks) (boundBy b)
+  unfolding all
+  served-none e = rw e
+
+  module _ (v r : ℕ) (e : b ≡ To v r) (d : Bool) (ed : d ≡ storedOf cb r) where
+    served-of : all (servedBy cb masks) (boundBy b) ≡ (not d || not (eqb (getD masks v 0) 0))
+    unfolding all servedBy
+    served-of =
+        ap (λ (x : Bound). all (servedBy cb masks) (boundBy x)) e
+        ∙ and-true (not (storedOf cb r) || not (eqb (getD masks v 0) 0))
+        ∙ ap (λ (y : Bool). not y || not (eqb (getD masks v 0) 0)) (sym ed)
+
+    pub served-free : not d ≡ true → true ≡ all (servedBy cb masks) (boundBy b)
+    served-free h = sym (served-of ∙ ap (λ (y : Bool). y || not (eqb (getD masks v 0) 0)) h)
+
+    pub served-is : (m : ℕ) → not d ≡ false → m ≡ getD masks v 0 → not (eqb m 0) ≡ all (servedBy cb masks) (boundBy b)
+    served-is m h em = ap (λ (x : ℕ). not (eqb x 0)) em ∙ sym (served-of ∙ ap (λ (y : Bool). y || not (eqb (getD masks v 0) 0)) h)
+
+-- what one permit adds to a guard
+module _ (places : List ℕ) (m k : ℕ) where
+  pub turn-not : (m % 2 ≡ 1 → ⊥) → 0 ≡ turnLength places m k
+  turn-not h = sym (ap (λ (b : Bool). cond b (suc (getD places (2 * k + 1) 0)) 0) (ne-eqb (m % 2) 1 h))
+
+  pub turn-is : (n : ℕ) → m % 2 ≡ 1 → n ≡ getD places (2 * k + 1) 0 → 1 + n ≡ turnLength places m k
+  turn-is n h en =
+      let l : 1 + n ≡ suc (getD places (2 * k + 1) 0) = omega (arith, en) in
+      l ∙ sym (ap (λ (b : Bool). cond b (suc (getD places (2 * k + 1) 0)) 0) (eq-eqb (m % 2) 1 h))
+
+  -- one turn of the sum over the permits
+  module _ (n w : ℕ) (e : n + lengthFrom places (8 - k) m k ≡ w) where
+    pub turn-on : (t : ℕ) → k < 8 → t ≡ turnLength places m k → n + t + lengthFrom places (8 - (k + 1)) (m / 2) (k + 1) ≡ w
+    unfolding lengthFrom
+    turn-on t h et =
+        let l : 8 - k ≡ suc (8 - (k + 1)) = omega arith in
+        let s : lengthFrom places (8 - k) m k ≡ turnLength places m k + lengthFrom places (8 - (k + 1)) (m / 2) (suc k) = ap (λ (x : ℕ). lengthFrom places x m k) l in
+        let o : lengthFrom places (8 - (k + 1)) (m / 2) (k + 1) ≡ lengthFrom places (8 - (k + 1)) (m / 2) (suc k) = ap (lengthFrom places (8 - (k + 1)) (m / 2)) (add-one k) in
+        omega (arith, e, et, s, o)
+
+    pub turn-end : 8 ≤ k → n ≡ w
+    unfolding lengthFrom
+    turn-end h =
+        let l : 8 - k ≡ 0 = omega arith in
+        let s : lengthFrom places (8 - k) m k ≡ 0 = ap (λ (x : ℕ). lengthFrom places x m k) l in
+        omega (arith, e, s)
+
+-- the length of one binding's guard
+module _ (places masks : List ℕ) (b : Bound) where
+  pub length-none : b ≡ Nothing → 0 ≡ total (lengthBy places masks) (boundBy b)
+  unfolding total
+  length-none e = rw e
+
+  pub length-to : (v r : ℕ) → b ≡ To v r → (m n : ℕ) → m ≡ getD masks v 0 → n ≡ lengthFrom places 8 m 0 → n ≡ total (lengthBy places masks) (boundBy b)
+  unfolding total
+  length-to v r e m n em en =
+      en ∙ ap (λ (x : ℕ). lengthFrom places 8 x 0) em ∙ sym (ap (λ (x : Bound). total (lengthBy places masks) (boundBy x)) e ∙ add-zero (lengthFrom places 8 (getD masks v 0) 0))
+
+-- one turn of the sum over the bindings of a query
+pub length-on : (q : List ℕ) (at n : ℕ) → at < length q → n ≡ recordLength (getD q at 0) → (b : Bound) → boundBy b ≡ bindingOf (recordAt (drop at q)) → (f : Binding → ℕ) (m k w : ℕ) → k ≡ total f (boundBy b) → m + total f (flatBindings (drop at q)) ≡ w → m + k + total f (flatBindings (drop (at + n) q)) ≡ w
+length-on q at n h en b eb f m k w ek e = omega (arith, ek, e, ap (total f) (bindings-on q at n h en b eb), total-append f (boundBy b) (flatBindings (drop (at + n) q)))
+
+pub length-end : (q : List ℕ) (at : ℕ) → length q ≤ at → (f : Binding → ℕ) (m w : ℕ) → m + total f (flatBindings (drop at q)) ≡ w → m ≡ w
+unfolding total
+length-end q at h f m w e =
+    let z : total f (flatBindings (drop at q)) ≡ 0 = ap (total f) (flat-end bindingOf q at h) in
+    omega (arith, z, e)

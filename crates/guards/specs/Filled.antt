@@ -1,12 +1,12 @@
 -- What the rewriter is lent: where each permit's condition stands, and for each variable a mask of its applying permits.
-use Prim.Native.Nat.{ℕ, zero, suc, _+_, _*_}
+use Prim.Native.Nat.{ℕ, zero, suc, _+_, _*_, _-_}
 use mathlib.Core.Bool.{Bool, cond}
 use mathlib.Core.List.{List, [], _∷_}
 use lib.Dec.{ltb}
 use lib.ListN.{length, drop, set, take}
 use Rattle.model.specs.Syntax.{Binding}
 use Rattle.catalogue.specs.Layout.{storedOf}
-use Rattle.permits.specs.Entries.{conditionOf, sizeOf, entries}
+use Rattle.permits.specs.Entries.{sizeOf, entries}
 use Rattle.permits.specs.Applying.{appliesTo, usedBytes}
 use Rattle.copier.specs.Guard.{bitsOf}
 
@@ -15,7 +15,7 @@ unfoldable pub placedFrom : ℕ → List ℕ → ℕ → ℕ → List ℕ → Li
 placedFrom zero list at k places = places
 placedFrom (suc n) list at k places =
     cond (ltb at (length list))
-    (placedFrom n list (at + sizeOf (drop at list)) (k + 1) (set (set places (2 * k) (at + 4)) (2 * k + 1) (length (conditionOf (drop at list)))))
+    (placedFrom n list (at + sizeOf (drop at list)) (k + 1) (set (set places (2 * k) (at + 4)) (2 * k + 1) (sizeOf (drop at list) - 4)))
     places
 
 -- bit k is set where permit k applies; 0 over a workspace

@@ -1,14 +1,17 @@
 // What the rewriter is lent: where each permit's condition stands, and for each variable a mask of its applying permits.
+// Check 33 and the length of the rewritten query are read from the same tables, so that permits are applied once.
 use scans::Bound;
 ghost use mathlib.Core.Path.{_≡_};
 ghost use Prim.Native.Nat.{_+_, _*_, _^_, _≤_, _<_};
-ghost use lib.ListN.{length, set, drop, take};
+ghost use lib.ListN.{length, getD, set, take};
 ghost use Rattle.model.specs.Permits.{bit};
+ghost use Rattle.model.specs.Lists.{all, total};
 ghost use Rattle.scans.specs.Flat.{boundBy, flatBindings};
 ghost use Rattle.permits.specs.Entries.{entries};
 ghost use Rattle.permits.specs.Applying.{appliesTo};
 ghost use Rattle.copier.specs.Guard.{bitsOf};
 ghost use Rattle.guards.specs.Filled.{placedFrom, maskFor, masked, bitOf};
+ghost use Rattle.guards.specs.Counted.{servedBy, Short, turnLength, lengthFrom, lengthBy, rewrittenLength};
 
 fn put_place(places: &mut [usize], i: usize, x: usize)
     ensures { λ _. ⌜ now (places .exit) ≡ set (now (places .entry)) i x ⌝ }
@@ -31,8 +34,9 @@ pub fn fill_places(list: &[u8], at: usize, k: usize, left: usize, places: &mut [
     }
     let rest = kinds::tail(list, at);
     put_place(places, 2 * k, at + 4);
-    put_place(places, 2 * k + 1, permits::condition(rest).len());
-    fill_places(list, at + permits::size(rest), k + 1, left - 1, places);
+    let n = permits::size(rest);
+    put_place(places, 2 * k + 1, n - 4);
+    fill_places(list, at + n, k + 1, left - 1, places);
 }
 
 fn one_if(b: bool) -> u8
@@ -105,4 +109,97 @@ pub fn fill_masks(query: &[u8], list: &[u8], catalogue: &[u8], masks: &mut [u8])
         fill_mask(query, list, catalogue, scans::binding(query, at), masks);
         at += scans::step(query, at);
     }
+}
+
+fn mask_at(masks: &[u8], variable: u8) -> u8
+    ensures { λ r. ⌜ r ≡ getD (now (masks .entry)) variable 0 ⌝ }
+{
+    let v = variable as usize;
+    kinds::byte(masks, v)
+}
+
+fn served(catalogue: &[u8], masks: &[u8], b: Bound) -> bool
+    ensures { λ r. ⌜ r ≡ all (servedBy (now (catalogue .entry)) (now (masks .entry))) (boundBy b) ⌝ }
+{
+    let Bound::To(v, r) = b else {
+        return true;
+    };
+    if !catalogue::stored(catalogue, r) {
+        return true;
+    }
+    mask_at(masks, v) != 0
+}
+
+// Check 33 passes: each variable over a stored relation has a permit in its mask.
+pub fn all_served(query: &[u8], catalogue: &[u8], masks: &[u8]) -> bool
+    ensures { λ r. ⌜ r ≡ all (servedBy (now (catalogue .entry)) (now (masks .entry))) (flatBindings (now (query .entry))) ⌝ }
+{
+    let mut at = 0;
+    while at < query.len() {
+        if !served(catalogue, masks, scans::binding(query, at)) {
+            return false;
+        }
+        at += scans::step(query, at);
+    }
+    true
+}
+
+// The length of permit k's condition.
+fn length_at(places: &[usize], k: usize) -> usize
+    requires { ⌜ k < 8 ⌝ }
+    ensures { λ r. ⌜ r ≡ getD (now (places .entry)) (2 * k + 1) 0 ⌝ }
+{
+    let i = 2 * k + 1;
+    if i < places.len() { places[i] } else { 0 }
+}
+
+// What permit k adds to a guard if its bit, the mask's lowest, is set: its condition, with one byte more.
+fn turn_length(places: &[usize], mask: u8, k: usize) -> usize
+    requires { ⌜ (k < 8) × Short (now places) ⌝ }
+    ensures { λ r. ⌜ (r ≡ turnLength (now (places .entry)) mask k) × (r ≤ 4097) ⌝ }
+{
+    if mask % 2 != 1 {
+        return 0;
+    }
+    1 + length_at(places, k)
+}
+
+// How many bytes the guard of a mask takes: its permits' conditions, the AND before them, and an OR between two.
+fn guard_length(places: &[usize], mask: u8) -> usize
+    requires { ⌜ Short (now places) ⌝ }
+    ensures { λ r. ⌜ (r ≡ lengthFrom (now (places .entry)) 8 mask 0) × (r ≤ 32776) ⌝ }
+{
+    let mut n: usize = 0;
+    let mut m = mask;
+    let mut k: usize = 0;
+    while k < 8 {
+        n += turn_length(places, m, k);
+        m = m / 2;
+        k += 1;
+    }
+    n
+}
+
+fn binding_length(places: &[usize], masks: &[u8], b: Bound) -> usize
+    requires { ⌜ Short (now places) ⌝ }
+    ensures { λ r. ⌜ (r ≡ total (lengthBy (now (places .entry)) (now (masks .entry))) (boundBy b)) × (r ≤ 32776) ⌝ }
+{
+    let Bound::To(variable, _) = b else {
+        return 0;
+    };
+    guard_length(places, mask_at(masks, variable))
+}
+
+// How many bytes the rewritten query has. Where 33 has passed a mask of 0 is a workspace's, which gets no guard.
+pub fn rewritten_length(query: &[u8], places: &[usize], masks: &[u8]) -> usize
+    requires { ⌜ (length (now query) ≤ 1024) × Short (now places) ⌝ }
+    ensures { λ r. ⌜ r ≡ rewrittenLength (now (query .entry)) (now (places .entry)) (now (masks .entry)) ⌝ }
+{
+    let mut n = query.len();
+    let mut at = 0;
+    while at < query.len() {
+        n += binding_length(places, masks, scans::binding(query, at));
+        at += scans::step(query, at);
+    }
+    n
 }

@@ -2,36 +2,25 @@
 use mathlib.Core.Path.{_≡_, refl, sym, ap, ap₂, _∙_}
 use mathlib.Core.Bool.{Bool, true, false, not, cond, _&&_, _||_}
 use mathlib.Core.List.{List, [], _∷_}
-use Prim.Native.Nat.{ℕ, zero, suc, _+_, _-_, _<_, _≤_}
-use native.Mathlib.Nat.{min-le-left, add-zero}
+use Prim.Native.Nat.{ℕ, zero, suc, _-_, _<_, _≤_}
 use native.Mathlib.Omega.{arith}
 use lib.Dec.{eqb, leb, ltb}
-use lib.ListN.{length, getD, drop, length-take, length-append}
+use lib.ListN.{length, getD}
 use borrow.Author.Tests.{not-true, not-false, eq-eqb, ne-eqb, lt-leb, le-leb, lt-ltb, le-ltb}
-use Rattle.model.specs.Lists.{all, any, consIf, filter, total, below, concatMap, unique}
-use Rattle.model.specs.Syntax.{Condition, Binding, variables}
+use Rattle.model.specs.Lists.{all, below, unique}
+use Rattle.model.specs.Syntax.{Condition, variables}
 use Rattle.model.specs.Encoding.{Read, fail, ok, failed, readCondition}
 use Rattle.model.specs.Permits.{bit}
 use Rattle.model.specs.Checks.{refusal}
-use Rattle.model.proofs.Lists.{total-append}
-use Rattle.model.proofs.Tests.{clash, or-false, and-true}
+use Rattle.model.proofs.Tests.{clash, or-false}
 use Rattle.catalogue.specs.Layout.{storedOf, countOf, attributesOf}
-use Rattle.kinds.specs.Record.{recordAt}
-use Rattle.kinds.specs.Tables.{recordLength}
-use Rattle.kinds.specs.declared.Record.{Record}
-use Rattle.kinds.specs.declared.Record.the-variants as R
-use Rattle.scans.specs.Flat.{recordsAfter, recordsOf, flat, bindingOf, flatBindings, storedIn, boundBy, flatUses, usedIn}
-use Rattle.scans.specs.declared.Bound.{Bound}
-use Rattle.scans.specs.declared.Bound.the-variants as B
-use Rattle.scans.proofs.Walk.{flat-end}
-use Rattle.scans.proofs.Loops.{bindings-on}
+use Rattle.scans.specs.Flat.{flatBindings, storedIn}
 use Rattle.scans.proofs.Lists.{all-join}
 use Rattle.sizes.specs.declared.Size.{Size}
 use Rattle.sizes.specs.declared.Size.the-variants.{Bytes, Refused}
 use Rattle.sizes.specs.Measured.{sizeRead, conditionSize}
-use Rattle.permits.specs.Entries.{spanOf, Entry, conditionOf, sizeOf, maskOf, entryAt, entries}
-use Rattle.permits.specs.Applying.{within, appliesTo, usedBytes, servedIn, joinedPart, numbersPart, joinedLength, guardLength, guardNumbers, lengthFor}
-use Rattle.permits.proofs.Loops.{total-on, total-end}
+use Rattle.permits.specs.Entries.{Entry, conditionOf, maskOf, entryAt, entries}
+use Rattle.permits.specs.Applying.{within, appliesTo}
 use Rattle.permits.specs.Limits.{fitsLimits, overLimits, attributesIn, maskIn, inReach, knownIn, overStored, listChecks}
 
 abbrev isBytes : Size → Bool
@@ -108,62 +97,6 @@ module _ (s : ℕ → Bool) (r : ℕ) (list : List ℕ) (k : ℕ) (ek : k ≡ ge
   unfolding appliesTo
   applies-is m b h em eb = eb ∙ ap (within s) em ∙ sym (ap (λ (d : Bool). d && within s (maskOf list)) (ap (λ (x : ℕ). eqb x r) (sym ek) ∙ eq-eqb k r h))
 
-condition-short : (list : List ℕ) → length (conditionOf list) ≤ spanOf (drop 4 list)
-unfolding conditionOf
-condition-short list = rw (length-take (spanOf (drop 4 list)) (drop 4 list)) (min-le-left _ _)
-
-one-binding : (x : Record) → length (bindingOf x) ≤ 1
-one-binding (R.Range v r) = omega arith
-one-binding (R.Some v r) = omega arith
-one-binding (R.Aggregate f v r a) = omega arith
-one-binding R.True = omega arith
-one-binding R.False = omega arith
-one-binding R.Not = omega arith
-one-binding R.And = omega arith
-one-binding R.Or = omega arith
-one-binding (R.Compare o) = omega arith
-one-binding (R.Constant a b c d) = omega arith
-one-binding (R.Attribute v a) = omega arith
-one-binding (R.Stored a b c) = omega arith
-one-binding (R.Workspace a b c) = omega arith
-one-binding (R.Permit a b c) = omega arith
-one-binding R.Unknown = omega arith
-one-binding R.Short = omega arith
-
-bindings-few : (n : ℕ) (q : List ℕ) → length (concatMap bindingOf (recordsAfter n q)) ≤ length q
-unfolding recordsAfter concatMap
-bindings-few zero [] = omega arith
-bindings-few (suc n) [] = omega arith
-bindings-few (suc n) (b ∷ q) = omega (arith, bindings-few n q)
-bindings-few zero (b ∷ q) =
-    omega (arith, bindings-few (recordLength b - 1) q, one-binding (recordAt (b ∷ q)), length-append (bindingOf (recordAt (b ∷ q))) (concatMap bindingOf (recordsAfter (recordLength b - 1) q)))
-
-pub flat-few : (q : List ℕ) → length (flatBindings q) ≤ length q
-unfolding flat recordsOf
-flat-few q = bindings-few 0 q
-
--- what a permit adds
-module _ (s : ℕ → Bool) (r : ℕ) (list : List ℕ) (b : Bool) (eb : b ≡ appliesTo s r (entryAt list)) where
-  pub joined-not : b ≡ false → (0 ≡ joinedPart s r (entryAt list)) × (0 ≤ sizeOf list)
-  unfolding joinedPart
-  joined-not h = (ap (λ (d : Bool). cond d (suc (length (conditionOf list))) 0) (sym (sym eb ∙ h)), omega arith)
-
-  pub joined-is : (c : List ℕ) → b ≡ true → c ≡ conditionOf list → (1 + length c ≡ joinedPart s r (entryAt list)) × (1 + length c ≤ sizeOf list)
-  unfolding joinedPart sizeOf
-  joined-is c h ec =
-      let l : 1 + length c ≡ suc (length (conditionOf list)) = omega (arith, ap length ec) in
-      (l ∙ ap (λ (d : Bool). cond d (suc (length (conditionOf list))) 0) (sym (sym eb ∙ h)), omega (arith, l, condition-short list))
-
-  pub numbers-not : b ≡ false → (0 ≡ numbersPart s r (entryAt list)) × (0 ≤ sizeOf list)
-  unfolding numbersPart
-  numbers-not h = (ap (λ (d : Bool). cond d (length (flatBindings (conditionOf list))) 0) (sym (sym eb ∙ h)), omega arith)
-
-  pub numbers-is : (c : List ℕ) (n : ℕ) → b ≡ true → c ≡ conditionOf list → n ≡ length (flatBindings c) → (n ≡ numbersPart s r (entryAt list)) × (n ≤ sizeOf list)
-  unfolding numbersPart sizeOf
-  numbers-is c n h ec en =
-      let l : n ≡ length (flatBindings (conditionOf list)) = en ∙ ap (λ (x : List ℕ). length (flatBindings x)) ec in
-      (l ∙ ap (λ (d : Bool). cond d (length (flatBindings (conditionOf list))) 0) (sym (sym eb ∙ h)), omega (arith, l, flat-few (conditionOf list), condition-short list))
-
 -- tests that agree below 16 find the same permits
 all-below : (n : ℕ) (f g : ℕ → Bool) → ((a : ℕ) → a < n → f a ≡ g a) → all f (below n) ≡ all g (below n)
 unfolding all below
@@ -181,105 +114,6 @@ module _ (s t : ℕ → Bool) (h : (a : ℕ) → a < 16 → s a ≡ t a) where
   pub applies-same : (r : ℕ) (e : Entry) → appliesTo s r e ≡ appliesTo t r e
   unfolding appliesTo
   applies-same r e = ap (λ (x : Bool). eqb (e .relation) r && x) (within-same (e .mask))
-
-any-same : {A : Type 0} (f g : A → Bool) → ((x : A) → f x ≡ g x) → (xs : List A) → any f xs ≡ any g xs
-unfolding any
-any-same f g h [] = refl
-any-same f g h (x ∷ xs) = ap₂ (λ (a b : Bool). a || b) (h x) (any-same f g h xs)
-
-pub filter-same : {A : Type 0} (f g : A → Bool) → ((x : A) → f x ≡ g x) → (xs : List A) → filter f xs ≡ filter g xs
-unfolding filter
-filter-same f g h [] = refl
-filter-same f g h (x ∷ xs) = ap₂ (λ (b : Bool) (l : List _). consIf b x l) (h x) (filter-same f g h xs)
-
-module _ (s t : ℕ → Bool) (h : (a : ℕ) → a < 16 → s a ≡ t a) (r : ℕ) (es : List Entry) where
-  pub some-same : any (appliesTo s r) es ≡ any (appliesTo t r) es
-  some-same = any-same (appliesTo s r) (appliesTo t r) (applies-same s t h r) es
-
-  pub length-same : guardLength s r es ≡ guardLength t r es
-  unfolding guardLength joinedLength
-  length-same = ap (λ (l : List Entry). cond (eqb (total (λ (e : Entry). suc (length (e .condition))) l) 0) 2 (total (λ (e : Entry). suc (length (e .condition))) l)) (filter-same (appliesTo s r) (appliesTo t r) (applies-same s t h r) es)
-
-  pub numbers-same : guardNumbers s r es ≡ guardNumbers t r es
-  unfolding guardNumbers
-  numbers-same = ap (λ (l : List Entry). total (λ (e : Entry). length (flatBindings (e .condition))) l) (filter-same (appliesTo s r) (appliesTo t r) (applies-same s t h r) es)
-
--- 33, and the length, of one binding
-module _ (qb pb cb : List ℕ) (b : Bound) where
-  pub served-none : b ≡ B.Nothing → true ≡ all (servedIn qb pb cb) (boundBy b)
-  unfolding all
-  served-none e = ap (λ (x : Bound). all (servedIn qb pb cb) (boundBy x)) (sym e)
-
-  pub length-none : b ≡ B.Nothing → 0 ≡ total (lengthFor qb pb cb) (boundBy b)
-  unfolding total
-  length-none e = ap (λ (x : Bound). total (lengthFor qb pb cb) (boundBy x)) (sym e)
-
-  module _ (v r : ℕ) (e : b ≡ B.To v r) (d : Bool) (ed : d ≡ storedOf cb r) where
-    served-of : all (servedIn qb pb cb) (boundBy b) ≡ (not d || any (appliesTo (usedBytes qb v) r) (entries pb))
-    unfolding all servedIn
-    served-of =
-        ap (λ (x : Bound). all (servedIn qb pb cb) (boundBy x)) e
-        ∙ and-true (not (storedOf cb r) || any (appliesTo (usedBytes qb v) r) (entries pb))
-        ∙ ap (λ (y : Bool). not y || any (appliesTo (usedBytes qb v) r) (entries pb)) (sym ed)
-
-    pub served-free : not d ≡ true → true ≡ all (servedIn qb pb cb) (boundBy b)
-    served-free h = sym (served-of ∙ ap (λ (y : Bool). y || any (appliesTo (usedBytes qb v) r) (entries pb)) h)
-
-    length-of : total (lengthFor qb pb cb) (boundBy b) ≡ cond d (guardLength (usedBytes qb v) r (entries pb)) 0
-    unfolding total lengthFor
-    length-of =
-        ap (λ (x : Bound). total (lengthFor qb pb cb) (boundBy x)) e
-        ∙ add-zero (cond (storedOf cb r) (guardLength (usedBytes qb v) r (entries pb)) 0)
-        ∙ ap (λ (y : Bool). cond y (guardLength (usedBytes qb v) r (entries pb)) 0) (sym ed)
-
-    pub length-free : not d ≡ true → 0 ≡ total (lengthFor qb pb cb) (boundBy b)
-    length-free h = sym (length-of ∙ ap (λ (y : Bool). cond y (guardLength (usedBytes qb v) r (entries pb)) 0) (not-true d h))
-
-    module _ (m : ℕ) (em : (a : ℕ) → a < 16 → bit m a ≡ usedIn (flatUses qb) v a) (h : not d ≡ false) where
-      pub served-is : (x : Bool) → x ≡ any (appliesTo (λ a. bit m a) r) (entries pb) → x ≡ all (servedIn qb pb cb) (boundBy b)
-      served-is x ex = ex ∙ some-same (λ a. bit m a) (usedBytes qb v) em r (entries pb) ∙ sym (served-of ∙ ap (λ (y : Bool). y || any (appliesTo (usedBytes qb v) r) (entries pb)) h)
-
-      pub length-is : (n : ℕ) → n ≡ guardLength (λ a. bit m a) r (entries pb) → n ≡ total (lengthFor qb pb cb) (boundBy b)
-      length-is n en =
-          en ∙ length-same (λ a. bit m a) (usedBytes qb v) em r (entries pb) ∙ sym (length-of ∙ ap (λ (y : Bool). cond y (guardLength (usedBytes qb v) r (entries pb)) 0) (not-false d h))
-
--- one turn of a sum over the permits that apply
-module _ (x rest : List ℕ) (at : ℕ) (h : at < length x) (er : rest ≡ drop at x) (s : ℕ → Bool) (r n k m w : ℕ) (en : n ≡ sizeOf rest) where
-  pub joined-on : k ≡ joinedPart s r (entryAt rest) → m + joinedLength s r (entries (drop at x)) ≡ w → m + k + joinedLength s r (entries (drop (at + n) x)) ≡ w
-  unfolding joinedLength joinedPart
-  joined-on ek e = total-on x rest at h er (λ (y : Entry). suc (length (y .condition))) (appliesTo s r) n k m w en ek e
-
-  pub numbers-on : k ≡ numbersPart s r (entryAt rest) → m + guardNumbers s r (entries (drop at x)) ≡ w → m + k + guardNumbers s r (entries (drop (at + n) x)) ≡ w
-  unfolding guardNumbers numbersPart
-  numbers-on ek e = total-on x rest at h er (λ (y : Entry). length (flatBindings (y .condition))) (appliesTo s r) n k m w en ek e
-
-module _ (x : List ℕ) (at : ℕ) (h : length x ≤ at) (s : ℕ → Bool) (r m w : ℕ) where
-  pub joined-end : m + joinedLength s r (entries (drop at x)) ≡ w → m ≡ w
-  unfolding joinedLength
-  joined-end e = total-end x at h (λ (y : Entry). suc (length (y .condition))) (appliesTo s r) m w e
-
-  pub numbers-end : m + guardNumbers s r (entries (drop at x)) ≡ w → m ≡ w
-  unfolding guardNumbers
-  numbers-end e = total-end x at h (λ (y : Entry). length (flatBindings (y .condition))) (appliesTo s r) m w e
-
--- one turn of the sum over the bindings of a query
-pub length-on : (q : List ℕ) (at n : ℕ) → at < length q → n ≡ recordLength (getD q at 0) → (b : Bound) → boundBy b ≡ bindingOf (recordAt (drop at q)) → (f : Binding → ℕ) (m k w : ℕ) → k ≡ total f (boundBy b) → m + total f (flatBindings (drop at q)) ≡ w → m + k + total f (flatBindings (drop (at + n) q)) ≡ w
-length-on q at n h en b eb f m k w ek e = omega (arith, ek, e, ap (total f) (bindings-on q at n h en b eb), total-append f (boundBy b) (flatBindings (drop (at + n) q)))
-
-pub length-end : (q : List ℕ) (at : ℕ) → length q ≤ at → (f : Binding → ℕ) (m w : ℕ) → m + total f (flatBindings (drop at q)) ≡ w → m ≡ w
-unfolding total
-length-end q at h f m w e =
-    let z : total f (flatBindings (drop at q)) ≡ 0 = ap (total f) (flat-end bindingOf q at h) in
-    omega (arith, z, e)
-
--- the guard's length by its sum
-pub guard-none : (s : ℕ → Bool) (r : ℕ) (es : List Entry) (n : ℕ) → n ≡ joinedLength s r es → n ≡ 0 → 2 ≡ guardLength s r es
-unfolding guardLength
-guard-none s r es n en h = ap (λ (m : ℕ). cond (eqb m 0) 2 m) (sym (sym en ∙ h))
-
-pub guard-some : (s : ℕ → Bool) (r : ℕ) (es : List Entry) (n : ℕ) → n ≡ joinedLength s r es → (n ≡ 0 → ⊥) → n ≡ guardLength s r es
-unfolding guardLength
-guard-some s r es n en h = sym (ap (λ (m : ℕ). cond (eqb m 0) 2 m) (sym en) ∙ ap (λ (b : Bool). cond b 2 n) (ne-eqb n 0 h))
 
 -- 22: the mask
 module _ (n m : ℕ) where

@@ -1,6 +1,6 @@
 -- One turn of a loop over the permits or over the attributes.
 use mathlib.Core.Path.{_≡_, refl, sym, ap, _∙_}
-use mathlib.Core.Bool.{Bool, true, false, not, cond, _&&_, _||_}
+use mathlib.Core.Bool.{Bool, true, false, not, _&&_}
 use mathlib.Core.List.{List, [], _∷_}
 use Prim.Native.Nat.{ℕ, zero, suc, _+_, _<_, _≤_}
 use native.Mathlib.Numerals.{add-one}
@@ -8,31 +8,15 @@ use native.Mathlib.Omega.{arith}
 use borrow.Author.Tests.{not-true, not-false, eqb-true, eqb-false}
 use lib.Dec.{eqb}
 use lib.ListN.{length, drop}
-use Rattle.model.specs.Lists.{all, any, consIf, filter, total, below}
+use Rattle.model.specs.Lists.{all, below}
 use Rattle.model.proofs.Tests.{and-true}
 use Rattle.scans.proofs.Lists.{all-join}
 use Rattle.permits.specs.Entries.{Entry, sizeOf, entryAt, entries}
 use Rattle.permits.proofs.Walk.{entries-on, entries-end}
 
-total-cons : (f : Entry → ℕ) (t : Entry → Bool) (y : Entry) (ys : List Entry) → total f (filter t (y ∷ ys)) ≡ cond (t y) (f y) 0 + total f (filter t ys)
-unfolding total filter
-total-cons f t y ys = go (t y)
-  where
-    go : (b : Bool) → total f (consIf b y (filter t ys)) ≡ cond b (f y) 0 + total f (filter t ys)
-    go true = refl
-    go false = omega arith
-
 -- a loop over the permits of x, at the permit that `rest` starts with
 module _ (x rest : List ℕ) (at : ℕ) (h : at < length x) (er : rest ≡ drop at x) where
   module _ (t : Entry → Bool) (w b : Bool) (eb : b ≡ t (entryAt rest)) where
-    pub any-found : any t (entries (drop at x)) ≡ w → b ≡ true → true ≡ w
-    unfolding any
-    any-found e hb = sym (ap (λ (y : Bool). y || any t (entries (drop (at + sizeOf rest) x))) (sym eb ∙ hb)) ∙ sym (ap (any t) (entries-on x rest at (sizeOf rest) h er refl)) ∙ e
-
-    pub any-on : (n : ℕ) → n ≡ sizeOf rest → any t (entries (drop at x)) ≡ w → b ≡ false → any t (entries (drop (at + n) x)) ≡ w
-    unfolding any
-    any-on n en e hb = sym (ap (λ (y : Bool). y || any t (entries (drop (at + n) x))) (sym eb ∙ hb)) ∙ sym (ap (any t) (entries-on x rest at n h er en)) ∙ e
-
     pub all-stopped : all t (entries (drop at x)) ≡ w → not b ≡ true → false ≡ w
     unfolding all
     all-stopped e hb = sym (ap (λ (y : Bool). y && all t (entries (drop (at + sizeOf rest) x))) (sym eb ∙ not-true b hb)) ∙ sym (ap (all t) (entries-on x rest at (sizeOf rest) h er refl)) ∙ e
@@ -41,29 +25,14 @@ module _ (x rest : List ℕ) (at : ℕ) (h : at < length x) (er : rest ≡ drop 
     unfolding all
     all-on n en e hb = sym (ap (λ (y : Bool). y && all t (entries (drop (at + n) x))) (sym eb ∙ not-false b hb)) ∙ sym (ap (all t) (entries-on x rest at n h er en)) ∙ e
 
-  -- what a permit adds to a sum over those that apply
-  pub total-on : (f : Entry → ℕ) (t : Entry → Bool) (n k m w : ℕ) → n ≡ sizeOf rest → k ≡ cond (t (entryAt rest)) (f (entryAt rest)) 0 → m + total f (filter t (entries (drop at x))) ≡ w → m + k + total f (filter t (entries (drop (at + n) x))) ≡ w
-  total-on f t n k m w en ek e =
-      omega (arith, e, ek, ap (λ (l : List Entry). total f (filter t l)) (entries-on x rest at n h er en), total-cons f t (entryAt rest) (entries (drop (at + n) x)))
-
   pub count-on : (n m w : ℕ) → n ≡ sizeOf rest → m + length (entries (drop at x)) ≡ w → m + 1 + length (entries (drop (at + n) x)) ≡ w
   count-on n m w en e = omega (arith, e, ap length (entries-on x rest at n h er en))
 
 -- nothing is left at the end
 module _ (x : List ℕ) (at : ℕ) (h : length x ≤ at) where
-  pub any-end : (t : Entry → Bool) (w : Bool) → any t (entries (drop at x)) ≡ w → false ≡ w
-  unfolding any
-  any-end t w e = sym (ap (any t) (entries-end x at h)) ∙ e
-
   pub all-end : (t : Entry → Bool) (w : Bool) → all t (entries (drop at x)) ≡ w → true ≡ w
   unfolding all
   all-end t w e = sym (ap (all t) (entries-end x at h)) ∙ e
-
-  pub total-end : (f : Entry → ℕ) (t : Entry → Bool) (m w : ℕ) → m + total f (filter t (entries (drop at x))) ≡ w → m ≡ w
-  unfolding total filter
-  total-end f t m w e =
-      let z : total f (filter t (entries (drop at x))) ≡ 0 = ap (λ (l : List Entry). total f (filter t l)) (entries-end x at h) in
-      omega (arith, z, e)
 
   pub count-end : (m w : ℕ) → m + length (entries (drop at x)) ≡ w → m ≡ w
   count-end m w e = omega (arith, e, ap length (entries-end x at h))

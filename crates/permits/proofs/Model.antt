@@ -1,38 +1,33 @@
 -- For a catalogue, a list and a query that are well formed, what the code finds by their bytes is what the model says.
-use Prim.Native.Nat.{ℕ, suc, _+_, _<_, _≤_}
+use Prim.Native.Nat.{ℕ, suc, _+_, _≤_}
 use mathlib.Core.Bool.{Bool, true, false, not, cond, _&&_, _||_}
 use mathlib.Core.List.{List, [], _∷_, map}
 use mathlib.Core.Option.{some}
 use mathlib.Core.Path.{_≡_, refl, sym, ap, ap₂, _∙_}
-use native.Mathlib.Nat.{add-zero}
 use native.Mathlib.Omega.{arith}
-use lib.Dec.{eqb, leb, ltb}
+use lib.Dec.{leb, ltb}
 use lib.ListN.{length, replicate, length-map, length-replicate}
 use borrow.Author.Tests.{le-leb, lt-leb, leb-true, leb-false}
-use Rattle.model.specs.Lists.{all, any, consIf, filter, total, unique, update, Every}
-use Rattle.model.specs.Syntax.{Condition, TRUE, Binding, Query, Permit, WellFormed, WellFormedPs, bindings, bindingsQ, variables, levels}
-use Rattle.model.specs.Encoding.{Read, fail, ok, failed, readOr, readCondition, encode, encodePermit, encodeQuery, permitsOf}
+use Rattle.model.specs.Lists.{all, unique, update, Every}
+use Rattle.model.specs.Syntax.{Condition, TRUE, Binding, Permit, WellFormed, WellFormedPs, bindings, variables, levels}
+use Rattle.model.specs.Encoding.{Read, fail, ok, failed, readOr, readCondition, encode, encodePermit, permitsOf}
 use Rattle.model.specs.Catalogue.{Shape, catalogueOf, shapeOf, storedAt}
-use Rattle.model.specs.Permits.{mask, usedOf, applies, only, guardOf, guardsOf}
-use Rattle.model.specs.Rewriting.{newIn}
+use Rattle.model.specs.Permits.{mask, applies}
 use Rattle.model.specs.Scope.{nobody, inScope}
-use Rattle.model.specs.Checks.{fails10, fails20, permitFits, fails21, maskKnown, permitKnown, fails22, permitStored, fails23, served, fails33, rewrittenBytes, refusal}
+use Rattle.model.specs.Checks.{fails10, fails20, permitFits, fails21, maskKnown, permitKnown, fails22, permitStored, fails23, refusal}
 use Rattle.model.proofs.Tests.{and-inv, or-no, not-no, all-cons}
 use Rattle.model.proofs.Reading.{read-encode, read-inverse}
-use Rattle.model.proofs.Sizes.{size, size-encode}
 use Rattle.catalogue.specs.Layout.{attributesOf}
 use Rattle.catalogue.proofs.Reading.{shape-count, attributes-is, stored-is}
 use Rattle.sizes.specs.Measured.{conditionTable}
 use Rattle.sizes.proofs.Decoding.{decode-is, read-again, condition-sized}
 use Rattle.scope.proofs.Shapes.{shape-is}
-use Rattle.scans.specs.Flat.{flatBindings, storedIn}
-use Rattle.scans.proofs.Whole.{bindings-condition, bindings-query, used-query}
-use Rattle.permits.specs.Entries.{Entry, entries}
-use Rattle.permits.specs.Applying.{within, appliesTo, usedBytes, servedIn, joinedLength, guardLength, guardNumbers, lengthFor, numbersFor, rewrittenLength}
+use Rattle.scans.specs.Flat.{storedIn}
+use Rattle.scans.proofs.Whole.{bindings-condition}
+use Rattle.permits.specs.Entries.{Entry}
+use Rattle.permits.specs.Applying.{within, appliesTo}
 use Rattle.permits.specs.Limits.{fitsLimits, overLimits, attributesIn, maskIn, inReach, knownIn, overStored, listChecks}
 use Rattle.permits.proofs.Reading.{entryOf, listed}
-use Rattle.permits.proofs.Finds.{some-same, length-same, numbers-same}
-use Rattle.permits.proofs.Lengths.{joinedBytes, guardBytes, bytesFor, rewritten-size}
 
 -- a permit applies
 pub applies-is : (s : ℕ → Bool) (r : ℕ) (p : Permit) → appliesTo s r (entryOf p) ≡ applies s r p
@@ -44,11 +39,6 @@ all-are : (t : Entry → Bool) (u : Permit → Bool) (P : Permit → Type 0) →
 unfolding all Every
 all-are t u P h [] w = refl
 all-are t u P h (p ∷ ps) w = ap₂ (λ (a b : Bool). a && b) (h p (w .0)) (all-are t u P h ps (w .1))
-
-any-are : (t : Entry → Bool) (u : Permit → Bool) → ((p : Permit) → t (entryOf p) ≡ u p) → (ps : List Permit) → any t (map entryOf ps) ≡ any u ps
-unfolding any
-any-are t u h [] = refl
-any-are t u h (p ∷ ps) = ap₂ (λ (a b : Bool). a || b) (h p) (any-are t u h ps)
 
 all-same : {A : Type 0} (f g : A → Bool) → ((x : A) → f x ≡ g x) → (xs : List A) → all f xs ≡ all g xs
 unfolding all
@@ -113,32 +103,6 @@ fit-every (p ∷ ps) w h =
     let j = and-inv (leb (levels c) 16) (leb (length (bindings c)) 3) (i .1) in
     (record { well = w .0; deep = leb-true (levels c) 16 (j .0); long = omega (arith, leb-true (length (encodePermit p [])) 256 (i .0)) }, fit-every ps (w .1) (k .1))
 
--- a sum over the permits that apply
-total-are : (f : Entry → ℕ) (g : Condition → ℕ) → ((p : Permit) → f (entryOf p) ≡ g (p .condition)) → (t : Entry → Bool) (u : Permit → Bool) → ((p : Permit) → t (entryOf p) ≡ u p) → (ps : List Permit) → total f (filter t (map entryOf ps)) ≡ total g (map (λ (p : Permit). p .condition) (filter u ps))
-unfolding total filter
-total-are f g hf t u ht [] = refl
-total-are f g hf t u ht (p ∷ ps) = ap (λ (b : Bool). total f (consIf b (entryOf p) (filter t (map entryOf ps)))) (ht p) ∙ go (u p) (total-are f g hf t u ht ps)
-  where
-    go : (b : Bool) → total f (filter t (map entryOf ps)) ≡ total g (map (λ (x : Permit). x .condition) (filter u ps)) → total f (consIf b (entryOf p) (filter t (map entryOf ps))) ≡ total g (map (λ (x : Permit). x .condition) (consIf b p (filter u ps)))
-    go true e = ap₂ (λ (m n : ℕ). m + n) (hf p) e
-    go false e = e
-
-total-same : {A : Type 0} (f g : A → ℕ) → ((x : A) → f x ≡ g x) → (xs : List A) → total f xs ≡ total g xs
-unfolding total
-total-same f g h [] = refl
-total-same f g h (x ∷ xs) = ap₂ (λ (m n : ℕ). m + n) (h x) (total-same f g h xs)
-
--- a workspace has no guard
-by-kind : (d : Bool) (cs : List Condition) → cond d (guardBytes (only cs)) 0 ≡ guardBytes (guardOf d cs)
-unfolding guardBytes guardOf
-by-kind true cs = refl
-by-kind false cs = refl
-
-numbers-by-kind : (d : Bool) (cs : List Condition) → cond d (newIn (only cs)) 0 ≡ newIn (guardOf d cs)
-unfolding newIn guardOf
-numbers-by-kind true cs = refl
-numbers-by-kind false cs = refl
-
 module _ (cb : List ℕ) (hc : fails10 cb ≡ false) where
   -- 22
   reach-is : (r : ℕ) (c : Condition) → WellFormed c → levels c ≤ 16 → length (encode c []) ≤ 252 → inReach cb r (encode c []) ≡ inScope (shapeOf (catalogueOf cb)) 4 c (update nobody 0 (some r))
@@ -200,61 +164,3 @@ module _ (cb : List ℕ) (hc : fails10 cb ≡ false) where
       let l = listed pb hp in
       ap (λ (es : List Entry). refusal ((overLimits es, 21) ∷ (not (all (knownIn cb) es), 22) ∷ (not (all (overStored cb) es), 23) ∷ [])) (l .found)
       ∙ checks-are (permitsOf pb) (l .well) (fails21 (permitsOf pb)) refl
-
-  -- a list that passed check 20, and the bytes of a query
-  module _ (pb : List ℕ) (hp : fails20 pb ≡ false) (q : Query) where
-    -- S by the bytes is S
-    used-same : (v a : ℕ) → a < 16 → usedBytes (encodeQuery q) v a ≡ usedOf q v a
-    used-same v a h = used-query q v a
-
-    served-is : (b : Binding) → servedIn (encodeQuery q) pb cb b ≡ served (shapeOf (catalogueOf cb)) (permitsOf pb) q b
-    unfolding servedIn served
-    served-is b =
-        ap₂ (λ (a d : Bool). not a || d)
-        (sym (stored-is cb hc (b .relation)))
-        (some-same (usedBytes (encodeQuery q) (b .variable)) (usedOf q (b .variable)) (used-same (b .variable)) (b .relation) (entries pb)
-        ∙ ap (any (appliesTo (usedOf q (b .variable)) (b .relation))) (listed pb hp .found)
-        ∙ any-are (appliesTo (usedOf q (b .variable)) (b .relation)) (applies (usedOf q (b .variable)) (b .relation)) (applies-is (usedOf q (b .variable)) (b .relation)) (permitsOf pb))
-
-    -- check 33
-    pub served-all : not (all (servedIn (encodeQuery q) pb cb) (flatBindings (encodeQuery q))) ≡ fails33 (shapeOf (catalogueOf cb)) (permitsOf pb) q
-    unfolding fails33
-    served-all =
-        ap not (ap (all (servedIn (encodeQuery q) pb cb)) (bindings-query q) ∙ all-same (servedIn (encodeQuery q) pb cb) (served (shapeOf (catalogueOf cb)) (permitsOf pb) q) served-is (bindingsQ q))
-
-    -- the guard of a variable
-    module _ (v r : ℕ) where
-      pub length-is : guardLength (usedBytes (encodeQuery q) v) r (entries pb) ≡ guardBytes (only (map (λ (p : Permit). p .condition) (filter (applies (usedOf q v) r) (permitsOf pb))))
-      unfolding guardLength guardBytes joinedLength joinedBytes
-      length-is =
-          length-same (usedBytes (encodeQuery q) v) (usedOf q v) (used-same v) r (entries pb)
-          ∙ ap (guardLength (usedOf q v) r) (listed pb hp .found)
-          ∙ ap (λ (n : ℕ). cond (eqb n 0) 2 n) (total-are (λ (e : Entry). suc (length (e .condition))) (λ c. suc (size c)) (λ p. ap suc (size-encode (p .condition) [] ∙ add-zero (size (p .condition)))) (appliesTo (usedOf q v) r) (applies (usedOf q v) r) (applies-is (usedOf q v) r) (permitsOf pb))
-
-      pub numbers-is : guardNumbers (usedBytes (encodeQuery q) v) r (entries pb) ≡ newIn (only (map (λ (p : Permit). p .condition) (filter (applies (usedOf q v) r) (permitsOf pb))))
-      unfolding guardNumbers newIn
-      numbers-is =
-          numbers-same (usedBytes (encodeQuery q) v) (usedOf q v) (used-same v) r (entries pb)
-          ∙ ap (guardNumbers (usedOf q v) r) (listed pb hp .found)
-          ∙ total-are (λ (e : Entry). length (flatBindings (e .condition))) (λ c. length (bindings c)) (λ p. ap length (bindings-condition (p .condition))) (appliesTo (usedOf q v) r) (applies (usedOf q v) r) (applies-is (usedOf q v) r) (permitsOf pb)
-
-    pub length-for : (b : Binding) → lengthFor (encodeQuery q) pb cb b ≡ guardBytes (guardsOf (shapeOf (catalogueOf cb)) (permitsOf pb) q (b .variable) (b .relation))
-    unfolding lengthFor guardsOf
-    length-for b =
-        ap₂ (λ (d : Bool) (n : ℕ). cond d n 0) (sym (stored-is cb hc (b .relation))) (length-is (b .variable) (b .relation))
-        ∙ by-kind (storedAt (shapeOf (catalogueOf cb)) (b .relation)) (map (λ (p : Permit). p .condition) (filter (applies (usedOf q (b .variable)) (b .relation)) (permitsOf pb)))
-
-    pub numbers-for : (b : Binding) → numbersFor (encodeQuery q) pb cb b ≡ newIn (guardsOf (shapeOf (catalogueOf cb)) (permitsOf pb) q (b .variable) (b .relation))
-    unfolding numbersFor guardsOf
-    numbers-for b =
-        ap₂ (λ (d : Bool) (n : ℕ). cond d n 0) (sym (stored-is cb hc (b .relation))) (numbers-is (b .variable) (b .relation))
-        ∙ numbers-by-kind (storedAt (shapeOf (catalogueOf cb)) (b .relation)) (map (λ (p : Permit). p .condition) (filter (applies (usedOf q (b .variable)) (b .relation)) (permitsOf pb)))
-
-    -- the length that check 40 compares
-    pub rewritten-is : rewrittenLength (encodeQuery q) pb cb ≡ length (rewrittenBytes (shapeOf (catalogueOf cb)) (permitsOf pb) q)
-    unfolding rewrittenLength rewrittenBytes bytesFor
-    rewritten-is =
-        ap (λ (n : ℕ). length (encodeQuery q) + n)
-        (ap (total (lengthFor (encodeQuery q) pb cb)) (bindings-query q)
-        ∙ total-same (lengthFor (encodeQuery q) pb cb) (λ (b : Binding). guardBytes (guardsOf (shapeOf (catalogueOf cb)) (permitsOf pb) q (b .variable) (b .relation))) length-for (bindingsQ q))
-        ∙ sym (rewritten-size (guardsOf (shapeOf (catalogueOf cb)) (permitsOf pb) q) q)

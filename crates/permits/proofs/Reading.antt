@@ -9,13 +9,13 @@ use lib.Dec.{eqb, ltb}
 use borrow.Author.Tests.{ltb-false}
 use lib.ListN.{length, drop, take}
 use Rattle.model.specs.Kinds.{kindOf, find}
-use Rattle.model.specs.Syntax.{Condition, Term, TRUE, FALSE, NOT, AND, OR, COMPARE, SOME, CONSTANT, ATTRIBUTE, AGGREGATE, Permit, Query, WellFormedPs}
-use Rattle.model.specs.Encoding.{encode, encodeT, encodePermit, encodePermits, Read, fail, ok, failed, readOr, readPermits, permitsRead, permitsOf, readQuery, queryOf, encodeQuery}
+use Rattle.model.specs.Syntax.{Condition, Term, TRUE, FALSE, NOT, AND, OR, COMPARE, SOME, CONSTANT, ATTRIBUTE, AGGREGATE, Permit, WellFormedPs}
+use Rattle.model.specs.Encoding.{encode, encodeT, encodePermit, encodePermits, Read, fail, ok, failed, readOr, readPermits, permitsRead, permitsOf}
 use Rattle.model.specs.Permits.{mask}
 use Rattle.model.specs.Checks.{fails20}
 use Rattle.model.proofs.Tests.{clash, or-no}
 use Rattle.model.proofs.Sizes.{size, sizeT, size-encode}
-use Rattle.model.proofs.ReadingQueries.{permits-inverse, query-inverse}
+use Rattle.model.proofs.ReadingQueries.{permits-inverse}
 use Rattle.kinds.specs.Tables.{ofKind, recordLength}
 use Rattle.sizes.proofs.Reader.{drop-encode}
 use Rattle.permits.specs.Entries.{spanAfter, spanOf, Entry, conditionOf, sizeOf, maskOf, entryAt, entries}
@@ -97,12 +97,14 @@ module _ (p : Permit) (r : List ℕ) (h : spanOf r ≡ 0) where
   unfolding encodePermit
   first-rest = ap (λ (n : ℕ). drop n (encodePermit p r)) first-size ∙ drop-four 64 (p .relation) (p .low) (p .high) (size (p .condition)) (encode (p .condition) r) ∙ drop-encode (p .condition) r
 
-permits-span : (ps : List Permit) → spanOf (encodePermits ps) ≡ 0
+-- a list of permits starts with a permit, or is empty
+pub permits-span : (ps : List Permit) → spanOf (encodePermits ps) ≡ 0
 unfolding encodePermits encodePermit spanOf spanAfter
 permits-span [] = refl
 permits-span (p ∷ ps) = refl
 
-some-bytes : (p : Permit) (r : List ℕ) → 0 < length (encodePermit p r)
+-- a permit is not empty
+pub some-bytes : (p : Permit) (r : List ℕ) → 0 < length (encodePermit p r)
 unfolding encodePermit
 some-bytes p r = omega arith
 
@@ -136,12 +138,3 @@ listed pb h = go (readPermits (suc (length pb)) pb) refl (or-no (ltb 2048 (lengt
           found = ap entries (s .1) ∙ entries-are ps ∙ ap (map entryOf) (sym is);
           short = omega (arith, ltb-false 2048 (length pb) (k .0));
         }
-
--- a query that is well formed
-pub queried : (qb : List ℕ) → failed (readQuery qb) ≡ false → qb ≡ encodeQuery (queryOf qb)
-unfolding queryOf
-queried qb h = go (readQuery qb) refl
-  where
-    go : (x : Read Query) → readQuery qb ≡ x → qb ≡ encodeQuery (readOr (record { ranges = []; targets = []; condition = TRUE }) (readQuery qb))
-    go fail e = clash (sym h ∙ ap failed e)
-    go (ok q r) e = query-inverse qb q r e .bytes ∙ ap (λ (x : Read Query). encodeQuery (readOr (record { ranges = []; targets = []; condition = TRUE }) x)) (sym e)

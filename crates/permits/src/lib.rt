@@ -1,17 +1,15 @@
-// The permit list: its permits one after the other, checks 21 to 23, which permits apply (33), and how long the rewritten query is.
+// The permit list: its permits one after the other, checks 21 to 23, and which of them apply.
 // Permits are found by a flat walk: inside a condition no record has their kind.
-use scans::Bound;
 use sizes::Size;
 ghost use mathlib.Core.Path.{_≡_};
 ghost use mathlib.Core.Bool.{not, _||_};
-ghost use Prim.Native.Nat.{ℕ, _+_, _≤_, _<_};
+ghost use Prim.Native.Nat.{_+_, _≤_, _<_};
 ghost use lib.ListN.{length, take};
 ghost use lib.Dec.{ltb};
-ghost use Rattle.model.specs.Lists.{any, all, total};
+ghost use Rattle.model.specs.Lists.{all};
 ghost use Rattle.model.specs.Encoding.{failed, readCondition};
 ghost use Rattle.model.specs.Permits.{bit};
 ghost use Rattle.model.specs.Checks.{refusal};
-ghost use Rattle.scans.specs.Flat.{boundBy, flatBindings};
 ghost use Rattle.permits.specs.Entries.{spanOf, conditionOf, sizeOf, maskOf, entryAt, entries};
 ghost use Rattle.permits.specs.Applying as App;
 ghost use Rattle.permits.specs.Limits as Lim;
@@ -38,7 +36,7 @@ pub fn part(q: &[u8], n: usize) -> &[u8]
 }
 
 // The condition of the permit that a list starts with.
-pub fn condition(list: &[u8]) -> &[u8]
+fn condition(list: &[u8]) -> &[u8]
     ensures { λ r. ⌜ now r ≡ conditionOf (now (list .entry)) ⌝ }
 {
     let rest = kinds::tail(list, 4);
@@ -108,136 +106,6 @@ pub fn applies(list: &[u8], relation: u8, used: u16) -> bool
         return false;
     }
     within(used, mask(list))
-}
-
-// Whether some permit applies.
-pub fn some_applies(list: &[u8], relation: u8, used: u16) -> bool
-    ensures { λ r. ⌜ r ≡ any (App.appliesTo (λ a. bit used a) relation) (entries (now (list .entry))) ⌝ }
-{
-    let mut at = 0;
-    while at < list.len() {
-        let rest = kinds::tail(list, at);
-        if applies(rest, relation, used) {
-            return true;
-        }
-        at += size(rest);
-    }
-    false
-}
-
-fn served(query: &[u8], list: &[u8], catalogue: &[u8], b: Bound) -> bool
-    ensures { λ r. ⌜ r ≡ all (App.servedIn (now (query .entry)) (now (list .entry)) (now (catalogue .entry))) (boundBy b) ⌝ }
-{
-    let Bound::To(v, r) = b else {
-        return true;
-    };
-    if !catalogue::stored(catalogue, r) {
-        return true;
-    }
-    some_applies(list, r, scans::used_mask(query, v))
-}
-
-// Check 33 passes: for each variable over a stored relation some permit applies.
-pub fn all_served(query: &[u8], list: &[u8], catalogue: &[u8]) -> bool
-    ensures { λ r. ⌜ r ≡ all (App.servedIn (now (query .entry)) (now (list .entry)) (now (catalogue .entry))) (flatBindings (now (query .entry))) ⌝ }
-{
-    let mut at = 0;
-    while at < query.len() {
-        if !served(query, list, catalogue, scans::binding(query, at)) {
-            return false;
-        }
-        at += scans::step(query, at);
-    }
-    true
-}
-
-// What a permit adds to a guard if it applies.
-fn joined_part(list: &[u8], relation: u8, used: u16) -> usize
-    ensures { λ r. ⌜ r ≡ App.joinedPart (λ a. bit used a) relation (entryAt (now (list .entry))) ⌝ }
-    ensures { λ r. ⌜ r ≤ sizeOf (now (list .entry)) ⌝ }
-{
-    if applies(list, relation, used) {
-        1 + condition(list).len()
-    } else {
-        0
-    }
-}
-
-// The conditions that apply, each with one byte more.
-fn joined(list: &[u8], relation: u8, used: u16) -> usize
-    ensures { λ r. ⌜ r ≡ App.joinedLength (λ a. bit used a) relation (entries (now (list .entry))) ⌝ }
-    ensures { λ r. ⌜ r ≤ length (now (list .entry)) + 8 ⌝ }
-{
-    let mut n: usize = 0;
-    let mut at = 0;
-    while at < list.len() {
-        let rest = kinds::tail(list, at);
-        n += joined_part(rest, relation, used);
-        at += size(rest);
-    }
-    n
-}
-
-// How many bytes the guard of a variable over a stored relation takes.
-pub fn guard_length(list: &[u8], relation: u8, used: u16) -> usize
-    ensures { λ r. ⌜ r ≡ App.guardLength (λ a. bit used a) relation (entries (now (list .entry))) ⌝ }
-    ensures { λ r. ⌜ r ≤ length (now (list .entry)) + 8 ⌝ }
-{
-    let n = joined(list, relation, used);
-    if n == 0 { 2 } else { n }
-}
-
-fn binding_length(query: &[u8], list: &[u8], catalogue: &[u8], b: Bound) -> usize
-    ensures { λ r. ⌜ r ≡ total (App.lengthFor (now (query .entry)) (now (list .entry)) (now (catalogue .entry))) (boundBy b) ⌝ }
-    ensures { λ r. ⌜ r ≤ length (now (list .entry)) + 8 ⌝ }
-{
-    let Bound::To(variable, relation) = b else {
-        return 0;
-    };
-    if !catalogue::stored(catalogue, relation) {
-        return 0;
-    }
-    guard_length(list, relation, scans::used_mask(query, variable))
-}
-
-// How many bytes the rewritten query has.
-pub fn rewritten_length(query: &[u8], list: &[u8], catalogue: &[u8]) -> usize
-    requires { ⌜ (length (now query) ≤ 1024) × (length (now list) ≤ 2048) ⌝ }
-    ensures { λ r. ⌜ r ≡ App.rewrittenLength (now (query .entry)) (now (list .entry)) (now (catalogue .entry)) ⌝ }
-{
-    let mut n = query.len();
-    let mut at = 0;
-    while at < query.len() {
-        n += binding_length(query, list, catalogue, scans::binding(query, at));
-        at += scans::step(query, at);
-    }
-    n
-}
-
-fn numbers_part(list: &[u8], relation: u8, used: u16) -> usize
-    ensures { λ r. ⌜ r ≡ App.numbersPart (λ a. bit used a) relation (entryAt (now (list .entry))) ⌝ }
-    ensures { λ r. ⌜ r ≤ sizeOf (now (list .entry)) ⌝ }
-{
-    if applies(list, relation, used) {
-        scans::count_bindings(condition(list))
-    } else {
-        0
-    }
-}
-
-// How many new numbers the guard of a variable over a stored relation takes.
-pub fn guard_numbers(list: &[u8], relation: u8, used: u16) -> usize
-    ensures { λ r. ⌜ r ≡ App.guardNumbers (λ a. bit used a) relation (entries (now (list .entry))) ⌝ }
-    ensures { λ r. ⌜ r ≤ length (now (list .entry)) + 8 ⌝ }
-{
-    let mut n: usize = 0;
-    let mut at = 0;
-    while at < list.len() {
-        let rest = kinds::tail(list, at);
-        n += numbers_part(rest, relation, used);
-        at += size(rest);
-    }
-    n
 }
 
 // Whether a condition has at most 16 levels.

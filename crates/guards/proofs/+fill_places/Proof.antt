@@ -1,12 +1,8 @@
 use borrow.Author.Needs.{needs}
 use native.Mathlib.Omega.{arith}
-use Prim.Native.Nat.{ℕ, _+_, _*_, _^_, _-_, _<_, _≤_}
-use mathlib.Core.Path.{_≡_, refl, sym, ap, _∙_}
+use Prim.Native.Nat.{ℕ, _+_, _-_, _<_}
 use denote.Ref.{now}
-use lib.ListN.{length, length-drop}
-use Rattle.model.specs.Permits.{bit}
-use Rattle.permits.specs.Applying.{appliesTo}
-use Rattle.guards.proofs.Steps.{places-none, places-end, places-next, next-near, pow-step, pow-few, pow-pos, mask-none, mask-empty, mask-next}
+use Rattle.guards.proofs.Steps.{places-none, places-end, places-next, next-near}
 use borrow.Fn.Kinds.{In}
 use borrow.Fn.PlainCycle.{Measures, is, falls, and}
 use Rattle.guards.proofs.fill_places.Reads as fill-places
@@ -14,7 +10,6 @@ use Rattle.guards.proofs.fill_places.Kinds as fill-places-kinds
 use Rattle.guards.proofs.+fill_places.Lts-fill_places as fill-places-lts
 use Rattle.guards.proofs.put_place.Reads as put-place-reads
 use Rattle.kinds.proofs.tail.Reads as tail-reads
-use Rattle.permits.proofs.condition.Reads as condition-reads
 use Rattle.permits.proofs.size.Reads as size-reads
 use Rattle.guards.proofs.+fill_places.{statement}
 use Rattle.guards.proofs.+fill_places.Tie.{close}
@@ -31,7 +26,7 @@ fill-places-below t =
     and 2 fill-places-kinds.ps (falls 2 fill-places-kinds.ps _<_ μ-fill-places t) fill-places.Pre
 
 abbrev fill-places-claims : ℕ → fill-places-lts.Claims
-fill-places-claims t = (tail-reads.Asked, tail-reads.Learnt, put-place-reads.Asked, put-place-reads.Learnt, condition-reads.Asked, condition-reads.Learnt, size-reads.Asked, size-reads.Learnt, fill-places-below t, fill-places.Post)
+fill-places-claims t = (tail-reads.Asked, tail-reads.Learnt, put-place-reads.Asked, put-place-reads.Learnt, size-reads.Asked, size-reads.Learnt, fill-places-below t, fill-places.Post)
 
 fill-places-returns : (t : ℕ) → fill-places-lts.Need-returns (fill-places-claims t) (fill-places-at t) fill-places.Post
 fill-places-returns t c =
@@ -55,20 +50,20 @@ fill-places-add-put-place t c = search needs
 fill-places-put-place-requires : (t : ℕ) → fill-places-lts.Need-put-place-requires (fill-places-claims t) (fill-places-at t) fill-places.Post
 fill-places-put-place-requires t c κs = search needs
 
+fill-places-size-requires : (t : ℕ) → fill-places-lts.Need-size-requires (fill-places-claims t) (fill-places-at t) fill-places.Post
+fill-places-size-requires t c κs = search needs
+
 fill-places-mul-put-place-2 : (t : ℕ) → fill-places-lts.Need-mul-put-place-2 (fill-places-claims t) (fill-places-at t) fill-places.Post
 fill-places-mul-put-place-2 t c = search needs
 
 fill-places-add-put-place-2 : (t : ℕ) → fill-places-lts.Need-add-put-place-2 (fill-places-claims t) (fill-places-at t) fill-places.Post
 fill-places-add-put-place-2 t c = search needs
 
-fill-places-condition-requires : (t : ℕ) → fill-places-lts.Need-condition-requires (fill-places-claims t) (fill-places-at t) fill-places.Post
-fill-places-condition-requires t c κs = search needs
+fill-places-sub-put-place : (t : ℕ) → fill-places-lts.Need-sub-put-place (fill-places-claims t) (fill-places-at t) fill-places.Post
+fill-places-sub-put-place t c = search needs
 
 fill-places-put-place-requires-2 : (t : ℕ) → fill-places-lts.Need-put-place-requires-2 (fill-places-claims t) (fill-places-at t) fill-places.Post
 fill-places-put-place-requires-2 t c κs = search needs
-
-fill-places-size-requires : (t : ℕ) → fill-places-lts.Need-size-requires (fill-places-claims t) (fill-places-at t) fill-places.Post
-fill-places-size-requires t c κs = search needs
 
 fill-places-add-fill-places : (t : ℕ) → fill-places-lts.Need-add-fill-places (fill-places-claims t) (fill-places-at t) fill-places.Post
 fill-places-add-fill-places t c = search needs
@@ -81,11 +76,11 @@ fill-places-sub-fill-places t c = search needs
 
 fill-places-fill-places-requires : (t : ℕ) → fill-places-lts.Need-fill-places-requires (fill-places-claims t) (fill-places-at t) fill-places.Post
 fill-places-fill-places-requires t c κs =
-    let c₁ = c .before in let size = c₁ .size in
-    let c₁₁ = c₁ .before .before .before .before .before .before .before .before .before .before in let tail = c₁₁ .tail in
-    let c₁₂ = c₁₁ .before in let if2 = c₁₂ .if2 in
-    let c₁₃ = c₁₂ .before in let if1 = c₁₃ .if1 in
-    let c₁₆ = c₁₃ .before .before .before in let args = c₁₆ .args in let pre = c₁₆ .pre in
+    let c₅ = c .before .before .before .before .before in let size = c₅ .size in
+    let c₁₀ = c₅ .before .before .before .before .before in let tail = c₁₀ .tail in
+    let c₁₁ = c₁₀ .before in let if2 = c₁₁ .if2 in
+    let c₁₂ = c₁₁ .before in let if1 = c₁₂ .if1 in
+    let c₁₅ = c₁₂ .before .before .before in let args = c₁₅ .args in let pre = c₁₅ .pre in
     (omega (arith, pre .0, if1 .left), (next-near (args .at) (size .result) (now (args .list)) _ (tail .ensures) (omega (arith, if2 .left)) (size .ensures .1 .1) (pre .1 .2), omega (arith, pre .1 .1, if1 .left), pre .1 .2))
 
 fill-places-same-length : (t : ℕ) → fill-places-lts.Need-same-length (fill-places-claims t) (fill-places-at t) fill-places.Post
@@ -93,15 +88,14 @@ fill-places-same-length t c = search needs
 
 fill-places-returns-3 : (t : ℕ) → fill-places-lts.Need-returns-3 (fill-places-claims t) (fill-places-at t) fill-places.Post
 fill-places-returns-3 t c =
-    let c₄ = c .before .before .before .before in let size = c₄ .size in
-    let c₇ = c₄ .before .before .before in let put-place2 = c₇ .put-place2 in
-    let c₈ = c₇ .before in let condition = c₈ .condition in
-    let c₁₂ = c₈ .before .before .before .before in let put-place = c₁₂ .put-place in
-    let c₁₄ = c₁₂ .before .before in let tail = c₁₄ .tail in
-    let c₁₅ = c₁₄ .before in let if2 = c₁₅ .if2 in
-    let c₁₆ = c₁₅ .before in let if1 = c₁₆ .if1 in
-    let c₁₉ = c₁₆ .before .before .before in let args = c₁₉ .args in
-    places-next (args .left) (now (args .list)) (args .at) (args .k) (now (args .places)) _ _ _ _ _ _ (if1 .left) (omega (arith, if2 .left)) (tail .ensures) (put-place .ensures) (condition .ensures) (put-place2 .ensures) (size .ensures .0) (c .before .before .fill-places .ensures)
+    let c₆ = c .before .before .before .before .before .before in let put-place2 = c₆ .put-place2 in
+    let c₈ = c₆ .before .before in let size = c₈ .size in
+    let c₁₁ = c₈ .before .before .before in let put-place = c₁₁ .put-place in
+    let c₁₃ = c₁₁ .before .before in let tail = c₁₃ .tail in
+    let c₁₄ = c₁₃ .before in let if2 = c₁₄ .if2 in
+    let c₁₅ = c₁₄ .before in let if1 = c₁₅ .if1 in
+    let c₁₈ = c₁₅ .before .before .before in let args = c₁₈ .args in
+    places-next (args .left) (now (args .list)) (args .at) (args .k) (now (args .places)) _ _ _ _ _ (if1 .left) (omega (arith, if2 .left)) (tail .ensures) (put-place .ensures) (size .ensures .0) (put-place2 .ensures) (c .before .before .fill-places .ensures)
 
 pub +fill-places-spec : {M : Type 1} → statement M
 +fill-places-spec = close μ-fill-places λ t. fill-places-lts.spec (fill-places-claims t)
@@ -113,11 +107,11 @@ pub +fill-places-spec : {M : Type 1} → statement M
     (fill-places-mul-put-place t)
     (fill-places-add-put-place t)
     (fill-places-put-place-requires t)
+    (fill-places-size-requires t)
     (fill-places-mul-put-place-2 t)
     (fill-places-add-put-place-2 t)
-    (fill-places-condition-requires t)
+    (fill-places-sub-put-place t)
     (fill-places-put-place-requires-2 t)
-    (fill-places-size-requires t)
     (fill-places-add-fill-places t)
     (fill-places-add-fill-places-2 t)
     (fill-places-sub-fill-places t)

@@ -1,39 +1,35 @@
-use Rattle.permits.proofs.all_served.Statement.{statement}
-use Rattle.permits.proofs.all_served.Tie as tie
-use Rattle.permits.proofs.all_served.Reads as reads
-use Rattle.permits.proofs.all_served.Lts as lts
-use Rattle.permits.proofs.served.Reads as served-reads
-use Rattle.scans.proofs.binding.Reads as binding-reads
-use Rattle.scans.proofs.step.Reads as step-reads
 use borrow.Author.Needs.{needs}
 use mathlib.Core.Path.{_≡_, refl}
 use denote.Ref.{now}
 use Prim.Native.Nat.{_-_}
 use lib.ListN.{length, drop}
 use Rattle.model.specs.Lists.{all}
-use Rattle.permits.specs.Applying as spec
 use Rattle.scans.proofs.Loops as scanned
 use Rattle.scans.specs.Flat.{flatBindings}
+use Rattle.guards.specs.Counted.{servedBy}
+use Rattle.guards.proofs.all_served.Statement.{statement}
+use Rattle.guards.proofs.all_served.Tie as tie
+use Rattle.guards.proofs.all_served.Reads as reads
+use Rattle.guards.proofs.all_served.Lts as lts
+use Rattle.guards.proofs.served.Reads as served-reads
+use Rattle.scans.proofs.binding.Reads as binding-reads
+use Rattle.scans.proofs.step.Reads as step-reads
 
 abbrev Inv-loop : tie.InvT-loop
-Inv-loop query list catalogue at₀ at = all (spec.servedIn query list catalogue) (flatBindings (drop at query)) ≡ all (spec.servedIn query list catalogue) (flatBindings query)
+Inv-loop query catalogue masks at₀ at = all (servedBy catalogue masks) (flatBindings (drop at query)) ≡ all (servedBy catalogue masks) (flatBindings query)
 
 abbrev μ-loop : tie.MeasureT-loop
-μ-loop query list catalogue at₀ at = length query - at
+μ-loop query catalogue masks at₀ at = length query - at
 
--- src/lib.rt:140:5
 loop-holds : tie.Need-loop-holds Inv-loop μ-loop
 loop-holds c = refl
 
--- src/lib.rt:141:44
 binding-requires : tie.Need-binding-requires Inv-loop μ-loop
 binding-requires c κs = search needs
 
--- src/lib.rt:141:13
 served-requires : tie.Need-served-requires Inv-loop μ-loop
 served-requires c κs = search needs
 
--- src/lib.rt:142:13
 returns : tie.Need-returns Inv-loop μ-loop
 returns c =
     let c₁ = c .before in let served = c₁ .served in
@@ -41,22 +37,17 @@ returns c =
     let c₃ = c₂ .before in let loop-test = c₃ .loop-test in
     let c₄ = c₃ .before in let loop = c₄ .loop in
     let c₈ = c₄ .before .before .before .before in let args = c₈ .args in
-    let query = now (args .query) in
-    scanned.stopped (served .result) _ _ (c .if1 .taken) (scanned.all-on query (loop .at) _ (loop-test .taken) refl (binding .result) (binding .ensures) (spec.servedIn query (now (args .list)) (now (args .catalogue))) _ (loop .inv) (served .result) (served .ensures))
+    scanned.stopped (served .result) _ _ (c .if1 .taken) (scanned.all-on (now (args .query)) (loop .at) _ (loop-test .taken) refl (binding .result) (binding .ensures) (servedBy (now (args .catalogue)) (now (args .masks))) _ (loop .inv) (served .result) (served .ensures))
 
--- src/lib.rt:144:15
 step-requires : tie.Need-step-requires Inv-loop μ-loop
 step-requires c κs = search needs
 
--- src/lib.rt:144:9
 add-at : tie.Need-add-at Inv-loop μ-loop
 add-at c = search needs
 
--- src/lib.rt:140:5
 loop-less : tie.Need-loop-less Inv-loop μ-loop
 loop-less c = search needs
 
--- src/lib.rt:140:5
 loop-again : tie.Need-loop-again Inv-loop μ-loop
 loop-again c =
     let c₂ = c .before .before in let served = c₂ .served in
@@ -64,16 +55,13 @@ loop-again c =
     let c₄ = c₃ .before in let loop-test = c₄ .loop-test in
     let c₅ = c₄ .before in let loop = c₅ .loop in
     let c₉ = c₅ .before .before .before .before in let args = c₉ .args in
-    let query = now (args .query) in
-    scanned.went (served .result) _ _ (c .before .if1 .left) (scanned.all-on query (loop .at) _ (loop-test .taken) (c .step .ensures .0) (binding .result) (binding .ensures) (spec.servedIn query (now (args .list)) (now (args .catalogue))) _ (loop .inv) (served .result) (served .ensures))
+    scanned.went (served .result) _ _ (c .before .if1 .left) (scanned.all-on (now (args .query)) (loop .at) _ (loop-test .taken) (c .step .ensures .0) (binding .result) (binding .ensures) (servedBy (now (args .catalogue)) (now (args .masks))) _ (loop .inv) (served .result) (served .ensures))
 
--- src/lib.rt:136:1
 returns-2 : tie.Need-returns-2 Inv-loop μ-loop
 returns-2 c =
     let c₁ = c .before in let loop = c₁ .loop in
     let c₅ = c₁ .before .before .before .before in let args = c₅ .args in
-    let query = now (args .query) in
-    scanned.all-end query (loop .at) (c .loop-test .left) (spec.servedIn query (now (args .list)) (now (args .catalogue))) _ (loop .inv)
+    scanned.all-end (now (args .query)) (loop .at) (c .loop-test .left) (servedBy (now (args .catalogue)) (now (args .masks))) _ (loop .inv)
 
 pub all-served-spec : {M : Type 1} → statement M
 all-served-spec =

@@ -1,0 +1,203 @@
+-- Of tables that were filled, check 33 and the length of the rewritten query are the model's.
+use mathlib.Core.Path.{_≡_, refl, sym, ap, ap₂, _∙_}
+use mathlib.Core.Bool.{Bool, true, false, not, cond, _&&_, _||_}
+use mathlib.Core.List.{List, [], _∷_, map}
+use Prim.Native.Nat.{ℕ, zero, suc, _+_, _*_, _-_, _/_, _%_, _≤_, _<_}
+use native.Mathlib.Nat.{add-zero}
+use native.Mathlib.Omega.{arith}
+use lib.Dec.{eqb, ltb}
+use lib.ListN.{length, getD, set, drop, replicate, length-drop}
+use borrow.Author.Tests.{eq-eqb, ne-eqb, ltb-true}
+use Rattle.model.specs.Lists.{any, all, filter, consIf, total, Every}
+use Rattle.model.specs.Syntax.{Binding, Query, Permit, bindingsQ}
+use Rattle.model.specs.Encoding.{encodeQuery, permitsOf}
+use Rattle.model.specs.Catalogue.{Shape, catalogueOf, shapeOf, storedAt}
+use Rattle.model.specs.Permits.{usedOf, applies, guardOf, guardsOf}
+use Rattle.model.specs.Scope.{boundOnce}
+use Rattle.model.specs.Checks.{fails10, fails20, fails21, served, fails33, rewrittenBytes}
+use Rattle.model.proofs.Tests.{clash, or-no, not-no}
+use Rattle.model.proofs.Lists.{every-both}
+use Rattle.model.proofs.Sizes.{size, size-encode}
+use Rattle.model.proofs.Passed.{all-every}
+use Rattle.catalogue.proofs.Reading.{stored-is}
+use Rattle.scans.specs.Flat.{flatBindings}
+use Rattle.scans.proofs.Whole.{bindings-query}
+use Rattle.permits.specs.Entries.{sizeOf}
+use Rattle.permits.proofs.Walk.{size-few}
+use Rattle.copier.specs.Guard.{bitsOf}
+use Rattle.copier.proofs.Encoded.{bits-some}
+use Rattle.guards.specs.Filled.{placedFrom, maskFor, masked}
+use Rattle.guards.specs.Counted.{servedBy, turnLength, lengthFrom, lengthBy, rewrittenLength, Short}
+use Rattle.guards.proofs.Lengths.{joinedBytes, guardBytes, bytesFor, rewritten-size}
+use Rattle.guards.proofs.Stands.{written, LengthsOf, masks-of, lengths-of, few-permits, mask-is}
+
+-- tests, or numbers, that agree where P holds
+module _ {A : Type 0} (P : A → Type 0) where
+  all-where : (f g : A → Bool) → ((x : A) → P x → f x ≡ g x) → (xs : List A) → Every P xs → all f xs ≡ all g xs
+  unfolding all Every
+  all-where f g h [] w = refl
+  all-where f g h (x ∷ xs) w = ap₂ (λ (a b : Bool). a && b) (h x (w .0)) (all-where f g h xs (w .1))
+
+  total-where : (f g : A → ℕ) → ((x : A) → P x → f x ≡ g x) → (xs : List A) → Every P xs → total f xs ≡ total g xs
+  unfolding total Every
+  total-where f g h [] w = refl
+  total-where f g h (x ∷ xs) w = ap₂ (λ (a b : ℕ). a + b) (h x (w .0)) (total-where f g h xs (w .1))
+
+-- a mask is 0 where no permit applies
+module _ {A : Type 0} (t : A → Bool) where
+  none-bits : (xs : List A) → any t xs ≡ false → bitsOf t xs ≡ 0
+  unfolding bitsOf any
+  none-bits [] h = refl
+  none-bits (x ∷ xs) h =
+      let i = or-no (t x) (any t xs) h in
+      ap (λ (b : Bool). cond b 1 0 + 2 * bitsOf t xs) (i .0) ∙ omega (arith, none-bits xs (i .1))
+
+  bits-any : (xs : List A) → not (eqb (bitsOf t xs) 0) ≡ any t xs
+  bits-any xs = go (any t xs) refl
+    where
+      go : (b : Bool) → any t xs ≡ b → not (eqb (bitsOf t xs) 0) ≡ any t xs
+      go true h = ap not (ne-eqb (bitsOf t xs) 0 (bits-some t xs h)) ∙ sym h
+      go false h = ap not (eq-eqb (bitsOf t xs) 0 (none-bits xs h)) ∙ sym h
+
+-- a mask of no permit adds nothing
+length-zero : (places : List ℕ) (n k : ℕ) → lengthFrom places n 0 k ≡ 0
+unfolding lengthFrom
+length-zero places zero k = refl
+length-zero places (suc n) k = omega (arith, length-zero places n (suc k))
+
+-- the permits of a mask add their conditions, each with one byte more
+module _ (u : Permit → Bool) (places : List ℕ) where
+  lengths-filter : (ps : List Permit) (n k : ℕ) → length ps ≤ n → LengthsOf places k ps → lengthFrom places n (bitsOf u ps) k ≡ total (λ (p : Permit). suc (length (written p))) (filter u ps)
+  unfolding lengthFrom bitsOf filter total LengthsOf
+  lengths-filter [] n k h l = length-zero places n k
+  lengths-filter (p ∷ ps) zero k h l = absurd (omega arith)
+  lengths-filter (p ∷ ps) (suc n) k h l = go (u p) (lengths-filter ps n (suc k) (omega arith) (l .1))
+    where
+      go : (b : Bool) → lengthFrom places n (bitsOf u ps) (suc k) ≡ total (λ (p : Permit). suc (length (written p))) (filter u ps)
+          → turnLength places (cond b 1 0 + 2 * bitsOf u ps) k + lengthFrom places n ((cond b 1 0 + 2 * bitsOf u ps) / 2) (suc k) ≡ total (λ (p : Permit). suc (length (written p))) (consIf b p (filter u ps))
+      go true i =
+          let e : (1 + 2 * bitsOf u ps) / 2 ≡ bitsOf u ps = omega arith in
+          let o : (1 + 2 * bitsOf u ps) % 2 ≡ 1 = omega arith in
+          rw (eq-eqb ((1 + 2 * bitsOf u ps) % 2) 1 o, e) (ap₂ (λ (a b : ℕ). suc a + b) (l .0) i)
+      go false i =
+          let e : (0 + 2 * bitsOf u ps) / 2 ≡ bitsOf u ps = omega arith in
+          let o : (0 + 2 * bitsOf u ps) % 2 ≡ 1 → ⊥ = λ o. omega arith in
+          rw (ne-eqb ((0 + 2 * bitsOf u ps) % 2) 1 o, e) (omega (arith, i))
+
+joined-are : (ps : List Permit) → total (λ (p : Permit). suc (length (written p))) ps ≡ joinedBytes (map (λ (p : Permit). p .condition) ps)
+unfolding total joinedBytes
+joined-are [] = refl
+joined-are (p ∷ ps) = ap₂ (λ (a b : ℕ). suc a + b) (size-encode (p .condition) [] ∙ add-zero (size (p .condition))) (joined-are ps)
+
+-- a permit that applies adds at least a byte
+joined-some : (u : Permit → Bool) (ps : List Permit) → any u ps ≡ true → 1 ≤ total (λ (p : Permit). suc (length (written p))) (filter u ps)
+unfolding any total filter
+joined-some u [] h = clash h
+joined-some u (p ∷ ps) h = go (u p) h (λ k. joined-some u ps k)
+  where
+    go : (b : Bool) → (b || any u ps) ≡ true → (any u ps ≡ true → 1 ≤ total (λ (p : Permit). suc (length (written p))) (filter u ps)) → 1 ≤ total (λ (p : Permit). suc (length (written p))) (consIf b p (filter u ps))
+    go true k i = omega arith
+    go false k i = i k
+
+-- the guard of a variable that passed 33, over a stored relation or not
+guard-is : (d : Bool) (u : Permit → Bool) (places : List ℕ) (ps : List Permit) → length ps ≤ 8 → LengthsOf places 0 ps → (not d || any u ps) ≡ true
+    → lengthFrom places 8 (cond d (bitsOf u ps) 0) 0 ≡ guardBytes (guardOf d (map (λ (p : Permit). p .condition) (filter u ps)))
+unfolding guardOf guardBytes
+guard-is true u places ps few l h =
+    let n = joinedBytes (map (λ (p : Permit). p .condition) (filter u ps)) in
+    let e = joined-are (filter u ps) in
+    lengths-filter u places ps 8 0 few l
+    ∙ e
+    ∙ sym (ap (λ (b : Bool). cond b 2 n) (ne-eqb n 0 (λ z. omega (arith, e, z, joined-some u ps h))))
+guard-is false u places ps few l h = length-zero places 8 0
+
+module _ (cb pb : List ℕ) (hc : fails10 cb ≡ false) (hp : fails20 pb ≡ false) (h21 : fails21 (permitsOf pb) ≡ false) (q : Query) where
+  abbrev sh : Shape
+  sh = shapeOf (catalogueOf cb)
+
+  abbrev ps : List Permit
+  ps = permitsOf pb
+
+  -- 33 of a binding, by its mask
+  served-same : (masks : List ℕ) (b : Binding) → getD masks (b .variable) 0 ≡ maskFor (encodeQuery q) pb cb b → servedBy cb masks b ≡ served sh ps q b
+  unfolding servedBy served
+  served-same masks b e =
+      ap₂ (λ (d : Bool) (m : ℕ). not d || not (eqb m 0)) (sym (stored-is cb hc (b .relation))) (e ∙ mask-is cb pb hc hp h21 q b)
+      ∙ go (storedAt sh (b .relation))
+    where
+      go : (d : Bool) → (not d || not (eqb (cond d (bitsOf (applies (usedOf q (b .variable)) (b .relation)) ps) 0) 0)) ≡ (not d || any (applies (usedOf q (b .variable)) (b .relation)) ps)
+      go true = bits-any (applies (usedOf q (b .variable)) (b .relation)) ps
+      go false = refl
+
+  -- the length of its guard
+  length-same : (places masks : List ℕ) → LengthsOf places 0 ps → (b : Binding) → (getD masks (b .variable) 0 ≡ maskFor (encodeQuery q) pb cb b) × (served sh ps q b ≡ true) → lengthBy places masks b ≡ guardBytes (guardsOf sh ps q (b .variable) (b .relation))
+  unfolding guardsOf served
+  length-same places masks l b h =
+      ap (λ (m : ℕ). lengthFrom places 8 m 0) (h .0 ∙ mask-is cb pb hc hp h21 q b)
+      ∙ guard-is (storedAt sh (b .relation)) (applies (usedOf q (b .variable)) (b .relation)) places ps (few-permits ps h21) l (h .1)
+
+  module _ (once : boundOnce q ≡ true) (masks places : List ℕ) (few : Every (λ (b : Binding). b .variable < length masks) (bindingsQ q)) (room : 16 ≤ length places) where
+    abbrev M : List ℕ
+    M = masked (encodeQuery q) pb cb (bindingsQ q) masks
+
+    abbrev P : List ℕ
+    P = placedFrom 8 pb 0 0 places
+
+    all-masked : Every (λ (b : Binding). getD M (b .variable) 0 ≡ maskFor (encodeQuery q) pb cb b) (bindingsQ q)
+    unfolding boundOnce
+    all-masked = masks-of (encodeQuery q) pb cb masks (bindingsQ q) once few
+
+    same-masks : masked (encodeQuery q) pb cb (flatBindings (encodeQuery q)) masks ≡ M
+    same-masks = ap (λ (bs : List Binding). masked (encodeQuery q) pb cb bs masks) (bindings-query q)
+
+    -- check 33
+    pub served-all : not (all (servedBy cb (masked (encodeQuery q) pb cb (flatBindings (encodeQuery q)) masks)) (flatBindings (encodeQuery q))) ≡ fails33 sh ps q
+    unfolding fails33
+    served-all =
+        ap not
+        (ap₂ (λ (m : List ℕ) (bs : List Binding). all (servedBy cb m) bs) same-masks (bindings-query q)
+        ∙ all-where (λ (b : Binding). getD M (b .variable) 0 ≡ maskFor (encodeQuery q) pb cb b) (servedBy cb M) (served sh ps q) (served-same M) (bindingsQ q) all-masked)
+
+    -- the length, where 33 passed
+    pub length-all : fails33 sh ps q ≡ false → rewrittenLength (encodeQuery q) P (masked (encodeQuery q) pb cb (flatBindings (encodeQuery q)) masks) ≡ length (rewrittenBytes sh ps q)
+    unfolding fails33 rewrittenLength rewrittenBytes bytesFor
+    length-all h =
+        let each = every-both (λ (b : Binding). getD M (b .variable) 0 ≡ maskFor (encodeQuery q) pb cb b) (λ (b : Binding). served sh ps q b ≡ true) (bindingsQ q) all-masked (all-every (served sh ps q) (bindingsQ q) (not-no (all (served sh ps q) (bindingsQ q)) h)) in
+        ap₂ (λ (m : List ℕ) (bs : List Binding). length (encodeQuery q) + total (lengthBy P m) bs) same-masks (bindings-query q)
+        ∙ ap (λ (n : ℕ). length (encodeQuery q) + n)
+        (total-where (λ (b : Binding). (getD M (b .variable) 0 ≡ maskFor (encodeQuery q) pb cb b) × (served sh ps q b ≡ true)) (lengthBy P M) (λ (b : Binding). guardBytes (guardsOf sh ps q (b .variable) (b .relation))) (length-same P M (lengths-of pb places hp h21 room)) (bindingsQ q) each)
+        ∙ sym (rewritten-size (guardsOf sh ps q) q)
+
+-- places and lengths stay within the list, or just past its end
+set-short : (l : List ℕ) (i x j : ℕ) → getD l j 0 ≤ 4096 → x ≤ 4096 → getD (set l i x) j 0 ≤ 4096
+set-short [] i x j h k = h
+set-short (a ∷ l) zero x zero h k = k
+set-short (a ∷ l) zero x (suc j) h k = h
+set-short (a ∷ l) (suc i) x zero h k = h
+set-short (a ∷ l) (suc i) x (suc j) h k = set-short l i x j h k
+
+places-short : (list : List ℕ) → length list ≤ 2048 → (n at k : ℕ) (places : List ℕ) (j : ℕ) → getD places j 0 ≤ 4096 → getD (placedFrom n list at k places) j 0 ≤ 4096
+unfolding placedFrom
+places-short list s zero at k places j h = h
+places-short list s (suc n) at k places j h =
+    go (ltb at (length list)) refl
+    (λ e. places-short list s n (at + sizeOf (drop at list)) (k + 1) next j e)
+  where
+    next : List ℕ
+    next = set (set places (2 * k) (at + 4)) (2 * k + 1) (sizeOf (drop at list) - 4)
+
+    go : (b : Bool) → ltb at (length list) ≡ b → (getD next j 0 ≤ 4096 → getD (placedFrom n list (at + sizeOf (drop at list)) (k + 1) next) j 0 ≤ 4096)
+        → getD (cond b (placedFrom n list (at + sizeOf (drop at list)) (k + 1) next) places) j 0 ≤ 4096
+    go true e i =
+        let l = ltb-true at (length list) e in
+        let f : sizeOf (drop at list) - 4 ≤ 4096 = omega (arith, size-few (drop at list), length-drop at list, s) in
+        i (set-short (set places (2 * k) (at + 4)) (2 * k + 1) (sizeOf (drop at list) - 4) j (set-short places (2 * k) (at + 4) j h (omega (arith, l, s))) f)
+    go false e i = h
+
+blank : (n i : ℕ) → getD (replicate {A = ℕ} n 0) i 0 ≤ 4096
+blank zero i = omega arith
+blank (suc n) zero = omega arith
+blank (suc n) (suc i) = blank n i
+
+pub filled-short : (list : List ℕ) → length list ≤ 2048 → (n : ℕ) → Short (placedFrom 8 list 0 0 (replicate n 0))
+filled-short list s n = record { short = λ i. places-short list s 8 0 0 (replicate n 0) i (blank n i) }
