@@ -11,23 +11,18 @@ use Prim.Native.Nat.{ℕ, _-_}
 use Rattle.model.specs.Permits.{bit}
 use Rattle.permits.proofs.Finds as finds
 
--- src/lib.rt:102:8
 byte-requires : tie.Need-byte-requires
 byte-requires c κs = search needs
 
--- src/lib.rt:103:9
 returns : tie.Need-returns
 returns c = finds.applies-not (λ (a : ℕ). bit (c .before .before .before .args .used) a) (c .before .before .before .args .relation) (now (c .before .before .before .args .list)) (c .before .byte .result) (c .before .byte .ensures) (c .if1 .taken)
 
--- src/lib.rt:105:18
 mask-requires : tie.Need-mask-requires
 mask-requires c κs = search needs
 
--- src/lib.rt:105:5
 within-requires : tie.Need-within-requires
 within-requires c κs = search needs
 
--- src/lib.rt:99:1
 returns-2 : tie.Need-returns-2
 returns-2 c =
     let c₁ = c .before in let mask = c₁ .mask in

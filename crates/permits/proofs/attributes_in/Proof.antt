@@ -23,16 +23,13 @@ Inv-loop mask attributes a₀ a = (all (λ (x : ℕ). not (bit mask x) || ltb x 
 abbrev μ-loop : tie.MeasureT-loop
 μ-loop mask attributes a₀ a = 16 - a
 
--- src/lib.rt:283:5
 loop-holds : tie.Need-loop-holds Inv-loop μ-loop
 unfolding all below
 loop-holds c = (refl, omega arith)
 
--- src/lib.rt:284:13
 has-if-known-requires : tie.Need-has-if-known-requires Inv-loop μ-loop
 has-if-known-requires c κs = search needs
 
--- src/lib.rt:285:13
 returns : tie.Need-returns Inv-loop μ-loop
 unfolding spec.attributesIn
 returns c =
@@ -41,15 +38,12 @@ returns c =
     let c₄ = c₃ .before in let args = c₄ .args in
     loops.below-stopped (λ (x : ℕ). not (bit (args .mask) x) || ltb x (args .attributes)) (loop .a) 16 (has-if-known .result) (c .before .before .loop-test .taken) (has-if-known .ensures) (c .if1 .taken)
 
--- src/lib.rt:287:9
 add-a : tie.Need-add-a Inv-loop μ-loop
 add-a c = search needs
 
--- src/lib.rt:283:5
 loop-less : tie.Need-loop-less Inv-loop μ-loop
 loop-less c = search needs
 
--- src/lib.rt:283:5
 loop-again : tie.Need-loop-again Inv-loop μ-loop
 loop-again c =
     let c₁ = c .before in let has-if-known = c₁ .has-if-known in
@@ -57,7 +51,6 @@ loop-again c =
     let c₄ = c₃ .before in let args = c₄ .args in
     (loops.below-on (λ (x : ℕ). not (bit (args .mask) x) || ltb x (args .attributes)) (loop .a) (has-if-known .result) (loop .inv .0) (has-if-known .ensures) (c .if1 .left), omega (arith, c .before .before .loop-test .taken))
 
--- src/lib.rt:279:1
 returns-2 : tie.Need-returns-2 Inv-loop μ-loop
 unfolding spec.attributesIn
 returns-2 c = sym (ap (λ (m : ℕ). all (λ (x : ℕ). not (bit (c .before .before .args .mask) x) || ltb x (c .before .before .args .attributes)) (below m)) (the-end (c .before .loop .a) (c .before .loop .inv .1) (c .loop-test .left)) ∙ c .before .loop .inv .0)

@@ -10,19 +10,15 @@ use denote.Ref.{now}
 use Prim.Native.Nat.{_-_}
 use Rattle.permits.proofs.Finds as finds
 
--- src/lib.rt:381:8
 over-limits-requires : tie.Need-over-limits-requires
 over-limits-requires c κs = search needs
 
--- src/lib.rt:382:9
 returns : tie.Need-returns
 returns c = finds.check-21 (now (c .before .before .before .before .args .catalogue)) (now (c .before .before .before .before .args .list)) (c .before .over-limits .result) (c .before .over-limits .ensures) (c .if1 .taken)
 
--- src/lib.rt:384:9
 all-known-requires : tie.Need-all-known-requires
 all-known-requires c κs = search needs
 
--- src/lib.rt:385:9
 returns-2 : tie.Need-returns-2
 returns-2 c =
     let c₁ = c .before in let all-known = c₁ .all-known in
@@ -30,11 +26,9 @@ returns-2 c =
     let c₆ = c₃ .before .before .before in let args = c₆ .args in
     finds.check-22 (now (args .catalogue)) (now (args .list)) (over-limits .result) (over-limits .ensures) (c .before .before .if1 .left) (all-known .result) (all-known .ensures) (c .if2 .taken)
 
--- src/lib.rt:387:9
 all-over-stored-requires : tie.Need-all-over-stored-requires
 all-over-stored-requires c κs = search needs
 
--- src/lib.rt:388:9
 returns-3 : tie.Need-returns-3
 returns-3 c =
     let c₁ = c .before in let all-over-stored = c₁ .all-over-stored in
@@ -44,7 +38,6 @@ returns-3 c =
     let c₈ = c₅ .before .before .before in let args = c₈ .args in
     finds.check-23 (now (args .catalogue)) (now (args .list)) (over-limits .result) (over-limits .ensures) (if1 .left) (all-known .result) (all-known .ensures) (c .before .before .if2 .left) (all-over-stored .result) (all-over-stored .ensures) (c .if3 .taken)
 
--- src/lib.rt:378:1
 returns-4 : tie.Need-returns-4
 returns-4 c =
     let c₁ = c .before in let all-over-stored = c₁ .all-over-stored in

@@ -11,19 +11,15 @@ use Prim.Native.Nat.{_-_}
 use lib.ListN.{take}
 use Rattle.permits.specs.Entries.{spanOf, conditionOf}
 
--- src/lib.rt:43:9
 tail-requires : tie.Need-tail-requires
 tail-requires c κs = search needs
 
--- src/lib.rt:44:16
 span-requires : tie.Need-span-requires
 span-requires c κs = search needs
 
--- src/lib.rt:44:5
 part-requires : tie.Need-part-requires
 part-requires c κs = search needs
 
--- src/lib.rt:40:1
 returns : tie.Need-returns
 unfolding conditionOf
 returns c = c .part .ensures ∙ ap₂ take (c .before .span .ensures .0 ∙ ap spanOf (c .before .before .tail .ensures)) (c .before .before .tail .ensures)

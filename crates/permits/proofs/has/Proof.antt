@@ -9,11 +9,9 @@ use lib.Dec.{eqb}
 use lib.Bits.{and-mask}
 use Rattle.model.specs.Permits.{bit}
 
--- src/lib.rt:73:6
 shr-result : tie.Need-shr-result
 shr-result c = search needs
 
--- src/lib.rt:69:1
 returns : tie.Need-returns
 unfolding bit
 returns c = ap (λ (k : ℕ). eqb k 1) (and-mask (c .args .mask / 2 ^ c .args .attribute) 1)

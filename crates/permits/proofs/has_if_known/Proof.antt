@@ -9,15 +9,12 @@ use Prim.Native.Nat.{_-_}
 use mathlib.Core.Bool.{Bool, not, _||_}
 use lib.Dec.{ltb}
 
--- src/lib.rt:275:8
 has-requires : tie.Need-has-requires
 has-requires c κs = search needs
 
--- src/lib.rt:271:1
 returns : tie.Need-returns
 returns c = sym (ap (λ (b : Bool). not b || ltb (c .before .before .args .attribute) (c .before .before .args .attributes)) (sym (c .before .has .ensures) ∙ c .if1 .taken))
 
--- src/lib.rt:271:1
 returns-2 : tie.Need-returns-2
 returns-2 c = sym (ap (λ (b : Bool). not b || ltb (c .before .before .args .attribute) (c .before .before .args .attributes)) (sym (c .before .has .ensures) ∙ c .if1 .left))
 

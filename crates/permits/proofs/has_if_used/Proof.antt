@@ -8,19 +8,15 @@ use mathlib.Core.Path.{sym, ap, _∙_}
 use mathlib.Core.Bool.{Bool, not, _||_}
 use Rattle.model.specs.Permits.{bit}
 
--- src/lib.rt:80:8
 has-requires : tie.Need-has-requires
 has-requires c κs = search needs
 
--- src/lib.rt:80:31
 has-requires-2 : tie.Need-has-requires-2
 has-requires-2 c κs = search needs
 
--- src/lib.rt:76:1
 returns : tie.Need-returns
 returns c = c .has2 .ensures ∙ sym (ap (λ (b : Bool). not b || bit (c .before .before .before .args .mask) (c .before .before .before .args .attribute)) (sym (c .before .before .has .ensures) ∙ c .before .if1 .taken))
 
--- src/lib.rt:76:1
 returns-2 : tie.Need-returns-2
 returns-2 c = sym (ap (λ (b : Bool). not b || bit (c .before .before .args .mask) (c .before .before .args .attribute)) (sym (c .before .has .ensures) ∙ c .if1 .left))
 

@@ -10,19 +10,15 @@ use denote.Ref.{now}
 use Prim.Native.Nat.{_-_}
 use Rattle.permits.proofs.Finds as finds
 
--- src/lib.rt:244:9
 condition-requires : tie.Need-condition-requires
 condition-requires c κs = search needs
 
--- src/lib.rt:246:9
 returns : tie.Need-returns
 returns c = finds.fits-long (now (c .before .before .before .args .list)) (now (c .before .condition .result)) (c .before .condition .ensures) (c .if1 .taken)
 
--- src/lib.rt:248:9
 shallow-requires : tie.Need-shallow-requires
 shallow-requires c κs = search needs
 
--- src/lib.rt:249:9
 returns-2 : tie.Need-returns-2
 returns-2 c =
     let c₁ = c .before in let shallow = c₁ .shallow in
@@ -30,11 +26,9 @@ returns-2 c =
     let c₅ = c₃ .before .before in let args = c₅ .args in
     finds.fits-deep (now (args .list)) (now (condition .result)) (condition .ensures) (c .before .before .if1 .left) (shallow .result) (shallow .ensures) (c .if2 .taken)
 
--- src/lib.rt:251:5
 count-bindings-requires : tie.Need-count-bindings-requires
 count-bindings-requires c κs = search needs
 
--- src/lib.rt:241:1
 returns-3 : tie.Need-returns-3
 returns-3 c =
     let c₂ = c .before .before in let shallow = c₂ .shallow in

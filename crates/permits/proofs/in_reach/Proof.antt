@@ -14,23 +14,18 @@ use Rattle.scope.specs.Reach.{shapeIn, permitScope}
 use Rattle.model.specs.Scope.{inScope}
 use Rattle.permits.specs.Limits.{inReach}
 
--- src/lib.rt:335:33
 slice-aggregate-condition : tie.Need-slice-aggregate-condition
 slice-aggregate-condition c = search needs
 
--- src/lib.rt:335:5
 condition-requires : tie.Need-condition-requires
 condition-requires c κs = search needs
 
--- src/lib.rt:336:30
 slice-aggregate-permit : tie.Need-slice-aggregate-permit
 slice-aggregate-permit c = search needs
 
--- src/lib.rt:336:5
 permit-requires : tie.Need-permit-requires
 permit-requires c κs = search needs
 
--- src/lib.rt:331:1
 returns : tie.Need-returns
 unfolding inReach
 returns c =

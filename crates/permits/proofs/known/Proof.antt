@@ -16,19 +16,15 @@ use denote.Ref.{now}
 use Prim.Native.Nat.{_-_}
 use Rattle.permits.proofs.Finds as finds
 
--- src/lib.rt:348:9
 byte-requires : tie.Need-byte-requires
 byte-requires c κs = search needs
 
--- src/lib.rt:349:8
 count-requires : tie.Need-count-requires
 count-requires c κs = search needs
 
--- src/lib.rt:349:39
 wide-size-requires : tie.Need-wide-size-requires
 wide-size-requires c κs = search needs
 
--- src/lib.rt:350:9
 returns : tie.Need-returns
 returns c =
     let c₁ = c .before in let wide-size = c₁ .wide-size in
@@ -37,19 +33,15 @@ returns c =
     let c₆ = c₃ .before .before .before in let args = c₆ .args in
     finds.known-past (now (args .catalogue)) (now (args .list)) (byte .result) (byte .ensures) (count .result) (wide-size .result) (count .ensures) (wide-size .ensures) (c .if1 .taken)
 
--- src/lib.rt:352:17
 mask-requires : tie.Need-mask-requires
 mask-requires c κs = search needs
 
--- src/lib.rt:352:29
 attributes-requires : tie.Need-attributes-requires
 attributes-requires c κs = search needs
 
--- src/lib.rt:352:9
 mask-in-requires : tie.Need-mask-in-requires
 mask-in-requires c κs = search needs
 
--- src/lib.rt:353:9
 returns-2 : tie.Need-returns-2
 returns-2 c =
     let c₁ = c .before in let mask-in = c₁ .mask-in in
@@ -62,15 +54,12 @@ returns-2 c =
     let c₁₀ = c₇ .before .before .before in let args = c₁₀ .args in
     finds.known-mask (now (args .catalogue)) (now (args .list)) (byte .result) (byte .ensures) (count .result) (wide-size .result) (count .ensures) (wide-size .ensures) (if1 .left) (mask .result) (attributes .result) (mask .ensures) (attributes .ensures .0) (mask-in .result) (mask-in .ensures) (c .if2 .taken)
 
--- src/lib.rt:355:9
 condition-requires : tie.Need-condition-requires
 condition-requires c κs = search needs
 
--- src/lib.rt:356:9
 in-reach-requires : tie.Need-in-reach-requires
 in-reach-requires c κs = search needs
 
--- src/lib.rt:357:9
 returns-3 : tie.Need-returns-3
 returns-3 c =
     let c₁ = c .before in let in-reach = c₁ .in-reach in
@@ -86,11 +75,9 @@ returns-3 c =
     let c₁₃ = c₁₀ .before .before .before in let args = c₁₃ .args in
     finds.known-reach (now (args .catalogue)) (now (args .list)) (byte .result) (byte .ensures) (count .result) (wide-size .result) (count .ensures) (wide-size .ensures) (if1 .left) (mask .result) (attributes .result) (mask .ensures) (attributes .ensures .0) (mask-in .result) (mask-in .ensures) (if2 .left) (now (condition .result)) (condition .ensures) (in-reach .result) (in-reach .ensures) (c .if3 .taken)
 
--- src/lib.rt:359:5
 bound-once-requires : tie.Need-bound-once-requires
 bound-once-requires c κs = search needs
 
--- src/lib.rt:345:1
 returns-4 : tie.Need-returns-4
 returns-4 c =
     let c₂ = c .before .before in let in-reach = c₂ .in-reach in

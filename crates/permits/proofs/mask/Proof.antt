@@ -9,31 +9,24 @@ use mathlib.Core.Path.{ap₂, _∙_}
 use Prim.Native.Nat.{ℕ, _+_, _*_}
 use Rattle.permits.specs.Entries.{maskOf}
 
--- src/lib.rt:65:10
 byte-requires : tie.Need-byte-requires
 byte-requires c κs = search needs
 
--- src/lib.rt:65:5
 wide-requires : tie.Need-wide-requires
 wide-requires c κs = search needs
 
--- src/lib.rt:65:45
 byte-requires-2 : tie.Need-byte-requires-2
 byte-requires-2 c κs = search needs
 
--- src/lib.rt:65:40
 wide-requires-2 : tie.Need-wide-requires-2
 wide-requires-2 c κs = search needs
 
--- src/lib.rt:65:34
 mul-result : tie.Need-mul-result
 mul-result c = search needs
 
--- src/lib.rt:65:5
 add-result : tie.Need-add-result
 add-result c = search needs
 
--- src/lib.rt:62:1
 returns : tie.Need-returns
 unfolding maskOf
 returns c = ap₂ (λ (a b : ℕ). a + 256 * b) (c .before .before .wide .ensures .0 ∙ c .before .before .before .byte .ensures) (c .wide2 .ensures .0 ∙ c .before .byte2 .ensures)

@@ -7,19 +7,15 @@ use Rattle.permits.proofs.attributes_in.Reads as attributes-in-reads
 use Prim.Native.Nat.{_-_}
 use Rattle.permits.proofs.Finds as finds
 
--- src/lib.rt:297:9
 returns : tie.Need-returns
 returns c = finds.mask-zero (c .before .args .attributes) (c .before .args .mask) (c .if1 .taken)
 
--- src/lib.rt:300:9
 returns-2 : tie.Need-returns-2
 returns-2 c = finds.mask-all (c .before .before .args .attributes) (c .before .before .args .mask) (c .before .if1 .left) (c .if2 .taken)
 
--- src/lib.rt:302:5
 attributes-in-requires : tie.Need-attributes-in-requires
 attributes-in-requires c κs = search needs
 
--- src/lib.rt:293:1
 returns-3 : tie.Need-returns-3
 returns-3 c = finds.mask-is (c .before .before .before .args .attributes) (c .before .before .before .args .mask) (c .attributes-in .result) (c .before .before .if1 .left) (c .before .if2 .left) (c .attributes-in .ensures)
 

@@ -25,19 +25,15 @@ Inv-loop list n₀ at₀ n at = (n + length (entries (drop at list)) ≡ length 
 abbrev μ-loop : tie.MeasureT-loop
 μ-loop list n₀ at₀ n at = length list - at
 
--- src/lib.rt:260:5
 loop-holds : tie.Need-loop-holds Inv-loop μ-loop
 loop-holds c = (zero-add _, refl, omega arith)
 
--- src/lib.rt:261:13
 tail-requires : tie.Need-tail-requires Inv-loop μ-loop
 tail-requires c κs = search needs
 
--- src/lib.rt:262:13
 in-limits-requires : tie.Need-in-limits-requires Inv-loop μ-loop
 in-limits-requires c κs = search needs
 
--- src/lib.rt:263:13
 returns : tie.Need-returns Inv-loop μ-loop
 returns c =
     let c₁ = c .before in let in-limits = c₁ .in-limits in
@@ -48,15 +44,12 @@ returns c =
     let list = now (args .list) in
     finds.over-found (entries list) (loops.all-stopped list (now (tail .result)) (loop .at) (loop-test .taken) (tail .ensures) spec.fitsLimits _ (in-limits .result) (in-limits .ensures) (loop .inv .1) (c .if1 .taken))
 
--- src/lib.rt:265:9
 add-n : tie.Need-add-n Inv-loop μ-loop
 add-n c = record { fits = omega (arith, c .before .before .before .before .loop .inv .2, c .before .before .before .loop-test .taken, c .before .before .before .before .before .before .good) }
 
--- src/lib.rt:266:15
 size-requires : tie.Need-size-requires Inv-loop μ-loop
 size-requires c κs = search needs
 
--- src/lib.rt:266:9
 add-at : tie.Need-add-at Inv-loop μ-loop
 add-at c =
     let c₃ = c .before .before .before in let tail = c₃ .tail in
@@ -65,11 +58,9 @@ add-at c =
     let c₇ = c₅ .before .before in let args = c₇ .args in let good = c₇ .good in
     record { fits = omega (arith, walk.size-room (now (args .list)) (now (tail .result)) (loop .at) (c .size .result) (loop-test .taken) (tail .ensures) (c .size .ensures .1 .1), good) }
 
--- src/lib.rt:260:5
 loop-less : tie.Need-loop-less Inv-loop μ-loop
 loop-less c = omega (arith, c .size .ensures .1 .0, c .before .before .before .before .loop-test .taken)
 
--- src/lib.rt:260:5
 loop-again : tie.Need-loop-again Inv-loop μ-loop
 loop-again c =
     let c₂ = c .before .before in let in-limits = c₂ .in-limits in
@@ -80,7 +71,6 @@ loop-again c =
     let list = now (args .list) in
     (loops.count-on list (now (tail .result)) (loop .at) (loop-test .taken) (tail .ensures) (c .size .result) (loop .n) _ (c .size .ensures .0) (loop .inv .0), loops.all-on list (now (tail .result)) (loop .at) (loop-test .taken) (tail .ensures) spec.fitsLimits _ (in-limits .result) (in-limits .ensures) (c .size .result) (c .size .ensures .0) (loop .inv .1) (c .before .if1 .left), omega (arith, loop .inv .2, c .size .ensures .1 .0))
 
--- src/lib.rt:255:1
 returns-2 : tie.Need-returns-2 Inv-loop μ-loop
 returns-2 c =
     let c₁ = c .before in let loop = c₁ .loop in

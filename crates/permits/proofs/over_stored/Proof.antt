@@ -11,15 +11,12 @@ use denote.Ref.{now}
 use Prim.Native.Nat.{_-_}
 use Rattle.permits.proofs.Finds as finds
 
--- src/lib.rt:308:38
 byte-requires : tie.Need-byte-requires
 byte-requires c κs = search needs
 
--- src/lib.rt:308:9
 stored-requires : tie.Need-stored-requires
 stored-requires c κs = search needs
 
--- src/lib.rt:309:9
 returns : tie.Need-returns
 returns c =
     let c₁ = c .before in let stored = c₁ .stored in
@@ -27,15 +24,12 @@ returns c =
     let c₅ = c₂ .before .before .before in let args = c₅ .args in
     finds.stored-not (now (args .catalogue)) (now (args .list)) (byte .result) (stored .result) (byte .ensures) (stored .ensures) (c .if1 .taken)
 
--- src/lib.rt:311:23
 condition-requires : tie.Need-condition-requires
 condition-requires c κs = search needs
 
--- src/lib.rt:311:5
 all-stored-requires : tie.Need-all-stored-requires
 all-stored-requires c κs = search needs
 
--- src/lib.rt:305:1
 returns-2 : tie.Need-returns-2
 returns-2 c =
     let c₁ = c .before in let condition = c₁ .condition in

@@ -8,15 +8,12 @@ use denote.Ref.{now}
 use native.Mathlib.Omega.{arith}
 use lib.Seq.{take-all, length-take-le}
 
--- src/lib.rt:35:23
 slice-aggregate-result : tie.Need-slice-aggregate-result
 slice-aggregate-result c = sym (length-take-le (c .before .before .args .n) (now (c .before .before .args .q)) (c .before .if1 .taken))
 
--- src/lib.rt:32:1
 returns : tie.Need-returns
 returns c = search needs
 
--- src/lib.rt:32:1
 returns-2 : tie.Need-returns-2
 returns-2 c = sym (take-all (c .before .args .n) (now (c .before .args .q)) (omega (arith, c .if1 .left)))
 

@@ -8,27 +8,21 @@ use denote.Ref.{now}
 use Prim.Native.Nat.{_-_}
 use Rattle.permits.proofs.Finds as finds
 
--- src/lib.rt:235:39
 slice-aggregate-condition : tie.Need-slice-aggregate-condition
 slice-aggregate-condition c = search needs
 
--- src/lib.rt:235:11
 condition-requires : tie.Need-condition-requires
 condition-requires c κs = search needs
 
--- src/lib.rt:236:27
 enum-told : tie.Need-enum-told
 enum-told c = search needs
 
--- src/lib.rt:237:26
 enum-told-2 : tie.Need-enum-told-2
 enum-told-2 c = search needs
 
--- src/lib.rt:231:1
 returns : tie.Need-returns
 returns c = finds.shallow-yes (now (c .before .before .before .before .before .before .args .condition)) (c .before .before .before .condition .result) _ (c .before .before .before .condition .ensures .0) (c .enum-told .given .1)
 
--- src/lib.rt:231:1
 returns-2 : tie.Need-returns-2
 returns-2 c = finds.shallow-no (now (c .before .before .before .before .before .before .args .condition)) (c .before .before .before .condition .result) (c .before .before .before .condition .ensures .0) (c .enum-told2 .given .1)
 

@@ -13,19 +13,15 @@ use lib.ListN.{length}
 use Rattle.permits.specs.Entries.{spanOf, sizeOf}
 use lib.ListN.{length-drop}
 
--- src/lib.rt:52:14
 tail-requires : tie.Need-tail-requires
 tail-requires c κs = search needs
 
--- src/lib.rt:52:9
 span-requires : tie.Need-span-requires
 span-requires c κs = search needs
 
--- src/lib.rt:52:5
 add-result : tie.Need-add-result
 add-result c = search needs
 
--- src/lib.rt:48:1
 returns : tie.Need-returns
 unfolding sizeOf
 returns c = (ap (λ (n : ℕ). 4 + n) (c .span .ensures .0 ∙ ap spanOf (c .before .tail .ensures)), (omega arith, omega (arith, c .span .ensures .1, ap length (c .before .tail .ensures), length-drop 4 (now (c .before .before .before .args .list)))))

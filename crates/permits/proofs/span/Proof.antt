@@ -20,15 +20,12 @@ Inv-loop q at₀ at = (at + spanOf (drop at q) ≡ spanOf q) × (at ≤ length q
 abbrev μ-loop : tie.MeasureT-loop
 μ-loop q at₀ at = length q - at
 
--- src/lib.rt:23:5
 loop-holds : tie.Need-loop-holds Inv-loop μ-loop
 loop-holds c = (zero-add _, omega arith)
 
--- src/lib.rt:24:12
 byte-requires : tie.Need-byte-requires Inv-loop μ-loop
 byte-requires c κs = search needs
 
--- src/lib.rt:25:13
 returns : tie.Need-returns Inv-loop μ-loop
 returns c =
     let c₁ = c .before in let byte = c₁ .byte in
@@ -36,19 +33,15 @@ returns c =
     let c₅ = c₃ .before .before in let args = c₅ .args in
     (span-found (now (args .q)) (loop .at) (byte .result) (c .before .before .loop-test .taken) (byte .ensures) _ (c .if1 .taken) (loop .inv .0), loop .inv .1)
 
--- src/lib.rt:27:15
 step-requires : tie.Need-step-requires Inv-loop μ-loop
 step-requires c κs = search needs
 
--- src/lib.rt:27:9
 add-at : tie.Need-add-at Inv-loop μ-loop
 add-at c = search needs
 
--- src/lib.rt:23:5
 loop-less : tie.Need-loop-less Inv-loop μ-loop
 loop-less c = search needs
 
--- src/lib.rt:23:5
 loop-again : tie.Need-loop-again Inv-loop μ-loop
 loop-again c =
     let c₂ = c .before .before in let byte = c₂ .byte in
@@ -57,7 +50,6 @@ loop-again c =
     let c₆ = c₄ .before .before in let args = c₆ .args in
     (span-on (now (args .q)) (loop .at) (byte .result) (loop-test .taken) (byte .ensures) (c .step .result) _ (c .before .if1 .left) (c .step .ensures .0) (loop .inv .0), omega (arith, c .step .ensures .1 .1, loop-test .taken))
 
--- src/lib.rt:18:1
 returns-2 : tie.Need-returns-2 Inv-loop μ-loop
 returns-2 c = (span-end (now (c .before .before .before .args .q)) (c .before .loop .at) _ (c .loop-test .left) (c .before .loop .inv .0), c .before .loop .inv .1)
 

@@ -22,16 +22,13 @@ Inv-loop used mask a₀ a = (all (λ (x : ℕ). not (bit used x) || bit mask x) 
 abbrev μ-loop : tie.MeasureT-loop
 μ-loop used mask a₀ a = 16 - a
 
--- src/lib.rt:89:5
 loop-holds : tie.Need-loop-holds Inv-loop μ-loop
 unfolding all below
 loop-holds c = (refl, omega arith)
 
--- src/lib.rt:90:13
 has-if-used-requires : tie.Need-has-if-used-requires Inv-loop μ-loop
 has-if-used-requires c κs = search needs
 
--- src/lib.rt:91:13
 returns : tie.Need-returns Inv-loop μ-loop
 unfolding spec.within
 returns c =
@@ -40,15 +37,12 @@ returns c =
     let c₄ = c₃ .before in let args = c₄ .args in
     loops.below-stopped (λ (x : ℕ). not (bit (args .used) x) || bit (args .mask) x) (loop .a) 16 (has-if-used .result) (c .before .before .loop-test .taken) (has-if-used .ensures) (c .if1 .taken)
 
--- src/lib.rt:93:9
 add-a : tie.Need-add-a Inv-loop μ-loop
 add-a c = search needs
 
--- src/lib.rt:89:5
 loop-less : tie.Need-loop-less Inv-loop μ-loop
 loop-less c = search needs
 
--- src/lib.rt:89:5
 loop-again : tie.Need-loop-again Inv-loop μ-loop
 loop-again c =
     let c₁ = c .before in let has-if-used = c₁ .has-if-used in
@@ -56,7 +50,6 @@ loop-again c =
     let c₄ = c₃ .before in let args = c₄ .args in
     (loops.below-on (λ (x : ℕ). not (bit (args .used) x) || bit (args .mask) x) (loop .a) (has-if-used .result) (loop .inv .0) (has-if-used .ensures) (c .if1 .left), omega (arith, c .before .before .loop-test .taken))
 
--- src/lib.rt:85:1
 returns-2 : tie.Need-returns-2 Inv-loop μ-loop
 unfolding spec.within
 returns-2 c = sym (ap (λ (m : ℕ). all (λ (x : ℕ). not (bit (c .before .before .args .used) x) || bit (c .before .before .args .mask) x) (below m)) (the-end (c .before .loop .a) (c .before .loop .inv .1) (c .loop-test .left)) ∙ c .before .loop .inv .0)
