@@ -1,23 +1,22 @@
 -- From the odometer's buffer to the model's answer, and the numbers of the whole call.
 use mathlib.Core.Path.{_≡_, refl, sym, ap, ap₂, _∙_, subst, fun-ext}
-use mathlib.Core.Bool.{Bool, true, false, not, cond, _||_}
-use mathlib.Core.List.{List, [], _∷_, _++_, map}
-use Prim.Native.Nat.{ℕ, zero, suc, _+_, _≤_, _<_}
+use mathlib.Core.Bool.{Bool, true, false, cond}
+use mathlib.Core.List.{List, [], map}
+use Prim.Native.Nat.{ℕ, zero, suc, _≤_}
 use native.Mathlib.Omega.{arith}
 use lib.Dec.{ltb}
-use lib.IntN.{ℤ, pos}
-use lib.ListN.{length, getD, drop, replicate, length-replicate, length-map, List·getD-eq-default}
+use lib.IntN.{ℤ}
+use lib.ListN.{length, drop, length-map}
 use borrow.Author.Tests.{ltb-false}
 use Rattle.model.specs.Lists.{filter, Every}
-use Rattle.model.specs.Syntax.{Term, Query, levelsQ, bindingsQ}
+use Rattle.model.specs.Syntax.{Query}
 use Rattle.model.specs.Encoding.{failed, readQuery, queryOf}
-use Rattle.model.specs.Meaning.{Assignment, Rows, cell, holds, assignments, unbound, targetRow, addRows, qualifying, answers}
+use Rattle.model.specs.Meaning.{Assignment, Rows, holds, assignments, unbound, targetRow, addRows, qualifying, answers}
 use Rattle.model.specs.Catalogue.{catalogueOf, shapeOf, tuplesAt, allRows}
-use Rattle.model.specs.Checks.{Check, plainLimits, fails10, fails11, fails30, keeperChecks, queryChecks, evaluateChecks, refusal}
-use Rattle.model.specs.Calls.{Answer, refuse, give, evaluateUnless, evaluate}
-use Rattle.model.proofs.Passed.{refusal-cons, Within, within, Scoped, scoped}
+use Rattle.model.specs.Checks.{plainLimits, fails10, fails11, fails30, keeperChecks, queryChecks, evaluateChecks, refusal}
+use Rattle.model.specs.Calls.{refuse, give, evaluateUnless, evaluate}
+use Rattle.model.proofs.Passed.{refusal-cons, within}
 use Rattle.model.proofs.Grounds.{refusal-skip}
-use Rattle.catalogue.specs.Layout.{tupleAt, tuplesIn}
 use Rattle.catalogue.proofs.Reading.{tuples-are}
 use Rattle.rows.specs.declared.Filled.{Filled}
 use Rattle.rows.specs.Buffer.{Buffer, addedAll, start}
@@ -26,25 +25,16 @@ use Rattle.evaluator.specs.Evaluation.{assigned, rowsIn}
 use Rattle.grammar.specs.declared.Layout.{Layout}
 use Rattle.grammar.specs.Shapes.{layout}
 use Rattle.odometer.specs.declared.Plan.{Plan}
-use Rattle.odometer.specs.Plan.{cellsBy, rowsFrom}
+use Rattle.odometer.specs.Plan.{Bounds, rowsFrom}
 use Rattle.odometer.proofs.Staged.{rows-planned}
 use Rattle.sizes.specs.Decode.{decode}
-use Rattle.sizes.specs.Parts.{rangesAt, targetsAt}
-use Rattle.aggregates.specs.Filled.{filledC, filledTs}
+use Rattle.sizes.specs.Parts.{rangesAt}
 use Rattle.conjuncts.specs.Stages.{Planned}
-use Rattle.aggregates.proofs.Taking.{getD-same}
-use Rattle.aggregates.proofs.Faithful.{FaithfulT, FaithfulQ, faithful-value, faithful-holds, query-faithful}
-use Rattle.queries.specs.declared.Checked.{Checked}
-use Rattle.queries.specs.declared.Checked.the-variants.{Refused, Passed}
 use Rattle.model.proofs.Tests.{or-no}
 use Rattle.queries.proofs.Numbers.{condition-room}
-use Rattle.queries.specs.Parts.{queryAt, Laid, numberOf, Ready}
+use Rattle.queries.specs.Parts.{queryAt, Laid}
 use Rattle.plain.specs.declared.Reply.{Reply}
-use Rattle.plain.specs.Reply.{answerOf, replyOf, memoOf, Answerable}
-
--- places past the values: no variable is bound yet
-none-bound : (n : ℕ) (vs : List ℤ) → assigned vs (replicate n (length vs)) ≡ unbound
-none-bound n vs = fun-ext λ v. fun-ext λ a. ap (λ k. getD vs (k + a) (pos 0)) (getD-same n (length vs) v) ∙ List·getD-eq-default vs (pos 0) (omega arith)
+use Rattle.plain.specs.Reply.{answerOf, replyOf, planOf, Answerable, Trusted, Unbound}
 
 -- the rows of a query before equal ones are dropped
 abbrev rowsBefore : Query → Rows → List (List ℤ)
@@ -58,66 +48,35 @@ wide-rows : (u : Query) (R : Rows) → Every (λ x. length x ≡ length (u .targ
 unfolding targetRow
 wide-rows u R = whole-rows (length (u .targets)) (targetRow (u .targets) R) (λ e. length-map (u .targets) _) (filter (holds (u .condition) R) (assignments (u .ranges) R unbound))
 
--- a memo that is faithful to a query gives its rows
-cells-are : (m : List ℤ) (R : Rows) (ts : List Term) → Every (FaithfulT m R) ts → (e : Assignment) → cellsBy m ts R e ≡ targetRow ts R e
-unfolding cellsBy targetRow Every
-cells-are m R [] h e = refl
-cells-are m R (t ∷ ts) h e = ap₂ _∷_ (ap cell (faithful-value m R t (h .0) e)) (cells-are m R ts (h .1) e)
+-- its plan is in bounds
+pub bounded : (y : Layout) (l : ℕ) (q z cb : List ℕ) (p : Plan) → Answerable y l q z cb → p ≡ planOf y l → Bounds p
+bounded y l q z cb p ok e = subst Bounds (sym e) (record { columns = ok .columns; ranges = omega (arith, ok .ranges) })
 
-module _ (y : Layout) (l : ℕ) (q z cb : List ℕ) (vs : List ℤ) (ok : Answerable y l q z cb) where
-  abbrev places : List ℕ
-  places = replicate 256 (length vs)
-
-  abbrev memo : List ℤ
-  memo = memoOf (queryAt y l q z) (rowsIn cb vs) (assigned vs places) (replicate 512 (pos 0))
-
-  faithful : FaithfulQ memo (rowsIn cb vs) (queryAt y l q z)
-  faithful =
-      let sh = shapeOf (catalogueOf cb) in
-      query-faithful sh 200 (queryAt y l q z) (rowsIn cb vs) (assigned vs places) (replicate 512 (pos 0)) (subst (Scoped sh 200) (sym (ok .ready)) (scoped plainLimits sh (queryOf q) (ok .known)))
-      (getD-same 512 (pos 0)) (omega (arith, length-replicate 512 (pos 0)))
-
-  module _ (t : List ℕ) (xs : List ℤ) (w : Planned t xs q z cb vs memo (decode l (drop (y .condition) q) (drop (y .condition) z)) (rangesAt (y .ranges) q)) where
-    abbrev plan : Plan
-    plan = record { targets = y .first; columns = y .targets; level = l; left = y .ranges; depth = 0 }
-
-    as-query : rowsFrom plan t xs q z cb vs memo q (assigned vs places) ≡ rowsBefore (queryOf q) (allRows (tuplesAt (catalogueOf cb) vs))
+module _ (y : Layout) (l : ℕ) (q z cb : List ℕ) (vs m : List ℤ) (e : List ℕ) (ok : Answerable y l q z cb) (h : Trusted m (rowsIn cb vs) (queryAt y l q z)) (b : Unbound vs e) where
+  module _ (t : List ℕ) (xs : List ℤ) (w : Planned t xs q z cb vs m (decode l (drop (y .condition) q) (drop (y .condition) z)) (rangesAt (y .ranges) q)) where
+    as-query : rowsFrom (planOf y l) t xs q z cb vs m q (assigned vs e) ≡ rowsBefore (queryOf q) (allRows (tuplesAt (catalogueOf cb) vs))
     as-query =
         let u = queryAt y l q z in
         let R = rowsIn cb vs in
-        rows-planned plan t xs q z cb vs memo (u .condition) q refl w (assigned vs places)
-        ∙ ap₂ (λ (f : Assignment → List ℤ) (g : Assignment → Bool). map f (filter g (assignments (u .ranges) R (assigned vs places))))
-        (fun-ext (cells-are memo R (u .targets) (faithful .targets))) (fun-ext (faithful-holds memo R (u .condition) (faithful .condition)))
-        ∙ ap (λ (e : Assignment). map (targetRow (u .targets) R) (filter (holds (u .condition) R) (assignments (u .ranges) R e))) (none-bound 256 vs)
+        rows-planned (planOf y l) t xs q z cb vs m (u .condition) q refl w (assigned vs e)
+        ∙ ap₂ (λ (f : Assignment → List ℤ) (g : Assignment → Bool). map f (filter g (assignments (u .ranges) R (assigned vs e)))) (fun-ext (h .targets)) (fun-ext (h .condition))
+        ∙ ap (λ (e : Assignment). map (targetRow (u .targets) R) (filter (holds (u .condition) R) (assignments (u .ranges) R e))) (b .none)
         ∙ ap₂ (λ (u : Query) (D : ℕ → List (ℕ → ℤ)). rowsBefore u (allRows D)) (ok .ready) (fun-ext λ r. sym (tuples-are cb (ok .catalogue) vs r))
 
     columns-are : y .targets ≡ length (queryOf q .targets)
     unfolding layout
     columns-are = ap (λ (x : Layout). x .targets) (ok .laid .place)
 
-    pub answered : (s : Filled) (r : Reply) (cells after : List ℤ) → record { rows = s .rows; full = s .full; cells = after } ≡ addedAll (start cells) (rowsFrom plan t xs q z cb vs memo q (assigned vs places))
+    pub answered : (p : Plan) (s₀ s : Filled) (r : Reply) (cells after : List ℤ) → p ≡ planOf y l → s₀ ≡ record { rows = 0; full = false }
+        → record { rows = s .rows; full = s .full; cells = after } ≡ addedAll (record { rows = s₀ .rows; full = s₀ .full; cells = cells }) (rowsFrom p t xs q z cb vs m q (assigned vs e))
         → r ≡ replyOf (y .targets) s → answerOf r after ≡ give (length (queryOf q .targets)) (answers (queryOf q) (allRows (tuplesAt (catalogueOf cb) vs))) cells
-    answered s r cells after e er =
+    answered p s₀ s r cells after ep es eb er =
         let R = allRows (tuplesAt (catalogueOf cb) vs) in
         let w = length (queryOf q .targets) in
         ap (λ (x : Reply). answerOf x after) (er ∙ ap (λ k. replyOf k s) columns-are)
-        ∙ ap (λ (b : Buffer). record { number = cond (b .full) 41 0; rows = b .rows; columns = w; cells = b .cells }) (e ∙ ap (addedAll (start cells)) as-query)
+        ∙ ap (λ (b : Buffer). record { number = cond (b .full) 41 0; rows = b .rows; columns = w; cells = b .cells }) (eb ∙ ap₂ (λ (i : Plan) (j : Filled). addedAll (record { rows = j .rows; full = j .full; cells = cells }) (rowsFrom i t xs q z cb vs m q (assigned vs e))) ep es ∙ ap (addedAll (start cells)) as-query)
         ∙ sym (given w (rowsBefore (queryOf q) R) cells (wide-rows (queryOf q) R))
         ∙ ap (λ (xs : List (List ℤ)). give w xs cells) (sym (answers-are (queryOf q) R))
-
-  -- the same, as the code has it
-  pub answered-by : (t : List ℕ) (xs m : List ℤ) (e : List ℕ) (s : Filled) (r : Reply) (cells after : List ℤ) → m ≡ memo → e ≡ places
-      → Planned t xs q z cb vs m (decode l (drop (y .condition) q) (drop (y .condition) z)) (rangesAt (y .ranges) q)
-      → record { rows = s .rows; full = s .full; cells = after } ≡ addedAll (start cells) (rowsFrom (record { targets = y .first; columns = y .targets; level = l; left = y .ranges; depth = 0 }) t xs q z cb vs m q (assigned vs e))
-      → r ≡ replyOf (y .targets) s → answerOf r after ≡ give (length (queryOf q .targets)) (answers (queryOf q) (allRows (tuplesAt (catalogueOf cb) vs))) cells
-  answered-by t xs m e s r cells after em ee w eb er =
-      answered t xs (subst (λ (i : List ℤ). Planned t xs q z cb vs i (decode l (drop (y .condition) q) (drop (y .condition) z)) (rangesAt (y .ranges) q)) em w) s r cells after
-      (eb ∙ ap₂ (λ (i : List ℤ) (j : List ℕ). addedAll (start cells) (rowsFrom (record { targets = y .first; columns = y .targets; level = l; left = y .ranges; depth = 0 }) t xs q z cb vs i q (assigned vs j))) em ee) er
-
--- the memo, targets first
-pub remembered-is : (y : Layout) (l : ℕ) (q z cb : List ℕ) (vs : List ℤ) (e e₁ a b c d : List ℕ) (m n o : List ℤ) → a ≡ drop (y .first) q → b ≡ drop (y .first) z → n ≡ filledTs (targetsAt (y .targets) l a b) (rowsIn cb vs) (assigned vs e) m
-    → e₁ ≡ e → c ≡ drop (y .condition) q → d ≡ drop (y .condition) z → o ≡ filledC (decode l c d) (rowsIn cb vs) (assigned vs e₁) n → o ≡ memoOf (queryAt y l q z) (rowsIn cb vs) (assigned vs e) m
-remembered-is y l q z cb vs e e₁ a b c d m n o ea eb en ee ec ed eo = eo ∙ rw (en, ee, ec, ed, ea, eb)
 
 -- the whole call
 module _ (cb : List ℕ) (vs : List ℤ) (q : List ℕ) (cells : List ℤ) (n : ℕ) (en : n ≡ refusal (keeperChecks cb vs)) where

@@ -4,12 +4,17 @@ use mathlib.Core.Bool.{false, cond}
 use mathlib.Core.List.{List}
 use mathlib.Core.Path.{_≡_}
 use lib.IntN.{ℤ}
+use lib.ListN.{length}
 use Rattle.model.specs.Calls.{Answer}
 use Rattle.model.specs.Encoding.{queryOf}
 use Rattle.model.specs.Syntax.{Query}
-use Rattle.model.specs.Meaning.{Assignment, Rows}
+use Rattle.model.specs.Meaning.{Assignment, Rows, holds, targetRow, unbound}
 use Rattle.model.specs.Catalogue.{catalogueOf, shapeOf}
 use Rattle.model.specs.Checks.{fails10, fails32, plainLimits, keeperChecks, queryChecks, refusal}
+use Rattle.evaluator.specs.Evaluation.{assigned}
+use Rattle.evaluator.specs.Recalled.{holdsBy}
+use Rattle.odometer.specs.declared.Plan.{Plan}
+use Rattle.odometer.specs.Plan.{cellsBy}
 use Rattle.aggregates.specs.Filled.{filledC, filledTs}
 use Rattle.grammar.specs.declared.Layout.{Layout}
 use Rattle.rows.specs.declared.Filled.{Filled}
@@ -23,9 +28,23 @@ answerOf r cells = record { number = r .number; rows = r .rows; columns = r .col
 abbrev pub replyOf : ℕ → Filled → Reply
 replyOf columns s = record { number = cond (s .full) 41 0; rows = s .rows; columns = columns }
 
+-- the plan of a query of which no range is bound
+abbrev pub planOf : Layout → ℕ → Plan
+planOf y l = record { targets = y .first; columns = y .targets; level = l; left = y .ranges; depth = 0 }
+
 -- the memo once each aggregate of the query has been evaluated, those of the targets first
 abbrev pub memoOf : Query → Rows → Assignment → List ℤ → List ℤ
 memoOf u R e m = filledC (u .condition) R e (filledTs (u .targets) R e m)
+
+-- a memo by which a query's targets and condition come to what they mean
+pub record Trusted (m : List ℤ) (R : Rows) (u : Query) : Type 0 where
+  pub targets : (e : Assignment) → cellsBy m (u .targets) R e ≡ targetRow (u .targets) R e
+  pub condition : (e : Assignment) → holdsBy m (u .condition) R e ≡ holds (u .condition) R e
+
+-- places at which no variable is bound
+pub record Unbound (vs : List ℤ) (e : List ℕ) : Type 0 where
+  pub places : 256 ≤ length e
+  pub none : assigned vs e ≡ unbound
 
 -- a query that passed its checks: bytes, table, layout and catalogue
 pub record Answerable (y : Layout) (l : ℕ) (q z cb : List ℕ) : Type 0 where

@@ -5,6 +5,7 @@ use queries::Checked;
 use queries::Limits;
 use rows::Filled;
 ghost use mathlib.Core.Path.{_≡_};
+ghost use mathlib.Core.Bool.{false};
 ghost use Prim.Native.Nat.{_≤_};
 ghost use lib.ListN.{length};
 ghost use Rattle.model.specs.Encoding.{queryOf};
@@ -13,7 +14,7 @@ ghost use Rattle.model.specs.Catalogue.{catalogueOf, tuplesAt, allRows};
 ghost use Rattle.model.specs.Calls.{give, evaluate};
 ghost use Rattle.evaluator.specs.Evaluation.{assigned, rowsIn};
 ghost use Rattle.queries.specs.Parts.{queryAt};
-ghost use Rattle.plain.specs.Reply.{answerOf, replyOf, memoOf, Answerable, Accepted};
+ghost use Rattle.plain.specs.Reply.{answerOf, replyOf, planOf, memoOf, Answerable, Accepted, Trusted, Unbound};
 
 // The number of a refusal, 0 where there is none, and the counts of rows and columns.
 pub struct Reply {
@@ -78,7 +79,98 @@ fn remember(
     aggregates::condition(u, v, level, catalogue, values, env, memo);
 }
 
-// A query that passed its checks, over all rows.
+// All ranges are left to bind.
+fn plan_of(layout: Layout, level: usize) -> Plan
+    ensures { λ r. ⌜ r ≡ planOf layout level ⌝ }
+{
+    Plan {
+        targets: layout.first,
+        columns: layout.targets,
+        level,
+        left: layout.ranges,
+        depth: 0,
+    }
+}
+
+// The answer before the first row.
+fn no_rows() -> Filled
+    ensures { λ r. ⌜ r ≡ record { rows = 0; full = false } ⌝ }
+{
+    Filled {
+        rows: 0,
+        full: false,
+    }
+}
+
+// A query that passed its checks, over all rows, by a memo that says nothing false of it; no variable is bound yet.
+fn answer_by(
+    q: &[u8],
+    z: &[u16],
+    layout: Layout,
+    level: usize,
+    catalogue: &[u8],
+    values: &[i32],
+    memo: &[i64],
+    env: &mut [usize],
+    answer: &mut [i64],
+) -> Reply
+    requires { ⌜ Answerable layout level (now q) (now z) (now catalogue) × Trusted (now memo) (rowsIn (now catalogue) (now values)) (queryAt layout level (now q) (now z)) × Unbound (now values) (now env) ⌝ }
+    ensures { λ r. ⌜ answerOf r (now (answer .exit)) ≡ give (length (queryOf (now (q .entry)) .targets)) (answers (queryOf (now (q .entry))) (allRows (tuplesAt (catalogueOf (now (catalogue .entry))) (now (values .entry))))) (now (answer .entry)) ⌝ }
+{
+    let mut t = [0u16; 512];
+    let mut xs = [0i32; 128];
+    let n = layout.ranges;
+    let c = layout.condition;
+    conjuncts::plan(q, z, n, c, level, catalogue, 200, memo, &mut t, &mut xs);
+    let state = odometer::run(
+        q,
+        q,
+        z,
+        &t,
+        &xs,
+        plan_of(layout, level),
+        catalogue,
+        values,
+        memo,
+        env,
+        answer,
+        no_rows(),
+    );
+    filled(state, layout.targets)
+}
+
+// The same where the query may have aggregates: each is evaluated once, into a memo with two cells for each variable.
+fn answer_filled(
+    q: &[u8],
+    z: &[u16],
+    layout: Layout,
+    level: usize,
+    catalogue: &[u8],
+    values: &[i32],
+    env: &mut [usize],
+    answer: &mut [i64],
+) -> Reply
+    requires { ⌜ Answerable layout level (now q) (now z) (now catalogue) × Unbound (now values) (now env) ⌝ }
+    ensures { λ r. ⌜ answerOf r (now (answer .exit)) ≡ give (length (queryOf (now (q .entry)) .targets)) (answers (queryOf (now (q .entry))) (allRows (tuplesAt (catalogueOf (now (catalogue .entry))) (now (values .entry))))) (now (answer .entry)) ⌝ }
+{
+    let mut memo = [0i64; 512];
+    remember(q, z, layout, level, catalogue, values, env, &mut memo);
+    answer_by(q, z, layout, level, catalogue, values, &memo, env, answer)
+}
+
+// Whether a record of the query is an aggregate. It promises nothing, since any memo that can be trusted will do: it only saves time.
+fn aggregated(q: &[u8]) -> bool {
+    let mut at = 0;
+    while at < q.len() {
+        if kinds::byte(q, at) == 34 {
+            return true;
+        }
+        at += scans::step(q, at);
+    }
+    false
+}
+
+// A query that passed its checks, over all rows. A memo that knows nothing can be trusted for any query: without aggregates no large one is cleared.
 fn answer_query(
     q: &[u8],
     z: &[u16],
@@ -92,40 +184,21 @@ fn answer_query(
     ensures { λ r. ⌜ answerOf r (now (answer .exit)) ≡ give (length (queryOf (now (q .entry)) .targets)) (answers (queryOf (now (q .entry))) (allRows (tuplesAt (catalogueOf (now (catalogue .entry))) (now (values .entry))))) (now (answer .entry)) ⌝ }
 {
     let mut env = [values.len(); 256];
-    let mut memo = [0i64; 512];
-    remember(q, z, layout, level, catalogue, values, &mut env, &mut memo);
-    let mut t = [0u16; 512];
-    let mut xs = [0i32; 128];
-    let n = layout.ranges;
-    let c = layout.condition;
-    conjuncts::plan(q, z, n, c, level, catalogue, 200, &memo, &mut t, &mut xs);
-    let columns = layout.targets;
-    let plan = Plan {
-        targets: layout.first,
-        columns,
-        level,
-        left: n,
-        depth: 0,
-    };
-    let start = Filled {
-        rows: 0,
-        full: false,
-    };
-    let state = odometer::run(
-        q,
+    if aggregated(q) {
+        return answer_filled(q, z, layout, level, catalogue, values, &mut env, answer);
+    }
+    let memo = [0i64; 2];
+    answer_by(
         q,
         z,
-        &t,
-        &xs,
-        plan,
+        layout,
+        level,
         catalogue,
         values,
         &memo,
         &mut env,
         answer,
-        start,
-    );
-    filled(state, columns)
+    )
 }
 
 // The checks by rising number, then the answer; the table of sizes is lent.

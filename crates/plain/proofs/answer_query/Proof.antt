@@ -1,97 +1,69 @@
-use native.Mathlib.Omega.{arith}
-use denote.Ref.{now}
-use Rattle.plain.proofs.Answers.{answered-by}
-use Rattle.aggregates.proofs.Taking.{getD-same}
 use borrow.Author.Needs.{needs}
 use Rattle.plain.proofs.answer_query.Statement.{statement}
 use Rattle.plain.proofs.answer_query.Tie as tie
 use Rattle.plain.proofs.answer_query.Reads as reads
 use Rattle.plain.proofs.answer_query.Lts as lts
-use Rattle.conjuncts.proofs.plan.Reads as plan-reads
-use Rattle.odometer.proofs.run.Reads as run-reads
-use Rattle.plain.proofs.filled.Reads as filled-reads
-use Rattle.plain.proofs.remember.Reads as remember-reads
+use Rattle.plain.proofs.aggregated.Reads as aggregated-reads
+use Rattle.plain.proofs.answer_by.Reads as answer-by-reads
+use Rattle.plain.proofs.answer_filled.Reads as answer-filled-reads
+use lib.IntN.{pos}
+use denote.Ref.{now}
+use Rattle.aggregates.proofs.Taking.{getD-same}
+use Rattle.plain.proofs.Memo.{blank-trusted, none-bound}
 
--- src/lib.rt:96:54
-slice-aggregate-remember : tie.Need-slice-aggregate-remember
-slice-aggregate-remember c = search needs
+-- src/lib.rt:164:8
+aggregated-requires : tie.Need-aggregated-requires
+aggregated-requires c κs = search needs
 
--- src/lib.rt:96:64
-slice-aggregate-remember-2 : tie.Need-slice-aggregate-remember-2
-slice-aggregate-remember-2 c = search needs
+-- src/lib.rt:165:70
+slice-aggregate-answer-filled : tie.Need-slice-aggregate-answer-filled
+slice-aggregate-answer-filled c = search needs
 
--- src/lib.rt:96:5
-remember-requires : tie.Need-remember-requires
-remember-requires c κs = search needs
+-- src/lib.rt:165:9
+answer-filled-requires : tie.Need-answer-filled-requires
+answer-filled-requires c κs = (c .before .before .before .before .before .before .before .pre, none-bound (now (c .before .before .before .before .before .before .before .args .values)))
 
--- src/lib.rt:101:56
-slice-aggregate-plan : tie.Need-slice-aggregate-plan
-slice-aggregate-plan c = search needs
-
--- src/lib.rt:101:63
-slice-aggregate-plan-2 : tie.Need-slice-aggregate-plan-2
-slice-aggregate-plan-2 c = search needs
-
--- src/lib.rt:101:71
-slice-aggregate-plan-3 : tie.Need-slice-aggregate-plan-3
-slice-aggregate-plan-3 c = search needs
-
--- src/lib.rt:101:5
-plan-requires : tie.Need-plan-requires
-plan-requires c κs =
-    let c₁₁ = c .before .before .before .before .before .before .before .before .before .before .before in let pre = c₁₁ .pre in
-    (omega arith, omega arith, omega (arith, pre .ranges), omega (arith, pre .place), omega (arith, pre .level), getD-same 512 0)
-
--- src/lib.rt:118:9
-slice-aggregate-run : tie.Need-slice-aggregate-run
-slice-aggregate-run c = search needs
-
--- src/lib.rt:119:9
-slice-aggregate-run-2 : tie.Need-slice-aggregate-run-2
-slice-aggregate-run-2 c = search needs
-
--- src/lib.rt:123:9
-slice-aggregate-run-3 : tie.Need-slice-aggregate-run-3
-slice-aggregate-run-3 c = search needs
-
--- src/lib.rt:124:9
-slice-aggregate-run-4 : tie.Need-slice-aggregate-run-4
-slice-aggregate-run-4 c = search needs
-
--- src/lib.rt:114:9
-run-requires : tie.Need-run-requires
-run-requires c κs = search needs
-
--- src/lib.rt:128:5
-filled-requires : tie.Need-filled-requires
-filled-requires c κs = search needs
-
--- src/lib.rt:82:1
+-- src/lib.rt:165:9
 same-length : tie.Need-same-length
 same-length c = search needs
 
--- src/lib.rt:82:1
+-- src/lib.rt:165:9
 returns : tie.Need-returns
-returns c =
-    let args = c .before .before .before .before .before .before .before .before .before .before .before .before .before .before .before .before .before .before .before .before .before .before .before .args in
-    answered-by (args .layout) (args .level) (now (args .q)) (now (args .z)) (now (args .catalogue)) (now (args .values)) (c .before .before .before .before .before .before .before .before .before .before .before .before .before .before .before .before .before .before .before .before .before .before .before .pre) _ _ _ _ (c .before .before .before .run .result) _ _ _ (c .before .before .before .before .before .before .before .before .before .before .before .before .before .before .before .before .before .remember .ensures .0) (c .before .before .before .before .before .before .before .before .before .before .before .before .before .before .before .before .before .remember .ensures .1) (c .before .before .before .before .before .before .before .before .before .before .before .plan .ensures (now (args .values))) (c .before .before .before .run .ensures .0) (c .filled .ensures)
+returns c = search needs
+
+-- src/lib.rt:168:55
+slice-aggregate-answer-by : tie.Need-slice-aggregate-answer-by
+slice-aggregate-answer-by c = search needs
+
+-- src/lib.rt:168:62
+slice-aggregate-answer-by-2 : tie.Need-slice-aggregate-answer-by-2
+slice-aggregate-answer-by-2 c = search needs
+
+-- src/lib.rt:168:5
+answer-by-requires : tie.Need-answer-by-requires
+answer-by-requires c κs =
+    let c₈ = c .before .before .before .before .before .before .before .before in let args = c₈ .args in let pre = c₈ .pre in
+    (pre, blank-trusted _ _ (getD-same 2 (pos 0)) _, none-bound (now (args .values)))
+
+-- src/lib.rt:151:1
+same-length-2 : tie.Need-same-length-2
+same-length-2 c = search needs
+
+-- src/lib.rt:151:1
+returns-2 : tie.Need-returns-2
+returns-2 c = search needs
 
 pub answer-query-spec : {M : Type 1} → statement M
 answer-query-spec =
     tie.close
     (tie.spec
-    slice-aggregate-remember
-    slice-aggregate-remember-2
-    remember-requires
-    slice-aggregate-plan
-    slice-aggregate-plan-2
-    slice-aggregate-plan-3
-    plan-requires
-    slice-aggregate-run
-    slice-aggregate-run-2
-    slice-aggregate-run-3
-    slice-aggregate-run-4
-    run-requires
-    filled-requires
+    aggregated-requires
+    slice-aggregate-answer-filled
+    answer-filled-requires
     same-length
-    returns)
+    returns
+    slice-aggregate-answer-by
+    slice-aggregate-answer-by-2
+    answer-by-requires
+    same-length-2
+    returns-2)

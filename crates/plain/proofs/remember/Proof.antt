@@ -1,6 +1,6 @@
 use mathlib.Core.Path.{_∙_}
 use denote.Ref.{now}
-use Rattle.plain.proofs.Answers.{remembered-is}
+use Rattle.plain.proofs.Memo.{remembered-is}
 use borrow.Author.Needs.{needs}
 use Rattle.plain.proofs.remember.Statement.{statement}
 use Rattle.plain.proofs.remember.Tie as tie
