@@ -1,7 +1,8 @@
 -- The parts of NOT, AND and OR: where they stand, and their branches put together.
-use Prim.Native.Nat.{ℕ, _+_, _-_, _≤_, _<_}
+use Prim.Native.Nat.{ℕ, suc, _+_, _-_, _≤_, _<_}
 use mathlib.Core.Bool.{Bool, true, false, not, cond, _&&_, _||_}
-use mathlib.Core.List.{List, []}
+use mathlib.Core.List.{List, [], _∷_}
+use mathlib.Core.Option.{some}
 use mathlib.Core.Path.{_≡_, refl, sym, ap, ap₂, _∙_, subst}
 use native.Mathlib.Omega.{arith}
 use lib.Dec.{eqb}
@@ -9,10 +10,12 @@ use lib.IntN.{ℤ}
 use lib.ListN.{getD, drop}
 use lib.Seq.{drop-drop, getD-drop}
 use borrow.Author.Tests.{ne-eqb}
+use Rattle.model.specs.Kinds.{Kind, kindOf, bodyLength}
 use Rattle.model.specs.Syntax.{Condition, NOT, AND, OR}
 use Rattle.model.specs.Meaning.{Assignment}
 use Rattle.kinds.specs.Tables.{recordLength}
-use Rattle.kinds.specs.Record.{recordAt}
+use Rattle.kinds.specs.Record.{filled, recordAt}
+use Rattle.kinds.proofs.Records.{whole-record}
 use Rattle.kinds.specs.declared.Record.the-variants as R
 use Rattle.sizes.specs.Decode.{first, second, conditionBy, decode, decodeT}
 use Rattle.evaluator.specs.Recalled.{holdsBy}
@@ -22,6 +25,11 @@ use Rattle.branches.specs.Compiled.{Compiled, node, joined, Parted}
 use Rattle.branches.specs.declared.Parts.{Parts}
 use Rattle.branches.proofs.Running.{runs-kept, kept-both}
 use Rattle.branches.proofs.Operands.{condition-is}
+
+-- where the byte of a kind stands that has no body, its record does
+pub bare : (q : List ℕ) (k : ℕ) (x : Kind) → getD q 0 0 ≡ suc k → kindOf (suc k) ≡ some x → bodyLength x ≡ 0 → recordAt q ≡ filled (getD q 1 0) (getD q 2 0) (getD q 3 0) (getD q 4 0) x
+bare [] k x h e l = absurd (omega (arith, h))
+bare (b ∷ r) k x h e l = whole-record b r x (ap kindOf h ∙ e) (omega (arith, l))
 
 -- where the parts stand
 pub no-parts : (x : Parts) (n l place : ℕ) (q z : List ℕ) → x ≡ record { kind = 0; first = 0; second = 0 } → (x .kind ≡ 0 → ⊥) → Parted x n l place q z

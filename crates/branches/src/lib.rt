@@ -363,13 +363,14 @@ fn parts_of(kind: usize, first: usize, second: usize) -> Parts
     }
 }
 
+// These three kinds have no body, so the byte of the kind is the whole record.
 fn kind_at(q: &[u8]) -> usize
     ensures { λ r. ⌜ ((r ≡ 0 → ⊥) → recordAt (now (q .entry)) ≡ C.node r) ⌝ }
 {
-    match kinds::read(q) {
-        Record::Not => 1,
-        Record::And => 2,
-        Record::Or => 3,
+    match kinds::byte(q, 0) {
+        18 => 1,
+        19 => 2,
+        20 => 3,
         _ => 0,
     }
 }
@@ -382,12 +383,15 @@ pub fn parts_at(q: &[u8], z: &[u16], place: usize, level: usize, room: usize) ->
         return parts_of(0, 0, 0);
     }
     let here = kinds::tail(q, place);
+    let kind = kind_at(here);
+    if kind == 0 {
+        return parts_of(0, 0, 0);
+    }
     let first = place + kinds::record_length(kinds::byte(here, 0));
     let second = first + kinds::size_at(z, first);
     if 65535 < second {
         return parts_of(0, 0, 0);
     }
-    let kind = kind_at(here);
     if kind < 2 {
         return parts_of(kind, first, second);
     }

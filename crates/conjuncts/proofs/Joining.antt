@@ -9,12 +9,11 @@ use lib.IntN.{ℤ}
 use lib.ListN.{length, getD, drop, set}
 use lib.Seq.{getD-set-same, getD-set-other}
 use borrow.Author.Tests.{eqb-true, eqb-false, ltb-false}
+use Rattle.model.specs.Kinds.{kindOf, find, k-true}
 use Rattle.model.specs.Lists.{any, contains}
 use Rattle.model.specs.Syntax.{Condition, TRUE, AND, Binding, variables}
 use Rattle.model.specs.Meaning.{Assignment}
 use Rattle.model.proofs.Tests.{and-true, or-no}
-use Rattle.kinds.specs.Record.{recordAt}
-use Rattle.kinds.specs.declared.Record.{Record}
 use Rattle.kinds.specs.declared.Record.the-variants as R
 use Rattle.sizes.specs.Decode.{decode}
 use Rattle.evaluator.specs.Recalled.{holdsBy}
@@ -22,6 +21,8 @@ use Rattle.evaluator.specs.Evaluation.{rowsIn}
 use Rattle.branches.specs.Branches.{field, branchHolds, next, leads, runs}
 use Rattle.branches.specs.Compiled.{Compiled, Parted}
 use Rattle.branches.specs.declared.Parts.{Parts}
+use Rattle.scans.proofs.Walk.{first-at}
+use Rattle.branches.proofs.Joining.{bare}
 use Rattle.branches.proofs.Operands.{condition-is}
 use Rattle.branches.proofs.Running.{runs-0, runs-1, runs-kept}
 use Rattle.conjuncts.specs.Stages.{stageHolds, stagesHold, Steady, Planned}
@@ -138,8 +139,9 @@ joined-true k t xs q z cb m c bs b h =
       steady = λ vs s. s;
     }
 
-pub true-there : (q : List ℕ) (place l : ℕ) (u : List ℕ) (r : Record) → (l ≡ 0 → ⊥) → u ≡ drop place q → r ≡ recordAt u → r ≡ R.True → (z : List ℕ) → decode l (drop place q) z ≡ TRUE
-true-there q place l u r nz eu er h z = sym (condition-is [] (drop place q) l R.True nz (sym h ∙ er ∙ ap recordAt eu) z)
+pub true-there : (q : List ℕ) (place l b : ℕ) → (l ≡ 0 → ⊥) → b ≡ getD q place 0 → b ≡ 16 → (z : List ℕ) → decode l (drop place q) z ≡ TRUE
+unfolding kindOf find
+true-there q place l b nz eb h z = sym (condition-is [] (drop place q) l R.True nz (sym (bare (drop place q) 15 k-true (first-at place q ∙ sym eb ∙ h) refl refl)) z)
 
 pub joined-both : (n r : ℕ) (t t₁ t₂ : List ℕ) (xs xs₁ xs₂ : List ℤ) (q z cb : List ℕ) (m : List ℤ) (c d : Condition) (bs : List Binding) → Joined n t t₁ xs xs₁ q z cb m d bs → Joined r t₁ t₂ xs₁ xs₂ q z cb m c bs → Joined r t t₂ xs xs₂ q z cb m (AND c d) bs
 unfolding holdsBy

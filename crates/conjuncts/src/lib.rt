@@ -1,6 +1,5 @@
 // The condition of a query, split at its ANDs into conjuncts. Each is compiled into branches before those of its stage, so that it is tried as
 // soon as the range variables it uses are bound (specs/Stages).
-use kinds::Record;
 ghost use mathlib.Core.Path.{_≡_};
 ghost use Prim.Native.Nat.{ℕ, _+_, _*_, _≤_, _<_};
 ghost use lib.IntN.{ℤ};
@@ -119,17 +118,14 @@ fn narrow(x: usize) -> u16
     x as u16
 }
 
-// Whether TRUE stands at a place: nothing to try.
+// Whether TRUE stands at a place: nothing to try. It has no body, so its byte is the whole record.
 fn always(q: &[u8], place: usize, level: usize) -> bool
     ensures { λ r. ⌜ (r ≡ true → (z : List ℕ) → decode level (drop place (now (q .entry))) z ≡ TRUE) ⌝ }
 {
     if level == 0 {
         return false;
     }
-    match kinds::read(kinds::tail(q, place)) {
-        Record::True => true,
-        _ => false,
-    }
+    kinds::byte(q, place) == 16
 }
 
 // The condition at a place before what stands at its stage, in branches from k on; the number of the next.

@@ -1,47 +1,28 @@
-use mathlib.Core.Path.{refl, sym, _∙_}
 use borrow.Author.Needs.{needs}
 use Rattle.branches.proofs.kind_at.Statement.{statement}
 use Rattle.branches.proofs.kind_at.Tie as tie
+use mathlib.Core.Path.{refl, sym, _∙_}
+use denote.Ref.{now}
+use Rattle.model.specs.Kinds.{kindOf, find, k-not, k-and, k-or}
+use Rattle.branches.proofs.Joining.{bare}
 
-read-requires : tie.Need-read-requires
-read-requires c κs = search needs
-
-enum-told : tie.Need-enum-told
-enum-told c = search needs
-
-enum-told-2 : tie.Need-enum-told-2
-enum-told-2 c = search needs
-
-enum-told-3 : tie.Need-enum-told-3
-enum-told-3 c = search needs
+byte-requires : tie.Need-byte-requires
+byte-requires c κs = search needs
 
 returns : tie.Need-returns
-returns c =
-    let read = c .before .before .read in
-    λ _. sym (read .ensures) ∙ c .enum-told .given .1
+unfolding kindOf find
+returns c = λ _. bare (now (c .before .before .before .args .q)) 17 k-not (sym (c .before .byte .ensures) ∙ c .match .keys1) refl refl
 
 returns-2 : tie.Need-returns-2
-returns-2 c =
-    let read = c .before .before .read in
-    λ _. sym (read .ensures) ∙ c .enum-told2 .given .1
+unfolding kindOf find
+returns-2 c = λ _. bare (now (c .before .before .before .args .q)) 18 k-and (sym (c .before .byte .ensures) ∙ c .match .keys2) refl refl
 
 returns-3 : tie.Need-returns-3
-returns-3 c =
-    let read = c .before .before .read in
-    λ _. sym (read .ensures) ∙ c .enum-told3 .given .1
+unfolding kindOf find
+returns-3 c = λ _. bare (now (c .before .before .before .args .q)) 19 k-or (sym (c .before .byte .ensures) ∙ c .match .keys3) refl refl
 
 returns-4 : tie.Need-returns-4
 returns-4 c = λ h. absurd (h refl)
 
 pub kind-at-spec : {M : Type 1} → statement M
-kind-at-spec =
-    tie.close
-    (tie.spec
-    read-requires
-    enum-told
-    enum-told-2
-    enum-told-3
-    returns
-    returns-2
-    returns-3
-    returns-4)
+kind-at-spec = tie.close (tie.spec byte-requires returns returns-2 returns-3 returns-4)
