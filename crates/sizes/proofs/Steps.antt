@@ -9,16 +9,16 @@ use native.Mathlib.Numerals.{sub-one}
 use borrow.Author.Tests.{leb-true, leb-false, not-true, not-false}
 use lib.Dec.{leb}
 use lib.ListN.{length, getD, drop, length-drop}
-use Rattle.model.specs.Kinds.{Kind, kindOf, bodyLength}
-use Rattle.kinds.specs.Tables.{recordLength, ofKind}
+use Rattle.model.specs.Kinds.{Kind, k-constant, k-attribute, kindOf, find, bodyLength}
+use Rattle.kinds.specs.Tables.{recordLength, ofKind, conditionsOf, termsOf}
 use Rattle.kinds.specs.Record.{recordAt, within, filled}
 use Rattle.kinds.specs.declared.Record.{Record}
 use Rattle.kinds.specs.declared.Record.the-variants as R
 use Rattle.kinds.proofs.Entries.{of-none, of-some}
-use Rattle.kinds.proofs.Records.{short-record}
+use Rattle.kinds.proofs.Records.{short-record, whole-is}
 use Rattle.sizes.specs.declared.Size.{Size}
 use Rattle.sizes.specs.declared.Size.the-variants.{Bytes, Refused}
-use Rattle.sizes.specs.Measured.{accepts, childrenOf, childTerm, Measured, leaves, onward, children, stored, store, measured, sizeOr0}
+use Rattle.sizes.specs.Measured.{accepts, Leaf, childrenOf, childTerm, Measured, leaves, onward, children, stored, store, measured, sizeOr0}
 
 -- a record that is accepted is whole
 module _ (t : Bool) (k : ℕ) (r : List ℕ) (h : accepts t (recordAt (k ∷ r)) ≡ true) where
@@ -75,6 +75,25 @@ module _ (l : ℕ) (t : Bool) (q : List ℕ) (p : ℕ) (z : List ℕ) (h : l ≡
   whole r b k n a s er eb e ek en es ea =
       let w : accepts t (recordAt q) ≡ true = ap (accepts t) (sym er) ∙ sym eb ∙ not-false b e in
       rw (en, es, ea, ek) (sym (rw w) ∙ level l h)
+
+-- a record without children
+module _ (t : Bool) (q : List ℕ) (n : ℕ) (h : Leaf t q n) where
+  pub leaf-fits : n ≤ length q
+  leaf-fits = omega (arith, h .bytes, accepted-whole t q (h .accepted))
+
+  pub leaf-is : (l p : ℕ) (z y : List ℕ) → (l ≡ 0 → ⊥) → y ≡ store z p n → leaves (Bytes n) y ≡ measured l t q p z
+  unfolding children
+  leaf-is l p z y nz e = ap (leaves (Bytes n)) e ∙ whole l t q p z nz (recordAt q) true (getD q 0 0) 0 n (childTerm (getD q 0 0)) refl (sym (h .accepted)) refl refl (sym (h .childless)) refl (sym (h .bytes))
+
+-- a whole constant, and a whole attribute
+module _ (t : Bool) (q : List ℕ) (h : not t ≡ false) where
+  pub constant-leaf : getD q 0 0 ≡ 32 → 5 ≤ length q → Leaf t q 5
+  unfolding kindOf find recordLength ofKind childrenOf conditionsOf termsOf
+  constant-leaf e l = record { accepted = ap (accepts t) (whole-is q (λ z. omega arith) k-constant (ap kindOf e) (rw e (omega arith))) ∙ not-false t h; bytes = ap recordLength e; childless = ap childrenOf e }
+
+  pub attribute-leaf : getD q 0 0 ≡ 33 → 3 ≤ length q → Leaf t q 3
+  unfolding kindOf find recordLength ofKind childrenOf conditionsOf termsOf
+  attribute-leaf e l = record { accepted = ap (accepts t) (whole-is q (λ z. omega arith) k-attribute (ap kindOf e) (rw e (omega arith))) ∙ not-false t h; bytes = ap recordLength e; childless = ap childrenOf e }
 
 module _ (c i a : ℕ) (f : List ℕ → ℕ → List ℕ → Measured) (q : List ℕ) (p : ℕ) (z : List ℕ) where
   one-more : i < c → children (c - i) a f q p z ≡ onward (f (drop a q) (p + a) z .size) (f (drop a q) (p + a) z .table) (λ n y. children (c - (i + 1)) (a + n) f q p y)

@@ -2,6 +2,7 @@
 use Prim.Native.Nat.{ℕ, zero, suc, _+_, _-_}
 use mathlib.Core.Bool.{Bool, true, false, not, cond}
 use mathlib.Core.List.{List}
+use mathlib.Core.Path.{_≡_}
 use lib.Dec.{ltb, eqb}
 use lib.ListN.{length, getD, drop, set}
 use Rattle.model.specs.Syntax.{isOperator, isFunction}
@@ -54,6 +55,12 @@ childrenOf k = conditionsOf k + termsOf k
 
 unfoldable pub childTerm : ℕ → Bool
 childTerm k = not (eqb (termsOf k) 0)
+
+-- q starts with a whole record of n bytes that has no children
+pub record Leaf (t : Bool) (q : List ℕ) (n : ℕ) : Type 0 where
+  pub accepted : accepts t (recordAt q) ≡ true
+  pub bytes : recordLength (getD q 0 0) ≡ n
+  pub childless : childrenOf (getD q 0 0) ≡ 0
 
 -- the table with n at p, where n fits it
 unfoldable pub store : List ℕ → ℕ → ℕ → List ℕ

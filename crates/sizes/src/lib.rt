@@ -3,7 +3,7 @@ use kinds::Record;
 ghost use mathlib.Core.Path.{_≡_};
 ghost use Prim.Native.Nat.{_+_, _≤_, _<_};
 ghost use lib.ListN.{length, drop};
-ghost use Rattle.sizes.specs.Measured.{accepts, childrenOf, childTerm, store, measured, leaves, sizeOr0, conditionSize, termSize, conditionTable, termTable};
+ghost use Rattle.sizes.specs.Measured.{accepts, Leaf, childrenOf, childTerm, store, measured, leaves, sizeOr0, conditionSize, termSize, conditionTable, termTable};
 
 pub enum Size {
     Bytes(usize),
@@ -54,6 +54,20 @@ pub fn put(z: &mut [u16], at: usize, n: usize)
     z[at] = n as u16;
 }
 
+// The length of the constant or the attribute that q starts with; 0 where it starts with neither, or it is cut short, or no term is asked for.
+fn leaf(q: &[u8], term: bool) -> usize
+    ensures { λ r. ⌜ ((r ≡ 0 → ⊥) → Leaf term (now (q .entry)) r) ⌝ }
+{
+    if !term {
+        return 0;
+    }
+    match kinds::byte(q, 0) {
+        32 => if 5 <= q.len() { 5 } else { 0 },
+        33 => if 3 <= q.len() { 3 } else { 0 },
+        _ => 0,
+    }
+}
+
 // The condition or term that q starts with; its sizes go into the table from `at` on.
 fn measure(q: &[u8], z: &mut [u16], at: usize, level: usize, term: bool) -> Size
     requires { ⌜ at + length (now q) < 9223372036854775808 ⌝ }
@@ -72,7 +86,7 @@ fn measure(q: &[u8], z: &mut [u16], at: usize, level: usize, term: bool) -> Size
     let mut a = kinds::record_length(k);
     let mut i: u8 = 0;
     while i < n {
-        let Size::Bytes(m) = measure(kinds::tail(q, a), z, at + a, level - 1, terms) else {
+        let Size::Bytes(m) = part(kinds::tail(q, a), z, at + a, level - 1, terms) else {
             return Size::Refused;
         };
         a += m;
@@ -80,6 +94,23 @@ fn measure(q: &[u8], z: &mut [u16], at: usize, level: usize, term: bool) -> Size
     }
     put(z, at, a);
     Size::Bytes(a)
+}
+
+// The same. A constant or an attribute, as most terms are, is measured with no look at the tables by kind.
+fn part(q: &[u8], z: &mut [u16], at: usize, level: usize, term: bool) -> Size
+    requires { ⌜ at + length (now q) < 9223372036854775808 ⌝ }
+    ensures { λ r. ⌜ leaves r (now (z .exit)) ≡ measured level term (now (q .entry)) at (now (z .entry)) ⌝ }
+    ensures { λ r. ⌜ sizeOr0 r ≤ length (now (q .entry)) ⌝ }
+{
+    if level == 0 {
+        return Size::Refused;
+    }
+    let n = leaf(q, term);
+    if n == 0 {
+        return measure(q, z, at, level, term);
+    }
+    put(z, at, n);
+    Size::Bytes(n)
 }
 
 // The condition that starts at a place of q, of at most so many levels.
@@ -101,5 +132,5 @@ pub fn term(q: &[u8], z: &mut [u16], at: usize, level: usize) -> Size
     if q.len() < at {
         return Size::Refused;
     }
-    measure(kinds::tail(q, at), z, at, level, true)
+    part(kinds::tail(q, at), z, at, level, true)
 }

@@ -4,7 +4,7 @@ use Rattle.sizes.proofs.term.Tie as tie
 use Rattle.sizes.proofs.term.Reads as reads
 use Rattle.sizes.proofs.term.Lts as lts
 use Rattle.kinds.proofs.tail.Reads as tail-reads
-use Rattle.sizes.proofs.measure.Reads as measure-reads
+use Rattle.sizes.proofs.part.Reads as part-reads
 use native.Mathlib.Omega.{arith}
 use denote.Ref.{now}
 use Rattle.sizes.proofs.Reader.{is-term, past-term, part-room}
@@ -18,8 +18,8 @@ tail-requires : tie.Need-tail-requires
 tail-requires c κs = search needs
 
 -- src/lib.rt:99:5
-measure-requires : tie.Need-measure-requires
-measure-requires c κs =
+part-requires : tie.Need-part-requires
+part-requires c κs =
     let c₁ = c .before in let tail = c₁ .tail in
     let c₅ = c₁ .before .before .before .before in let args = c₅ .args in let good = c₅ .good in
     part-room (now (args .q)) (now (tail .result)) (args .at) (tail .ensures) (c .before .before .if1 .left) (omega (arith, good))
@@ -31,10 +31,10 @@ same-length c = search needs
 -- src/lib.rt:92:1
 returns-2 : tie.Need-returns-2
 returns-2 c =
-    let c₂ = c .before .before in let measure = c₂ .measure in
+    let c₂ = c .before .before in let part = c₂ .part in
     let c₄ = c₂ .before .before in let tail = c₄ .tail in
     let c₈ = c₄ .before .before .before .before in let args = c₈ .args in
-    is-term (args .level) (now (args .q)) (now (tail .result)) (args .at) (now (args .z)) (measure .last .1 .0) (measure .result) (tail .ensures) (measure .ensures .0)
+    is-term (args .level) (now (args .q)) (now (tail .result)) (args .at) (now (args .z)) (part .last .1 .0) (part .result) (tail .ensures) (part .ensures .0)
 
 pub term-spec : {M : Type 1} → statement M
-term-spec = tie.close (tie.spec returns tail-requires measure-requires same-length returns-2)
+term-spec = tie.close (tie.spec returns tail-requires part-requires same-length returns-2)
