@@ -105,12 +105,13 @@ fn rest(list: &[u8], at: usize, left: usize, catalogue: &[u8], z: &mut [u16]) ->
 }
 
 // Whether a list passes 20 to 23. Where this says no, they decide.
-pub fn admitted(list: &[u8], catalogue: &[u8], z: &mut [u16]) -> bool
+pub fn admitted(list: &[u8], catalogue: &[u8]) -> bool
     requires { ⌜ fails10 (now catalogue) ≡ false ⌝ }
     ensures { λ r. ⌜ (r ≡ true → refusal (permitChecks (shapeOf (catalogueOf (now (catalogue .entry)))) (now (list .entry))) ≡ 0) ⌝ }
 {
     if 2048 < list.len() {
         return false;
     }
-    rest(list, 0, 8, catalogue, z)
+    let mut z = [0u16; 256];
+    rest(list, 0, 8, catalogue, &mut z)
 }

@@ -6,23 +6,18 @@ use Rattle.admission.proofs.parent.Reads as reads
 use Rattle.admission.proofs.parent.Lts as lts
 use Rattle.admission.proofs.leaf.Reads as leaf-reads
 
--- src/lib.rt:26:9
 returns : tie.Need-returns
 returns c = λ h. absurd (h refl)
 
--- src/lib.rt:28:17
 add-leaf : tie.Need-add-leaf
 add-leaf c = search needs
 
--- src/lib.rt:28:5
 leaf-requires : tie.Need-leaf-requires
 leaf-requires c κs = search needs
 
--- src/lib.rt:21:1
 same-length : tie.Need-same-length
 same-length c = search needs
 
--- src/lib.rt:21:1
 returns-2 : tie.Need-returns-2
 returns-2 c = search needs
 

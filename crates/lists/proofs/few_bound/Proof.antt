@@ -10,31 +10,24 @@ use Rattle.scans.proofs.all_stored.Reads as all-stored-reads
 use Rattle.scans.proofs.bound_once.Reads as bound-once-reads
 use Rattle.scans.proofs.count_bindings.Reads as count-bindings-reads
 
--- src/lib.rt:40:9
 count-bindings-requires : tie.Need-count-bindings-requires
 count-bindings-requires c κs = search needs
 
--- src/lib.rt:42:9
 returns : tie.Need-returns
 returns c = λ h. none-bound (now (c .before .before .before .before .args .catalogue)) (now (c .before .before .before .before .args .condition)) _ (c .before .count-bindings .ensures) (c .if1 .taken)
 
--- src/lib.rt:45:9
 returns-2 : tie.Need-returns-2
 returns-2 c = λ h. clash h
 
--- src/lib.rt:47:9
 bound-once-requires : tie.Need-bound-once-requires
 bound-once-requires c κs = search needs
 
--- src/lib.rt:48:9
 returns-3 : tie.Need-returns-3
 returns-3 c = λ h. clash h
 
--- src/lib.rt:50:5
 all-stored-requires : tie.Need-all-stored-requires
 all-stored-requires c κs = search needs
 
--- src/lib.rt:37:1
 returns-4 : tie.Need-returns-4
 returns-4 c = λ h. few-bound (now (c .before .before .before .before .before .before .before .before .args .catalogue)) (now (c .before .before .before .before .before .before .before .before .args .condition)) _ _ _ (c .before .before .before .before .before .count-bindings .ensures) (c .before .before .before .if2 .left) (c .before .before .bound-once .ensures) (c .before .if3 .left) (c .all-stored .ensures) h
 

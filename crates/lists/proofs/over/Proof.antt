@@ -15,35 +15,27 @@ use Rattle.catalogue.proofs.stored.Reads as stored-reads
 use Rattle.lists.proofs.wide.Reads as wide-reads
 use Rattle.permits.proofs.mask_in.Reads as mask-in-reads
 
--- src/lib.rt:27:8
 count-requires : tie.Need-count-requires
 count-requires c κs = search needs
 
--- src/lib.rt:27:39
 wide-requires : tie.Need-wide-requires
 wide-requires c κs = search needs
 
--- src/lib.rt:28:9
 returns : tie.Need-returns
 returns c = over-past (now (c .before .before .before .before .args .catalogue)) (c .before .before .before .before .args .relation) (c .before .before .before .before .args .mask) (attributesOf (now (c .before .before .before .before .args .catalogue)) (c .before .before .before .before .args .relation)) _ _ (c .before .before .count .ensures) (c .before .wide .ensures) (c .if1 .taken)
 
--- src/lib.rt:30:9
 stored-requires : tie.Need-stored-requires
 stored-requires c κs = search needs
 
--- src/lib.rt:31:9
 returns-2 : tie.Need-returns-2
 returns-2 c = over-workspace (now (c .before .before .before .before .before .before .args .catalogue)) (c .before .before .before .before .before .before .args .relation) (c .before .before .before .before .before .before .args .mask) (attributesOf (now (c .before .before .before .before .before .before .args .catalogue)) (c .before .before .before .before .before .before .args .relation)) _ _ (c .before .before .before .before .count .ensures) (c .before .before .before .wide .ensures) (c .before .before .if1 .left) _ (c .before .stored .ensures) (c .if2 .taken)
 
--- src/lib.rt:33:28
 attributes-requires : tie.Need-attributes-requires
 attributes-requires c κs = search needs
 
--- src/lib.rt:33:5
 mask-in-requires : tie.Need-mask-in-requires
 mask-in-requires c κs = search needs
 
--- src/lib.rt:24:1
 returns-3 : tie.Need-returns-3
 returns-3 c = over-masked (now (c .before .before .before .before .before .before .before .before .args .catalogue)) (c .before .before .before .before .before .before .before .before .args .relation) (c .before .before .before .before .before .before .before .before .args .mask) (attributesOf (now (c .before .before .before .before .before .before .before .before .args .catalogue)) (c .before .before .before .before .before .before .before .before .args .relation)) _ _ (c .before .before .before .before .before .before .count .ensures) (c .before .before .before .before .before .wide .ensures) (c .before .before .before .before .if1 .left) _ _ (c .before .before .before .stored .ensures) (c .before .before .if2 .left) (c .mask-in .ensures ∙ ap (λ (n : ℕ). maskIn n (c .before .before .before .before .before .before .before .before .args .mask)) (c .before .attributes .ensures .0))
 

@@ -18,87 +18,66 @@ use Rattle.lists.proofs.over.Reads as over-reads
 use Rattle.permits.proofs.mask.Reads as mask-reads
 use Rattle.permits.proofs.part.Reads as part-reads
 
--- src/lib.rt:67:9
 tail-requires : tie.Need-tail-requires
 tail-requires c κs = search needs
 
--- src/lib.rt:68:42
 read-requires : tie.Need-read-requires
 read-requires c κs = search needs
 
--- src/lib.rt:68:24
 enum-known-relation : tie.Need-enum-known-relation
 enum-known-relation c = search needs
 
--- src/lib.rt:69:9
 returns : tie.Need-returns
 returns c = λ h. absurd (h refl)
 
--- src/lib.rt:71:35
 mask-requires : tie.Need-mask-requires
 mask-requires c κs = search needs
 
--- src/lib.rt:71:9
 over-requires : tie.Need-over-requires
 over-requires c κs = search needs
 
--- src/lib.rt:72:9
 returns-2 : tie.Need-returns-2
 returns-2 c = λ h. absurd (h refl)
 
--- src/lib.rt:74:9
 record-length-requires : tie.Need-record-length-requires
 record-length-requires c κs = search needs
 
--- src/lib.rt:75:9
 tail-requires-2 : tie.Need-tail-requires-2
 tail-requires-2 c κs = search needs
 
--- src/lib.rt:76:9
 condition-requires : tie.Need-condition-requires
 condition-requires c κs = search needs
 
--- src/lib.rt:78:9
 same-length : tie.Need-same-length
 same-length c = search needs
 
--- src/lib.rt:78:9
 returns-3 : tie.Need-returns-3
 returns-3 c = λ h. absurd (h refl)
 
--- src/lib.rt:81:9
 same-length-2 : tie.Need-same-length-2
 same-length-2 c = search needs
 
--- src/lib.rt:81:9
 returns-4 : tie.Need-returns-4
 returns-4 c = λ h. absurd (h refl)
 
--- src/lib.rt:83:19
 part-requires : tie.Need-part-requires
 part-requires c κs = search needs
 
--- src/lib.rt:83:9
 few-bound-requires : tie.Need-few-bound-requires
 few-bound-requires c κs = search needs
 
--- src/lib.rt:84:9
 same-length-3 : tie.Need-same-length-3
 same-length-3 c = search needs
 
--- src/lib.rt:84:9
 returns-5 : tie.Need-returns-5
 returns-5 c = λ h. absurd (h refl)
 
--- src/lib.rt:86:5
 add-result : tie.Need-add-result
 add-result c = search needs
 
--- src/lib.rt:63:1
 same-length-4 : tie.Need-same-length-4
 same-length-4 c = search needs
 
--- src/lib.rt:63:1
 returns-6 : tie.Need-returns-6
 returns-6 c = λ h. granted (now (c .before .before .before .before .before .before .before .before .before .before .before .before .before .before .before .before .before .before .before .before .before .before .args .catalogue)) (now (c .before .before .before .before .before .before .before .before .before .before .before .before .before .before .before .before .before .before .before .before .before .before .args .list)) (c .before .before .before .before .before .before .before .before .before .before .before .before .before .before .before .before .before .before .before .before .before .before .pre .0) (c .before .before .before .before .before .before .before .before .before .before .before .before .before .before .before .before .before .before .before .before .before .before .args .at) (c .before .before .before .before .before .before .before .before .before .before .before .before .before .before .before .before .before .before .before .before .before .before .pre .1) _ _ _ (begins (now (c .before .before .before .before .before .before .before .before .before .before .before .before .before .before .before .before .before .before .before .before .before .before .args .list)) (now (c .before .before .before .before .before .before .before .before .before .before .before .before .before .before .before .before .before .before .tail .result)) (c .before .before .before .before .before .before .before .before .before .before .before .before .before .before .before .before .before .before .before .before .before .before .args .at) (c .before .before .before .before .before .before .before .before .before .before .before .before .before .before .before .before .before .read .result) (R.Permit _ _ _) (c .before .before .before .before .before .before .before .before .before .before .before .before .before .before .before .before .before .before .tail .ensures) (c .before .before .before .before .before .before .before .before .before .before .before .before .before .before .before .before .before .read .ensures) (c .before .before .before .before .before .before .before .before .before .before .before .before .before .before .before .relation .given .1)) (c .before .before .before .before .before .before .before .before .before .before .record-length .result) (c .before .before .before .before .before .before .before .before .before .before .record-length .ensures .0) (now (c .before .before .before .before .before .before .before .before .before .before .before .before .before .before .before .before .before .before .tail .result)) (now (c .before .before .before .before .before .before .before .before .before .tail2 .result)) (c .before .before .before .before .before .before .before .before .before .before .before .before .before .before .before .before .before .before .tail .ensures) (c .before .before .before .before .before .before .before .before .before .tail2 .ensures) (c .before .before .before .before .before .before .before .condition .result) (now (c .before .before .before .before .before .before .before .before .before .before .before .before .before .before .before .before .before .before .before .before .before .before .args .z)) _ (c .before .before .before .before .before .before .before .condition .ensures (c .before .before .before .before .if2 .left)) _ (c .before .before .before .before .before .before .before .before .before .before .before .before .before .mask .ensures) _ (c .before .before .before .before .before .before .before .before .before .before .before .before .over .ensures) (c .before .before .before .before .before .before .before .before .before .before .before .if1 .left) (c .before .before .before .if3 .left) (now (c .before .before .part .result)) (c .before .before .part .ensures) (c .before .few-bound .ensures (not-false _ (c .if4 .left)))
 

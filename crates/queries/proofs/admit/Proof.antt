@@ -14,63 +14,48 @@ use Rattle.queries.proofs.wide.Reads as wide-reads
 use Rattle.scans.proofs.bound_once.Reads as bound-once-reads
 use Rattle.scans.proofs.count_bindings.Reads as count-bindings-reads
 
--- src/lib.rt:239:9
 returns : tie.Need-returns
 returns c = search needs
 
--- src/lib.rt:241:9
 count-ranges-requires : tie.Need-count-ranges-requires
 count-ranges-requires c κs = search needs
 
--- src/lib.rt:242:9
 ranges-known-requires : tie.Need-ranges-known-requires
 ranges-known-requires c κs = search needs
 
--- src/lib.rt:243:9
 returns-2 : tie.Need-returns-2
 returns-2 c = search needs
 
--- src/lib.rt:245:8
 wide-requires : tie.Need-wide-requires
 wide-requires c κs = search needs
 
--- src/lib.rt:245:26
 count-bindings-requires : tie.Need-count-bindings-requires
 count-bindings-requires c κs = search needs
 
--- src/lib.rt:246:9
 returns-3 : tie.Need-returns-3
 returns-3 c = search needs
 
--- src/lib.rt:248:9
 bound-once-requires : tie.Need-bound-once-requires
 bound-once-requires c κs = search needs
 
--- src/lib.rt:249:9
 returns-4 : tie.Need-returns-4
 returns-4 c = search needs
 
--- src/lib.rt:252:23
 slice-aggregate-bind-ranges : tie.Need-slice-aggregate-bind-ranges
 slice-aggregate-bind-ranges c = search needs
 
--- src/lib.rt:252:5
 bind-ranges-requires : tie.Need-bind-ranges-requires
 bind-ranges-requires c κs = search needs
 
--- src/lib.rt:253:54
 slice-aggregate-admit-rest : tie.Need-slice-aggregate-admit-rest
 slice-aggregate-admit-rest c = search needs
 
--- src/lib.rt:253:5
 admit-rest-requires : tie.Need-admit-rest-requires
 admit-rest-requires c κs = search needs
 
--- src/lib.rt:231:1
 same-length : tie.Need-same-length
 same-length c = search needs
 
--- src/lib.rt:231:1
 returns-5 : tie.Need-returns-5
 returns-5 c = passes (c .before .before .before .before .before .before .before .before .before .before .before .before .before .before .before .before .before .before .before .before .before .args .limits) (now (c .before .before .before .before .before .before .before .before .before .before .before .before .before .before .before .before .before .before .before .before .before .args .catalogue)) (now (c .before .before .before .before .before .before .before .before .before .before .before .before .before .before .before .before .before .before .before .before .before .args .q)) (c .before .before .before .before .before .before .before .before .before .before .before .before .before .before .before .before .before .before .before .before .before .pre .0) (c .before .before .before .before .before .before .before .before .before .before .before .before .before .before .before .before .before .if1 .left) (c .before .before .before .before .before .before .before .before .before .before .before .before .before .before .before .before .count-ranges .result) (c .before .before .before .before .before .before .before .before .before .before .before .before .before .before .before .before .count-ranges .ensures .0) (c .before .before .before .before .before .before .before .before .before .before .before .before .before .before .before .before .count-ranges .ensures .1) (c .before .before .before .before .before .before .before .before .before .before .before .before .before .before .before .ranges-known .result) (c .before .before .before .before .before .before .before .before .before .before .before .before .before .before .before .ranges-known .ensures) (c .before .before .before .before .before .before .before .before .before .before .before .before .before .before .if2 .left) (c .before .before .before .before .before .before .before .before .before .before .before .before .count-bindings .result) (c .before .before .before .before .before .before .before .before .before .before .before .before .count-bindings .ensures) (omega (arith, c .before .before .before .before .before .before .before .before .before .before .before .before .before .wide .ensures, c .before .before .before .before .before .before .before .before .before .before .before .if3 .left)) (c .before .before .before .before .before .before .before .before .before .before .bound-once .result) (c .before .before .before .before .before .before .before .before .before .before .bound-once .ensures) (c .before .before .before .before .before .before .before .before .before .if4 .left) (c .before .before .before .before .before .before .before .bind-ranges .last .1 .1 .0) (c .before .before .before .before .before .before .before .bind-ranges .ensures) (now (c .before .before .before .before .before .before .before .before .before .before .before .before .before .before .before .before .before .before .before .before .before .args .z)) (record { room = c .before .before .before .before .before .before .before .before .before .before .before .before .before .before .before .before .before .before .before .before .before .pre .1 (c .before .before .before .before .before .before .before .before .before .before .before .before .before .before .before .before .before .if1 .left); short = omega (arith, c .before .before .before .before .before .before .before .before .before .before .before .before .before .before .before .before .before .before .before .before .before .pre .2, c .before .before .before .before .before .before .before .before .before .before .before .before .before .before .before .before .before .if1 .left) }) (c .before .before .before .admit-rest .result) _ (c .before .before .before .admit-rest .ensures)
 

@@ -9,35 +9,27 @@ use Rattle.queries.proofs.check.Lts as lts
 use Rattle.queries.proofs.admit.Reads as admit-reads
 use Rattle.queries.proofs.check_each.Reads as check-each-reads
 
--- src/lib.rt:309:37
 admit-requires : tie.Need-admit-requires
 admit-requires c κs = search needs
 
--- src/lib.rt:309:27
 enum-known-layout : tie.Need-enum-known-layout
 enum-known-layout c = search needs
 
--- src/lib.rt:310:49
 enum-told : tie.Need-enum-told
 enum-told c = search needs
 
--- src/lib.rt:310:9
 check-each-requires : tie.Need-check-each-requires
 check-each-requires c κs = (c .before .before .before .before .before .before .before .before .before .before .pre .0, (λ h. omega (arith, c .before .before .before .before .before .before .before .before .before .before .pre .1 h, c .before .before .before .before .before .admit .kept .1 .1 .1 .0)), c .before .before .before .before .before .before .before .before .before .before .pre .2)
 
--- src/lib.rt:310:9
 same-length : tie.Need-same-length
 same-length c = search needs
 
--- src/lib.rt:310:9
 returns : tie.Need-returns
 returns c = search needs
 
--- src/lib.rt:304:1
 same-length-2 : tie.Need-same-length-2
 same-length-2 c = search needs
 
--- src/lib.rt:304:1
 returns-2 : tie.Need-returns-2
 returns-2 c = passed (c .before .before .before .before .before .admit .result) _ (c .before .before .before .before .before .before .before .before .before .before .args .limits) _ (now (c .before .before .before .before .before .before .before .before .before .before .args .q)) _ (c .before .layout .given .1) (c .before .before .before .before .before .admit .ensures)
 

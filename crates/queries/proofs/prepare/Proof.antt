@@ -7,15 +7,12 @@ use Rattle.tables.proofs.fill.Reads as fill-reads
 use denote.Ref.{now}
 use Rattle.queries.proofs.Numbers.{alike-room, alike-laid, ready-is}
 
--- src/lib.rt:186:9
 fill-requires : tie.Need-fill-requires
 fill-requires c κs = alike-room (c .before .before .before .args .like) (c .before .before .before .args .level) (now (c .before .before .before .args .q)) (c .before .before .before .pre .0)
 
--- src/lib.rt:180:1
 same-length : tie.Need-same-length
 same-length c = search needs
 
--- src/lib.rt:180:1
 returns : tie.Need-returns
 returns c =
     let c₂ = c .before .before in let fill = c₂ .fill in
