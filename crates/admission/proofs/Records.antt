@@ -87,14 +87,6 @@ starts (k ∷ r) y e = subst (λ v. Starts v (k ∷ r)) (sym e) (go (kindOf k) r
     go none f = subst (λ v. Starts v (k ∷ r)) (sym (of-none R.Unknown (λ x. within x r) k f)) tt
     go (some x) f = whole x f (leb (bodyLength x) (length r)) refl
 
--- the record at a place, as the code reads it
-pub begins : (q x : List ℕ) (p : ℕ) (r y : Record) → x ≡ drop p q → r ≡ recordAt x → r ≡ y → Starts y (drop p q)
-begins q x p r y ex er ey = starts (drop p q) y (sym ey ∙ er ∙ ap recordAt ex)
-
--- a record of so many bytes ends within them
-pub room : (q : List ℕ) (p a m : ℕ) → 1 ≤ a → length (drop p q) ≡ a + m → p + a ≤ length q
-room q p a m h e = omega (arith, length-drop p q)
-
 -- the lengths of records, as the table gives them
 pub lengths : (recordLength 16 ≡ 1) × (recordLength 18 ≡ 1) × (recordLength 19 ≡ 1) × (recordLength 21 ≡ 2) × (recordLength 22 ≡ 3) × (recordLength 32 ≡ 5) × (recordLength 33 ≡ 3) × (recordLength 34 ≡ 5)
 unfolding recordLength ofKind kindOf find
@@ -109,7 +101,7 @@ abbrev pub joining : Bool → ℕ
 joining true = 19
 joining false = 20
 
-pub truths : (x : List ℕ) (y : Record) → OneOf (1 ∷ 2 ∷ []) (tagOf (declared enum) y) → Starts y x → (b : Bool) × (x ≡ truth b ∷ drop 1 x)
+truths : (x : List ℕ) (y : Record) → OneOf (1 ∷ 2 ∷ []) (tagOf (declared enum) y) → Starts y x → (b : Bool) × (x ≡ truth b ∷ drop 1 x)
 truths x (R.Range v w) k s = absurd (miss (1 ∷ 2 ∷ []) 0 tt k)
 truths x R.True k s = (true, s)
 truths x R.False k s = (false, s)
@@ -127,7 +119,7 @@ truths x (R.Permit a b c) k s = absurd (miss (1 ∷ 2 ∷ []) 13 tt k)
 truths x R.Unknown k s = absurd (miss (1 ∷ 2 ∷ []) 14 tt k)
 truths x R.Short k s = absurd (miss (1 ∷ 2 ∷ []) 15 tt k)
 
-pub joins : (x : List ℕ) (y : Record) → OneOf (4 ∷ 5 ∷ []) (tagOf (declared enum) y) → Starts y x → (b : Bool) × (x ≡ joining b ∷ drop 1 x)
+joins : (x : List ℕ) (y : Record) → OneOf (4 ∷ 5 ∷ []) (tagOf (declared enum) y) → Starts y x → (b : Bool) × (x ≡ joining b ∷ drop 1 x)
 joins x (R.Range v w) k s = absurd (miss (4 ∷ 5 ∷ []) 0 tt k)
 joins x R.True k s = absurd (miss (4 ∷ 5 ∷ []) 1 tt k)
 joins x R.False k s = absurd (miss (4 ∷ 5 ∷ []) 2 tt k)
@@ -144,3 +136,34 @@ joins x (R.Workspace a b c) k s = absurd (miss (4 ∷ 5 ∷ []) 12 tt k)
 joins x (R.Permit a b c) k s = absurd (miss (4 ∷ 5 ∷ []) 13 tt k)
 joins x R.Unknown k s = absurd (miss (4 ∷ 5 ∷ []) 14 tt k)
 joins x R.Short k s = absurd (miss (4 ∷ 5 ∷ []) 15 tt k)
+
+-- the record y at place p, as the code reads it, and its length a by the table
+module _ (q x : List ℕ) (p : ℕ) (ex : x ≡ drop p q) (y : Record) (er : y ≡ recordAt x) where
+  pub begins : (k : Record) → y ≡ k → Starts k (drop p q)
+  begins k e = starts (drop p q) k (sym e ∙ er ∙ ap recordAt ex)
+
+  pub truth-at : OneOf (1 ∷ 2 ∷ []) (tagOf (declared enum) y) → (b : Bool) × (drop p q ≡ truth b ∷ drop 1 (drop p q))
+  truth-at o = truths (drop p q) y o (begins y refl)
+
+  pub join-at : OneOf (4 ∷ 5 ∷ []) (tagOf (declared enum) y) → (b : Bool) × (drop p q ≡ joining b ∷ drop 1 (drop p q))
+  join-at o = joins (drop p q) y o (begins y refl)
+
+  module _ (a : ℕ) where
+    -- it ends within the bytes
+    ends-at : (m : ℕ) → 1 ≤ a → length (drop p q) ≡ a + m → p + a ≤ length q
+    ends-at m h e = omega (arith, length-drop p q)
+
+    pub not-room : a ≡ recordLength 18 → y ≡ R.Not → p + a ≤ length q
+    not-room e f = let n = e ∙ lengths .1 in ends-at (length (drop 1 (drop p q))) (omega (arith, n)) (omega (arith, n, ap length (begins R.Not f)))
+
+    pub both-room : a ≡ recordLength 19 → OneOf (4 ∷ 5 ∷ []) (tagOf (declared enum) y) → p + a ≤ length q
+    both-room e o = let n = e ∙ lengths .2 in ends-at (length (drop 1 (drop p q))) (omega (arith, n)) (omega (arith, n, ap length (join-at o .1)))
+
+    pub compare-room : (o : ℕ) → a ≡ recordLength 21 → y ≡ R.Compare o → p + a ≤ length q
+    compare-room o e f = let n = e ∙ lengths .3 in ends-at (length (drop 2 (drop p q))) (omega (arith, n)) (omega (arith, n, ap length (begins (R.Compare o) f)))
+
+    pub some-room : (v r : ℕ) → a ≡ recordLength 22 → y ≡ R.Some v r → p + a ≤ length q
+    some-room v r e f = let n = e ∙ lengths .4 in ends-at (length (drop 3 (drop p q))) (omega (arith, n)) (omega (arith, n, ap length (begins (R.Some v r) f)))
+
+    pub aggregate-room : (h v r b : ℕ) → a ≡ recordLength 34 → y ≡ R.Aggregate h v r b → p + a ≤ length q
+    aggregate-room h v r b e f = let n = e ∙ lengths .7 in ends-at (length (drop 5 (drop p q))) (omega (arith, n)) (omega (arith, n, ap length (begins (R.Aggregate h v r b) f)))

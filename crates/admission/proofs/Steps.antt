@@ -8,6 +8,8 @@ use native.Mathlib.Omega.{arith}
 use lib.Dec.{ltb}
 use lib.ListN.{length, getD, drop, set, replicate, length-drop}
 use lib.Seq.{drop-drop}
+use denote.Enum.Declared.{tagOf, declared}
+use types.Run.{OneOf}
 use borrow.Author.Tests.{not-false}
 use Rattle.model.specs.Lists.{update}
 use Rattle.model.specs.Syntax.{Condition, Term, TRUE, FALSE, NOT, AND, OR, COMPARE, SOME, CONSTANT, ATTRIBUTE, AGGREGATE, Binding, WellFormed, WellFormedT, levels, levelsT, isOperator, isFunction}
@@ -20,6 +22,7 @@ use Rattle.kinds.specs.Tables.{recordLength}
 use Rattle.kinds.specs.Record.{recordAt}
 use Rattle.kinds.specs.declared.Record.{Record}
 use Rattle.kinds.specs.declared.Record.the-variants as R
+use Rattle.kinds.proofs.Record.{enum}
 use Rattle.sizes.specs.Measured.{store, conditionTable, termTable}
 use Rattle.sizes.proofs.Marks.{marks, marksT}
 use Rattle.sizes.proofs.Decoding.{condition-table, condition-rest, term-table, term-rest}
@@ -27,7 +30,7 @@ use Rattle.scope.specs.Reach.{scopeOf}
 use Rattle.scope.proofs.Steps.{known-below}
 use Rattle.scope.proofs.Tables.{scope-set, scope-one}
 use Rattle.admission.specs.Admitted.{Admitted, AdmittedT, Two, TwoT, Under, Aggregated}
-use Rattle.admission.proofs.Records.{Starts, truth, joining}
+use Rattle.admission.proofs.Records.{begins, truth, joining, truth-at, join-at, lengths}
 
 -- the same with the tree given, its size, and the table as the tree marks it
 record Held (sh : Shape) (limit l : ℕ) (σ : Scope) (q : List ℕ) (p n : ℕ) (z w : List ℕ) (c : Condition) (r : List ℕ) : Type 0 where
@@ -119,22 +122,33 @@ abbrev join : Bool → Condition → Condition → Condition
 join true c d = AND c d
 join false c d = OR c d
 
-module _ (sh : Shape) (limit l : ℕ) (nz : l ≡ 0 → ⊥) (σ : Scope) (q : List ℕ) (p : ℕ) (z : List ℕ) where
+-- the record y that stands at p, its length a by the table, and what its children gave: m bytes, the table y before it is kept
+module _ (sh : Shape) (limit l : ℕ) (nz : l ≡ 0 → ⊥) (σ : Scope) (q : List ℕ) (p : ℕ) (z x : List ℕ) (ex : x ≡ drop p q) (k : Record) (ek : k ≡ recordAt x) where
   -- the bytes after a record of so many
   next : (a b : ℕ) → b ≡ a → drop a (drop p q) ≡ drop (p + b) q
   next a b e = drop-drop a p q ∙ ap (λ i. drop (p + i) q) (sym e)
 
   module _ (a : ℕ) where
-    pub truth-is : (b : Bool) (w : List ℕ) (n : ℕ) → a ≡ 1 → drop p q ≡ truth b ∷ drop 1 (drop p q) → n ≡ a → w ≡ store z p a → Admitted sh limit l σ q p n z w
+    pub truth-is : (w : List ℕ) (n : ℕ) → a ≡ recordLength 16 → OneOf (1 ∷ 2 ∷ []) (tagOf (declared enum) k) → n ≡ a → w ≡ store z p a → Admitted sh limit l σ q p n z w
     unfolding encode levels inScope size marks WellFormed
-    truth-is true w n ea h en ew = admit TRUE (drop 1 (drop p q)) (record { bytes = h; well = tt; deep = omega (arith, nz); scope = refl; sized = en ∙ ea; table = ew ∙ ap (store z p) ea })
-    truth-is false w n ea h en ew = admit FALSE (drop 1 (drop p q)) (record { bytes = h; well = tt; deep = omega (arith, nz); scope = refl; sized = en ∙ ea; table = ew ∙ ap (store z p) ea })
+    truth-is w n ea o en ew = let t = truth-at q x p ex k ek o in go (t .0) (t .1)
+      where
+        go : (b : Bool) → drop p q ≡ truth b ∷ drop 1 (drop p q) → Admitted sh limit l σ q p n z w
+        go true h = let e = ea ∙ lengths .0 in admit TRUE (drop 1 (drop p q)) (record { bytes = h; well = tt; deep = omega (arith, nz); scope = refl; sized = en ∙ e; table = ew ∙ ap (store z p) e })
+        go false h = let e = ea ∙ lengths .0 in admit FALSE (drop 1 (drop p q)) (record { bytes = h; well = tt; deep = omega (arith, nz); scope = refl; sized = en ∙ e; table = ew ∙ ap (store z p) e })
 
-    module _ (y w : List ℕ) (n m : ℕ) (en : n ≡ a + m) (ew : w ≡ store y p (a + m)) where
-      pub not-is : a ≡ 1 → Starts R.Not (drop p q) → Admitted sh limit (l - 1) σ q (p + a) m z y → Admitted sh limit l σ q p n z w
+    module _ (y w : List ℕ) (n m : ℕ) (kept : (m ≡ 0 → ⊥) × (n ≡ a + m) × (w ≡ store y p (a + m))) where
+      en : n ≡ a + m
+      en = kept .1
+
+      ew : w ≡ store y p (a + m)
+      ew = kept .2
+
+      pub not-is : a ≡ recordLength 18 → k ≡ R.Not → ((m ≡ 0 → ⊥) → Admitted sh limit (l - 1) σ q (p + a) m z y) → Admitted sh limit l σ q p n z w
       unfolding encode levels inScope size marks WellFormed
-      not-is ea h i =
-          let k = held i in let c = i .condition in
+      not-is el e f =
+          let ea = el ∙ lengths .1 in let h = begins q x p ex k ek R.Not e in
+          let i = f (kept .0) in let k = held i in let c = i .condition in
           admit (NOT c) (i .rest) (record {
             bytes = h ∙ ap (λ x. 18 ∷ x) (next 1 a ea ∙ k .bytes);
             well = k .well;
@@ -144,10 +158,11 @@ module _ (sh : Shape) (limit l : ℕ) (nz : l ≡ 0 → ⊥) (σ : Scope) (q : L
             table = ew ∙ ap₂ (λ x j. store x p j) (k .table ∙ ap (λ j. marks c (p + j) z) ea) (ap₂ _+_ ea (k .sized));
           })
 
-      pub both-is : (b : Bool) → a ≡ 1 → drop p q ≡ joining b ∷ drop 1 (drop p q) → Two sh limit (l - 1) σ q (p + a) m z y → Admitted sh limit l σ q p n z w
+      pub both-is : a ≡ recordLength 19 → OneOf (4 ∷ 5 ∷ []) (tagOf (declared enum) k) → ((m ≡ 0 → ⊥) → Two sh limit (l - 1) σ q (p + a) m z y) → Admitted sh limit l σ q p n z w
       unfolding encode levels inScope size marks WellFormed
-      both-is b ea h t =
-          let i = held (t .left) in let j = held (t .right) in
+      both-is el o g =
+          let ea = el ∙ lengths .2 in let b = join-at q x p ex k ek o .0 in let h = join-at q x p ex k ek o .1 in
+          let t = g (kept .0) in let i = held (t .left) in let j = held (t .right) in
           let c = t .left .condition in let d = t .right .condition in let r = t .right .rest in
           let e : drop 1 (drop p q) ≡ encode c (encode d r) = next 1 a ea ∙ i .bytes ∙ ap (encode c) (sym (after (t .left)) ∙ j .bytes) in
           let s : a + m ≡ 1 + size c + size d = omega (arith, ea, t .total, i .sized, j .sized) in
@@ -160,16 +175,18 @@ module _ (sh : Shape) (limit l : ℕ) (nz : l ≡ 0 → ⊥) (σ : Scope) (q : L
           joined true c d r e u v k f g s x = admit (AND c d) r (record { bytes = e; well = (u, v); deep = k; scope = rw (f, g); sized = s ∙ omega arith; table = x })
           joined false c d r e u v k f g s x = admit (OR c d) r (record { bytes = e; well = (u, v); deep = k; scope = rw (f, g); sized = s ∙ omega arith; table = x })
 
-      pub compare-is : (o : ℕ) → a ≡ 2 → Starts (R.Compare o) (drop p q) → isOperator o ≡ true → TwoT sh limit (l - 1) σ q (p + a) m z y → Admitted sh limit l σ q p n z w
+      pub compare-is : (o : ℕ) (b : Bool) → a ≡ recordLength 21 → k ≡ R.Compare o → b ≡ isOperator o → not b ≡ false → ((m ≡ 0 → ⊥) → TwoT sh limit (l - 1) σ q (p + a) m z y) → Admitted sh limit l σ q p n z w
       unfolding encode levels inScope size marks WellFormed
-      compare-is o ea h known t =
-          let i = heldT (t .left) in let j = heldT (t .right) in
+      compare-is o b el e eb hb g =
+          let ea = el ∙ lengths .3 in let h = begins q x p ex k ek (R.Compare o) e in
+          let known = sym eb ∙ not-false b hb in
+          let t = g (kept .0) in let i = heldT (t .left) in let j = heldT (t .right) in
           let c = t .left .term in let d = t .right .term in let r = t .right .rest in
-          let e : drop 2 (drop p q) ≡ encodeT c (encodeT d r) = next 2 a ea ∙ i .bytes ∙ ap (encodeT c) (sym (afterT (t .left)) ∙ j .bytes) in
+          let f : drop 2 (drop p q) ≡ encodeT c (encodeT d r) = next 2 a ea ∙ i .bytes ∙ ap (encodeT c) (sym (afterT (t .left)) ∙ j .bytes) in
           let s : a + m ≡ 2 + sizeT c + sizeT d = omega (arith, ea, t .total, i .sized, j .sized) in
           let at : p + a + t .first ≡ p + (2 + sizeT c) = omega (arith, ea, i .sized) in
           admit (COMPARE o c d) r (record {
-            bytes = h ∙ ap (λ x. 21 ∷ o ∷ x) e;
+            bytes = h ∙ ap (λ x. 21 ∷ o ∷ x) f;
             well = (known, i .well, j .well);
             deep = omega (arith, nz, i .deep, j .deep);
             scope = rw (i .scope, j .scope);
@@ -177,10 +194,11 @@ module _ (sh : Shape) (limit l : ℕ) (nz : l ≡ 0 → ⊥) (σ : Scope) (q : L
             table = ew ∙ ap₂ (λ x k. store x p k) (j .table ∙ ap₂ (marksT d) at (i .table ∙ ap (λ x. marksT c (p + x) z) ea)) s;
           })
 
-      pub some-is : (v r : ℕ) → a ≡ 3 → Starts (R.Some v r) (drop p q) → Under sh limit (l - 1) (record { variable = v; relation = r }) σ q (p + a) m z y → Admitted sh limit l σ q p n z w
+      pub some-is : (v r : ℕ) → a ≡ recordLength 22 → k ≡ R.Some v r → ((m ≡ 0 → ⊥) → Under sh limit (l - 1) (record { variable = v; relation = r }) σ q (p + a) m z y) → Admitted sh limit l σ q p n z w
       unfolding encode levels inScope size marks WellFormed
-      some-is v r ea h u =
-          let i = u .inside in let k = held i in let c = i .condition in
+      some-is v r el e g =
+          let ea = el ∙ lengths .4 in let h = begins q x p ex k ek (R.Some v r) e in
+          let u = g (kept .0) in let i = u .inside in let k = held i in let c = i .condition in
           admit (SOME v r c) (i .rest) (record {
             bytes = h ∙ ap (λ x. 22 ∷ v ∷ r ∷ x) (next 3 a ea ∙ k .bytes);
             well = k .well;
@@ -190,10 +208,12 @@ module _ (sh : Shape) (limit l : ℕ) (nz : l ≡ 0 → ⊥) (σ : Scope) (q : L
             table = ew ∙ ap₂ (λ x j. store x p j) (k .table ∙ ap (λ j. marks c (p + j) z) ea) (ap₂ _+_ ea (k .sized));
           })
 
-      pub aggregate-is : (f v r b : ℕ) → a ≡ 5 → Starts (R.Aggregate f v r b) (drop p q) → isFunction f ≡ true → Aggregated sh limit (l - 1) (record { variable = v; relation = r }) b q (p + a) m z y → AdmittedT sh limit l σ q p n z w
+      pub aggregate-is : (f v r b : ℕ) (d : Bool) → a ≡ recordLength 34 → k ≡ R.Aggregate f v r b → d ≡ isFunction f → not d ≡ false → ((m ≡ 0 → ⊥) → Aggregated sh limit (l - 1) (record { variable = v; relation = r }) b q (p + a) m z y) → AdmittedT sh limit l σ q p n z w
       unfolding encode levels inScope size marks WellFormed
-      aggregate-is f v r b ea h known g =
-          let u = g .under in let i = u .inside in let k = held i in let c = i .condition in
+      aggregate-is f v r b d el e ed hd j =
+          let ea = el ∙ lengths .7 in let h = begins q x p ex k ek (R.Aggregate f v r b) e in
+          let known = sym ed ∙ not-false d hd in
+          let g = j (kept .0) in let u = g .under in let i = u .inside in let k = held i in let c = i .condition in
           admitT (AGGREGATE f v r b c) (i .rest) (record {
             bytes = h ∙ ap (λ x. 34 ∷ f ∷ v ∷ r ∷ b ∷ x) (next 5 a ea ∙ k .bytes);
             well = (known, k .well);
@@ -203,13 +223,18 @@ module _ (sh : Shape) (limit l : ℕ) (nz : l ≡ 0 → ⊥) (σ : Scope) (q : L
             table = ew ∙ ap₂ (λ x j. store x p j) (k .table ∙ ap (λ j. marks c (p + j) z) ea) (ap₂ _+_ ea (k .sized));
           })
 
-    pub constant-is : (w : List ℕ) (n b c d e : ℕ) → a ≡ 5 → Starts (R.Constant b c d e) (drop p q) → n ≡ a → w ≡ store z p a → AdmittedT sh limit l σ q p n z w
+    pub constant-is : (w : List ℕ) (n b c d e : ℕ) → a ≡ recordLength 32 → k ≡ R.Constant b c d e → n ≡ a → w ≡ store z p a → AdmittedT sh limit l σ q p n z w
     unfolding encode levels inScope size marks WellFormed
-    constant-is w n b c d e ea h en ew = admitT (CONSTANT b c d e) (drop 5 (drop p q)) (record { bytes = h; well = tt; deep = omega (arith, nz); scope = refl; sized = en ∙ ea; table = ew ∙ ap (store z p) ea })
+    constant-is w n b c d e el f en ew =
+        let ea = el ∙ lengths .5 in let h = begins q x p ex k ek (R.Constant b c d e) f in
+        admitT (CONSTANT b c d e) (drop 5 (drop p q)) (record { bytes = h; well = tt; deep = omega (arith, nz); scope = refl; sized = en ∙ ea; table = ew ∙ ap (store z p) ea })
 
-    pub attribute-is : (w : List ℕ) (n v b : ℕ) → a ≡ 3 → Starts (R.Attribute v b) (drop p q) → knownAttribute sh (σ v) b ≡ true → n ≡ a → w ≡ store z p a → AdmittedT sh limit l σ q p n z w
+    pub attribute-is : (w : List ℕ) (n v b : ℕ) (d : Bool) → a ≡ recordLength 33 → k ≡ R.Attribute v b → d ≡ knownAttribute sh (σ v) b → not d ≡ false → n ≡ a → w ≡ store z p a → AdmittedT sh limit l σ q p n z w
     unfolding encode levels inScope size marks WellFormed
-    attribute-is w n v b ea h known en ew = admitT (ATTRIBUTE v b) (drop 3 (drop p q)) (record { bytes = h; well = tt; deep = omega (arith, nz); scope = known; sized = en ∙ ea; table = ew ∙ ap (store z p) ea })
+    attribute-is w n v b d el f ed hd en ew =
+        let ea = el ∙ lengths .6 in let h = begins q x p ex k ek (R.Attribute v b) f in
+        let known = sym ed ∙ not-false d hd in
+        admitT (ATTRIBUTE v b) (drop 3 (drop p q)) (record { bytes = h; well = tt; deep = omega (arith, nz); scope = known; sized = en ∙ ea; table = ew ∙ ap (store z p) ea })
 
 -- two parts, one after the other, the reach as it was
 pub two-is : (sh : Shape) (limit l : ℕ) (s t : List ℕ) (q : List ℕ) (p n m k : ℕ) (z y w : List ℕ) → t ≡ s → Admitted sh limit l (scopeOf s) q p n z y → Admitted sh limit l (scopeOf t) q (p + n) m y w → k ≡ n + m → Two sh limit l (scopeOf s) q p k z w

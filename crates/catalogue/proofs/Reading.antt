@@ -3,7 +3,7 @@ use mathlib.Core.Path.{_≡_, refl, sym, ap, ap₂, _∙_, fun-ext}
 use mathlib.Core.Bool.{Bool, true, false, not, _&&_, _||_}
 use mathlib.Core.List.{List, [], _∷_, map}
 use Prim.Native.Nat.{ℕ, zero, suc, _+_, _-_, _*_, _≤_, _<_}
-use native.Mathlib.Nat.{mul-le-mul}
+use native.Mathlib.Nat.{add-zero, mul-le-mul}
 use native.Mathlib.Omega.{arith}
 use lib.Dec.{eqb, leb, ltb}
 use lib.IntN.{ℤ, pos}
@@ -223,6 +223,21 @@ base-grows c r zero = let e : r + 0 ≡ r = omega arith in rw e (omega arith)
 base-grows c r (suc k) = let e : r + suc k ≡ suc (r + k) = omega arith in rw e (omega (arith, base-grows c r k))
 
 -- where a relation begins, from the front
+-- past the bytes there are no values
+base-past : (c : List ℕ) (m k : ℕ) → length c ≤ 4 * m → baseOf c (m + k) ≡ baseOf c m
+unfolding baseOf rowsOf
+base-past c m zero h = ap (baseOf c) (add-zero m)
+base-past c m (suc k) h =
+    let e : m + suc k ≡ suc (m + k) = omega arith in
+    let low : getD c (4 * (m + k) + 2) 0 ≡ 0 = List·getD-eq-default c 0 (omega arith) in
+    let high : getD c (4 * (m + k) + 3) 0 ≡ 0 = List·getD-eq-default c 0 (omega arith) in
+    ap (baseOf c) e ∙ rw (low, high) (omega (arith, base-past c m k h))
+
+pub total-past : (c : List ℕ) (n m t : ℕ) → n ≡ countOf c → n < 16 → m ≡ n + 1 → t ≡ baseOf c m → t ≡ baseOf c 16
+total-past c n m t en h em et =
+    let e : m + (16 - m) ≡ 16 = omega (arith, em, h) in
+    et ∙ sym (base-past c m (16 - m) (omega (arith, em, en))) ∙ ap (baseOf c) e
+
 base-next : (c : List ℕ) (r : ℕ) → baseOf c (suc r) ≡ rowsOf c 0 * attributesOf c 0 + baseOf (drop 4 c) r
 unfolding baseOf
 base-next c zero = omega arith

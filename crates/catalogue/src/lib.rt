@@ -70,10 +70,14 @@ pub fn base(catalogue: &[u8], relation: u8) -> usize
     at
 }
 
-// How many values the relations have in all.
+// How many values the relations have in all; past the bytes of the catalogue there are none.
 pub fn total(catalogue: &[u8]) -> usize
     ensures { λ r. ⌜ r ≡ L.baseOf (now (catalogue .entry)) 16 ⌝ }
 {
+    let n = count(catalogue);
+    if n < 16 {
+        return base(catalogue, n as u8 + 1);
+    }
     base(catalogue, 16)
 }
 

@@ -9,7 +9,7 @@ use lib.Dec.{ltb}
 use lib.ListN.{length, getD, drop, length-drop, replicate}
 use lib.Seq.{getD-drop}
 use borrow.Author.Tests.{le-ltb}
-use Rattle.model.specs.Lists.{all, unique}
+use Rattle.model.specs.Lists.{any, all, unique, contains}
 use Rattle.model.specs.Syntax.{Condition, Term, CONSTANT, ATTRIBUTE, AGGREGATE, Binding, Query, Targets, WellFormed, WellFormedT, WellFormedQ, bindingsQ, levels, levelsTs, levelsQ, variables}
 use Rattle.model.specs.Encoding.{encode, encodeT, encodeTargets, encodeRanges, encodeQuery, ok, failed, readQuery, queryOf}
 use Rattle.model.specs.Catalogue.{Shape, shapeOf, catalogueOf}
@@ -80,8 +80,8 @@ module _ (sh : Shape) (limit l : ℕ) (σ : Scope) (q : List ℕ) (p k : ℕ) (z
       let s : termSize l (drop p q) ≡ Bytes n = term-size l q p z t (a .rest) (readsT a) ∙ ap Bytes (sym (sized-isT a)) in
       let suc-c : m ≡ suc c = omega (arith, em) in
       let g : targetsMeasured m l q p z ≡ targetsMeasured c l q (p + n) y =
-        ap (λ j. targetsMeasured j l q p z) suc-c
-        ∙ ap₂ (λ (x : Size) (u : List ℕ). onward x u (λ j v. targetsMeasured c l q (p + j) v)) s (sym (a .table)) in
+      ap (λ j. targetsMeasured j l q p z) suc-c
+      ∙ ap₂ (λ (x : Size) (u : List ℕ). onward x u (λ j v. targetsMeasured c l q (p + j) v)) s (sym (a .table)) in
       record {
         targets = t ∷ ts;
         bytes = a .bytes ∙ ap (encodeT t) (sym (afterT a) ∙ i .bytes);
@@ -103,6 +103,13 @@ ranges-length (suc n) q = ap suc (ranges-length n (drop (recordLength 1) q))
 nothing-left : (r : List ℕ) → length r ≡ 0 → r ≡ []
 nothing-left [] h = refl
 nothing-left (x ∷ r) h = absurd (omega arith)
+
+-- one variable is not bound twice
+pub one-bound : (bs : List Binding) → length bs < 2 → true ≡ unique (variables bs)
+unfolding unique contains any
+one-bound [] h = refl
+one-bound (b ∷ []) h = refl
+one-bound (b ∷ c ∷ bs) h = absurd (omega arith)
 
 -- the whole query
 module _ (l : Limits) (cb q : List ℕ) (h10 : fails10 cb ≡ false) (short : length q ≤ l .bytes) (n : ℕ) (few : n ≤ 4) (ranged : 3 * n ≤ length q → q ≡ encodeRanges (rangesAt n q) (drop (3 * n) q))

@@ -6,8 +6,10 @@ ghost use mathlib.Core.Path.{_≡_};
 ghost use mathlib.Core.Bool.{not, true, false};
 ghost use Prim.Native.Nat.{_*_, _≤_, _<_};
 ghost use lib.ListN.{length, drop};
-ghost use Rattle.model.specs.Lists.{all};
+ghost use Rattle.model.specs.Lists.{all, unique};
+ghost use Rattle.model.specs.Syntax.{variables};
 ghost use Rattle.model.specs.Scope.{knownBinding, inScopeT, queryInScope};
+ghost use Rattle.scans.specs.Flat.{flatBindings};
 ghost use Rattle.scope.specs.Reach.{scopeOf, shapeIn};
 ghost use Rattle.sizes.specs.Parts.{rangesAt, targetsAt};
 ghost use Rattle.model.specs.Encoding.{encodeRanges, queryOf};
@@ -227,6 +229,17 @@ fn admit_rest(
     })
 }
 
+// Whether no number is bound twice; so many are bound.
+fn bound_once(q: &[u8], bound: usize) -> bool
+    requires { ⌜ bound ≡ length (flatBindings (now q)) ⌝ }
+    ensures { λ r. ⌜ r ≡ unique (variables (flatBindings (now (q .entry)))) ⌝ }
+{
+    if bound < 2 {
+        return true;
+    }
+    scans::bound_once(q, false)
+}
+
 // The layout of a query that passes 30, 31 and 32; its table of sizes is left filled.
 fn admit(q: &[u8], limits: Limits, catalogue: &[u8], z: &mut [u16]) -> Shape
     requires { ⌜ (fails10 (now catalogue) ≡ false) × (length (now q) ≤ limits .bytes → length (now q) ≤ length (now z)) × (limits .bytes < 65536) ⌝ }
@@ -242,10 +255,11 @@ fn admit(q: &[u8], limits: Limits, catalogue: &[u8], z: &mut [u16]) -> Shape
     if !ranges_known(q, n, catalogue, variables) {
         return Shape::NotWellFormed;
     }
-    if wide(variables) < scans::count_bindings(q) {
+    let bound = scans::count_bindings(q);
+    if wide(variables) < bound {
         return Shape::NotWellFormed;
     }
-    if !scans::bound_once(q, false) {
+    if !bound_once(q, bound) {
         return Shape::NotWellFormed;
     }
     let mut reach = [0u16; 256];

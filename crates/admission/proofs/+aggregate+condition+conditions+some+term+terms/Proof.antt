@@ -1,13 +1,11 @@
 use Prim.Native.Nat.{ℕ, _+_, _*_, _<_}
-use mathlib.Core.Path.{refl, sym, ap, _∙_}
+use mathlib.Core.Path.{refl, ap, _∙_}
 use native.Mathlib.Omega.{arith}
 use denote.Ref.{now}
-use lib.ListN.{length, drop, length-drop}
-use borrow.Author.Tests.{not-false}
-use Rattle.kinds.specs.declared.Record.the-variants as R
+use lib.ListN.{length}
 use Rattle.scope.specs.Reach.{shapeIn, scopeOf}
 use Rattle.scope.proofs.Steps.{put-back}
-use Rattle.admission.proofs.Records.{begins, truths, joins, lengths}
+use Rattle.admission.proofs.Records.{not-room, both-room, compare-room, some-room, aggregate-room}
 use Rattle.admission.proofs.Steps.{within, ends, endsT, ends-two, ends-twoT, truth-is, not-is, both-is, compare-is, some-is, constant-is, attribute-is, aggregate-is, two-is, two-isT, under-is, aggregated-is}
 use borrow.Author.Needs.{needs}
 use borrow.Fn.Kinds.{In}
@@ -147,7 +145,15 @@ aggregate-same-length : (t : ℕ) → aggregate-lts.Need-same-length (aggregate-
 aggregate-same-length t c = search needs
 
 aggregate-returns-3 : (t : ℕ) → aggregate-lts.Need-returns-3 (aggregate-claims t) (aggregate-at t) aggregate.Post
-aggregate-returns-3 t c = λ h. aggregated-is (shapeIn (now (c .before .before .before .before .before .before .before .before .before .before .before .before .before .before .before .before .args .catalogue))) (c .before .before .before .before .before .before .before .before .before .before .before .before .before .before .before .before .args .limit) (c .before .before .before .before .before .before .before .before .before .before .before .before .before .before .before .before .args .level) (c .before .before .before .before .before .before .before .before .before .before .before .before .before .before .before .before .args .variable) (c .before .before .before .before .before .before .before .before .before .before .before .before .before .before .before .before .args .relation) (c .before .before .before .before .before .before .before .before .before .before .before .before .known .result) (c .before .before .before .before .before .before .before .before .before .before .before .before .known .ensures) (c .before .before .before .before .before .before .before .before .before .before .before .if1 .left) (now (c .before .before .before .before .before .before .before .before .before .before .before .before .before .before .before .before .args .q)) (c .before .before .before .before .before .before .before .before .before .before .before .before .before .before .before .before .args .at) _ (now (c .before .before .before .before .before .before .before .before .before .before .before .before .before .before .before .before .args .z)) _ (c .before .before .before .before .before .before .before .before .before .before .before .before .before .before .before .before .args .attribute) _ (c .before .before .before .before .before .before .before .before .before .before .has .result) refl (c .before .before .before .before .before .before .before .before .before .before .has .ensures) (c .before .before .before .before .before .before .before .before .before .if2 .left) (c .before .before .before .before .before .before .before .before .before .before .before .before .before .before .before .before .fits .variable .fits) (c .before .before .before .before .before .before .before .bind .last .0) (c .before .before .before .before .before .before .before .bind .ensures) (c .before .before .before .condition .ensures .0 h)
+aggregate-returns-3 t c =
+    let c₃ = c .before .before .before in let condition = c₃ .condition in
+    let c₇ = c₃ .before .before .before .before in let bind = c₇ .bind in
+    let c₉ = c₇ .before .before in let if2 = c₉ .if2 in
+    let c₁₀ = c₉ .before in let has = c₁₀ .has in
+    let c₁₁ = c₁₀ .before in let if1 = c₁₁ .if1 in
+    let c₁₂ = c₁₁ .before in let known = c₁₂ .known in
+    let c₁₆ = c₁₂ .before .before .before .before in let args = c₁₆ .args in let fits = c₁₆ .fits in
+    λ h. aggregated-is (shapeIn (now (args .catalogue))) (args .limit) (args .level) (args .variable) (args .relation) (known .result) (known .ensures) (if1 .left) (now (args .q)) (args .at) _ (now (args .z)) _ (args .attribute) _ (has .result) refl (has .ensures) (if2 .left) (fits .variable .fits) (bind .last .0) (bind .ensures) (condition .ensures .0 h)
 
 condition-returns : (t : ℕ) → condition-lts.Need-returns (condition-claims t) (condition-at t) condition.Post
 condition-returns t c = (λ h. absurd (h refl), refl)
@@ -177,10 +183,25 @@ condition-add-condition : (t : ℕ) → condition-lts.Need-add-condition (condit
 condition-add-condition t c = search needs
 
 condition-condition-requires : (t : ℕ) → condition-lts.Need-condition-requires (condition-claims t) (condition-at t) condition.Post
-condition-condition-requires t c κs = (omega (arith, c .before .before .before .before .before .before .before .before .before .before .before .before .pre .0, c .before .before .before .before .before .before .before .if1 .left), (omega (arith, ap length (begins (now (c .before .before .before .before .before .before .before .before .before .before .before .before .args .q)) (now (c .before .before .before .before .before .before .tail .result)) (c .before .before .before .before .before .before .before .before .before .before .before .before .args .at) (c .before .before .before .before .before .read .result) (R.Not) (c .before .before .before .before .before .before .tail .ensures) (c .before .before .before .before .before .read .ensures) (c .before .before .before .enum-told .given .1)), length-drop (c .before .before .before .before .before .before .before .before .before .before .before .before .args .at) (now (c .before .before .before .before .before .before .before .before .before .before .before .before .args .q)), (c .before .before .record-length2 .ensures .0 ∙ lengths .1)), c .before .before .before .before .before .before .before .before .before .before .before .before .pre .1 .1))
+condition-condition-requires t c κs =
+    let c₂ = c .before .before in let record-length2 = c₂ .record-length2 in
+    let c₃ = c₂ .before in let enum-told = c₃ .enum-told in
+    let c₅ = c₃ .before .before in let read = c₅ .read in
+    let c₆ = c₅ .before in let tail = c₆ .tail in
+    let c₇ = c₆ .before in let if1 = c₇ .if1 in
+    let c₁₂ = c₇ .before .before .before .before .before in let args = c₁₂ .args in let pre = c₁₂ .pre in
+    (omega (arith, pre .0, if1 .left), (not-room (now (args .q)) (now (tail .result)) (args .at) (tail .ensures) (read .result) (read .ensures) (record-length2 .result) (record-length2 .ensures .0) (enum-told .given .1), pre .1 .1))
 
 condition-parent-requires : (t : ℕ) → condition-lts.Need-parent-requires (condition-claims t) (condition-at t) condition.Post
-condition-parent-requires t c κs = omega (arith, within _ (c .before .before .before .before .before .condition .result) (length (now (c .before .before .before .before .before .before .before .before .before .before .before .before .before .before .before .before .before .before .args .q))) (omega (arith, ap length (begins (now (c .before .before .before .before .before .before .before .before .before .before .before .before .before .before .before .before .before .before .args .q)) (now (c .before .before .before .before .before .before .before .before .before .before .before .before .tail .result)) (c .before .before .before .before .before .before .before .before .before .before .before .before .before .before .before .before .before .before .args .at) (c .before .before .before .before .before .before .before .before .before .before .before .read .result) (R.Not) (c .before .before .before .before .before .before .before .before .before .before .before .before .tail .ensures) (c .before .before .before .before .before .before .before .before .before .before .before .read .ensures) (c .before .before .before .before .before .before .before .before .before .enum-told .given .1)), length-drop (c .before .before .before .before .before .before .before .before .before .before .before .before .before .before .before .before .before .before .args .at) (now (c .before .before .before .before .before .before .before .before .before .before .before .before .before .before .before .before .before .before .args .q)), (c .before .before .before .before .before .before .before .before .record-length2 .ensures .0 ∙ lengths .1))) (c .before .before .before .before .before .condition .ensures .0) (λ a. ends (omega (arith, ap length (begins (now (c .before .before .before .before .before .before .before .before .before .before .before .before .before .before .before .before .before .before .args .q)) (now (c .before .before .before .before .before .before .before .before .before .before .before .before .tail .result)) (c .before .before .before .before .before .before .before .before .before .before .before .before .before .before .before .before .before .before .args .at) (c .before .before .before .before .before .before .before .before .before .before .before .read .result) (R.Not) (c .before .before .before .before .before .before .before .before .before .before .before .before .tail .ensures) (c .before .before .before .before .before .before .before .before .before .before .before .read .ensures) (c .before .before .before .before .before .before .before .before .before .enum-told .given .1)), length-drop (c .before .before .before .before .before .before .before .before .before .before .before .before .before .before .before .before .before .before .args .at) (now (c .before .before .before .before .before .before .before .before .before .before .before .before .before .before .before .before .before .before .args .q)), (c .before .before .before .before .before .before .before .before .record-length2 .ensures .0 ∙ lengths .1))) a), c .before .before .before .before .before .before .before .before .before .before .before .before .before .before .before .before .before .before .good)
+condition-parent-requires t c κs =
+    let c₅ = c .before .before .before .before .before in let condition = c₅ .condition in
+    let c₈ = c₅ .before .before .before in let record-length2 = c₈ .record-length2 in
+    let c₉ = c₈ .before in let enum-told = c₉ .enum-told in
+    let c₁₁ = c₉ .before .before in let read = c₁₁ .read in
+    let c₁₂ = c₁₁ .before in let tail = c₁₂ .tail in
+    let c₁₈ = c₁₂ .before .before .before .before .before .before in let args = c₁₈ .args in let good = c₁₈ .good in
+    let q = now (args .q) in
+    omega (arith, within _ (condition .result) (length q) (not-room q (now (tail .result)) (args .at) (tail .ensures) (read .result) (read .ensures) (record-length2 .result) (record-length2 .ensures .0) (enum-told .given .1)) (condition .ensures .0) (ends (not-room q (now (tail .result)) (args .at) (tail .ensures) (read .result) (read .ensures) (record-length2 .result) (record-length2 .ensures .0) (enum-told .given .1))), good)
 
 condition-record-length-requires-3 : (t : ℕ) → condition-lts.Need-record-length-requires-3 (condition-claims t) (condition-at t) condition.Post
 condition-record-length-requires-3 t c κs = search needs
@@ -189,10 +210,25 @@ condition-add-conditions : (t : ℕ) → condition-lts.Need-add-conditions (cond
 condition-add-conditions t c = search needs
 
 condition-conditions-requires : (t : ℕ) → condition-lts.Need-conditions-requires (condition-claims t) (condition-at t) condition.Post
-condition-conditions-requires t c κs = (omega (arith, c .before .before .before .before .before .before .before .before .before .before .before .pre .0, c .before .before .before .before .before .before .if1 .left), (omega (arith, ap length ((joins (drop (c .before .before .before .before .before .before .before .before .before .before .before .args .at) (now (c .before .before .before .before .before .before .before .before .before .before .before .args .q))) (c .before .before .before .before .read .result) (c .before .before .before .match .keys3) (begins (now (c .before .before .before .before .before .before .before .before .before .before .before .args .q)) (now (c .before .before .before .before .before .tail .result)) (c .before .before .before .before .before .before .before .before .before .before .before .args .at) (c .before .before .before .before .read .result) (c .before .before .before .before .read .result) (c .before .before .before .before .before .tail .ensures) (c .before .before .before .before .read .ensures) (refl))) .1), length-drop (c .before .before .before .before .before .before .before .before .before .before .before .args .at) (now (c .before .before .before .before .before .before .before .before .before .before .before .args .q)), (c .before .before .record-length3 .ensures .0 ∙ lengths .2)), c .before .before .before .before .before .before .before .before .before .before .before .pre .1 .1))
+condition-conditions-requires t c κs =
+    let c₂ = c .before .before in let record-length3 = c₂ .record-length3 in
+    let c₃ = c₂ .before in let match = c₃ .match in
+    let c₄ = c₃ .before in let read = c₄ .read in
+    let c₅ = c₄ .before in let tail = c₅ .tail in
+    let c₆ = c₅ .before in let if1 = c₆ .if1 in
+    let c₁₁ = c₆ .before .before .before .before .before in let args = c₁₁ .args in let pre = c₁₁ .pre in
+    (omega (arith, pre .0, if1 .left), (both-room (now (args .q)) (now (tail .result)) (args .at) (tail .ensures) (read .result) (read .ensures) (record-length3 .result) (record-length3 .ensures .0) (match .keys3), pre .1 .1))
 
 condition-parent-requires-2 : (t : ℕ) → condition-lts.Need-parent-requires-2 (condition-claims t) (condition-at t) condition.Post
-condition-parent-requires-2 t c κs = omega (arith, within _ (c .before .before .before .before .before .conditions .result) (length (now (c .before .before .before .before .before .before .before .before .before .before .before .before .before .before .before .before .before .args .q))) (omega (arith, ap length ((joins (drop (c .before .before .before .before .before .before .before .before .before .before .before .before .before .before .before .before .before .args .at) (now (c .before .before .before .before .before .before .before .before .before .before .before .before .before .before .before .before .before .args .q))) (c .before .before .before .before .before .before .before .before .before .before .read .result) (c .before .before .before .before .before .before .before .before .before .match .keys3) (begins (now (c .before .before .before .before .before .before .before .before .before .before .before .before .before .before .before .before .before .args .q)) (now (c .before .before .before .before .before .before .before .before .before .before .before .tail .result)) (c .before .before .before .before .before .before .before .before .before .before .before .before .before .before .before .before .before .args .at) (c .before .before .before .before .before .before .before .before .before .before .read .result) (c .before .before .before .before .before .before .before .before .before .before .read .result) (c .before .before .before .before .before .before .before .before .before .before .before .tail .ensures) (c .before .before .before .before .before .before .before .before .before .before .read .ensures) (refl))) .1), length-drop (c .before .before .before .before .before .before .before .before .before .before .before .before .before .before .before .before .before .args .at) (now (c .before .before .before .before .before .before .before .before .before .before .before .before .before .before .before .before .before .args .q)), (c .before .before .before .before .before .before .before .before .record-length3 .ensures .0 ∙ lengths .2))) (c .before .before .before .before .before .conditions .ensures .0) (λ a. ends-two (omega (arith, ap length ((joins (drop (c .before .before .before .before .before .before .before .before .before .before .before .before .before .before .before .before .before .args .at) (now (c .before .before .before .before .before .before .before .before .before .before .before .before .before .before .before .before .before .args .q))) (c .before .before .before .before .before .before .before .before .before .before .read .result) (c .before .before .before .before .before .before .before .before .before .match .keys3) (begins (now (c .before .before .before .before .before .before .before .before .before .before .before .before .before .before .before .before .before .args .q)) (now (c .before .before .before .before .before .before .before .before .before .before .before .tail .result)) (c .before .before .before .before .before .before .before .before .before .before .before .before .before .before .before .before .before .args .at) (c .before .before .before .before .before .before .before .before .before .before .read .result) (c .before .before .before .before .before .before .before .before .before .before .read .result) (c .before .before .before .before .before .before .before .before .before .before .before .tail .ensures) (c .before .before .before .before .before .before .before .before .before .before .read .ensures) (refl))) .1), length-drop (c .before .before .before .before .before .before .before .before .before .before .before .before .before .before .before .before .before .args .at) (now (c .before .before .before .before .before .before .before .before .before .before .before .before .before .before .before .before .before .args .q)), (c .before .before .before .before .before .before .before .before .record-length3 .ensures .0 ∙ lengths .2))) a), c .before .before .before .before .before .before .before .before .before .before .before .before .before .before .before .before .before .good)
+condition-parent-requires-2 t c κs =
+    let c₅ = c .before .before .before .before .before in let conditions = c₅ .conditions in
+    let c₈ = c₅ .before .before .before in let record-length3 = c₈ .record-length3 in
+    let c₉ = c₈ .before in let match = c₉ .match in
+    let c₁₀ = c₉ .before in let read = c₁₀ .read in
+    let c₁₁ = c₁₀ .before in let tail = c₁₁ .tail in
+    let c₁₇ = c₁₁ .before .before .before .before .before .before in let args = c₁₇ .args in let good = c₁₇ .good in
+    let q = now (args .q) in
+    omega (arith, within _ (conditions .result) (length q) (both-room q (now (tail .result)) (args .at) (tail .ensures) (read .result) (read .ensures) (record-length3 .result) (record-length3 .ensures .0) (match .keys3)) (conditions .ensures .0) (ends-two (both-room q (now (tail .result)) (args .at) (tail .ensures) (read .result) (read .ensures) (record-length3 .result) (record-length3 .ensures .0) (match .keys3))), good)
 
 condition-enum-known-o : (t : ℕ) → condition-lts.Need-enum-known-o (condition-claims t) (condition-at t) condition.Post
 condition-enum-known-o t c = search needs
@@ -210,10 +246,25 @@ condition-add-terms : (t : ℕ) → condition-lts.Need-add-terms (condition-clai
 condition-add-terms t c = search needs
 
 condition-terms-requires : (t : ℕ) → condition-lts.Need-terms-requires (condition-claims t) (condition-at t) condition.Post
-condition-terms-requires t c κs = (omega (arith, c .before .before .before .before .before .before .before .before .before .before .before .before .before .before .before .pre .0, c .before .before .before .before .before .before .before .before .before .before .if1 .left), omega (arith, ap length ((begins (now (c .before .before .before .before .before .before .before .before .before .before .before .before .before .before .before .args .q)) (now (c .before .before .before .before .before .before .before .before .before .tail .result)) (c .before .before .before .before .before .before .before .before .before .before .before .before .before .before .before .args .at) (c .before .before .before .before .before .before .before .before .read .result) (R.Compare _) (c .before .before .before .before .before .before .before .before .before .tail .ensures) (c .before .before .before .before .before .before .before .before .read .ensures) (c .before .before .before .before .before .before .o .given .1))), length-drop (c .before .before .before .before .before .before .before .before .before .before .before .before .before .before .before .args .at) (now (c .before .before .before .before .before .before .before .before .before .before .before .before .before .before .before .args .q)), (c .before .before .record-length4 .ensures .0 ∙ lengths .3)))
+condition-terms-requires t c κs =
+    let c₂ = c .before .before in let record-length4 = c₂ .record-length4 in
+    let c₆ = c₂ .before .before .before .before in let o = c₆ .o in
+    let c₈ = c₆ .before .before in let read = c₈ .read in
+    let c₉ = c₈ .before in let tail = c₉ .tail in
+    let c₁₀ = c₉ .before in let if1 = c₁₀ .if1 in
+    let c₁₅ = c₁₀ .before .before .before .before .before in let args = c₁₅ .args in let pre = c₁₅ .pre in
+    (omega (arith, pre .0, if1 .left), compare-room (now (args .q)) (now (tail .result)) (args .at) (tail .ensures) (read .result) (read .ensures) (record-length4 .result) _ (record-length4 .ensures .0) (o .given .1))
 
 condition-parent-requires-3 : (t : ℕ) → condition-lts.Need-parent-requires-3 (condition-claims t) (condition-at t) condition.Post
-condition-parent-requires-3 t c κs = omega (arith, within _ (c .before .before .before .terms .result) (length (now (c .before .before .before .before .before .before .before .before .before .before .before .before .before .before .before .before .before .before .before .args .q))) (omega (arith, ap length ((begins (now (c .before .before .before .before .before .before .before .before .before .before .before .before .before .before .before .before .before .before .before .args .q)) (now (c .before .before .before .before .before .before .before .before .before .before .before .before .before .tail .result)) (c .before .before .before .before .before .before .before .before .before .before .before .before .before .before .before .before .before .before .before .args .at) (c .before .before .before .before .before .before .before .before .before .before .before .before .read .result) (R.Compare _) (c .before .before .before .before .before .before .before .before .before .before .before .before .before .tail .ensures) (c .before .before .before .before .before .before .before .before .before .before .before .before .read .ensures) (c .before .before .before .before .before .before .before .before .before .before .o .given .1))), length-drop (c .before .before .before .before .before .before .before .before .before .before .before .before .before .before .before .before .before .before .before .args .at) (now (c .before .before .before .before .before .before .before .before .before .before .before .before .before .before .before .before .before .before .before .args .q)), (c .before .before .before .before .before .before .record-length4 .ensures .0 ∙ lengths .3))) (c .before .before .before .terms .ensures) (λ a. ends-twoT (omega (arith, ap length ((begins (now (c .before .before .before .before .before .before .before .before .before .before .before .before .before .before .before .before .before .before .before .args .q)) (now (c .before .before .before .before .before .before .before .before .before .before .before .before .before .tail .result)) (c .before .before .before .before .before .before .before .before .before .before .before .before .before .before .before .before .before .before .before .args .at) (c .before .before .before .before .before .before .before .before .before .before .before .before .read .result) (R.Compare _) (c .before .before .before .before .before .before .before .before .before .before .before .before .before .tail .ensures) (c .before .before .before .before .before .before .before .before .before .before .before .before .read .ensures) (c .before .before .before .before .before .before .before .before .before .before .o .given .1))), length-drop (c .before .before .before .before .before .before .before .before .before .before .before .before .before .before .before .before .before .before .before .args .at) (now (c .before .before .before .before .before .before .before .before .before .before .before .before .before .before .before .before .before .before .before .args .q)), (c .before .before .before .before .before .before .record-length4 .ensures .0 ∙ lengths .3))) a), c .before .before .before .before .before .before .before .before .before .before .before .before .before .before .before .before .before .before .before .good)
+condition-parent-requires-3 t c κs =
+    let c₃ = c .before .before .before in let terms = c₃ .terms in
+    let c₆ = c₃ .before .before .before in let record-length4 = c₆ .record-length4 in
+    let c₁₀ = c₆ .before .before .before .before in let o = c₁₀ .o in
+    let c₁₂ = c₁₀ .before .before in let read = c₁₂ .read in
+    let c₁₃ = c₁₂ .before in let tail = c₁₃ .tail in
+    let c₁₉ = c₁₃ .before .before .before .before .before .before in let args = c₁₉ .args in let good = c₁₉ .good in
+    let q = now (args .q) in
+    omega (arith, within _ (terms .result) (length q) (compare-room q (now (tail .result)) (args .at) (tail .ensures) (read .result) (read .ensures) (record-length4 .result) _ (record-length4 .ensures .0) (o .given .1)) (terms .ensures) (ends-twoT (compare-room q (now (tail .result)) (args .at) (tail .ensures) (read .result) (read .ensures) (record-length4 .result) _ (record-length4 .ensures .0) (o .given .1))), good)
 
 condition-enum-known-v : (t : ℕ) → condition-lts.Need-enum-known-v (condition-claims t) (condition-at t) condition.Post
 condition-enum-known-v t c = search needs
@@ -225,16 +276,39 @@ condition-add-some : (t : ℕ) → condition-lts.Need-add-some (condition-claims
 condition-add-some t c = search needs
 
 condition-some-requires : (t : ℕ) → condition-lts.Need-some-requires (condition-claims t) (condition-at t) condition.Post
-condition-some-requires t c κs = (omega (arith, c .before .before .before .before .before .before .before .before .before .before .before .before .before .pre .0, c .before .before .before .before .before .before .before .before .if1 .left), (omega (arith, ap length ((begins (now (c .before .before .before .before .before .before .before .before .before .before .before .before .before .args .q)) (now (c .before .before .before .before .before .before .before .tail .result)) (c .before .before .before .before .before .before .before .before .before .before .before .before .before .args .at) (c .before .before .before .before .before .before .read .result) (R.Some _ _) (c .before .before .before .before .before .before .before .tail .ensures) (c .before .before .before .before .before .before .read .ensures) (c .before .before .before .before .v .given .1))), length-drop (c .before .before .before .before .before .before .before .before .before .before .before .before .before .args .at) (now (c .before .before .before .before .before .before .before .before .before .before .before .before .before .args .q)), (c .before .before .record-length5 .ensures .0 ∙ lengths .4)), c .before .before .before .before .before .before .before .before .before .before .before .before .before .pre .1 .1))
+condition-some-requires t c κs =
+    let c₂ = c .before .before in let record-length5 = c₂ .record-length5 in
+    let c₄ = c₂ .before .before in let v = c₄ .v in
+    let c₆ = c₄ .before .before in let read = c₆ .read in
+    let c₇ = c₆ .before in let tail = c₇ .tail in
+    let c₈ = c₇ .before in let if1 = c₈ .if1 in
+    let c₁₃ = c₈ .before .before .before .before .before in let args = c₁₃ .args in let pre = c₁₃ .pre in
+    (omega (arith, pre .0, if1 .left), (some-room (now (args .q)) (now (tail .result)) (args .at) (tail .ensures) (read .result) (read .ensures) (record-length5 .result) _ _ (record-length5 .ensures .0) (v .given .1), pre .1 .1))
 
 condition-parent-requires-4 : (t : ℕ) → condition-lts.Need-parent-requires-4 (condition-claims t) (condition-at t) condition.Post
-condition-parent-requires-4 t c κs = omega (arith, within _ (c .before .before .before .before .before .some .result) (length (now (c .before .before .before .before .before .before .before .before .before .before .before .before .before .before .before .before .before .before .before .args .q))) (omega (arith, ap length ((begins (now (c .before .before .before .before .before .before .before .before .before .before .before .before .before .before .before .before .before .before .before .args .q)) (now (c .before .before .before .before .before .before .before .before .before .before .before .before .before .tail .result)) (c .before .before .before .before .before .before .before .before .before .before .before .before .before .before .before .before .before .before .before .args .at) (c .before .before .before .before .before .before .before .before .before .before .before .before .read .result) (R.Some _ _) (c .before .before .before .before .before .before .before .before .before .before .before .before .before .tail .ensures) (c .before .before .before .before .before .before .before .before .before .before .before .before .read .ensures) (c .before .before .before .before .before .before .before .before .before .before .v .given .1))), length-drop (c .before .before .before .before .before .before .before .before .before .before .before .before .before .before .before .before .before .before .before .args .at) (now (c .before .before .before .before .before .before .before .before .before .before .before .before .before .before .before .before .before .before .before .args .q)), (c .before .before .before .before .before .before .before .before .record-length5 .ensures .0 ∙ lengths .4))) (c .before .before .before .before .before .some .ensures .0) (λ a. ends (omega (arith, ap length ((begins (now (c .before .before .before .before .before .before .before .before .before .before .before .before .before .before .before .before .before .before .before .args .q)) (now (c .before .before .before .before .before .before .before .before .before .before .before .before .before .tail .result)) (c .before .before .before .before .before .before .before .before .before .before .before .before .before .before .before .before .before .before .before .args .at) (c .before .before .before .before .before .before .before .before .before .before .before .before .read .result) (R.Some _ _) (c .before .before .before .before .before .before .before .before .before .before .before .before .before .tail .ensures) (c .before .before .before .before .before .before .before .before .before .before .before .before .read .ensures) (c .before .before .before .before .before .before .before .before .before .before .v .given .1))), length-drop (c .before .before .before .before .before .before .before .before .before .before .before .before .before .before .before .before .before .before .before .args .at) (now (c .before .before .before .before .before .before .before .before .before .before .before .before .before .before .before .before .before .before .before .args .q)), (c .before .before .before .before .before .before .before .before .record-length5 .ensures .0 ∙ lengths .4))) (a .inside)), c .before .before .before .before .before .before .before .before .before .before .before .before .before .before .before .before .before .before .before .good)
+condition-parent-requires-4 t c κs =
+    let c₅ = c .before .before .before .before .before in let some = c₅ .some in
+    let c₈ = c₅ .before .before .before in let record-length5 = c₈ .record-length5 in
+    let c₁₀ = c₈ .before .before in let v = c₁₀ .v in
+    let c₁₂ = c₁₀ .before .before in let read = c₁₂ .read in
+    let c₁₃ = c₁₂ .before in let tail = c₁₃ .tail in
+    let c₁₉ = c₁₃ .before .before .before .before .before .before in let args = c₁₉ .args in let good = c₁₉ .good in
+    let q = now (args .q) in
+    omega (arith, within _ (some .result) (length q) (some-room q (now (tail .result)) (args .at) (tail .ensures) (read .result) (read .ensures) (record-length5 .result) _ _ (record-length5 .ensures .0) (v .given .1)) (some .ensures .0) (λ a. ends (some-room q (now (tail .result)) (args .at) (tail .ensures) (read .result) (read .ensures) (record-length5 .result) _ _ (record-length5 .ensures .0) (v .given .1)) (a .inside)), good)
 
 condition-same-length : (t : ℕ) → condition-lts.Need-same-length (condition-claims t) (condition-at t) condition.Post
 condition-same-length t c = search needs
 
 condition-returns-3 : (t : ℕ) → condition-lts.Need-returns-3 (condition-claims t) (condition-at t) condition.Post
-condition-returns-3 t c = (λ h. let b = truths (drop (c .before .before .before .before .before .before .before .before .before .before .before .before .before .args .at) (now (c .before .before .before .before .before .before .before .before .before .before .before .before .before .args .q))) (c .before .before .before .before .before .before .read .result) (c .before .before .before .before .before .match .keys1) (begins (now (c .before .before .before .before .before .before .before .before .before .before .before .before .before .args .q)) (now (c .before .before .before .before .before .before .before .tail .result)) (c .before .before .before .before .before .before .before .before .before .before .before .before .before .args .at) (c .before .before .before .before .before .before .read .result) (c .before .before .before .before .before .before .read .result) (c .before .before .before .before .before .before .before .tail .ensures) (c .before .before .before .before .before .before .read .ensures) (refl)) in truth-is (shapeIn (now (c .before .before .before .before .before .before .before .before .before .before .before .before .before .args .catalogue))) (c .before .before .before .before .before .before .before .before .before .before .before .before .before .args .limit) (c .before .before .before .before .before .before .before .before .before .before .before .before .before .args .level) (c .before .before .before .before .before .before .before .before .if1 .left) (scopeOf (now (c .before .before .before .before .before .before .before .before .before .before .before .before .before .args .reach))) (now (c .before .before .before .before .before .before .before .before .before .before .before .before .before .args .q)) (c .before .before .before .before .before .before .before .before .before .before .before .before .before .args .at) (now (c .before .before .before .before .before .before .before .before .before .before .before .before .before .args .z)) (c .before .before .before .record-length .result) (b .0) _ _ (c .before .before .before .record-length .ensures .0 ∙ lengths .0) (b .1) (c .before .before .leaf .ensures .0) (c .before .before .leaf .ensures .1), refl)
+condition-returns-3 t c =
+    let c₂ = c .before .before in let leaf = c₂ .leaf in
+    let c₃ = c₂ .before in let record-length = c₃ .record-length in
+    let c₅ = c₃ .before .before in let match = c₅ .match in
+    let c₆ = c₅ .before in let read = c₆ .read in
+    let c₇ = c₆ .before in let tail = c₇ .tail in
+    let c₈ = c₇ .before in let if1 = c₈ .if1 in
+    let c₁₃ = c₈ .before .before .before .before .before in let args = c₁₃ .args in
+    (λ h. truth-is (shapeIn (now (args .catalogue))) (args .limit) (args .level) (if1 .left) (scopeOf (now (args .reach))) (now (args .q)) (args .at) (now (args .z)) (now (tail .result)) (tail .ensures) (read .result) (read .ensures) (record-length .result) _ _ (record-length .ensures .0) (match .keys1) (leaf .ensures .0) (leaf .ensures .1), refl)
 
 condition-same-length-2 : (t : ℕ) → condition-lts.Need-same-length-2 (condition-claims t) (condition-at t) condition.Post
 condition-same-length-2 t c = search needs
@@ -243,7 +317,15 @@ condition-same-length-3 : (t : ℕ) → condition-lts.Need-same-length-3 (condit
 condition-same-length-3 t c = search needs
 
 condition-returns-4 : (t : ℕ) → condition-lts.Need-returns-4 (condition-claims t) (condition-at t) condition.Post
-condition-returns-4 t c = (λ h. let k = c .before .before .parent .ensures h in not-is (shapeIn (now (c .before .before .before .before .before .before .before .before .before .before .before .before .before .before .before .before .before .before .before .before .before .args .catalogue))) (c .before .before .before .before .before .before .before .before .before .before .before .before .before .before .before .before .before .before .before .before .before .args .limit) (c .before .before .before .before .before .before .before .before .before .before .before .before .before .before .before .before .before .before .before .before .before .args .level) (c .before .before .before .before .before .before .before .before .before .before .before .before .before .before .before .before .if1 .left) (scopeOf (now (c .before .before .before .before .before .before .before .before .before .before .before .before .before .before .before .before .before .before .before .before .before .args .reach))) (now (c .before .before .before .before .before .before .before .before .before .before .before .before .before .before .before .before .before .before .before .before .before .args .q)) (c .before .before .before .before .before .before .before .before .before .before .before .before .before .before .before .before .before .before .before .before .before .args .at) (now (c .before .before .before .before .before .before .before .before .before .before .before .before .before .before .before .before .before .before .before .before .before .args .z)) (c .before .before .before .before .before .before .before .before .before .before .before .record-length2 .result) _ _ _ _ (k .1) (k .2) (c .before .before .before .before .before .before .before .before .before .before .before .record-length2 .ensures .0 ∙ lengths .1) (begins (now (c .before .before .before .before .before .before .before .before .before .before .before .before .before .before .before .before .before .before .before .before .before .args .q)) (now (c .before .before .before .before .before .before .before .before .before .before .before .before .before .before .before .tail .result)) (c .before .before .before .before .before .before .before .before .before .before .before .before .before .before .before .before .before .before .before .before .before .args .at) (c .before .before .before .before .before .before .before .before .before .before .before .before .before .before .read .result) (R.Not) (c .before .before .before .before .before .before .before .before .before .before .before .before .before .before .before .tail .ensures) (c .before .before .before .before .before .before .before .before .before .before .before .before .before .before .read .ensures) (c .before .before .before .before .before .before .before .before .before .before .before .before .enum-told .given .1)) (c .before .before .before .before .before .before .before .before .condition .ensures .0 (k .0)), c .before .before .before .before .before .before .before .before .condition .ensures .1)
+condition-returns-4 t c =
+    let c₈ = c .before .before .before .before .before .before .before .before in let condition = c₈ .condition in
+    let c₁₁ = c₈ .before .before .before in let record-length2 = c₁₁ .record-length2 in
+    let c₁₂ = c₁₁ .before in let enum-told = c₁₂ .enum-told in
+    let c₁₄ = c₁₂ .before .before in let read = c₁₄ .read in
+    let c₁₅ = c₁₄ .before in let tail = c₁₅ .tail in
+    let c₁₆ = c₁₅ .before in let if1 = c₁₆ .if1 in
+    let c₂₁ = c₁₆ .before .before .before .before .before in let args = c₂₁ .args in
+    (λ h. not-is (shapeIn (now (args .catalogue))) (args .limit) (args .level) (if1 .left) (scopeOf (now (args .reach))) (now (args .q)) (args .at) (now (args .z)) (now (tail .result)) (tail .ensures) (read .result) (read .ensures) (record-length2 .result) _ _ _ _ (c .before .before .parent .ensures h) (record-length2 .ensures .0) (enum-told .given .1) (condition .ensures .0), condition .ensures .1)
 
 condition-same-length-4 : (t : ℕ) → condition-lts.Need-same-length-4 (condition-claims t) (condition-at t) condition.Post
 condition-same-length-4 t c = search needs
@@ -252,7 +334,15 @@ condition-same-length-5 : (t : ℕ) → condition-lts.Need-same-length-5 (condit
 condition-same-length-5 t c = search needs
 
 condition-returns-5 : (t : ℕ) → condition-lts.Need-returns-5 (condition-claims t) (condition-at t) condition.Post
-condition-returns-5 t c = (λ h. let k = c .before .before .parent2 .ensures h in both-is (shapeIn (now (c .before .before .before .before .before .before .before .before .before .before .before .before .before .before .before .before .before .before .before .before .args .catalogue))) (c .before .before .before .before .before .before .before .before .before .before .before .before .before .before .before .before .before .before .before .before .args .limit) (c .before .before .before .before .before .before .before .before .before .before .before .before .before .before .before .before .before .before .before .before .args .level) (c .before .before .before .before .before .before .before .before .before .before .before .before .before .before .before .if1 .left) (scopeOf (now (c .before .before .before .before .before .before .before .before .before .before .before .before .before .before .before .before .before .before .before .before .args .reach))) (now (c .before .before .before .before .before .before .before .before .before .before .before .before .before .before .before .before .before .before .before .before .args .q)) (c .before .before .before .before .before .before .before .before .before .before .before .before .before .before .before .before .before .before .before .before .args .at) (now (c .before .before .before .before .before .before .before .before .before .before .before .before .before .before .before .before .before .before .before .before .args .z)) (c .before .before .before .before .before .before .before .before .before .before .before .record-length3 .result) _ _ _ _ (k .1) (k .2) ((joins (drop (c .before .before .before .before .before .before .before .before .before .before .before .before .before .before .before .before .before .before .before .before .args .at) (now (c .before .before .before .before .before .before .before .before .before .before .before .before .before .before .before .before .before .before .before .before .args .q))) (c .before .before .before .before .before .before .before .before .before .before .before .before .before .read .result) (c .before .before .before .before .before .before .before .before .before .before .before .before .match .keys3) (begins (now (c .before .before .before .before .before .before .before .before .before .before .before .before .before .before .before .before .before .before .before .before .args .q)) (now (c .before .before .before .before .before .before .before .before .before .before .before .before .before .before .tail .result)) (c .before .before .before .before .before .before .before .before .before .before .before .before .before .before .before .before .before .before .before .before .args .at) (c .before .before .before .before .before .before .before .before .before .before .before .before .before .read .result) (c .before .before .before .before .before .before .before .before .before .before .before .before .before .read .result) (c .before .before .before .before .before .before .before .before .before .before .before .before .before .before .tail .ensures) (c .before .before .before .before .before .before .before .before .before .before .before .before .before .read .ensures) (refl))) .0) (c .before .before .before .before .before .before .before .before .before .before .before .record-length3 .ensures .0 ∙ lengths .2) ((joins (drop (c .before .before .before .before .before .before .before .before .before .before .before .before .before .before .before .before .before .before .before .before .args .at) (now (c .before .before .before .before .before .before .before .before .before .before .before .before .before .before .before .before .before .before .before .before .args .q))) (c .before .before .before .before .before .before .before .before .before .before .before .before .before .read .result) (c .before .before .before .before .before .before .before .before .before .before .before .before .match .keys3) (begins (now (c .before .before .before .before .before .before .before .before .before .before .before .before .before .before .before .before .before .before .before .before .args .q)) (now (c .before .before .before .before .before .before .before .before .before .before .before .before .before .before .tail .result)) (c .before .before .before .before .before .before .before .before .before .before .before .before .before .before .before .before .before .before .before .before .args .at) (c .before .before .before .before .before .before .before .before .before .before .before .before .before .read .result) (c .before .before .before .before .before .before .before .before .before .before .before .before .before .read .result) (c .before .before .before .before .before .before .before .before .before .before .before .before .before .before .tail .ensures) (c .before .before .before .before .before .before .before .before .before .before .before .before .before .read .ensures) (refl))) .1) (c .before .before .before .before .before .before .before .before .conditions .ensures .0 (k .0)), c .before .before .before .before .before .before .before .before .conditions .ensures .1)
+condition-returns-5 t c =
+    let c₈ = c .before .before .before .before .before .before .before .before in let conditions = c₈ .conditions in
+    let c₁₁ = c₈ .before .before .before in let record-length3 = c₁₁ .record-length3 in
+    let c₁₂ = c₁₁ .before in let match = c₁₂ .match in
+    let c₁₃ = c₁₂ .before in let read = c₁₃ .read in
+    let c₁₄ = c₁₃ .before in let tail = c₁₄ .tail in
+    let c₁₅ = c₁₄ .before in let if1 = c₁₅ .if1 in
+    let c₂₀ = c₁₅ .before .before .before .before .before in let args = c₂₀ .args in
+    (λ h. both-is (shapeIn (now (args .catalogue))) (args .limit) (args .level) (if1 .left) (scopeOf (now (args .reach))) (now (args .q)) (args .at) (now (args .z)) (now (tail .result)) (tail .ensures) (read .result) (read .ensures) (record-length3 .result) _ _ _ _ (c .before .before .parent2 .ensures h) (record-length3 .ensures .0) (match .keys3) (conditions .ensures .0), conditions .ensures .1)
 
 condition-same-length-6 : (t : ℕ) → condition-lts.Need-same-length-6 (condition-claims t) (condition-at t) condition.Post
 condition-same-length-6 t c = search needs
@@ -261,7 +351,17 @@ condition-same-length-7 : (t : ℕ) → condition-lts.Need-same-length-7 (condit
 condition-same-length-7 t c = search needs
 
 condition-returns-6 : (t : ℕ) → condition-lts.Need-returns-6 (condition-claims t) (condition-at t) condition.Post
-condition-returns-6 t c = (λ h. let k = c .before .before .parent3 .ensures h in compare-is (shapeIn (now (c .before .before .before .before .before .before .before .before .before .before .before .before .before .before .before .before .before .before .before .before .before .before .args .catalogue))) (c .before .before .before .before .before .before .before .before .before .before .before .before .before .before .before .before .before .before .before .before .before .before .args .limit) (c .before .before .before .before .before .before .before .before .before .before .before .before .before .before .before .before .before .before .before .before .before .before .args .level) (c .before .before .before .before .before .before .before .before .before .before .before .before .before .before .before .before .before .if1 .left) (scopeOf (now (c .before .before .before .before .before .before .before .before .before .before .before .before .before .before .before .before .before .before .before .before .before .before .args .reach))) (now (c .before .before .before .before .before .before .before .before .before .before .before .before .before .before .before .before .before .before .before .before .before .before .args .q)) (c .before .before .before .before .before .before .before .before .before .before .before .before .before .before .before .before .before .before .before .before .before .before .args .at) (now (c .before .before .before .before .before .before .before .before .before .before .before .before .before .before .before .before .before .before .before .before .before .before .args .z)) (c .before .before .before .before .before .before .before .before .before .record-length4 .result) _ _ _ _ (k .1) (k .2) _ (c .before .before .before .before .before .before .before .before .before .record-length4 .ensures .0 ∙ lengths .3) (begins (now (c .before .before .before .before .before .before .before .before .before .before .before .before .before .before .before .before .before .before .before .before .before .before .args .q)) (now (c .before .before .before .before .before .before .before .before .before .before .before .before .before .before .before .before .tail .result)) (c .before .before .before .before .before .before .before .before .before .before .before .before .before .before .before .before .before .before .before .before .before .before .args .at) (c .before .before .before .before .before .before .before .before .before .before .before .before .before .before .before .read .result) (R.Compare _) (c .before .before .before .before .before .before .before .before .before .before .before .before .before .before .before .before .tail .ensures) (c .before .before .before .before .before .before .before .before .before .before .before .before .before .before .before .read .ensures) (c .before .before .before .before .before .before .before .before .before .before .before .before .before .o .given .1)) (sym (c .before .before .before .before .before .before .before .before .before .before .before .is-operator .ensures) ∙ not-false _ (c .before .before .before .before .before .before .before .before .before .before .if2 .left)) (c .before .before .before .before .before .before .terms .ensures (k .0)), refl)
+condition-returns-6 t c =
+    let c₆ = c .before .before .before .before .before .before in let terms = c₆ .terms in
+    let c₉ = c₆ .before .before .before in let record-length4 = c₉ .record-length4 in
+    let c₁₀ = c₉ .before in let if2 = c₁₀ .if2 in
+    let c₁₁ = c₁₀ .before in let is-operator = c₁₁ .is-operator in
+    let c₁₃ = c₁₁ .before .before in let o = c₁₃ .o in
+    let c₁₅ = c₁₃ .before .before in let read = c₁₅ .read in
+    let c₁₆ = c₁₅ .before in let tail = c₁₆ .tail in
+    let c₁₇ = c₁₆ .before in let if1 = c₁₇ .if1 in
+    let c₂₂ = c₁₇ .before .before .before .before .before in let args = c₂₂ .args in
+    (λ h. compare-is (shapeIn (now (args .catalogue))) (args .limit) (args .level) (if1 .left) (scopeOf (now (args .reach))) (now (args .q)) (args .at) (now (args .z)) (now (tail .result)) (tail .ensures) (read .result) (read .ensures) (record-length4 .result) _ _ _ _ (c .before .before .parent3 .ensures h) _ _ (record-length4 .ensures .0) (o .given .1) (is-operator .ensures) (if2 .left) (terms .ensures), refl)
 
 condition-same-length-8 : (t : ℕ) → condition-lts.Need-same-length-8 (condition-claims t) (condition-at t) condition.Post
 condition-same-length-8 t c = search needs
@@ -270,7 +370,15 @@ condition-same-length-9 : (t : ℕ) → condition-lts.Need-same-length-9 (condit
 condition-same-length-9 t c = search needs
 
 condition-returns-7 : (t : ℕ) → condition-lts.Need-returns-7 (condition-claims t) (condition-at t) condition.Post
-condition-returns-7 t c = (λ h. let k = c .before .before .parent4 .ensures h in some-is (shapeIn (now (c .before .before .before .before .before .before .before .before .before .before .before .before .before .before .before .before .before .before .before .before .before .before .args .catalogue))) (c .before .before .before .before .before .before .before .before .before .before .before .before .before .before .before .before .before .before .before .before .before .before .args .limit) (c .before .before .before .before .before .before .before .before .before .before .before .before .before .before .before .before .before .before .before .before .before .before .args .level) (c .before .before .before .before .before .before .before .before .before .before .before .before .before .before .before .before .before .if1 .left) (scopeOf (now (c .before .before .before .before .before .before .before .before .before .before .before .before .before .before .before .before .before .before .before .before .before .before .args .reach))) (now (c .before .before .before .before .before .before .before .before .before .before .before .before .before .before .before .before .before .before .before .before .before .before .args .q)) (c .before .before .before .before .before .before .before .before .before .before .before .before .before .before .before .before .before .before .before .before .before .before .args .at) (now (c .before .before .before .before .before .before .before .before .before .before .before .before .before .before .before .before .before .before .before .before .before .before .args .z)) (c .before .before .before .before .before .before .before .before .before .before .before .record-length5 .result) _ _ _ _ (k .1) (k .2) _ _ (c .before .before .before .before .before .before .before .before .before .before .before .record-length5 .ensures .0 ∙ lengths .4) (begins (now (c .before .before .before .before .before .before .before .before .before .before .before .before .before .before .before .before .before .before .before .before .before .before .args .q)) (now (c .before .before .before .before .before .before .before .before .before .before .before .before .before .before .before .before .tail .result)) (c .before .before .before .before .before .before .before .before .before .before .before .before .before .before .before .before .before .before .before .before .before .before .args .at) (c .before .before .before .before .before .before .before .before .before .before .before .before .before .before .before .read .result) (R.Some _ _) (c .before .before .before .before .before .before .before .before .before .before .before .before .before .before .before .before .tail .ensures) (c .before .before .before .before .before .before .before .before .before .before .before .before .before .before .before .read .ensures) (c .before .before .before .before .before .before .before .before .before .before .before .before .before .v .given .1)) (c .before .before .before .before .before .before .before .before .some .ensures .0 (k .0)), c .before .before .before .before .before .before .before .before .some .ensures .1)
+condition-returns-7 t c =
+    let c₈ = c .before .before .before .before .before .before .before .before in let some = c₈ .some in
+    let c₁₁ = c₈ .before .before .before in let record-length5 = c₁₁ .record-length5 in
+    let c₁₃ = c₁₁ .before .before in let v = c₁₃ .v in
+    let c₁₅ = c₁₃ .before .before in let read = c₁₅ .read in
+    let c₁₆ = c₁₅ .before in let tail = c₁₆ .tail in
+    let c₁₇ = c₁₆ .before in let if1 = c₁₇ .if1 in
+    let c₂₂ = c₁₇ .before .before .before .before .before in let args = c₂₂ .args in
+    (λ h. some-is (shapeIn (now (args .catalogue))) (args .limit) (args .level) (if1 .left) (scopeOf (now (args .reach))) (now (args .q)) (args .at) (now (args .z)) (now (tail .result)) (tail .ensures) (read .result) (read .ensures) (record-length5 .result) _ _ _ _ (c .before .before .parent4 .ensures h) _ _ (record-length5 .ensures .0) (v .given .1) (some .ensures .0), some .ensures .1)
 
 condition-returns-8 : (t : ℕ) → condition-lts.Need-returns-8 (condition-claims t) (condition-at t) condition.Post
 condition-returns-8 t c = (λ h. absurd (h refl), refl)
@@ -293,10 +401,16 @@ conditions-returns :
 conditions-returns t c = (λ h. absurd (h refl), c .before .before .before .before .before .condition .ensures .1)
 
 conditions-add-condition : (t : ℕ) → conditions-lts.Need-add-condition (conditions-claims t) (conditions-at t) conditions.Post
-conditions-add-condition t c = omega (arith, ends (c .before .before .before .before .before .before .before .before .before .before .before .before .before .pre .1 .0) (c .before .before .before .before .before .before .condition .ensures .0 (c .before .if1 .left)), c .before .before .before .before .before .before .before .before .before .before .before .before .before .good)
+conditions-add-condition t c =
+    let c₆ = c .before .before .before .before .before .before in let condition = c₆ .condition in
+    let c₁₃ = c₆ .before .before .before .before .before .before .before in let good = c₁₃ .good in let pre = c₁₃ .pre in
+    omega (arith, ends (pre .1 .0) (condition .ensures .0 (c .before .if1 .left)), good)
 
 conditions-condition-requires-2 : (t : ℕ) → conditions-lts.Need-condition-requires-2 (conditions-claims t) (conditions-at t) conditions.Post
-conditions-condition-requires-2 t c κs = (omega (arith, c .before .before .before .before .before .before .before .before .before .before .before .before .before .before .pre .0), (ends (c .before .before .before .before .before .before .before .before .before .before .before .before .before .before .pre .1 .0) (c .before .before .before .before .before .before .before .condition .ensures .0 (c .before .before .if1 .left)), omega (arith, ap length (c .before .before .before .before .before .before .before .condition .ensures .1), c .before .before .before .before .before .before .before .before .before .before .before .before .before .before .pre .1 .1)))
+conditions-condition-requires-2 t c κs =
+    let c₇ = c .before .before .before .before .before .before .before in let condition = c₇ .condition in
+    let c₁₄ = c₇ .before .before .before .before .before .before .before in let pre = c₁₄ .pre in
+    (omega (arith, pre .0), (ends (pre .1 .0) (condition .ensures .0 (c .before .before .if1 .left)), omega (arith, ap length (condition .ensures .1), pre .1 .1)))
 
 conditions-same-length-3 : (t : ℕ) → conditions-lts.Need-same-length-3 (conditions-claims t) (conditions-at t) conditions.Post
 conditions-same-length-3 t c = search needs
@@ -310,10 +424,18 @@ conditions-returns-2 :
     (condition-below t, condition.Post)
     (conditions-at t)
     conditions.Post
-conditions-returns-2 t c = (λ h. absurd (h refl), c .before .before .before .before .before .condition2 .ensures .1 ∙ c .before .before .before .before .before .before .before .before .before .before .before .before .before .condition .ensures .1)
+conditions-returns-2 t c =
+    let c₅ = c .before .before .before .before .before in let condition2 = c₅ .condition2 in
+    let c₁₃ = c₅ .before .before .before .before .before .before .before .before in let condition = c₁₃ .condition in
+    (λ h. absurd (h refl), condition2 .ensures .1 ∙ condition .ensures .1)
 
 conditions-add-result : (t : ℕ) → conditions-lts.Need-add-result (conditions-claims t) (conditions-at t) conditions.Post
-conditions-add-result t c = omega (arith, ends (c .before .before .before .before .before .before .before .before .before .before .before .before .before .before .before .before .before .before .before .before .pre .1 .0) (c .before .before .before .before .before .before .before .before .before .before .before .before .before .condition .ensures .0 (c .before .before .before .before .before .before .before .before .if1 .left)), ends (ends (c .before .before .before .before .before .before .before .before .before .before .before .before .before .before .before .before .before .before .before .before .pre .1 .0) (c .before .before .before .before .before .before .before .before .before .before .before .before .before .condition .ensures .0 (c .before .before .before .before .before .before .before .before .if1 .left))) (c .before .before .before .before .before .condition2 .ensures .0 (c .if2 .left)), c .before .before .before .before .before .before .before .before .before .before .before .before .before .before .before .before .before .before .before .before .good)
+conditions-add-result t c =
+    let c₅ = c .before .before .before .before .before in let condition2 = c₅ .condition2 in
+    let c₈ = c₅ .before .before .before in let if1 = c₈ .if1 in
+    let c₁₃ = c₈ .before .before .before .before .before in let condition = c₁₃ .condition in
+    let c₂₀ = c₁₃ .before .before .before .before .before .before .before in let good = c₂₀ .good in let pre = c₂₀ .pre in
+    omega (arith, ends (ends (pre .1 .0) (condition .ensures .0 (if1 .left))) (condition2 .ensures .0 (c .if2 .left)), good)
 
 conditions-same-length-5 : (t : ℕ) → conditions-lts.Need-same-length-5 (conditions-claims t) (conditions-at t) conditions.Post
 conditions-same-length-5 t c = search needs
@@ -327,7 +449,12 @@ conditions-returns-3 :
     (condition-below t, condition.Post)
     (conditions-at t)
     conditions.Post
-conditions-returns-3 t c = (λ h. two-is (shapeIn (now (c .before .before .before .before .before .before .before .before .before .before .before .before .before .before .before .before .before .before .before .before .args .catalogue))) (c .before .before .before .before .before .before .before .before .before .before .before .before .before .before .before .before .before .before .before .before .args .limit) (c .before .before .before .before .before .before .before .before .before .before .before .before .before .before .before .before .before .before .before .before .args .level) (now (c .before .before .before .before .before .before .before .before .before .before .before .before .before .before .before .before .before .before .before .before .args .reach)) _ (now (c .before .before .before .before .before .before .before .before .before .before .before .before .before .before .before .before .before .before .before .before .args .q)) (c .before .before .before .before .before .before .before .before .before .before .before .before .before .before .before .before .before .before .before .before .args .at) _ _ _ (now (c .before .before .before .before .before .before .before .before .before .before .before .before .before .before .before .before .before .before .before .before .args .z)) _ _ (c .before .before .before .before .before .before .before .before .before .before .before .before .before .condition .ensures .1) (c .before .before .before .before .before .before .before .before .before .before .before .before .before .condition .ensures .0 (c .before .before .before .before .before .before .before .before .if1 .left)) (c .before .before .before .before .before .condition2 .ensures .0 (c .if2 .left)) refl, c .before .before .before .before .before .condition2 .ensures .1 ∙ c .before .before .before .before .before .before .before .before .before .before .before .before .before .condition .ensures .1)
+conditions-returns-3 t c =
+    let c₅ = c .before .before .before .before .before in let condition2 = c₅ .condition2 in
+    let c₈ = c₅ .before .before .before in let if1 = c₈ .if1 in
+    let c₁₃ = c₈ .before .before .before .before .before in let condition = c₁₃ .condition in
+    let c₂₀ = c₁₃ .before .before .before .before .before .before .before in let args = c₂₀ .args in
+    (λ h. two-is (shapeIn (now (args .catalogue))) (args .limit) (args .level) (now (args .reach)) _ (now (args .q)) (args .at) _ _ _ (now (args .z)) _ _ (condition .ensures .1) (condition .ensures .0 (if1 .left)) (condition2 .ensures .0 (c .if2 .left)) refl, condition2 .ensures .1 ∙ condition .ensures .1)
 
 some-known-requires : (t : ℕ) → some-lts.Need-known-requires (some-claims t) (some-at t) some.Post
 some-known-requires t c κs = search needs
@@ -354,7 +481,16 @@ some-same-length-2 : (t : ℕ) → some-lts.Need-same-length-2 (some-claims t) (
 some-same-length-2 t c = search needs
 
 some-returns-2 : (t : ℕ) → some-lts.Need-returns-2 (some-claims t) (some-at t) some.Post
-some-returns-2 t c = (λ h. under-is (shapeIn (now (c .before .before .before .before .before .before .before .before .before .before .before .before .before .before .before .before .before .before .before .before .before .before .before .args .catalogue))) (c .before .before .before .before .before .before .before .before .before .before .before .before .before .before .before .before .before .before .before .before .before .before .before .args .limit) (c .before .before .before .before .before .before .before .before .before .before .before .before .before .before .before .before .before .before .before .before .before .before .before .args .level) (c .before .before .before .before .before .before .before .before .before .before .before .before .before .before .before .before .before .before .before .before .before .before .before .args .variable) (c .before .before .before .before .before .before .before .before .before .before .before .before .before .before .before .before .before .before .before .before .before .before .before .args .relation) (c .before .before .before .before .before .before .before .before .before .before .before .before .before .before .before .before .before .before .known .result) (c .before .before .before .before .before .before .before .before .before .before .before .before .before .before .before .before .before .before .known .ensures) (c .before .before .before .before .before .before .before .before .before .before .before .before .before .before .before .before .before .if1 .left) (now (c .before .before .before .before .before .before .before .before .before .before .before .before .before .before .before .before .before .before .before .before .before .before .before .args .q)) (c .before .before .before .before .before .before .before .before .before .before .before .before .before .before .before .before .before .before .before .before .before .before .before .args .at) _ (now (c .before .before .before .before .before .before .before .before .before .before .before .before .before .before .before .before .before .before .before .before .before .before .before .args .z)) _ (now (c .before .before .before .before .before .before .before .before .before .before .before .before .before .before .before .before .before .before .before .before .before .before .before .args .reach)) (c .before .before .before .before .before .before .before .before .before .before .before .before .before .bind .last .0) (c .before .before .before .before .before .before .before .before .before .before .before .before .before .before .before .before .before .before .before .before .before .before .before .pre .1 .1) (c .before .before .before .before .before .before .before .before .before .before .before .before .before .bind .ensures) (c .before .before .before .before .before .before .before .before .condition .ensures .0 h), put-back (now (c .before .before .before .before .before .before .before .before .before .before .before .before .before .before .before .before .before .before .before .before .before .before .before .args .reach)) _ (c .before .before .put .last .0) (c .before .before .before .before .before .before .before .before .before .before .before .before .before .before .before .before .before .before .before .before .before .before .before .args .variable) _ _ (c .before .before .before .before .before .before .before .before .condition .ensures .1 ∙ c .before .before .before .before .before .before .before .before .before .before .before .before .before .bind .ensures) (c .before .before .before .before .before .before .before .before .before .before .before .before .before .before .before .entry .ensures) (c .before .before .put .ensures))
+some-returns-2 t c =
+    let c₂ = c .before .before in let put = c₂ .put in
+    let c₈ = c₂ .before .before .before .before .before .before in let condition = c₈ .condition in
+    let c₁₃ = c₈ .before .before .before .before .before in let bind = c₁₃ .bind in
+    let c₁₅ = c₁₃ .before .before in let entry = c₁₅ .entry in
+    let c₁₇ = c₁₅ .before .before in let if1 = c₁₇ .if1 in
+    let c₁₈ = c₁₇ .before in let known = c₁₈ .known in
+    let c₂₃ = c₁₈ .before .before .before .before .before in let args = c₂₃ .args in let pre = c₂₃ .pre in
+    let reach = now (args .reach) in let variable = args .variable in
+    (λ h. under-is (shapeIn (now (args .catalogue))) (args .limit) (args .level) variable (args .relation) (known .result) (known .ensures) (if1 .left) (now (args .q)) (args .at) _ (now (args .z)) _ reach (bind .last .0) (pre .1 .1) (bind .ensures) (condition .ensures .0 h), put-back reach _ (put .last .0) variable _ _ (condition .ensures .1 ∙ bind .ensures) (entry .ensures) (put .ensures))
 
 term-returns : (t : ℕ) → term-lts.Need-returns (term-claims t) (term-at t) term.Post
 term-returns t c = λ h. absurd (h refl)
@@ -408,28 +544,71 @@ term-sub-aggregate : (t : ℕ) → term-lts.Need-sub-aggregate (term-claims t) (
 term-sub-aggregate t c = search needs
 
 term-aggregate-requires : (t : ℕ) → term-lts.Need-aggregate-requires (term-claims t) (term-at t) term.Post
-term-aggregate-requires t c κs = (omega (arith, c .before .before .before .before .before .before .before .before .before .before .before .before .before .before .pre .0, c .before .before .before .before .before .before .before .before .before .if1 .left), omega (arith, ap length ((begins (now (c .before .before .before .before .before .before .before .before .before .before .before .before .before .before .args .q)) (now (c .before .before .before .before .before .before .before .before .tail .result)) (c .before .before .before .before .before .before .before .before .before .before .before .before .before .before .args .at) (c .before .before .before .before .before .before .before .read .result) (R.Aggregate _ _ _ _) (c .before .before .before .before .before .before .before .before .tail .ensures) (c .before .before .before .before .before .before .before .read .ensures) (c .before .before .before .before .before .f .given .1))), length-drop (c .before .before .before .before .before .before .before .before .before .before .before .before .before .before .args .at) (now (c .before .before .before .before .before .before .before .before .before .before .before .before .before .before .args .q)), (c .before .record-length3 .ensures .0 ∙ lengths .7)))
+term-aggregate-requires t c κs =
+    let c₁ = c .before in let record-length3 = c₁ .record-length3 in
+    let c₅ = c₁ .before .before .before .before in let f = c₅ .f in
+    let c₇ = c₅ .before .before in let read = c₇ .read in
+    let c₈ = c₇ .before in let tail = c₈ .tail in
+    let c₉ = c₈ .before in let if1 = c₉ .if1 in
+    let c₁₄ = c₉ .before .before .before .before .before in let args = c₁₄ .args in let pre = c₁₄ .pre in
+    (omega (arith, pre .0, if1 .left), aggregate-room (now (args .q)) (now (tail .result)) (args .at) (tail .ensures) (read .result) (read .ensures) (record-length3 .result) _ _ _ _ (record-length3 .ensures .0) (f .given .1))
 
 term-parent-requires : (t : ℕ) → term-lts.Need-parent-requires (term-claims t) (term-at t) term.Post
-term-parent-requires t c κs = omega (arith, within _ (c .before .before .before .aggregate .result) (length (now (c .before .before .before .before .before .before .before .before .before .before .before .before .before .before .before .before .before .before .args .q))) (omega (arith, ap length ((begins (now (c .before .before .before .before .before .before .before .before .before .before .before .before .before .before .before .before .before .before .args .q)) (now (c .before .before .before .before .before .before .before .before .before .before .before .before .tail .result)) (c .before .before .before .before .before .before .before .before .before .before .before .before .before .before .before .before .before .before .args .at) (c .before .before .before .before .before .before .before .before .before .before .before .read .result) (R.Aggregate _ _ _ _) (c .before .before .before .before .before .before .before .before .before .before .before .before .tail .ensures) (c .before .before .before .before .before .before .before .before .before .before .before .read .ensures) (c .before .before .before .before .before .before .before .before .before .f .given .1))), length-drop (c .before .before .before .before .before .before .before .before .before .before .before .before .before .before .before .before .before .before .args .at) (now (c .before .before .before .before .before .before .before .before .before .before .before .before .before .before .before .before .before .before .args .q)), (c .before .before .before .before .before .record-length3 .ensures .0 ∙ lengths .7))) (c .before .before .before .aggregate .ensures) (λ a. ends (omega (arith, ap length ((begins (now (c .before .before .before .before .before .before .before .before .before .before .before .before .before .before .before .before .before .before .args .q)) (now (c .before .before .before .before .before .before .before .before .before .before .before .before .tail .result)) (c .before .before .before .before .before .before .before .before .before .before .before .before .before .before .before .before .before .before .args .at) (c .before .before .before .before .before .before .before .before .before .before .before .read .result) (R.Aggregate _ _ _ _) (c .before .before .before .before .before .before .before .before .before .before .before .before .tail .ensures) (c .before .before .before .before .before .before .before .before .before .before .before .read .ensures) (c .before .before .before .before .before .before .before .before .before .f .given .1))), length-drop (c .before .before .before .before .before .before .before .before .before .before .before .before .before .before .before .before .before .before .args .at) (now (c .before .before .before .before .before .before .before .before .before .before .before .before .before .before .before .before .before .before .args .q)), (c .before .before .before .before .before .record-length3 .ensures .0 ∙ lengths .7))) (a .under .inside)), c .before .before .before .before .before .before .before .before .before .before .before .before .before .before .before .before .before .before .good)
+term-parent-requires t c κs =
+    let c₃ = c .before .before .before in let aggregate = c₃ .aggregate in
+    let c₅ = c₃ .before .before in let record-length3 = c₅ .record-length3 in
+    let c₉ = c₅ .before .before .before .before in let f = c₉ .f in
+    let c₁₁ = c₉ .before .before in let read = c₁₁ .read in
+    let c₁₂ = c₁₁ .before in let tail = c₁₂ .tail in
+    let c₁₈ = c₁₂ .before .before .before .before .before .before in let args = c₁₈ .args in let good = c₁₈ .good in
+    let q = now (args .q) in
+    omega (arith, within _ (aggregate .result) (length q) (aggregate-room q (now (tail .result)) (args .at) (tail .ensures) (read .result) (read .ensures) (record-length3 .result) _ _ _ _ (record-length3 .ensures .0) (f .given .1)) (aggregate .ensures) (λ a. ends (aggregate-room q (now (tail .result)) (args .at) (tail .ensures) (read .result) (read .ensures) (record-length3 .result) _ _ _ _ (record-length3 .ensures .0) (f .given .1)) (a .under .inside)), good)
 
 term-same-length : (t : ℕ) → term-lts.Need-same-length (term-claims t) (term-at t) term.Post
 term-same-length t c = search needs
 
 term-returns-4 : (t : ℕ) → term-lts.Need-returns-4 (term-claims t) (term-at t) term.Post
-term-returns-4 t c = λ h. constant-is (shapeIn (now (c .before .before .before .before .before .before .before .before .before .before .before .before .before .before .args .catalogue))) (c .before .before .before .before .before .before .before .before .before .before .before .before .before .before .args .limit) (c .before .before .before .before .before .before .before .before .before .before .before .before .before .before .args .level) (c .before .before .before .before .before .before .before .before .before .if1 .left) (scopeOf (now (c .before .before .before .before .before .before .before .before .before .before .before .before .before .before .args .reach))) (now (c .before .before .before .before .before .before .before .before .before .before .before .before .before .before .args .q)) (c .before .before .before .before .before .before .before .before .before .before .before .before .before .before .args .at) (now (c .before .before .before .before .before .before .before .before .before .before .before .before .before .before .args .z)) (c .before .before .before .record-length .result) _ _ _ _ _ _ (c .before .before .before .record-length .ensures .0 ∙ lengths .5) (begins (now (c .before .before .before .before .before .before .before .before .before .before .before .before .before .before .args .q)) (now (c .before .before .before .before .before .before .before .before .tail .result)) (c .before .before .before .before .before .before .before .before .before .before .before .before .before .before .args .at) (c .before .before .before .before .before .before .before .read .result) (R.Constant _ _ _ _) (c .before .before .before .before .before .before .before .before .tail .ensures) (c .before .before .before .before .before .before .before .read .ensures) (c .before .before .before .before .before .enum-told .given .1)) (c .before .before .leaf .ensures .0) (c .before .before .leaf .ensures .1)
+term-returns-4 t c =
+    let c₂ = c .before .before in let leaf = c₂ .leaf in
+    let c₃ = c₂ .before in let record-length = c₃ .record-length in
+    let c₅ = c₃ .before .before in let enum-told = c₅ .enum-told in
+    let c₇ = c₅ .before .before in let read = c₇ .read in
+    let c₈ = c₇ .before in let tail = c₈ .tail in
+    let c₉ = c₈ .before in let if1 = c₉ .if1 in
+    let c₁₄ = c₉ .before .before .before .before .before in let args = c₁₄ .args in
+    λ h. constant-is (shapeIn (now (args .catalogue))) (args .limit) (args .level) (if1 .left) (scopeOf (now (args .reach))) (now (args .q)) (args .at) (now (args .z)) (now (tail .result)) (tail .ensures) (read .result) (read .ensures) (record-length .result) _ _ _ _ _ _ (record-length .ensures .0) (enum-told .given .1) (leaf .ensures .0) (leaf .ensures .1)
 
 term-same-length-2 : (t : ℕ) → term-lts.Need-same-length-2 (term-claims t) (term-at t) term.Post
 term-same-length-2 t c = search needs
 
 term-returns-5 : (t : ℕ) → term-lts.Need-returns-5 (term-claims t) (term-at t) term.Post
-term-returns-5 t c = λ h. attribute-is (shapeIn (now (c .before .before .before .before .before .before .before .before .before .before .before .before .before .before .before .before .before .args .catalogue))) (c .before .before .before .before .before .before .before .before .before .before .before .before .before .before .before .before .before .args .limit) (c .before .before .before .before .before .before .before .before .before .before .before .before .before .before .before .before .before .args .level) (c .before .before .before .before .before .before .before .before .before .before .before .before .if1 .left) (scopeOf (now (c .before .before .before .before .before .before .before .before .before .before .before .before .before .before .before .before .before .args .reach))) (now (c .before .before .before .before .before .before .before .before .before .before .before .before .before .before .before .before .before .args .q)) (c .before .before .before .before .before .before .before .before .before .before .before .before .before .before .before .before .before .args .at) (now (c .before .before .before .before .before .before .before .before .before .before .before .before .before .before .before .before .before .args .z)) (c .before .before .before .record-length2 .result) _ _ _ _ (c .before .before .before .record-length2 .ensures .0 ∙ lengths .6) (begins (now (c .before .before .before .before .before .before .before .before .before .before .before .before .before .before .before .before .before .args .q)) (now (c .before .before .before .before .before .before .before .before .before .before .before .tail .result)) (c .before .before .before .before .before .before .before .before .before .before .before .before .before .before .before .before .before .args .at) (c .before .before .before .before .before .before .before .before .before .before .read .result) (R.Attribute _ _) (c .before .before .before .before .before .before .before .before .before .before .before .tail .ensures) (c .before .before .before .before .before .before .before .before .before .before .read .ensures) (c .before .before .before .before .before .before .before .before .v .given .1)) (sym (c .before .before .before .before .before .before .attribute .ensures) ∙ not-false _ (c .before .before .before .before .before .if2 .left)) (c .before .before .leaf2 .ensures .0) (c .before .before .leaf2 .ensures .1)
+term-returns-5 t c =
+    let c₂ = c .before .before in let leaf2 = c₂ .leaf2 in
+    let c₃ = c₂ .before in let record-length2 = c₃ .record-length2 in
+    let c₅ = c₃ .before .before in let if2 = c₅ .if2 in
+    let c₆ = c₅ .before in let attribute = c₆ .attribute in
+    let c₈ = c₆ .before .before in let v = c₈ .v in
+    let c₁₀ = c₈ .before .before in let read = c₁₀ .read in
+    let c₁₁ = c₁₀ .before in let tail = c₁₁ .tail in
+    let c₁₂ = c₁₁ .before in let if1 = c₁₂ .if1 in
+    let c₁₇ = c₁₂ .before .before .before .before .before in let args = c₁₇ .args in
+    λ h. attribute-is (shapeIn (now (args .catalogue))) (args .limit) (args .level) (if1 .left) (scopeOf (now (args .reach))) (now (args .q)) (args .at) (now (args .z)) (now (tail .result)) (tail .ensures) (read .result) (read .ensures) (record-length2 .result) _ _ _ _ _ (record-length2 .ensures .0) (v .given .1) (attribute .ensures) (if2 .left) (leaf2 .ensures .0) (leaf2 .ensures .1)
 
 term-same-length-3 : (t : ℕ) → term-lts.Need-same-length-3 (term-claims t) (term-at t) term.Post
 term-same-length-3 t c = search needs
 
 term-returns-6 : (t : ℕ) → term-lts.Need-returns-6 (term-claims t) (term-at t) term.Post
-term-returns-6 t c = λ h. let k = c .before .before .parent .ensures h in aggregate-is (shapeIn (now (c .before .before .before .before .before .before .before .before .before .before .before .before .before .before .before .before .before .before .before .before .before .args .catalogue))) (c .before .before .before .before .before .before .before .before .before .before .before .before .before .before .before .before .before .before .before .before .before .args .limit) (c .before .before .before .before .before .before .before .before .before .before .before .before .before .before .before .before .before .before .before .before .before .args .level) (c .before .before .before .before .before .before .before .before .before .before .before .before .before .before .before .before .if1 .left) (scopeOf (now (c .before .before .before .before .before .before .before .before .before .before .before .before .before .before .before .before .before .before .before .before .before .args .reach))) (now (c .before .before .before .before .before .before .before .before .before .before .before .before .before .before .before .before .before .before .before .before .before .args .q)) (c .before .before .before .before .before .before .before .before .before .before .before .before .before .before .before .before .before .before .before .before .before .args .at) (now (c .before .before .before .before .before .before .before .before .before .before .before .before .before .before .before .before .before .before .before .before .before .args .z)) (c .before .before .before .before .before .before .before .before .record-length3 .result) _ _ _ _ (k .1) (k .2) _ _ _ _ (c .before .before .before .before .before .before .before .before .record-length3 .ensures .0 ∙ lengths .7) (begins (now (c .before .before .before .before .before .before .before .before .before .before .before .before .before .before .before .before .before .before .before .before .before .args .q)) (now (c .before .before .before .before .before .before .before .before .before .before .before .before .before .before .before .tail .result)) (c .before .before .before .before .before .before .before .before .before .before .before .before .before .before .before .before .before .before .before .before .before .args .at) (c .before .before .before .before .before .before .before .before .before .before .before .before .before .before .read .result) (R.Aggregate _ _ _ _) (c .before .before .before .before .before .before .before .before .before .before .before .before .before .before .before .tail .ensures) (c .before .before .before .before .before .before .before .before .before .before .before .before .before .before .read .ensures) (c .before .before .before .before .before .before .before .before .before .before .before .before .f .given .1)) (sym (c .before .before .before .before .before .before .before .before .before .before .is-function .ensures) ∙ not-false _ (c .before .before .before .before .before .before .before .before .before .if3 .left)) (c .before .before .before .before .before .before .aggregate .ensures (k .0))
+term-returns-6 t c =
+    let c₆ = c .before .before .before .before .before .before in let aggregate = c₆ .aggregate in
+    let c₈ = c₆ .before .before in let record-length3 = c₈ .record-length3 in
+    let c₉ = c₈ .before in let if3 = c₉ .if3 in
+    let c₁₀ = c₉ .before in let is-function = c₁₀ .is-function in
+    let c₁₂ = c₁₀ .before .before in let f = c₁₂ .f in
+    let c₁₄ = c₁₂ .before .before in let read = c₁₄ .read in
+    let c₁₅ = c₁₄ .before in let tail = c₁₅ .tail in
+    let c₁₆ = c₁₅ .before in let if1 = c₁₆ .if1 in
+    let c₂₁ = c₁₆ .before .before .before .before .before in let args = c₂₁ .args in
+    λ h. aggregate-is (shapeIn (now (args .catalogue))) (args .limit) (args .level) (if1 .left) (scopeOf (now (args .reach))) (now (args .q)) (args .at) (now (args .z)) (now (tail .result)) (tail .ensures) (read .result) (read .ensures) (record-length3 .result) _ _ _ _ (c .before .before .parent .ensures h) _ _ _ _ _ (record-length3 .ensures .0) (f .given .1) (is-function .ensures) (if3 .left) (aggregate .ensures)
 
 term-returns-7 : (t : ℕ) → term-lts.Need-returns-7 (term-claims t) (term-at t) term.Post
 term-returns-7 t c = λ h. absurd (h refl)
@@ -447,11 +626,17 @@ terms-returns t c = λ h. absurd (h refl)
 
 terms-add-term :
     (t : ℕ) → terms-lts.Need-add-term (term-below t, term.Post) (terms-at t) terms.Post
-terms-add-term t c = omega (arith, endsT (c .before .before .before .before .before .before .before .before .before .before .pre .1) (c .before .before .before .before .term .ensures (c .before .if1 .left)), c .before .before .before .before .before .before .before .before .before .before .good)
+terms-add-term t c =
+    let c₄ = c .before .before .before .before in let term = c₄ .term in
+    let c₁₀ = c₄ .before .before .before .before .before .before in let good = c₁₀ .good in let pre = c₁₀ .pre in
+    omega (arith, endsT (pre .1) (term .ensures (c .before .if1 .left)), good)
 
 terms-term-requires-2 :
     (t : ℕ) → terms-lts.Need-term-requires-2 (term-below t, term.Post) (terms-at t) terms.Post
-terms-term-requires-2 t c κs = (omega (arith, c .before .before .before .before .before .before .before .before .before .before .pre .0), endsT (c .before .before .before .before .before .before .before .before .before .before .pre .1) (c .before .before .before .before .term .ensures (c .before .if1 .left)))
+terms-term-requires-2 t c κs =
+    let c₄ = c .before .before .before .before in let term = c₄ .term in
+    let c₁₀ = c₄ .before .before .before .before .before .before in let pre = c₁₀ .pre in
+    (omega (arith, pre .0), endsT (pre .1) (term .ensures (c .before .if1 .left)))
 
 terms-same-length-2 :
     (t : ℕ) → terms-lts.Need-same-length-2 (term-below t, term.Post) (terms-at t) terms.Post
@@ -463,7 +648,12 @@ terms-returns-2 t c = λ h. absurd (h refl)
 
 terms-add-result :
     (t : ℕ) → terms-lts.Need-add-result (term-below t, term.Post) (terms-at t) terms.Post
-terms-add-result t c = omega (arith, endsT (c .before .before .before .before .before .before .before .before .before .before .before .before .before .before .pre .1) (c .before .before .before .before .before .before .before .before .term .ensures (c .before .before .before .before .before .if1 .left)), endsT (endsT (c .before .before .before .before .before .before .before .before .before .before .before .before .before .before .pre .1) (c .before .before .before .before .before .before .before .before .term .ensures (c .before .before .before .before .before .if1 .left))) (c .before .before .before .term2 .ensures (c .if2 .left)), c .before .before .before .before .before .before .before .before .before .before .before .before .before .before .good)
+terms-add-result t c =
+    let c₃ = c .before .before .before in let term2 = c₃ .term2 in
+    let c₅ = c₃ .before .before in let if1 = c₅ .if1 in
+    let c₈ = c₅ .before .before .before in let term = c₈ .term in
+    let c₁₄ = c₈ .before .before .before .before .before .before in let good = c₁₄ .good in let pre = c₁₄ .pre in
+    omega (arith, endsT (endsT (pre .1) (term .ensures (if1 .left))) (term2 .ensures (c .if2 .left)), good)
 
 terms-same-length-3 :
     (t : ℕ) → terms-lts.Need-same-length-3 (term-below t, term.Post) (terms-at t) terms.Post
@@ -471,7 +661,12 @@ terms-same-length-3 t c = search needs
 
 terms-returns-3 :
     (t : ℕ) → terms-lts.Need-returns-3 (term-below t, term.Post) (terms-at t) terms.Post
-terms-returns-3 t c = λ h. two-isT (shapeIn (now (c .before .before .before .before .before .before .before .before .before .before .before .before .before .before .args .catalogue))) (c .before .before .before .before .before .before .before .before .before .before .before .before .before .before .args .limit) (c .before .before .before .before .before .before .before .before .before .before .before .before .before .before .args .level) (scopeOf (now (c .before .before .before .before .before .before .before .before .before .before .before .before .before .before .args .reach))) (now (c .before .before .before .before .before .before .before .before .before .before .before .before .before .before .args .q)) (c .before .before .before .before .before .before .before .before .before .before .before .before .before .before .args .at) _ _ _ (now (c .before .before .before .before .before .before .before .before .before .before .before .before .before .before .args .z)) _ _ (c .before .before .before .before .before .before .before .before .term .ensures (c .before .before .before .before .before .if1 .left)) (c .before .before .before .term2 .ensures (c .if2 .left)) refl
+terms-returns-3 t c =
+    let c₃ = c .before .before .before in let term2 = c₃ .term2 in
+    let c₅ = c₃ .before .before in let if1 = c₅ .if1 in
+    let c₈ = c₅ .before .before .before in let term = c₈ .term in
+    let c₁₄ = c₈ .before .before .before .before .before .before in let args = c₁₄ .args in
+    λ h. two-isT (shapeIn (now (args .catalogue))) (args .limit) (args .level) (scopeOf (now (args .reach))) (now (args .q)) (args .at) _ _ _ (now (args .z)) _ _ (term .ensures (if1 .left)) (term2 .ensures (c .if2 .left)) refl
 
 pub +aggregate+condition+conditions+some+term+terms-spec : {M : Type 1} → statement M
 +aggregate+condition+conditions+some+term+terms-spec =

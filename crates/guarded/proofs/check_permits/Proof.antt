@@ -26,7 +26,9 @@ check-requires : tie.Need-check-requires
 check-requires c κs = search needs
 
 returns-3 : tie.Need-returns-3
-returns-3 c = listed-is (now (c .before .before .before .before .before .before .before .args .catalogue)) (now (c .before .before .before .before .before .before .before .args .list)) (c .before .before .before .before .before .before .before .pre) _ _ (c .before .before .permits-refused .ensures) (c .before .if2 .left) (c .check .ensures)
+returns-3 c =
+    let c₇ = c .before .before .before .before .before .before .before in let args = c₇ .args in let pre = c₇ .pre in
+    listed-is (now (args .catalogue)) (now (args .list)) (pre) _ _ (c .before .before .permits-refused .ensures) (c .before .if2 .left) (c .check .ensures)
 
 pub check-permits-spec : {M : Type 1} → statement M
 check-permits-spec =

@@ -27,7 +27,9 @@ abbrev rest-claims : ℕ → rest-lts.Claims
 rest-claims t = (permit-reads.Asked, permit-reads.Learnt, rest-below t, rest.Post)
 
 rest-returns : (t : ℕ) → rest-lts.Need-returns (rest-claims t) (rest-at t) rest.Post
-rest-returns t c = λ h. list-end (shapeOf (catalogueOf (now (c .before .before .before .before .args .catalogue)))) (now (c .before .before .before .before .args .list)) (c .before .before .before .before .args .at) (c .before .before .before .before .args .left) (c .if1 .taken)
+rest-returns t c =
+    let c₄ = c .before .before .before .before in let args = c₄ .args in
+    λ h. list-end (shapeOf (catalogueOf (now (args .catalogue)))) (now (args .list)) (args .at) (args .left) (c .if1 .taken)
 
 rest-returns-2 : (t : ℕ) → rest-lts.Need-returns-2 (rest-claims t) (rest-at t) rest.Post
 rest-returns-2 t c = λ h. clash h
@@ -48,13 +50,22 @@ rest-sub-rest : (t : ℕ) → rest-lts.Need-sub-rest (rest-claims t) (rest-at t)
 rest-sub-rest t c = search needs
 
 rest-rest-requires : (t : ℕ) → rest-lts.Need-rest-requires (rest-claims t) (rest-at t) rest.Post
-rest-rest-requires t c κs = (omega (arith, c .before .before .before .before .before .before .before .before .before .before .before .pre .0, c .before .before .before .before .before .before .if2 .left), (c .before .before .before .before .before .before .before .before .before .before .before .pre .1 .0, c .before .before .before .before .permit .ensures (c .before .if3 .left) .inside))
+rest-rest-requires t c κs =
+    let c₄ = c .before .before .before .before in let permit = c₄ .permit in
+    let c₆ = c₄ .before .before in let if2 = c₆ .if2 in
+    let c₁₁ = c₆ .before .before .before .before .before in let pre = c₁₁ .pre in
+    (omega (arith, pre .0, if2 .left), (pre .1 .0, permit .ensures (c .before .if3 .left) .inside))
 
 rest-same-length-2 : (t : ℕ) → rest-lts.Need-same-length-2 (rest-claims t) (rest-at t) rest.Post
 rest-same-length-2 t c = search needs
 
 rest-returns-4 : (t : ℕ) → rest-lts.Need-returns-4 (rest-claims t) (rest-at t) rest.Post
-rest-returns-4 t c = λ h. list-more (shapeOf (catalogueOf (now (c .before .before .before .before .before .before .before .before .before .before .before .before .before .before .args .catalogue)))) (now (c .before .before .before .before .before .before .before .before .before .before .before .before .before .before .args .list)) (c .before .before .before .before .before .before .before .before .before .before .before .before .before .before .args .at) (c .before .before .before .before .before .before .before .before .before .before .before .before .before .before .args .left) _ (c .before .before .before .before .before .before .before .before .before .if2 .left) (c .before .before .before .before .before .before .before .permit .ensures (c .before .before .before .before .if3 .left)) (c .before .before .rest .ensures h)
+rest-returns-4 t c =
+    let c₄ = c .before .before .before .before in let if3 = c₄ .if3 in
+    let c₇ = c₄ .before .before .before in let permit = c₇ .permit in
+    let c₉ = c₇ .before .before in let if2 = c₉ .if2 in
+    let c₁₄ = c₉ .before .before .before .before .before in let args = c₁₄ .args in
+    λ h. list-more (shapeOf (catalogueOf (now (args .catalogue)))) (now (args .list)) (args .at) (args .left) _ (if2 .left) (permit .ensures (if3 .left)) (c .before .before .rest .ensures h)
 
 pub +rest-spec : {M : Type 1} → statement M
 +rest-spec = close μ-rest λ t. rest-lts.spec (rest-claims t)

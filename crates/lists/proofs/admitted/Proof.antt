@@ -19,7 +19,10 @@ rest-requires : tie.Need-rest-requires
 rest-requires c κs = search needs
 
 returns-2 : tie.Need-returns-2
-returns-2 c = λ h. list-passes (shapeOf (catalogueOf (now (c .before .before .before .before .before .before .args .catalogue)))) (now (c .before .before .before .before .before .before .args .list)) (c .before .before .before .if1 .left) (c .before .rest .ensures h)
+returns-2 c =
+    let c₃ = c .before .before .before in let if1 = c₃ .if1 in
+    let c₆ = c₃ .before .before .before in let args = c₆ .args in
+    λ h. list-passes (shapeOf (catalogueOf (now (args .catalogue)))) (now (args .list)) (if1 .left) (c .before .rest .ensures h)
 
 pub admitted-spec : {M : Type 1} → statement M
 admitted-spec = tie.close (tie.spec returns slice-aggregate-rest rest-requires returns-2)

@@ -25,7 +25,11 @@ same-length : tie.Need-same-length
 same-length c = search needs
 
 returns : tie.Need-returns
-returns c = λ h. in-permit (shapeIn (now (c .before .before .before .before .before .before .before .before .before .before .before .before .args .catalogue))) (c .before .before .before .before .before .before .before .before .before .before .before .before .args .relation) (c .before .before .before .before .before .before .before .bind .last .0) (now (c .before .before .before .before .before .before .before .before .before .before .before .before .args .bytes)) _ (now (c .before .before .before .before .before .before .before .before .before .before .before .before .args .z)) _ (c .before .before .before .before .before .before .before .bind .ensures) (c .before .before .before .condition .ensures .0 h)
+returns c =
+    let c₃ = c .before .before .before in let condition = c₃ .condition in
+    let c₇ = c₃ .before .before .before .before in let bind = c₇ .bind in
+    let c₁₂ = c₇ .before .before .before .before .before in let args = c₁₂ .args in
+    λ h. in-permit (shapeIn (now (args .catalogue))) (args .relation) (bind .last .0) (now (args .bytes)) _ (now (args .z)) _ (bind .ensures) (condition .ensures .0 h)
 
 pub condition-spec : {M : Type 1} → statement M
 condition-spec =

@@ -29,7 +29,11 @@ all-stored-requires : tie.Need-all-stored-requires
 all-stored-requires c κs = search needs
 
 returns-4 : tie.Need-returns-4
-returns-4 c = λ h. few-bound (now (c .before .before .before .before .before .before .before .before .args .catalogue)) (now (c .before .before .before .before .before .before .before .before .args .condition)) _ _ _ (c .before .before .before .before .before .count-bindings .ensures) (c .before .before .before .if2 .left) (c .before .before .bound-once .ensures) (c .before .if3 .left) (c .all-stored .ensures) h
+returns-4 c =
+    let c₃ = c .before .before .before in let if2 = c₃ .if2 in
+    let c₅ = c₃ .before .before in let count-bindings = c₅ .count-bindings in
+    let c₈ = c₅ .before .before .before in let args = c₈ .args in
+    λ h. few-bound (now (args .catalogue)) (now (args .condition)) _ _ _ (count-bindings .ensures) (if2 .left) (c .before .before .bound-once .ensures) (c .before .if3 .left) (c .all-stored .ensures) h
 
 pub few-bound-spec : {M : Type 1} → statement M
 few-bound-spec =

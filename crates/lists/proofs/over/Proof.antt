@@ -22,13 +22,21 @@ wide-requires : tie.Need-wide-requires
 wide-requires c κs = search needs
 
 returns : tie.Need-returns
-returns c = over-past (now (c .before .before .before .before .args .catalogue)) (c .before .before .before .before .args .relation) (c .before .before .before .before .args .mask) (attributesOf (now (c .before .before .before .before .args .catalogue)) (c .before .before .before .before .args .relation)) _ _ (c .before .before .count .ensures) (c .before .wide .ensures) (c .if1 .taken)
+returns c =
+    let c₄ = c .before .before .before .before in let args = c₄ .args in
+    let catalogue = now (args .catalogue) in let relation = args .relation in
+    over-past catalogue relation (args .mask) (attributesOf catalogue relation) _ _ (c .before .before .count .ensures) (c .before .wide .ensures) (c .if1 .taken)
 
 stored-requires : tie.Need-stored-requires
 stored-requires c κs = search needs
 
 returns-2 : tie.Need-returns-2
-returns-2 c = over-workspace (now (c .before .before .before .before .before .before .args .catalogue)) (c .before .before .before .before .before .before .args .relation) (c .before .before .before .before .before .before .args .mask) (attributesOf (now (c .before .before .before .before .before .before .args .catalogue)) (c .before .before .before .before .before .before .args .relation)) _ _ (c .before .before .before .before .count .ensures) (c .before .before .before .wide .ensures) (c .before .before .if1 .left) _ (c .before .stored .ensures) (c .if2 .taken)
+returns-2 c =
+    let c₃ = c .before .before .before in let wide = c₃ .wide in
+    let c₄ = c₃ .before in let count = c₄ .count in
+    let c₆ = c₄ .before .before in let args = c₆ .args in
+    let catalogue = now (args .catalogue) in let relation = args .relation in
+    over-workspace catalogue relation (args .mask) (attributesOf catalogue relation) _ _ (count .ensures) (wide .ensures) (c .before .before .if1 .left) _ (c .before .stored .ensures) (c .if2 .taken)
 
 attributes-requires : tie.Need-attributes-requires
 attributes-requires c κs = search needs
@@ -37,7 +45,14 @@ mask-in-requires : tie.Need-mask-in-requires
 mask-in-requires c κs = search needs
 
 returns-3 : tie.Need-returns-3
-returns-3 c = over-masked (now (c .before .before .before .before .before .before .before .before .args .catalogue)) (c .before .before .before .before .before .before .before .before .args .relation) (c .before .before .before .before .before .before .before .before .args .mask) (attributesOf (now (c .before .before .before .before .before .before .before .before .args .catalogue)) (c .before .before .before .before .before .before .before .before .args .relation)) _ _ (c .before .before .before .before .before .before .count .ensures) (c .before .before .before .before .before .wide .ensures) (c .before .before .before .before .if1 .left) _ _ (c .before .before .before .stored .ensures) (c .before .before .if2 .left) (c .mask-in .ensures ∙ ap (λ (n : ℕ). maskIn n (c .before .before .before .before .before .before .before .before .args .mask)) (c .before .attributes .ensures .0))
+returns-3 c =
+    let c₃ = c .before .before .before in let stored = c₃ .stored in
+    let c₄ = c₃ .before in let if1 = c₄ .if1 in
+    let c₅ = c₄ .before in let wide = c₅ .wide in
+    let c₆ = c₅ .before in let count = c₆ .count in
+    let c₈ = c₆ .before .before in let args = c₈ .args in
+    let catalogue = now (args .catalogue) in let mask = args .mask in let relation = args .relation in
+    over-masked catalogue relation mask (attributesOf catalogue relation) _ _ (count .ensures) (wide .ensures) (if1 .left) _ _ (stored .ensures) (c .before .before .if2 .left) (c .mask-in .ensures ∙ ap (λ (n : ℕ). maskIn n mask) (c .before .attributes .ensures .0))
 
 pub over-spec : {M : Type 1} → statement M
 over-spec =

@@ -79,7 +79,22 @@ same-length-4 : tie.Need-same-length-4
 same-length-4 c = search needs
 
 returns-6 : tie.Need-returns-6
-returns-6 c = λ h. granted (now (c .before .before .before .before .before .before .before .before .before .before .before .before .before .before .before .before .before .before .before .before .before .before .args .catalogue)) (now (c .before .before .before .before .before .before .before .before .before .before .before .before .before .before .before .before .before .before .before .before .before .before .args .list)) (c .before .before .before .before .before .before .before .before .before .before .before .before .before .before .before .before .before .before .before .before .before .before .pre .0) (c .before .before .before .before .before .before .before .before .before .before .before .before .before .before .before .before .before .before .before .before .before .before .args .at) (c .before .before .before .before .before .before .before .before .before .before .before .before .before .before .before .before .before .before .before .before .before .before .pre .1) _ _ _ (begins (now (c .before .before .before .before .before .before .before .before .before .before .before .before .before .before .before .before .before .before .before .before .before .before .args .list)) (now (c .before .before .before .before .before .before .before .before .before .before .before .before .before .before .before .before .before .before .tail .result)) (c .before .before .before .before .before .before .before .before .before .before .before .before .before .before .before .before .before .before .before .before .before .before .args .at) (c .before .before .before .before .before .before .before .before .before .before .before .before .before .before .before .before .before .read .result) (R.Permit _ _ _) (c .before .before .before .before .before .before .before .before .before .before .before .before .before .before .before .before .before .before .tail .ensures) (c .before .before .before .before .before .before .before .before .before .before .before .before .before .before .before .before .before .read .ensures) (c .before .before .before .before .before .before .before .before .before .before .before .before .before .before .before .relation .given .1)) (c .before .before .before .before .before .before .before .before .before .before .record-length .result) (c .before .before .before .before .before .before .before .before .before .before .record-length .ensures .0) (now (c .before .before .before .before .before .before .before .before .before .before .before .before .before .before .before .before .before .before .tail .result)) (now (c .before .before .before .before .before .before .before .before .before .tail2 .result)) (c .before .before .before .before .before .before .before .before .before .before .before .before .before .before .before .before .before .before .tail .ensures) (c .before .before .before .before .before .before .before .before .before .tail2 .ensures) (c .before .before .before .before .before .before .before .condition .result) (now (c .before .before .before .before .before .before .before .before .before .before .before .before .before .before .before .before .before .before .before .before .before .before .args .z)) _ (c .before .before .before .before .before .before .before .condition .ensures (c .before .before .before .before .if2 .left)) _ (c .before .before .before .before .before .before .before .before .before .before .before .before .before .mask .ensures) _ (c .before .before .before .before .before .before .before .before .before .before .before .before .over .ensures) (c .before .before .before .before .before .before .before .before .before .before .before .if1 .left) (c .before .before .before .if3 .left) (now (c .before .before .part .result)) (c .before .before .part .ensures) (c .before .few-bound .ensures (not-false _ (c .if4 .left)))
+returns-6 c =
+    let c₂ = c .before .before in let part = c₂ .part in
+    let c₃ = c₂ .before in let if3 = c₃ .if3 in
+    let c₄ = c₃ .before in let if2 = c₄ .if2 in
+    let c₇ = c₄ .before .before .before in let condition = c₇ .condition in
+    let c₉ = c₇ .before .before in let tail2 = c₉ .tail2 in
+    let c₁₀ = c₉ .before in let record-length = c₁₀ .record-length in
+    let c₁₁ = c₁₀ .before in let if1 = c₁₁ .if1 in
+    let c₁₂ = c₁₁ .before in let over = c₁₂ .over in
+    let c₁₃ = c₁₂ .before in let mask = c₁₃ .mask in
+    let c₁₅ = c₁₃ .before .before in let relation = c₁₅ .relation in
+    let c₁₇ = c₁₅ .before .before in let read = c₁₇ .read in
+    let c₁₈ = c₁₇ .before in let tail = c₁₈ .tail in
+    let c₂₂ = c₁₈ .before .before .before .before in let args = c₂₂ .args in let pre = c₂₂ .pre in
+    let list = now (args .list) in
+    λ h. granted (now (args .catalogue)) list (pre .0) (args .at) (pre .1) _ _ _ (begins list (now (tail .result)) (args .at) (tail .ensures) (read .result) (read .ensures) (R.Permit _ _ _) (relation .given .1)) (record-length .result) (record-length .ensures .0) (now (tail .result)) (now (tail2 .result)) (tail .ensures) (tail2 .ensures) (condition .result) (now (args .z)) _ (condition .ensures (if2 .left)) _ (mask .ensures) _ (over .ensures) (if1 .left) (if3 .left) (now (part .result)) (part .ensures) (c .before .few-bound .ensures (not-false _ (c .if4 .left)))
 
 pub permit-spec : {M : Type 1} → statement M
 permit-spec =

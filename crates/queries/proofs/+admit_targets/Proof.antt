@@ -38,7 +38,9 @@ admit-targets-byte-requires : (t : ℕ) → admit-targets-lts.Need-byte-requires
 admit-targets-byte-requires t c κs = search needs
 
 admit-targets-returns : (t : ℕ) → admit-targets-lts.Need-returns (admit-targets-claims t) (admit-targets-at t) admit-targets.Post
-admit-targets-returns t c = λ h. targets-end (shapeIn (now (c .before .before .before .before .before .before .args .catalogue))) (c .before .before .before .before .before .before .args .limit) (c .before .before .before .before .before .before .args .level) (scopeOf (now (c .before .before .before .before .before .before .args .reach))) (now (c .before .before .before .before .before .before .args .q)) (c .before .before .before .before .before .before .args .at) (c .before .before .before .before .before .before .args .left) (now (c .before .before .before .before .before .before .args .z)) (c .before .before .before .before .before .before .pre .1)
+admit-targets-returns t c =
+    let c₆ = c .before .before .before .before .before .before in let args = c₆ .args in let pre = c₆ .pre in
+    λ h. targets-end (shapeIn (now (args .catalogue))) (args .limit) (args .level) (scopeOf (now (args .reach))) (now (args .q)) (args .at) (args .left) (now (args .z)) (pre .1)
 
 admit-targets-returns-2 : (t : ℕ) → admit-targets-lts.Need-returns-2 (admit-targets-claims t) (admit-targets-at t) admit-targets.Post
 admit-targets-returns-2 t c = λ h. absurd (h refl)
@@ -53,13 +55,20 @@ admit-targets-returns-3 : (t : ℕ) → admit-targets-lts.Need-returns-3 (admit-
 admit-targets-returns-3 t c = λ h. absurd (h refl)
 
 admit-targets-add-admit-targets : (t : ℕ) → admit-targets-lts.Need-add-admit-targets (admit-targets-claims t) (admit-targets-at t) admit-targets.Post
-admit-targets-add-admit-targets t c = omega (arith, endsT (c .before .before .before .before .before .before .before .before .before .before .before .before .before .pre .1) (c .before .before .before .before .term .ensures (c .before .if3 .left)), c .before .before .before .before .before .before .before .before .before .before .before .before .before .good)
+admit-targets-add-admit-targets t c =
+    let c₄ = c .before .before .before .before in let term = c₄ .term in
+    let c₁₃ = c₄ .before .before .before .before .before .before .before .before .before in let good = c₁₃ .good in let pre = c₁₃ .pre in
+    omega (arith, endsT (pre .1) (term .ensures (c .before .if3 .left)), good)
 
 admit-targets-sub-admit-targets : (t : ℕ) → admit-targets-lts.Need-sub-admit-targets (admit-targets-claims t) (admit-targets-at t) admit-targets.Post
 admit-targets-sub-admit-targets t c = search needs
 
 admit-targets-admit-targets-requires : (t : ℕ) → admit-targets-lts.Need-admit-targets-requires (admit-targets-claims t) (admit-targets-at t) admit-targets.Post
-admit-targets-admit-targets-requires t c κs = (omega (arith, c .before .before .before .before .before .before .before .before .before .before .before .before .before .pre .0, c .before .before .before .before .before .before .if2 .left), endsT (c .before .before .before .before .before .before .before .before .before .before .before .before .before .pre .1) (c .before .before .before .before .term .ensures (c .before .if3 .left)))
+admit-targets-admit-targets-requires t c κs =
+    let c₄ = c .before .before .before .before in let term = c₄ .term in
+    let c₆ = c₄ .before .before in let if2 = c₆ .if2 in
+    let c₁₃ = c₆ .before .before .before .before .before .before .before in let pre = c₁₃ .pre in
+    (omega (arith, pre .0, if2 .left), endsT (pre .1) (term .ensures (c .before .if3 .left)))
 
 admit-targets-same-length-2 : (t : ℕ) → admit-targets-lts.Need-same-length-2 (admit-targets-claims t) (admit-targets-at t) admit-targets.Post
 admit-targets-same-length-2 t c = search needs
@@ -68,13 +77,24 @@ admit-targets-returns-4 : (t : ℕ) → admit-targets-lts.Need-returns-4 (admit-
 admit-targets-returns-4 t c = λ h. absurd (h refl)
 
 admit-targets-add-t19 : (t : ℕ) → admit-targets-lts.Need-add-t19 (admit-targets-claims t) (admit-targets-at t) admit-targets.Post
-admit-targets-add-t19 t c = omega (arith, c .before .before .before .before .admit-targets .ensures (c .before .if4 .left) .few, c .before .before .before .before .before .before .before .before .before .before .before .before .before .before .before .before .before .before .fits .left .fits)
+admit-targets-add-t19 t c =
+    let c₄ = c .before .before .before .before in let admit-targets = c₄ .admit-targets in
+    let c₁₈ = c₄ .before .before .before .before .before .before .before .before .before .before .before .before .before .before in let fits = c₁₈ .fits in
+    omega (arith, admit-targets .ensures (c .before .if4 .left) .few, fits .left .fits)
 
 admit-targets-same-length-3 : (t : ℕ) → admit-targets-lts.Need-same-length-3 (admit-targets-claims t) (admit-targets-at t) admit-targets.Post
 admit-targets-same-length-3 t c = search needs
 
 admit-targets-returns-5 : (t : ℕ) → admit-targets-lts.Need-returns-5 (admit-targets-claims t) (admit-targets-at t) admit-targets.Post
-admit-targets-returns-5 t c = λ h. targets-more (shapeIn (now (c .before .before .before .before .before .before .before .before .before .before .before .before .before .before .before .before .before .before .args .catalogue))) (c .before .before .before .before .before .before .before .before .before .before .before .before .before .before .before .before .before .before .args .limit) (c .before .before .before .before .before .before .before .before .before .before .before .before .before .before .before .before .before .before .args .level) (scopeOf (now (c .before .before .before .before .before .before .before .before .before .before .before .before .before .before .before .before .before .before .args .reach))) (now (c .before .before .before .before .before .before .before .before .before .before .before .before .before .before .before .before .before .before .args .q)) (c .before .before .before .before .before .before .before .before .before .before .before .before .before .before .before .before .before .before .args .at) (c .before .before .before .before .before .before .before .before .before .before .before .before .before .before .before .before .before .before .args .left) (now (c .before .before .before .before .before .before .before .before .before .before .before .before .before .before .before .before .before .before .args .z)) (c .before .before .before .before .before .before .before .before .before .before .before .before .before .byte .result) _ _ _ _ _ _ (c .before .before .before .before .before .before .before .before .before .before .before .before .before .byte .ensures) (c .before .before .before .before .before .before .before .before .before .before .before .before .if1 .left) (c .before .before .before .before .before .before .before .before .before .before .before .if2 .left) (c .before .before .before .before .before .before .before .before .before .term .ensures (c .before .before .before .before .before .before .if3 .left)) (c .before .before .before .before .admit-targets .ensures (c .before .if4 .left)) refl
+admit-targets-returns-5 t c =
+    let c₄ = c .before .before .before .before in let admit-targets = c₄ .admit-targets in
+    let c₆ = c₄ .before .before in let if3 = c₆ .if3 in
+    let c₉ = c₆ .before .before .before in let term = c₉ .term in
+    let c₁₁ = c₉ .before .before in let if2 = c₁₁ .if2 in
+    let c₁₂ = c₁₁ .before in let if1 = c₁₂ .if1 in
+    let c₁₃ = c₁₂ .before in let byte = c₁₃ .byte in
+    let c₁₈ = c₁₃ .before .before .before .before .before in let args = c₁₈ .args in
+    λ h. targets-more (shapeIn (now (args .catalogue))) (args .limit) (args .level) (scopeOf (now (args .reach))) (now (args .q)) (args .at) (args .left) (now (args .z)) (byte .result) _ _ _ _ _ _ (byte .ensures) (if1 .left) (if2 .left) (term .ensures (if3 .left)) (admit-targets .ensures (c .before .if4 .left)) refl
 
 pub +admit-targets-spec : {M : Type 1} → statement M
 +admit-targets-spec = close μ-admit-targets λ t. admit-targets-lts.spec (admit-targets-claims t)

@@ -57,7 +57,14 @@ count-ranges-add-result : (t : ℕ) → count-ranges-lts.Need-add-result (count-
 count-ranges-add-result t c = search needs
 
 count-ranges-returns-3 : (t : ℕ) → count-ranges-lts.Need-returns-3 (count-ranges-claims t) (count-ranges-at t) count-ranges.Post
-count-ranges-returns-3 t c = (omega (arith, c .count-ranges .ensures .0, c .before .before .before .before .before .if1 .left), count-more (now (c .before .before .before .before .before .before .before .args .q)) (now (c .before .tail .result)) (c .before .before .before .before .byte .result) (c .before .before .record-length .result) (c .count-ranges .result) (c .before .before .before .before .byte .ensures) (c .before .before .before .if2 .left) (c .before .before .record-length .ensures .0) (c .before .tail .ensures) (c .count-ranges .ensures .1))
+count-ranges-returns-3 t c =
+    let c₁ = c .before in let tail = c₁ .tail in
+    let c₂ = c₁ .before in let record-length = c₂ .record-length in
+    let c₃ = c₂ .before in let if2 = c₃ .if2 in
+    let c₄ = c₃ .before in let byte = c₄ .byte in
+    let c₅ = c₄ .before in let if1 = c₅ .if1 in
+    let c₇ = c₅ .before .before in let args = c₇ .args in
+    (omega (arith, c .count-ranges .ensures .0, if1 .left), count-more (now (args .q)) (now (tail .result)) (byte .result) (record-length .result) (c .count-ranges .result) (byte .ensures) (if2 .left) (record-length .ensures .0) (tail .ensures) (c .count-ranges .ensures .1))
 
 pub +count-ranges-spec : {M : Type 1} → statement M
 +count-ranges-spec = close μ-count-ranges λ t. count-ranges-lts.spec (count-ranges-claims t)

@@ -38,7 +38,10 @@ returns-3 : tie.Need-returns-3
 returns-3 c = search needs
 
 condition-requires : tie.Need-condition-requires
-condition-requires c κs = (c .before .before .before .before .before .before .admit-targets .ensures (c .before .before .if3 .left) .inside, c .before .before .before .before .before .before .before .before .before .before .before .before .before .before .pre .1)
+condition-requires c κs =
+    let c₆ = c .before .before .before .before .before .before in let admit-targets = c₆ .admit-targets in
+    let c₁₄ = c₆ .before .before .before .before .before .before .before .before in let pre = c₁₄ .pre in
+    (admit-targets .ensures (c .before .before .if3 .left) .inside, pre .1)
 
 same-length-5 : tie.Need-same-length-5
 same-length-5 c = search needs
@@ -50,7 +53,12 @@ returns-4 : tie.Need-returns-4
 returns-4 c = search needs
 
 add-if5 : tie.Need-add-if5
-add-if5 c = omega (arith, ends (c .before .before .before .before .before .before .before .before .before .before .before .before .admit-targets .ensures (c .before .before .before .before .before .before .before .before .if3 .left) .inside) (c .before .before .before .before .before .condition .ensures .0 (c .if4 .left)), c .before .before .before .before .before .before .before .before .before .before .before .before .before .before .before .before .before .before .before .before .good)
+add-if5 c =
+    let c₅ = c .before .before .before .before .before in let condition = c₅ .condition in
+    let c₈ = c₅ .before .before .before in let if3 = c₈ .if3 in
+    let c₁₂ = c₈ .before .before .before .before in let admit-targets = c₁₂ .admit-targets in
+    let c₂₀ = c₁₂ .before .before .before .before .before .before .before .before in let good = c₂₀ .good in
+    omega (arith, ends (admit-targets .ensures (if3 .left) .inside) (condition .ensures .0 (c .if4 .left)), good)
 
 same-length-7 : tie.Need-same-length-7
 same-length-7 c = search needs
@@ -68,7 +76,13 @@ same-length-10 : tie.Need-same-length-10
 same-length-10 c = search needs
 
 returns-6 : tie.Need-returns-6
-returns-6 c = record { between = _; size = c .before .before .before .before .before .before .condition .result; ranges = refl; first = refl; room = c .before .before .before .before .before .before .before .before .before .before .before .before .before .before .before .before .if1 .left; some-target = omega (arith, c .before .before .before .before .before .before .before .before .before .before .if2 .left); targeted = c .before .before .before .before .before .before .before .before .before .before .before .before .before .admit-targets .ensures (c .before .before .before .before .before .before .before .before .before .if3 .left); admitted = c .before .before .before .before .before .before .condition .ensures .0 (c .before .if4 .left); whole = c .if5 .left }
+returns-6 c =
+    let c₆ = c .before .before .before .before .before .before in let condition = c₆ .condition in
+    let c₉ = c₆ .before .before .before in let if3 = c₉ .if3 in
+    let c₁₀ = c₉ .before in let if2 = c₁₀ .if2 in
+    let c₁₃ = c₁₀ .before .before .before in let admit-targets = c₁₃ .admit-targets in
+    let c₁₆ = c₁₃ .before .before .before in let if1 = c₁₆ .if1 in
+    record { between = _; size = condition .result; ranges = refl; first = refl; room = if1 .left; some-target = omega (arith, if2 .left); targeted = admit-targets .ensures (if3 .left); admitted = condition .ensures .0 (c .before .if4 .left); whole = c .if5 .left }
 
 pub admit-rest-spec : {M : Type 1} → statement M
 admit-rest-spec =

@@ -19,7 +19,10 @@ enum-told : tie.Need-enum-told
 enum-told c = search needs
 
 check-each-requires : tie.Need-check-each-requires
-check-each-requires c κs = (c .before .before .before .before .before .before .before .before .before .before .pre .0, (λ h. omega (arith, c .before .before .before .before .before .before .before .before .before .before .pre .1 h, c .before .before .before .before .before .admit .kept .1 .1 .1 .0)), c .before .before .before .before .before .before .before .before .before .before .pre .2)
+check-each-requires c κs =
+    let c₅ = c .before .before .before .before .before in let admit = c₅ .admit in
+    let c₁₀ = c₅ .before .before .before .before .before in let pre = c₁₀ .pre in
+    (pre .0, (λ h. omega (arith, pre .1 h, admit .kept .1 .1 .1 .0)), pre .2)
 
 same-length : tie.Need-same-length
 same-length c = search needs
@@ -31,7 +34,10 @@ same-length-2 : tie.Need-same-length-2
 same-length-2 c = search needs
 
 returns-2 : tie.Need-returns-2
-returns-2 c = passed (c .before .before .before .before .before .admit .result) _ (c .before .before .before .before .before .before .before .before .before .before .args .limits) _ (now (c .before .before .before .before .before .before .before .before .before .before .args .q)) _ (c .before .layout .given .1) (c .before .before .before .before .before .admit .ensures)
+returns-2 c =
+    let c₅ = c .before .before .before .before .before in let admit = c₅ .admit in
+    let c₁₀ = c₅ .before .before .before .before .before in let args = c₁₀ .args in
+    passed (admit .result) _ (args .limits) _ (now (args .q)) _ (c .before .layout .given .1) (admit .ensures)
 
 pub check-spec : {M : Type 1} → statement M
 check-spec =
