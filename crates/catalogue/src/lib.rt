@@ -71,7 +71,7 @@ pub fn base(catalogue: &[u8], relation: u8) -> usize
 }
 
 // How many values the relations have in all; past the bytes of the catalogue there are none.
-pub fn total(catalogue: &[u8]) -> usize
+fn total(catalogue: &[u8]) -> usize
     ensures { λ r. ⌜ r ≡ L.baseOf (now (catalogue .entry)) 16 ⌝ }
 {
     let n = count(catalogue);

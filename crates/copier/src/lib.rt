@@ -130,13 +130,7 @@ fn renamed(q: &[u8], variable: u8, next: usize, item: Record) -> Record
 }
 
 // Writes a permit's condition for a guarded variable, its own variables from `next` up, and returns the place after it.
-pub fn copy_condition(
-    out: &mut [u8],
-    at: usize,
-    condition: &[u8],
-    variable: u8,
-    next: usize,
-) -> usize
+fn copy_condition(out: &mut [u8], at: usize, condition: &[u8], variable: u8, next: usize) -> usize
     requires { ⌜ (at + length (copiedBytes (now condition) variable next) < 9223372036854775808) × (next + length (flatBindings (now condition)) < 256) ⌝ }
     ensures { λ r. ⌜ r ≡ at + length (copiedBytes (now (condition .entry)) variable next) ⌝ }
     ensures { λ _. ⌜ now (out .exit) ≡ sets (now (out .entry)) at (copiedBytes (now (condition .entry)) variable next) ⌝ }

@@ -8,7 +8,7 @@ ghost use Rattle.model.specs.Encoding.{failed, permitsRead};
 ghost use Rattle.model.specs.Checks.{fails20};
 ghost use Rattle.kinds.specs.Tables.{conditionsOf};
 ghost use Rattle.grammar.specs.Sizes.{conditionSize, termSize, permitSize, many, headSize, isCondition, isTerm};
-ghost use Rattle.grammar.specs.Shapes.{isTarget, rangesPart, targetsPart, shapeOf, shapeWithin, fails30At};
+ghost use Rattle.grammar.specs.Shapes.{isTarget, rangesPart, targetsPart, shapeOf, shapeWithin};
 
 pub enum Size {
     Bytes(usize),
@@ -91,7 +91,7 @@ fn head(q: &[u8]) -> Size
 }
 
 // The term that q starts with.
-pub fn term(q: &[u8]) -> Size
+fn term(q: &[u8]) -> Size
     ensures { λ r. ⌜ r ≡ termSize (now (q .entry)) ⌝ }
 {
     if !is_term(kinds::read(q)) {
@@ -106,14 +106,14 @@ pub fn term(q: &[u8]) -> Size
 }
 
 // The condition that q starts with.
-pub fn condition(q: &[u8]) -> Size
+fn condition(q: &[u8]) -> Size
     ensures { λ r. ⌜ r ≡ conditionSize (now (q .entry)) ⌝ }
 {
     conditions(q, 1)
 }
 
 // The permit that a list starts with.
-pub fn permit(q: &[u8]) -> Size
+fn permit(q: &[u8]) -> Size
     ensures { λ r. ⌜ r ≡ permitSize (now (q .entry)) ⌝ }
 {
     let Record::Permit(_, _, _) = kinds::read(q) else {
@@ -127,7 +127,7 @@ pub fn permit(q: &[u8]) -> Size
 }
 
 // Whether a list of permits is well formed.
-pub fn permits(list: &[u8]) -> bool
+fn permits(list: &[u8]) -> bool
     ensures { λ r. ⌜ r ≡ not (failed (permitsRead (now (list .entry)))) ⌝ }
 {
     let mut at = 0;
@@ -209,7 +209,7 @@ pub enum Shape {
 }
 
 // RANGE records, at least one target, one condition, and no byte more.
-pub fn query(q: &[u8]) -> Shape
+fn query(q: &[u8]) -> Shape
     ensures { λ r. ⌜ r ≡ shapeOf (now (q .entry)) ⌝ }
 {
     let Part::Read(n, a) = ranges(q) else {
@@ -244,14 +244,4 @@ pub fn query_within(q: &[u8], limit: usize) -> Shape
     } else {
         query(q)
     }
-}
-
-// 30: over the limit of bytes or not well formed.
-pub fn query_refused(q: &[u8], limit: usize) -> bool
-    ensures { λ r. ⌜ r ≡ fails30At limit (now (q .entry)) ⌝ }
-{
-    let Shape::WellFormed(_) = query_within(q, limit) else {
-        return true;
-    };
-    false
 }

@@ -46,7 +46,7 @@ fn one_if(b: bool) -> u8
 }
 
 // The mask of the applying permits among the first so many.
-pub fn mask(list: &[u8], left: u8, relation: u8, used: u16) -> u8
+fn mask(list: &[u8], left: u8, relation: u8, used: u16) -> u8
     requires { ⌜ left ≤ 8 ⌝ }
     ensures { λ r. ⌜ r ≡ bitsOf (appliesTo (λ a. bit used a) relation) (take left (entries (now (list .entry)))) ⌝ }
     ensures { λ r. ⌜ r < 2 ^ left ⌝ }

@@ -38,7 +38,7 @@ fn entry(word: u64, kind: u8) -> u8
     ((word >> (8 * wide_kind(kind % 8))) % 256) as u8
 }
 
-pub fn body_length(kind: u8) -> u8
+fn body_length(kind: u8) -> u8
     ensures { λ r. ⌜ r ≡ bodyOf kind ⌝ }
 {
     if 8 <= kind % 16 {

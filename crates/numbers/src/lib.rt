@@ -31,13 +31,6 @@ pub fn wide(x: i32) -> i64
     x as i64
 }
 
-pub fn narrow(x: i64) -> i32
-    requires { ⌜ natAbs x ≤ 2147483647 ⌝ }
-    ensures { λ r. ⌜ r ≡ x ⌝ }
-{
-    x as i32
-}
-
 fn over(a: i64, b: i64) -> Ratio
     ensures { λ r. ⌜ r ≡ record { numerator = a; denominator = b } ⌝ }
 {
@@ -220,7 +213,7 @@ fn place(variable: u8) -> usize
 }
 
 // Whether x lies between two numbers.
-pub fn within(low: i64, x: i64, high: i64) -> bool
+fn within(low: i64, x: i64, high: i64) -> bool
     ensures { λ r. ⌜ r ≡ leZ low x && leZ x high ⌝ }
 {
     if low <= x { x <= high } else { false }

@@ -320,10 +320,10 @@ pub fn check(q: &[u8], limits: Limits, catalogue: &[u8], z: &mut [u16]) -> Check
     ensures { λ r. ⌜ numberOf r ≡ refusal (queryChecks (limitsOf limits) (shapeOf (catalogueOf (now (catalogue .entry)))) (now (q .entry))) ⌝ }
     ensures { λ r. ⌜ Ready r (limits .levels) (now (q .entry)) (now (z .exit)) ⌝ }
 {
-    let Shape::WellFormed(layout) = admit(q, limits, catalogue, z) else {
+    let Shape::WellFormed(admitted) = admit(q, limits, catalogue, z) else {
         return check_each(q, limits, catalogue, z);
     };
-    Checked::Passed(layout)
+    Checked::Passed(admitted)
 }
 
 // The layout and the table of sizes of a query that is known to pass, with RANGEs and targets as many as in another: nothing is checked.

@@ -52,7 +52,7 @@ fn leaf(out: &mut [u8], at: usize, next: usize, item: Record) -> Written
 }
 
 // Writes the condition that q and its table stand for.
-pub fn condition(
+fn condition(
     q: &[u8],
     z: &[u16],
     permits: &[u8],
@@ -100,7 +100,7 @@ pub fn condition(
 }
 
 // Writes the term that q and its table stand for.
-pub fn term(
+fn term(
     q: &[u8],
     z: &[u16],
     permits: &[u8],

@@ -12,7 +12,7 @@ use Rattle.model.specs.Lists.{all, any}
 use Rattle.model.specs.Syntax.{Binding, variables}
 use Rattle.model.specs.Permits.{bit}
 use Rattle.model.proofs.Tests.{and-true, or-false}
-use Rattle.scans.specs.Flat.{knownNumbers, usedIn, boundBy, usedBy, fresh}
+use Rattle.scans.specs.Flat.{usedIn, boundBy, usedBy, fresh}
 use Rattle.scans.specs.declared.Bound.{Bound}
 use Rattle.scans.specs.declared.Bound.the-variants as B
 use Rattle.scans.specs.declared.Used.{Used}
@@ -29,14 +29,6 @@ module _ (b : Bound) (t : Binding → Bool) where
   pub test-one : (v r : ℕ) → b ≡ B.To v r → (x : Bool) → x ≡ t (record { variable = v; relation = r }) → x ≡ all t (boundBy b)
   unfolding all
   test-one v r e x ex = ex ∙ sym (ap (λ (x : Bound). all t (boundBy x)) e ∙ and-true (t (record { variable = v; relation = r })))
-
--- a binding is known
-module _ (b : Bound) (limit relations v r x : ℕ) (e : b ≡ B.To v r) (ex : x ≡ v) where
-  pub known-both : (y : ℕ) → y ≡ r → x < limit → ltb y relations ≡ all (knownNumbers limit relations) (boundBy b)
-  known-both y ey h = test-one b (knownNumbers limit relations) v r e (ltb y relations) (ap (λ (i : ℕ). ltb i relations) ey ∙ sym (ap (λ (t : Bool). t && ltb r relations) (lt-ltb v limit (omega arith))))
-
-  pub known-not : limit ≤ x → false ≡ all (knownNumbers limit relations) (boundBy b)
-  known-not h = test-one b (knownNumbers limit relations) v r e false (sym (ap (λ (t : Bool). t && ltb r relations) (le-ltb v limit (omega arith))))
 
 -- a binding is marked
 module _ (s : List ℕ) (b : Bound) where

@@ -17,7 +17,7 @@ use Rattle.kinds.specs.Record.{filled}
 use Rattle.kinds.specs.declared.Record.{Record}
 use Rattle.kinds.proofs.Entries.{of-some}
 use Rattle.kinds.proofs.Records.{whole-record}
-use Rattle.scans.specs.Flat.{recordsAfter, recordsOf, flat, bindingOf, useOf, flatBindings, flatUses, knownNumbers, usedIn}
+use Rattle.scans.specs.Flat.{recordsAfter, recordsOf, flat, bindingOf, useOf, flatBindings, flatUses, usedIn}
 use Rattle.scans.proofs.Walk.{records-cons}
 
 kind-is : (x : Kind) → kindOf (code x) ≡ some x
@@ -141,7 +141,3 @@ bindings-permit p r = at bindingOf k-permit (p .relation ∷ p .low ∷ p .high 
 pub once-query : (q : Query) → unique (variables (flatBindings (encodeQuery q))) ≡ boundOnce q
 unfolding boundOnce
 once-query q = ap (λ (bs : List Binding). unique (variables bs)) (bindings-query q)
-
-pub known-is : (sh : Shape) (limit : ℕ) (b : Binding) → knownNumbers limit (length sh) b ≡ knownBinding sh limit b
-unfolding knownBinding
-known-is sh limit b = refl

@@ -74,10 +74,6 @@ flatBindings q = flat bindingOf q
 abbrev pub flatUses : List ℕ → List Use
 flatUses q = flat useOf q
 
--- a relation and a variable with known numbers (32)
-abbrev pub knownNumbers : ℕ → ℕ → Binding → Bool
-knownNumbers limit relations b = ltb (b .variable) limit && ltb (b .relation) relations
-
 -- over a stored relation (23)
 abbrev pub storedIn : List ℕ → Binding → Bool
 storedIn catalogue b = storedOf catalogue (b .relation)

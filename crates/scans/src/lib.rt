@@ -11,7 +11,7 @@ ghost use Rattle.model.specs.Syntax.{variables};
 ghost use Rattle.model.specs.Permits.{bit};
 ghost use Rattle.kinds.specs.Record.{recordAt};
 ghost use Rattle.kinds.specs.Tables.{recordLength};
-ghost use Rattle.scans.specs.Flat.{bindingOf, useOf, flatBindings, flatUses, knownNumbers, storedIn, boundBy, usedBy, fresh, usedIn};
+ghost use Rattle.scans.specs.Flat.{bindingOf, useOf, flatBindings, flatUses, storedIn, boundBy, usedBy, fresh, usedIn};
 
 pub enum Bound {
     // variable, relation
@@ -63,7 +63,7 @@ pub fn binding(q: &[u8], at: usize) -> Bound
 }
 
 // What the record at a place uses.
-pub fn usage(q: &[u8], at: usize) -> Used
+fn usage(q: &[u8], at: usize) -> Used
     ensures { λ r. ⌜ usedBy r ≡ useOf (recordAt (drop at (now (q .entry)))) ⌝ }
 {
     if !may_use(kinds::byte(q, at)) {
@@ -111,33 +111,6 @@ fn wide(x: u8) -> usize
     ensures { λ r. ⌜ r ≡ x ⌝ }
 {
     x as usize
-}
-
-fn known(b: Bound, limit: usize, relations: usize) -> bool
-    ensures { λ r. ⌜ r ≡ all (knownNumbers limit relations) (boundBy b) ⌝ }
-{
-    let Bound::To(v, r) = b else {
-        return true;
-    };
-    if wide(v) < limit {
-        wide(r) < relations
-    } else {
-        false
-    }
-}
-
-// Whether all bound variables have numbers below the limit, and their relations are among so many.
-pub fn known_bindings(q: &[u8], limit: usize, relations: usize) -> bool
-    ensures { λ r. ⌜ r ≡ all (knownNumbers limit relations) (flatBindings (now (q .entry))) ⌝ }
-{
-    let mut at = 0;
-    while at < q.len() {
-        if !known(binding(q, at), limit, relations) {
-            return false;
-        }
-        at += step(q, at);
-    }
-    true
 }
 
 fn stored(b: Bound, catalogue: &[u8]) -> bool

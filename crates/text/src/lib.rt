@@ -36,7 +36,7 @@ fn digits(n: u64, k: usize, out: &mut [u8], at: usize) -> usize
 }
 
 // A number in decimal.
-pub fn decimal(n: u64, out: &mut [u8], at: usize) -> usize
+fn decimal(n: u64, out: &mut [u8], at: usize) -> usize
     requires { ⌜ at + length (T.decimal n) < 9223372036854775808 ⌝ }
     ensures { λ r. ⌜ r ≡ at + length (T.decimal n) ⌝ }
     ensures { λ _. ⌜ now (out .exit) ≡ sets (now (out .entry)) at (T.decimal n) ⌝ }

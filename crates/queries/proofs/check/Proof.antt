@@ -12,8 +12,8 @@ use Rattle.queries.proofs.check_each.Reads as check-each-reads
 admit-requires : tie.Need-admit-requires
 admit-requires c κs = search needs
 
-enum-known-layout : tie.Need-enum-known-layout
-enum-known-layout c = search needs
+enum-known-admitted : tie.Need-enum-known-admitted
+enum-known-admitted c = search needs
 
 enum-told : tie.Need-enum-told
 enum-told c = search needs
@@ -37,14 +37,14 @@ returns-2 : tie.Need-returns-2
 returns-2 c =
     let c₅ = c .before .before .before .before .before in let admit = c₅ .admit in
     let c₁₀ = c₅ .before .before .before .before .before in let args = c₁₀ .args in
-    passed (admit .result) _ (args .limits) _ (now (args .q)) _ (c .before .layout .given .1) (admit .ensures)
+    passed (admit .result) _ (args .limits) _ (now (args .q)) _ (c .before .admitted .given .1) (admit .ensures)
 
 pub check-spec : {M : Type 1} → statement M
 check-spec =
     tie.close
     (tie.spec
     admit-requires
-    enum-known-layout
+    enum-known-admitted
     enum-told
     check-each-requires
     same-length
