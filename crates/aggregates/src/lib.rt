@@ -198,48 +198,26 @@ pub fn condition(
     }
     let l = level - 1;
     let a = kinds::record_length(kinds::byte(q, 0));
+    let b = a + kinds::size_at(z, a);
     let x = kinds::tail(q, a);
     let y = kinds::tail_sizes(z, a);
-    let b = a + kinds::size_at(z, a);
+    let u = kinds::tail(q, b);
+    let v = kinds::tail_sizes(z, b);
     match kinds::read(q) {
         Record::Not => {
             condition(x, y, l, cb, vs, env, memo);
         }
         Record::And => {
             condition(x, y, l, cb, vs, env, memo);
-            condition(
-                kinds::tail(q, b),
-                kinds::tail_sizes(z, b),
-                l,
-                cb,
-                vs,
-                env,
-                memo,
-            );
+            condition(u, v, l, cb, vs, env, memo);
         }
         Record::Or => {
             condition(x, y, l, cb, vs, env, memo);
-            condition(
-                kinds::tail(q, b),
-                kinds::tail_sizes(z, b),
-                l,
-                cb,
-                vs,
-                env,
-                memo,
-            );
+            condition(u, v, l, cb, vs, env, memo);
         }
         Record::Compare(_) => {
             term(x, y, l, cb, vs, env, memo);
-            term(
-                kinds::tail(q, b),
-                kinds::tail_sizes(z, b),
-                l,
-                cb,
-                vs,
-                env,
-                memo,
-            );
+            term(u, v, l, cb, vs, env, memo);
         }
         Record::Some(_, _) => {
             condition(x, y, l, cb, vs, env, memo);

@@ -48,90 +48,38 @@ pub fn condition(
     }
     let l = level - 1;
     let a = kinds::record_length(kinds::byte(q, 0));
+    let x = kinds::tail(q, a);
+    let y = kinds::tail_sizes(z, a);
     match kinds::read(q) {
         Record::True => true,
-        Record::Not => {
-            !condition(
-                kinds::tail(q, a),
-                kinds::tail_sizes(z, a),
-                l,
-                cb,
-                vs,
-                memo,
-                env,
-            )
-        }
+        Record::Not => !condition(x, y, l, cb, vs, memo, env),
         Record::And => {
-            if !condition(
-                kinds::tail(q, a),
-                kinds::tail_sizes(z, a),
-                l,
-                cb,
-                vs,
-                memo,
-                env,
-            ) {
+            if !condition(x, y, l, cb, vs, memo, env) {
                 return false;
             }
             let b = a + kinds::size_at(z, a);
-            condition(
-                kinds::tail(q, b),
-                kinds::tail_sizes(z, b),
-                l,
-                cb,
-                vs,
-                memo,
-                env,
-            )
+            let u = kinds::tail(q, b);
+            let v = kinds::tail_sizes(z, b);
+            condition(u, v, l, cb, vs, memo, env)
         }
         Record::Or => {
-            if condition(
-                kinds::tail(q, a),
-                kinds::tail_sizes(z, a),
-                l,
-                cb,
-                vs,
-                memo,
-                env,
-            ) {
+            if condition(x, y, l, cb, vs, memo, env) {
                 return true;
             }
             let b = a + kinds::size_at(z, a);
-            condition(
-                kinds::tail(q, b),
-                kinds::tail_sizes(z, b),
-                l,
-                cb,
-                vs,
-                memo,
-                env,
-            )
+            let u = kinds::tail(q, b);
+            let v = kinds::tail_sizes(z, b);
+            condition(u, v, l, cb, vs, memo, env)
         }
         Record::Compare(operator) => {
-            let x = term(
-                kinds::tail(q, a),
-                kinds::tail_sizes(z, a),
-                l,
-                cb,
-                vs,
-                memo,
-                env,
-            );
+            let left = term(x, y, l, cb, vs, memo, env);
             let b = a + kinds::size_at(z, a);
-            let y = term(
-                kinds::tail(q, b),
-                kinds::tail_sizes(z, b),
-                l,
-                cb,
-                vs,
-                memo,
-                env,
-            );
-            numbers::compare(operator, x, y)
+            let u = kinds::tail(q, b);
+            let v = kinds::tail_sizes(z, b);
+            let right = term(u, v, l, cb, vs, memo, env);
+            numbers::compare(operator, left, right)
         }
         Record::Some(variable, relation) => {
-            let x = kinds::tail(q, a);
-            let y = kinds::tail_sizes(z, a);
             some_row(x, y, l, cb, vs, memo, env, variable, relation)
         }
         _ => false,

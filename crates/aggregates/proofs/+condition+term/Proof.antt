@@ -50,7 +50,7 @@ abbrev term-below : ℕ → In 6 term-kinds.ps
 term-below t = and 6 term-kinds.ps (falls 6 term-kinds.ps _<_ μ-term t) term.Pre
 
 abbrev condition-claims : ℕ → condition-lts.Claims
-condition-claims t = (byte-reads.Asked, byte-reads.Learnt, record-length-reads.Asked, record-length-reads.Learnt, tail-reads.Asked, tail-reads.Learnt, tail-sizes-reads.Asked, tail-sizes-reads.Learnt, size-at-reads.Asked, size-at-reads.Learnt, read-reads.Asked, read-reads.Learnt, condition-below t, condition.Post, term-below t, term.Post)
+condition-claims t = (byte-reads.Asked, byte-reads.Learnt, record-length-reads.Asked, record-length-reads.Learnt, size-at-reads.Asked, size-at-reads.Learnt, tail-reads.Asked, tail-reads.Learnt, tail-sizes-reads.Asked, tail-sizes-reads.Learnt, read-reads.Asked, read-reads.Learnt, condition-below t, condition.Post, term-below t, term.Post)
 
 abbrev term-claims : ℕ → term-lts.Claims
 term-claims t = (read-reads.Asked, read-reads.Learnt, byte-reads.Asked, byte-reads.Learnt, record-length-reads.Asked, record-length-reads.Learnt, tail-reads.Asked, tail-reads.Learnt, tail-sizes-reads.Asked, tail-sizes-reads.Learnt, condition-below t, condition.Post, value-reads.Asked, value-reads.Learnt, remember-reads.Asked, remember-reads.Learnt)
@@ -70,17 +70,23 @@ condition-byte-requires t c κs = search needs
 condition-record-length-requires : (t : ℕ) → condition-lts.Need-record-length-requires (condition-claims t) (condition-at t) condition.Post
 condition-record-length-requires t c κs = search needs
 
+condition-size-at-requires : (t : ℕ) → condition-lts.Need-size-at-requires (condition-claims t) (condition-at t) condition.Post
+condition-size-at-requires t c κs = search needs
+
+condition-add-b : (t : ℕ) → condition-lts.Need-add-b (condition-claims t) (condition-at t) condition.Post
+condition-add-b t c = search needs
+
 condition-tail-requires : (t : ℕ) → condition-lts.Need-tail-requires (condition-claims t) (condition-at t) condition.Post
 condition-tail-requires t c κs = search needs
 
 condition-tail-sizes-requires : (t : ℕ) → condition-lts.Need-tail-sizes-requires (condition-claims t) (condition-at t) condition.Post
 condition-tail-sizes-requires t c κs = search needs
 
-condition-size-at-requires : (t : ℕ) → condition-lts.Need-size-at-requires (condition-claims t) (condition-at t) condition.Post
-condition-size-at-requires t c κs = search needs
+condition-tail-requires-2 : (t : ℕ) → condition-lts.Need-tail-requires-2 (condition-claims t) (condition-at t) condition.Post
+condition-tail-requires-2 t c κs = search needs
 
-condition-add-b : (t : ℕ) → condition-lts.Need-add-b (condition-claims t) (condition-at t) condition.Post
-condition-add-b t c = search needs
+condition-tail-sizes-requires-2 : (t : ℕ) → condition-lts.Need-tail-sizes-requires-2 (condition-claims t) (condition-at t) condition.Post
+condition-tail-sizes-requires-2 t c κs = search needs
 
 condition-read-requires : (t : ℕ) → condition-lts.Need-read-requires (condition-claims t) (condition-at t) condition.Post
 condition-read-requires t c κs = search needs
@@ -97,16 +103,10 @@ condition-enum-told-2 t c = search needs
 condition-condition-requires-2 : (t : ℕ) → condition-lts.Need-condition-requires-2 (condition-claims t) (condition-at t) condition.Post
 condition-condition-requires-2 t c κs = search needs
 
-condition-tail-requires-2 : (t : ℕ) → condition-lts.Need-tail-requires-2 (condition-claims t) (condition-at t) condition.Post
-condition-tail-requires-2 t c κs = search needs
-
-condition-tail-sizes-requires-2 : (t : ℕ) → condition-lts.Need-tail-sizes-requires-2 (condition-claims t) (condition-at t) condition.Post
-condition-tail-sizes-requires-2 t c κs = search needs
-
 condition-condition-requires-3 : (t : ℕ) → condition-lts.Need-condition-requires-3 (condition-claims t) (condition-at t) condition.Post
 condition-condition-requires-3 t c κs =
-    let c₇ = c .before .before .before .before .before .before .before in let condition2 = c₇ .condition2 in
-    let c₁₈ = c₇ .before .before .before .before .before .before .before .before .before .before .before in let if1 = c₁₈ .if1 in
+    let c₅ = c .before .before .before .before .before in let condition2 = c₅ .condition2 in
+    let c₁₈ = c₅ .before .before .before .before .before .before .before .before .before .before .before .before .before in let if1 = c₁₈ .if1 in
     let c₂₃ = c₁₈ .before .before .before .before .before in let pre = c₂₃ .pre in
     (omega (arith, pre .0, if1 .left), omega (arith, pre .1, ap length (condition2 .ensures .1)))
 
@@ -116,16 +116,10 @@ condition-enum-told-3 t c = search needs
 condition-condition-requires-4 : (t : ℕ) → condition-lts.Need-condition-requires-4 (condition-claims t) (condition-at t) condition.Post
 condition-condition-requires-4 t c κs = search needs
 
-condition-tail-requires-3 : (t : ℕ) → condition-lts.Need-tail-requires-3 (condition-claims t) (condition-at t) condition.Post
-condition-tail-requires-3 t c κs = search needs
-
-condition-tail-sizes-requires-3 : (t : ℕ) → condition-lts.Need-tail-sizes-requires-3 (condition-claims t) (condition-at t) condition.Post
-condition-tail-sizes-requires-3 t c κs = search needs
-
 condition-condition-requires-5 : (t : ℕ) → condition-lts.Need-condition-requires-5 (condition-claims t) (condition-at t) condition.Post
 condition-condition-requires-5 t c κs =
-    let c₇ = c .before .before .before .before .before .before .before in let condition4 = c₇ .condition4 in
-    let c₁₈ = c₇ .before .before .before .before .before .before .before .before .before .before .before in let if1 = c₁₈ .if1 in
+    let c₅ = c .before .before .before .before .before in let condition4 = c₅ .condition4 in
+    let c₁₈ = c₅ .before .before .before .before .before .before .before .before .before .before .before .before .before in let if1 = c₁₈ .if1 in
     let c₂₃ = c₁₈ .before .before .before .before .before in let pre = c₂₃ .pre in
     (omega (arith, pre .0, if1 .left), omega (arith, pre .1, ap length (condition4 .ensures .1)))
 
@@ -135,16 +129,10 @@ condition-enum-told-4 t c = search needs
 condition-term-requires : (t : ℕ) → condition-lts.Need-term-requires (condition-claims t) (condition-at t) condition.Post
 condition-term-requires t c κs = search needs
 
-condition-tail-requires-4 : (t : ℕ) → condition-lts.Need-tail-requires-4 (condition-claims t) (condition-at t) condition.Post
-condition-tail-requires-4 t c κs = search needs
-
-condition-tail-sizes-requires-4 : (t : ℕ) → condition-lts.Need-tail-sizes-requires-4 (condition-claims t) (condition-at t) condition.Post
-condition-tail-sizes-requires-4 t c κs = search needs
-
 condition-term-requires-2 : (t : ℕ) → condition-lts.Need-term-requires-2 (condition-claims t) (condition-at t) condition.Post
 condition-term-requires-2 t c κs =
-    let c₇ = c .before .before .before .before .before .before .before in let term = c₇ .term in
-    let c₁₈ = c₇ .before .before .before .before .before .before .before .before .before .before .before in let if1 = c₁₈ .if1 in
+    let c₅ = c .before .before .before .before .before in let term = c₅ .term in
+    let c₁₈ = c₅ .before .before .before .before .before .before .before .before .before .before .before .before .before in let if1 = c₁₈ .if1 in
     let c₂₃ = c₁₈ .before .before .before .before .before in let pre = c₂₃ .pre in
     (omega (arith, pre .0, if1 .left), omega (arith, pre .1, ap length (term .ensures .1)))
 
@@ -165,12 +153,12 @@ condition-returns-2 t c =
     let c₃ = c .before .before .before in let condition = c₃ .condition in
     let c₆ = c₃ .before .before .before in let enum-told = c₆ .enum-told in
     let c₈ = c₆ .before .before in let read = c₈ .read in
-    let c₁₀ = c₈ .before .before in let tail-sizes = c₁₀ .tail-sizes in
-    let c₁₁ = c₁₀ .before in let tail = c₁₁ .tail in
-    let c₁₂ = c₁₁ .before in let record-length = c₁₂ .record-length in
-    let c₁₃ = c₁₂ .before in let byte = c₁₃ .byte in
-    let c₁₄ = c₁₃ .before in let if1 = c₁₄ .if1 in
-    let c₁₉ = c₁₄ .before .before .before .before .before in let args = c₁₉ .args in
+    let c₁₁ = c₈ .before .before .before in let tail-sizes = c₁₁ .tail-sizes in
+    let c₁₂ = c₁₁ .before in let tail = c₁₂ .tail in
+    let c₁₄ = c₁₂ .before .before in let record-length = c₁₄ .record-length in
+    let c₁₅ = c₁₄ .before in let byte = c₁₅ .byte in
+    let c₁₆ = c₁₅ .before in let if1 = c₁₆ .if1 in
+    let c₂₁ = c₁₆ .before .before .before .before .before in let args = c₂₁ .args in
     let vs = now (args .vs) in
     (not-is (rowsIn (now (args .cb)) vs) (assigned vs (now (args .env))) (now (args .q)) (now (args .z)) (now (args .memo)) (args .level) _ _ _ (if1 .left) (byte .ensures) (record-length .ensures .0) (read .ensures) _ _ (tail .ensures) (tail-sizes .ensures) _ (enum-told .given .1) (condition .ensures .0), condition .ensures .1)
 
@@ -183,14 +171,14 @@ condition-same-length-4 t c = search needs
 condition-returns-3 : (t : ℕ) → condition-lts.Need-returns-3 (condition-claims t) (condition-at t) condition.Post
 condition-returns-3 t c =
     let c₃ = c .before .before .before in let condition3 = c₃ .condition3 in
-    let c₆ = c₃ .before .before .before in let tail-sizes2 = c₆ .tail-sizes2 in
-    let c₇ = c₆ .before in let tail2 = c₇ .tail2 in
-    let c₁₁ = c₇ .before .before .before .before in let condition2 = c₁₁ .condition2 in
-    let c₁₄ = c₁₁ .before .before .before in let enum-told2 = c₁₄ .enum-told2 in
-    let c₁₆ = c₁₄ .before .before in let read = c₁₆ .read in
-    let c₁₇ = c₁₆ .before in let size-at = c₁₇ .size-at in
-    let c₁₈ = c₁₇ .before in let tail-sizes = c₁₈ .tail-sizes in
-    let c₁₉ = c₁₈ .before in let tail = c₁₉ .tail in
+    let c₉ = c₃ .before .before .before .before .before .before in let condition2 = c₉ .condition2 in
+    let c₁₂ = c₉ .before .before .before in let enum-told2 = c₁₂ .enum-told2 in
+    let c₁₄ = c₁₂ .before .before in let read = c₁₄ .read in
+    let c₁₅ = c₁₄ .before in let tail-sizes2 = c₁₅ .tail-sizes2 in
+    let c₁₆ = c₁₅ .before in let tail2 = c₁₆ .tail2 in
+    let c₁₇ = c₁₆ .before in let tail-sizes = c₁₇ .tail-sizes in
+    let c₁₈ = c₁₇ .before in let tail = c₁₈ .tail in
+    let c₁₉ = c₁₈ .before in let size-at = c₁₉ .size-at in
     let c₂₀ = c₁₉ .before in let record-length = c₂₀ .record-length in
     let c₂₁ = c₂₀ .before in let byte = c₂₁ .byte in
     let c₂₂ = c₂₁ .before in let if1 = c₂₂ .if1 in
@@ -207,20 +195,20 @@ condition-same-length-6 t c = search needs
 condition-returns-4 : (t : ℕ) → condition-lts.Need-returns-4 (condition-claims t) (condition-at t) condition.Post
 condition-returns-4 t c =
     let c₃ = c .before .before .before in let condition5 = c₃ .condition5 in
-    let c₆ = c₃ .before .before .before in let tail-sizes3 = c₆ .tail-sizes3 in
-    let c₇ = c₆ .before in let tail3 = c₇ .tail3 in
-    let c₁₁ = c₇ .before .before .before .before in let condition4 = c₁₁ .condition4 in
-    let c₁₄ = c₁₁ .before .before .before in let enum-told3 = c₁₄ .enum-told3 in
-    let c₁₆ = c₁₄ .before .before in let read = c₁₆ .read in
-    let c₁₇ = c₁₆ .before in let size-at = c₁₇ .size-at in
-    let c₁₈ = c₁₇ .before in let tail-sizes = c₁₈ .tail-sizes in
-    let c₁₉ = c₁₈ .before in let tail = c₁₉ .tail in
+    let c₉ = c₃ .before .before .before .before .before .before in let condition4 = c₉ .condition4 in
+    let c₁₂ = c₉ .before .before .before in let enum-told3 = c₁₂ .enum-told3 in
+    let c₁₄ = c₁₂ .before .before in let read = c₁₄ .read in
+    let c₁₅ = c₁₄ .before in let tail-sizes2 = c₁₅ .tail-sizes2 in
+    let c₁₆ = c₁₅ .before in let tail2 = c₁₆ .tail2 in
+    let c₁₇ = c₁₆ .before in let tail-sizes = c₁₇ .tail-sizes in
+    let c₁₈ = c₁₇ .before in let tail = c₁₈ .tail in
+    let c₁₉ = c₁₈ .before in let size-at = c₁₉ .size-at in
     let c₂₀ = c₁₉ .before in let record-length = c₂₀ .record-length in
     let c₂₁ = c₂₀ .before in let byte = c₂₁ .byte in
     let c₂₂ = c₂₁ .before in let if1 = c₂₂ .if1 in
     let c₂₇ = c₂₂ .before .before .before .before .before in let args = c₂₇ .args in
     let vs = now (args .vs) in
-    (or-is (rowsIn (now (args .cb)) vs) (assigned vs (now (args .env))) (now (args .q)) (now (args .z)) (now (args .memo)) (args .level) _ _ _ (if1 .left) (byte .ensures) (record-length .ensures .0) (read .ensures) _ _ (tail .ensures) (tail-sizes .ensures) _ _ _ _ (size-at .ensures .0) refl (tail3 .ensures) (tail-sizes3 .ensures) _ _ _ (ap (assigned vs) (condition4 .ensures .1)) (condition4 .ensures .0) (condition5 .ensures .0) (enum-told3 .given .1), condition5 .ensures .1 ∙ condition4 .ensures .1)
+    (or-is (rowsIn (now (args .cb)) vs) (assigned vs (now (args .env))) (now (args .q)) (now (args .z)) (now (args .memo)) (args .level) _ _ _ (if1 .left) (byte .ensures) (record-length .ensures .0) (read .ensures) _ _ (tail .ensures) (tail-sizes .ensures) _ _ _ _ (size-at .ensures .0) refl (tail2 .ensures) (tail-sizes2 .ensures) _ _ _ (ap (assigned vs) (condition4 .ensures .1)) (condition4 .ensures .0) (condition5 .ensures .0) (enum-told3 .given .1), condition5 .ensures .1 ∙ condition4 .ensures .1)
 
 condition-same-length-7 : (t : ℕ) → condition-lts.Need-same-length-7 (condition-claims t) (condition-at t) condition.Post
 condition-same-length-7 t c = search needs
@@ -231,20 +219,20 @@ condition-same-length-8 t c = search needs
 condition-returns-5 : (t : ℕ) → condition-lts.Need-returns-5 (condition-claims t) (condition-at t) condition.Post
 condition-returns-5 t c =
     let c₃ = c .before .before .before in let term2 = c₃ .term2 in
-    let c₆ = c₃ .before .before .before in let tail-sizes4 = c₆ .tail-sizes4 in
-    let c₇ = c₆ .before in let tail4 = c₇ .tail4 in
-    let c₁₁ = c₇ .before .before .before .before in let term = c₁₁ .term in
-    let c₁₄ = c₁₁ .before .before .before in let enum-told4 = c₁₄ .enum-told4 in
-    let c₁₆ = c₁₄ .before .before in let read = c₁₆ .read in
-    let c₁₇ = c₁₆ .before in let size-at = c₁₇ .size-at in
-    let c₁₈ = c₁₇ .before in let tail-sizes = c₁₈ .tail-sizes in
-    let c₁₉ = c₁₈ .before in let tail = c₁₉ .tail in
+    let c₉ = c₃ .before .before .before .before .before .before in let term = c₉ .term in
+    let c₁₂ = c₉ .before .before .before in let enum-told4 = c₁₂ .enum-told4 in
+    let c₁₄ = c₁₂ .before .before in let read = c₁₄ .read in
+    let c₁₅ = c₁₄ .before in let tail-sizes2 = c₁₅ .tail-sizes2 in
+    let c₁₆ = c₁₅ .before in let tail2 = c₁₆ .tail2 in
+    let c₁₇ = c₁₆ .before in let tail-sizes = c₁₇ .tail-sizes in
+    let c₁₈ = c₁₇ .before in let tail = c₁₈ .tail in
+    let c₁₉ = c₁₈ .before in let size-at = c₁₉ .size-at in
     let c₂₀ = c₁₉ .before in let record-length = c₂₀ .record-length in
     let c₂₁ = c₂₀ .before in let byte = c₂₁ .byte in
     let c₂₂ = c₂₁ .before in let if1 = c₂₂ .if1 in
     let c₂₇ = c₂₂ .before .before .before .before .before in let args = c₂₇ .args in
     let vs = now (args .vs) in
-    (compare-is (rowsIn (now (args .cb)) vs) (assigned vs (now (args .env))) (now (args .q)) (now (args .z)) (now (args .memo)) (args .level) _ _ _ (if1 .left) (byte .ensures) (record-length .ensures .0) (read .ensures) _ _ (tail .ensures) (tail-sizes .ensures) _ _ _ _ (size-at .ensures .0) refl (tail4 .ensures) (tail-sizes4 .ensures) _ _ _ (ap (assigned vs) (term .ensures .1)) _ (enum-told4 .given .1) (term .ensures .0) (term2 .ensures .0), term2 .ensures .1 ∙ term .ensures .1)
+    (compare-is (rowsIn (now (args .cb)) vs) (assigned vs (now (args .env))) (now (args .q)) (now (args .z)) (now (args .memo)) (args .level) _ _ _ (if1 .left) (byte .ensures) (record-length .ensures .0) (read .ensures) _ _ (tail .ensures) (tail-sizes .ensures) _ _ _ _ (size-at .ensures .0) refl (tail2 .ensures) (tail-sizes2 .ensures) _ _ _ (ap (assigned vs) (term .ensures .1)) _ (enum-told4 .given .1) (term .ensures .0) (term2 .ensures .0), term2 .ensures .1 ∙ term .ensures .1)
 
 condition-same-length-9 : (t : ℕ) → condition-lts.Need-same-length-9 (condition-claims t) (condition-at t) condition.Post
 condition-same-length-9 t c = search needs
@@ -257,19 +245,19 @@ condition-returns-6 t c =
     let c₃ = c .before .before .before in let condition6 = c₃ .condition6 in
     let c₆ = c₃ .before .before .before in let enum-told5 = c₆ .enum-told5 in
     let c₈ = c₆ .before .before in let read = c₈ .read in
-    let c₁₀ = c₈ .before .before in let tail-sizes = c₁₀ .tail-sizes in
-    let c₁₁ = c₁₀ .before in let tail = c₁₁ .tail in
-    let c₁₂ = c₁₁ .before in let record-length = c₁₂ .record-length in
-    let c₁₃ = c₁₂ .before in let byte = c₁₃ .byte in
-    let c₁₄ = c₁₃ .before in let if1 = c₁₄ .if1 in
-    let c₁₉ = c₁₄ .before .before .before .before .before in let args = c₁₉ .args in
+    let c₁₁ = c₈ .before .before .before in let tail-sizes = c₁₁ .tail-sizes in
+    let c₁₂ = c₁₁ .before in let tail = c₁₂ .tail in
+    let c₁₄ = c₁₂ .before .before in let record-length = c₁₄ .record-length in
+    let c₁₅ = c₁₄ .before in let byte = c₁₅ .byte in
+    let c₁₆ = c₁₅ .before in let if1 = c₁₆ .if1 in
+    let c₂₁ = c₁₆ .before .before .before .before .before in let args = c₂₁ .args in
     let vs = now (args .vs) in
     (some-is (rowsIn (now (args .cb)) vs) (assigned vs (now (args .env))) (now (args .q)) (now (args .z)) (now (args .memo)) (args .level) _ _ _ (if1 .left) (byte .ensures) (record-length .ensures .0) (read .ensures) _ _ (tail .ensures) (tail-sizes .ensures) _ _ _ (enum-told5 .given .1) (condition6 .ensures .0), condition6 .ensures .1)
 
 condition-returns-7 : (t : ℕ) → condition-lts.Need-returns-7 (condition-claims t) (condition-at t) condition.Post
 condition-returns-7 t c =
-    let c₇ = c .before .before .before .before .before .before .before in let if1 = c₇ .if1 in
-    let c₁₂ = c₇ .before .before .before .before .before in let args = c₁₂ .args in
+    let c₉ = c .before .before .before .before .before .before .before .before .before in let if1 = c₉ .if1 in
+    let c₁₄ = c₉ .before .before .before .before .before in let args = c₁₄ .args in
     let vs = now (args .vs) in
     (no-aggregate (rowsIn (now (args .cb)) vs) (assigned vs (now (args .env))) (now (args .q)) (now (args .z)) (now (args .memo)) (args .level) _ (if1 .left) (c .before .read .ensures) (c .match .keys6), search needs)
 
@@ -344,27 +332,23 @@ pub +condition+term-spec : {M : Type 1} → statement M
     (condition-sub-l t)
     (condition-byte-requires t)
     (condition-record-length-requires t)
-    (condition-tail-requires t)
-    (condition-tail-sizes-requires t)
     (condition-size-at-requires t)
     (condition-add-b t)
+    (condition-tail-requires t)
+    (condition-tail-sizes-requires t)
+    (condition-tail-requires-2 t)
+    (condition-tail-sizes-requires-2 t)
     (condition-read-requires t)
     (condition-enum-told t)
     (condition-condition-requires t)
     (condition-enum-told-2 t)
     (condition-condition-requires-2 t)
-    (condition-tail-requires-2 t)
-    (condition-tail-sizes-requires-2 t)
     (condition-condition-requires-3 t)
     (condition-enum-told-3 t)
     (condition-condition-requires-4 t)
-    (condition-tail-requires-3 t)
-    (condition-tail-sizes-requires-3 t)
     (condition-condition-requires-5 t)
     (condition-enum-told-4 t)
     (condition-term-requires t)
-    (condition-tail-requires-4 t)
-    (condition-tail-sizes-requires-4 t)
     (condition-term-requires-2 t)
     (condition-enum-told-5 t)
     (condition-condition-requires-6 t)

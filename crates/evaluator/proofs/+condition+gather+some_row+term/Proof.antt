@@ -92,7 +92,7 @@ abbrev term-below : ℕ → In 6 term-kinds.ps
 term-below t = and 6 term-kinds.ps (falls 6 term-kinds.ps _<_ μ-term t) term.Pre
 
 abbrev condition-claims : ℕ → condition-lts.Claims
-condition-claims t = (byte-reads.Asked, byte-reads.Learnt, record-length-reads.Asked, record-length-reads.Learnt, read-reads.Asked, read-reads.Learnt, tail-reads.Asked, tail-reads.Learnt, tail-sizes-reads.Asked, tail-sizes-reads.Learnt, condition-below t, condition.Post, size-at-reads.Asked, size-at-reads.Learnt, term-below t, term.Post, compare-reads.Asked, compare-reads.Learnt, some-row-below t, some-row.Post)
+condition-claims t = (byte-reads.Asked, byte-reads.Learnt, record-length-reads.Asked, record-length-reads.Learnt, tail-reads.Asked, tail-reads.Learnt, tail-sizes-reads.Asked, tail-sizes-reads.Learnt, read-reads.Asked, read-reads.Learnt, condition-below t, condition.Post, size-at-reads.Asked, size-at-reads.Learnt, term-below t, term.Post, compare-reads.Asked, compare-reads.Learnt, some-row-below t, some-row.Post)
 
 abbrev gather-claims : ℕ → gather-lts.Claims
 gather-claims t = (rows-reads.Asked, rows-reads.Learnt, attributes-reads.Asked, attributes-reads.Learnt, place-reads.Asked, place-reads.Learnt, empty-reads.Asked, empty-reads.Learnt, base-reads.Asked, base-reads.Learnt, set-place-reads.Asked, set-place-reads.Learnt, condition-below t, condition.Post, cell-reads.Asked, cell-reads.Learnt, add-reads.Asked, add-reads.Learnt)
@@ -117,6 +117,12 @@ condition-byte-requires t c κs = search needs
 condition-record-length-requires : (t : ℕ) → condition-lts.Need-record-length-requires (condition-claims t) (condition-at t) condition.Post
 condition-record-length-requires t c κs = search needs
 
+condition-tail-requires : (t : ℕ) → condition-lts.Need-tail-requires (condition-claims t) (condition-at t) condition.Post
+condition-tail-requires t c κs = search needs
+
+condition-tail-sizes-requires : (t : ℕ) → condition-lts.Need-tail-sizes-requires (condition-claims t) (condition-at t) condition.Post
+condition-tail-sizes-requires t c κs = search needs
+
 condition-read-requires : (t : ℕ) → condition-lts.Need-read-requires (condition-claims t) (condition-at t) condition.Post
 condition-read-requires t c κs = search needs
 
@@ -126,23 +132,11 @@ condition-enum-told t c = search needs
 condition-enum-told-2 : (t : ℕ) → condition-lts.Need-enum-told-2 (condition-claims t) (condition-at t) condition.Post
 condition-enum-told-2 t c = search needs
 
-condition-tail-requires : (t : ℕ) → condition-lts.Need-tail-requires (condition-claims t) (condition-at t) condition.Post
-condition-tail-requires t c κs = search needs
-
-condition-tail-sizes-requires : (t : ℕ) → condition-lts.Need-tail-sizes-requires (condition-claims t) (condition-at t) condition.Post
-condition-tail-sizes-requires t c κs = search needs
-
 condition-condition-requires : (t : ℕ) → condition-lts.Need-condition-requires (condition-claims t) (condition-at t) condition.Post
 condition-condition-requires t c κs = search needs
 
 condition-enum-told-3 : (t : ℕ) → condition-lts.Need-enum-told-3 (condition-claims t) (condition-at t) condition.Post
 condition-enum-told-3 t c = search needs
-
-condition-tail-requires-2 : (t : ℕ) → condition-lts.Need-tail-requires-2 (condition-claims t) (condition-at t) condition.Post
-condition-tail-requires-2 t c κs = search needs
-
-condition-tail-sizes-requires-2 : (t : ℕ) → condition-lts.Need-tail-sizes-requires-2 (condition-claims t) (condition-at t) condition.Post
-condition-tail-sizes-requires-2 t c κs = search needs
 
 condition-condition-requires-2 : (t : ℕ) → condition-lts.Need-condition-requires-2 (condition-claims t) (condition-at t) condition.Post
 condition-condition-requires-2 t c κs = search needs
@@ -153,15 +147,15 @@ condition-same-length t c = search needs
 condition-returns-2 : (t : ℕ) → condition-lts.Need-returns-2 (condition-claims t) (condition-at t) condition.Post
 condition-returns-2 t c =
     let c₃ = c .before .before .before in let condition2 = c₃ .condition2 in
-    let c₅ = c₃ .before .before in let tail-sizes2 = c₅ .tail-sizes2 in
-    let c₆ = c₅ .before in let tail2 = c₆ .tail2 in
-    let c₇ = c₆ .before in let enum-told3 = c₇ .enum-told3 in
-    let c₉ = c₇ .before .before in let read = c₉ .read in
+    let c₅ = c₃ .before .before in let enum-told3 = c₅ .enum-told3 in
+    let c₇ = c₅ .before .before in let read = c₇ .read in
+    let c₈ = c₇ .before in let tail-sizes = c₈ .tail-sizes in
+    let c₉ = c₈ .before in let tail = c₉ .tail in
     let c₁₀ = c₉ .before in let record-length = c₁₀ .record-length in
     let c₁₁ = c₁₀ .before in let byte = c₁₁ .byte in
     let c₁₂ = c₁₁ .before in let if1 = c₁₂ .if1 in
     let c₁₇ = c₁₂ .before .before .before .before .before in let args = c₁₇ .args in
-    (and-no (now (args .cb)) (now (args .vs)) (now (args .memo)) (now (args .env)) (now (args .q)) (now (args .z)) (args .level) _ _ _ (if1 .left) (byte .ensures) (record-length .ensures .0) (read .ensures) _ _ (tail2 .ensures) (tail-sizes2 .ensures) _ (enum-told3 .given .1) (condition2 .ensures .0) (c .if2 .taken), condition2 .ensures .1)
+    (and-no (now (args .cb)) (now (args .vs)) (now (args .memo)) (now (args .env)) (now (args .q)) (now (args .z)) (args .level) _ _ _ (if1 .left) (byte .ensures) (record-length .ensures .0) (read .ensures) _ _ (tail .ensures) (tail-sizes .ensures) _ (enum-told3 .given .1) (condition2 .ensures .0) (c .if2 .taken), condition2 .ensures .1)
 
 condition-size-at-requires : (t : ℕ) → condition-lts.Need-size-at-requires (condition-claims t) (condition-at t) condition.Post
 condition-size-at-requires t c κs = search needs
@@ -169,23 +163,17 @@ condition-size-at-requires t c κs = search needs
 condition-add-b : (t : ℕ) → condition-lts.Need-add-b (condition-claims t) (condition-at t) condition.Post
 condition-add-b t c = search needs
 
-condition-tail-requires-3 : (t : ℕ) → condition-lts.Need-tail-requires-3 (condition-claims t) (condition-at t) condition.Post
-condition-tail-requires-3 t c κs = search needs
+condition-tail-requires-2 : (t : ℕ) → condition-lts.Need-tail-requires-2 (condition-claims t) (condition-at t) condition.Post
+condition-tail-requires-2 t c κs = search needs
 
-condition-tail-sizes-requires-3 : (t : ℕ) → condition-lts.Need-tail-sizes-requires-3 (condition-claims t) (condition-at t) condition.Post
-condition-tail-sizes-requires-3 t c κs = search needs
+condition-tail-sizes-requires-2 : (t : ℕ) → condition-lts.Need-tail-sizes-requires-2 (condition-claims t) (condition-at t) condition.Post
+condition-tail-sizes-requires-2 t c κs = search needs
 
 condition-condition-requires-3 : (t : ℕ) → condition-lts.Need-condition-requires-3 (condition-claims t) (condition-at t) condition.Post
 condition-condition-requires-3 t c κs = search needs
 
 condition-enum-told-4 : (t : ℕ) → condition-lts.Need-enum-told-4 (condition-claims t) (condition-at t) condition.Post
 condition-enum-told-4 t c = search needs
-
-condition-tail-requires-4 : (t : ℕ) → condition-lts.Need-tail-requires-4 (condition-claims t) (condition-at t) condition.Post
-condition-tail-requires-4 t c κs = search needs
-
-condition-tail-sizes-requires-4 : (t : ℕ) → condition-lts.Need-tail-sizes-requires-4 (condition-claims t) (condition-at t) condition.Post
-condition-tail-sizes-requires-4 t c κs = search needs
 
 condition-condition-requires-4 : (t : ℕ) → condition-lts.Need-condition-requires-4 (condition-claims t) (condition-at t) condition.Post
 condition-condition-requires-4 t c κs = search needs
@@ -196,15 +184,15 @@ condition-same-length-2 t c = search needs
 condition-returns-3 : (t : ℕ) → condition-lts.Need-returns-3 (condition-claims t) (condition-at t) condition.Post
 condition-returns-3 t c =
     let c₃ = c .before .before .before in let condition4 = c₃ .condition4 in
-    let c₅ = c₃ .before .before in let tail-sizes4 = c₅ .tail-sizes4 in
-    let c₆ = c₅ .before in let tail4 = c₆ .tail4 in
-    let c₇ = c₆ .before in let enum-told4 = c₇ .enum-told4 in
-    let c₉ = c₇ .before .before in let read = c₉ .read in
+    let c₅ = c₃ .before .before in let enum-told4 = c₅ .enum-told4 in
+    let c₇ = c₅ .before .before in let read = c₇ .read in
+    let c₈ = c₇ .before in let tail-sizes = c₈ .tail-sizes in
+    let c₉ = c₈ .before in let tail = c₉ .tail in
     let c₁₀ = c₉ .before in let record-length = c₁₀ .record-length in
     let c₁₁ = c₁₀ .before in let byte = c₁₁ .byte in
     let c₁₂ = c₁₁ .before in let if1 = c₁₂ .if1 in
     let c₁₇ = c₁₂ .before .before .before .before .before in let args = c₁₇ .args in
-    (or-yes (now (args .cb)) (now (args .vs)) (now (args .memo)) (now (args .env)) (now (args .q)) (now (args .z)) (args .level) _ _ _ (if1 .left) (byte .ensures) (record-length .ensures .0) (read .ensures) _ _ (tail4 .ensures) (tail-sizes4 .ensures) _ (enum-told4 .given .1) (condition4 .ensures .0) (c .if3 .taken), condition4 .ensures .1)
+    (or-yes (now (args .cb)) (now (args .vs)) (now (args .memo)) (now (args .env)) (now (args .q)) (now (args .z)) (args .level) _ _ _ (if1 .left) (byte .ensures) (record-length .ensures .0) (read .ensures) _ _ (tail .ensures) (tail-sizes .ensures) _ (enum-told4 .given .1) (condition4 .ensures .0) (c .if3 .taken), condition4 .ensures .1)
 
 condition-size-at-requires-2 : (t : ℕ) → condition-lts.Need-size-at-requires-2 (condition-claims t) (condition-at t) condition.Post
 condition-size-at-requires-2 t c κs = search needs
@@ -212,23 +200,17 @@ condition-size-at-requires-2 t c κs = search needs
 condition-add-b-2 : (t : ℕ) → condition-lts.Need-add-b-2 (condition-claims t) (condition-at t) condition.Post
 condition-add-b-2 t c = search needs
 
-condition-tail-requires-5 : (t : ℕ) → condition-lts.Need-tail-requires-5 (condition-claims t) (condition-at t) condition.Post
-condition-tail-requires-5 t c κs = search needs
+condition-tail-requires-3 : (t : ℕ) → condition-lts.Need-tail-requires-3 (condition-claims t) (condition-at t) condition.Post
+condition-tail-requires-3 t c κs = search needs
 
-condition-tail-sizes-requires-5 : (t : ℕ) → condition-lts.Need-tail-sizes-requires-5 (condition-claims t) (condition-at t) condition.Post
-condition-tail-sizes-requires-5 t c κs = search needs
+condition-tail-sizes-requires-3 : (t : ℕ) → condition-lts.Need-tail-sizes-requires-3 (condition-claims t) (condition-at t) condition.Post
+condition-tail-sizes-requires-3 t c κs = search needs
 
 condition-condition-requires-5 : (t : ℕ) → condition-lts.Need-condition-requires-5 (condition-claims t) (condition-at t) condition.Post
 condition-condition-requires-5 t c κs = search needs
 
 condition-enum-known-operator : (t : ℕ) → condition-lts.Need-enum-known-operator (condition-claims t) (condition-at t) condition.Post
 condition-enum-known-operator t c = search needs
-
-condition-tail-requires-6 : (t : ℕ) → condition-lts.Need-tail-requires-6 (condition-claims t) (condition-at t) condition.Post
-condition-tail-requires-6 t c κs = search needs
-
-condition-tail-sizes-requires-6 : (t : ℕ) → condition-lts.Need-tail-sizes-requires-6 (condition-claims t) (condition-at t) condition.Post
-condition-tail-sizes-requires-6 t c κs = search needs
 
 condition-term-requires : (t : ℕ) → condition-lts.Need-term-requires (condition-claims t) (condition-at t) condition.Post
 condition-term-requires t c κs = search needs
@@ -239,11 +221,11 @@ condition-size-at-requires-3 t c κs = search needs
 condition-add-b-3 : (t : ℕ) → condition-lts.Need-add-b-3 (condition-claims t) (condition-at t) condition.Post
 condition-add-b-3 t c = search needs
 
-condition-tail-requires-7 : (t : ℕ) → condition-lts.Need-tail-requires-7 (condition-claims t) (condition-at t) condition.Post
-condition-tail-requires-7 t c κs = search needs
+condition-tail-requires-4 : (t : ℕ) → condition-lts.Need-tail-requires-4 (condition-claims t) (condition-at t) condition.Post
+condition-tail-requires-4 t c κs = search needs
 
-condition-tail-sizes-requires-7 : (t : ℕ) → condition-lts.Need-tail-sizes-requires-7 (condition-claims t) (condition-at t) condition.Post
-condition-tail-sizes-requires-7 t c κs = search needs
+condition-tail-sizes-requires-4 : (t : ℕ) → condition-lts.Need-tail-sizes-requires-4 (condition-claims t) (condition-at t) condition.Post
+condition-tail-sizes-requires-4 t c κs = search needs
 
 condition-term-requires-2 : (t : ℕ) → condition-lts.Need-term-requires-2 (condition-claims t) (condition-at t) condition.Post
 condition-term-requires-2 t c κs =
@@ -258,21 +240,15 @@ condition-compare-requires t c κs = search needs
 condition-enum-known-variable : (t : ℕ) → condition-lts.Need-enum-known-variable (condition-claims t) (condition-at t) condition.Post
 condition-enum-known-variable t c = search needs
 
-condition-tail-requires-8 : (t : ℕ) → condition-lts.Need-tail-requires-8 (condition-claims t) (condition-at t) condition.Post
-condition-tail-requires-8 t c κs = search needs
-
-condition-tail-sizes-requires-8 : (t : ℕ) → condition-lts.Need-tail-sizes-requires-8 (condition-claims t) (condition-at t) condition.Post
-condition-tail-sizes-requires-8 t c κs = search needs
-
 condition-some-row-requires : (t : ℕ) → condition-lts.Need-some-row-requires (condition-claims t) (condition-at t) condition.Post
 condition-some-row-requires t c κs = search needs
 
 condition-returns-4 : (t : ℕ) → condition-lts.Need-returns-4 (condition-claims t) (condition-at t) condition.Post
 condition-returns-4 t c =
-    let c₃ = c .before .before .before in let record-length = c₃ .record-length in
-    let c₄ = c₃ .before in let byte = c₄ .byte in
-    let c₅ = c₄ .before in let if1 = c₅ .if1 in
-    let c₁₀ = c₅ .before .before .before .before .before in let args = c₁₀ .args in
+    let c₅ = c .before .before .before .before .before in let record-length = c₅ .record-length in
+    let c₆ = c₅ .before in let byte = c₆ .byte in
+    let c₇ = c₆ .before in let if1 = c₇ .if1 in
+    let c₁₂ = c₇ .before .before .before .before .before in let args = c₁₂ .args in
     (true-is (now (args .cb)) (now (args .vs)) (now (args .memo)) (now (args .env)) (now (args .q)) (now (args .z)) (args .level) _ _ _ (if1 .left) (byte .ensures) (record-length .ensures .0) (c .before .before .read .ensures) (c .enum-told .given .1), search needs)
 
 condition-same-length-3 : (t : ℕ) → condition-lts.Need-same-length-3 (condition-claims t) (condition-at t) condition.Post
@@ -281,10 +257,10 @@ condition-same-length-3 t c = search needs
 condition-returns-5 : (t : ℕ) → condition-lts.Need-returns-5 (condition-claims t) (condition-at t) condition.Post
 condition-returns-5 t c =
     let c₂ = c .before .before in let condition = c₂ .condition in
-    let c₄ = c₂ .before .before in let tail-sizes = c₄ .tail-sizes in
-    let c₅ = c₄ .before in let tail = c₅ .tail in
-    let c₆ = c₅ .before in let enum-told2 = c₆ .enum-told2 in
-    let c₈ = c₆ .before .before in let read = c₈ .read in
+    let c₄ = c₂ .before .before in let enum-told2 = c₄ .enum-told2 in
+    let c₆ = c₄ .before .before in let read = c₆ .read in
+    let c₇ = c₆ .before in let tail-sizes = c₇ .tail-sizes in
+    let c₈ = c₇ .before in let tail = c₈ .tail in
     let c₉ = c₈ .before in let record-length = c₉ .record-length in
     let c₁₀ = c₉ .before in let byte = c₁₀ .byte in
     let c₁₁ = c₁₀ .before in let if1 = c₁₁ .if1 in
@@ -297,20 +273,20 @@ condition-same-length-4 t c = search needs
 condition-returns-6 : (t : ℕ) → condition-lts.Need-returns-6 (condition-claims t) (condition-at t) condition.Post
 condition-returns-6 t c =
     let c₂ = c .before .before in let condition3 = c₂ .condition3 in
-    let c₄ = c₂ .before .before in let tail-sizes3 = c₄ .tail-sizes3 in
-    let c₅ = c₄ .before in let tail3 = c₅ .tail3 in
+    let c₄ = c₂ .before .before in let tail-sizes2 = c₄ .tail-sizes2 in
+    let c₅ = c₄ .before in let tail2 = c₅ .tail2 in
     let c₆ = c₅ .before in let size-at = c₆ .size-at in
     let c₇ = c₆ .before in let if2 = c₇ .if2 in
     let c₁₀ = c₇ .before .before .before in let condition2 = c₁₀ .condition2 in
-    let c₁₂ = c₁₀ .before .before in let tail-sizes2 = c₁₂ .tail-sizes2 in
-    let c₁₃ = c₁₂ .before in let tail2 = c₁₃ .tail2 in
-    let c₁₄ = c₁₃ .before in let enum-told3 = c₁₄ .enum-told3 in
-    let c₁₆ = c₁₄ .before .before in let read = c₁₆ .read in
+    let c₁₂ = c₁₀ .before .before in let enum-told3 = c₁₂ .enum-told3 in
+    let c₁₄ = c₁₂ .before .before in let read = c₁₄ .read in
+    let c₁₅ = c₁₄ .before in let tail-sizes = c₁₅ .tail-sizes in
+    let c₁₆ = c₁₅ .before in let tail = c₁₆ .tail in
     let c₁₇ = c₁₆ .before in let record-length = c₁₇ .record-length in
     let c₁₈ = c₁₇ .before in let byte = c₁₈ .byte in
     let c₁₉ = c₁₈ .before in let if1 = c₁₉ .if1 in
     let c₂₄ = c₁₉ .before .before .before .before .before in let args = c₂₄ .args in
-    (and-yes (now (args .cb)) (now (args .vs)) (now (args .memo)) (now (args .env)) (now (args .q)) (now (args .z)) (args .level) _ _ _ (if1 .left) (byte .ensures) (record-length .ensures .0) (read .ensures) _ _ (tail2 .ensures) (tail-sizes2 .ensures) _ _ _ _ (size-at .ensures .0) refl (tail3 .ensures) (tail-sizes3 .ensures) _ _ _ (enum-told3 .given .1) (condition2 .ensures .0) (if2 .left) (condition2 .ensures .1) (condition3 .ensures .0), condition3 .ensures .1 ∙ condition2 .ensures .1)
+    (and-yes (now (args .cb)) (now (args .vs)) (now (args .memo)) (now (args .env)) (now (args .q)) (now (args .z)) (args .level) _ _ _ (if1 .left) (byte .ensures) (record-length .ensures .0) (read .ensures) _ _ (tail .ensures) (tail-sizes .ensures) _ _ _ _ (size-at .ensures .0) refl (tail2 .ensures) (tail-sizes2 .ensures) _ _ _ (enum-told3 .given .1) (condition2 .ensures .0) (if2 .left) (condition2 .ensures .1) (condition3 .ensures .0), condition3 .ensures .1 ∙ condition2 .ensures .1)
 
 condition-same-length-5 : (t : ℕ) → condition-lts.Need-same-length-5 (condition-claims t) (condition-at t) condition.Post
 condition-same-length-5 t c = search needs
@@ -318,20 +294,20 @@ condition-same-length-5 t c = search needs
 condition-returns-7 : (t : ℕ) → condition-lts.Need-returns-7 (condition-claims t) (condition-at t) condition.Post
 condition-returns-7 t c =
     let c₂ = c .before .before in let condition5 = c₂ .condition5 in
-    let c₄ = c₂ .before .before in let tail-sizes5 = c₄ .tail-sizes5 in
-    let c₅ = c₄ .before in let tail5 = c₅ .tail5 in
+    let c₄ = c₂ .before .before in let tail-sizes3 = c₄ .tail-sizes3 in
+    let c₅ = c₄ .before in let tail3 = c₅ .tail3 in
     let c₆ = c₅ .before in let size-at2 = c₆ .size-at2 in
     let c₇ = c₆ .before in let if3 = c₇ .if3 in
     let c₁₀ = c₇ .before .before .before in let condition4 = c₁₀ .condition4 in
-    let c₁₂ = c₁₀ .before .before in let tail-sizes4 = c₁₂ .tail-sizes4 in
-    let c₁₃ = c₁₂ .before in let tail4 = c₁₃ .tail4 in
-    let c₁₄ = c₁₃ .before in let enum-told4 = c₁₄ .enum-told4 in
-    let c₁₆ = c₁₄ .before .before in let read = c₁₆ .read in
+    let c₁₂ = c₁₀ .before .before in let enum-told4 = c₁₂ .enum-told4 in
+    let c₁₄ = c₁₂ .before .before in let read = c₁₄ .read in
+    let c₁₅ = c₁₄ .before in let tail-sizes = c₁₅ .tail-sizes in
+    let c₁₆ = c₁₅ .before in let tail = c₁₆ .tail in
     let c₁₇ = c₁₆ .before in let record-length = c₁₇ .record-length in
     let c₁₈ = c₁₇ .before in let byte = c₁₈ .byte in
     let c₁₉ = c₁₈ .before in let if1 = c₁₉ .if1 in
     let c₂₄ = c₁₉ .before .before .before .before .before in let args = c₂₄ .args in
-    (or-no (now (args .cb)) (now (args .vs)) (now (args .memo)) (now (args .env)) (now (args .q)) (now (args .z)) (args .level) _ _ _ (if1 .left) (byte .ensures) (record-length .ensures .0) (read .ensures) _ _ (tail4 .ensures) (tail-sizes4 .ensures) _ _ _ _ (size-at2 .ensures .0) refl (tail5 .ensures) (tail-sizes5 .ensures) _ _ _ (enum-told4 .given .1) (condition4 .ensures .0) (if3 .left) (condition4 .ensures .1) (condition5 .ensures .0), condition5 .ensures .1 ∙ condition4 .ensures .1)
+    (or-no (now (args .cb)) (now (args .vs)) (now (args .memo)) (now (args .env)) (now (args .q)) (now (args .z)) (args .level) _ _ _ (if1 .left) (byte .ensures) (record-length .ensures .0) (read .ensures) _ _ (tail .ensures) (tail-sizes .ensures) _ _ _ _ (size-at2 .ensures .0) refl (tail3 .ensures) (tail-sizes3 .ensures) _ _ _ (enum-told4 .given .1) (condition4 .ensures .0) (if3 .left) (condition4 .ensures .1) (condition5 .ensures .0), condition5 .ensures .1 ∙ condition4 .ensures .1)
 
 condition-same-length-6 : (t : ℕ) → condition-lts.Need-same-length-6 (condition-claims t) (condition-at t) condition.Post
 condition-same-length-6 t c = search needs
@@ -339,19 +315,19 @@ condition-same-length-6 t c = search needs
 condition-returns-8 : (t : ℕ) → condition-lts.Need-returns-8 (condition-claims t) (condition-at t) condition.Post
 condition-returns-8 t c =
     let c₃ = c .before .before .before in let term2 = c₃ .term2 in
-    let c₅ = c₃ .before .before in let tail-sizes7 = c₅ .tail-sizes7 in
-    let c₆ = c₅ .before in let tail7 = c₆ .tail7 in
+    let c₅ = c₃ .before .before in let tail-sizes4 = c₅ .tail-sizes4 in
+    let c₆ = c₅ .before in let tail4 = c₆ .tail4 in
     let c₇ = c₆ .before in let size-at3 = c₇ .size-at3 in
     let c₁₀ = c₇ .before .before .before in let term = c₁₀ .term in
-    let c₁₂ = c₁₀ .before .before in let tail-sizes6 = c₁₂ .tail-sizes6 in
-    let c₁₃ = c₁₂ .before in let tail6 = c₁₃ .tail6 in
-    let c₁₅ = c₁₃ .before .before in let operator = c₁₅ .operator in
-    let c₁₇ = c₁₅ .before .before in let read = c₁₇ .read in
+    let c₁₃ = c₁₀ .before .before .before in let operator = c₁₃ .operator in
+    let c₁₅ = c₁₃ .before .before in let read = c₁₅ .read in
+    let c₁₆ = c₁₅ .before in let tail-sizes = c₁₆ .tail-sizes in
+    let c₁₇ = c₁₆ .before in let tail = c₁₇ .tail in
     let c₁₈ = c₁₇ .before in let record-length = c₁₈ .record-length in
     let c₁₉ = c₁₈ .before in let byte = c₁₉ .byte in
     let c₂₀ = c₁₉ .before in let if1 = c₂₀ .if1 in
     let c₂₅ = c₂₀ .before .before .before .before .before in let args = c₂₅ .args in
-    (compare-is (now (args .cb)) (now (args .vs)) (now (args .memo)) (now (args .env)) (now (args .q)) (now (args .z)) (args .level) _ _ _ (if1 .left) (byte .ensures) (record-length .ensures .0) (read .ensures) _ _ (tail6 .ensures) (tail-sizes6 .ensures) _ _ _ _ (size-at3 .ensures .0) refl (tail7 .ensures) (tail-sizes7 .ensures) _ _ _ _ _ (operator .given .1) (ap ratioOf (term .ensures .0)) (term .ensures .1 .1) (ap ratioOf (term2 .ensures .0)) (c .compare .ensures), term2 .ensures .1 .1 ∙ term .ensures .1 .1)
+    (compare-is (now (args .cb)) (now (args .vs)) (now (args .memo)) (now (args .env)) (now (args .q)) (now (args .z)) (args .level) _ _ _ (if1 .left) (byte .ensures) (record-length .ensures .0) (read .ensures) _ _ (tail .ensures) (tail-sizes .ensures) _ _ _ _ (size-at3 .ensures .0) refl (tail4 .ensures) (tail-sizes4 .ensures) _ _ _ _ _ (operator .given .1) (ap ratioOf (term .ensures .0)) (term .ensures .1 .1) (ap ratioOf (term2 .ensures .0)) (c .compare .ensures), term2 .ensures .1 .1 ∙ term .ensures .1 .1)
 
 condition-same-length-7 : (t : ℕ) → condition-lts.Need-same-length-7 (condition-claims t) (condition-at t) condition.Post
 condition-same-length-7 t c = search needs
@@ -359,20 +335,20 @@ condition-same-length-7 t c = search needs
 condition-returns-9 : (t : ℕ) → condition-lts.Need-returns-9 (condition-claims t) (condition-at t) condition.Post
 condition-returns-9 t c =
     let c₂ = c .before .before in let some-row = c₂ .some-row in
-    let c₄ = c₂ .before .before in let tail-sizes8 = c₄ .tail-sizes8 in
-    let c₅ = c₄ .before in let tail8 = c₅ .tail8 in
-    let c₇ = c₅ .before .before in let variable = c₇ .variable in
-    let c₉ = c₇ .before .before in let read = c₉ .read in
+    let c₅ = c₂ .before .before .before in let variable = c₅ .variable in
+    let c₇ = c₅ .before .before in let read = c₇ .read in
+    let c₈ = c₇ .before in let tail-sizes = c₈ .tail-sizes in
+    let c₉ = c₈ .before in let tail = c₉ .tail in
     let c₁₀ = c₉ .before in let record-length = c₁₀ .record-length in
     let c₁₁ = c₁₀ .before in let byte = c₁₁ .byte in
     let c₁₂ = c₁₁ .before in let if1 = c₁₂ .if1 in
     let c₁₇ = c₁₂ .before .before .before .before .before in let args = c₁₇ .args in
-    (some-is (now (args .cb)) (now (args .vs)) (now (args .memo)) (now (args .env)) (now (args .q)) (now (args .z)) (args .level) _ _ _ (if1 .left) (byte .ensures) (record-length .ensures .0) (read .ensures) _ _ (tail8 .ensures) (tail-sizes8 .ensures) _ _ _ (variable .given .1) (some-row .ensures .0), some-row .ensures .1)
+    (some-is (now (args .cb)) (now (args .vs)) (now (args .memo)) (now (args .env)) (now (args .q)) (now (args .z)) (args .level) _ _ _ (if1 .left) (byte .ensures) (record-length .ensures .0) (read .ensures) _ _ (tail .ensures) (tail-sizes .ensures) _ _ _ (variable .given .1) (some-row .ensures .0), some-row .ensures .1)
 
 condition-returns-10 : (t : ℕ) → condition-lts.Need-returns-10 (condition-claims t) (condition-at t) condition.Post
 condition-returns-10 t c =
-    let c₄ = c .before .before .before .before in let if1 = c₄ .if1 in
-    let c₉ = c₄ .before .before .before .before .before in let args = c₉ .args in
+    let c₆ = c .before .before .before .before .before .before in let if1 = c₆ .if1 in
+    let c₁₁ = c₆ .before .before .before .before .before in let args = c₁₁ .args in
     (no-condition (now (args .cb)) (now (args .vs)) (now (args .memo)) (now (args .env)) (now (args .q)) (now (args .z)) (args .level) _ (if1 .left) (c .before .read .ensures) (c .match .keys7), search needs)
 
 abbrev gather-Inv-loop : gather-lts.InvT-loop
@@ -697,47 +673,39 @@ pub +condition+gather+some-row+term-spec : {M : Type 1} → statement M
     (condition-sub-l t)
     (condition-byte-requires t)
     (condition-record-length-requires t)
+    (condition-tail-requires t)
+    (condition-tail-sizes-requires t)
     (condition-read-requires t)
     (condition-enum-told t)
     (condition-enum-told-2 t)
-    (condition-tail-requires t)
-    (condition-tail-sizes-requires t)
     (condition-condition-requires t)
     (condition-enum-told-3 t)
-    (condition-tail-requires-2 t)
-    (condition-tail-sizes-requires-2 t)
     (condition-condition-requires-2 t)
     (condition-same-length t)
     (condition-returns-2 t)
     (condition-size-at-requires t)
     (condition-add-b t)
-    (condition-tail-requires-3 t)
-    (condition-tail-sizes-requires-3 t)
+    (condition-tail-requires-2 t)
+    (condition-tail-sizes-requires-2 t)
     (condition-condition-requires-3 t)
     (condition-enum-told-4 t)
-    (condition-tail-requires-4 t)
-    (condition-tail-sizes-requires-4 t)
     (condition-condition-requires-4 t)
     (condition-same-length-2 t)
     (condition-returns-3 t)
     (condition-size-at-requires-2 t)
     (condition-add-b-2 t)
-    (condition-tail-requires-5 t)
-    (condition-tail-sizes-requires-5 t)
+    (condition-tail-requires-3 t)
+    (condition-tail-sizes-requires-3 t)
     (condition-condition-requires-5 t)
     (condition-enum-known-operator t)
-    (condition-tail-requires-6 t)
-    (condition-tail-sizes-requires-6 t)
     (condition-term-requires t)
     (condition-size-at-requires-3 t)
     (condition-add-b-3 t)
-    (condition-tail-requires-7 t)
-    (condition-tail-sizes-requires-7 t)
+    (condition-tail-requires-4 t)
+    (condition-tail-sizes-requires-4 t)
     (condition-term-requires-2 t)
     (condition-compare-requires t)
     (condition-enum-known-variable t)
-    (condition-tail-requires-8 t)
-    (condition-tail-sizes-requires-8 t)
     (condition-some-row-requires t)
     (condition-returns-4 t)
     (condition-same-length-3 t)
