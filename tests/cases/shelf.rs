@@ -194,13 +194,39 @@ fn average_is_exact_when_compared() {
     let catalogue = [48, 1, 2, 0];
     let average = [34, 3, 0, 0, 0, 16];
     let target_only = [&average[..], &[16]].concat();
-    assert_eq!(evaluated(&catalogue, &[-3, -4], &target_only), [-3]);
+    assert_eq!(evaluated(&catalogue, &[-3, -4], &target_only), [-4]);
     let minus_3 = [32, 253, 255, 255, 255];
     let other_average = [34, 3, 1, 0, 0, 16];
     let below = [&average[..], &[21, 3], &other_average, &minus_3].concat();
-    assert_eq!(evaluated(&catalogue, &[-3, -4], &below), [-3]);
+    assert_eq!(evaluated(&catalogue, &[-3, -4], &below), [-4]);
     let equal = [&average[..], &[21, 1], &other_average, &minus_3].concat();
     assert_eq!(evaluated(&catalogue, &[-3, -4], &equal), []);
+    let minus_4 = [32, 252, 255, 255, 255];
+    let above = [&average[..], &[21, 5], &other_average, &minus_4].concat();
+    assert_eq!(evaluated(&catalogue, &[-3, -4], &above), [-4]);
+    let equal = [&average[..], &[21, 1], &other_average, &minus_4].concat();
+    assert_eq!(evaluated(&catalogue, &[-3, -4], &equal), []);
+}
+
+/// Change 4: to the nearest whole number, halves away from zero.
+#[test]
+fn average_as_a_target_is_rounded_as_tills_do() {
+    let average = [34, 3, 0, 0, 0, 16, 16];
+    for (values, expected) in [
+        (&[3, 4][..], 4),
+        (&[-3, -4], -4),
+        (&[1, 2, 2], 2),
+        (&[-1, -2, -2], -2),
+        (&[0, 0, 1], 0),
+        (&[0, 0, -1], 0),
+        (&[2, 3], 3),
+        (&[i32::MIN, i32::MAX], -1),
+        (&[i32::MAX, i32::MAX - 1], i64::from(i32::MAX)),
+        (&[i32::MIN, i32::MIN + 1], i64::from(i32::MIN)),
+    ] {
+        let catalogue = [48, 1, values.len() as u8, 0];
+        assert_eq!(evaluated(&catalogue, values, &average), [expected]);
+    }
 }
 
 #[test]

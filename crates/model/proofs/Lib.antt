@@ -15,5 +15,6 @@ pub mod Passed
 pub mod Accepted
 pub mod Grounds
 pub mod Demands
+pub mod Rounding
 pub mod Shelf
 pub mod Largest

@@ -1,9 +1,9 @@
 -- What a query means (document 01, "Meaning").
-use Prim.Native.Nat.{ℕ, zero, suc, _+_, _*_}
+use Prim.Native.Nat.{ℕ, zero, suc, _+_, _*_, _-_, _/_}
 use mathlib.Core.Bool.{Bool, true, false, not, cond, _&&_, _||_}
 use mathlib.Core.List.{List, [], _∷_, _++_, map}
-use lib.IntN.{ℤ, pos, _+ℤ_, _*ℤ_, _-ℤ_}
-use lib.Signed.{ltZ, leZ, quotZ}
+use lib.IntN.{ℤ, pos, negℤ, natAbs, _+ℤ_, _*ℤ_, _-ℤ_}
+use lib.Signed.{ltZ, leZ, nonNeg}
 use lib.ListN.{length}
 use lib.Dec.{ltb, eqb}
 use Rattle.model.specs.Lists.{update, filter, any, concatMap}
@@ -28,6 +28,12 @@ pub record Ratio : Type 0 where
 
 abbrev pub whole : ℤ → Ratio
 whole z = record { numerator = z; denominator = 1 }
+
+-- a target's cell, as tills round: the nearest whole number, halves away from zero (document 02, change 4)
+unfoldable pub cell : Ratio → ℤ
+cell x =
+    let n = (2 * natAbs (x .numerator) + x .denominator) / (2 * x .denominator) in
+    cond (nonNeg (x .numerator)) (pos n) (negℤ (pos n))
 
 -- a constant: 4 bytes, two's complement, low first
 unfoldable pub signed : ℕ → ℕ → ℕ → ℕ → ℤ
@@ -96,10 +102,6 @@ assignments (b ∷ bs) R e = concatMap (λ x. assignments bs R (update e (b .var
 -- no variable is bound yet
 abbrev pub unbound : Assignment
 unbound v a = pos 0
-
--- a target's cell: the quotient rounded toward zero
-abbrev pub cell : Ratio → ℤ
-cell x = quotZ (x .numerator) (pos (x .denominator))
 
 unfoldable pub targetRow : List Term → Rows → Assignment → List ℤ
 targetRow ts R e = map (λ t. cell (value t R e)) ts

@@ -146,19 +146,26 @@ evaluateExamples =
       query = 34 ∷ 2 ∷ 0 ∷ 1 ∷ 2 ∷ 16 ∷ 16 ∷ [];
       answer = accepted 1 ((pos 44 ∷ []) ∷ []);
     } ∷
-    -- AVE of −3 and −4 as target: −3
+    -- AVE of −3 and −4 as target: −4, half away from zero
     record {
       catalogue = pair;
       values = pairValues;
       query = 34 ∷ 3 ∷ 0 ∷ 0 ∷ 0 ∷ 16 ∷ 16 ∷ [];
-      answer = accepted 1 ((negsuc 2 ∷ []) ∷ []);
+      answer = accepted 1 ((negsuc 3 ∷ []) ∷ []);
     } ∷
     -- that AVE is below −3 when compared
     record {
       catalogue = pair;
       values = pairValues;
       query = 34 ∷ 3 ∷ 0 ∷ 0 ∷ 0 ∷ 16 ∷ 21 ∷ 3 ∷ 34 ∷ 3 ∷ 1 ∷ 0 ∷ 0 ∷ 16 ∷ 32 ∷ 253 ∷ 255 ∷ 255 ∷ 255 ∷ [];
-      answer = accepted 1 ((negsuc 2 ∷ []) ∷ []);
+      answer = accepted 1 ((negsuc 3 ∷ []) ∷ []);
+    } ∷
+    -- not starred. it is above −4 when compared, since only the target is rounded; SUM and MAX as targets stay −7 and −3
+    record {
+      catalogue = pair;
+      values = pairValues;
+      query = 34 ∷ 2 ∷ 0 ∷ 0 ∷ 0 ∷ 16 ∷ 34 ∷ 4 ∷ 1 ∷ 0 ∷ 0 ∷ 16 ∷ 21 ∷ 5 ∷ 34 ∷ 3 ∷ 2 ∷ 0 ∷ 0 ∷ 16 ∷ 32 ∷ 252 ∷ 255 ∷ 255 ∷ 255 ∷ [];
+      answer = accepted 2 ((negsuc 6 ∷ negsuc 2 ∷ []) ∷ []);
     } ∷
     -- MAX over no rows: 0
     record {

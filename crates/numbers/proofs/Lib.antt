@@ -1,3 +1,4 @@
 pub mod Signed
+pub mod Rounding
 pub mod Laws
 pub mod Memo

@@ -56,10 +56,10 @@ abs-quot (negsuc a) (negsuc b) = div-le-self (suc a) (suc b)
 pub cross : (a b : ℤ) → natAbs a ≤ 140735340871680 → natAbs b ≤ 65535 → SFits w64 (a *ℤ b)
 cross a b h k = fits64 (a *ℤ b) (rw (abs-mul a b) (omega (arith, mul-le-mul h k)))
 
-pub sum-fits : (a b : ℤ) → natAbs a + natAbs b ≤ 140735340871680 → SFits w64 (a +ℤ b)
+pub sum-fits : (a b : ℤ) → natAbs a + natAbs b ≤ 281474976710656 → SFits w64 (a +ℤ b)
 sum-fits a b h = fits64 (a +ℤ b) (omega (arith, abs-add a b))
 
-pub quot-fits : (a b : ℤ) → natAbs a ≤ 140735340871680 → SFits w64 (quotZ a b)
+pub quot-fits : (a b : ℤ) → natAbs a ≤ 281474976710656 → SFits w64 (quotZ a b)
 quot-fits a b h = fits64 (quotZ a b) (omega (arith, abs-quot a b))
 
 -- what is read of two numbers is read of their bits

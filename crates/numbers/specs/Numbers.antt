@@ -4,7 +4,7 @@ use mathlib.Core.Path.{_≡_}
 use mathlib.Core.Bool.{Bool, not, cond, _&&_}
 use mathlib.Core.List.{List}
 use lib.Dec.{eqb}
-use lib.IntN.{ℤ, pos, natAbs, _+ℤ_}
+use lib.IntN.{ℤ, pos, natAbs, _+ℤ_, _-ℤ_}
 use lib.Signed.{ltZ, leZ}
 use lib.ListN.{length}
 use Rattle.model.specs.Meaning as M
@@ -33,6 +33,10 @@ ordered o a b =
     (cond (eqb o 3) (ltZ a b)
     (cond (eqb o 4) (leZ a b)
     (cond (eqb o 5) (ltZ b a) (leZ b a)))))
+
+-- b, with the sign of a
+abbrev pub toward : ℤ → ℤ → ℤ
+toward a b = cond (ltZ a (pos 0)) (pos 0 -ℤ b) b
 
 -- the best so far of n values and the next value; the first value is the best of one
 abbrev pub larger : ℕ → ℤ → ℤ → ℤ

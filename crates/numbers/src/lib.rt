@@ -95,26 +95,37 @@ pub fn compare(operator: u8, x: Ratio, y: Ratio) -> bool
     compared(wide_byte(operator), x, y)
 }
 
+fn plus(a: i64, b: i64) -> i64
+    requires { ⌜ natAbs a + natAbs b ≤ 281474976710656 ⌝ }
+    ensures { λ r. ⌜ r ≡ a +ℤ b ⌝ }
+{
+    a + b
+}
+
 fn quotient(a: i64, b: i64) -> i64
-    requires { ⌜ (natAbs a ≤ 140735340871680) × (0 < natAbs b) ⌝ }
+    requires { ⌜ (natAbs a ≤ 281474976710656) × (0 < natAbs b) ⌝ }
     ensures { λ r. ⌜ r ≡ quotZ a b ⌝ }
 {
     a / b
 }
 
-// The cell of a target, rounded toward zero.
+// b with the sign of a.
+fn toward(a: i64, b: i64) -> i64
+    requires { ⌜ natAbs b ≤ 65535 ⌝ }
+    ensures { λ r. ⌜ r ≡ N.toward a b ⌝ }
+{
+    if a < 0 { 0 - b } else { b }
+}
+
+// The cell of a target: the nearest whole number, halves away from zero. Signed division cuts off, so a half is added first.
 pub fn cell(x: Ratio) -> i64
     requires { ⌜ N.Small x ⌝ }
     ensures { λ r. ⌜ r ≡ M.cell (N.ratioOf x) ⌝ }
 {
-    quotient(x.numerator, x.denominator)
-}
-
-fn plus(a: i64, b: i64) -> i64
-    requires { ⌜ natAbs a + natAbs b ≤ 140735340871680 ⌝ }
-    ensures { λ r. ⌜ r ≡ a +ℤ b ⌝ }
-{
-    a + b
+    let n = x.numerator;
+    let d = x.denominator;
+    let half = toward(n, d);
+    quotient(plus(product(n, 2), half), product(2, d))
 }
 
 fn larger(count: u64, a: i64, b: i64) -> i64

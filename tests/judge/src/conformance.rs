@@ -6,6 +6,7 @@ mod meaning;
 mod random;
 mod refusals;
 mod rewriting;
+mod rounding;
 mod write;
 
 use crate::program::{output, Files};
@@ -208,6 +209,7 @@ pub fn cases() -> Vec<(String, Case)> {
         ("order", refusals::order),
         ("rewriting", rewriting::fill),
         ("meaning", meaning::fill),
+        ("rounding", rounding::fill),
         ("drawn", random::fill),
     ] {
         let mut group = Group::new(name);

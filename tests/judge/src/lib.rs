@@ -1,5 +1,5 @@
-//! A plain and slow query engine over guarded relations, written from document 01 alone.
-//! It judges other implementations: clarity comes before speed everywhere.
+//! A plain and slow query engine over guarded relations, written from document 01 and the landed
+//! changes of document 02 alone. It judges other implementations: clarity comes before speed everywhere.
 
 pub mod calls;
 pub mod catalogue;

@@ -32,9 +32,10 @@ impl Value {
         (self.sum * other.count).cmp(&(other.sum * self.count))
     }
 
-    /// Rounded toward zero, as Rust divides.
+    /// Rounded to the nearest whole number, halves away from zero (Change 4).
     fn cell(self) -> i64 {
-        i64::try_from(self.sum / self.count).expect("sums of 1,024 values fit a cell")
+        let size = (2 * self.sum.abs() + self.count) / (2 * self.count);
+        i64::try_from(self.sum.signum() * size).expect("sums of 1,024 values fit a cell")
     }
 }
 

@@ -1,21 +1,35 @@
-use native.Mathlib.Omega.{arith}
-use mir.Facts.{toZ-ofZ}
-use mir.Syntax.{w64}
-use lib.Signed.{quotZ}
-use Rattle.numbers.proofs.Signed.{fits64, test-is}
-use mathlib.Core.Path.{ap, _∙_}
 use borrow.Author.Needs.{needs}
+use Rattle.numbers.proofs.Rounding.{fitting-denominator, sum-small, quotient-small, rounded-is}
 use Rattle.numbers.proofs.cell.Statement.{statement}
 use Rattle.numbers.proofs.cell.Tie as tie
 
+toward-requires : tie.Need-toward-requires
+toward-requires c κs = fitting-denominator (c .before .before .args .x) (c .before .before .pre)
+
+product-requires : tie.Need-product-requires
+product-requires c κs = search needs
+
+plus-requires : tie.Need-plus-requires
+plus-requires c κs =
+    let toward = c .before .toward in let start = c .before .before .before .before in
+    sum-small (start .args .x) (start .pre) (toward .result) (c .product .result) (record { sfits = toward .ok }) (record { sfits = c .product .ok }) (toward .ensures) (c .product .ensures)
+
+product-requires-2 : tie.Need-product-requires-2
+product-requires-2 c κs = search needs
+
 quotient-requires : tie.Need-quotient-requires
-quotient-requires c κs = search needs
+quotient-requires c κs =
+    let plus = c .before .plus in let product = c .before .before .product in
+    let toward = c .before .before .before .toward in let start = c .before .before .before .before .before .before in
+    quotient-small (start .args .x) (start .pre) (toward .result) (product .result) (record { sfits = toward .ok }) (record { sfits = product .ok }) (toward .ensures) (product .ensures) (plus .result) (c .product2 .result) (record { sfits = plus .ok }) (record { sfits = c .product2 .ok }) (plus .ensures) (c .product2 .ensures)
 
 returns : tie.Need-returns
 returns c =
-    let args = c .before .before .before .args in
-    let pre = c .before .before .before .pre in
-    toZ-ofZ {w = w64} (record { sfits = c .quotient .ok }) ∙ c .quotient .ensures ∙ test-is quotZ (args .x .numerator) (args .x .denominator) (fits64 (args .x .numerator) (omega (arith, pre .numerator))) (fits64 (args .x .denominator) (omega (arith, pre .denominator))) ∙ ap (quotZ (args .x .numerator)) (pre .sign)
+    let product2 = c .before .product2 in let plus = c .before .before .plus in let product = c .before .before .before .product in
+    let toward = c .before .before .before .before .toward in let start = c .before .before .before .before .before .before .before in
+    rounded-is (start .args .x) (start .pre) (toward .result) (product .result) (record { sfits = toward .ok }) (record { sfits = product .ok }) (toward .ensures) (product .ensures) (plus .result) (product2 .result) (record { sfits = plus .ok }) (record { sfits = product2 .ok }) (plus .ensures) (product2 .ensures) (c .quotient .result) (record { sfits = c .quotient .ok }) (c .quotient .ensures)
 
 pub cell-spec : {M : Type 1} → statement M
-cell-spec = tie.close (tie.spec quotient-requires returns)
+cell-spec =
+    tie.close
+    (tie.spec toward-requires product-requires plus-requires product-requires-2 quotient-requires returns)

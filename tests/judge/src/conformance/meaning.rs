@@ -4,18 +4,18 @@ use super::write::*;
 use super::{Group, Setting};
 use crate::program::Files;
 
-fn open(catalogue: Vec<u8>, values: &[i32], question: Vec<u8>) -> Files {
+pub fn open(catalogue: Vec<u8>, values: &[i32], question: Vec<u8>) -> Files {
     let relations = catalogue.len() / 4;
     let permits = (0..relations as u8).flat_map(|relation| permit(relation, ALL, &yes()));
     Setting::new(catalogue, values, permits.collect()).files(question)
 }
 
 /// One relation of one attribute, all of it permitted.
-fn column(values: &[i32], question: Vec<u8>) -> Files {
+pub fn column(values: &[i32], question: Vec<u8>) -> Files {
     open(relation(1, values.len() as u16), values, question)
 }
 
-fn all_where(condition: &[u8]) -> Vec<u8> {
+pub fn all_where(condition: &[u8]) -> Vec<u8> {
     join(&[&range(0, 0), &attribute(0, 0), condition])
 }
 
@@ -441,20 +441,22 @@ fn aggregates(group: &mut Group) {
 fn averages(group: &mut Group) {
     let target = |values: &[i32]| column(values, join(&[&aggregate(AVE, 0, 0, 0, &yes()), &yes()]));
     for (values, expected) in [
-        (&[-3, -4][..], -3),
-        (&[3, 4], 3),
+        (&[-3, -4][..], -4),
+        (&[3, 4], 4),
         (&[7], 7),
         (&[-7], -7),
-        (&[1, -2], 0),
-        (&[0, 1], 0),
-        (&[-1, -1, 0], 0),
+        (&[1, -2], -1),
+        (&[0, 1], 1),
+        (&[-1, -1, 0], -1),
         (&[5, 5, 6], 5),
         (&[i32::MIN, i32::MIN], -2147483648),
-        (&[i32::MIN, i32::MAX], 0),
-        (&[i32::MAX, i32::MAX, i32::MAX - 1], 2147483646),
+        (&[i32::MIN, i32::MAX], -1),
+        (&[i32::MAX, i32::MAX, i32::MAX - 1], 2147483647),
     ] {
         group.cells(
-            format!("AVE of {values:?} as a target is rounded toward zero."),
+            format!(
+                "AVE of {values:?} as a target is rounded to the nearest, halves away from zero."
+            ),
             target(values),
             &[expected],
         );
@@ -560,7 +562,7 @@ fn hidden(group: &mut Group) {
     );
     let ask = |question: Vec<u8>| setting.files(question);
     let names = ["COUNT", "SUM", "AVE", "MAX", "MIN"];
-    for (function, expected) in [(COUNT, 2), (SUM, 3), (AVE, 1), (MAX, 2), (MIN, 1)] {
+    for (function, expected) in [(COUNT, 2), (SUM, 3), (AVE, 2), (MAX, 2), (MIN, 1)] {
         let name = names[usize::from(function) - 1];
         group.cells(
             format!("{name} takes the permitted rows alone."),
