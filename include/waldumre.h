@@ -79,7 +79,9 @@ typedef struct {
 #define WALDUMRE_QUERY_SIZE 31
 /* relation or attribute unknown, or a variable over its limit, out of reach or bound twice */
 #define WALDUMRE_QUERY_NAMES 32
-/* a variable over a stored relation has no permit that applies (waldumre_ask only) */
+/* a variable over a stored relation has no permit that applies, or a permit of NO ACCESS (its
+ * condition is FALSE alone) bars it: its mask has an attribute that the query uses of the
+ * variable (waldumre_ask only) */
 #define WALDUMRE_NO_PERMIT 33
 /* Caused by the host, that is, by the program that makes the call: */
 /* the rewritten query is longer than rewritten_length (waldumre_ask only); never with
@@ -119,7 +121,8 @@ waldumre_outcome waldumre_evaluate(const uint8_t *catalogue, size_t catalogue_le
  *
  *   permits    0 to 8 permits, one after the other: 64, relation, mask (2 bytes; bit n for
  *              attribute n, FFFF hexadecimal for all), then a condition in which variable 0 is the
- *              permitted row.
+ *              permitted row. A condition of FALSE alone is NO ACCESS: it permits nothing and bars
+ *              its attributes, whatever other permits say.
  *   rewritten  Gets the query with the guards put in, which waldumre_evaluate would answer the same.
  *              WALDUMRE_REWRITTEN_BYTES are always enough.
  *

@@ -561,6 +561,82 @@ mod errors_a_good_reader_makes {
     }
 }
 
+mod no_access_bars {
+    use super::*;
+
+    const CATALOGUE: [u8; 12] = [48, 2, 1, 0, 48, 1, 1, 0, 49, 1, 1, 0];
+    const VALUES: [i32; 4] = [5, 6, 7, 8];
+    /// Attributes 0 and 1 of relation 0.
+    const FIRST: [u8; 7] = [1, 0, 0, 33, 0, 0, 16];
+    const SECOND: [u8; 7] = [1, 0, 0, 33, 0, 1, 16];
+    const OPEN: [u8; 5] = [64, 0, 255, 255, 16];
+
+    fn number(list: &[&[u8]], query: &[u8]) -> u64 {
+        ask_number(&CATALOGUE, &VALUES, &list.concat(), query)
+    }
+
+    #[test]
+    fn a_second_permit_does_not_open_it() {
+        let no_access: &[u8] = &[64, 0, 2, 0, 17];
+        for list in [[no_access, &OPEN], [&OPEN, no_access]] {
+            assert_eq!(number(&list, &SECOND), 33);
+            let asked = asked(&CATALOGUE, &VALUES, &list.concat(), &FIRST);
+            // The guard is the other permit alone.
+            assert_eq!(asked.rewritten, [1, 0, 0, 33, 0, 0, 19, 16, 16]);
+            assert_eq!(asked.cells, [5]);
+        }
+        let everything: &[u8] = &[64, 0, 255, 255, 17];
+        assert_eq!(number(&[everything, &OPEN], &FIRST), 33);
+        let elsewhere: &[u8] = &[64, 1, 255, 255, 17];
+        assert_eq!(number(&[elsewhere, &OPEN], &FIRST), 0);
+    }
+
+    #[test]
+    fn an_empty_s_is_not_barred_but_needs_another_permit() {
+        let unused = [1, 0, 2, 1, 1, 0, 33, 0, 0, 16];
+        let no_access: &[u8] = &[64, 0, 255, 255, 17];
+        let both = [no_access, &OPEN].concat();
+        let asked = asked(&CATALOGUE, &VALUES, &both, &unused);
+        let expected = [1, 0, 2, 1, 1, 0, 33, 0, 0, 19, 16, 16];
+        assert_eq!(
+            (&asked.rewritten[..], &asked.cells[..]),
+            (&expected[..], &[8][..])
+        );
+        assert_eq!(number(&[no_access], &unused), 33);
+    }
+
+    #[test]
+    fn other_conditions_that_fail_bar_nothing() {
+        for never in [&[18, 16][..], &[19, 17, 16], &[20, 17, 17]] {
+            let list = [&[64, 0, 2, 0], never, &OPEN].concat();
+            let asked = asked(&CATALOGUE, &VALUES, &list, &SECOND);
+            let expected = [&SECOND[..6], &[19, 16, 20], never, &[16]].concat();
+            assert_eq!(
+                (&asked.rewritten[..], &asked.cells[..]),
+                (&expected[..], &[6][..])
+            );
+        }
+    }
+
+    #[test]
+    fn variables_of_permits_are_not_barred() {
+        let no_access: &[u8] = &[64, 0, 255, 255, 17];
+        let other: &[u8] = &[64, 1, 1, 0, 22, 1, 0, 21, 1, 33, 1, 1, 32, 6, 0, 0, 0];
+        let query = [1, 0, 1, 33, 0, 0, 16];
+        let list = [no_access, other].concat();
+        assert_eq!(asked(&CATALOGUE, &VALUES, &list, &query).cells, [7]);
+    }
+
+    #[test]
+    fn it_counts_as_a_permit() {
+        let no_access: &[u8] = &[64, 0, 2, 0, 17];
+        let eight = OPEN.repeat(8);
+        assert_eq!(number(&[&eight, no_access], &FIRST), 21);
+        assert_eq!(number(&[&OPEN, &[64, 0, 4, 0, 17]], &FIRST), 22);
+        assert_eq!(number(&[&OPEN, &[64, 2, 1, 0, 17]], &FIRST), 23);
+    }
+}
+
 const PERMIT_4_2: [u8; 14] = [64, 0, 4, 0, 21, 1, 33, 0, 1, 32, 1, 0, 0, 0];
 
 #[test]

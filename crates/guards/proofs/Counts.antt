@@ -9,10 +9,10 @@ use lib.Dec.{eqb, ltb}
 use lib.ListN.{length, getD, set, drop, replicate, length-drop}
 use borrow.Author.Tests.{eq-eqb, ne-eqb, ltb-true}
 use Rattle.model.specs.Lists.{any, all, filter, consIf, total, Every}
-use Rattle.model.specs.Syntax.{Binding, Query, Permit, bindingsQ}
+use Rattle.model.specs.Syntax.{Condition, Binding, Query, Permit, bindingsQ}
 use Rattle.model.specs.Encoding.{encodeQuery, permitsOf}
 use Rattle.model.specs.Catalogue.{Shape, catalogueOf, shapeOf, storedAt}
-use Rattle.model.specs.Permits.{usedOf, applies, guardOf, guardsOf}
+use Rattle.model.specs.Permits.{usedOf, applies, bars, only, guardOf, guardsOf}
 use Rattle.model.specs.Scope.{boundOnce}
 use Rattle.model.specs.Checks.{fails10, fails20, fails21, served, fails33, rewrittenBytes}
 use Rattle.model.proofs.Tests.{clash, or-no, not-no}
@@ -28,6 +28,7 @@ use Rattle.copier.specs.Guard.{bitsOf}
 use Rattle.copier.proofs.Encoded.{bits-some}
 use Rattle.guards.specs.Filled.{placedFrom, maskFor, masked}
 use Rattle.guards.specs.Counted.{servedBy, turnLength, lengthFrom, lengthBy, rewrittenLength, Short}
+use Rattle.model.proofs.Barred.{Filled, filled-guard}
 use Rattle.guards.proofs.Lengths.{joinedBytes, guardBytes, bytesFor, rewritten-size}
 use Rattle.guards.proofs.Stands.{written, LengthsOf, masks-of, lengths-of, few-permits, mask-is}
 
@@ -89,27 +90,23 @@ unfolding total joinedBytes
 joined-are [] = refl
 joined-are (p ∷ ps) = ap₂ (λ (a b : ℕ). suc a + b) (size-encode (p .condition) [] ∙ add-zero (size (p .condition))) (joined-are ps)
 
--- a permit that applies adds at least a byte
-joined-some : (u : Permit → Bool) (ps : List Permit) → any u ps ≡ true → 1 ≤ total (λ (p : Permit). suc (length (written p))) (filter u ps)
-unfolding any total filter
-joined-some u [] h = clash h
-joined-some u (p ∷ ps) h = go (u p) h (λ k. joined-some u ps k)
-  where
-    go : (b : Bool) → (b || any u ps) ≡ true → (any u ps ≡ true → 1 ≤ total (λ (p : Permit). suc (length (written p))) (filter u ps)) → 1 ≤ total (λ (p : Permit). suc (length (written p))) (consIf b p (filter u ps))
-    go true k i = omega arith
-    go false k i = i k
+-- a guard that is not empty adds at least a byte
+joined-some : (cs : List Condition) → Filled (only cs) → 1 ≤ joinedBytes cs
+unfolding Filled joinedBytes total
+joined-some [] h = absurd h
+joined-some (c ∷ cs) h = omega arith
 
 -- the guard of a variable that passed 33, over a stored relation or not
-guard-is : (d : Bool) (u : Permit → Bool) (places : List ℕ) (ps : List Permit) → length ps ≤ 8 → LengthsOf places 0 ps → (not d || any u ps) ≡ true
-    → lengthFrom places 8 (cond d (bitsOf u ps) 0) 0 ≡ guardBytes (guardOf d (map (λ (p : Permit). p .condition) (filter u ps)))
+guard-is : (d x : Bool) (u : Permit → Bool) (places : List ℕ) (ps : List Permit) → length ps ≤ 8 → LengthsOf places 0 ps → (not d || (not x && any u ps)) ≡ true → Filled (guardOf d (map (λ (p : Permit). p .condition) (filter u ps)))
+    → lengthFrom places 8 (cond d (cond x 0 (bitsOf u ps)) 0) 0 ≡ guardBytes (guardOf d (map (λ (p : Permit). p .condition) (filter u ps)))
 unfolding guardOf guardBytes
-guard-is true u places ps few l h =
-    let n = joinedBytes (map (λ (p : Permit). p .condition) (filter u ps)) in
-    let e = joined-are (filter u ps) in
+guard-is true true u places ps few l h f = clash h
+guard-is true false u places ps few l h f =
+    let cs = map (λ (p : Permit). p .condition) (filter u ps) in
     lengths-filter u places ps 8 0 few l
-    ∙ e
-    ∙ sym (ap (λ (b : Bool). cond b 2 n) (ne-eqb n 0 (λ z. omega (arith, e, z, joined-some u ps h))))
-guard-is false u places ps few l h = length-zero places 8 0
+    ∙ joined-are (filter u ps)
+    ∙ sym (ap (λ (b : Bool). cond b 2 (joinedBytes cs)) (ne-eqb (joinedBytes cs) 0 (λ z. omega (arith, z, joined-some cs f))))
+guard-is false x u places ps few l h f = length-zero places 8 0
 
 module _ (cb pb : List ℕ) (hc : fails10 cb ≡ false) (hp : fails20 pb ≡ false) (h21 : fails21 (permitsOf pb) ≡ false) (q : Query) where
   abbrev sh : Shape
@@ -123,18 +120,22 @@ module _ (cb pb : List ℕ) (hc : fails10 cb ≡ false) (hp : fails20 pb ≡ fal
   unfolding servedBy served
   served-same masks b e =
       ap₂ (λ (d : Bool) (m : ℕ). not d || not (eqb m 0)) (sym (stored-is cb hc (b .relation))) (e ∙ mask-is cb pb hc hp h21 q b)
-      ∙ go (storedAt sh (b .relation))
+      ∙ go (storedAt sh (b .relation)) (any (bars (usedOf q (b .variable)) (b .relation)) ps)
     where
-      go : (d : Bool) → (not d || not (eqb (cond d (bitsOf (applies (usedOf q (b .variable)) (b .relation)) ps) 0) 0)) ≡ (not d || any (applies (usedOf q (b .variable)) (b .relation)) ps)
-      go true = bits-any (applies (usedOf q (b .variable)) (b .relation)) ps
-      go false = refl
+      u : Permit → Bool
+      u = applies (usedOf q (b .variable)) (b .relation)
+
+      go : (d x : Bool) → (not d || not (eqb (cond d (cond x 0 (bitsOf u ps)) 0) 0)) ≡ (not d || (not x && any u ps))
+      go true true = refl
+      go true false = bits-any u ps
+      go false x = refl
 
   -- the length of its guard
   length-same : (places masks : List ℕ) → LengthsOf places 0 ps → (b : Binding) → (getD masks (b .variable) 0 ≡ maskFor (encodeQuery q) pb cb b) × (served sh ps q b ≡ true) → lengthBy places masks b ≡ guardBytes (guardsOf sh ps q (b .variable) (b .relation))
   unfolding guardsOf served
   length-same places masks l b h =
       ap (λ (m : ℕ). lengthFrom places 8 m 0) (h .0 ∙ mask-is cb pb hc hp h21 q b)
-      ∙ guard-is (storedAt sh (b .relation)) (applies (usedOf q (b .variable)) (b .relation)) places ps (few-permits ps h21) l (h .1)
+      ∙ guard-is (storedAt sh (b .relation)) (any (bars (usedOf q (b .variable)) (b .relation)) ps) (applies (usedOf q (b .variable)) (b .relation)) places ps (few-permits ps h21) l (h .1) (filled-guard sh ps q b (h .1))
 
   module _ (once : boundOnce q ≡ true) (masks places : List ℕ) (few : Every (λ (b : Binding). b .variable < length masks) (bindingsQ q)) (room : 16 ≤ length places) where
     abbrev M : List ℕ

@@ -1,6 +1,6 @@
 -- The masks and the places that were filled stand for the guards of the model.
 use mathlib.Core.Path.{_≡_, refl, sym, ap, ap₂, subst, _∙_}
-use mathlib.Core.Bool.{Bool, true, false, not, cond, _||_}
+use mathlib.Core.Bool.{Bool, true, false, not, cond, _&&_, _||_}
 use mathlib.Core.List.{List, [], _∷_, map, map-map}
 use Prim.Native.Nat.{ℕ, zero, suc, _+_, _*_, _-_, _≤_, _<_}
 use native.Mathlib.Omega.{arith}
@@ -12,7 +12,7 @@ use Rattle.model.specs.Lists.{any, all, filter, contains, unique, Every}
 use Rattle.model.specs.Syntax.{Condition, Binding, Use, Query, Permit, variables, bindingsQ}
 use Rattle.model.specs.Encoding.{encode, encodePermit, encodePermits, encodeQuery, permitsOf}
 use Rattle.model.specs.Catalogue.{catalogueOf, shapeOf, storedAt}
-use Rattle.model.specs.Permits.{usedOf, applies, guardOf, guardsOf}
+use Rattle.model.specs.Permits.{usedOf, applies, bars, only, guardOf, guardsOf}
 use Rattle.model.specs.Scope.{boundOnce}
 use Rattle.model.specs.Checks.{fails10, fails20, permitFits, fails21, served, fails33}
 use Rattle.model.proofs.Tests.{and-inv, or-no, not-no, not-yes}
@@ -23,13 +23,14 @@ use Rattle.catalogue.proofs.Reading.{stored-is}
 use Rattle.scans.specs.Flat.{flatBindings, usedIn}
 use Rattle.scans.proofs.Whole.{bindings-query, uses-query}
 use Rattle.permits.specs.Entries.{spanOf, Entry, sizeOf, entries}
-use Rattle.permits.specs.Applying.{appliesTo, usedBytes}
+use Rattle.permits.specs.Applying.{appliesTo, barsFrom, usedBytes}
 use Rattle.permits.proofs.Reading.{entryOf, encode-join, first-size, first-rest, permits-span, some-bytes, listed}
-use Rattle.permits.proofs.Model.{applies-is}
+use Rattle.permits.proofs.Model.{applies-is, bars-is}
 use Rattle.copier.specs.Guard.{part, bitsOf, PartsOf}
 use Rattle.copier.proofs.Encoded.{bits-some, picked-filter}
 use Rattle.rewriter.specs.Rewritten.{StandsFor, Stands}
-use Rattle.guards.specs.Filled.{placedFrom, maskFor, masked}
+use Rattle.guards.specs.Filled.{placedFrom, verdictOf, maskUnlessBarred, maskFor, masked}
+use Rattle.guards.specs.declared.Verdict.{Verdict}
 
 -- a variable that is not bound again keeps its mask
 kept-mask : (qb pb cb masks : List ℕ) (v : ℕ) (bs : List Binding) → contains v (variables bs) ≡ false → getD (masked qb pb cb bs masks) v 0 ≡ getD masks v 0
@@ -171,24 +172,31 @@ unfolding bitsOf
 bits-are t u h [] = refl
 bits-are t u h (p ∷ ps) = ap₂ (λ (b : Bool) (n : ℕ). cond b 1 0 + 2 * n) (h p) (bits-are t u h ps)
 
+any-are : (t : Entry → Bool) (u : Permit → Bool) → ((p : Permit) → t (entryOf p) ≡ u p) → (ps : List Permit) → any t (map entryOf ps) ≡ any u ps
+unfolding any
+any-are t u h [] = refl
+any-are t u h (p ∷ ps) = ap₂ (λ (a b : Bool). a || b) (h p) (any-are t u h ps)
+
 -- S by the bytes is S
 used-is : (q : Query) (v : ℕ) → usedBytes (encodeQuery q) v ≡ usedOf q v
 unfolding usedIn usedOf
 used-is q v = ap {B = ℕ → Bool} (λ (us : List Use) (a : ℕ). usedIn us v a) (uses-query q)
 
 module _ (cb pb : List ℕ) (hc : fails10 cb ≡ false) (hp : fails20 pb ≡ false) (h21 : fails21 (permitsOf pb) ≡ false) (q : Query) where
-  -- the bits of a variable are those of the applying permits
-  bits-is : (v r : ℕ) → bitsOf (appliesTo (usedBytes (encodeQuery q) v) r) (take 8 (entries pb)) ≡ bitsOf (applies (usedOf q v) r) (permitsOf pb)
-  bits-is v r =
+  -- the verdict on a variable is by the permits
+  verdict-is : (v r : ℕ) → verdictOf (usedBytes (encodeQuery q) v) r (take 8 (entries pb)) ≡ record { mask = bitsOf (applies (usedOf q v) r) (permitsOf pb); barred = any (bars (usedOf q v) r) (permitsOf pb) }
+  unfolding verdictOf
+  verdict-is v r =
       let ps = permitsOf pb in
-      ap₂ (λ (s : ℕ → Bool) (es : List Entry). bitsOf (appliesTo s r) (take 8 es)) (used-is q v) (listed pb hp .found)
-      ∙ ap (bitsOf (appliesTo (usedOf q v) r)) (take-all 8 (map entryOf ps) (omega (arith, length-map ps entryOf, few-permits ps h21)))
-      ∙ bits-are (appliesTo (usedOf q v) r) (applies (usedOf q v) r) (applies-is (usedOf q v) r) ps
+      ap₂ (λ (s : ℕ → Bool) (es : List Entry). verdictOf s r (take 8 es)) (used-is q v) (listed pb hp .found)
+      ∙ ap (verdictOf (usedOf q v) r) (take-all 8 (map entryOf ps) (omega (arith, length-map ps entryOf, few-permits ps h21)))
+      ∙ ap₂ (λ (m : ℕ) (y : Bool). record { mask = m; barred = y }) (bits-are (appliesTo (usedOf q v) r) (applies (usedOf q v) r) (applies-is (usedOf q v) r) ps) (any-are (barsFrom (usedOf q v) r) (bars (usedOf q v) r) (bars-is (usedOf q v) r) ps)
 
   -- the mask of a binding by the model
-  pub mask-is : (b : Binding) → maskFor (encodeQuery q) pb cb b ≡ cond (storedAt (shapeOf (catalogueOf cb)) (b .relation)) (bitsOf (applies (usedOf q (b .variable)) (b .relation)) (permitsOf pb)) 0
+  pub mask-is : (b : Binding) → maskFor (encodeQuery q) pb cb b
+      ≡ cond (storedAt (shapeOf (catalogueOf cb)) (b .relation)) (cond (any (bars (usedOf q (b .variable)) (b .relation)) (permitsOf pb)) 0 (bitsOf (applies (usedOf q (b .variable)) (b .relation)) (permitsOf pb))) 0
   unfolding maskFor
-  mask-is b = ap₂ (λ (d : Bool) (n : ℕ). cond d n 0) (sym (stored-is cb hc (b .relation))) (bits-is (b .variable) (b .relation))
+  mask-is b = ap₂ (λ (d : Bool) (x : Verdict). cond d (maskUnlessBarred x) 0) (sym (stored-is cb hc (b .relation))) (verdict-is (b .variable) (b .relation))
 
   -- the mask of one binding, over parts that are those of the permits
   stands-for : (f : ℕ → List ℕ) → PartsOf written f 0 (permitsOf pb) → (b : Binding) (m : ℕ) → m ≡ maskFor (encodeQuery q) pb cb b → served (shapeOf (catalogueOf cb)) (permitsOf pb) q b ≡ true
@@ -197,11 +205,17 @@ module _ (cb pb : List ℕ) (hc : fails10 cb ≡ false) (hp : fails20 pb ≡ fal
   stands-for f hf b m e h =
       subst (λ (x : ℕ). StandsFor (guardsOf (shapeOf (catalogueOf cb)) (permitsOf pb) q (b .variable) (b .relation)) x f) (sym (e ∙ mask-is b)) (go (storedAt (shapeOf (catalogueOf cb)) (b .relation)) h)
     where
-      go : (d : Bool) → (not d || any (applies (usedOf q (b .variable)) (b .relation)) (permitsOf pb)) ≡ true
-          → StandsFor (guardOf d (map (λ (p : Permit). p .condition) (filter (applies (usedOf q (b .variable)) (b .relation)) (permitsOf pb)))) (cond d (bitsOf (applies (usedOf q (b .variable)) (b .relation)) (permitsOf pb)) 0) f
+      u : Permit → Bool
+      u = applies (usedOf q (b .variable)) (b .relation)
+
+      x : Bool
+      x = any (bars (usedOf q (b .variable)) (b .relation)) (permitsOf pb)
+
+      go : (d : Bool) → (not d || (not x && any u (permitsOf pb))) ≡ true → StandsFor (guardOf d (map (λ (p : Permit). p .condition) (filter u (permitsOf pb)))) (cond d (cond x 0 (bitsOf u (permitsOf pb))) 0) f
       go true h =
-          let u = applies (usedOf q (b .variable)) (b .relation) in (
-            bits-some u (permitsOf pb) h,
+          let i = and-inv (not x) (any u (permitsOf pb)) h in
+          subst (λ (y : Bool). StandsFor (only (map (λ (p : Permit). p .condition) (filter u (permitsOf pb)))) (cond y 0 (bitsOf u (permitsOf pb))) f) (sym (not-yes x (i .0))) (
+            bits-some u (permitsOf pb) (i .1),
             picked-filter u written f (permitsOf pb) (bitsOf u (permitsOf pb)) 0 (omega arith) hf
                 ∙ sym (map-map (λ (c : Condition). encode c []) (λ (p : Permit). p .condition) (filter u (permitsOf pb))),
           )

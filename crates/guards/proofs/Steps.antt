@@ -12,7 +12,7 @@ use borrow.Author.Tests.{lt-ltb, le-ltb, eq-eqb, ne-eqb, not-true, not-false}
 use Rattle.permits.specs.Entries.{Entry, sizeOf, entryAt, entries}
 use Rattle.permits.proofs.Walk.{entries-cons, entries-none}
 use Rattle.copier.specs.Guard.{bitsOf}
-use Rattle.model.specs.Lists.{all, total}
+use Rattle.model.specs.Lists.{any, all, total}
 use Rattle.model.specs.Syntax.{Binding}
 use Rattle.model.specs.Permits.{bit}
 use Rattle.model.proofs.Tests.{and-true}
@@ -25,9 +25,10 @@ use Rattle.scans.specs.declared.Bound.{Bound}
 use Rattle.scans.specs.declared.Bound.the-variants.{To, Nothing}
 use Rattle.scans.proofs.Walk.{flat-end}
 use Rattle.scans.proofs.Loops.{bindings-on}
-use Rattle.permits.specs.Applying.{appliesTo, usedBytes}
-use Rattle.permits.proofs.Finds.{applies-same}
-use Rattle.guards.specs.Filled.{placedFrom, maskFor, masked, bitOf}
+use Rattle.permits.specs.Applying.{appliesTo, barsFrom, usedBytes}
+use Rattle.permits.proofs.Finds.{applies-same, bars-same}
+use Rattle.guards.specs.Filled.{placedFrom, verdictOf, maskUnlessBarred, maskFor, masked, bitOf}
+use Rattle.guards.specs.declared.Verdict.{Verdict}
 use Rattle.guards.specs.Counted.{servedBy, turnLength, lengthFrom, lengthBy}
 
 module _ (left : ℕ) (list : List ℕ) (at k : ℕ) (places : List ℕ) where
@@ -71,46 +72,59 @@ pow-pos (suc n) = omega (arith, pow-pos n, pow-suc 2 n)
 pub next-near : (at n : ℕ) (list rest : List ℕ) → rest ≡ drop at list → at < length list → n ≤ length rest + 8 → length list ≤ 2048 → at + n ≤ 65536
 next-near at n list rest e l h s = omega (arith, ap length e, length-drop at list)
 
-module _ (t : Entry → Bool) (left : ℕ) (list : List ℕ) where
-  pub mask-none : left ≡ 0 → 0 ≡ bitsOf t (take left (entries list))
-  unfolding bitsOf
-  mask-none h = rw h
+-- the permits one by one
+module _ (s : ℕ → Bool) (r left : ℕ) (list : List ℕ) where
+  pub standing-none : left ≡ 0 → record { mask = 0; barred = false } ≡ verdictOf s r (take left (entries list))
+  unfolding verdictOf bitsOf any
+  standing-none h = rw h
 
-  pub mask-empty : length list ≡ 0 → 0 ≡ bitsOf t (take left (entries list))
-  unfolding bitsOf
-  mask-empty h = go list h left
+  pub standing-empty : length list ≡ 0 → record { mask = 0; barred = false } ≡ verdictOf s r (take left (entries list))
+  unfolding verdictOf bitsOf any
+  standing-empty h = go list h left
     where
-      go : (x : List ℕ) → length x ≡ 0 → (n : ℕ) → 0 ≡ bitsOf t (take n (entries x))
+      go : (x : List ℕ) → length x ≡ 0 → (n : ℕ) → record { mask = 0; barred = false } ≡ verdictOf s r (take n (entries x))
       go [] e zero = refl
-      go [] e (suc n) = ap (λ (es : List Entry). bitsOf t (take (suc n) es)) (sym entries-none)
+      go [] e (suc n) = ap (λ (es : List Entry). verdictOf s r (take (suc n) es)) (sym entries-none)
       go (b ∷ x) e n = absurd (omega arith)
 
-  pub mask-next : (n : ℕ) (rest : List ℕ) (b : Bool) (f m : ℕ) → (left ≡ 0 → ⊥) → (length list ≡ 0 → ⊥) → b ≡ t (entryAt list) → f ≡ bitOf b → n ≡ sizeOf list → rest ≡ drop n list
-      → m ≡ bitsOf t (take (left - 1) (entries rest)) → f + 2 * m ≡ bitsOf t (take left (entries list))
-  unfolding bitsOf
-  mask-next n rest b f m nz ne eb ef en er em = go left nz em
+  pub standing-next : (n : ℕ) (rest : List ℕ) (b d w : Bool) (f : ℕ) (x : Verdict) → (left ≡ 0 → ⊥) → (length list ≡ 0 → ⊥) → b ≡ appliesTo s r (entryAt list) → f ≡ bitOf b → d ≡ barsFrom s r (entryAt list) → n ≡ sizeOf list → rest ≡ drop n list
+      → x ≡ verdictOf s r (take (left - 1) (entries rest)) → w ≡ (d || x .barred) → record { mask = f + 2 * x .mask; barred = w } ≡ verdictOf s r (take left (entries list))
+  unfolding verdictOf bitsOf any
+  standing-next n rest b d w f x nz ne eb ef ed en er ex ew = go left nz ex
     where
-      go : (k : ℕ) → (k ≡ 0 → ⊥) → m ≡ bitsOf t (take (k - 1) (entries rest)) → f + 2 * m ≡ bitsOf t (take k (entries list))
+      go : (k : ℕ) → (k ≡ 0 → ⊥) → x ≡ verdictOf s r (take (k - 1) (entries rest)) → record { mask = f + 2 * x .mask; barred = w } ≡ verdictOf s r (take k (entries list))
       go zero h e = absurd (h refl)
       go (suc k) h e =
-          let s : entries list ≡ entryAt list ∷ entries (drop (sizeOf list) list) = entries-cons list (omega arith) in
-          let g : m ≡ bitsOf t (take k (entries (drop (sizeOf list) list))) = e ∙ rw (sub-one, er, en) in
-          ap₂ (λ (x y : ℕ). x + 2 * y) (ef ∙ ap bitOf eb) g ∙ sym (ap (λ (es : List Entry). bitsOf t (take (suc k) es)) s)
+          let c : entries list ≡ entryAt list ∷ entries (drop (sizeOf list) list) = entries-cons list (omega arith) in
+          let g : x ≡ verdictOf s r (take k (entries (drop (sizeOf list) list))) = e ∙ rw (sub-one, er, en) in
+          ap₂ (λ (m : ℕ) (y : Bool). record { mask = m; barred = y }) (ap₂ (λ (y z : ℕ). y + 2 * z) (ef ∙ ap bitOf eb) (ap (λ (y : Verdict). y .mask) g)) (ew ∙ ap₂ (λ (y z : Bool). y || z) ed (ap (λ (y : Verdict). y .barred) g))
+          ∙ sym (ap (λ (es : List Entry). verdictOf s r (take (suc k) es)) c)
 
--- masks of permits that agree below 16 attributes
-bits-same : {A : Type 0} (f g : A → Bool) → ((x : A) → f x ≡ g x) → (xs : List A) → bitsOf f xs ≡ bitsOf g xs
-unfolding bitsOf
-bits-same f g h [] = refl
-bits-same f g h (x ∷ xs) = ap₂ (λ (b : Bool) (n : ℕ). cond b 1 0 + 2 * n) (h x) (bits-same f g h xs)
+-- verdicts of sets that agree below 16 attributes
+verdict-same : (s t : ℕ → Bool) → ((a : ℕ) → a < 16 → s a ≡ t a) → (r : ℕ) (es : List Entry) → verdictOf s r es ≡ verdictOf t r es
+unfolding verdictOf bitsOf any
+verdict-same s t h r [] = refl
+verdict-same s t h r (e ∷ es) =
+    let i = verdict-same s t h r es in
+    ap₂ (λ (m : ℕ) (y : Bool). record { mask = m; barred = y })
+    (ap₂ (λ (b : Bool) (n : ℕ). cond b 1 0 + 2 * n) (applies-same s t h r e) (ap (λ (y : Verdict). y .mask) i))
+    (ap₂ (λ (x y : Bool). x || y) (bars-same s t h r e) (ap (λ (y : Verdict). y .barred) i))
 
 module _ (q list cb : List ℕ) (v r : ℕ) (s : Bool) (es : s ≡ storedOf cb r) where
   pub mask-free : not s ≡ true → 0 ≡ maskFor q list cb (record { variable = v; relation = r })
   unfolding maskFor
   mask-free h = rw (sym es, not-true s h)
 
-  pub mask-is : (used m : ℕ) → not s ≡ false → ((a : ℕ) → a < 16 → bit used a ≡ usedIn (flatUses q) v a) → m ≡ bitsOf (appliesTo (λ a. bit used a) r) (take 8 (entries list)) → m ≡ maskFor q list cb (record { variable = v; relation = r })
-  unfolding maskFor
-  mask-is used m h hu em = em ∙ bits-same (appliesTo (λ a. bit used a) r) (appliesTo (usedBytes q v) r) (applies-same (λ a. bit used a) (usedBytes q v) hu r) (take 8 (entries list)) ∙ rw (sym es, not-false s h)
+  module _ (used : ℕ) (x : Verdict) (h : not s ≡ false) (hu : (a : ℕ) → a < 16 → bit used a ≡ usedIn (flatUses q) v a) (ex : x ≡ verdictOf (λ a. bit used a) r (take 8 (entries list))) where
+    mask-of : maskFor q list cb (record { variable = v; relation = r }) ≡ maskUnlessBarred x
+    unfolding maskFor
+    mask-of = rw (sym es, not-false s h) (ap maskUnlessBarred (sym (verdict-same (λ a. bit used a) (usedBytes q v) hu r (take 8 (entries list))) ∙ sym ex))
+
+    pub mask-barred : x .barred ≡ true → 0 ≡ maskFor q list cb (record { variable = v; relation = r })
+    mask-barred e = sym (mask-of ∙ ap (λ (y : Bool). cond y 0 (x .mask)) e)
+
+    pub mask-is : x .barred ≡ false → x .mask ≡ maskFor q list cb (record { variable = v; relation = r })
+    mask-is e = sym (mask-of ∙ ap (λ (y : Bool). cond y 0 (x .mask)) e)
 
 module _ (q list cb : List ℕ) where
   pub masked-none : (b : Bound) (m : List ℕ) → b ≡ Nothing → m ≡ masked q list cb (boundBy b) m

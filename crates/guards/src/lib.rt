@@ -2,16 +2,21 @@
 // Check 33 and the length of the rewritten query are read from the same tables, so that permits are applied once.
 use scans::Bound;
 ghost use mathlib.Core.Path.{_≡_};
+ghost use mathlib.Core.Bool.{_||_};
 ghost use Prim.Native.Nat.{_+_, _*_, _^_, _≤_, _<_};
 ghost use lib.ListN.{length, getD, set, take};
 ghost use Rattle.model.specs.Permits.{bit};
 ghost use Rattle.model.specs.Lists.{all, total};
 ghost use Rattle.scans.specs.Flat.{boundBy, flatBindings};
 ghost use Rattle.permits.specs.Entries.{entries};
-ghost use Rattle.permits.specs.Applying.{appliesTo};
-ghost use Rattle.copier.specs.Guard.{bitsOf};
-ghost use Rattle.guards.specs.Filled.{placedFrom, maskFor, masked, bitOf};
+ghost use Rattle.guards.specs.Filled.{placedFrom, verdictOf, maskFor, masked, bitOf};
 ghost use Rattle.guards.specs.Counted.{servedBy, Short, turnLength, lengthFrom, lengthBy, rewrittenLength};
+
+// What a permit list is to a variable: bit k of the mask for permit k where it applies, and whether a permit bars it.
+struct Verdict {
+    mask: u8,
+    barred: bool,
+}
 
 fn put_place(places: &mut [usize], i: usize, x: usize)
     ensures { λ _. ⌜ now (places .exit) ≡ set (now (places .entry)) i x ⌝ }
@@ -45,27 +50,42 @@ fn one_if(b: bool) -> u8
     if b { 1 } else { 0 }
 }
 
-// The mask of the applying permits among the first so many.
-fn mask(list: &[u8], left: u8, relation: u8, used: u16) -> u8
+fn either(a: bool, b: bool) -> bool
+    ensures { λ r. ⌜ r ≡ (a || b) ⌝ }
+{
+    if a { true } else { b }
+}
+
+// Of the first so many permits: which apply to a variable, and whether one bars it.
+fn standing(list: &[u8], left: u8, relation: u8, used: u16) -> Verdict
     requires { ⌜ left ≤ 8 ⌝ }
-    ensures { λ r. ⌜ r ≡ bitsOf (appliesTo (λ a. bit used a) relation) (take left (entries (now (list .entry)))) ⌝ }
-    ensures { λ r. ⌜ r < 2 ^ left ⌝ }
+    ensures { λ r. ⌜ r ≡ verdictOf (λ a. bit used a) relation (take left (entries (now (list .entry)))) ⌝ }
+    ensures { λ r. ⌜ r .mask < 2 ^ left ⌝ }
 {
     if left == 0 {
-        return 0;
+        return Verdict {
+            mask: 0,
+            barred: false,
+        };
     }
     if list.len() == 0 {
-        return 0;
+        return Verdict {
+            mask: 0,
+            barred: false,
+        };
     }
     let first = one_if(permits::applies(list, relation, used));
-    first
-        + 2
-            * mask(
-                kinds::tail(list, permits::size(list)),
-                left - 1,
-                relation,
-                used,
-            )
+    let bars = permits::bars(list, relation, used);
+    let rest = standing(
+        kinds::tail(list, permits::size(list)),
+        left - 1,
+        relation,
+        used,
+    );
+    Verdict {
+        mask: first + 2 * rest.mask,
+        barred: either(bars, rest.barred),
+    }
 }
 
 fn put_mask(masks: &mut [u8], variable: u8, x: u8)
@@ -77,14 +97,18 @@ fn put_mask(masks: &mut [u8], variable: u8, x: u8)
     }
 }
 
-// The mask of a variable over a relation; 0 over a workspace.
+// The mask of a variable over a relation; 0 over a workspace, and where the variable is barred: 33 is then due.
 fn mask_for(query: &[u8], list: &[u8], catalogue: &[u8], variable: u8, relation: u8) -> u8
     ensures { λ r. ⌜ r ≡ maskFor (now (query .entry)) (now (list .entry)) (now (catalogue .entry)) (record { variable = variable; relation = relation }) ⌝ }
 {
     if !catalogue::stored(catalogue, relation) {
         return 0;
     }
-    mask(list, 8, relation, scans::used_mask(query, variable))
+    let found = standing(list, 8, relation, scans::used_mask(query, variable));
+    if found.barred {
+        return 0;
+    }
+    found.mask
 }
 
 fn fill_mask(query: &[u8], list: &[u8], catalogue: &[u8], b: Bound, masks: &mut [u8])

@@ -12,6 +12,7 @@ pub mod Limits
 pub mod Numbering
 pub mod Reaching
 pub mod Passed
+pub mod Barred
 pub mod Accepted
 pub mod Grounds
 pub mod Demands

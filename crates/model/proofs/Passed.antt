@@ -13,7 +13,7 @@ use Rattle.model.specs.Lists.{update, consIf, filter, any, all, concatMa
 use Rattle.model.specs.Syntax.{Condition, Term, TRUE, FALSE, NOT, AND, OR, COMPARE, SOME, CONSTANT, ATTRIBUTE, AGGREGATE, Binding, Use, Query, Permit, WellFormed, WellFormedQ, WellFormedPs, bindings, bindingsT, bindingsQ, variables, uses, usesT, usesQ, levels, levelsQ}
 use Rattle.model.specs.Encoding.{encodePermit, encodeQuery, Read, fail, ok, failed, readOr, readQuery, permitsRead, queryOf, permitsOf}
 use Rattle.model.specs.Catalogue.{Relation, readCatalogue, catalogueRead, catalogueOf, Shape, shapeOf, attributesAt, storedAt}
-use Rattle.model.specs.Permits.{mask, usedOf, applies, Guard, free, only, Guards, guardOf, guardsOf}
+use Rattle.model.specs.Permits.{mask, usedOf, noAccess, applies, Guard, free, only, Guards, guardOf, guardsOf}
 use Rattle.model.specs.Scope.{Scope, nobody, knownBinding, inScope, inScopeT, rangeScope, queryInScope, boundOnce}
 use Rattle.model.specs.Checks.{Limits, guardedLimits, plainLimits, fails10, fails11, fails20, permitFits, fails21, maskKnown, permitKnown, fails22, fails23, fails30, fails31, fails32, fails33, fails40, Check, keeperChecks, permitChecks, queryChecks, guardChecks, shapeChecks, refusal}
 use Rattle.model.proofs.Tests.{clash, and-inv, or-inv, or-no, not-no, not-yes, all-cons}
@@ -221,7 +221,7 @@ sound sh q s = record {
 sane-permit : (sh : Shape) (s : ℕ → Bool) (r : ℕ) (p : Permit) → applies s r p ≡ true → permitKnown sh p ≡ true → Sane sh r (p .condition)
 unfolding applies permitKnown
 sane-permit sh s r p e k =
-    let a = and-inv _ _ e in
+    let a = and-inv (eqb (p .relation) r) _ (and-inv (not (noAccess p)) _ e .1) in
     let σ = update nobody 0 (some (p .relation)) in
     let vs = variables (bindings (p .condition)) in
     let b = and-inv (ltb (p .relation) (length sh) && maskKnown sh p) (inScope sh 4 (p .condition) σ && unique (0 ∷ vs)) k in

@@ -10,7 +10,7 @@ use Rattle.model.specs.Lists.{update, any, all, unique, below}
 use Rattle.model.specs.Syntax.{Binding, Query, Permit, bindings, bindingsQ, variables, levels, levelsQ}
 use Rattle.model.specs.Encoding.{failed, readQuery, permitsRead, queryOf, permitsOf, encodeQuery, encodePermit}
 use Rattle.model.specs.Catalogue.{catalogueRead, catalogueOf, valueCount, Shape, shapeOf, attributesAt, storedAt}
-use Rattle.model.specs.Permits.{bit, mask, usedOf, applies, guardsOf}
+use Rattle.model.specs.Permits.{bit, mask, usedOf, applies, bars, guardsOf}
 use Rattle.model.specs.Rewriting.{rewriteQuery}
 use Rattle.model.specs.Scope.{nobody, inScope, queryInScope, boundOnce}
 
@@ -82,9 +82,11 @@ fails31 l q =
 unfoldable pub fails32 : Limits → Shape → Query → Bool
 fails32 l sh q = not (queryInScope sh (l .bound) q && boundOnce q)
 
--- 33: some variable over a stored relation has no applying permit
+-- 33: some variable over a stored relation is barred or has no applying permit
 unfoldable pub served : Shape → List Permit → Query → Binding → Bool
-served sh ps q b = not (storedAt sh (b .relation)) || any (applies (usedOf q (b .variable)) (b .relation)) ps
+served sh ps q b =
+    let s = usedOf q (b .variable) in
+    not (storedAt sh (b .relation)) || (not (any (bars s (b .relation)) ps) && any (applies s (b .relation)) ps)
 
 unfoldable pub fails33 : Shape → List Permit → Query → Bool
 fails33 sh ps q = not (all (served sh ps q) (bindingsQ q))

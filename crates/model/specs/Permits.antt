@@ -1,11 +1,11 @@
--- Which permits apply, and the rows they permit (document 01, "Permits and the rewriting", steps 1 to 3).
+-- Which permits apply or bar, and the rows they permit (document 01, "Permits and the rewriting", steps 1 to 3; document 02, change 6).
 use Prim.Native.Nat.{ℕ, _+_, _*_, _/_, _%_, _^_}
 use mathlib.Core.Bool.{Bool, true, false, not, _&&_, _||_}
 use mathlib.Core.List.{List, [], _∷_, map}
 use lib.Dec.{eqb}
 use lib.IntN.{ℤ}
 use Rattle.model.specs.Lists.{update, filter, any, all, below}
-use Rattle.model.specs.Syntax.{Condition, Use, Query, Permit, usesQ}
+use Rattle.model.specs.Syntax.{Condition, TRUE, FALSE, NOT, AND, OR, COMPARE, SOME, Use, Query, Permit, usesQ}
 use Rattle.model.specs.Meaning.{Tuple, Rows, holds, unbound}
 use Rattle.model.specs.Catalogue.{Shape, storedAt, allRows}
 
@@ -20,9 +20,27 @@ mask p = p .low + 256 * p .high
 unfoldable pub usedOf : Query → ℕ → ℕ → Bool
 usedOf q v a = any (λ (u : Use). eqb (u .variable) v && eqb (u .attribute) a) (usesQ q)
 
--- step 3: a permit applies if its relation is the variable's and its mask contains S
+-- the single record FALSE
+unfoldable pub isFalse : Condition → Bool
+isFalse TRUE = false
+isFalse FALSE = true
+isFalse (NOT c) = false
+isFalse (AND c d) = false
+isFalse (OR c d) = false
+isFalse (COMPARE o s t) = false
+isFalse (SOME v r c) = false
+
+-- NO ACCESS of 000: a permit whose condition is the single record FALSE
+abbrev pub noAccess : Permit → Bool
+noAccess p = isFalse (p .condition)
+
+-- step 3: a permit applies if its relation is the variable's and its mask contains S; one of NO ACCESS never does
 unfoldable pub applies : (ℕ → Bool) → ℕ → Permit → Bool
-applies s r p = eqb (p .relation) r && all (λ a. not (s a) || bit (mask p) a) (below 16)
+applies s r p = not (noAccess p) && (eqb (p .relation) r && all (λ a. not (s a) || bit (mask p) a) (below 16))
+
+-- a permit of NO ACCESS bars a variable over its relation whose S shares an attribute with its mask
+unfoldable pub bars : (ℕ → Bool) → ℕ → Permit → Bool
+bars s r p = noAccess p && (eqb (p .relation) r && any (λ a. s a && bit (mask p) a) (below 16))
 
 -- no guard, or the conditions of the applying permits in list order
 pub data Guard : Type 0 where

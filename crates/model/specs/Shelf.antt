@@ -1,4 +1,4 @@
--- The starred shelf examples (document 01) and two of our own, as one table for each call. proofs/Shelf.antt has the proof.
+-- The starred shelf examples (document 01) and some of our own, as one table for each call. proofs/Shelf.antt has the proof.
 use Prim.Native.Nat.{ℕ}
 use mathlib.Core.List.{List, [], _∷_, _++_}
 use lib.IntN.{ℤ, pos, negsuc}
@@ -54,6 +54,10 @@ accepted columns rows =
 abbrev pub rewrittenTo : List ℕ → Answer → Outcome
 rewrittenTo bs a = record { answer = a; count = length bs; rewritten = bs ++ drop (length bs) lentBytes }
 
+-- a refusal with zero counts, both buffers as lent
+abbrev pub refusedWith : ℕ → Outcome
+refusedWith n = record { answer = record { number = n; rows = 0; columns = 0; cells = lentCells }; count = 0; rewritten = lentBytes }
+
 pub record AskExample : Type 0 where
   pub permits : List ℕ
   pub query : List ℕ
@@ -100,7 +104,7 @@ askExamples =
     record {
       permits = jones;
       query = 1 ∷ 0 ∷ 0 ∷ 33 ∷ 0 ∷ 1 ∷ 33 ∷ 0 ∷ 2 ∷ 16 ∷ [];
-      outcome = record { answer = record { number = 33; rows = 0; columns = 0; cells = lentCells }; count = 0; rewritten = lentBytes };
+      outcome = refusedWith 33;
     } ∷
     -- a DEPARTMENT query over DEPT: 1, 2, 3
     record {
@@ -113,6 +117,42 @@ askExamples =
       permits = 64 ∷ 0 ∷ 4 ∷ 0 ∷ 21 ∷ 1 ∷ 33 ∷ 0 ∷ 1 ∷ 32 ∷ 1 ∷ 0 ∷ 0 ∷ 0 ∷ [];
       query = 34 ∷ 3 ∷ 0 ∷ 0 ∷ 2 ∷ 16 ∷ 16 ∷ [];
       outcome = rewrittenTo (34 ∷ 3 ∷ 0 ∷ 0 ∷ 2 ∷ 19 ∷ 16 ∷ 21 ∷ 1 ∷ 33 ∷ 0 ∷ 1 ∷ 32 ∷ 1 ∷ 0 ∷ 0 ∷ 0 ∷ 16 ∷ []) (accepted 1 ((pos 12500 ∷ []) ∷ []));
+    } ∷
+    -- not starred. NO ACCESS to SALARY and MANAGER bars a query over SALARY, although another permit opens all: 33
+    record {
+      permits = 64 ∷ 0 ∷ 12 ∷ 0 ∷ 17 ∷ 64 ∷ 0 ∷ 255 ∷ 255 ∷ 16 ∷ [];
+      query = 1 ∷ 0 ∷ 0 ∷ 33 ∷ 0 ∷ 2 ∷ 16 ∷ [];
+      outcome = refusedWith 33;
+    } ∷
+    -- not starred. another column of that relation is answered, and FALSE stands in no guard
+    record {
+      permits = 64 ∷ 0 ∷ 12 ∷ 0 ∷ 17 ∷ 64 ∷ 0 ∷ 255 ∷ 255 ∷ 16 ∷ [];
+      query = 1 ∷ 0 ∷ 0 ∷ 33 ∷ 0 ∷ 0 ∷ 16 ∷ [];
+      outcome = rewrittenTo (1 ∷ 0 ∷ 0 ∷ 33 ∷ 0 ∷ 0 ∷ 19 ∷ 16 ∷ 16 ∷ []) (accepted 1 ((pos 1 ∷ []) ∷ (pos 2 ∷ []) ∷ (pos 3 ∷ []) ∷ (pos 4 ∷ []) ∷ (pos 5 ∷ []) ∷ (pos 6 ∷ []) ∷ []));
+    } ∷
+    -- not starred. with an empty S, EMPLOYEE is not barred, and the permit that is not NO ACCESS applies: five departments
+    record {
+      permits = 64 ∷ 0 ∷ 255 ∷ 255 ∷ 17 ∷ 64 ∷ 0 ∷ 1 ∷ 0 ∷ 16 ∷ 64 ∷ 1 ∷ 255 ∷ 255 ∷ 16 ∷ [];
+      query = 1 ∷ 0 ∷ 0 ∷ 1 ∷ 1 ∷ 1 ∷ 33 ∷ 1 ∷ 0 ∷ 16 ∷ [];
+      outcome = rewrittenTo (1 ∷ 0 ∷ 0 ∷ 1 ∷ 1 ∷ 1 ∷ 33 ∷ 1 ∷ 0 ∷ 19 ∷ 19 ∷ 16 ∷ 16 ∷ 16 ∷ []) (accepted 1 ((pos 1 ∷ []) ∷ (pos 2 ∷ []) ∷ (pos 3 ∷ []) ∷ (pos 4 ∷ []) ∷ (pos 5 ∷ []) ∷ []));
+    } ∷
+    -- not starred. an empty S that only NO ACCESS covers: 33
+    record {
+      permits = 64 ∷ 0 ∷ 255 ∷ 255 ∷ 17 ∷ 64 ∷ 1 ∷ 255 ∷ 255 ∷ 16 ∷ [];
+      query = 1 ∷ 0 ∷ 0 ∷ 1 ∷ 1 ∷ 1 ∷ 33 ∷ 1 ∷ 0 ∷ 16 ∷ [];
+      outcome = refusedWith 33;
+    } ∷
+    -- not starred. NO ACCESS to DEPARTMENT bars no EMPLOYEE
+    record {
+      permits = 64 ∷ 1 ∷ 255 ∷ 255 ∷ 17 ∷ 64 ∷ 0 ∷ 255 ∷ 255 ∷ 16 ∷ [];
+      query = 1 ∷ 0 ∷ 0 ∷ 33 ∷ 0 ∷ 2 ∷ 16 ∷ [];
+      outcome = rewrittenTo (1 ∷ 0 ∷ 0 ∷ 33 ∷ 0 ∷ 2 ∷ 19 ∷ 16 ∷ 16 ∷ []) (accepted 1 ((pos 10000 ∷ []) ∷ (pos 15000 ∷ []) ∷ (pos 12000 ∷ []) ∷ (pos 14000 ∷ []) ∷ (pos 20000 ∷ []) ∷ (pos 40000 ∷ []) ∷ []));
+    } ∷
+    -- not starred. NOT TRUE is never met and no NO ACCESS: it applies and enters the guard
+    record {
+      permits = 64 ∷ 0 ∷ 255 ∷ 255 ∷ 18 ∷ 16 ∷ [];
+      query = 1 ∷ 0 ∷ 0 ∷ 33 ∷ 0 ∷ 0 ∷ 16 ∷ [];
+      outcome = rewrittenTo (1 ∷ 0 ∷ 0 ∷ 33 ∷ 0 ∷ 0 ∷ 19 ∷ 16 ∷ 18 ∷ 16 ∷ []) (accepted 1 []);
     } ∷
     []
 

@@ -5,22 +5,24 @@ use mathlib.Core.List.{List, [], _∷_}
 use Prim.Native.Nat.{ℕ, zero, suc, _-_, _<_, _≤_}
 use native.Mathlib.Omega.{arith}
 use lib.Dec.{eqb, leb, ltb}
-use lib.ListN.{length, getD}
-use borrow.Author.Tests.{not-true, not-false, eq-eqb, ne-eqb, lt-leb, le-leb, lt-ltb, le-ltb}
+use lib.ListN.{length, getD, take, drop}
+use lib.Seq.{getD-drop}
+use borrow.Author.Tests.{not-true, not-false, eqb-true, eq-eqb, ne-eqb, lt-leb, le-leb, lt-ltb, le-ltb}
 use Rattle.model.specs.Lists.{all, below, unique}
 use Rattle.model.specs.Syntax.{Condition, variables}
 use Rattle.model.specs.Encoding.{Read, fail, ok, failed, readCondition}
 use Rattle.model.specs.Permits.{bit}
 use Rattle.model.specs.Checks.{refusal}
 use Rattle.model.proofs.Tests.{clash, or-false}
+use Rattle.kinds.specs.Tables.{recordLength}
 use Rattle.catalogue.specs.Layout.{storedOf, countOf, attributesOf}
 use Rattle.scans.specs.Flat.{flatBindings, storedIn}
 use Rattle.scans.proofs.Lists.{all-join}
 use Rattle.sizes.specs.declared.Size.{Size}
 use Rattle.sizes.specs.declared.Size.the-variants.{Bytes, Refused}
 use Rattle.sizes.specs.Measured.{sizeRead, conditionSize}
-use Rattle.permits.specs.Entries.{Entry, conditionOf, maskOf, entryAt, entries}
-use Rattle.permits.specs.Applying.{within, appliesTo}
+use Rattle.permits.specs.Entries.{Entry, spanAfter, spanOf, conditionOf, maskOf, entryAt, entries}
+use Rattle.permits.specs.Applying.{agree, allUsed, noAccessAt, appliesTo, barsFrom}
 use Rattle.permits.specs.Limits.{fitsLimits, overLimits, attributesIn, maskIn, inReach, knownIn, overStored, listChecks}
 
 abbrev isBytes : Size → Bool
@@ -87,15 +89,56 @@ module _ (cb list : List ℕ) (k : ℕ) (s : Bool) (ek : k ≡ getD list 1 0) (e
   stored-is c b h ec eb =
       eb ∙ ap (λ (x : List ℕ). all (storedIn cb) (flatBindings x)) ec ∙ sym (stored-of ∙ ap (λ (d : Bool). d && all (storedIn cb) (flatBindings (conditionOf list))) (not-false s h))
 
--- whether a permit applies
-module _ (s : ℕ → Bool) (r : ℕ) (list : List ℕ) (k : ℕ) (ek : k ≡ getD list 1 0) where
-  pub applies-not : (k ≡ r → ⊥) → false ≡ appliesTo s r (entryAt list)
-  unfolding appliesTo
-  applies-not h = sym (ap (λ (b : Bool). b && within s (maskOf list)) (ap (λ (x : ℕ). eqb x r) (sym ek) ∙ ne-eqb k r h))
+-- NO ACCESS: the byte after the permit's head, unless it starts the next permit
+pub no-access-is : (list : List ℕ) (k : ℕ) → k ≡ getD list 4 0 → eqb k 17 ≡ noAccessAt (entryAt list)
+unfolding noAccessAt conditionOf spanOf spanAfter
+no-access-is list k ek = ap (λ (x : ℕ). eqb x 17) (ek ∙ sym (getD-drop 4 list 0 0)) ∙ go (drop 4 list)
+  where
+    go : (x : List ℕ) → eqb (getD x 0 0) 17 ≡ eqb (getD (take (spanOf x) x) 0 0) 17
+    go [] = refl
+    go (a ∷ x) = first (eqb a 64) refl
+      where
+        first : (d : Bool) → eqb a 64 ≡ d → eqb a 17 ≡ eqb (getD (take (cond d 0 (suc (spanAfter (recordLength a - 1) x))) (a ∷ x)) 0 0) 17
+        first true e = ap (λ (y : ℕ). eqb y 17) (eqb-true a 64 e)
+        first false e = refl
 
-  pub applies-is : (m : ℕ) (b : Bool) → k ≡ r → m ≡ maskOf list → b ≡ within s m → b ≡ appliesTo s r (entryAt list)
+-- a used attribute that is in the mask as wanted
+pub unused : (u x w : Bool) → not u ≡ true → true ≡ (not u || agree w x)
+unused u x w h = rw h
+
+pub used-in : (u x w : Bool) → not u ≡ false → w ≡ true → x ≡ (not u || agree w x)
+used-in u x w h hw = rw (h, hw)
+
+pub used-out : (u x w : Bool) → not u ≡ false → w ≡ false → not x ≡ (not u || agree w x)
+used-out u x w h hw = rw (h, hw)
+
+-- whether a permit applies, or bars
+module _ (s : ℕ → Bool) (r : ℕ) (list : List ℕ) (n : Bool) (en : n ≡ noAccessAt (entryAt list)) where
+  pub applies-never : n ≡ true → false ≡ appliesTo s r (entryAt list)
   unfolding appliesTo
-  applies-is m b h em eb = eb ∙ ap (within s) em ∙ sym (ap (λ (d : Bool). d && within s (maskOf list)) (ap (λ (x : ℕ). eqb x r) (sym ek) ∙ eq-eqb k r h))
+  applies-never h = sym (rw (sym en, h))
+
+  pub bars-never : not n ≡ true → false ≡ barsFrom s r (entryAt list)
+  unfolding barsFrom
+  bars-never h = sym (rw (sym en, not-true n h))
+
+  module _ (k : ℕ) (ek : k ≡ getD list 1 0) where
+    pub applies-not : n ≡ false → (k ≡ r → ⊥) → false ≡ appliesTo s r (entryAt list)
+    unfolding appliesTo
+    applies-not hn h = sym (rw (sym en, hn, sym ek, ne-eqb k r h))
+
+    pub bars-not : not n ≡ false → (r ≡ k → ⊥) → false ≡ barsFrom s r (entryAt list)
+    unfolding barsFrom
+    bars-not hn h = sym (rw (sym en, not-false n hn, sym ek, ne-eqb k r (λ e. h (sym e))))
+
+    module _ (m : ℕ) (b : Bool) (em : m ≡ maskOf list) where
+      pub applies-is : k ≡ r → n ≡ false → b ≡ allUsed s m true → b ≡ appliesTo s r (entryAt list)
+      unfolding appliesTo
+      applies-is h hn eb = eb ∙ sym (rw (sym en, hn, sym ek, eq-eqb k r h, sym em))
+
+      pub bars-is : r ≡ k → not n ≡ false → b ≡ allUsed s m false → not b ≡ barsFrom s r (entryAt list)
+      unfolding barsFrom
+      bars-is h hn eb = ap not eb ∙ sym (rw (sym en, not-false n hn, sym ek, eq-eqb k r (sym h), sym em))
 
 -- tests that agree below 16 find the same permits
 all-below : (n : ℕ) (f g : ℕ → Bool) → ((a : ℕ) → a < n → f a ≡ g a) → all f (below n) ≡ all g (below n)
@@ -107,13 +150,17 @@ all-below (suc n) f g h =
     ∙ sym (all-join g (below n) (n ∷ []))
 
 module _ (s t : ℕ → Bool) (h : (a : ℕ) → a < 16 → s a ≡ t a) where
-  pub within-same : (m : ℕ) → within s m ≡ within t m
-  unfolding within
-  within-same m = all-below 16 (λ a. not (s a) || bit m a) (λ a. not (t a) || bit m a) (λ a l. ap (λ (x : Bool). not x || bit m a) (h a l))
+  all-used-same : (m : ℕ) (w : Bool) → allUsed s m w ≡ allUsed t m w
+  unfolding allUsed
+  all-used-same m w = all-below 16 (λ a. not (s a) || agree w (bit m a)) (λ a. not (t a) || agree w (bit m a)) (λ a l. ap (λ (x : Bool). not x || agree w (bit m a)) (h a l))
 
   pub applies-same : (r : ℕ) (e : Entry) → appliesTo s r e ≡ appliesTo t r e
   unfolding appliesTo
-  applies-same r e = ap (λ (x : Bool). eqb (e .relation) r && x) (within-same (e .mask))
+  applies-same r e = rw (all-used-same (e .mask) true)
+
+  pub bars-same : (r : ℕ) (e : Entry) → barsFrom s r e ≡ barsFrom t r e
+  unfolding barsFrom
+  bars-same r e = rw (all-used-same (e .mask) false)
 
 -- 22: the mask
 module _ (n m : ℕ) where

@@ -5,14 +5,14 @@ use mathlib.Core.List.{List, [], _∷_, map}
 use mathlib.Core.Option.{some}
 use mathlib.Core.Path.{_≡_, refl, sym, ap, ap₂, _∙_}
 use native.Mathlib.Omega.{arith}
-use lib.Dec.{leb, ltb}
-use lib.ListN.{length, replicate, length-map, length-replicate}
+use lib.Dec.{eqb, leb, ltb}
+use lib.ListN.{length, getD, replicate, length-map, length-replicate}
 use borrow.Author.Tests.{le-leb, lt-leb, leb-true, leb-false}
-use Rattle.model.specs.Lists.{all, unique, update, Every}
-use Rattle.model.specs.Syntax.{Condition, TRUE, Binding, Permit, WellFormed, WellFormedPs, bindings, variables, levels}
+use Rattle.model.specs.Lists.{any, all, unique, update, below, Every}
+use Rattle.model.specs.Syntax.{Condition, TRUE, FALSE, NOT, AND, OR, COMPARE, SOME, Binding, Permit, WellFormed, WellFormedPs, bindings, variables, levels}
 use Rattle.model.specs.Encoding.{Read, fail, ok, failed, readOr, readCondition, encode, encodePermit, permitsOf}
 use Rattle.model.specs.Catalogue.{Shape, catalogueOf, shapeOf, storedAt}
-use Rattle.model.specs.Permits.{mask, applies}
+use Rattle.model.specs.Permits.{bit, mask, isFalse, noAccess, applies, bars}
 use Rattle.model.specs.Scope.{nobody, inScope}
 use Rattle.model.specs.Checks.{fails10, fails20, permitFits, fails21, maskKnown, permitKnown, fails22, permitStored, fails23, refusal}
 use Rattle.model.proofs.Tests.{and-inv, or-no, not-no, all-cons}
@@ -25,14 +25,42 @@ use Rattle.scope.proofs.Shapes.{shape-is}
 use Rattle.scans.specs.Flat.{storedIn}
 use Rattle.scans.proofs.Whole.{bindings-condition}
 use Rattle.permits.specs.Entries.{Entry}
-use Rattle.permits.specs.Applying.{within, appliesTo}
+use Rattle.permits.specs.Applying.{allUsed, noAccessAt, appliesTo, barsFrom}
 use Rattle.permits.specs.Limits.{fitsLimits, overLimits, attributesIn, maskIn, inReach, knownIn, overStored, listChecks}
 use Rattle.permits.proofs.Reading.{entryOf, listed}
 
--- a permit applies
+-- a permit applies, or bars
+no-access-is : (p : Permit) → noAccessAt (entryOf p) ≡ noAccess p
+unfolding noAccessAt isFalse encode
+no-access-is p = go (p .condition)
+  where
+    go : (c : Condition) → eqb (getD (encode c []) 0 0) 17 ≡ isFalse c
+    go TRUE = refl
+    go FALSE = refl
+    go (NOT c) = refl
+    go (AND c d) = refl
+    go (OR c d) = refl
+    go (COMPARE o s t) = refl
+    go (SOME v r c) = refl
+
 pub applies-is : (s : ℕ → Bool) (r : ℕ) (p : Permit) → appliesTo s r (entryOf p) ≡ applies s r p
-unfolding appliesTo applies within
-applies-is s r p = refl
+unfolding appliesTo applies allUsed
+applies-is s r p = ap (λ (b : Bool). not b && (eqb (p .relation) r && all (λ a. not (s a) || bit (mask p) a) (below 16))) (no-access-is p)
+
+shares-is : (s : ℕ → Bool) (m : ℕ) (xs : List ℕ) → not (all (λ a. not (s a) || not (bit m a)) xs) ≡ any (λ a. s a && bit m a) xs
+unfolding all any
+shares-is s m [] = refl
+shares-is s m (a ∷ xs) = go (s a) (bit m a) (shares-is s m xs)
+  where
+    go : (x y : Bool) → not (all (λ a. not (s a) || not (bit m a)) xs) ≡ any (λ a. s a && bit m a) xs
+        → not ((not x || not y) && all (λ a. not (s a) || not (bit m a)) xs) ≡ (x && y) || any (λ a. s a && bit m a) xs
+    go true true h = refl
+    go true false h = h
+    go false y h = h
+
+pub bars-is : (s : ℕ → Bool) (r : ℕ) (p : Permit) → barsFrom s r (entryOf p) ≡ bars s r p
+unfolding barsFrom bars allUsed
+bars-is s r p = ap₂ (λ (b d : Bool). b && (eqb (p .relation) r && d)) (no-access-is p) (shares-is s (mask p) (below 16))
 
 -- a test of all permits
 all-are : (t : Entry → Bool) (u : Permit → Bool) (P : Permit → Type 0) → ((p : Permit) → P p → t (entryOf p) ≡ u p) → (ps : List Permit) → Every P ps → all t (map entryOf ps) ≡ all u ps

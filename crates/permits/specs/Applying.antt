@@ -1,20 +1,34 @@
--- Which permits apply, by the bytes of list and query.
+-- Which permits apply or bar, by the bytes of list and query.
 use Prim.Native.Nat.{ℕ}
-use mathlib.Core.Bool.{Bool, not, _&&_, _||_}
+use mathlib.Core.Bool.{Bool, true, false, not, _&&_, _||_}
 use mathlib.Core.List.{List}
 use lib.Dec.{eqb}
+use lib.ListN.{getD}
 use Rattle.model.specs.Lists.{all, below}
 use Rattle.model.specs.Permits.{bit}
 use Rattle.scans.specs.Flat.{flatUses, usedIn}
 use Rattle.permits.specs.Entries.{Entry}
 
--- S is within the mask
-unfoldable pub within : (ℕ → Bool) → ℕ → Bool
-within s m = all (λ a. not (s a) || bit m a) (below 16)
+-- a bit is as wanted
+abbrev pub agree : Bool → Bool → Bool
+agree true b = b
+agree false b = not b
 
--- step 3: a permit applies if its relation is the variable's and its mask contains S
+-- all of S is in the mask, or, where none is wanted, outside it
+unfoldable pub allUsed : (ℕ → Bool) → ℕ → Bool → Bool
+allUsed s m w = all (λ a. not (s a) || agree w (bit m a)) (below 16)
+
+-- NO ACCESS: a condition that starts with FALSE is that record alone
+unfoldable pub noAccessAt : Entry → Bool
+noAccessAt e = eqb (getD (e .condition) 0 0) 17
+
+-- step 3: a permit applies if its relation is the variable's and its mask contains S; one of NO ACCESS never does
 unfoldable pub appliesTo : (ℕ → Bool) → ℕ → Entry → Bool
-appliesTo s r e = eqb (e .relation) r && within s (e .mask)
+appliesTo s r e = not (noAccessAt e) && (eqb (e .relation) r && allUsed s (e .mask) true)
+
+-- a permit of NO ACCESS bars a variable over its relation whose S shares an attribute with its mask
+unfoldable pub barsFrom : (ℕ → Bool) → ℕ → Entry → Bool
+barsFrom s r e = noAccessAt e && (eqb (e .relation) r && not (allUsed s (e .mask) false))
 
 -- S of a variable of the query
 abbrev pub usedBytes : List ℕ → ℕ → ℕ → Bool

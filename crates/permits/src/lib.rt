@@ -73,24 +73,27 @@ fn has(mask: u16, attribute: u16) -> bool
     (mask >> attribute) & 1 == 1
 }
 
-fn has_if_used(used: u16, mask: u16, attribute: u16) -> bool
+// Whether the mask has a used attribute, or, where none is wanted, has it not.
+fn as_wanted(used: u16, mask: u16, wanted: bool, attribute: u16) -> bool
     requires { ⌜ attribute < 16 ⌝ }
-    ensures { λ r. ⌜ r ≡ (not (bit used attribute) || bit mask attribute) ⌝ }
+    ensures { λ r. ⌜ r ≡ (not (bit used attribute) || App.agree wanted (bit mask attribute)) ⌝ }
 {
-    if has(used, attribute) {
-        has(mask, attribute)
-    } else {
-        true
+    if !has(used, attribute) {
+        return true;
     }
+    if wanted {
+        return has(mask, attribute);
+    }
+    !has(mask, attribute)
 }
 
-// Whether all used attributes are in the mask.
-fn within(used: u16, mask: u16) -> bool
-    ensures { λ r. ⌜ r ≡ App.within (λ a. bit used a) mask ⌝ }
+// Whether all used attributes are in the mask, or, where none is wanted, all outside it.
+fn all_used(used: u16, mask: u16, wanted: bool) -> bool
+    ensures { λ r. ⌜ r ≡ App.allUsed (λ a. bit used a) mask wanted ⌝ }
 {
     let mut a: u16 = 0;
     while a < 16 {
-        if !has_if_used(used, mask, a) {
+        if !as_wanted(used, mask, wanted, a) {
             return false;
         }
         a += 1;
@@ -98,14 +101,37 @@ fn within(used: u16, mask: u16) -> bool
     true
 }
 
+// Whether the permit that a list starts with is NO ACCESS: a condition that starts with FALSE is that record alone.
+fn no_access(list: &[u8]) -> bool
+    ensures { λ r. ⌜ r ≡ App.noAccessAt (entryAt (now (list .entry))) ⌝ }
+{
+    kinds::byte(list, 4) == 17
+}
+
 // Whether the permit that a list starts with applies to a variable over the relation, of which these attributes are used.
 pub fn applies(list: &[u8], relation: u8, used: u16) -> bool
     ensures { λ r. ⌜ r ≡ App.appliesTo (λ a. bit used a) relation (entryAt (now (list .entry))) ⌝ }
 {
+    if no_access(list) {
+        return false;
+    }
     if kinds::byte(list, 1) != relation {
         return false;
     }
-    within(used, mask(list))
+    all_used(used, mask(list), true)
+}
+
+// Whether that permit bars the variable.
+pub fn bars(list: &[u8], relation: u8, used: u16) -> bool
+    ensures { λ r. ⌜ r ≡ App.barsFrom (λ a. bit used a) relation (entryAt (now (list .entry))) ⌝ }
+{
+    if !no_access(list) {
+        return false;
+    }
+    if relation != kinds::byte(list, 1) {
+        return false;
+    }
+    !all_used(used, mask(list), false)
 }
 
 // Whether a condition has at most 16 levels.

@@ -3,6 +3,7 @@
 
 mod limits;
 mod meaning;
+mod no_access;
 mod random;
 mod refusals;
 mod rewriting;
@@ -190,11 +191,15 @@ impl Group {
     }
 }
 
+fn name(group: &str, index: usize) -> String {
+    format!("{group}-{:03}", index + 1)
+}
+
 /// All cases, each with the name of its file.
 pub fn cases() -> Vec<(String, Case)> {
     let mut named = Vec::new();
     let mut names = BTreeSet::new();
-    for (name, fill) in [
+    for (group_name, fill) in [
         ("catalogue", refusals::catalogue as fn(&mut Group)),
         ("values", refusals::values),
         ("permit-form", refusals::permit_form),
@@ -205,20 +210,34 @@ pub fn cases() -> Vec<(String, Case)> {
         ("question-size", limits::question_size),
         ("question-names", refusals::question_names),
         ("no-permit", refusals::no_permit),
+        ("no-access", no_access::fill),
         ("answer-buffer", limits::answer_buffer),
         ("order", refusals::order),
         ("rewriting", rewriting::fill),
         ("meaning", meaning::fill),
         ("rounding", rounding::fill),
-        ("drawn", random::fill),
+        (DRAWN, random::fill),
     ] {
-        let mut group = Group::new(name);
+        let mut group = Group::new(group_name);
         fill(&mut group);
         for (index, case) in group.cases.into_iter().enumerate() {
-            let name = format!("{name}-{:03}", index + 1);
+            let name = name(group_name, index);
             assert!(names.insert(name.clone()));
             named.push((name, case));
         }
     }
     named
+}
+
+const DRAWN: &str = "drawn";
+
+/// New drawn cases, named as if they followed the stored ones.
+pub fn drawn(run_seed: u64, accepted: usize, refused: usize) -> Vec<(String, Case)> {
+    let mut stored = Group::new(DRAWN);
+    random::fill(&mut stored);
+    let new = random::draw(run_seed, accepted, refused).into_iter();
+    (stored.cases.len()..)
+        .map(|index| name(DRAWN, index))
+        .zip(new)
+        .collect()
 }

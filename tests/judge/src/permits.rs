@@ -28,9 +28,19 @@ impl Permit {
         [header, bytes_of(&self.condition.records())].concat()
     }
 
-    /// Rule 3: the relation is the variable's, and the mask contains S.
+    /// The condition is the single record FALSE.
+    pub fn is_no_access(&self) -> bool {
+        self.condition == Condition::False
+    }
+
+    /// Rule 3: the relation is the variable's, and the mask contains S. NO ACCESS never applies (Change 6).
     pub fn applies(&self, relation: u8, used: u16) -> bool {
-        self.relation == relation && self.mask & used == used
+        !self.is_no_access() && self.relation == relation && self.mask & used == used
+    }
+
+    /// Change 6: NO ACCESS to an attribute of S.
+    pub fn bars(&self, relation: u8, used: u16) -> bool {
+        self.is_no_access() && self.relation == relation && self.mask & used != 0
     }
 }
 

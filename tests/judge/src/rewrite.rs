@@ -25,14 +25,22 @@ pub fn applying<'a>(permits: &'a [Permit], query: &Query, binding: Binding) -> V
         .collect()
 }
 
+pub fn is_barred(permits: &[Permit], query: &Query, binding: Binding) -> bool {
+    let used = used_attributes(query, binding.variable);
+    permits
+        .iter()
+        .any(|permit| permit.bars(binding.relation, used))
+}
+
 pub fn is_stored(relations: &[Relation], relation: u8) -> bool {
     relations[usize::from(relation)].kind == Kind::Stored
 }
 
-/// The ground of refusal 33.
+/// The grounds of refusal 33: a variable over a stored relation is barred, or no permit applies to it.
 pub fn lacks_permit(relations: &[Relation], permits: &[Permit], query: &Query) -> bool {
     query.bindings().into_iter().any(|binding| {
-        is_stored(relations, binding.relation) && applying(permits, query, binding).is_empty()
+        is_stored(relations, binding.relation)
+            && (is_barred(permits, query, binding) || applying(permits, query, binding).is_empty())
     })
 }
 

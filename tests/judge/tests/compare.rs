@@ -1,6 +1,7 @@
 //! compare finds nothing between the judge and itself, and finds each faulty copy.
 
 use judge::compare::{compare_seed, Ask, Evaluate, Report};
+use judge::permits::{read_flat, HEADER};
 use judge::{ask, compare, evaluate, refusal, Outcome};
 
 const CASES: u64 = 2_000;
@@ -107,4 +108,49 @@ fn a_panic_is_found() {
         evaluate(c, v, q, a)
     }
     assert_found(ask, panics_on_long);
+}
+
+/// The list with each NO ACCESS permit's condition replaced.
+fn no_access_as(list: &[u8], condition: &[u8]) -> Vec<u8> {
+    let Some(permits) = read_flat(list) else {
+        return list.to_vec();
+    };
+    let replaced = permits.iter().flat_map(|permit| {
+        let bytes = &list[permit.offset..permit.offset + permit.length];
+        match bytes[HEADER..] {
+            [17] => [&bytes[..HEADER], condition].concat(),
+            _ => bytes.to_vec(),
+        }
+    });
+    replaced.collect()
+}
+
+#[test]
+fn no_access_as_an_ordinary_condition_is_found() {
+    fn applying(c: &[u8], v: &[i32], p: &[u8], q: &[u8], r: &mut [u8], a: &mut [i64]) -> Outcome {
+        ask(c, v, &no_access_as(p, &[18, 16]), q, r, a)
+    }
+    assert_found(applying, evaluate);
+}
+
+/// A condition that is never met bars nothing.
+#[test]
+fn a_bar_for_every_condition_that_fails_is_found() {
+    fn barring(c: &[u8], v: &[i32], p: &[u8], q: &[u8], r: &mut [u8], a: &mut [i64]) -> Outcome {
+        let short: Vec<u8> = match read_flat(p) {
+            Some(permits) => permits
+                .iter()
+                .flat_map(|permit| {
+                    let bytes = &p[permit.offset..permit.offset + permit.length];
+                    match bytes[HEADER..] {
+                        [18, 16] => [&bytes[..HEADER], &[17]].concat(),
+                        _ => bytes.to_vec(),
+                    }
+                })
+                .collect(),
+            None => p.to_vec(),
+        };
+        ask(c, v, &short, q, r, a)
+    }
+    assert_found(barring, evaluate);
 }

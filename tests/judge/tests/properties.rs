@@ -6,6 +6,7 @@ use judge::gen::limits::{evaluate_case, EvaluateCase};
 use judge::gen::pairs::pair;
 use judge::gen::rng::case_seed;
 use judge::gen::{self, Case};
+use judge::permits::HEADER;
 use judge::query::{Flat, Record};
 use judge::rewrite::used_attributes;
 use judge::{permitted_rows, refusal, Outcome};
@@ -143,6 +144,34 @@ struct Statistics {
     with_rows: u64,
     /// The plain query would have given another answer.
     guard_tells: u64,
+    /// Accepted, with a NO ACCESS permit in the list.
+    beside_no_access: u64,
+    /// Refused with 33, and accepted without the NO ACCESS permits.
+    barred: u64,
+    /// Refused with 33, and accepted if NO ACCESS permits applied and did not bar.
+    left_without: u64,
+}
+
+/// The case with each NO ACCESS permit's condition replaced; with none the permit is dropped.
+fn without_no_access(case: &Case, condition: Option<u8>) -> Case {
+    let list = judge::permits::read_flat(&case.permits).unwrap_or_default();
+    let mut permits = Vec::new();
+    for permit in list {
+        let bytes = &case.permits[permit.offset..permit.offset + permit.length];
+        match (bytes[HEADER..] == [17], condition) {
+            (false, _) => permits.extend(bytes),
+            (true, Some(other)) => permits.extend([&bytes[..HEADER], &[other]].concat()),
+            (true, None) => {}
+        }
+    }
+    Case {
+        permits,
+        ..case.clone()
+    }
+}
+
+fn passes_33(case: &Case) -> bool {
+    guarded(&case.catalogue, &case.values, &case.permits, &case.query).is_ok()
 }
 
 impl Statistics {
@@ -151,6 +180,14 @@ impl Statistics {
         if run.outcome.number == 0 {
             self.with_rows += u64::from(run.outcome.rows > 0);
             self.guard_tells += u64::from(evaluated(case, &case.query).answer != run.answer);
+            let is_beside = without_no_access(case, None).permits != case.permits;
+            self.beside_no_access += u64::from(is_beside);
+        }
+        if run.outcome.number == refusal::NO_PERMIT {
+            let is_barred = passes_33(&without_no_access(case, None));
+            self.barred += u64::from(is_barred);
+            let would_apply = passes_33(&without_no_access(case, Some(16)));
+            self.left_without += u64::from(!is_barred && would_apply);
         }
     }
 }
@@ -177,10 +214,15 @@ fn cases() {
         numbers,
         with_rows,
         guard_tells,
+        beside_no_access,
+        barred,
+        left_without,
     } = statistics;
     println!("ask by number {numbers:?}");
     println!("accepted with rows {with_rows}, accepted and unlike the plain answer {guard_tells}");
+    println!("beside NO ACCESS accepted {beside_no_access}, barred {barred}, left without a permit {left_without}");
     assert!(2 * numbers[&0] > CASES);
+    assert!(beside_no_access >= 5_000 && barred >= 2_000 && left_without >= 200);
     for number in refusal::ALL {
         assert!(numbers[&number] >= 1000, "refusal {number}");
     }

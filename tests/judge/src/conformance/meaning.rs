@@ -652,10 +652,10 @@ fn hidden(group: &mut Group) {
         &aggregate(COUNT, 1, 1, 0, &yes()),
         &yes(),
     ]);
-    group.cells(
+    group.refused(
+        33,
         "No access to the relation, all rows of the workspace.",
         free.files(both),
-        &[0, 2],
     );
 }
 

@@ -925,10 +925,10 @@ pub fn no_permit(group: &mut Group) {
         with(&[], join(&[&range(0, 2), &attribute(0, 0), &yes()])),
         &[7],
     );
-    group.cells(
-        "A permit that is FALSE applies.",
+    group.refused(
+        33,
+        "A permit that is FALSE does not apply.",
         with(&[permit(0, ALL, &no())], ask(0, yes())),
-        &[],
     );
     group.cells(
         "What a permit's own condition uses need not be in its mask.",

@@ -56,11 +56,10 @@ fn guards(group: &mut Group) {
         with(&[p(high(0)), p(low(0))]),
         guarded(&or(&high(0), &low(0))),
     );
-    let three = or(&low(0), &or(&high(0), &no()));
-    group.rewritten(
-        "Three permits: the OR nests to the right.",
+    group.refused(
+        33,
+        "Three permits, the last of them NO ACCESS to all attributes.",
         with(&[p(low(0)), p(high(0)), p(no())]),
-        guarded(&three),
     );
     let eight: Vec<Vec<u8>> = (0..8).map(|number| p(equal(0, 0, number))).collect();
     let nested = (0..7).rev().fold(equal(0, 0, 7), |rest, number| {
@@ -77,10 +76,10 @@ fn guards(group: &mut Group) {
         with(&[p(yes())]),
         guarded(&yes()),
     );
-    group.rewritten(
-        "FALSE, no access, enters the OR.",
+    group.refused(
+        33,
+        "FALSE, no access, bars although the other permit applies.",
         with(&[p(no()), p(low(0))]),
-        guarded(&or(&no(), &low(0))),
     );
     let others = [permit(1, ALL, &high(0)), p(low(0)), permit(1, 1, &yes())];
     group.rewritten(

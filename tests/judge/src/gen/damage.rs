@@ -2,13 +2,13 @@
 
 use super::draft::Draft;
 use super::rng::Rng;
-use super::{sizes, Case};
+use super::{grow, sizes, Case};
 use crate::catalogue::{self, Kind};
 use crate::checks::{ASK, EVALUATE, MOST_RANGES, MOST_TARGETS};
 use crate::permits::{
     self, Permit, MOST_BYTES, MOST_LEVELS, MOST_LIST_BYTES, MOST_OTHER_VARIABLES, MOST_PERMITS,
 };
-use crate::query::{Entry, Flat, Record};
+use crate::query::{Condition, Entry, Flat, Record};
 use crate::{refusal, rewrite};
 
 /// Before encoding: sizes over a limit, and permits that do not apply.
@@ -84,7 +84,9 @@ fn withdraw(rng: &mut Rng, draft: &mut Draft) {
     }
     let binding = rng.pick(&stored);
     let used = rewrite::used_attributes(&draft.query, binding.variable);
-    if used.count_ones() > 1 && rng.percent(70) {
+    if rng.percent(40) {
+        bar(rng, draft, binding.relation, used);
+    } else if used.count_ones() > 1 && rng.percent(70) {
         split_masks(rng, draft, binding.relation, used);
     } else {
         draft
@@ -93,14 +95,44 @@ fn withdraw(rng: &mut Rng, draft: &mut Draft) {
     }
 }
 
+/// NO ACCESS beside the permits that apply, or in their place.
+fn bar(rng: &mut Rng, draft: &mut Draft, relation: u8, used: u16) {
+    if used != 0 && draft.permits.len() < MOST_PERMITS && rng.percent(75) {
+        let bits = attribute_bits(used);
+        let more = rng.draw() as u16 & grow::present(&draft.tables, relation);
+        let mask = match rng.below(4) {
+            0 => permits::ALL,
+            1 => used,
+            2 => rng.pick(&bits),
+            _ => rng.pick(&bits) | more,
+        };
+        let place = rng.below(draft.permits.len() + 1);
+        let condition = Condition::False;
+        let permit = Permit {
+            relation,
+            mask,
+            condition,
+        };
+        return draft.permits.insert(place, permit);
+    }
+    for permit in &mut draft.permits {
+        if permit.applies(relation, used) {
+            permit.condition = Condition::False;
+        }
+    }
+}
+
+fn attribute_bits(mask: u16) -> Vec<u16> {
+    (0..16)
+        .map(|bit| 1 << bit)
+        .filter(|bit| mask & bit != 0)
+        .collect()
+}
+
 /// No mask contains S any more, though together they may.
 fn split_masks(rng: &mut Rng, draft: &mut Draft, relation: u8, used: u16) {
-    let bits: Vec<u16> = (0..16)
-        .map(|bit| 1 << bit)
-        .filter(|bit| used & bit != 0)
-        .collect();
-    let attributes = draft.tables[usize::from(relation)].attributes;
-    let present = ((1u32 << attributes) - 1) as u16;
+    let bits = attribute_bits(used);
+    let present = grow::present(&draft.tables, relation);
     let mut split = Vec::new();
     for permit in &draft.permits {
         if permit.applies(relation, used) {

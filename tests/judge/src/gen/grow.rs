@@ -201,8 +201,44 @@ pub fn permits(rng: &mut Rng, tables: &[Table], pool: &[i32], query: &Query) -> 
         let relation = rng.pick(&stored);
         permits.push(permit(rng, tables, pool, relation, 0));
     }
+    while !stored.is_empty() && permits.len() < MOST_PERMITS && rng.percent(25) {
+        let relation = rng.pick(&stored);
+        permits.extend(no_access(rng, tables, query, relation));
+    }
     rng.shuffle(&mut permits);
     permits
+}
+
+/// The attributes of a relation, as a mask.
+pub fn present(tables: &[Table], relation: u8) -> u16 {
+    let attributes = tables[usize::from(relation)].attributes;
+    ((1u32 << attributes) - 1) as u16
+}
+
+/// NO ACCESS to some attributes: mostly to none that the query uses, if there is one.
+fn no_access(rng: &mut Rng, tables: &[Table], query: &Query, relation: u8) -> Option<Permit> {
+    let used = query
+        .bindings()
+        .into_iter()
+        .filter(|binding| binding.relation == relation)
+        .map(|binding| rewrite::used_attributes(query, binding.variable))
+        .fold(0, |used, more| used | more);
+    let present = present(tables, relation);
+    let free = present & !used;
+    let some = rng.draw() as u16 | 1 << rng.below(16);
+    let mask = match rng.below(20) {
+        0 => ALL,
+        1..=2 => some & present,
+        _ if used == 0 && rng.percent(30) => ALL,
+        _ if free & some == 0 => free,
+        _ => free & some,
+    };
+    let condition = Condition::False;
+    (mask != 0).then_some(Permit {
+        relation,
+        mask,
+        condition,
+    })
 }
 
 /// A permit on at least these attributes.
@@ -211,7 +247,7 @@ pub fn permit(rng: &mut Rng, tables: &[Table], pool: &[i32], relation: u8, used:
         variable: 0,
         relation,
     };
-    let mask = mask(rng, tables[usize::from(relation)].attributes, used);
+    let mask = mask(rng, tables, relation, used);
     loop {
         let free = shuffled(rng, 1..4);
         let bindable = numbers_of_kind(tables, Kind::Stored);
@@ -224,7 +260,9 @@ pub fn permit(rng: &mut Rng, tables: &[Table], pool: &[i32], relation: u8, used:
             free,
         }
         .condition(&[own], depth);
-        let is_too_plain = condition == Condition::True && rng.percent(70);
+        // NO ACCESS is drawn by itself.
+        let is_too_plain =
+            condition == Condition::False || condition == Condition::True && rng.percent(70);
         let permit = Permit {
             relation,
             mask,
@@ -236,9 +274,9 @@ pub fn permit(rng: &mut Rng, tables: &[Table], pool: &[i32], relation: u8, used:
     }
 }
 
-fn mask(rng: &mut Rng, attributes: usize, used: u16) -> u16 {
-    let present = ((1u32 << attributes) - 1) as u16;
-    let one = 1 << rng.below(attributes);
+fn mask(rng: &mut Rng, tables: &[Table], relation: u8, used: u16) -> u16 {
+    let present = present(tables, relation);
+    let one = 1 << rng.below(tables[usize::from(relation)].attributes);
     match rng.below(4) {
         0 => ALL,
         1 if used != 0 => used,
