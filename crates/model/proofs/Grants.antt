@@ -11,13 +11,13 @@ use lib.Seq.{take-at, drop-at, take-length}
 use borrow.Author.Tests.{leb-true, le-leb, le-ltb}
 use Rattle.model.specs.Lists.{filter, any, concatMap, Every}
 use Rattle.model.specs.Syntax.{Binding, Query, Permit, bindingsQ}
-use Rattle.model.specs.Encoding.{queryOf, permitsOf}
+use Rattle.model.specs.Encoding.{encodeQuery, queryOf, permitsOf}
 use Rattle.model.specs.Meaning.{Tuple, Rows, targetRow, sameRow, addRow, addRows, qualifying, answers}
 use Rattle.model.specs.Catalogue.{catalogueOf, Shape, shapeOf, storedAt, tuplesAt}
 use Rattle.model.specs.Permits.{usedOf, noAccess, applies, bars, guardOf, guardsOf, meets, allowed, permitted}
 use Rattle.model.specs.Checks.{served, fails33, rewrittenBytes, fails40, permitChecks, queryChecks, guardChecks, shapeChecks, askChecks, refusal}
 use Rattle.model.specs.Calls.{Outcome, give, ask}
-use Rattle.model.specs.Demands.{guardsIn, rewrittenOf, rowsOf, columnsOf, Passes, rowsFrom, rowsIn, included, MorePermits}
+use Rattle.model.specs.Demands.{guardsIn, rewrittenOf, rowsOf, columnsOf, Passes, positiveQ, rowsFrom, rowsIn, included, MorePermits}
 use Rattle.model.proofs.Tests.{and-inv, and-intro, or-inv, or-left, or-right, not-no}
 use Rattle.model.proofs.Lists.{any-filter, any-map, any-weaken, all-weaken, any-skip, every-join, Within, within-insert}
 use Rattle.model.proofs.Passed.{Passed, passed}
@@ -130,19 +130,19 @@ module _ (cb : List ℕ) (vs : List ℤ) (pb qb rewritten : List ℕ) (cells : L
       go zero f = refl
       go (suc n) f = ap (λ (o : Outcome). o .answer .number) (sym (refused cb vs pb qb rewritten cells n f)) ∙ e
 
-  module _ (h : refusal (askChecks cb vs pb qb (length rewritten)) ≡ 0) where
-    abbrev the-rows : List (List ℤ)
-    the-rows = rowsOf cb vs (rewrittenOf cb pb qb)
+  abbrev the-rows : List (List ℤ)
+  the-rows = rowsOf cb vs (rewrittenOf cb pb qb)
 
-    same-number : ask cb vs pb qb rewritten cells .answer .number ≡ give (columnsOf qb) the-rows cells .number
-    same-number = ap (λ (o : Outcome). o .answer .number) (given cb vs pb qb rewritten cells h)
+  same-number : refusal (askChecks cb vs pb qb (length rewritten)) ≡ 0 → ask cb vs pb qb rewritten cells .answer .number ≡ give (columnsOf qb) the-rows cells .number
+  same-number h = ap (λ (o : Outcome). o .answer .number) (given cb vs pb qb rewritten cells h)
 
-    call-rows : length the-rows ≤ length cells / columnsOf qb → rowsIn (ask cb vs pb qb rewritten cells) ≡ answers (queryOf qb) (permitted (tuplesAt (catalogueOf cb) vs) (guardsIn cb pb (queryOf qb)))
-    call-rows l =
-        let e = over-permitted cb vs pb qb rewritten h in
-        ap rowsIn (given cb vs pb qb rewritten cells h)
-        ∙ give-rows (columnsOf qb) the-rows cells l (subst (Every (Wide (columnsOf qb))) (sym e) (answers-wide (queryOf qb) _))
-        ∙ e
+  accepted-rows : ask cb vs pb qb rewritten cells .answer .number ≡ 0 → rowsIn (ask cb vs pb qb rewritten cells) ≡ answers (queryOf qb) (permitted (tuplesAt (catalogueOf cb) vs) (guardsIn cb pb (queryOf qb)))
+  accepted-rows a =
+      let h = accepted-passes a in
+      let e = over-permitted cb vs pb qb rewritten h in
+      ap rowsIn (given cb vs pb qb rewritten cells h)
+      ∙ give-rows (columnsOf qb) the-rows cells (give-fits (columnsOf qb) the-rows cells (sym (same-number h) ∙ a)) (subst (Every (Wide (columnsOf qb))) (sym e) (answers-wide (queryOf qb) _))
+      ∙ e
 
 permit-numbers : (sh : Shape) (pb : List ℕ) → Every (λ c. 1 ≤ c .1) (permitChecks sh pb)
 unfolding Every permitChecks
@@ -156,22 +156,55 @@ other-passes sh pb pb′ qb room room′ c l h33 b =
     refusal-skip (permitChecks sh pb′) _ (permit-numbers sh pb′) (passes-refusal (permitChecks sh pb′) l)
     ∙ rw (c .p30, c .p31, c .p32, h33, le-ltb room′ (length (rewrittenBytes sh (permitsOf pb′) (queryOf qb))) b)
 
+-- a permit p more, anywhere in the list
+module _ (cb : List ℕ) (vs : List ℤ) (pb pb′ qb rewritten rewritten′ : List ℕ) (cells cells′ : List ℤ) (xs : List Permit) (p : Permit) (ys : List Permit)
+    (shorter : permitsOf pb ≡ xs ++ ys) (longer : permitsOf pb′ ≡ xs ++ (p ∷ ys)) (accepted : ask cb vs pb qb rewritten cells .answer .number ≡ 0) where
+  abbrev sh : Shape
+  sh = shapeOf (catalogueOf cb)
+
+  abbrev q : Query
+  q = queryOf qb
+
+  -- the rows of a list of permits
+  abbrev under : List Permit → List (List ℤ)
+  under ps = answers q (permitted (tuplesAt (catalogueOf cb) vs) (guardsOf sh ps q))
+
+  passes : refusal (askChecks cb vs pb qb (length rewritten)) ≡ 0
+  passes = accepted-passes cb vs pb qb rewritten cells accepted
+
+  -- whatever the query: a permit other than NO ACCESS draws no refusal but its own
+  pub still-accepted : noAccess p ≡ false → Passes (permitChecks sh pb′)
+      → length (encodeQuery (rewrittenOf cb pb′ qb)) ≤ length rewritten′
+      → length (rowsOf cb vs (rewrittenOf cb pb′ qb)) ≤ length cells′ / columnsOf qb
+      → ask cb vs pb′ qb rewritten′ cells′ .answer .number ≡ 0
+  unfolding rewrittenBytes
+  still-accepted opens l bytes-fit rows-fit =
+      let c = passed sh pb qb (length rewritten) (shape-passes cb vs pb qb rewritten passes) in
+      let h33 : fails33 sh (permitsOf pb′) q ≡ false = ap (λ (ps : List Permit). fails33 sh ps q) longer ∙ still-33 sh q xs p ys opens (ap (λ (ps : List Permit). fails33 sh ps q) (sym shorter) ∙ c .p33) in
+      let h = kept-refusal cb vs pb′ qb (length rewritten′) (passes-kept cb vs pb qb (length rewritten) passes) ∙ other-passes sh pb pb′ qb (length rewritten) (length rewritten′) c l h33 bytes-fit in
+      same-number cb vs pb′ qb rewritten′ cells′ h ∙ fits-give (columnsOf qb) _ cells′ rows-fit
+
+  -- whatever the permit: where both calls are accepted, a query without NOT and aggregates loses no row
+  pub rows-kept : ask cb vs pb′ qb rewritten′ cells′ .answer .number ≡ 0 → positiveQ q ≡ true
+      → included (rowsIn (ask cb vs pb qb rewritten cells)) (rowsIn (ask cb vs pb′ qb rewritten′ cells′)) ≡ true
+  rows-kept accepted′ positive =
+      ap₂ included (accepted-rows cb vs pb qb rewritten cells accepted ∙ ap under shorter) (accepted-rows cb vs pb′ qb rewritten′ cells′ accepted′ ∙ ap under longer)
+      ∙ within-included (under (xs ++ ys)) (under (xs ++ (p ∷ ys))) (more-answers _ _ (more-permitted sh q xs p ys (tuplesAt (catalogueOf cb) vs)) q positive)
+
 pub more-permits : MorePermits
-unfolding rewrittenBytes
-more-permits cb vs pb pb′ qb rewritten rewritten′ cells cells′ xs p ys e e′ opens accepted positive passes bytes-fit rows-fit =
-    let sh = shapeOf (catalogueOf cb) in
-    let q = queryOf qb in
-    let D = tuplesAt (catalogueOf cb) vs in
-    let room = length rewritten in
-    let room′ = length rewritten′ in
-    let h : refusal (askChecks cb vs pb qb room) ≡ 0 = accepted-passes cb vs pb qb rewritten cells accepted in
-    let c : Passed sh pb qb room = passed sh pb qb room (shape-passes cb vs pb qb rewritten h) in
-    let h33 : fails33 sh (permitsOf pb′) q ≡ false = ap (λ (ps : List Permit). fails33 sh ps q) e′ ∙ still-33 sh q xs p ys opens (ap (λ (ps : List Permit). fails33 sh ps q) (sym e) ∙ c .p33) in
-    let h′ : refusal (askChecks cb vs pb′ qb room′) ≡ 0 = kept-refusal cb vs pb′ qb room′ (passes-kept cb vs pb qb room h) ∙ other-passes sh pb pb′ qb room room′ c passes h33 bytes-fit in
-    let under : List Permit → List (List ℤ) = λ ps. answers q (permitted D (guardsOf sh ps q)) in
-    let fit : length (rowsOf cb vs (rewrittenOf cb pb qb)) ≤ length cells / columnsOf qb = give-fits (columnsOf qb) _ cells (sym (same-number cb vs pb qb rewritten cells h) ∙ accepted) in
-    let rows : rowsIn (ask cb vs pb qb rewritten cells) ≡ under (xs ++ ys) = call-rows cb vs pb qb rewritten cells h fit ∙ ap under e in
-    let rows′ : rowsIn (ask cb vs pb′ qb rewritten′ cells′) ≡ under (xs ++ (p ∷ ys)) = call-rows cb vs pb′ qb rewritten′ cells′ h′ rows-fit ∙ ap under e′ in (
-      same-number cb vs pb′ qb rewritten′ cells′ h′ ∙ fits-give (columnsOf qb) _ cells′ rows-fit,
-      ap₂ included rows rows′ ∙ within-included (under (xs ++ ys)) (under (xs ++ (p ∷ ys))) (more-answers _ _ (more-permitted sh q xs p ys D) q positive),
-    )
+more-permits cb vs pb pb′ qb rewritten rewritten′ cells cells′ xs p ys e e′ opens accepted positive l bytes-fit rows-fit =
+    let a = still-accepted cb vs pb pb′ qb rewritten rewritten′ cells cells′ xs p ys e e′ accepted opens l bytes-fit rows-fit in
+    (a, rows-kept cb vs pb pb′ qb rewritten rewritten′ cells cells′ xs p ys e e′ accepted a positive)
+
+-- the same of two outcomes that are known to be those of ask, as the contract of an exported call says
+pub more-permits-outcomes : (cb : List ℕ) (vs : List ℤ) (pb pb′ qb rewritten rewritten′ : List ℕ) (cells cells′ : List ℤ) (xs : List Permit) (p : Permit) (ys : List Permit) (o o′ : Outcome)
+    → o ≡ ask cb vs pb qb rewritten cells → o′ ≡ ask cb vs pb′ qb rewritten′ cells′
+    → permitsOf pb ≡ xs ++ ys → permitsOf pb′ ≡ xs ++ (p ∷ ys) → noAccess p ≡ false
+    → o .answer .number ≡ 0 → positiveQ (queryOf qb) ≡ true → Passes (permitChecks (shapeOf (catalogueOf cb)) pb′)
+    → length (encodeQuery (rewrittenOf cb pb′ qb)) ≤ length rewritten′
+    → length (rowsOf cb vs (rewrittenOf cb pb′ qb)) ≤ length cells′ / columnsOf qb
+    → (o′ .answer .number ≡ 0) × (included (rowsIn o) (rowsIn o′) ≡ true)
+more-permits-outcomes cb vs pb pb′ qb rewritten rewritten′ cells cells′ xs p ys o o′ f f′ e e′ opens accepted positive l bytes-fit rows-fit =
+    let number : Outcome → ℕ = λ o. o .answer .number in
+    let i = more-permits cb vs pb pb′ qb rewritten rewritten′ cells cells′ xs p ys e e′ opens (ap number (sym f) ∙ accepted) positive l bytes-fit rows-fit in
+    (ap number f′ ∙ i .0, ap₂ (λ o o′. included (rowsIn o) (rowsIn o′)) f f′ ∙ i .1)

@@ -19,5 +19,6 @@ pub mod Demands
 pub mod Monotone
 pub mod Grants
 pub mod Rounding
+pub mod Premises
 pub mod Shelf
 pub mod Largest
