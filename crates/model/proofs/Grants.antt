@@ -17,7 +17,7 @@ use Rattle.model.specs.Catalogue.{catalogueOf, Shape, shapeOf, storedAt,
 use Rattle.model.specs.Permits.{usedOf, noAccess, applies, bars, guardOf, guardsOf, meets, allowed, permitted}
 use Rattle.model.specs.Checks.{served, fails33, rewrittenBytes, fails40, permitChecks, queryChecks, guardChecks, shapeChecks, askChecks, refusal}
 use Rattle.model.specs.Calls.{Outcome, give, ask}
-use Rattle.model.specs.Demands.{guardsIn, rewrittenOf, rowsOf, columnsOf, Passes, positiveQ, rowsFrom, rowsIn, included, MorePermits}
+use Rattle.model.specs.Demands.{guardsIn, rewrittenOf, rowsOf, columnsOf, Passes, positiveQ, rowsFrom, rowsGiven, included, MorePermits}
 use Rattle.model.proofs.Tests.{and-inv, and-intro, or-inv, or-left, or-right, not-no}
 use Rattle.model.proofs.Lists.{any-filter, any-map, any-weaken, all-weaken, any-skip, every-join, Within, within-insert}
 use Rattle.model.proofs.Passed.{Passed, passed}
@@ -136,11 +136,11 @@ module _ (cb : List ℕ) (vs : List ℤ) (pb qb rewritten : List ℕ) (cells : L
   same-number : refusal (askChecks cb vs pb qb (length rewritten)) ≡ 0 → ask cb vs pb qb rewritten cells .answer .number ≡ give (columnsOf qb) the-rows cells .number
   same-number h = ap (λ (o : Outcome). o .answer .number) (given cb vs pb qb rewritten cells h)
 
-  accepted-rows : ask cb vs pb qb rewritten cells .answer .number ≡ 0 → rowsIn (ask cb vs pb qb rewritten cells) ≡ answers (queryOf qb) (permitted (tuplesAt (catalogueOf cb) vs) (guardsIn cb pb (queryOf qb)))
+  accepted-rows : ask cb vs pb qb rewritten cells .answer .number ≡ 0 → rowsGiven (ask cb vs pb qb rewritten cells) ≡ answers (queryOf qb) (permitted (tuplesAt (catalogueOf cb) vs) (guardsIn cb pb (queryOf qb)))
   accepted-rows a =
       let h = accepted-passes a in
       let e = over-permitted cb vs pb qb rewritten h in
-      ap rowsIn (given cb vs pb qb rewritten cells h)
+      ap rowsGiven (given cb vs pb qb rewritten cells h)
       ∙ give-rows (columnsOf qb) the-rows cells (give-fits (columnsOf qb) the-rows cells (sym (same-number h) ∙ a)) (subst (Every (Wide (columnsOf qb))) (sym e) (answers-wide (queryOf qb) _))
       ∙ e
 
@@ -186,7 +186,7 @@ module _ (cb : List ℕ) (vs : List ℤ) (pb pb′ qb rewritten rewritten′ : L
 
   -- whatever the permit: where both calls are accepted, a query without NOT and aggregates loses no row
   pub rows-kept : ask cb vs pb′ qb rewritten′ cells′ .answer .number ≡ 0 → positiveQ q ≡ true
-      → included (rowsIn (ask cb vs pb qb rewritten cells)) (rowsIn (ask cb vs pb′ qb rewritten′ cells′)) ≡ true
+      → included (rowsGiven (ask cb vs pb qb rewritten cells)) (rowsGiven (ask cb vs pb′ qb rewritten′ cells′)) ≡ true
   rows-kept accepted′ positive =
       ap₂ included (accepted-rows cb vs pb qb rewritten cells accepted ∙ ap under shorter) (accepted-rows cb vs pb′ qb rewritten′ cells′ accepted′ ∙ ap under longer)
       ∙ within-included (under (xs ++ ys)) (under (xs ++ (p ∷ ys))) (more-answers _ _ (more-permitted sh q xs p ys (tuplesAt (catalogueOf cb) vs)) q positive)
@@ -203,8 +203,8 @@ pub more-permits-outcomes : (cb : List ℕ) (vs : List ℤ) (pb pb′ qb rewritt
     → o .answer .number ≡ 0 → positiveQ (queryOf qb) ≡ true → Passes (permitChecks (shapeOf (catalogueOf cb)) pb′)
     → length (encodeQuery (rewrittenOf cb pb′ qb)) ≤ length rewritten′
     → length (rowsOf cb vs (rewrittenOf cb pb′ qb)) ≤ length cells′ / columnsOf qb
-    → (o′ .answer .number ≡ 0) × (included (rowsIn o) (rowsIn o′) ≡ true)
+    → (o′ .answer .number ≡ 0) × (included (rowsGiven o) (rowsGiven o′) ≡ true)
 more-permits-outcomes cb vs pb pb′ qb rewritten rewritten′ cells cells′ xs p ys o o′ f f′ e e′ opens accepted positive l bytes-fit rows-fit =
     let number : Outcome → ℕ = λ o. o .answer .number in
     let i = more-permits cb vs pb pb′ qb rewritten rewritten′ cells cells′ xs p ys e e′ opens (ap number (sym f) ∙ accepted) positive l bytes-fit rows-fit in
-    (ap number f′ ∙ i .0, ap₂ (λ o o′. included (rowsIn o) (rowsIn o′)) f f′ ∙ i .1)
+    (ap number f′ ∙ i .0, ap₂ (λ o o′. included (rowsGiven o) (rowsGiven o′)) f f′ ∙ i .1)

@@ -142,8 +142,8 @@ rowsFrom zero w cells = []
 rowsFrom (suc n) w cells = take w cells ∷ rowsFrom n w (drop w cells)
 
 -- the rows that stand in the answer buffer after a call
-abbrev pub rowsIn : Outcome → List (List ℤ)
-rowsIn o = rowsFrom (o .answer .rows) (o .answer .columns) (o .answer .cells)
+abbrev pub rowsGiven : Outcome → List (List ℤ)
+rowsGiven o = rowsFrom (o .answer .rows) (o .answer .columns) (o .answer .cells)
 
 -- rows as sets: each row of the first list is a row of the second
 unfoldable pub included : List (List ℤ) → List (List ℤ) → Bool
@@ -167,4 +167,4 @@ MorePermits = (cb : List ℕ) (vs : List ℤ) (pb pb′ qb rewritten rewritten�
     → length (rowsOf cb vs (rewrittenOf cb pb′ qb)) ≤ length cells′ / columnsOf qb
     -- then the question is accepted with the longer list too, and no row is lost
     → let o = ask cb vs pb qb rewritten cells in let o′ = ask cb vs pb′ qb rewritten′ cells′ in
-    (o′ .answer .number ≡ 0) × (included (rowsIn o) (rowsIn o′) ≡ true)
+    (o′ .answer .number ≡ 0) × (included (rowsGiven o) (rowsGiven o′) ≡ true)

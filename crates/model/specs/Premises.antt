@@ -11,7 +11,7 @@ use Rattle.model.specs.Catalogue.{catalogueOf, shapeOf}
 use Rattle.model.specs.Permits.{noAccess}
 use Rattle.model.specs.Checks.{permitChecks, refusal}
 use Rattle.model.specs.Calls.{Outcome, ask}
-use Rattle.model.specs.Demands.{rewrittenOf, rowsOf, columnsOf, positiveQ, rowsIn, included}
+use Rattle.model.specs.Demands.{rewrittenOf, rowsOf, columnsOf, positiveQ, rowsGiven, included}
 
 -- one stored relation, of one attribute, with the rows 1 and 2
 abbrev pub numbers : List ℕ
@@ -73,7 +73,7 @@ compared x = record {
   premises = premises x;
   shorter = asked x onlyTwo .answer .number;
   longer = asked x (longer x) .answer .number;
-  kept = included (rowsIn (asked x onlyTwo)) (rowsIn (asked x (longer x)));
+  kept = included (rowsGiven (asked x onlyTwo)) (rowsGiven (asked x (longer x)));
 }
 
 -- all premises hold but the failing one, the call with the shorter list is accepted, and a row is lost if one fails
