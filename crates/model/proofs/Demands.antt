@@ -91,11 +91,11 @@ module _ (cb : List ℕ) (vs : List ℤ) (pb qb rewritten : List ℕ) (cells : L
   abbrev bs : List ℕ
   bs = encodeQuery p
 
-  refused : (n : ℕ) → refusal checks ≡ suc n → ask cb vs pb qb rewritten cells ≡ record { answer = refuse (suc n) cells; count = 0; rewritten = rewritten }
+  pub refused : (n : ℕ) → refusal checks ≡ suc n → ask cb vs pb qb rewritten cells ≡ record { answer = refuse (suc n) cells; count = 0; rewritten = rewritten }
   unfolding ask askUnless
   refused n e = rw e
 
-  given : refusal checks ≡ 0 → ask cb vs pb qb rewritten cells ≡ record { answer = give (columnsOf qb) (rowsOf cb vs p) cells; count = length bs; rewritten = bs ++ drop (length bs) rewritten }
+  pub given : refusal checks ≡ 0 → ask cb vs pb qb rewritten cells ≡ record { answer = give (columnsOf qb) (rowsOf cb vs p) cells; count = length bs; rewritten = bs ++ drop (length bs) rewritten }
   unfolding ask askUnless evaluateUnless
   given e = rw e (ap (λ (k : ℕ). record { answer = give k (rowsOf cb vs p) cells; count = length bs; rewritten = bs ++ drop (length bs) rewritten }) (same-columns (guardsIn cb pb (queryOf qb)) (queryOf qb)))
 
@@ -172,11 +172,11 @@ keeper-numbers : (cb : List ℕ) (vs : List ℤ) → Every (λ c. 1 ≤ c .1) (k
 unfolding Every keeperChecks
 keeper-numbers cb vs = (omega arith, (omega arith, tt))
 
-kept-refusal : (cb : List ℕ) (vs : List ℤ) (pb qb : List ℕ) (room : ℕ) → Kept cb vs → refusal (askChecks cb vs pb qb room) ≡ refusal (shapeChecks (shapeOf (catalogueOf cb)) pb qb room)
+pub kept-refusal : (cb : List ℕ) (vs : List ℤ) (pb qb : List ℕ) (room : ℕ) → Kept cb vs → refusal (askChecks cb vs pb qb room) ≡ refusal (shapeChecks (shapeOf (catalogueOf cb)) pb qb room)
 unfolding askChecks
 kept-refusal cb vs pb qb room k = refusal-skip (keeperChecks cb vs) _ (keeper-numbers cb vs) k
 
-passes-kept : (cb : List ℕ) (vs : List ℤ) (pb qb : List ℕ) (room : ℕ) → refusal (askChecks cb vs pb qb room) ≡ 0 → Kept cb vs
+pub passes-kept : (cb : List ℕ) (vs : List ℤ) (pb qb : List ℕ) (room : ℕ) → refusal (askChecks cb vs pb qb room) ≡ 0 → Kept cb vs
 unfolding askChecks
 passes-kept cb vs pb qb room h = refusal-first (keeperChecks cb vs) _ (keeper-numbers cb vs) h
 
@@ -188,10 +188,10 @@ module _ (cb : List ℕ) (vs : List ℤ) (pb qb rewritten : List ℕ) (h : refus
   abbrev the-shape : Shape
   the-shape = shapeOf (catalogueOf cb)
 
-  shape-passes : refusal (shapeChecks the-shape pb qb (length rewritten)) ≡ 0
+  pub shape-passes : refusal (shapeChecks the-shape pb qb (length rewritten)) ≡ 0
   shape-passes = sym (kept-refusal cb vs pb qb (length rewritten) (passes-kept cb vs pb qb (length rewritten) h)) ∙ h
 
-  over-permitted : rowsOf cb vs (rewrittenOf cb pb qb) ≡ answers (queryOf qb) (permitted (tuplesAt (catalogueOf cb) vs) (guardsIn cb pb (queryOf qb)))
+  pub over-permitted : rowsOf cb vs (rewrittenOf cb pb qb) ≡ answers (queryOf qb) (permitted (tuplesAt (catalogueOf cb) vs) (guardsIn cb pb (queryOf qb)))
   over-permitted =
       rewritten-answers the-shape (tuplesAt (catalogueOf cb) vs) (guardsIn cb pb (queryOf qb)) (sane the-shape pb qb (length rewritten) shape-passes) (queryOf qb) (sound the-shape (queryOf qb) (scope the-shape pb qb (length rewritten) shape-passes))
 

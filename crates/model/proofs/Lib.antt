@@ -16,6 +16,9 @@ pub mod Barred
 pub mod Accepted
 pub mod Grounds
 pub mod Demands
+pub mod Monotone
+pub mod Grants
 pub mod Rounding
+pub mod Premises
 pub mod Shelf
 pub mod Largest

@@ -5,7 +5,8 @@ use native.Mathlib.Omega.{arith}
 use mathlib.Core.Bool.{Bool, true, false, cond, _&&_, _||_}
 use mathlib.Core.List.{List, [], _∷_, _++_, map, map-append, append-assoc}
 use mathlib.Core.Path.{_≡_, refl, sym, _∙_, ap}
-use Rattle.model.specs.Lists.{consIf, filter, any, concatMap, total, Every}
+use Rattle.model.specs.Lists.{consIf, filter, any, all, concatMap, total, Every}
+use Rattle.model.proofs.Tests.{and-inv, and-intro, or-inv, or-left, or-right, any-append}
 
 module _ {A : Type 0} (f g : A → Bool) where
   pub any-filter : (xs : List A) → any (λ x. f x && g x) xs ≡ any f (filter g xs)
@@ -134,3 +135,35 @@ module _ {A : Type 0} where
       go : (b : Bool) → Every P (filter t xs) → Every P (consIf b x (filter t xs))
       go true k = (h .0, k)
       go false k = k
+
+-- tests of a list: a weaker test, and an element more
+module _ {A : Type 0} where
+  pub any-weaken : (f g : A → Bool) → ((x : A) → f x ≡ true → g x ≡ true) → (xs : List A) → any f xs ≡ true → any g xs ≡ true
+  unfolding any
+  any-weaken f g k [] h = h
+  any-weaken f g k (x ∷ xs) h = or-inv (f x) (any f xs) h (λ e. or-left (g x) (any g xs) (k x e)) (λ e. or-right (g x) (any g xs) (any-weaken f g k xs e))
+
+  pub all-weaken : (f g : A → Bool) → ((x : A) → f x ≡ true → g x ≡ true) → (xs : List A) → all f xs ≡ true → all g xs ≡ true
+  unfolding all
+  all-weaken f g k [] h = h
+  all-weaken f g k (x ∷ xs) h = let i = and-inv (f x) (all f xs) h in and-intro (g x) (all g xs) (k x (i .0)) (all-weaken f g k xs (i .1))
+
+  pub any-concatMap : {B : Type 0} (f : A → Bool) (h : B → List A) (xs : List B) → any f (concatMap h xs) ≡ any (λ x. any f (h x)) xs
+  unfolding any concatMap
+  any-concatMap f h [] = refl
+  any-concatMap f h (x ∷ xs) = any-append f (h x) (concatMap h xs) ∙ ap (λ b. any f (h x) || b) (any-concatMap f h xs)
+
+  -- an element that fails the test
+  pub any-skip : (f : A → Bool) (xs : List A) (y : A) (ys : List A) → f y ≡ false → any f (xs ++ (y ∷ ys)) ≡ any f (xs ++ ys)
+  unfolding any
+  any-skip f [] y ys e = rw e
+  any-skip f (x ∷ xs) y ys e = ap (λ b. f x || b) (any-skip f xs y ys e)
+
+  -- lists as sets: every test that some element of the first meets, some element of the second meets
+  abbrev pub Within : List A → List A → Type 0
+  Within xs ys = (f : A → Bool) → any f xs ≡ true → any f ys ≡ true
+
+  pub within-insert : (xs : List A) (y : A) (ys : List A) → Within (xs ++ ys) (xs ++ (y ∷ ys))
+  unfolding any
+  within-insert [] y ys f h = or-right (f y) (any f ys) h
+  within-insert (x ∷ xs) y ys f h = or-inv (f x) (any f (xs ++ ys)) h (λ e. or-left (f x) (any f (xs ++ (y ∷ ys))) e) (λ e. or-right (f x) (any f (xs ++ (y ∷ ys))) (within-insert xs y ys f e))

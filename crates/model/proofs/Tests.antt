@@ -39,6 +39,10 @@ pub or-false : (b : Bool) → b || false ≡ b
 or-false true = refl
 or-false false = refl
 
+pub or-assoc : (a b c : Bool) → (a || b) || c ≡ a || (b || c)
+or-assoc true b c = refl
+or-assoc false b c = refl
+
 pub and-true : (b : Bool) → b && true ≡ b
 and-true true = refl
 and-true false = refl

@@ -1,19 +1,19 @@
--- The three demands, as statements over ask and evaluate. proofs/Demands.antt proves each of them.
-use Prim.Native.Nat.{ℕ, suc, _*_, _/_, _<_, _≤_}
+-- The three demands and change 12 of document 02, as statements over ask and evaluate. proofs/Demands.antt and proofs/Grants.antt prove them.
+use Prim.Native.Nat.{ℕ, zero, suc, _*_, _/_, _<_, _≤_}
 use mathlib.Core.Bool.{Bool, true, false, _&&_}
 use mathlib.Core.List.{List, [], _∷_, _++_, map}
 use mathlib.Core.Path.{_≡_}
 use lib.Dec.{eqb}
 use lib.IntN.{ℤ}
 use lib.ListN.{length, take, drop}
-use Rattle.model.specs.Lists.{any, concatMap, Every}
-use Rattle.model.specs.Syntax.{Binding, Query, Permit, WellFormedQ, WellFormedPs, bindingsQ}
+use Rattle.model.specs.Lists.{any, all, concatMap, Every}
+use Rattle.model.specs.Syntax.{Condition, Term, TRUE, FALSE, NOT, AND, OR, COMPARE, SOME, CONSTANT, ATTRIBUTE, AGGREGATE, Binding, Query, Permit, WellFormedQ, WellFormedPs, bindingsQ}
 use Rattle.model.specs.Encoding.{encodeQuery, encodePermits, ok, readQuery, queryOf, permitsOf, permitsRead}
-use Rattle.model.specs.Meaning.{answers}
+use Rattle.model.specs.Meaning.{sameRow, answers}
 use Rattle.model.specs.Catalogue.{catalogueOf, shapeOf, tuplesAt, allRows}
-use Rattle.model.specs.Permits.{usedOf, Guards, guardsOf, permitted, cut}
+use Rattle.model.specs.Permits.{usedOf, noAccess, Guards, guardsOf, permitted, cut}
 use Rattle.model.specs.Rewriting.{rewriteQuery}
-use Rattle.model.specs.Checks.{Check, keeperChecks, shapeChecks, askChecks, evaluateChecks, refusal}
+use Rattle.model.specs.Checks.{Check, keeperChecks, permitChecks, shapeChecks, askChecks, evaluateChecks, refusal}
 use Rattle.model.specs.Calls.{Answer, Outcome, give, evaluate, ask}
 
 -- the guards of a call, the rewritten query, and the rows that a query gives over a collection
@@ -116,3 +116,55 @@ Demand3 = (cb cb′ : List ℕ) (vs vs′ : List ℤ) (pb qb rewritten : List �
     -- unless the call is refused with a number from 20 to 40, each variable of the query has the same permitted rows, cut to S
     → (let n = ask cb vs pb qb rewritten cells .answer .number in ((20 ≤ n) × (n ≤ 40) → ⊥) → Every (λ b. permittedCut cb vs pb (queryOf qb) b ≡ permittedCut cb′ vs′ pb (queryOf qb) b) (bindingsQ (queryOf qb)))
     → ask cb vs pb qb rewritten cells ≡ ask cb′ vs′ pb qb rewritten cells
+
+-- a constant or an attribute
+unfoldable pub noAggregate : Term → Bool
+noAggregate (CONSTANT a b c d) = true
+noAggregate (ATTRIBUTE v a) = true
+noAggregate (AGGREGATE f v r a c) = false
+
+-- neither NOT nor an aggregate
+unfoldable pub positive : Condition → Bool
+positive TRUE = true
+positive FALSE = true
+positive (NOT c) = false
+positive (AND c d) = positive c && positive d
+positive (OR c d) = positive c && positive d
+positive (COMPARE o s t) = noAggregate s && noAggregate t
+positive (SOME v r c) = positive c
+
+unfoldable pub positiveQ : Query → Bool
+positiveQ q = all noAggregate (q .targets) && positive (q .condition)
+
+-- n rows of w cells each, read off a buffer from its start
+unfoldable pub rowsFrom : ℕ → ℕ → List ℤ → List (List ℤ)
+rowsFrom zero w cells = []
+rowsFrom (suc n) w cells = take w cells ∷ rowsFrom n w (drop w cells)
+
+-- the rows that stand in the answer buffer after a call
+abbrev pub rowsGiven : Outcome → List (List ℤ)
+rowsGiven o = rowsFrom (o .answer .rows) (o .answer .columns) (o .answer .cells)
+
+-- rows as sets: each row of the first list is a row of the second
+unfoldable pub included : List (List ℤ) → List (List ℤ) → Bool
+included xs ys = all (λ x. any (sameRow x) ys) xs
+
+-- CHANGE 12 (document 02): more permits, no fewer rows
+abbrev pub MorePermits : Type 0
+MorePermits = (cb : List ℕ) (vs : List ℤ) (pb pb′ qb rewritten rewritten′ : List ℕ) (cells cells′ : List ℤ) (xs : List Permit) (p : Permit) (ys : List Permit)
+    -- a permit p is added, anywhere in the list
+    → permitsOf pb ≡ xs ++ ys → permitsOf pb′ ≡ xs ++ (p ∷ ys)
+    -- it is other than a NO ACCESS one; its relation, mask and condition are free
+    → noAccess p ≡ false
+    -- with the shorter list the question is accepted
+    → ask cb vs pb qb rewritten cells .answer .number ≡ 0
+    -- the question has neither NOT nor an aggregate; permits may have both
+    → positiveQ (queryOf qb) ≡ true
+    -- the longer list passes its checks, 20 to 23
+    → Passes (permitChecks (shapeOf (catalogueOf cb)) pb′)
+    -- both buffers suffice for it: the rewritten query's bytes, and its distinct rows
+    → length (encodeQuery (rewrittenOf cb pb′ qb)) ≤ length rewritten′
+    → length (rowsOf cb vs (rewrittenOf cb pb′ qb)) ≤ length cells′ / columnsOf qb
+    -- then the question is accepted with the longer list too, and no row is lost
+    → let o = ask cb vs pb qb rewritten cells in let o′ = ask cb vs pb′ qb rewritten′ cells′ in
+    (o′ .answer .number ≡ 0) × (included (rowsGiven o) (rowsGiven o′) ≡ true)

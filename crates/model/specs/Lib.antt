@@ -11,5 +11,6 @@ pub mod Scope
 pub mod Checks
 pub mod Calls
 pub mod Demands
+pub mod Premises
 pub mod Shelf
 pub mod Largest

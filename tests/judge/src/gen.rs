@@ -3,6 +3,7 @@
 pub mod cost;
 pub mod damage;
 pub mod draft;
+pub mod grants;
 pub mod grow;
 pub mod limits;
 pub mod pairs;
@@ -107,20 +108,23 @@ struct Needs {
     rows: Vec<Vec<i64>>,
 }
 
+/// The number of a refusal from 10 to 33, if one is due.
+fn true_needs(case: &Case) -> Result<Needs, u64> {
+    let call = calls::guarded(&case.catalogue, &case.values, &case.permits, &case.query)?;
+    Ok(Needs {
+        length: call.rewritten.bytes().len(),
+        columns: call.query.targets.len(),
+        rows: meaning::answer(&call.collection, &call.rewritten),
+    })
+}
+
+/// Something usual for a call that is refused.
 fn needs(case: &Case) -> Needs {
-    match calls::guarded(&case.catalogue, &case.values, &case.permits, &case.query) {
-        Ok(call) => Needs {
-            length: call.rewritten.bytes().len(),
-            columns: call.query.targets.len(),
-            rows: meaning::answer(&call.collection, &call.rewritten),
-        },
-        // Something usual for a call that is refused.
-        Err(_) => Needs {
-            length: 40,
-            columns: 2,
-            rows: vec![vec![0, 0]; 10],
-        },
-    }
+    true_needs(case).unwrap_or_else(|_| Needs {
+        length: 40,
+        columns: 2,
+        rows: vec![vec![0, 0]; 10],
+    })
 }
 
 fn lend_buffers(rng: &mut Rng, case: &mut Case, needs: &Needs, aims: &[u64]) {
