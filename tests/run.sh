@@ -5,21 +5,28 @@ set -eu
 cd "$(dirname "$0")/.."
 nice=(nice -n 5)
 
-# The source decides: once it exports waldumre_ask, all that is said of ask is tested.
+# The source decides: once it exports waldumre_ask, all that is said of ask is tested; likewise the label book.
 features=()
 calls=(evaluate)
+crates=(waldumre)
 if grep -q 'fn waldumre_ask' crates/waldumre/src/lib.rt; then
-  features=(--features ask)
+  features+=(--features ask)
   calls=(evaluate ask)
+fi
+if [[ -e crates/waldumre_book/src/lib.rt ]] && grep -q 'fn waldumre_label_book' crates/waldumre_book/src/lib.rt; then
+  features+=(--features book)
+  crates+=(waldumre_book)
 fi
 
 mkdir -p target
-"${nice[@]}" rt staticlib waldumre >target/tests.log 2>&1 || { cat target/tests.log; exit 1; }
-
-# What the header says: nothing is needed but memcpy, memset and their like, and there is no variable.
+for crate in "${crates[@]}"; do
+  "${nice[@]}" rt staticlib "$crate" >target/tests.log 2>&1 || { cat target/tests.log; exit 1; }
+  # What the header says: nothing is needed but memcpy, memset and their like, and there is no variable.
+  archive=target/staticlib/lib$crate.a
+  if nm -u "$archive" | grep ' U ' | grep -vE ' U (mem(cpy|set|move|cmp)|waldumre_(ask|evaluate))$'; then echo "tests: $crate needs more"; exit 1; fi
+  if nm "$archive" | grep -E ' [bBdDC] '; then echo "tests: $crate has variables"; exit 1; fi
+done
 library=target/staticlib/libwaldumre.a
-if nm -u "$library" | grep ' U ' | grep -vE ' U mem(cpy|set|move|cmp)$'; then echo "tests: the library needs more"; exit 1; fi
-if nm "$library" | grep -E ' [bBdDC] '; then echo "tests: the library has variables"; exit 1; fi
 
 echo "tests: the judge's own examples"
 (cd tests && "${nice[@]}" cargo test --quiet --offline --release -p judge --test examples)
@@ -47,6 +54,8 @@ for call in "${calls[@]}"; do
     fi
   fi
 done
-# the header is C++ too
-if command -v g++ >/dev/null; then g++ -Wall -Wextra -Werror -fsyntax-only -x c++ include/waldumre.h; fi
+# the headers are C++ too
+if command -v g++ >/dev/null; then
+  for header in include/*.h; do g++ -Wall -Wextra -Werror -Iinclude -fsyntax-only -x c++ "$header"; done
+fi
 echo "tests: all passed"

@@ -1,12 +1,19 @@
-//! Links the static library that the repository builds.
+//! Links the static libraries that the repository builds.
 
+use std::env;
 use std::path::Path;
 
 fn main() {
     let folder = Path::new(env!("CARGO_MANIFEST_DIR")).join("../../target/staticlib");
-    let archive = folder.join("libwaldumre.a");
-    assert!(archive.exists(), "no libwaldumre.a: run tests/run.sh");
     println!("cargo:rustc-link-search=native={}", folder.display());
-    println!("cargo:rustc-link-lib=static=waldumre");
-    println!("cargo:rerun-if-changed={}", archive.display());
+    let mut names = vec!["waldumre"];
+    if env::var_os("CARGO_FEATURE_BOOK").is_some() {
+        names.push("waldumre_book");
+    }
+    for name in names {
+        let archive = folder.join(format!("lib{name}.a"));
+        assert!(archive.exists(), "no lib{name}.a: run tests/run.sh");
+        println!("cargo:rustc-link-lib=static={name}");
+        println!("cargo:rerun-if-changed={}", archive.display());
+    }
 }

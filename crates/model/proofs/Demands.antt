@@ -38,7 +38,7 @@ module _ (cb : List ℕ) (vs : List ℤ) (pb qb : List ℕ) (room : ℕ) where
   unfolding Every askChecks keeperChecks shapeChecks permitChecks queryChecks guardChecks
   ask-numbers = (omega arith, (omega arith, (omega arith, (omega arith, (omega arith, (omega arith, (omega arith, (omega arith, (omega arith, (omega arith, (omega arith, tt)))))))))))
 
-  ask-below : Every (λ c. c .1 < 41) (askChecks cb vs pb qb room)
+  pub ask-below : Every (λ c. c .1 < 41) (askChecks cb vs pb qb room)
   unfolding Every askChecks keeperChecks shapeChecks permitChecks queryChecks guardChecks
   ask-below = (omega arith, (omega arith, (omega arith, (omega arith, (omega arith, (omega arith, (omega arith, (omega arith, (omega arith, (omega arith, (omega arith, tt)))))))))))
 

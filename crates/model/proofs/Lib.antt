@@ -20,5 +20,7 @@ pub mod Monotone
 pub mod Grants
 pub mod Rounding
 pub mod Premises
+pub mod Book
+pub mod BookExamples
 pub mod Shelf
 pub mod Largest

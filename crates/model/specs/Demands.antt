@@ -1,11 +1,11 @@
--- The three demands and change 12 of document 02, as statements over ask and evaluate. proofs/Demands.antt and proofs/Grants.antt prove them.
+-- The three demands, change 12 of document 02 and the label book of change 3, as statements over ask and evaluate. proofs/Demands, Grants and Book prove them.
 use Prim.Native.Nat.{ℕ, zero, suc, _*_, _/_, _<_, _≤_}
 use mathlib.Core.Bool.{Bool, true, false, _&&_}
 use mathlib.Core.List.{List, [], _∷_, _++_, map}
 use mathlib.Core.Path.{_≡_}
 use lib.Dec.{eqb}
-use lib.IntN.{ℤ}
-use lib.ListN.{length, take, drop}
+use lib.IntN.{ℤ, pos}
+use lib.ListN.{length, take, drop, getD}
 use Rattle.model.specs.Lists.{any, all, concatMap, Every}
 use Rattle.model.specs.Syntax.{Condition, Term, TRUE, FALSE, NOT, AND, OR, COMPARE, SOME, CONSTANT, ATTRIBUTE, AGGREGATE, Binding, Query, Permit, WellFormedQ, WellFormedPs, bindingsQ}
 use Rattle.model.specs.Encoding.{encodeQuery, encodePermits, ok, readQuery, queryOf, permitsOf, permitsRead}
@@ -14,7 +14,8 @@ use Rattle.model.specs.Catalogue.{catalogueOf, shapeOf, tuplesAt, allRow
 use Rattle.model.specs.Permits.{usedOf, noAccess, Guards, guardsOf, permitted, cut}
 use Rattle.model.specs.Rewriting.{rewriteQuery}
 use Rattle.model.specs.Checks.{Check, keeperChecks, permitChecks, shapeChecks, askChecks, evaluateChecks, refusal}
-use Rattle.model.specs.Calls.{Answer, Outcome, give, evaluate, ask}
+use Rattle.model.specs.Calls.{Answer, Outcome, refuse, give, evaluate, ask}
+use Rattle.model.specs.Book.{Row, rowCells, rowsIn, entryFor, Book, bookOf, BookOutcome, answerCells, fails53, labelBook}
 
 -- the guards of a call, the rewritten query, and the rows that a query gives over a collection
 abbrev pub guardsIn : List ℕ → List ℕ → Query → Guards
@@ -168,3 +169,37 @@ MorePermits = (cb : List ℕ) (vs : List ℤ) (pb pb′ qb rewritten rewritten�
     -- then the question is accepted with the longer list too, and no row is lost
     → let o = ask cb vs pb qb rewritten cells in let o′ = ask cb vs pb′ qb rewritten′ cells′ in
     (o′ .answer .number ≡ 0) × (included (rowsGiven o) (rowsGiven o′) ≡ true)
+
+-- THE LABEL BOOK; proofs/Book.antt proves what follows.
+-- DEMAND 1: o is ask's outcome, b the book before the call and r what the book call gives
+pub record BookGrounds (o : Outcome) (b : Book) (r : BookOutcome) : Type 0 where
+  -- ask's own refusals, 41 too, are the book's
+  pub asked : (o .answer .number ≡ 0 → ⊥) → r .outcome ≡ o
+  -- 53: ask accepts, and the targets, a row or the book's size are wrong; and the other way round
+  pub ground : r .outcome .answer .number ≡ 53 → (o .answer .number ≡ 0) × (fails53 o b ≡ true)
+  pub grounded : o .answer .number ≡ 0 → fails53 o b ≡ true → r .outcome ≡ record { answer = refuse 53 (o .answer .cells); count = 0; rewritten = o .rewritten }
+  -- every refusal leaves the book unchanged
+  pub unchanged : (r .outcome .answer .number ≡ 0 → ⊥) → r .book ≡ b
+  -- accepted: the outcome is ask's, and the book that of its rows
+  pub accepted : r .outcome .answer .number ≡ 0 → r ≡ record { outcome = o; book = bookOf (rowsIn (answerCells o)) }
+
+abbrev pub Demand1Book : Type 0
+Demand1Book = (cb : List ℕ) (vs : List ℤ) (pb qb rewritten : List ℕ) (cells : List ℤ) (b : Book) → BookGrounds (ask cb vs pb qb rewritten cells) b (labelBook cb vs pb qb rewritten cells b)
+
+-- the rows that the book reads are those of the question's meaning, in their order
+abbrev pub BookRows : Type 0
+BookRows = (cb : List ℕ) (vs : List ℤ) (pb qb rewritten : List ℕ) (cells : List ℤ)
+    → let o = ask cb vs pb qb rewritten cells in o .answer .number ≡ 0 → o .answer .columns ≡ 3 → map rowCells (rowsIn (answerCells o)) ≡ rowsOf cb vs (rewrittenOf cb pb qb)
+
+-- where a label's entry stands: its offer at k, its display from 7k to 7k + 6
+pub record Laid (rows : List Row) : Type 0 where
+  pub sizes : (length (bookOf rows .offers) ≡ 500) × (length (bookOf rows .display) ≡ 3500)
+  pub offer-at : (k : ℕ) → k < 500 → getD (bookOf rows .offers) k (pos 0) ≡ entryFor rows k .offer
+  pub display-at : (k : ℕ) → k < 500 → take 7 (drop (7 * k) (bookOf rows .display)) ≡ entryFor rows k .display
+
+-- DEMAND 3 for the label book: the premises are those of Demand3
+abbrev pub Demand3Book : Type 0
+Demand3Book = (cb cb′ : List ℕ) (vs vs′ : List ℤ) (pb qb rewritten : List ℕ) (cells : List ℤ) (lent : Book)
+    → Kept cb vs → Kept cb′ vs′ → shapeOf (catalogueOf cb) ≡ shapeOf (catalogueOf cb′)
+    → (let n = ask cb vs pb qb rewritten cells .answer .number in ((20 ≤ n) × (n ≤ 40) → ⊥) → Every (λ b. permittedCut cb vs pb (queryOf qb) b ≡ permittedCut cb′ vs′ pb (queryOf qb) b) (bindingsQ (queryOf qb)))
+    → labelBook cb vs pb qb rewritten cells lent ≡ labelBook cb′ vs′ pb qb rewritten cells lent

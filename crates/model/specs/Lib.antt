@@ -10,6 +10,7 @@ pub mod Rewriting
 pub mod Scope
 pub mod Checks
 pub mod Calls
+pub mod Book
 pub mod Demands
 pub mod Premises
 pub mod Shelf

@@ -2,35 +2,20 @@
 use mathlib.Core.Path.{_≡_, sym, ap, _∙_, subst}
 use mathlib.Core.Bool.{Bool, true, false, cond}
 use mathlib.Core.List.{List}
-use Prim.Native.Nat.{ℕ, zero, suc, _*_, _/_, _≤_, _<_}
-use native.Mathlib.Nat.{mul-le-mul-right, min-le-right, div-mul-le-self}
+use Prim.Native.Nat.{ℕ, _*_, _≤_, _<_}
 use native.Mathlib.Omega.{arith}
 use lib.IntN.{ℤ, pos}
 use lib.ListN.{length, replicate, length-replicate}
 use borrow.Author.Tests.{eq-eqb, ne-eqb, ltb-false}
-use Rattle.model.specs.Syntax.{Query}
-use Rattle.model.specs.Meaning.{Tuple}
 use Rattle.model.specs.Checks.{fails10}
-use Rattle.model.specs.Calls.{Outcome, give, evaluateUnless, askUnless, ask}
+use Rattle.model.specs.Calls.{Outcome, ask}
 use Rattle.model.proofs.Tests.{or-no}
 use Rattle.model.proofs.Demands.{demand-2}
+use Rattle.model.proofs.Book.{rows-fit}
 use Rattle.guarded.specs.Outcome.{outcomeOf}
 use Rattle.guarded.specs.declared.Reply.{Reply}
 use Rattle.output.specs.Output as O
 use Rattle.output.proofs.Parts.{accepted-length}
-
--- rows and bytes that a call counts stand in its buffers
-fits : (m l w : ℕ) → m ≤ l / w → m * w ≤ l
-fits m l w h = omega (arith, mul-le-mul-right w h, div-mul-le-self l w)
-
-cells-fit : (n : ℕ) (q : Query) (D : ℕ → List Tuple) (bs : List ℕ) (cs : List ℤ) → askUnless n q D bs cs .answer .rows * askUnless n q D bs cs .answer .columns ≤ length cs
-unfolding askUnless evaluateUnless give
-cells-fit zero q D bs cs = fits _ (length cs) (length (q .targets)) (min-le-right _ _)
-cells-fit (suc n) q D bs cs = omega arith
-
-rows-fit : (cb : List ℕ) (vs : List ℤ) (pb qb bs : List ℕ) (cs : List ℤ) → ask cb vs pb qb bs cs .answer .rows * ask cb vs pb qb bs cs .answer .columns ≤ length cs
-unfolding ask
-rows-fit cb vs pb qb bs cs = cells-fit _ _ _ bs cs
 
 pub unread-10 : (cb : List ℕ) (b : Bool) → b ≡ fails10 cb → b ≡ true → 10 ≡ O.unread cb
 unread-10 cb b e h = sym (ap (λ (x : Bool). cond {A = ℕ} x 10 11) (sym e ∙ h))

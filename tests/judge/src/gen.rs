@@ -1,5 +1,6 @@
 //! Seeded cases. A case depends on its seed alone.
 
+pub mod books;
 pub mod cost;
 pub mod damage;
 pub mod draft;
@@ -42,7 +43,8 @@ pub fn case(seed: u64) -> Case {
     let bound = if rng.below(200) == 0 { LARGE } else { ORDINARY };
     let aims = choose_aims(rng);
     loop {
-        let mut case = damaged(rng, &aims);
+        let draft = draft::draft(rng);
+        let mut case = damaged(rng, draft, &aims);
         if !cost::is_case_within(&bound, &case) {
             continue;
         }
@@ -83,8 +85,7 @@ fn choose_aims(rng: &mut Rng) -> Vec<u64> {
     }
 }
 
-fn damaged(rng: &mut Rng, aims: &[u64]) -> Case {
-    let mut draft = draft::draft(rng);
+fn damaged(rng: &mut Rng, mut draft: draft::Draft, aims: &[u64]) -> Case {
     for aim in aims {
         damage::on_draft(rng, &mut draft, *aim);
     }

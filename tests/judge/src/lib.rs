@@ -1,10 +1,12 @@
 //! A plain and slow query engine over guarded relations, written from document 01 and the landed
 //! changes of document 02 alone. It judges other implementations: clarity comes before speed everywhere.
 
+pub mod book;
 pub mod calls;
 pub mod catalogue;
 pub mod checks;
 pub mod compare;
+pub mod compare_books;
 pub mod conformance;
 pub mod gen;
 pub mod meaning;
@@ -13,6 +15,7 @@ pub mod program;
 pub mod query;
 pub mod rewrite;
 
+pub use book::label_book;
 pub use calls::{ask, evaluate, permitted_rows};
 pub use compare::compare;
 
@@ -39,7 +42,9 @@ pub mod refusal {
     pub const NO_PERMIT: u64 = 33;
     pub const REWRITTEN_BUFFER: u64 = 40;
     pub const ANSWER_BUFFER: u64 = 41;
+    pub const LABEL_BOOK: u64 = 53;
 
+    /// Those of ask.
     pub const ALL: [u64; 12] = [
         CATALOGUE,
         VALUES,

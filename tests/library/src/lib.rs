@@ -54,6 +54,26 @@ extern "C" {
         answer: *mut i64,
         answer_length: usize,
     ) -> Returned;
+
+    #[cfg(feature = "book")]
+    fn waldumre_label_book(
+        catalogue: *const u8,
+        catalogue_length: usize,
+        values: *const i32,
+        values_length: usize,
+        permits: *const u8,
+        permits_length: usize,
+        query: *const u8,
+        query_length: usize,
+        rewritten: *mut u8,
+        rewritten_length: usize,
+        answer: *mut i64,
+        answer_length: usize,
+        offers: *mut i64,
+        offers_length: usize,
+        display: *mut u8,
+        display_length: usize,
+    ) -> Returned;
 }
 
 pub fn evaluate(catalogue: &[u8], values: &[i32], query: &[u8], answer: &mut [i64]) -> Outcome {
@@ -103,3 +123,38 @@ pub fn ask(
 /// Until the library exports it, the judge's stands in, so that rewritten queries reach evaluate.
 #[cfg(not(feature = "ask"))]
 pub use judge::ask;
+
+#[cfg(feature = "book")]
+#[allow(clippy::too_many_arguments)]
+pub fn label_book(
+    catalogue: &[u8],
+    values: &[i32],
+    permits: &[u8],
+    query: &[u8],
+    rewritten: &mut [u8],
+    answer: &mut [i64],
+    offers: &mut [i64],
+    display: &mut [u8],
+) -> Outcome {
+    unsafe {
+        waldumre_label_book(
+            catalogue.as_ptr(),
+            catalogue.len(),
+            values.as_ptr(),
+            values.len(),
+            permits.as_ptr(),
+            permits.len(),
+            query.as_ptr(),
+            query.len(),
+            rewritten.as_mut_ptr(),
+            rewritten.len(),
+            answer.as_mut_ptr(),
+            answer.len(),
+            offers.as_mut_ptr(),
+            offers.len(),
+            display.as_mut_ptr(),
+            display.len(),
+        )
+    }
+    .into()
+}

@@ -1,0 +1,4 @@
+pub mod Blank
+pub mod Entries
+pub mod Walk
+pub mod Size

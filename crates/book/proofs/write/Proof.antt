@@ -1,0 +1,55 @@
+use denote.Ref.{now}
+use borrow.Author.Tests.{not-true, not-false}
+use Rattle.book.proofs.Size.{kept, in-range, blank, written}
+use borrow.Author.Needs.{needs}
+use Rattle.book.proofs.write.Statement.{statement}
+use Rattle.book.proofs.write.Tie as tie
+
+suits-requires : tie.Need-suits-requires
+suits-requires c κs = search needs
+
+returns : tie.Need-returns
+returns c = kept (c .before .before .before .args .columns) (now (c .before .before .before .args .cells)) (record { offers = (now (c .before .before .before .args .offers)); display = (now (c .before .before .before .args .display)) }) (c .before .suits .result) (c .before .suits .ensures) (not-true _ (c .if1 .taken))
+
+blank-offers-requires : tie.Need-blank-offers-requires
+blank-offers-requires c κs = search needs
+
+blank-display-requires : tie.Need-blank-display-requires
+blank-display-requires c κs = search needs
+
+fill-requires : tie.Need-fill-requires
+fill-requires c κs =
+    let c₄ = c .before .before .before .before in let blank-display = c₄ .blank-display in
+    let c₇ = c₄ .before .before .before in let blank-offers = c₇ .blank-offers in
+    let c₉ = c₇ .before .before in let if1 = c₉ .if1 in
+    let c₁₀ = c₉ .before in let suits = c₁₀ .suits in
+    let c₁₂ = c₁₀ .before .before in let args = c₁₂ .args in
+    let cells = now (args .cells) in let columns = args .columns in
+    (in-range columns cells (record { offers = (now (args .offers)); display = (now (args .display)) }) (suits .result) (suits .ensures) (not-false _ (if1 .left)), blank columns cells (record { offers = (now (args .offers)); display = (now (args .display)) }) (suits .result) (suits .ensures) (not-false _ (if1 .left)) _ _ (blank-offers .ensures) (blank-display .ensures))
+
+same-length : tie.Need-same-length
+same-length c = search needs
+
+same-length-2 : tie.Need-same-length-2
+same-length-2 c = search needs
+
+returns-2 : tie.Need-returns-2
+returns-2 c =
+    let c₃ = c .before .before .before in let fill = c₃ .fill in
+    let c₁₃ = c₃ .before .before .before .before .before .before .before .before .before .before in let if1 = c₁₃ .if1 in
+    let c₁₄ = c₁₃ .before in let suits = c₁₄ .suits in
+    let c₁₆ = c₁₄ .before .before in let args = c₁₆ .args in
+    written (args .columns) (now (args .cells)) (record { offers = (now (args .offers)); display = (now (args .display)) }) (suits .result) (suits .ensures) (not-false _ (if1 .left)) _ (fill .ensures)
+
+pub write-spec : {M : Type 1} → statement M
+write-spec =
+    tie.close
+    (tie.spec
+    suits-requires
+    returns
+    blank-offers-requires
+    blank-display-requires
+    fill-requires
+    same-length
+    same-length-2
+    returns-2)
