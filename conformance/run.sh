@@ -1,62 +1,130 @@
 #!/bin/sh
-# run.sh PROGRAM: runs a program over all cases, each in a folder of its own, and says 'N passed, M failed'.
-# run.sh --unpack FOLDER: writes each case as a folder with the program's files, `expected` and `about`.
-# POSIX sh; needs cat, cmp, basename, dirname, mkdir, mktemp, rm.
+# run.sh [--only CASE] [--limit SECONDS] [--tap] PROGRAM
+#   runs a program over the cases, each in a folder of its own, and says 'N passed, M failed'. CASE is the name of a case or
+#   a pattern of names; SECONDS bound each run, where there is a `timeout` (10 if not said); --tap prints TAP.
+# run.sh --unpack FOLDER
+#   writes each case as a folder with the program's files, `expected` and `about`.
+# POSIX sh; needs basename, cat, cmp, diff, dirname, mkdir, mktemp, rm, sed.
 set -u
 here=$(cd "$(dirname "$0")" && pwd)
 
-# A line of bytes, as decimal numbers, to the file $1.
+usage() {
+  sed -n 's/^# \(run\.sh .*\)/usage: \1/p' "$0" >&2
+  exit 2
+}
+
+# Bytes, as decimal numbers, to the file $1.
 write_bytes() {
   file=$1
   shift
-  if [ $# -eq 0 ]; then : >"$file"; return; fi
   # shellcheck disable=SC2059
   printf "$(printf '\\%03o' "$@")" >"$file"
 }
 
-# The case $1 to the folder $2: the files that it has a line for, `expected` and `about`.
+# The case $1: its files to the folder $2, `expected` to the folder $3, and the line of explanation to $about.
 unpack() {
   {
     IFS= read -r about
-    printf '%s\n' "$about" >"$2/about"
     while IFS= read -r line && [ "$line" != prints ]; do
-      # the bytes are the words of the line
-      # shellcheck disable=SC2086
-      write_bytes "$2/${line%% *}" $(case $line in *' '*) echo "${line#* }" ;; esac)
+      if [ "$line" = "${line#* }" ]; then
+        : >"$2/$line"
+      else
+        # the bytes are the words of the line
+        # shellcheck disable=SC2086
+        write_bytes "$2/${line%% *}" ${line#* }
+      fi
     done
-    cat >"$2/expected"
+    cat >"$3/expected"
   } <"$1"
 }
 
-if [ $# -eq 2 ] && [ "$1" = --unpack ]; then
-  for case in "$here"/cases/*; do
-    folder=$2/$(basename "$case")
-    mkdir -p "$folder" && unpack "$case" "$folder" || exit 2
-  done
-  exit 0
-fi
-[ $# -eq 1 ] || { echo "usage: run.sh PROGRAM, or run.sh --unpack FOLDER" >&2; exit 2; }
+only='*'
+limit=10
+tap=no
+while [ $# -gt 0 ]; do
+  case $1 in
+    --unpack)
+      [ $# -eq 2 ] || usage
+      for case in "$here"/cases/*; do
+        folder=$2/$(basename "$case")
+        mkdir -p "$folder" && unpack "$case" "$folder" "$folder" || exit 2
+        printf '%s\n' "$about" >"$folder/about"
+      done
+      exit 0
+      ;;
+    --only) [ $# -ge 2 ] || usage; only=$2; shift 2 ;;
+    --limit) [ $# -ge 2 ] || usage; limit=$2; shift 2 ;;
+    --tap) tap=yes; shift ;;
+    -*) usage ;;
+    *) break ;;
+  esac
+done
+[ $# -eq 1 ] || usage
 program=$(cd "$(dirname "$1")" && pwd)/$(basename "$1")
 [ -x "$program" ] || { echo "run.sh: $1 is no program" >&2; exit 2; }
 
+# the pattern may match many
+# shellcheck disable=SC2086
+set -- "$here"/cases/$only
+[ -e "$1" ] || { echo "run.sh: no case $only" >&2; exit 2; }
+
+bounded=
+if command -v timeout >/dev/null; then bounded="timeout -k 1 $limit"; fi
 room=$(mktemp -d) || exit 2
 trap 'rm -rf "$room"' EXIT
-passed=0
+trap 'exit 2' HUP INT TERM
+
+# 124, or 137 if the program had to be killed.
+is_late() {
+  [ -n "$bounded" ] && { [ "$status" -eq 124 ] || [ "$status" -eq 137 ]; }
+}
+
+# The first lines of a text, none of them long, with carriage returns to be seen.
+return=$(printf '\r')
+short() {
+  sed -n -e "s/$return/\\\\r/g" -e '1,10{s/^\(.\{160\}\)..*/\1 ../;p;}' -e '11s/.*/../p'
+}
+
+# What is wrong with the last run: the lines that differ, and how the program ended.
+explain() {
+  diff "$room/expected" "$room/printed" >"$room/lines"
+  sed -n 's/^< /expected: /p' "$room/lines" | short
+  sed -n -e 's/^> /printed: /p' -e '/^\\/p' -e 's/^B.*/printed bytes that are no text/p' "$room/lines" | short
+  [ -s "$room/printed" ] || echo "printed nothing"
+  if is_late; then
+    echo "took over $limit seconds"
+  elif [ "$status" -ne 0 ]; then
+    echo "exit status $status"
+  fi
+  sed 's/^/standard error: /' "$room/said" | short
+}
+
+[ $tap = no ] || echo "1..$#"
+number=0
 failed=0
-for case in "$here"/cases/*; do
-  rm -rf "$room/run" "$room/case"
-  mkdir "$room/run" "$room/case"
-  unpack "$case" "$room/case"
-  for file in catalogue values permits question; do
-    [ ! -e "$room/case/$file" ] || mv "$room/case/$file" "$room/run/$file"
-  done
-  (cd "$room/run" && "$program") >"$room/printed" 2>"$room/said"
-  if cmp -s "$room/printed" "$room/case/expected"; then
-    passed=$((passed + 1))
+for case in "$@"; do
+  number=$((number + 1))
+  name=${case##*/}
+  rm -rf "$room/run"
+  mkdir "$room/run"
+  unpack "$case" "$room/run" "$room"
+  # the exit lets this shell, and not the outer one, say that a program was killed
+  # shellcheck disable=SC2086
+  (cd "$room/run" && $bounded "$program"; exit $?) </dev/null >"$room/printed" 2>"$room/said"
+  status=$?
+  if ! is_late && cmp -s "$room/printed" "$room/expected"; then
+    [ $tap = no ] || echo "ok $number - $name: $about"
+    continue
+  fi
+  failed=$((failed + 1))
+  if [ $tap = yes ]; then
+    echo "not ok $number - $name: $about"
+    explain | sed 's/^/# /'
   else
-    failed=$((failed + 1))
-    echo "FAILED $(basename "$case"): $(cat "$room/case/about")"
+    echo "FAILED $name: $about"
+    explain | sed 's/^/  /'
   fi
 done
-echo "$passed passed, $failed failed"
+summary="$((number - failed)) passed, $failed failed"
+if [ $tap = yes ]; then echo "# $summary"; else echo "$summary"; fi
 [ "$failed" -eq 0 ]

@@ -27,6 +27,43 @@ printf '#!/bin/sh\necho "refused 10"\n' >"$room/wrong"
 chmod +x "$room/wrong"
 if conformance/run.sh "$room/wrong" >"$room/said"; then echo "conformance: a program that refuses all passes"; exit 1; fi
 
+# What the runner says of a case that fails, of one by its name, of a program that hangs, and in TAP.
+says() { # what it prints for the arguments, all of it
+  if conformance/run.sh "$@" >"$room/said"; then echo "conformance: run.sh $* passes"; exit 1; fi
+  diff "$room/said" - || { echo "conformance: run.sh $* says otherwise"; exit 1; }
+}
+printf '#!/bin/sh\necho "refused 10"\necho "why" >&2\nexit 3\n' >"$room/wrong"
+says --only no-permit-001 "$room/wrong" <<'END'
+FAILED no-permit-001: No permits at all.
+  expected: refused 33
+  printed: refused 10
+  exit status 3
+  standard error: why
+0 passed, 1 failed
+END
+says --tap --only 'catalogue-00[45]' "$room/wrong" <<'END'
+1..2
+ok 1 - catalogue-004: Four files with no byte.
+not ok 2 - catalogue-005: One relation.
+# expected: rows 1
+# expected: columns 1
+# expected: question 9
+# expected: 1 0 0 33 0 0 19 16 16
+# expected: 5
+# printed: refused 10
+# exit status 3
+# standard error: why
+# 1 passed, 1 failed
+END
+if command -v timeout >/dev/null; then
+  printf '#!/bin/sh\necho "refused 10"\nsleep 60\n' >"$room/wrong"
+  says --limit 1 --only catalogue-001 "$room/wrong" <<'END'
+FAILED catalogue-001: An empty catalogue.
+  took over 1 seconds
+0 passed, 1 failed
+END
+fi
+
 # Each file of the stored run in turn: a folder in its place counts as empty; a million bytes more are noticed.
 ours=$PWD/$ours
 prints() { # NUMBER FOLDER

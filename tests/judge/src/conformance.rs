@@ -1,6 +1,7 @@
 //! The cases of `conformance/`: each a line of explanation, the program's files, and what it prints.
 //! What a case should come to is said by hand where it can be, and held to the judge.
 
+mod faults;
 mod limits;
 mod meaning;
 mod no_access;
@@ -213,6 +214,7 @@ pub fn cases() -> Vec<(String, Case)> {
         ("no-access", no_access::fill),
         ("answer-buffer", limits::answer_buffer),
         ("order", refusals::order),
+        ("two-faults", faults::fill),
         ("rewriting", rewriting::fill),
         ("meaning", meaning::fill),
         ("rounding", rounding::fill),

@@ -186,6 +186,22 @@ pub fn values(group: &mut Group) {
         with(two(), vec![255, 255, 255, 255, 0, 1, 0, 0]),
         &[-1, 256],
     );
+    for bytes in 5..8 {
+        let about = format!("{bytes} bytes for two values: not rounded up.");
+        group.refused(11, about, with(two(), vec![0; bytes]));
+    }
+    for bytes in 1..4 {
+        let about = format!("{bytes} bytes for one value: not rounded up.");
+        group.refused(11, about, with(relation(1, 1), vec![0; bytes]));
+    }
+    group.refused(
+        11,
+        "32,767 bytes for 8,192 values.",
+        Files {
+            values: vec![0; 32767],
+            ..count(wide(), 0)
+        },
+    );
 }
 
 pub fn permit_form(group: &mut Group) {
