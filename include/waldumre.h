@@ -92,6 +92,61 @@ typedef struct {
  * has been written. A label that shows the first row can go on. */
 #define WALDUMRE_ANSWER_BUFFER 41
 
+/*
+ * The bytes of a catalogue, a query and permits. docs/FORMAT.md says what they mean, with examples;
+ * tests/format.sh holds these numbers to it and to the definitions that the engine is proved by.
+ *
+ * A record is a byte of kind and a body, then its children. The comment gives the body and, after
+ * the slash, the children.
+ */
+#define WALDUMRE_KIND_RANGE 1      /* variable, relation */
+#define WALDUMRE_KIND_TRUE 16      /* */
+#define WALDUMRE_KIND_FALSE 17     /* */
+#define WALDUMRE_KIND_NOT 18       /* / condition */
+#define WALDUMRE_KIND_AND 19       /* / condition, condition */
+#define WALDUMRE_KIND_OR 20        /* / condition, condition */
+#define WALDUMRE_KIND_COMPARE 21   /* operator / term, term */
+#define WALDUMRE_KIND_SOME 22      /* variable, relation / condition */
+#define WALDUMRE_KIND_CONSTANT 32  /* 4 bytes, two's complement */
+#define WALDUMRE_KIND_ATTRIBUTE 33 /* variable, attribute */
+#define WALDUMRE_KIND_AGGREGATE 34 /* function, variable, relation, attribute / condition */
+#define WALDUMRE_KIND_STORED 48    /* attributes, rows (2 bytes) */
+#define WALDUMRE_KIND_WORKSPACE 49 /* attributes, rows (2 bytes) */
+#define WALDUMRE_KIND_PERMIT 64    /* relation, mask (2 bytes) / condition */
+
+/* Operators of a comparison: = <> < <= > >= */
+#define WALDUMRE_OP_EQ 1
+#define WALDUMRE_OP_NE 2
+#define WALDUMRE_OP_LT 3
+#define WALDUMRE_OP_LE 4
+#define WALDUMRE_OP_GT 5
+#define WALDUMRE_OP_GE 6
+
+/* Functions of an aggregate. AVE is exact in a comparison; as a target it is rounded to the nearer
+ * whole number, and from halfway to the one further from zero. Over no rows each is 0. */
+#define WALDUMRE_FN_COUNT 1
+#define WALDUMRE_FN_SUM 2
+#define WALDUMRE_FN_AVE 3
+#define WALDUMRE_FN_MAX 4
+#define WALDUMRE_FN_MIN 5
+
+/* Limits. QUERY ones are of waldumre_ask, PLAIN ones of waldumre_evaluate, the others of both. */
+#define WALDUMRE_MAX_RELATIONS 16
+#define WALDUMRE_MAX_ATTRIBUTES 16
+#define WALDUMRE_MAX_ROWS 1024
+#define WALDUMRE_MAX_PERMIT_LIST_BYTES 2048
+#define WALDUMRE_MAX_PERMITS 8
+#define WALDUMRE_MAX_PERMIT_BYTES 256
+#define WALDUMRE_MAX_PERMIT_LEVELS 16
+#define WALDUMRE_MAX_PERMIT_VARIABLES 3
+#define WALDUMRE_MAX_RANGES 4
+#define WALDUMRE_MAX_TARGETS 8
+#define WALDUMRE_MAX_QUERY_BYTES 1024
+#define WALDUMRE_MAX_QUERY_LEVELS 32
+#define WALDUMRE_MAX_QUERY_VARIABLES 8
+#define WALDUMRE_MAX_PLAIN_LEVELS 64
+#define WALDUMRE_MAX_PLAIN_VARIABLES 200
+
 /* The longest query that waldumre_evaluate takes and that waldumre_ask can write. */
 #define WALDUMRE_REWRITTEN_BYTES 17216
 
