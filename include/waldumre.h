@@ -8,15 +8,16 @@
  *   waldumre_ask       asks a query under a list of permits: only permitted rows are seen.
  *                      This is the call for queries that come from outside.
  *   waldumre_evaluate  answers a query over all rows, permits or not. It guards nothing: give it
- *                      only queries of your own, or ones that waldumre_ask has rewritten.
+ *                      only queries of your own, or ones that waldumre_ask has rewritten for you. It
+ *                      cannot tell whether bytes were rewritten: bytes from outside may only look so.
  *
  * Memory. The library allocates nothing, keeps no pointer after the call and has no global state.
  * All buffers are the caller's, before, during and after the call. Calls may run at once in several
  * threads, if nobody writes to an input and no two calls share an answer or rewritten buffer.
  *
  * What the caller owes (the library cannot check it; to break it is undefined behaviour):
- *   - Every pointer is valid for its length, counted in elements: bytes, int32_t, int64_t.
- *   - No pointer is NULL, also with length 0: then pass the address of any variable of its type.
+ *   - Every pointer is valid for its length, counted in elements: bytes, int32_t, int64_t. With
+ *     length 0 it may be NULL, as the data() of an empty C++ vector may be: it is not read.
  *   - values is aligned as an int32_t, answer as an int64_t. Plain C arrays and malloc see to that.
  *   - answer and rewritten overlap neither each other nor any input. Inputs may overlap.
  *   - All elements of answer and rewritten are initialised (to anything; zero will do).
@@ -24,7 +25,16 @@
  * The contents of the inputs are owed nothing: any bytes get an answer or a refusal.
  *
  * Time. There is no limit: up to four RANGE records of 1,024 rows each make 2 to the 40
- * assignments. A server that takes queries from outside bounds the time itself.
+ * assignments. A server that takes queries from outside sets a budget and leaves the call when it is
+ * spent: by siglongjmp out of a signal handler, or by ending the thread (asynchronous cancelling) or
+ * the process. The library may be left at any instruction: it holds no lock, no state and no memory
+ * but the caller's, so nothing leaks and later calls are not affected. After leaving:
+ *   - answer and rewritten hold anything, for as many elements as were lent. Do not read them, and
+ *     do not hand them on: there may be cells of an unfinished answer.
+ *   - there is no outcome. Treat the query as refused, with a number of your own.
+ *   - the moment of leaving depends on hidden rows too: see SECURITY.md before an asker can tell a
+ *     query that was left from one that was answered.
+ * examples/budget.c has a timer for each thread.
  */
 #ifndef WALDUMRE_H
 #define WALDUMRE_H
@@ -35,6 +45,14 @@
 #ifdef __cplusplus
 extern "C" {
 #endif
+
+/* The version of this header: text, parts, and one number to compare (10000 * major + 100 * minor +
+ * patch). Before 1.0.0 a new minor version may change calls; a new patch version never does. */
+#define WALDUMRE_VERSION "0.2.0"
+#define WALDUMRE_VERSION_MAJOR 0
+#define WALDUMRE_VERSION_MINOR 2
+#define WALDUMRE_VERSION_PATCH 0
+#define WALDUMRE_VERSION_NUMBER 200
 
 /*
  * Stack that a call may take, with margin. All memory beside the caller's buffers is there. Measured:
@@ -179,7 +197,8 @@ waldumre_outcome waldumre_evaluate(const uint8_t *catalogue, size_t catalogue_le
  *              permitted row. A condition of FALSE alone is NO ACCESS: it permits nothing and bars
  *              its attributes, whatever other permits say.
  *   rewritten  Gets the query with the guards put in, which waldumre_evaluate would answer the same.
- *              WALDUMRE_REWRITTEN_BYTES are always enough.
+ *              WALDUMRE_REWRITTEN_BYTES are always enough. It shows the permits' conditions: it is
+ *              for the host's log, not for the asker.
  *
  * Afterwards: accepted (0) or 41, the first length bytes of rewritten are the rewritten query, the
  * first rows * columns cells of answer are the answer, all else keeps its contents. At any other
