@@ -2,8 +2,11 @@
 # Builds the two programs into target/bench. LIBRARY=FILE takes another libwaldumre.a and skips its build.
 set -eu
 cd "$(dirname "$0")/.."
+. tools/need.sh
+need gcc
 mkdir -p target/bench
 if [[ -z ${LIBRARY:-} ]]; then
+  need rt
   rt staticlib waldumre >target/bench/library.log 2>&1 || { cat target/bench/library.log; exit 1; }
   LIBRARY=target/staticlib/libwaldumre.a
 fi

@@ -1,8 +1,9 @@
 /*
  * waldumre: a verified query engine over guarded relations.
  *
- * Link with libwaldumre.a (x86-64, System V calling convention; needs memcpy, memset and
- * their like, nothing else). All numbers in the byte formats are low byte first.
+ * Link with libwaldumre.a or libwaldumre.so (pkg-config waldumre; x86-64, System V calling
+ * convention; needs memcpy, memset and their like, nothing else). All numbers in the byte formats
+ * are low byte first; docs/FORMAT.md is the whole format.
  *
  * Two calls:
  *   waldumre_ask       asks a query under a list of permits: only permitted rows are seen.
@@ -211,6 +212,17 @@ waldumre_outcome waldumre_ask(const uint8_t *catalogue, size_t catalogue_length,
                               const uint8_t *query, size_t query_length,
                               uint8_t *rewritten, size_t rewritten_length,
                               int64_t *answer, size_t answer_length);
+
+/* The version of the library, as WALDUMRE_VERSION is that of the header. */
+const char *waldumre_version(void);
+
+/*
+ * A number in words, for logs: "accepted" for 0, and a text for each refusal, 53 of the label book
+ * too; any other number gets a text that says so. Never NULL, never freed. Unlike the two calls
+ * above these two are plain C of the package, not proved; they are in an installed library, not in
+ * target/staticlib.
+ */
+const char *waldumre_refusal_text(uint64_t number);
 
 #ifdef __cplusplus
 }

@@ -3,6 +3,8 @@
 # Then files that the kit cannot hold: a folder in a file's place, and files far over their limits.
 set -eu
 cd "$(dirname "$0")/.."
+. tools/need.sh
+need rt cargo
 ours=target/bin/program
 theirs=tests/target/release/program
 room=$(mktemp -d)

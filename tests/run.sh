@@ -3,6 +3,8 @@
 # Exits 0 if all pass. No network.
 set -eu
 cd "$(dirname "$0")/.."
+. tools/need.sh
+need rt cargo gcc g++ valgrind
 nice=(nice -n 5)
 
 # The source decides: once it exports waldumre_ask, all that is said of ask is tested; likewise the label book.
@@ -46,16 +48,9 @@ for call in "${calls[@]}"; do
   # an empty folder: the keeper of the relations has given no catalogue
   if "$out/label-$call" "$out/empty" 7 >"$out/refused"; then exit 1; fi
   echo "article 7: refused 10" | diff - "$out/refused"
-  if command -v valgrind >/dev/null; then
-    if valgrind --quiet --error-exitcode=9 --leak-check=full "$out/label-$call" examples/offers 7 8 -1 >/dev/null; then
-      echo "valgrind, $call: no errors"
-    else
-      echo "valgrind, $call: ERRORS"
-    fi
-  fi
+  valgrind --quiet --error-exitcode=9 --leak-check=full "$out/label-$call" examples/offers 7 8 -1 >/dev/null
+  echo "valgrind, $call: no errors"
 done
 # the headers are C++ too
-if command -v g++ >/dev/null; then
-  for header in include/*.h; do g++ -Wall -Wextra -Werror -Iinclude -fsyntax-only -x c++ "$header"; done
-fi
+for header in include/*.h; do g++ -Wall -Wextra -Werror -Iinclude -fsyntax-only -x c++ "$header"; done
 echo "tests: all passed"

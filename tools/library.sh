@@ -8,12 +8,7 @@ if [[ -n ${LIBRARY:-} ]]; then
   echo "$LIBRARY"
   exit 0
 fi
-library=target/staticlib/libwaldumre.a
-if [[ ! -e $library || -n $(find crates crates.txt -type f -newer "$library" -print -quit) ]]; then
-  . tools/need.sh
-  need rt
-  mkdir -p target
-  nice -n 5 rt staticlib waldumre >target/library.log 2>&1 || { cat target/library.log >&2; exit 1; }
-  touch "$library"
-fi
-echo "$library"
+. tools/need.sh
+need make rt
+make --silent target/staticlib/libwaldumre.a >&2
+echo target/staticlib/libwaldumre.a

@@ -1,0 +1,58 @@
+#!/usr/bin/env bash
+# Installs into a temporary folder, and builds the label server with pkg-config alone, against the shared and the static library.
+set -eu
+cd "$(dirname "$0")/.."
+. tools/need.sh
+need make gcc pkg-config man
+fail() { echo "install: $1"; exit 1; }
+room=$(mktemp -d)
+trap 'rm -rf "$room"' EXIT
+version=$(sed -n 's/^#define WALDUMRE_VERSION "\(.*\)"/\1/p' include/waldumre.h)
+abi=${version%.*}
+
+make --silent install PREFIX="$room/usr" >"$room/log" 2>&1 || { cat "$room/log"; exit 1; }
+export PKG_CONFIG_PATH=$room/usr/lib/pkgconfig
+strict=(gcc -std=c11 -O1 -g -Wall -Wextra -Wpedantic -Werror)
+# words on purpose: flags
+# shellcheck disable=SC2046
+for kind in shared static; do
+  flags=()
+  [[ $kind == shared ]] || flags=(-static)
+  "${strict[@]}" -DWALDUMRE_ASK tests/c/label.c "${flags[@]}" $(pkg-config --cflags --libs waldumre) -o "$room/label-$kind"
+  "${strict[@]}" tests/c/package.c "${flags[@]}" $(pkg-config --cflags --libs waldumre) -o "$room/package-$kind"
+  env LD_LIBRARY_PATH="$room/usr/lib" "$room/label-$kind" examples/offers 7 8 -1 | diff - tests/c/label.expected
+  env LD_LIBRARY_PATH="$room/usr/lib" "$room/package-$kind"
+done
+loaded() { readelf -d "$1" | sed -n 's/.*(NEEDED).*\[\(libwaldumre.*\)\]/\1/p'; }
+[[ $(loaded "$room/label-shared") == "libwaldumre.so.$abi" ]] || fail "the shared one loads '$(loaded "$room/label-shared")'"
+[[ -z $(loaded "$room/label-static") ]] || fail "the static one loads $(loaded "$room/label-static")"
+
+# the shared library has these functions and no others, no stack that can be run, and needs only the C library
+library=$room/usr/lib/libwaldumre.so
+nm -D --defined-only "$library" | awk '$2 == "T" {sub("@.*", "", $3); print $3}' |
+  diff - <(printf '%s\n' waldumre_ask waldumre_evaluate waldumre_refusal_text waldumre_version) || fail "these symbols differ"
+readelf -lW "$library" | grep -q 'GNU_STACK.* RWE ' && fail "the stack can be run"
+readelf -d "$library" | grep NEEDED | grep -v 'libc\.so' && fail "it needs more than the C library"
+
+# one version everywhere
+[[ $(pkg-config --modversion waldumre) == "$version" ]] || fail "pkg-config has another version"
+[[ $(sed -n 's/^## //p' CHANGELOG.md | head -n 1) == "$version" ]] || fail "CHANGELOG.md has another version"
+for page in 1 3; do
+  grep -q "\"waldumre $version\"" "man/waldumre.$page" || fail "waldumre($page) has another version"
+  said=$(man --warnings -l "$room/usr/share/man/man$page/waldumre.$page" 2>&1 >/dev/null)
+  [[ -z $said ]] || fail "waldumre($page): $said"
+done
+grep -q "WALDUMRE_$abi " package/waldumre.map || fail "package/waldumre.map has another version"
+
+# the program, on the example of its man page
+mkdir "$room/run"
+grep "printf '" man/waldumre.1 | sed 's/\\e/\\/g' >"$room/example"
+(cd "$room/run" && sh "$room/example" && "$room/usr/bin/waldumre") |
+  diff - <(printf 'rows 2\ncolumns 1\nquestion 9\n1 0 0 33 0 0 19 16 16\n5\n6\n') || fail "the man page's example"
+
+# below DESTDIR lie the same files, and nothing names the folder that they were built or staged in
+make --silent install PREFIX=/usr DESTDIR="$room/stage" >"$room/log" 2>&1 || { cat "$room/log"; exit 1; }
+diff <(cd "$room/usr" && find . | sort) <(cd "$room/stage/usr" && find . | sort) || fail "DESTDIR has other files"
+grep -q '^prefix=/usr$' "$room/stage/usr/lib/pkgconfig/waldumre.pc" || fail "the prefix is wrong"
+if grep -rlF -e "$room" -e "$PWD" "$room/stage"; then fail "these files name the folder"; fi
+echo "install: all passed"
