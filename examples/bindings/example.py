@@ -1,0 +1,27 @@
+"""The question of docs/FORMAT.md from Python.
+
+    example.py LIBRARY
+"""
+import sys
+
+from waldumre import AVE, EQ, LE, LT, TRUE, Collection, Refused, aggregate, attribute, both, compare, constant, each, permit, some
+
+shop = Collection(sys.argv[1])
+shop.stored(3, [(7, 1, 250), (7, 2, 900), (8, 1, 120), (8, 2, 120)])  # OFFER: article, brand, price
+shop.stored(2, [(1, 30), (2, 31)])                                    # SUPPLY: brand, buyer
+supplied = some(1, 1, both(compare(attribute(1, 0), EQ, attribute(0, 1)), compare(attribute(1, 1), EQ, constant(30))))
+permits = permit(0, 7, supplied)
+question = each(0, 0) + attribute(0, 0) + attribute(0, 2) + compare(attribute(0, 2), LE, aggregate(AVE, 1, 0, 2))
+
+answer = shop.ask(permits, question)
+print("buyer 30:", *answer.rows)
+print("rewritten:", *answer.rewritten)
+print("evaluated again:", *shop.evaluate(answer.rewritten).rows)
+print("over all rows:", *shop.evaluate(question).rows)
+print("no row:", *shop.ask(permits, each(0, 0) + attribute(0, 2) + compare(attribute(0, 2), LT, constant(0))).rows)
+short = shop.ask(permits, each(0, 0) + attribute(0, 2) + TRUE, cells=1)
+print("room for one row:", *short.rows, "complete" if short.complete else "and more")
+try:
+    shop.ask(b"", question)
+except Refused as refused:
+    print("without permits:", refused)
