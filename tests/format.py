@@ -14,7 +14,10 @@ import tempfile
 
 ROOT = os.path.dirname(os.path.dirname(os.path.abspath(__file__)))
 PAGE = open(os.path.join(ROOT, "docs/FORMAT.md"), encoding="utf-8").read()
-HEADER = dict(re.findall(r"^#define (WALDUMRE_\w+) +(\d+)\b", open(os.path.join(ROOT, "include/waldumre.h")).read(), re.M))
+HEADER = dict(
+    pair for name in glob.glob(os.path.join(ROOT, "include/*.h"))
+    for pair in re.findall(r"^#define (WALDUMRE_\w+) +(\d+)\b", open(name).read(), re.M)
+)
 SPECS = "\n".join(
     re.sub(r"--.*", "", open(name, encoding="utf-8").read())
     for crate in ("model", "output")
@@ -199,6 +202,22 @@ def display():
         same(f"display of {cents}", bytes(map(int, shown.split())), f"{euros:>4}.{rest:02}".encode())
 
 
+def book():
+    """The label book's numbers, where its definitions are in the model."""
+    if "pub fails53 :" not in SPECS:
+        return
+    labels, cents = read("inRange", r"upTo (\d+) \(r \.label\).*upTo (\d+) \(r \.price\)")
+    columns, offers, shown = read("fits", r"columns (\d+) &&.*offers\)\) (\d+) &&.*display\)\) (\d+)")
+    refused = read("bookAfter", r"refuse (\d+)")
+    width, blank = read("noEntry", r"replicate (\d+) (\d+)")
+    same("the book's ranges", re.findall(r"label outside 0 to (\d+).*price outside 0 to ([\d,]+)", PAGE), [(str(labels), f"{cents:,}")])
+    same("the book's size", re.findall(r"book is not lent as (\d+) cells and ([\d,]+) bytes", PAGE), [(str(offers), f"{shown:,}")])
+    same("the book's refusal", re.findall(r"Then\s+\*\*(\d+)\*\*", PAGE), [str(refused)])
+    same("a label without offer", (7, 32), (width, blank))
+    same("the book's targets", "another number of targets than three" in PAGE, columns == 3)
+    same("the book's labels", f"{offers} shelf labels" in PAGE, True)
+
+
 def cases():
     """The examples: each a dictionary of the files' numbers, and what is printed."""
     for block in re.findall(r"```case\n(.*?)```", PAGE, re.S):
@@ -241,6 +260,7 @@ def main():
         limits()
         every_constant()
         display()
+        book()
         byte_by_byte()
         count = 0
         for files, printed in cases():

@@ -43,6 +43,9 @@ for page in 1 3; do
   [[ -z $said ]] || fail "waldumre($page): $said"
 done
 grep -q "WALDUMRE_$abi " package/waldumre.map || fail "package/waldumre.map has another version"
+for page in README.md examples/bindings/waldumre.py; do
+  grep -q "libwaldumre\.so\.$abi\b" "$page" || fail "$page names another version"
+done
 
 # the program, on the example of its man page
 mkdir "$room/run"

@@ -4,5 +4,5 @@ need() {
   for tool in "$@"; do
     command -v "$tool" >/dev/null 2>&1 || missing="$missing $tool"
   done
-  [ -z "$missing" ] || { echo "${0##*/}: not installed:$missing (README.md names the Debian packages)" >&2; exit 2; }
+  [ -z "$missing" ] || { echo "${0##*/}: not installed:$missing (README.md, Install, names the packages)" >&2; exit 2; }
 }
