@@ -65,10 +65,10 @@ install: all
 	  ln -sf lib$$name.so.$(VERSION) $(to)/lib/lib$$name.so.$(ABI) && \
 	  ln -sf lib$$name.so.$(ABI) $(to)/lib/lib$$name.so && \
 	  sed 's|@PREFIX@|$(PREFIX)|; s|@VERSION@|$(VERSION)|' package/$$name.pc.in >$(out)/$$name.pc && \
-	  $(INSTALL) -m 644 $(out)/$$name.pc $(to)/lib/pkgconfig || exit 1; \
+	  $(INSTALL) -m 644 $(out)/$$name.pc $(to)/lib/pkgconfig && \
+	  $(INSTALL) -m 644 man/$$name.3 $(to)/share/man/man3 || exit 1; \
 	done
 	$(INSTALL) -m 644 man/waldumre.1 $(to)/share/man/man1
-	$(INSTALL) -m 644 man/waldumre.3 $(to)/share/man/man3
 	$(INSTALL) -m 644 README.md SECURITY.md CHANGELOG.md LICENSE docs/FORMAT.md $(to)/share/doc/waldumre
 
 clean:

@@ -27,22 +27,27 @@ loaded() { readelf -d "$1" | sed -n 's/.*(NEEDED).*\[\(libwaldumre.*\)\]/\1/p'; 
 [[ $(loaded "$room/label-shared") == "libwaldumre.so.$abi" ]] || fail "the shared one loads '$(loaded "$room/label-shared")'"
 [[ -z $(loaded "$room/label-static") ]] || fail "the static one loads $(loaded "$room/label-static")"
 
-# the shared library has these functions and no others, no stack that can be run, and needs only the C library
-library=$room/usr/lib/libwaldumre.so
-nm -D --defined-only "$library" | awk '$2 == "T" {sub("@.*", "", $3); print $3}' |
-  diff - <(printf '%s\n' waldumre_ask waldumre_evaluate waldumre_refusal_text waldumre_version) || fail "these symbols differ"
-readelf -lW "$library" | grep -q 'GNU_STACK.* RWE ' && fail "the stack can be run"
-readelf -d "$library" | grep NEEDED | grep -v 'libc\.so' && fail "it needs more than the C library"
+# a shared library has the functions of its header and no others, no stack that can be run, and needs only the C library
+libraries=(waldumre)
+if [[ -e crates/waldumre_book ]]; then libraries+=(waldumre_book); fi
+for name in "${libraries[@]}"; do
+  library=$room/usr/lib/lib$name.so
+  nm -D --defined-only "$library" | awk '$2 == "T" {sub("@.*", "", $3); print $3}' |
+    diff - <(grep -oE '\bwaldumre_[a-z_]+\(' "include/$name.h" | tr -d '(' | sort -u) || fail "$name: these symbols differ"
+  readelf -lW "$library" | grep -q 'GNU_STACK.* RWE ' && fail "$name: the stack can be run"
+  readelf -d "$library" | grep NEEDED | grep -v 'libc\.so' && fail "$name needs more than the C library"
+  [[ $(pkg-config --modversion "$name") == "$version" ]] || fail "pkg-config has another version of $name"
+  grep -q "_$abi " "package/$name.map" || fail "package/$name.map has another version"
+done
 
 # one version everywhere
-[[ $(pkg-config --modversion waldumre) == "$version" ]] || fail "pkg-config has another version"
 [[ $(sed -n 's/^## //p' CHANGELOG.md | head -n 1) == "$version" ]] || fail "CHANGELOG.md has another version"
-for page in 1 3; do
-  grep -q "\"waldumre $version\"" "man/waldumre.$page" || fail "waldumre($page) has another version"
-  said=$(man --warnings -l "$room/usr/share/man/man$page/waldumre.$page" 2>&1 >/dev/null)
-  [[ -z $said ]] || fail "waldumre($page): $said"
+for page in man/*; do
+  grep -q "\"waldumre $version\"" "$page" || fail "$page has another version"
+  said=$(man --warnings -l "$page" 2>&1 >/dev/null)
+  [[ -z $said ]] || fail "$page: $said"
 done
-grep -q "WALDUMRE_$abi " package/waldumre.map || fail "package/waldumre.map has another version"
+[[ -e $room/usr/share/man/man1/waldumre.1 && -e $room/usr/share/man/man3/waldumre.3 ]] || fail "the man pages are not there"
 for page in README.md examples/bindings/waldumre.py; do
   grep -q "libwaldumre\.so\.$abi\b" "$page" || fail "$page names another version"
 done
