@@ -11,14 +11,15 @@
  * refusals 10 to 41 mean, and what order the rows have.
  *
  * Memory, threads, time and what the caller owes are as waldumre.h says, here of four buffers:
- *   - Every pointer is valid for its length, counted in elements: bytes, int32_t, int64_t.
- *   - No pointer is NULL, also with length 0: then pass the address of any variable of its type.
+ *   - Every pointer is valid for its length, counted in elements: bytes, int32_t, int64_t. With
+ *     length 0 it may be NULL: it is not read.
  *   - values is aligned as an int32_t, answer and offers as an int64_t.
  *   - rewritten, answer, offers and display overlap neither each other nor any input. Inputs may
  *     overlap. Calls that run at once share none of the four.
  *   - All elements of the four are initialised (to anything; zero will do).
  *   - WALDUMRE_STACK_BYTES of free stack in the calling thread.
- * To break one of these is undefined behaviour. The contents of the inputs are owed nothing, and
+ * A call that is left before its end (waldumre.h, Time) leaves anything in the four buffers, a book
+ * half written too. To break one of the points above is undefined behaviour. The contents of the inputs are owed nothing, and
  * neither are the lengths of the buffers: any of them get a book or a refusal.
  */
 #ifndef WALDUMRE_BOOK_H
