@@ -341,6 +341,29 @@ static void hidden(void)
     drop(b);
 }
 
+/* NULL with length 0: a book of no length is 53, buffers of none are 40 and 41. */
+static void nulls(void)
+{
+    const uint8_t catalogue[] = {48, 3, 1, 0}, permits[] = {64, 0, 255, 255, 16};
+    const uint8_t query[] = {1, 0, 0, 33, 0, 0, 33, 0, 1, 33, 0, 2, 16};
+    const int32_t values[] = {3, 11, 249};
+    for (unsigned set = 0; set < 16; set++) {
+        int w = set & 1, a = set >> 1 & 1, o = set >> 2 & 1, d = set >> 3 & 1;
+        uint8_t rewritten[15] = {0}, display[WALDUMRE_BOOK_BYTES] = {0};
+        int64_t answer[3] = {0}, offers[WALDUMRE_LABELS] = {0};
+        waldumre_outcome r = waldumre_label_book(
+            catalogue, sizeof catalogue, values, 3, permits, sizeof permits, query, sizeof query,
+            w ? NULL : rewritten, w ? 0 : sizeof rewritten, a ? NULL : answer, a ? 0 : 3,
+            o ? NULL : offers, o ? 0 : WALDUMRE_LABELS, d ? NULL : display, d ? 0 : sizeof display);
+        uint64_t number = w ? 40 : a ? 41 : o || d ? 53 : 0;
+        cases++;
+        if (r.number != number) {
+            printf("book: NULL set %x gives %d, not %d\n", set, (int)r.number, (int)number);
+            failures++;
+        }
+    }
+}
+
 static uint32_t draw(uint32_t below)
 {
     static uint32_t state = 2463534242u;
@@ -387,6 +410,7 @@ int main(void)
     ranges();
     lengths();
     hidden();
+    nulls();
     drawn();
     printf("book: %d cases, %d failures\n", cases, failures);
     return failures != 0;
