@@ -7,9 +7,9 @@ use native.Mathlib.Omega.{arith}
 use lib.Dec.{leb}
 use lib.IntN.{ℤ}
 use lib.ListN.{length, take, drop}
-use lib.Seq.{take-at}
+use lib.Seq.{take-at, take-length}
 use borrow.Author.Tests.{leb-true, leb-false, le-leb, lt-leb}
-use Rattle.model.specs.Lists.{concatMap, Every}
+use Rattle.model.specs.Lists.{any, concatMap, contains, Every}
 use Rattle.model.specs.Syntax.{Condition, Term, Binding, Query, Permit, WellFormedPs, bindingsQ}
 use Rattle.model.specs.Encoding.{encodeQuery, encodePermits, ok, queryOf, permitsOf, permitsRead}
 use Rattle.model.specs.Meaning.{Tuple, answers}
@@ -18,13 +18,13 @@ use Rattle.model.specs.Permits.{usedOf, Guards, guardsOf, permitted, cut
 use Rattle.model.specs.Rewriting.{rewriteT, newFor, rewriteTargets, rewriteQuery}
 use Rattle.model.specs.Checks.{Check, plainLimits, keeperChecks, permitChecks, queryChecks, guardChecks, shapeChecks, askChecks, evaluateChecks, refusal}
 use Rattle.model.specs.Calls.{Answer, Outcome, refuse, fitting, give, evaluateUnless, evaluate, askUnless, ask}
-use Rattle.model.specs.Demands.{guardsIn, rewrittenOf, rowsOf, columnsOf, fails, Ground, Passes, Demand1, Demand2, Kept, permittedCut, Demand3}
+use Rattle.model.specs.Demands.{guardsIn, rewrittenOf, rowsOf, columnsOf, askNumbers, evaluateNumbers, fails, Ground, Passes, Demand1, Demand2, Kept, permittedCut, Demand3}
 use Rattle.model.proofs.Tests.{clash}
-use Rattle.model.proofs.ReadingQueries.{query-inverse, read-query, permits-inverse}
+use Rattle.model.proofs.ReadingQueries.{query-inverse, read-query, permits-inverse, read-permits}
 use Rattle.model.proofs.Sizes.{size-query}
 use Rattle.model.proofs.Permitted.{rewritten-answers}
 use Rattle.model.proofs.NonInterference.{SameCut, non-interference}
-use Rattle.model.proofs.Grounds.{Rising, refusal-ground, ground-refusal, refusal-passes, passes-refusal, fails-high, ground-positive, refusal-skip, refusal-first}
+use Rattle.model.proofs.Grounds.{Rising, fails-low, refusal-listed, refusal-ground, ground-refusal, refusal-passes, passes-refusal, fails-high, ground-positive, refusal-skip, refusal-first}
 use Rattle.model.proofs.Passed.{narrow, slim, sound}
 use Rattle.model.proofs.Accepted.{scope, sane, query-again, bounds, accepted}
 
@@ -42,10 +42,26 @@ module _ (cb : List ℕ) (vs : List ℤ) (pb qb : List ℕ) (room : ℕ) where
   unfolding Every askChecks keeperChecks shapeChecks permitChecks queryChecks guardChecks
   ask-below = (omega arith, (omega arith, (omega arith, (omega arith, (omega arith, (omega arith, (omega arith, (omega arith, (omega arith, (omega arith, (omega arith, tt)))))))))))
 
+  ask-listed : contains (refusal (askChecks cb vs pb qb room)) askNumbers ≡ true
+  unfolding askChecks keeperChecks shapeChecks permitChecks queryChecks guardChecks
+  ask-listed = refusal-listed (askChecks cb vs pb qb room) (41 ∷ [])
+
 module _ (cb : List ℕ) (vs : List ℤ) (qb : List ℕ) where
   evaluate-rising : Rising 0 (evaluateChecks cb vs qb)
   unfolding Rising evaluateChecks keeperChecks queryChecks
   evaluate-rising = (omega arith, (omega arith, (omega arith, (omega arith, (omega arith, tt)))))
+
+  evaluate-numbers : Every (λ c. 1 ≤ c .1) (evaluateChecks cb vs qb)
+  unfolding Every evaluateChecks keeperChecks queryChecks
+  evaluate-numbers = (omega arith, (omega arith, (omega arith, (omega arith, (omega arith, tt)))))
+
+  evaluate-below : Every (λ c. c .1 < 41) (evaluateChecks cb vs qb)
+  unfolding Every evaluateChecks keeperChecks queryChecks
+  evaluate-below = (omega arith, (omega arith, (omega arith, (omega arith, (omega arith, tt)))))
+
+  evaluate-listed : contains (refusal (evaluateChecks cb vs qb)) evaluateNumbers ≡ true
+  unfolding evaluateChecks keeperChecks queryChecks
+  evaluate-listed = refusal-listed (evaluateChecks cb vs qb) (41 ∷ [])
 
 rewritten-length : (G : Guards) (ts : List Term) (n : ℕ) → length (rewriteTargets G ts n) ≡ length ts
 unfolding rewriteTargets
@@ -80,6 +96,28 @@ give-shorted k rows cells h =
     let e : min (length rows) (length cells / k) ≡ length cells / k = omega arith in
     rw (lt-leb (length rows) (length cells / k) h, e)
 
+give-accepted : (k : ℕ) (rows : List (List ℤ)) (cells : List ℤ) → give k rows cells .number ≡ 0
+    → give k rows cells ≡ record { number = 0; rows = length rows; columns = k; cells = concatMap (λ r. r) rows ++ drop (length rows * k) cells }
+unfolding give
+give-accepted k rows cells e = go (leb (length rows) (length cells / k)) refl e
+  where
+    go : (t : Bool) → leb (length rows) (length cells / k) ≡ t → _≡_ {A = ℕ} (cond t 0 41) 0
+        → give k rows cells ≡ record { number = 0; rows = length rows; columns = k; cells = concatMap (λ r. r) rows ++ drop (length rows * k) cells }
+    go false f e = absurd (omega arith)
+    go true f e =
+        let h = leb-true (length rows) (length cells / k) f in
+        let m : min (length rows) (length cells / k) ≡ length rows = omega arith in
+        rw (f, m, take-length)
+
+-- 0 or 41 is given, and both are among these numbers
+give-numbered : (k : ℕ) (rows : List (List ℤ)) (cells : List ℤ) (ns : List ℕ) → contains 0 ns ≡ true → contains 41 ns ≡ true → contains (give k rows cells .number) ns ≡ true
+unfolding give
+give-numbered k rows cells ns a b = go (leb (length rows) (length cells / k))
+  where
+    go : (t : Bool) → contains (cond t 0 41) ns ≡ true
+    go true = a
+    go false = b
+
 -- the guarded call
 module _ (cb : List ℕ) (vs : List ℤ) (pb qb rewritten : List ℕ) (cells : List ℤ) where
   abbrev checks : List Check
@@ -109,6 +147,31 @@ module _ (cb : List ℕ) (vs : List ℤ) (pb qb rewritten : List ℕ) (cells : L
   refusal-number : (n : ℕ) → refusal checks ≡ n → 1 ≤ n → ask cb vs pb qb rewritten cells ≡ record { answer = refuse n cells; count = 0; rewritten = rewritten }
   refusal-number zero f a = absurd (omega arith)
   refusal-number (suc m) f a = refused m f
+
+  numbered : (ns : List ℕ) → contains 0 ns ≡ true → contains 41 ns ≡ true → contains (refusal checks) ns ≡ true → contains (ask cb vs pb qb rewritten cells .answer .number) ns ≡ true
+  numbered ns a b h = go (refusal checks) refl
+    where
+      go : (m : ℕ) → refusal checks ≡ m → contains (ask cb vs pb qb rewritten cells .answer .number) ns ≡ true
+      go zero f = rw (given f) (give-numbered (columnsOf qb) (rowsOf cb vs p) cells ns a b)
+      go (suc m) f = rw (refused m f) (rw f at h)
+
+  accepted-passes : ask cb vs pb qb rewritten cells .answer .number ≡ 0 → refusal checks ≡ 0
+  accepted-passes e = go (refusal checks) refl
+    where
+      go : (m : ℕ) → refusal checks ≡ m → m ≡ 0
+      go zero f = refl
+      go (suc m) f = ap (λ (o : Outcome). o .answer .number) (sym (refused m f)) ∙ e
+
+  accepted-answer : ask cb vs pb qb rewritten cells .answer .number ≡ 0
+      → ask cb vs pb qb rewritten cells
+      ≡ record {
+        answer = record { number = 0; rows = length (rowsOf cb vs p); columns = columnsOf qb; cells = concatMap (λ r. r) (rowsOf cb vs p) ++ drop (length (rowsOf cb vs p) * columnsOf qb) cells };
+        count = length bs;
+        rewritten = bs ++ drop (length bs) rewritten;
+      }
+  accepted-answer e =
+      let g = given (accepted-passes e) in
+      g ∙ ap (λ (a : Answer). record { answer = a; count = length bs; rewritten = bs ++ drop (length bs) rewritten }) (give-accepted (columnsOf qb) (rowsOf cb vs p) cells (ap (λ (o : Outcome). o .answer .number) (sym g) ∙ e))
 
   short-passes : ask cb vs pb qb rewritten cells .answer .number ≡ 41 → refusal checks ≡ 0
   short-passes e = go (refusal checks) refl
@@ -149,8 +212,41 @@ module _ (cb : List ℕ) (vs : List ℤ) (qb : List ℕ) (cells : List ℤ) wher
       go zero f = absurd (give-number (columnsOf qb) (rowsOf cb vs (queryOf qb)) cells n (ap (λ (o : Answer). o .number) (sym (plain-given f)) ∙ e) a b)
       go (suc m) f = ap (λ (o : Answer). o .number) (sym (plain-refused (suc m) f (omega arith))) ∙ e
 
+  plain-numbered : (ns : List ℕ) → contains 0 ns ≡ true → contains 41 ns ≡ true → contains (refusal (evaluateChecks cb vs qb)) ns ≡ true → contains (evaluate cb vs qb cells .number) ns ≡ true
+  plain-numbered ns a b h = go (refusal (evaluateChecks cb vs qb)) refl
+    where
+      go : (m : ℕ) → refusal (evaluateChecks cb vs qb) ≡ m → contains (evaluate cb vs qb cells .number) ns ≡ true
+      go zero f = rw (plain-given f) (give-numbered (columnsOf qb) (rowsOf cb vs (queryOf qb)) cells ns a b)
+      go (suc m) f = rw (plain-refused (suc m) f (omega arith)) (rw f at h)
+
+  -- 0 and 41 are no check's number
+  plain-passes : (n : ℕ) → fails (evaluateChecks cb vs qb) n ≡ false → evaluate cb vs qb cells .number ≡ n → refusal (evaluateChecks cb vs qb) ≡ 0
+  plain-passes n k e = go (refusal (evaluateChecks cb vs qb)) refl
+    where
+      go : (m : ℕ) → refusal (evaluateChecks cb vs qb) ≡ m → m ≡ 0
+      go zero f = refl
+      go (suc m) f =
+          let z : suc m ≡ n = ap (λ (a : Answer). a .number) (sym (plain-refused (suc m) f (omega arith))) ∙ e in
+          let g = refusal-ground 0 n (evaluateChecks cb vs qb) (evaluate-rising cb vs qb) (f ∙ z) (omega arith) in
+          clash (sym k ∙ g .failing)
+
+  plain-short-passes : evaluate cb vs qb cells .number ≡ 41 → refusal (evaluateChecks cb vs qb) ≡ 0
+  plain-short-passes e = plain-passes 41 (fails-high 41 (evaluateChecks cb vs qb) (evaluate-below cb vs qb)) e
+
+  plain-short-rows : evaluate cb vs qb cells .number ≡ 41 → length cells / columnsOf qb < length (rowsOf cb vs (queryOf qb))
+  plain-short-rows e = give-short (columnsOf qb) (rowsOf cb vs (queryOf qb)) cells (ap (λ (a : Answer). a .number) (sym (plain-given (plain-short-passes e))) ∙ e)
+
+  plain-accepted : evaluate cb vs qb cells .number ≡ 0
+      → evaluate cb vs qb cells
+      ≡ record { number = 0; rows = length (rowsOf cb vs (queryOf qb)); columns = columnsOf qb; cells = concatMap (λ r. r) (rowsOf cb vs (queryOf qb)) ++ drop (length (rowsOf cb vs (queryOf qb)) * columnsOf qb) cells }
+  plain-accepted e =
+      let g = plain-given (plain-passes 0 (fails-low 0 0 (evaluateChecks cb vs qb) (evaluate-rising cb vs qb) (omega arith)) e) in
+      g ∙ give-accepted (columnsOf qb) (rowsOf cb vs (queryOf qb)) cells (ap (λ (a : Answer). a .number) (sym g) ∙ e)
+
 pub demand-1 : Demand1
+unfolding contains any
 demand-1 = record {
+  numbered = λ cb vs pb qb rewritten cells. numbered cb vs pb qb rewritten cells askNumbers refl refl (ask-listed cb vs pb qb (length rewritten));
   untouched = λ cb vs pb qb rewritten cells n e a b. refusal-number cb vs pb qb rewritten cells n (number-refusal cb vs pb qb rewritten cells n e a b) a;
   ground = λ cb vs pb qb rewritten cells n e a b. refusal-ground 0 n (askChecks cb vs pb qb (length rewritten)) (ask-rising cb vs pb qb (length rewritten)) (number-refusal cb vs pb qb rewritten cells n e a b) a;
   grounded = λ cb vs pb qb rewritten cells n g.
@@ -165,6 +261,10 @@ demand-1 = record {
   plain-grounded = λ cb vs qb cells n g.
       let r = evaluate-rising cb vs qb in
       ap (λ (a : Answer). a .number) (plain-refused cb vs qb cells n (ground-refusal 0 n (evaluateChecks cb vs qb) r g) (ground-positive (evaluateChecks cb vs qb) r n g));
+  plain-numbered = λ cb vs qb cells. plain-numbered cb vs qb cells evaluateNumbers refl refl (evaluate-listed cb vs qb);
+  plain-short = λ cb vs qb cells e. (refusal-passes (evaluateChecks cb vs qb) (evaluate-numbers cb vs qb) (plain-short-passes cb vs qb cells e), plain-short-rows cb vs qb cells e);
+  plain-shorted = λ cb vs qb cells h l. ap (λ (a : Answer). a .number) (plain-given cb vs qb cells (passes-refusal (evaluateChecks cb vs qb) h) ∙ give-shorted (columnsOf qb) (rowsOf cb vs (queryOf qb)) cells l);
+  plain-short-answer = λ cb vs qb cells e. plain-given cb vs qb cells (plain-short-passes cb vs qb cells e) ∙ give-shorted (columnsOf qb) (rowsOf cb vs (queryOf qb)) cells (plain-short-rows cb vs qb cells e);
 }
 
 -- 10 and 11 aside
@@ -224,15 +324,23 @@ permit-list : (bs : List ℕ) (ps : List Permit) (r : List ℕ) → permitsRead 
 unfolding permitsRead
 permit-list bs ps r e = permits-inverse (suc (length bs)) bs ps r e
 
+list-permit : (ps : List Permit) → WellFormedPs ps → permitsRead (encodePermits ps) ≡ ok ps []
+unfolding permitsRead
+list-permit ps w = read-permits ps (suc (length (encodePermits ps))) w (omega arith)
+
 pub demand-2 : Demand2
 demand-2 = record {
   query-bytes = λ bs q r e. let i = query-inverse bs q r e in (i .bytes, i .well, i .whole);
   bytes-query = λ q w. read-query q w;
   permit-bytes = permit-list;
+  bytes-permit = list-permit;
+  accepted = λ cb vs pb qb rewritten cells e. accepted-answer cb vs pb qb rewritten cells e;
   rewriting = λ cb vs pb qb rewritten cells h. given cb vs pb qb rewritten cells (passes-refusal (askChecks cb vs pb qb (length rewritten)) h);
-  permitted-rows = λ cb vs pb qb rewritten h. over-permitted cb vs pb qb rewritten (passes-refusal (askChecks cb vs pb qb (length rewritten)) h);
+  permitted-rows = λ cb vs pb qb rewritten cells h. over-permitted cb vs pb qb rewritten (passes-refusal (askChecks cb vs pb qb (length rewritten)) h);
   again = λ cb vs pb qb rewritten cells h. evaluated-again cb vs pb qb rewritten (passes-refusal (askChecks cb vs pb qb (length rewritten)) h) cells;
   bounded = λ cb vs pb qb rewritten cells. bounded cb vs pb qb rewritten cells;
+  plain-accepted = λ cb vs qb cells e. plain-accepted cb vs qb cells e;
+  evaluating = λ cb vs qb cells h. plain-given cb vs qb cells (passes-refusal (evaluateChecks cb vs qb) h);
 }
 
 pub demand-3 : Demand3

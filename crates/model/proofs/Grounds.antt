@@ -1,22 +1,22 @@
 -- Checks in the order of their numbers: the number of the first that fails is the one with its exact ground.
 use Prim.Native.Nat.{ℕ, zero, suc, _<_, _≤_}
 use mathlib.Core.Bool.{Bool, true, false, cond, _&&_, _||_}
-use mathlib.Core.List.{List, [], _∷_, _++_}
+use mathlib.Core.List.{List, [], _∷_, _++_, map}
 use mathlib.Core.Path.{_≡_, refl, sym, _∙_, ap}
 use native.Mathlib.Omega.{arith}
 use lib.Dec.{eqb, ltb}
 use borrow.Author.Tests.{eq-eqb, ne-eqb, eqb-true, eqb-false, ltb-true, ltb-false}
-use Rattle.model.specs.Lists.{any, Every}
+use Rattle.model.specs.Lists.{any, contains, Every}
 use Rattle.model.specs.Checks.{Check, refusal}
 use Rattle.model.specs.Demands.{fails, Ground, Passes}
-use Rattle.model.proofs.Tests.{clash, or-inv, or-no, and-inv}
+use Rattle.model.proofs.Tests.{clash, or-inv, or-no, or-left, or-right, and-inv}
 
 -- the numbers rise, all above m
 unfoldable pub Rising : ℕ → List Check → Type 0
 Rising m [] = Unit
 Rising m (c ∷ cs) = (m < c .1) × Rising (c .1) cs
 
-fails-low : (m k : ℕ) (cs : List Check) → Rising m cs → k ≤ m → fails cs k ≡ false
+pub fails-low : (m k : ℕ) (cs : List Check) → Rising m cs → k ≤ m → fails cs k ≡ false
 unfolding Rising fails any
 fails-low m k [] r h = refl
 fails-low m k (c ∷ cs) r h = and-other (c .0) (eqb (c .1) k) (ne-eqb (c .1) k (λ e. omega (arith, r .0))) (fails-low (c .1) k cs (r .1) (omega (arith, r .0)))
@@ -48,6 +48,19 @@ refusal-ground m n (c ∷ cs) r e h = go (c .0) refl (λ e. refusal-ground (c .1
           failing = fails-cons (c .0) (c .1) n cs ∙ rw p (i .failing);
           lower = λ j l. fails-cons (c .0) (c .1) j cs ∙ rw p (i .lower j l);
         }
+
+-- the number is 0 or that of a check
+pub refusal-listed : (cs : List Check) (ns : List ℕ) → contains (refusal cs) (0 ∷ (map (λ (c : Check). c .1) cs ++ ns)) ≡ true
+unfolding refusal contains any
+refusal-listed [] ns = refl
+refusal-listed (c ∷ cs) ns = go (c .0) (refusal-listed cs ns)
+  where
+    rest : List ℕ
+    rest = map (λ (c : Check). c .1) cs ++ ns
+
+    go : (b : Bool) → contains (refusal cs) (0 ∷ rest) ≡ true → contains (cond b (c .1) (refusal cs)) (0 ∷ c .1 ∷ rest) ≡ true
+    go true h = or-right (eqb (c .1) 0) _ (or-left (eqb (c .1) (c .1)) (contains (c .1) rest) (eq-eqb (c .1) (c .1) refl))
+    go false h = or-inv (eqb (refusal cs) 0) (contains (refusal cs) rest) h (λ e. or-left (eqb (refusal cs) 0) _ e) (λ e. or-right (eqb (refusal cs) 0) _ (or-right (eqb (refusal cs) (c .1)) (contains (refusal cs) rest) e))
 
 none-fails : (n : ℕ) → fails [] n ≡ true → false ≡ true
 unfolding fails any

@@ -7,11 +7,11 @@ use native.Mathlib.Omega.{arith}
 use lib.Dec.{eqb, leb}
 use lib.ListN.{length}
 use borrow.Author.Tests.{eqb-true, leb-true, le-leb}
-use Rattle.model.specs.Syntax.{Condition, Term, TRUE, FALSE, NOT, AND, OR, COMPARE, SOME, CONSTANT, ATTRIBUTE, AGGREGATE, Binding, Query, Permit, WellFormed, WellFormedT, Targets, WellFormedQ, WellFormedPs}
+use Rattle.model.specs.Syntax.{Condition, Term, TRUE, FALSE, NOT, AND, OR, COMPARE, SOME, CONSTANT, ATTRIBUTE, AGGREGATE, Binding, Query, Permit, WellFormed, WellFormedT, Targets, WellFormedQ, WellFormedPs, levels}
 use Rattle.model.specs.Encoding.{encode, encodeT, encodeTargets, encodeRanges, encodeQuery, encodePermit, encodePermits, Read, fail, ok, then, byte, need, readCondition, readTerm, startsRange, startsTarget, readRanges, readTargets, atEnd, readQuery, readPermit, readPermits, permitsRead}
 use Rattle.model.proofs.Tests.{clash}
 use Rattle.model.proofs.Reading.{IsC, IsT, never, then-inv, byte-inv, need-inv, read-encode, read-encodeT, read-inverse, read-inverseT}
-use Rattle.model.proofs.Sizes.{size, sizeT, sizeTs, sizeQ, levels-size, levels-sizeT, size-query}
+use Rattle.model.proofs.Sizes.{size, sizeT, sizeTs, sizeQ, size-encode, levels-size, levels-sizeT, size-query}
 
 pub no-target : (c : Condition) (r : List ℕ) → startsTarget (encode c r) ≡ false
 unfolding encode startsTarget
@@ -64,6 +64,24 @@ read-query q w =
       le-leb 1 (length (q .targets)) (w .some-target),
       read-encode (q .condition) (suc (length (encodeQuery q))) [] (w .condition) (omega arith),
     )
+
+read-permit : (p : Permit) (n : ℕ) (r : List ℕ) → WellFormed (p .condition) → levels (p .condition) ≤ n → readPermit n (encodePermit p r) ≡ ok p r
+unfolding readPermit encodePermit
+read-permit p n r w h = rw (read-encode (p .condition) n r w h)
+
+pub read-permits : (ps : List Permit) (n : ℕ) → WellFormedPs ps → length (encodePermits ps) < n → readPermits n (encodePermits ps) ≡ ok ps []
+unfolding readPermits encodePermits encodePermit WellFormedPs
+read-permits ps zero w h = absurd (omega arith)
+read-permits [] (suc n) w h = refl
+read-permits (p ∷ ps) (suc n) w h =
+    let l = long p (encodePermits ps) in
+    more p ps n (read-permit p n (encodePermits ps) (w .0) (omega (arith, l, levels-size (p .condition)))) (read-permits ps n (w .1) (omega (arith, l)))
+  where
+    long : (p : Permit) (r : List ℕ) → length (encodePermit p r) ≡ 4 + size (p .condition) + length r
+    long p r = omega (arith, size-encode (p .condition) r)
+
+    more : (p : Permit) (ps : List Permit) (n : ℕ) → readPermit n (encodePermit p (encodePermits ps)) ≡ ok p (encodePermits ps) → readPermits n (encodePermits ps) ≡ ok ps [] → readPermits (suc n) (encodePermit p (encodePermits ps)) ≡ ok (p ∷ ps) []
+    more p ps n e f = rw (e, f)
 
 ok-inj : {A : Type 0} {a b : A} {r s : List ℕ} → ok a r ≡ ok b s → a ≡ b
 ok-inj h = cc

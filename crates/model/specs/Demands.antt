@@ -6,7 +6,7 @@ use mathlib.Core.Path.{_≡_}
 use lib.Dec.{eqb}
 use lib.IntN.{ℤ, pos}
 use lib.ListN.{length, take, drop, getD}
-use Rattle.model.specs.Lists.{any, all, concatMap, Every}
+use Rattle.model.specs.Lists.{any, all, concatMap, contains, Every}
 use Rattle.model.specs.Syntax.{Condition, Term, TRUE, FALSE, NOT, AND, OR, COMPARE, SOME, CONSTANT, ATTRIBUTE, AGGREGATE, Binding, Query, Permit, WellFormedQ, WellFormedPs, bindingsQ}
 use Rattle.model.specs.Encoding.{encodeQuery, encodePermits, ok, readQuery, queryOf, permitsOf, permitsRead}
 use Rattle.model.specs.Meaning.{sameRow, answers}
@@ -42,63 +42,154 @@ pub record Ground (cs : List Check) (n : ℕ) : Type 0 where
 abbrev pub Passes : List Check → Type 0
 Passes cs = (m : ℕ) → fails cs m ≡ false
 
+-- document 01's numbers for each call; 0 is accepted
+abbrev pub askNumbers : List ℕ
+askNumbers = 0 ∷ 10 ∷ 11 ∷ 20 ∷ 21 ∷ 22 ∷ 23 ∷ 30 ∷ 31 ∷ 32 ∷ 33 ∷ 40 ∷ 41 ∷ []
+
+abbrev pub evaluateNumbers : List ℕ
+evaluateNumbers = 0 ∷ 10 ∷ 11 ∷ 30 ∷ 31 ∷ 32 ∷ 41 ∷ []
+
+-- ONE CALL OF ASK: what the demands say of it
+module _ (cb : List ℕ) (vs : List ℤ) (pb qb rewritten : List ℕ) (cells : List ℤ) where
+  abbrev asked : Outcome
+  asked = ask cb vs pb qb rewritten cells
+
+  abbrev checks : List Check
+  checks = askChecks cb vs pb qb (length rewritten)
+
+  -- the rows of its meaning, and how many whole rows the buffer has room for
+  abbrev rows : List (List ℤ)
+  rows = rowsOf cb vs (rewrittenOf cb pb qb)
+
+  abbrev room : ℕ
+  room = length cells / columnsOf qb
+
+  -- the outcome with this answer, where the rewritten question has been written
+  abbrev answered : Answer → Outcome
+  answered a = let bs = encodeQuery (rewrittenOf cb pb qb) in record { answer = a; count = length bs; rewritten = bs ++ drop (length bs) rewritten }
+
+  -- the number is one of document 01's
+  abbrev pub Numbered : Type 0
+  Numbered = contains (asked .answer .number) askNumbers ≡ true
+
+  -- a refusal is its number with zero counts, both buffers unchanged
+  abbrev pub Untouched : Type 0
+  Untouched = (n : ℕ) → asked .answer .number ≡ n → 1 ≤ n → n < 41 → asked ≡ record { answer = record { number = n; rows = 0; columns = 0; cells = cells }; count = 0; rewritten = rewritten }
+
+  -- 10 to 40: check n fails and all lower ones pass, and the other way round
+  abbrev pub HasGround : Type 0
+  HasGround = (n : ℕ) → asked .answer .number ≡ n → 1 ≤ n → n < 41 → Ground checks n
+
+  abbrev pub Grounded : Type 0
+  Grounded = (n : ℕ) → Ground checks n → asked .answer .number ≡ n
+
+  -- 41: all checks pass and more distinct rows than whole rows fit, and the other way round
+  abbrev pub Short : Type 0
+  Short = asked .answer .number ≡ 41 → Passes checks × (room < length rows)
+
+  abbrev pub Shorted : Type 0
+  Shorted = Passes checks → room < length rows → asked .answer .number ≡ 41
+
+  -- at 41 the buffer holds the first rows that fit, the count is theirs, the other cells are unchanged; the rest is as if accepted
+  abbrev pub ShortAnswer : Type 0
+  ShortAnswer = asked .answer .number ≡ 41 → asked ≡ answered (record { number = 41; rows = room; columns = columnsOf qb; cells = concatMap (λ r. r) (take room rows) ++ drop (room * columnsOf qb) cells })
+
+  -- accepted: all rows, one after the other, and cells past them unchanged; the rewritten bytes are those of steps 1 to 4
+  abbrev pub Accepted : Type 0
+  Accepted = asked .answer .number ≡ 0 → asked ≡ answered (record { number = 0; rows = length rows; columns = columnsOf qb; cells = concatMap (λ r. r) rows ++ drop (length rows * columnsOf qb) cells })
+
+  -- once the checks pass: both cases, 0 and 41, in one
+  abbrev pub Rewriting : Type 0
+  Rewriting = Passes checks → asked ≡ answered (give (columnsOf qb) rows cells)
+
+  -- and the rows are equally those of the query over the permitted rows
+  abbrev pub PermittedRows : Type 0
+  PermittedRows = Passes checks → rows ≡ answers (queryOf qb) (permitted (tuplesAt (catalogueOf cb) vs) (guardsIn cb pb (queryOf qb)))
+
+  -- put to the plain evaluator, the rewritten query is accepted and gives the same number, rows, columns and cells
+  abbrev pub Again : Type 0
+  Again = Passes checks → evaluate cb vs (take (asked .count) (asked .rewritten)) cells ≡ asked .answer
+
+  -- the largest rewritten query has 17,216 bytes
+  abbrev pub Bounded : Type 0
+  Bounded = asked .count ≤ 17216
+
+-- ONE CALL OF THE PLAIN EVALUATOR: the same of its own checks
+module _ (cb : List ℕ) (vs : List ℤ) (qb : List ℕ) (cells : List ℤ) where
+  abbrev evaluated : Answer
+  evaluated = evaluate cb vs qb cells
+
+  abbrev plainRows : List (List ℤ)
+  plainRows = rowsOf cb vs (queryOf qb)
+
+  abbrev plainRoom : ℕ
+  plainRoom = length cells / columnsOf qb
+
+  abbrev pub PlainNumbered : Type 0
+  PlainNumbered = contains (evaluated .number) evaluateNumbers ≡ true
+
+  abbrev pub PlainUntouched : Type 0
+  PlainUntouched = (n : ℕ) → evaluated .number ≡ n → 1 ≤ n → n < 41 → evaluated ≡ record { number = n; rows = 0; columns = 0; cells = cells }
+
+  abbrev pub PlainGround : Type 0
+  PlainGround = (n : ℕ) → evaluated .number ≡ n → 1 ≤ n → n < 41 → Ground (evaluateChecks cb vs qb) n
+
+  abbrev pub PlainGrounded : Type 0
+  PlainGrounded = (n : ℕ) → Ground (evaluateChecks cb vs qb) n → evaluated .number ≡ n
+
+  abbrev pub PlainShort : Type 0
+  PlainShort = evaluated .number ≡ 41 → Passes (evaluateChecks cb vs qb) × (plainRoom < length plainRows)
+
+  abbrev pub PlainShorted : Type 0
+  PlainShorted = Passes (evaluateChecks cb vs qb) → plainRoom < length plainRows → evaluated .number ≡ 41
+
+  abbrev pub PlainShortAnswer : Type 0
+  PlainShortAnswer = evaluated .number ≡ 41 → evaluated ≡ record { number = 41; rows = plainRoom; columns = columnsOf qb; cells = concatMap (λ r. r) (take plainRoom plainRows) ++ drop (plainRoom * columnsOf qb) cells }
+
+  abbrev pub PlainAccepted : Type 0
+  PlainAccepted = evaluated .number ≡ 0 → evaluated ≡ record { number = 0; rows = length plainRows; columns = columnsOf qb; cells = concatMap (λ r. r) plainRows ++ drop (length plainRows * columnsOf qb) cells }
+
+  abbrev pub Evaluating : Type 0
+  Evaluating = Passes (evaluateChecks cb vs qb) → evaluated ≡ give (columnsOf qb) plainRows cells
+
+-- every call: P holds whatever is handed over
+abbrev pub EachAsk : (List ℕ → List ℤ → List ℕ → List ℕ → List ℕ → List ℤ → Type 0) → Type 0
+EachAsk P = (cb : List ℕ) (vs : List ℤ) (pb qb rewritten : List ℕ) (cells : List ℤ) → P cb vs pb qb rewritten cells
+
+abbrev pub EachEvaluate : (List ℕ → List ℤ → List ℕ → List ℤ → Type 0) → Type 0
+EachEvaluate P = (cb : List ℕ) (vs : List ℤ) (qb : List ℕ) (cells : List ℤ) → P cb vs qb cells
+
 -- DEMAND 1, as far as definitions go: each number has its exact ground, and a refusal other than 41 leaves all as it was
 pub record Demand1 : Type 0 where
-  -- a refusal is its number with zero counts, both buffers unchanged
-  pub untouched : (cb : List ℕ) (vs : List ℤ) (pb qb rewritten : List ℕ) (cells : List ℤ) (n : ℕ)
-      → ask cb vs pb qb rewritten cells .answer .number ≡ n → 1 ≤ n → n < 41
-      → ask cb vs pb qb rewritten cells ≡ record { answer = record { number = n; rows = 0; columns = 0; cells = cells }; count = 0; rewritten = rewritten }
-  -- 10 to 40: check n fails and all lower ones pass, and the other way round
-  pub ground : (cb : List ℕ) (vs : List ℤ) (pb qb rewritten : List ℕ) (cells : List ℤ) (n : ℕ)
-      → ask cb vs pb qb rewritten cells .answer .number ≡ n → 1 ≤ n → n < 41 → Ground (askChecks cb vs pb qb (length rewritten)) n
-  pub grounded : (cb : List ℕ) (vs : List ℤ) (pb qb rewritten : List ℕ) (cells : List ℤ) (n : ℕ)
-      → Ground (askChecks cb vs pb qb (length rewritten)) n → ask cb vs pb qb rewritten cells .answer .number ≡ n
-  -- 41: all checks pass and more distinct rows than whole rows fit, and the other way round
-  pub short : (cb : List ℕ) (vs : List ℤ) (pb qb rewritten : List ℕ) (cells : List ℤ)
-      → ask cb vs pb qb rewritten cells .answer .number ≡ 41
-      → Passes (askChecks cb vs pb qb (length rewritten)) × (length cells / columnsOf qb < length (rowsOf cb vs (rewrittenOf cb pb qb)))
-  pub shorted : (cb : List ℕ) (vs : List ℤ) (pb qb rewritten : List ℕ) (cells : List ℤ)
-      → Passes (askChecks cb vs pb qb (length rewritten)) → length cells / columnsOf qb < length (rowsOf cb vs (rewrittenOf cb pb qb))
-      → ask cb vs pb qb rewritten cells .answer .number ≡ 41
-  -- at 41 the buffer holds the first rows that fit, the count is theirs, the other cells are unchanged; the rest is as if accepted
-  pub short-answer : (cb : List ℕ) (vs : List ℤ) (pb qb rewritten : List ℕ) (cells : List ℤ)
-      → ask cb vs pb qb rewritten cells .answer .number ≡ 41
-      → let m = length cells / columnsOf qb in let bs = encodeQuery (rewrittenOf cb pb qb) in
-      ask cb vs pb qb rewritten cells
-      ≡ record {
-        answer = record { number = 41; rows = m; columns = columnsOf qb; cells = concatMap (λ r. r) (take m (rowsOf cb vs (rewrittenOf cb pb qb))) ++ drop (m * columnsOf qb) cells };
-        count = length bs;
-        rewritten = bs ++ drop (length bs) rewritten;
-      }
-  -- the plain evaluator: the same of its own checks
-  pub plain-untouched : (cb : List ℕ) (vs : List ℤ) (qb : List ℕ) (cells : List ℤ) (n : ℕ)
-      → evaluate cb vs qb cells .number ≡ n → 1 ≤ n → n < 41 → evaluate cb vs qb cells ≡ record { number = n; rows = 0; columns = 0; cells = cells }
-  pub plain-ground : (cb : List ℕ) (vs : List ℤ) (qb : List ℕ) (cells : List ℤ) (n : ℕ)
-      → evaluate cb vs qb cells .number ≡ n → 1 ≤ n → n < 41 → Ground (evaluateChecks cb vs qb) n
-  pub plain-grounded : (cb : List ℕ) (vs : List ℤ) (qb : List ℕ) (cells : List ℤ) (n : ℕ)
-      → Ground (evaluateChecks cb vs qb) n → evaluate cb vs qb cells .number ≡ n
+  pub numbered : EachAsk Numbered
+  pub untouched : EachAsk Untouched
+  pub ground : EachAsk HasGround
+  pub grounded : EachAsk Grounded
+  pub short : EachAsk Short
+  pub shorted : EachAsk Shorted
+  pub short-answer : EachAsk ShortAnswer
+  pub plain-numbered : EachEvaluate PlainNumbered
+  pub plain-untouched : EachEvaluate PlainUntouched
+  pub plain-ground : EachEvaluate PlainGround
+  pub plain-grounded : EachEvaluate PlainGrounded
+  pub plain-short : EachEvaluate PlainShort
+  pub plain-shorted : EachEvaluate PlainShorted
+  pub plain-short-answer : EachEvaluate PlainShortAnswer
 
 -- DEMAND 2
 pub record Demand2 : Type 0 where
-  -- whatever passes the reader is the bytes of exactly one query, and the other way round
+  -- whatever passes the reader is the bytes of exactly one query, and the other way round; so for permits
   pub query-bytes : (bs : List ℕ) (q : Query) (r : List ℕ) → readQuery bs ≡ ok q r → (bs ≡ encodeQuery q) × WellFormedQ q × (r ≡ [])
   pub bytes-query : (q : Query) → WellFormedQ q → readQuery (encodeQuery q) ≡ ok q []
   pub permit-bytes : (bs : List ℕ) (ps : List Permit) (r : List ℕ) → permitsRead bs ≡ ok ps r → WellFormedPs ps × (bs ≡ encodePermits ps)
-  -- once the checks pass: the rewritten bytes are those of steps 1 to 4, the rows those of its meaning
-  pub rewriting : (cb : List ℕ) (vs : List ℤ) (pb qb rewritten : List ℕ) (cells : List ℤ)
-      → Passes (askChecks cb vs pb qb (length rewritten))
-      → let p = rewrittenOf cb pb qb in let bs = encodeQuery p in
-      ask cb vs pb qb rewritten cells ≡ record { answer = give (columnsOf qb) (rowsOf cb vs p) cells; count = length bs; rewritten = bs ++ drop (length bs) rewritten }
-  -- and equally those of the query over the permitted rows
-  pub permitted-rows : (cb : List ℕ) (vs : List ℤ) (pb qb rewritten : List ℕ)
-      → Passes (askChecks cb vs pb qb (length rewritten))
-      → rowsOf cb vs (rewrittenOf cb pb qb) ≡ answers (queryOf qb) (permitted (tuplesAt (catalogueOf cb) vs) (guardsIn cb pb (queryOf qb)))
-  -- put to the plain evaluator, the rewritten query is accepted and gives the same number, rows, columns and cells
-  pub again : (cb : List ℕ) (vs : List ℤ) (pb qb rewritten : List ℕ) (cells : List ℤ)
-      → Passes (askChecks cb vs pb qb (length rewritten))
-      → let o = ask cb vs pb qb rewritten cells in evaluate cb vs (take (o .count) (o .rewritten)) cells ≡ o .answer
-  -- the largest rewritten query has 17,216 bytes
-  pub bounded : (cb : List ℕ) (vs : List ℤ) (pb qb rewritten : List ℕ) (cells : List ℤ) → ask cb vs pb qb rewritten cells .count ≤ 17216
+  pub bytes-permit : (ps : List Permit) → WellFormedPs ps → permitsRead (encodePermits ps) ≡ ok ps []
+  pub accepted : EachAsk Accepted
+  pub rewriting : EachAsk Rewriting
+  pub permitted-rows : EachAsk PermittedRows
+  pub again : EachAsk Again
+  pub bounded : EachAsk Bounded
+  pub plain-accepted : EachEvaluate PlainAccepted
+  pub evaluating : EachEvaluate Evaluating
 
 -- a collection that draws neither 10 nor 11
 abbrev pub Kept : List ℕ → List ℤ → Type 0
