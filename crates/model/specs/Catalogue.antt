@@ -26,6 +26,7 @@ readCatalogue (suc n) (k ∷ r) =
 unfoldable pub catalogueRead : List ℕ → Read (List Relation)
 catalogueRead bs = readCatalogue (suc (length bs)) bs
 
+-- bytes that cannot be read count as no relations: 10 refuses them, whatever stands here
 unfoldable pub catalogueOf : List ℕ → List Relation
 catalogueOf bs = readOr [] (catalogueRead bs)
 
@@ -44,17 +45,19 @@ Shape = List Form
 unfoldable pub shapeOf : List Relation → Shape
 shapeOf cat = map (λ (x : Relation). record { stored = x .stored; attributes = x .attributes }) cat
 
+-- an unknown relation has no attribute, so that none of it is known (22, 32)
 unfoldable pub attributesAt : Shape → ℕ → ℕ
 attributesAt [] r = 0
 attributesAt (x ∷ xs) zero = x .attributes
 attributesAt (x ∷ xs) (suc r) = attributesAt xs r
 
+-- an unknown relation counts as stored, so that it is never free of a guard; 22 and 32 refuse it before that can matter
 unfoldable pub storedAt : Shape → ℕ → Bool
 storedAt [] r = true
 storedAt (x ∷ xs) zero = x .stored
 storedAt (x ∷ xs) (suc r) = storedAt xs r
 
--- values: row after row, relation after relation
+-- values: row after row, relation after relation; a tuple is read at attributes below w alone (22 and 32 see to it), so its list need not end there
 unfoldable pub tuplesOf : ℕ → ℕ → List ℤ → List Tuple
 tuplesOf zero w vs = []
 tuplesOf (suc n) w vs = (λ a. getD vs a (pos 0)) ∷ tuplesOf n w (drop w vs)

@@ -1,4 +1,13 @@
 -- The three demands, change 12 of document 02 and the label book of change 3, as statements over ask and evaluate. proofs/Demands, Grants and Book prove them.
+-- The letters, here and in every file of specs and proofs:
+--   cb  the catalogue's bytes    vs  the values           pb  the permit list's bytes    qb  the question's bytes
+--   rewritten, cells  the two lent buffers before the call
+--   sh  the shape: each relation's kind and columns       l   the limits of a call (guarded or plain)
+--   D   the collection: D r are the rows of relation r    G   the guards: G v r is that of variable v over relation r
+--   R   the rows run through: R v r by variable v over relation r, all of them or the permitted ones
+--   e   an assignment: e v is the row of variable v, e v a its attribute a
+--   q   a query as a tree ("question" and "query" are one)    c d  conditions    s t  terms (s also S, where it is a set)
+--   p ps  permits    b bs  bindings (bs also bytes)    v w  variables    r  a relation, or the bytes that are left
 use Prim.Native.Nat.{ℕ, zero, suc, _*_, _/_, _<_, _≤_}
 use mathlib.Core.Bool.{Bool, true, false, _&&_}
 use mathlib.Core.List.{List, [], _∷_, _++_, map}

@@ -156,11 +156,13 @@ abbrev pub readOr : {A : Type 0} → A → Read A → A
 readOr z fail = z
 readOr z (ok a r) = a
 
+-- bytes that cannot be read count as a query with no target: 30 refuses them, whatever stands here
 unfoldable pub queryOf : List ℕ → Query
 queryOf bs = readOr (record { ranges = []; targets = []; condition = TRUE }) (readQuery bs)
 
 unfoldable pub permitsRead : List ℕ → Read (List Permit)
 permitsRead bs = readPermits (suc (length bs)) bs
 
+-- bytes that cannot be read count as no permits: 20 refuses them, whatever stands here
 unfoldable pub permitsOf : List ℕ → List Permit
 permitsOf bs = readOr [] (permitsRead bs)

@@ -59,7 +59,7 @@ unfoldable pub average : List ℤ → Ratio
 average [] = whole (pos 0)
 average (x ∷ xs) = record { numerator = sum (x ∷ xs); denominator = length (x ∷ xs) }
 
--- the aggregates: 1 COUNT, 2 SUM, 3 AVE, 4 MAX, 5 MIN; over no rows each is 0
+-- the aggregates: 1 COUNT, 2 SUM, 3 AVE, 4 MAX, 5 MIN; over no rows each is 0; other functions are 20 or 30 (`isFunction`), so the last case is 5 alone
 unfoldable pub aggregate : ℕ → List ℤ → Ratio
 aggregate f xs =
     cond (eqb f 1) (whole (pos (length xs)))
@@ -67,7 +67,7 @@ aggregate f xs =
     (cond (eqb f 3) (average xs)
     (cond (eqb f 4) (whole (best ltZ xs)) (whole (best (λ a b. ltZ b a) xs)))))
 
--- the operators: 1 =, 2 ≠, 3 <, 4 ≤, 5 >, 6 ≥; fractions are compared exactly
+-- the operators: 1 =, 2 ≠, 3 <, 4 ≤, 5 >, 6 ≥; fractions are compared exactly; other operators are 20 or 30 (`isOperator`), so the last case is 6 alone
 unfoldable pub compare : ℕ → Ratio → Ratio → Bool
 compare o x y =
     let a = x .numerator *ℤ pos (y .denominator) in
@@ -99,7 +99,7 @@ unfoldable pub assignments : List Binding → Rows → Assignment → List Assig
 assignments [] R e = e ∷ []
 assignments (b ∷ bs) R e = concatMap (λ x. assignments bs R (update e (b .variable) x)) (R (b .variable) (b .relation))
 
--- no variable is bound yet
+-- no variable is bound yet; a variable out of reach is 22 or 32, so the 0 is never read
 abbrev pub unbound : Assignment
 unbound v a = pos 0
 

@@ -31,7 +31,7 @@ newNumber c v n w = cond (eqb w 0) v (n + indexOf w (variables (bindings c)))
 unfoldable pub copyFor : Condition → ℕ → ℕ → Condition
 copyFor c v n = rename (newNumber c v n) c
 
--- the OR of the conditions in list order, nested to the right, with no OR record for a single one
+-- the OR of the conditions in list order, nested to the right, with no OR record for a single one; of none, FALSE: 33 refuses that case
 unfoldable pub disjunction : List Condition → ℕ → ℕ → Condition
 disjunction [] v n = FALSE
 disjunction (c ∷ []) v n = copyFor c v n
