@@ -22,6 +22,7 @@ use Rattle.model.specs.Demands.{guardsIn, rewrittenOf, rowsOf, columnsOf
 use Rattle.model.proofs.Tests.{clash}
 use Rattle.model.proofs.ReadingQueries.{query-inverse, read-query, permits-inverse, read-permits}
 use Rattle.model.proofs.Sizes.{size-query}
+use Rattle.model.proofs.FirstMeeting.{first-meeting}
 use Rattle.model.proofs.Permitted.{rewritten-answers}
 use Rattle.model.proofs.NonInterference.{SameCut, non-interference}
 use Rattle.model.proofs.Grounds.{Rising, fails-low, refusal-listed, refusal-ground, ground-refusal, refusal-passes, passes-refusal, fails-high, ground-positive, refusal-skip, refusal-first}
@@ -334,6 +335,7 @@ demand-2 = record {
   bytes-query = λ q w. read-query q w;
   permit-bytes = permit-list;
   bytes-permit = list-permit;
+  in-order = first-meeting;
   accepted = λ cb vs pb qb rewritten cells e. accepted-answer cb vs pb qb rewritten cells e;
   rewriting = λ cb vs pb qb rewritten cells h. given cb vs pb qb rewritten cells (passes-refusal (askChecks cb vs pb qb (length rewritten)) h);
   permitted-rows = λ cb vs pb qb rewritten cells h. over-permitted cb vs pb qb rewritten (passes-refusal (askChecks cb vs pb qb (length rewritten)) h);

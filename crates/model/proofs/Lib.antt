@@ -15,6 +15,7 @@ pub mod Passed
 pub mod Barred
 pub mod Accepted
 pub mod Grounds
+pub mod FirstMeeting
 pub mod Demands
 pub mod Monotone
 pub mod Grants

@@ -18,7 +18,7 @@ use lib.ListN.{length, take, drop, getD}
 use Rattle.model.specs.Lists.{any, all, concatMap, contains, Every}
 use Rattle.model.specs.Syntax.{Condition, Term, TRUE, FALSE, NOT, AND, OR, COMPARE, SOME, CONSTANT, ATTRIBUTE, AGGREGATE, Binding, Query, Permit, WellFormedQ, WellFormedPs, bindingsQ}
 use Rattle.model.specs.Encoding.{encodeQuery, encodePermits, ok, readQuery, queryOf, permitsOf, permitsRead}
-use Rattle.model.specs.Meaning.{sameRow, answers}
+use Rattle.model.specs.Meaning.{Rows, targetRow, sameRow, qualifying, answers}
 use Rattle.model.specs.Catalogue.{catalogueOf, shapeOf, tuplesAt, allRows}
 use Rattle.model.specs.Permits.{usedOf, noAccess, Guards, guardsOf, permitted, cut}
 use Rattle.model.specs.Rewriting.{rewriteQuery}
@@ -57,6 +57,26 @@ askNumbers = 0 ∷ 10 ∷ 11 ∷ 20 ∷ 21 ∷ 22 ∷ 23 ∷ 30 ∷ 31 ∷ 32 �
 
 abbrev pub evaluateNumbers : List ℕ
 evaluateNumbers = 0 ∷ 10 ∷ 11 ∷ 30 ∷ 31 ∷ 32 ∷ 41 ∷ []
+
+-- the row x stands at place k, and at no earlier one
+pub record FirstAt (x : List ℤ) (rows : List (List ℤ)) (k : ℕ) : Type 0 where
+  pub inside : k < length rows
+  pub here : getD rows k [] ≡ x
+  pub earlier : (j : ℕ) → j < k → getD rows j [] ≡ x → ⊥
+
+-- EACH ONCE, IN ORDER OF FIRST MEETING: the rows kept, of the rows met
+pub record FirstMeeting (met kept : List (List ℤ)) : Type 0 where
+  -- each once: no two rows are equal
+  pub once : (i j : ℕ) → i < j → j < length kept → getD kept i [] ≡ getD kept j [] → ⊥
+  -- each row kept is one met, and each row met is kept
+  pub from : (i : ℕ) → i < length kept → (k : ℕ) × FirstAt (getD kept i []) met k
+  pub into : (k : ℕ) → k < length met → (i : ℕ) × (i < length kept) × (getD kept i [] ≡ getD met k [])
+  -- a row stands before another exactly if it is met first
+  pub before : (i j k l : ℕ) → i < length kept → j < length kept → FirstAt (getD kept i []) met k → FirstAt (getD kept j []) met l → (i < j → k < l) × (k < l → i < j)
+
+-- the rows met are those of the assignments that meet the condition, in the odometer's order
+abbrev pub InOrder : Type 0
+InOrder = (q : Query) (R : Rows) → FirstMeeting (map (targetRow (q .targets) R) (qualifying q R)) (answers q R)
 
 -- ONE CALL OF ASK: what the demands say of it
 module _ (cb : List ℕ) (vs : List ℤ) (pb qb rewritten : List ℕ) (cells : List ℤ) where
@@ -192,6 +212,7 @@ pub record Demand2 : Type 0 where
   pub bytes-query : (q : Query) → WellFormedQ q → readQuery (encodeQuery q) ≡ ok q []
   pub permit-bytes : (bs : List ℕ) (ps : List Permit) (r : List ℕ) → permitsRead bs ≡ ok ps r → WellFormedPs ps × (bs ≡ encodePermits ps)
   pub bytes-permit : (ps : List Permit) → WellFormedPs ps → permitsRead (encodePermits ps) ≡ ok ps []
+  pub in-order : InOrder
   pub accepted : EachAsk Accepted
   pub rewriting : EachAsk Rewriting
   pub permitted-rows : EachAsk PermittedRows
