@@ -2,24 +2,16 @@
 use mathlib.Core.List.{List, [], _∷_}
 use mathlib.Core.Path.{_≡_, refl}
 use lib.ListN.{length, replicate}
-use Rattle.model.specs.Lists.{filter, any, all, concatMap, total, contains, unique, indexOf, below}
-use Rattle.model.specs.Kinds.{find, kindOf}
-use Rattle.model.specs.Syntax.{bindings, bindingsQ, uses, usesQ, levels, levelsTs, levelsQ}
-use Rattle.model.specs.Encoding.{encode, encodeTargets, encodeRanges, encodeQuery, encodePermit, encodePermits, conditionBody, termBody, onKind, readCondition, startsRange, startsTarget, readRanges, readTargets, readQuery, readPermit, readPermits, permitsRead, queryOf, permitsOf}
-use Rattle.model.specs.Meaning.{signed, sum, bestFrom, best, average, aggregate, compare, holds, assignments, targetRow, sameRow, addRow, addRows, qualifying, answers}
-use Rattle.model.specs.Catalogue.{readCatalogue, catalogueRead, catalogueOf, valueCount, shapeOf, attributesAt, storedAt, tuplesOf, tuplesAt}
-use Rattle.model.specs.Permits.{bit, usedOf, isFalse, applies, bars, guardOf, guardsOf}
-use Rattle.model.specs.Rewriting.{rename, newNumber, copyFor, disjunction, newIn, guarded, newFor, rewrite, rewriteTargets, guardRanges, rewriteQuery}
-use Rattle.model.specs.Scope.{knownAttribute, knownBinding, inScope, rangeScope, queryInScope, boundOnce}
-use Rattle.model.specs.Checks.{fails10, fails11, fails20, permitFits, fails21, maskKnown, permitKnown, fails22, permitStored, fails23, fails30, fails31, fails32, served, fails33, rewrittenBytes, fails40, keeperChecks, permitChecks, queryChecks, guardChecks, shapeChecks, askChecks, evaluateChecks, refusal}
-use Rattle.model.specs.Calls.{give, evaluateUnless, evaluate, askUnless, ask}
+use Rattle.model.specs.Encoding.{encodeQuery, encodePermits}
+use Rattle.model.specs.Calls.{ask}
 use Rattle.model.specs.Largest.{full, largePermits, largeQuery}
+use Rattle.model.proofs.Computed.{computed}
 
 pub sizes : (length (encodePermits largePermits) ≡ 2048) × (length (encodeQuery largeQuery) ≡ 1024)
-unfolding full encode encodePermit encodePermits encodeRanges encodeTargets encodeQuery
+unfolding computed full
 sizes = (refl, refl)
 
 -- one relation with one attribute and no row
 pub reached : ask (48 ∷ 1 ∷ 0 ∷ 0 ∷ []) [] (encodePermits largePermits) (encodeQuery largeQuery) (replicate 17216 0) [] .count ≡ 17216
-unfolding filter any all concatMap total contains unique indexOf below find kindOf bindings bindingsQ uses usesQ levels levelsTs levelsQ encode encodeTargets encodeRanges encodeQuery encodePermit conditionBody termBody onKind readCondition startsRange startsTarget readRanges readTargets readQuery readPermit readPermits permitsRead queryOf permitsOf signed sum bestFrom best average aggregate compare holds assignments targetRow sameRow addRow addRows qualifying answers readCatalogue catalogueRead catalogueOf valueCount shapeOf attributesAt storedAt tuplesOf tuplesAt bit usedOf isFalse applies bars guardOf guardsOf rename newNumber copyFor disjunction newIn guarded newFor rewrite rewriteTargets guardRanges rewriteQuery knownAttribute knownBinding inScope rangeScope queryInScope boundOnce fails10 fails11 fails20 permitFits fails21 maskKnown permitKnown fails22 permitStored fails23 fails30 fails31 fails32 served fails33 rewrittenBytes fails40 keeperChecks permitChecks queryChecks guardChecks shapeChecks askChecks evaluateChecks refusal give evaluateUnless evaluate askUnless ask full encodePermits
+unfolding computed full
 reached = refl

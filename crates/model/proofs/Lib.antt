@@ -20,6 +20,7 @@ pub mod Demands
 pub mod Monotone
 pub mod Grants
 pub mod Rounding
+pub mod Computed
 pub mod Premises
 pub mod Book
 pub mod BookExamples

@@ -1,15 +1,56 @@
--- The starred shelf examples (document 01) and some of our own, as one table for each call. proofs/Shelf.antt has the proof.
+-- The examples: ONE table for both calls. First the starred ones of document 01 ("Shelf examples"), then further ones that pin what those leave open.
+-- proofs/Shelf.antt proves the table by computation.
 use Prim.Native.Nat.{ℕ}
 use mathlib.Core.List.{List, [], _∷_, _++_}
 use lib.IntN.{ℤ, pos, negsuc}
-use lib.ListN.{length, drop, replicate}
+use lib.ListN.{length, take, drop, replicate}
 use Rattle.model.specs.Lists.{concatMap}
-use Rattle.model.specs.Calls.{Answer, Outcome}
+use Rattle.model.specs.Calls.{Outcome, evaluate, ask}
 
--- EMPLOYEE (NAME, DEPT, SALARY, MANAGER) is relation 0, DEPARTMENT (DEPT, FLOOR#, #EMP, SALES) is 1
-abbrev pub company : List ℕ
-company = 48 ∷ 4 ∷ 6 ∷ 0 ∷ 48 ∷ 4 ∷ 5 ∷ 0 ∷ []
+-- a catalogue's bytes with its values
+pub record Collection : Type 0 where
+  pub catalogue : List ℕ
+  pub values : List ℤ
 
+-- a call: of ask with permits, question, and how many bytes and cells are lent; of evaluate with question and cells
+pub data Call : Type 0 where
+  asks : List ℕ → List ℕ → ℕ → ℕ → Call
+  evaluates : List ℕ → ℕ → Call
+
+-- what it comes to
+pub data Result : Type 0 where
+  -- a refusal other than 41: zero counts, both buffers as lent
+  refused : ℕ → Result
+  -- 0 or 41, the rewritten bytes (of evaluate, none), the columns and the rows in the answer buffer; past these, as lent
+  gives : ℕ → List ℕ → ℕ → List (List ℤ) → Result
+
+pub record Example : Type 0 where
+  pub over : Collection
+  pub call : Call
+  pub comes : Result
+
+-- what is lent holds no 0 before the call
+abbrev pub lentBytes : Call → List ℕ
+lentBytes (asks pb qb n m) = replicate n 170
+lentBytes (evaluates qb m) = []
+
+abbrev pub lentCells : Call → List ℤ
+lentCells (asks pb qb n m) = replicate m (negsuc 76)
+lentCells (evaluates qb m) = replicate m (negsuc 76)
+
+-- the model's outcome; the plain evaluator is lent no bytes and writes none
+abbrev pub outcome : Collection → Call → Outcome
+outcome d (asks pb qb n m) = ask (d .catalogue) (d .values) pb qb (lentBytes (asks pb qb n m)) (lentCells (asks pb qb n m))
+outcome d (evaluates qb m) = record { answer = evaluate (d .catalogue) (d .values) qb (lentCells (evaluates qb m)); count = 0; rewritten = [] }
+
+-- the outcome that the table names
+abbrev pub named : Call → Result → Outcome
+named x (refused n) = record { answer = record { number = n; rows = 0; columns = 0; cells = lentCells x }; count = 0; rewritten = lentBytes x }
+named x (gives n bs columns rows) =
+    let cells = concatMap (λ r. r) rows in
+    record { answer = record { number = n; rows = length rows; columns = columns; cells = cells ++ drop (length cells) (lentCells x) }; count = length bs; rewritten = bs ++ drop (length bs) (lentBytes x) }
+
+-- EMPLOYEE of 000 (NAME, DEPT, SALARY, MANAGER) is relation 0, DEPARTMENT (DEPT, FLOOR#, #EMP, SALES) is 1
 abbrev pub companyValues : List ℤ
 companyValues =
     pos 1 ∷ pos 1 ∷ pos 10000 ∷ pos 2 ∷
@@ -25,200 +66,268 @@ companyValues =
     pos 5 ∷ pos 2 ∷ pos 3 ∷ pos 0 ∷
     []
 
--- one attribute with −3 and −4; offers (article, rank, number)
-abbrev pub pair : List ℕ
-pair = 48 ∷ 1 ∷ 2 ∷ 0 ∷ []
+abbrev pub company : Collection
+company = record { catalogue = 48 ∷ 4 ∷ 6 ∷ 0 ∷ 48 ∷ 4 ∷ 5 ∷ 0 ∷ []; values = companyValues }
 
-abbrev pub pairValues : List ℤ
-pairValues = negsuc 2 ∷ negsuc 3 ∷ []
+-- EMPLOYEE alone
+abbrev pub employees : Collection
+employees = record { catalogue = 48 ∷ 4 ∷ 6 ∷ 0 ∷ []; values = take 24 companyValues }
 
-abbrev pub offers : List ℕ
-offers = 48 ∷ 3 ∷ 2 ∷ 0 ∷ []
+-- one attribute with −3 and −4
+abbrev pub pair : Collection
+pair = record { catalogue = 48 ∷ 1 ∷ 2 ∷ 0 ∷ []; values = negsuc 2 ∷ negsuc 3 ∷ [] }
 
-abbrev pub offerValues : List ℤ
-offerValues = pos 7 ∷ pos 1 ∷ pos 11 ∷ pos 7 ∷ pos 1 ∷ pos 12 ∷ []
+-- offers (article, rank, number)
+abbrev pub offers : Collection
+offers = record { catalogue = 48 ∷ 3 ∷ 2 ∷ 0 ∷ []; values = pos 7 ∷ pos 1 ∷ pos 11 ∷ pos 7 ∷ pos 1 ∷ pos 12 ∷ [] }
 
--- the lent buffers before each call: 80 bytes and 8 cells, none of them 0
-abbrev pub lentBytes : List ℕ
-lentBytes = replicate 80 170
+-- a stored relation with 1 and 2, and a workspace with 2 and 3
+abbrev pub desk : Collection
+desk = record { catalogue = 48 ∷ 1 ∷ 2 ∷ 0 ∷ 49 ∷ 1 ∷ 2 ∷ 0 ∷ []; values = pos 1 ∷ pos 2 ∷ pos 2 ∷ pos 3 ∷ [] }
 
-abbrev pub lentCells : List ℤ
-lentCells = replicate 8 (negsuc 76)
+-- a stored relation with 1 and 2, and one with no rows
+abbrev pub bare : Collection
+bare = record { catalogue = 48 ∷ 1 ∷ 2 ∷ 0 ∷ 48 ∷ 1 ∷ 0 ∷ 0 ∷ []; values = pos 1 ∷ pos 2 ∷ [] }
 
--- an accepted call: so many columns, these rows, cells past them as lent
-abbrev pub accepted : ℕ → List (List ℤ) → Answer
-accepted columns rows =
-    let cells = concatMap (λ r. r) rows in
-    record { number = 0; rows = length rows; columns = columns; cells = cells ++ drop (length cells) lentCells }
+-- no catalogue, and a value too few
+abbrev pub nothing : Collection
+nothing = record { catalogue = []; values = pos 1 ∷ [] }
 
-abbrev pub rewrittenTo : List ℕ → Answer → Outcome
-rewrittenTo bs a = record { answer = a; count = length bs; rewritten = bs ++ drop (length bs) lentBytes }
+abbrev pub cutShort : Collection
+cutShort = record { catalogue = 48 ∷ 1 ∷ 2 ∷ 0 ∷ []; values = pos 1 ∷ [] }
 
--- a refusal with zero counts, both buffers as lent
-abbrev pub refusedWith : ℕ → Outcome
-refusedWith n = record { answer = record { number = n; rows = 0; columns = 0; cells = lentCells }; count = 0; rewritten = lentBytes }
-
-pub record AskExample : Type 0 where
-  pub permits : List ℕ
-  pub query : List ℕ
-  pub outcome : Outcome
-
-pub record EvaluateExample : Type 0 where
-  pub catalogue : List ℕ
-  pub values : List ℤ
-  pub query : List ℕ
-  pub answer : Answer
-
--- the permits of 3.3 of 000
+-- the permits of 3.3 of 000, and one for all of relation 0
 abbrev pub jones : List ℕ
 jones = 64 ∷ 0 ∷ 12 ∷ 0 ∷ 16 ∷ 64 ∷ 0 ∷ 11 ∷ 0 ∷ 21 ∷ 2 ∷ 33 ∷ 0 ∷ 0 ∷ 32 ∷ 5 ∷ 0 ∷ 0 ∷ 0 ∷ 64 ∷ 0 ∷ 13 ∷ 0 ∷ 22 ∷ 1 ∷ 0 ∷ 19 ∷ 21 ∷ 1 ∷ 33 ∷ 1 ∷ 0 ∷ 33 ∷ 0 ∷ 3 ∷ 21 ∷ 5 ∷ 33 ∷ 0 ∷ 2 ∷ 33 ∷ 1 ∷ 2 ∷ 64 ∷ 1 ∷ 255 ∷ 255 ∷ 21 ∷ 5 ∷ 33 ∷ 0 ∷ 3 ∷ 34 ∷ 3 ∷ 1 ∷ 1 ∷ 3 ∷ 16 ∷ []
 
--- asked of the company
-abbrev pub askExamples : List AskExample
-askExamples =
-    -- 3.2: 27 bytes, no rows
+abbrev pub wide : List ℕ
+wide = 64 ∷ 0 ∷ 255 ∷ 255 ∷ 16 ∷ []
+
+-- STARRED in document 01
+abbrev pub starred : List Example
+starred =
+    -- 3.2 of 000: the rewritten question has 27 bytes; no rows
     record {
-      permits = 64 ∷ 0 ∷ 15 ∷ 0 ∷ 21 ∷ 1 ∷ 33 ∷ 0 ∷ 0 ∷ 32 ∷ 1 ∷ 0 ∷ 0 ∷ 0 ∷ [];
-      query = 1 ∷ 0 ∷ 0 ∷ 33 ∷ 0 ∷ 2 ∷ 21 ∷ 1 ∷ 33 ∷ 0 ∷ 0 ∷ 32 ∷ 2 ∷ 0 ∷ 0 ∷ 0 ∷ [];
-      outcome = rewrittenTo (1 ∷ 0 ∷ 0 ∷ 33 ∷ 0 ∷ 2 ∷ 19 ∷ 21 ∷ 1 ∷ 33 ∷ 0 ∷ 0 ∷ 32 ∷ 2 ∷ 0 ∷ 0 ∷ 0 ∷ 21 ∷ 1 ∷ 33 ∷ 0 ∷ 0 ∷ 32 ∷ 1 ∷ 0 ∷ 0 ∷ 0 ∷ []) (accepted 1 ([]));
+      over = company;
+      call = asks (64 ∷ 0 ∷ 15 ∷ 0 ∷ 21 ∷ 1 ∷ 33 ∷ 0 ∷ 0 ∷ 32 ∷ 1 ∷ 0 ∷ 0 ∷ 0 ∷ []) (1 ∷ 0 ∷ 0 ∷ 33 ∷ 0 ∷ 2 ∷ 21 ∷ 1 ∷ 33 ∷ 0 ∷ 0 ∷ 32 ∷ 2 ∷ 0 ∷ 0 ∷ 0 ∷ []) 80 8;
+      comes = gives 0 (1 ∷ 0 ∷ 0 ∷ 33 ∷ 0 ∷ 2 ∷ 19 ∷ 21 ∷ 1 ∷ 33 ∷ 0 ∷ 0 ∷ 32 ∷ 2 ∷ 0 ∷ 0 ∷ 0 ∷ 21 ∷ 1 ∷ 33 ∷ 0 ∷ 0 ∷ 32 ∷ 1 ∷ 0 ∷ 0 ∷ 0 ∷ []) 1 [];
     } ∷
+    -- 2.2 plain: 3, 4
+    record {
+      over = company;
+      call = evaluates (1 ∷ 0 ∷ 0 ∷ 1 ∷ 1 ∷ 1 ∷ 33 ∷ 0 ∷ 0 ∷ 19 ∷ 21 ∷ 1 ∷ 33 ∷ 0 ∷ 1 ∷ 33 ∷ 1 ∷ 0 ∷ 21 ∷ 1 ∷ 33 ∷ 1 ∷ 1 ∷ 32 ∷ 1 ∷ 0 ∷ 0 ∷ 0 ∷ []) 8;
+      comes = gives 0 [] 1 ((pos 3 ∷ []) ∷ (pos 4 ∷ []) ∷ []);
+    } ∷
+    -- distinct DEPT plain: 1, 2, 4
+    record { over = company; call = evaluates (1 ∷ 0 ∷ 0 ∷ 33 ∷ 0 ∷ 1 ∷ 16 ∷ []) 8; comes = gives 0 [] 1 ((pos 1 ∷ []) ∷ (pos 2 ∷ []) ∷ (pos 4 ∷ []) ∷ []) } ∷
     -- 3.4: six salaries
     record {
-      permits = jones;
-      query = 1 ∷ 0 ∷ 0 ∷ 33 ∷ 0 ∷ 2 ∷ 16 ∷ [];
-      outcome = rewrittenTo (1 ∷ 0 ∷ 0 ∷ 33 ∷ 0 ∷ 2 ∷ 19 ∷ 16 ∷ 20 ∷ 16 ∷ 22 ∷ 8 ∷ 0 ∷ 19 ∷ 21 ∷ 1 ∷ 33 ∷ 8 ∷ 0 ∷ 33 ∷ 0 ∷ 3 ∷ 21 ∷ 5 ∷ 33 ∷ 0 ∷ 2 ∷ 33 ∷ 8 ∷ 2 ∷ []) (accepted 1 ((pos 10000 ∷ []) ∷ (pos 15000 ∷ []) ∷ (pos 12000 ∷ []) ∷ (pos 14000 ∷ []) ∷ (pos 20000 ∷ []) ∷ (pos 40000 ∷ []) ∷ []));
+      over = company;
+      call = asks jones (1 ∷ 0 ∷ 0 ∷ 33 ∷ 0 ∷ 2 ∷ 16 ∷ []) 80 8;
+      comes = gives 0 (1 ∷ 0 ∷ 0 ∷ 33 ∷ 0 ∷ 2 ∷ 19 ∷ 16 ∷ 20 ∷ 16 ∷ 22 ∷ 8 ∷ 0 ∷ 19 ∷ 21 ∷ 1 ∷ 33 ∷ 8 ∷ 0 ∷ 33 ∷ 0 ∷ 3 ∷ 21 ∷ 5 ∷ 33 ∷ 0 ∷ 2 ∷ 33 ∷ 8 ∷ 2 ∷ []) 1 ((pos 10000 ∷ []) ∷ (pos 15000 ∷ []) ∷ (pos 12000 ∷ []) ∷ (pos 14000 ∷ []) ∷ (pos 20000 ∷ []) ∷ (pos 40000 ∷ []) ∷ []);
     } ∷
     -- 3.5: one row, 5
     record {
-      permits = jones;
-      query = 1 ∷ 0 ∷ 0 ∷ 33 ∷ 0 ∷ 3 ∷ 21 ∷ 1 ∷ 33 ∷ 0 ∷ 0 ∷ 32 ∷ 3 ∷ 0 ∷ 0 ∷ 0 ∷ [];
-      outcome = rewrittenTo (1 ∷ 0 ∷ 0 ∷ 33 ∷ 0 ∷ 3 ∷ 19 ∷ 21 ∷ 1 ∷ 33 ∷ 0 ∷ 0 ∷ 32 ∷ 3 ∷ 0 ∷ 0 ∷ 0 ∷ 20 ∷ 21 ∷ 2 ∷ 33 ∷ 0 ∷ 0 ∷ 32 ∷ 5 ∷ 0 ∷ 0 ∷ 0 ∷ 22 ∷ 8 ∷ 0 ∷ 19 ∷ 21 ∷ 1 ∷ 33 ∷ 8 ∷ 0 ∷ 33 ∷ 0 ∷ 3 ∷ 21 ∷ 5 ∷ 33 ∷ 0 ∷ 2 ∷ 33 ∷ 8 ∷ 2 ∷ []) (accepted 1 ((pos 5 ∷ []) ∷ []));
+      over = company;
+      call = asks jones (1 ∷ 0 ∷ 0 ∷ 33 ∷ 0 ∷ 3 ∷ 21 ∷ 1 ∷ 33 ∷ 0 ∷ 0 ∷ 32 ∷ 3 ∷ 0 ∷ 0 ∷ 0 ∷ []) 80 8;
+      comes = gives 0 (1 ∷ 0 ∷ 0 ∷ 33 ∷ 0 ∷ 3 ∷ 19 ∷ 21 ∷ 1 ∷ 33 ∷ 0 ∷ 0 ∷ 32 ∷ 3 ∷ 0 ∷ 0 ∷ 0 ∷ 20 ∷ 21 ∷ 2 ∷ 33 ∷ 0 ∷ 0 ∷ 32 ∷ 5 ∷ 0 ∷ 0 ∷ 0 ∷ 22 ∷ 8 ∷ 0 ∷ 19 ∷ 21 ∷ 1 ∷ 33 ∷ 8 ∷ 0 ∷ 33 ∷ 0 ∷ 3 ∷ 21 ∷ 5 ∷ 33 ∷ 0 ∷ 2 ∷ 33 ∷ 8 ∷ 2 ∷ []) 1 ((pos 5 ∷ []) ∷ []);
     } ∷
     -- 3.6: no rows; both variables are guarded
     record {
-      permits = jones;
-      query = 1 ∷ 0 ∷ 0 ∷ 1 ∷ 1 ∷ 0 ∷ 33 ∷ 0 ∷ 0 ∷ 19 ∷ 21 ∷ 1 ∷ 33 ∷ 0 ∷ 3 ∷ 33 ∷ 1 ∷ 0 ∷ 21 ∷ 3 ∷ 33 ∷ 1 ∷ 2 ∷ 33 ∷ 0 ∷ 2 ∷ [];
-      outcome = rewrittenTo (1 ∷ 0 ∷ 0 ∷ 1 ∷ 1 ∷ 0 ∷ 33 ∷ 0 ∷ 0 ∷ 19 ∷ 19 ∷ 19 ∷ 21 ∷ 1 ∷ 33 ∷ 0 ∷ 3 ∷ 33 ∷ 1 ∷ 0 ∷ 21 ∷ 3 ∷ 33 ∷ 1 ∷ 2 ∷ 33 ∷ 0 ∷ 2 ∷ 22 ∷ 8 ∷ 0 ∷ 19 ∷ 21 ∷ 1 ∷ 33 ∷ 8 ∷ 0 ∷ 33 ∷ 0 ∷ 3 ∷ 21 ∷ 5 ∷ 33 ∷ 0 ∷ 2 ∷ 33 ∷ 8 ∷ 2 ∷ 22 ∷ 9 ∷ 0 ∷ 19 ∷ 21 ∷ 1 ∷ 33 ∷ 9 ∷ 0 ∷ 33 ∷ 1 ∷ 3 ∷ 21 ∷ 5 ∷ 33 ∷ 1 ∷ 2 ∷ 33 ∷ 9 ∷ 2 ∷ []) (accepted 1 ([]));
+      over = company;
+      call = asks jones (1 ∷ 0 ∷ 0 ∷ 1 ∷ 1 ∷ 0 ∷ 33 ∷ 0 ∷ 0 ∷ 19 ∷ 21 ∷ 1 ∷ 33 ∷ 0 ∷ 3 ∷ 33 ∷ 1 ∷ 0 ∷ 21 ∷ 3 ∷ 33 ∷ 1 ∷ 2 ∷ 33 ∷ 0 ∷ 2 ∷ []) 80 8;
+      comes = gives 0 (1 ∷ 0 ∷ 0 ∷ 1 ∷ 1 ∷ 0 ∷ 33 ∷ 0 ∷ 0 ∷ 19 ∷ 19 ∷ 19 ∷ 21 ∷ 1 ∷ 33 ∷ 0 ∷ 3 ∷ 33 ∷ 1 ∷ 0 ∷ 21 ∷ 3 ∷ 33 ∷ 1 ∷ 2 ∷ 33 ∷ 0 ∷ 2 ∷ 22 ∷ 8 ∷ 0 ∷ 19 ∷ 21 ∷ 1 ∷ 33 ∷ 8 ∷ 0 ∷ 33 ∷ 0 ∷ 3 ∷ 21 ∷ 5 ∷ 33 ∷ 0 ∷ 2 ∷ 33 ∷ 8 ∷ 2 ∷ 22 ∷ 9 ∷ 0 ∷ 19 ∷ 21 ∷ 1 ∷ 33 ∷ 9 ∷ 0 ∷ 33 ∷ 1 ∷ 3 ∷ 21 ∷ 5 ∷ 33 ∷ 1 ∷ 2 ∷ 33 ∷ 9 ∷ 2 ∷ []) 1 [];
     } ∷
     -- DEPT with SALARY: 33
+    record { over = company; call = asks jones (1 ∷ 0 ∷ 0 ∷ 33 ∷ 0 ∷ 1 ∷ 33 ∷ 0 ∷ 2 ∷ 16 ∷ []) 80 8; comes = refused 33 } ∷
+    -- a DEPARTMENT question over DEPT: 1, 2, 3
     record {
-      permits = jones;
-      query = 1 ∷ 0 ∷ 0 ∷ 33 ∷ 0 ∷ 1 ∷ 33 ∷ 0 ∷ 2 ∷ 16 ∷ [];
-      outcome = refusedWith 33;
+      over = company;
+      call = asks jones (1 ∷ 0 ∷ 1 ∷ 33 ∷ 0 ∷ 0 ∷ 16 ∷ []) 80 8;
+      comes = gives 0 (1 ∷ 0 ∷ 1 ∷ 33 ∷ 0 ∷ 0 ∷ 19 ∷ 16 ∷ 21 ∷ 5 ∷ 33 ∷ 0 ∷ 3 ∷ 34 ∷ 3 ∷ 8 ∷ 1 ∷ 3 ∷ 16 ∷ []) 1 ((pos 1 ∷ []) ∷ (pos 2 ∷ []) ∷ (pos 3 ∷ []) ∷ []);
     } ∷
-    -- a DEPARTMENT query over DEPT: 1, 2, 3
+    -- AVE of −3 and −4 as target: −4 since change 4 of document 02, half away from zero (document 01 has −3)
+    record { over = pair; call = evaluates (34 ∷ 3 ∷ 0 ∷ 0 ∷ 0 ∷ 16 ∷ 16 ∷ []) 8; comes = gives 0 [] 1 ((negsuc 3 ∷ []) ∷ []) } ∷
+    -- that AVE is below −3 when compared
     record {
-      permits = jones;
-      query = 1 ∷ 0 ∷ 1 ∷ 33 ∷ 0 ∷ 0 ∷ 16 ∷ [];
-      outcome = rewrittenTo (1 ∷ 0 ∷ 1 ∷ 33 ∷ 0 ∷ 0 ∷ 19 ∷ 16 ∷ 21 ∷ 5 ∷ 33 ∷ 0 ∷ 3 ∷ 34 ∷ 3 ∷ 8 ∷ 1 ∷ 3 ∷ 16 ∷ []) (accepted 1 ((pos 1 ∷ []) ∷ (pos 2 ∷ []) ∷ (pos 3 ∷ []) ∷ []));
+      over = pair;
+      call = evaluates (34 ∷ 3 ∷ 0 ∷ 0 ∷ 0 ∷ 16 ∷ 21 ∷ 3 ∷ 34 ∷ 3 ∷ 1 ∷ 0 ∷ 0 ∷ 16 ∷ 32 ∷ 253 ∷ 255 ∷ 255 ∷ 255 ∷ []) 8;
+      comes = gives 0 [] 1 ((negsuc 3 ∷ []) ∷ []);
     } ∷
-    -- 4.2: the average salary of the toy department
+    -- MAX over no rows: 0
+    record { over = pair; call = evaluates (34 ∷ 4 ∷ 0 ∷ 0 ∷ 0 ∷ 17 ∷ 16 ∷ []) 8; comes = gives 0 [] 1 ((pos 0 ∷ []) ∷ []) } ∷
+    -- number where rank equals MIN of rank: 11, then 12
     record {
-      permits = 64 ∷ 0 ∷ 4 ∷ 0 ∷ 21 ∷ 1 ∷ 33 ∷ 0 ∷ 1 ∷ 32 ∷ 1 ∷ 0 ∷ 0 ∷ 0 ∷ [];
-      query = 34 ∷ 3 ∷ 0 ∷ 0 ∷ 2 ∷ 16 ∷ 16 ∷ [];
-      outcome = rewrittenTo (34 ∷ 3 ∷ 0 ∷ 0 ∷ 2 ∷ 19 ∷ 16 ∷ 21 ∷ 1 ∷ 33 ∷ 0 ∷ 1 ∷ 32 ∷ 1 ∷ 0 ∷ 0 ∷ 0 ∷ 16 ∷ []) (accepted 1 ((pos 12500 ∷ []) ∷ []));
-    } ∷
-    -- not starred. NO ACCESS to SALARY and MANAGER bars a query over SALARY, although another permit opens all: 33
-    record {
-      permits = 64 ∷ 0 ∷ 12 ∷ 0 ∷ 17 ∷ 64 ∷ 0 ∷ 255 ∷ 255 ∷ 16 ∷ [];
-      query = 1 ∷ 0 ∷ 0 ∷ 33 ∷ 0 ∷ 2 ∷ 16 ∷ [];
-      outcome = refusedWith 33;
-    } ∷
-    -- not starred. another column of that relation is answered, and FALSE stands in no guard
-    record {
-      permits = 64 ∷ 0 ∷ 12 ∷ 0 ∷ 17 ∷ 64 ∷ 0 ∷ 255 ∷ 255 ∷ 16 ∷ [];
-      query = 1 ∷ 0 ∷ 0 ∷ 33 ∷ 0 ∷ 0 ∷ 16 ∷ [];
-      outcome = rewrittenTo (1 ∷ 0 ∷ 0 ∷ 33 ∷ 0 ∷ 0 ∷ 19 ∷ 16 ∷ 16 ∷ []) (accepted 1 ((pos 1 ∷ []) ∷ (pos 2 ∷ []) ∷ (pos 3 ∷ []) ∷ (pos 4 ∷ []) ∷ (pos 5 ∷ []) ∷ (pos 6 ∷ []) ∷ []));
-    } ∷
-    -- not starred. with an empty S, EMPLOYEE is not barred, and the permit that is not NO ACCESS applies: five departments
-    record {
-      permits = 64 ∷ 0 ∷ 255 ∷ 255 ∷ 17 ∷ 64 ∷ 0 ∷ 1 ∷ 0 ∷ 16 ∷ 64 ∷ 1 ∷ 255 ∷ 255 ∷ 16 ∷ [];
-      query = 1 ∷ 0 ∷ 0 ∷ 1 ∷ 1 ∷ 1 ∷ 33 ∷ 1 ∷ 0 ∷ 16 ∷ [];
-      outcome = rewrittenTo (1 ∷ 0 ∷ 0 ∷ 1 ∷ 1 ∷ 1 ∷ 33 ∷ 1 ∷ 0 ∷ 19 ∷ 19 ∷ 16 ∷ 16 ∷ 16 ∷ []) (accepted 1 ((pos 1 ∷ []) ∷ (pos 2 ∷ []) ∷ (pos 3 ∷ []) ∷ (pos 4 ∷ []) ∷ (pos 5 ∷ []) ∷ []));
-    } ∷
-    -- not starred. an empty S that only NO ACCESS covers: 33
-    record {
-      permits = 64 ∷ 0 ∷ 255 ∷ 255 ∷ 17 ∷ 64 ∷ 1 ∷ 255 ∷ 255 ∷ 16 ∷ [];
-      query = 1 ∷ 0 ∷ 0 ∷ 1 ∷ 1 ∷ 1 ∷ 33 ∷ 1 ∷ 0 ∷ 16 ∷ [];
-      outcome = refusedWith 33;
-    } ∷
-    -- not starred. NO ACCESS to DEPARTMENT bars no EMPLOYEE
-    record {
-      permits = 64 ∷ 1 ∷ 255 ∷ 255 ∷ 17 ∷ 64 ∷ 0 ∷ 255 ∷ 255 ∷ 16 ∷ [];
-      query = 1 ∷ 0 ∷ 0 ∷ 33 ∷ 0 ∷ 2 ∷ 16 ∷ [];
-      outcome = rewrittenTo (1 ∷ 0 ∷ 0 ∷ 33 ∷ 0 ∷ 2 ∷ 19 ∷ 16 ∷ 16 ∷ []) (accepted 1 ((pos 10000 ∷ []) ∷ (pos 15000 ∷ []) ∷ (pos 12000 ∷ []) ∷ (pos 14000 ∷ []) ∷ (pos 20000 ∷ []) ∷ (pos 40000 ∷ []) ∷ []));
-    } ∷
-    -- not starred. NOT TRUE is never met and no NO ACCESS: it applies and enters the guard
-    record {
-      permits = 64 ∷ 0 ∷ 255 ∷ 255 ∷ 18 ∷ 16 ∷ [];
-      query = 1 ∷ 0 ∷ 0 ∷ 33 ∷ 0 ∷ 0 ∷ 16 ∷ [];
-      outcome = rewrittenTo (1 ∷ 0 ∷ 0 ∷ 33 ∷ 0 ∷ 0 ∷ 19 ∷ 16 ∷ 18 ∷ 16 ∷ []) (accepted 1 []);
+      over = offers;
+      call = evaluates (1 ∷ 0 ∷ 0 ∷ 33 ∷ 0 ∷ 2 ∷ 21 ∷ 1 ∷ 33 ∷ 0 ∷ 1 ∷ 34 ∷ 5 ∷ 1 ∷ 0 ∷ 1 ∷ 16 ∷ []) 8;
+      comes = gives 0 [] 1 ((pos 11 ∷ []) ∷ (pos 12 ∷ []) ∷ []);
     } ∷
     []
 
-abbrev pub evaluateExamples : List EvaluateExample
-evaluateExamples =
-    -- 2.2 plain: 3, 4
+-- further ones: 4.2, change 6, the meaning, the rewriting, the host's 40 and 41
+abbrev pub further : List Example
+further =
+    -- 4.2 of 000, over EMPLOYEE alone: the average salary of the toy department
     record {
-      catalogue = company;
-      values = companyValues;
-      query = 1 ∷ 0 ∷ 0 ∷ 1 ∷ 1 ∷ 1 ∷ 33 ∷ 0 ∷ 0 ∷ 19 ∷ 21 ∷ 1 ∷ 33 ∷ 0 ∷ 1 ∷ 33 ∷ 1 ∷ 0 ∷ 21 ∷ 1 ∷ 33 ∷ 1 ∷ 1 ∷ 32 ∷ 1 ∷ 0 ∷ 0 ∷ 0 ∷ [];
-      answer = accepted 1 ((pos 3 ∷ []) ∷ (pos 4 ∷ []) ∷ []);
+      over = employees;
+      call = asks (64 ∷ 0 ∷ 4 ∷ 0 ∷ 21 ∷ 1 ∷ 33 ∷ 0 ∷ 1 ∷ 32 ∷ 1 ∷ 0 ∷ 0 ∷ 0 ∷ []) (34 ∷ 3 ∷ 0 ∷ 0 ∷ 2 ∷ 16 ∷ 16 ∷ []) 80 8;
+      comes = gives 0 (34 ∷ 3 ∷ 0 ∷ 0 ∷ 2 ∷ 19 ∷ 16 ∷ 21 ∷ 1 ∷ 33 ∷ 0 ∷ 1 ∷ 32 ∷ 1 ∷ 0 ∷ 0 ∷ 0 ∷ 16 ∷ []) 1 ((pos 12500 ∷ []) ∷ []);
     } ∷
-    -- distinct DEPT plain: 1, 2, 4
+    -- NO ACCESS to SALARY and MANAGER bars a question over SALARY, although another permit opens all
+    record { over = company; call = asks (64 ∷ 0 ∷ 12 ∷ 0 ∷ 17 ∷ 64 ∷ 0 ∷ 255 ∷ 255 ∷ 16 ∷ []) (1 ∷ 0 ∷ 0 ∷ 33 ∷ 0 ∷ 2 ∷ 16 ∷ []) 80 8; comes = refused 33 } ∷
+    -- another column of that relation is answered, and FALSE stands in no guard
     record {
-      catalogue = company;
-      values = companyValues;
-      query = 1 ∷ 0 ∷ 0 ∷ 33 ∷ 0 ∷ 1 ∷ 16 ∷ [];
-      answer = accepted 1 ((pos 1 ∷ []) ∷ (pos 2 ∷ []) ∷ (pos 4 ∷ []) ∷ []);
+      over = company;
+      call = asks (64 ∷ 0 ∷ 12 ∷ 0 ∷ 17 ∷ 64 ∷ 0 ∷ 255 ∷ 255 ∷ 16 ∷ []) (1 ∷ 0 ∷ 0 ∷ 33 ∷ 0 ∷ 0 ∷ 16 ∷ []) 80 8;
+      comes = gives 0 (1 ∷ 0 ∷ 0 ∷ 33 ∷ 0 ∷ 0 ∷ 19 ∷ 16 ∷ 16 ∷ []) 1 ((pos 1 ∷ []) ∷ (pos 2 ∷ []) ∷ (pos 3 ∷ []) ∷ (pos 4 ∷ []) ∷ (pos 5 ∷ []) ∷ (pos 6 ∷ []) ∷ []);
     } ∷
-    -- not starred. #EMP of the departments, one of them twice, in order of first meeting: 10, 5, 16, 3
+    -- with an empty S, EMPLOYEE is not barred, and the permit that is not NO ACCESS applies: five departments
     record {
-      catalogue = company;
-      values = companyValues;
-      query = 1 ∷ 0 ∷ 1 ∷ 33 ∷ 0 ∷ 2 ∷ 16 ∷ [];
-      answer = accepted 1 ((pos 10 ∷ []) ∷ (pos 5 ∷ []) ∷ (pos 16 ∷ []) ∷ (pos 3 ∷ []) ∷ []);
+      over = company;
+      call = asks (64 ∷ 0 ∷ 255 ∷ 255 ∷ 17 ∷ 64 ∷ 0 ∷ 1 ∷ 0 ∷ 16 ∷ 64 ∷ 1 ∷ 255 ∷ 255 ∷ 16 ∷ []) (1 ∷ 0 ∷ 0 ∷ 1 ∷ 1 ∷ 1 ∷ 33 ∷ 1 ∷ 0 ∷ 16 ∷ []) 80 8;
+      comes = gives 0 (1 ∷ 0 ∷ 0 ∷ 1 ∷ 1 ∷ 1 ∷ 33 ∷ 1 ∷ 0 ∷ 19 ∷ 19 ∷ 16 ∷ 16 ∷ 16 ∷ []) 1 ((pos 1 ∷ []) ∷ (pos 2 ∷ []) ∷ (pos 3 ∷ []) ∷ (pos 4 ∷ []) ∷ (pos 5 ∷ []) ∷ []);
     } ∷
-    -- not starred. its SUM, the equal values both taken: 44
+    -- an empty S that only NO ACCESS covers
     record {
-      catalogue = company;
-      values = companyValues;
-      query = 34 ∷ 2 ∷ 0 ∷ 1 ∷ 2 ∷ 16 ∷ 16 ∷ [];
-      answer = accepted 1 ((pos 44 ∷ []) ∷ []);
+      over = company;
+      call = asks (64 ∷ 0 ∷ 255 ∷ 255 ∷ 17 ∷ 64 ∷ 1 ∷ 255 ∷ 255 ∷ 16 ∷ []) (1 ∷ 0 ∷ 0 ∷ 1 ∷ 1 ∷ 1 ∷ 33 ∷ 1 ∷ 0 ∷ 16 ∷ []) 80 8;
+      comes = refused 33;
     } ∷
-    -- AVE of −3 and −4 as target: −4, half away from zero
+    -- NO ACCESS to DEPARTMENT bars no EMPLOYEE
     record {
-      catalogue = pair;
-      values = pairValues;
-      query = 34 ∷ 3 ∷ 0 ∷ 0 ∷ 0 ∷ 16 ∷ 16 ∷ [];
-      answer = accepted 1 ((negsuc 3 ∷ []) ∷ []);
+      over = company;
+      call = asks (64 ∷ 1 ∷ 255 ∷ 255 ∷ 17 ∷ 64 ∷ 0 ∷ 255 ∷ 255 ∷ 16 ∷ []) (1 ∷ 0 ∷ 0 ∷ 33 ∷ 0 ∷ 2 ∷ 16 ∷ []) 80 8;
+      comes = gives 0 (1 ∷ 0 ∷ 0 ∷ 33 ∷ 0 ∷ 2 ∷ 19 ∷ 16 ∷ 16 ∷ []) 1 ((pos 10000 ∷ []) ∷ (pos 15000 ∷ []) ∷ (pos 12000 ∷ []) ∷ (pos 14000 ∷ []) ∷ (pos 20000 ∷ []) ∷ (pos 40000 ∷ []) ∷ []);
     } ∷
-    -- that AVE is below −3 when compared
+    -- NOT TRUE is never met and no NO ACCESS: it applies and enters the guard
     record {
-      catalogue = pair;
-      values = pairValues;
-      query = 34 ∷ 3 ∷ 0 ∷ 0 ∷ 0 ∷ 16 ∷ 21 ∷ 3 ∷ 34 ∷ 3 ∷ 1 ∷ 0 ∷ 0 ∷ 16 ∷ 32 ∷ 253 ∷ 255 ∷ 255 ∷ 255 ∷ [];
-      answer = accepted 1 ((negsuc 3 ∷ []) ∷ []);
+      over = company;
+      call = asks (64 ∷ 0 ∷ 255 ∷ 255 ∷ 18 ∷ 16 ∷ []) (1 ∷ 0 ∷ 0 ∷ 33 ∷ 0 ∷ 0 ∷ 16 ∷ []) 80 8;
+      comes = gives 0 (1 ∷ 0 ∷ 0 ∷ 33 ∷ 0 ∷ 0 ∷ 19 ∷ 16 ∷ 18 ∷ 16 ∷ []) 1 [];
     } ∷
-    -- not starred. it is above −4 when compared, since only the target is rounded; SUM and MAX as targets stay −7 and −3
+    -- #EMP of the departments, one of them twice, in order of first meeting
     record {
-      catalogue = pair;
-      values = pairValues;
-      query = 34 ∷ 2 ∷ 0 ∷ 0 ∷ 0 ∷ 16 ∷ 34 ∷ 4 ∷ 1 ∷ 0 ∷ 0 ∷ 16 ∷ 21 ∷ 5 ∷ 34 ∷ 3 ∷ 2 ∷ 0 ∷ 0 ∷ 16 ∷ 32 ∷ 252 ∷ 255 ∷ 255 ∷ 255 ∷ [];
-      answer = accepted 2 ((negsuc 6 ∷ negsuc 2 ∷ []) ∷ []);
+      over = company;
+      call = evaluates (1 ∷ 0 ∷ 1 ∷ 33 ∷ 0 ∷ 2 ∷ 16 ∷ []) 8;
+      comes = gives 0 [] 1 ((pos 10 ∷ []) ∷ (pos 5 ∷ []) ∷ (pos 16 ∷ []) ∷ (pos 3 ∷ []) ∷ []);
     } ∷
-    -- MAX over no rows: 0
+    -- its SUM, the equal values both taken
+    record { over = company; call = evaluates (34 ∷ 2 ∷ 0 ∷ 1 ∷ 2 ∷ 16 ∷ 16 ∷ []) 8; comes = gives 0 [] 1 ((pos 44 ∷ []) ∷ []) } ∷
+    -- that AVE is above −4 when compared, since only the target is rounded; SUM and MAX as targets stay −7 and −3
     record {
-      catalogue = pair;
-      values = pairValues;
-      query = 34 ∷ 4 ∷ 0 ∷ 0 ∷ 0 ∷ 17 ∷ 16 ∷ [];
-      answer = accepted 1 ((pos 0 ∷ []) ∷ []);
+      over = pair;
+      call = evaluates (34 ∷ 2 ∷ 0 ∷ 0 ∷ 0 ∷ 16 ∷ 34 ∷ 4 ∷ 1 ∷ 0 ∷ 0 ∷ 16 ∷ 21 ∷ 5 ∷ 34 ∷ 3 ∷ 2 ∷ 0 ∷ 0 ∷ 16 ∷ 32 ∷ 252 ∷ 255 ∷ 255 ∷ 255 ∷ []) 8;
+      comes = gives 0 [] 2 ((negsuc 6 ∷ negsuc 2 ∷ []) ∷ []);
     } ∷
-    -- number where rank equals MIN of rank: 11, then 12
+    -- COUNT, MAX and MIN over rows: six DEPTs, equal ones counted each time, the largest SALARY and the smallest
     record {
-      catalogue = offers;
-      values = offerValues;
-      query = 1 ∷ 0 ∷ 0 ∷ 33 ∷ 0 ∷ 2 ∷ 21 ∷ 1 ∷ 33 ∷ 0 ∷ 1 ∷ 34 ∷ 5 ∷ 1 ∷ 0 ∷ 1 ∷ 16 ∷ [];
-      answer = accepted 1 ((pos 11 ∷ []) ∷ (pos 12 ∷ []) ∷ []);
+      over = company;
+      call = evaluates (34 ∷ 1 ∷ 0 ∷ 0 ∷ 1 ∷ 16 ∷ 34 ∷ 4 ∷ 1 ∷ 0 ∷ 2 ∷ 16 ∷ 34 ∷ 5 ∷ 2 ∷ 0 ∷ 2 ∷ 16 ∷ 16 ∷ []) 8;
+      comes = gives 0 [] 3 ((pos 6 ∷ pos 40000 ∷ pos 10000 ∷ []) ∷ []);
     } ∷
+    -- MANAGER ≤ 2 OR ≥ 8: both ends are in
+    record {
+      over = company;
+      call = evaluates (1 ∷ 0 ∷ 0 ∷ 33 ∷ 0 ∷ 0 ∷ 20 ∷ 21 ∷ 4 ∷ 33 ∷ 0 ∷ 3 ∷ 32 ∷ 2 ∷ 0 ∷ 0 ∷ 0 ∷ 21 ∷ 6 ∷ 33 ∷ 0 ∷ 3 ∷ 32 ∷ 8 ∷ 0 ∷ 0 ∷ 0 ∷ []) 8;
+      comes = gives 0 [] 1 ((pos 1 ∷ []) ∷ (pos 2 ∷ []) ∷ (pos 6 ∷ []) ∷ []);
+    } ∷
+    -- NOT and SOME: departments that no employee is of
+    record {
+      over = company;
+      call = evaluates (1 ∷ 0 ∷ 1 ∷ 33 ∷ 0 ∷ 0 ∷ 18 ∷ 22 ∷ 1 ∷ 0 ∷ 21 ∷ 1 ∷ 33 ∷ 1 ∷ 1 ∷ 33 ∷ 0 ∷ 0 ∷ []) 8;
+      comes = gives 0 [] 1 ((pos 3 ∷ []) ∷ (pos 5 ∷ []) ∷ []);
+    } ∷
+    -- two RANGEs, the last fastest; eight cells are just enough
+    record {
+      over = pair;
+      call = evaluates (1 ∷ 0 ∷ 0 ∷ 1 ∷ 1 ∷ 0 ∷ 33 ∷ 0 ∷ 0 ∷ 33 ∷ 1 ∷ 0 ∷ 16 ∷ []) 8;
+      comes = gives 0 [] 2 ((negsuc 2 ∷ negsuc 2 ∷ []) ∷ (negsuc 2 ∷ negsuc 3 ∷ []) ∷ (negsuc 3 ∷ negsuc 2 ∷ []) ∷ (negsuc 3 ∷ negsuc 3 ∷ []) ∷ []);
+    } ∷
+    -- a stored relation is guarded, the workspace beside it is not, by RANGE or by COUNT
+    record {
+      over = desk;
+      call = asks (64 ∷ 0 ∷ 1 ∷ 0 ∷ 21 ∷ 5 ∷ 33 ∷ 0 ∷ 0 ∷ 32 ∷ 1 ∷ 0 ∷ 0 ∷ 0 ∷ []) (1 ∷ 0 ∷ 0 ∷ 1 ∷ 1 ∷ 1 ∷ 33 ∷ 0 ∷ 0 ∷ 33 ∷ 1 ∷ 0 ∷ 34 ∷ 1 ∷ 2 ∷ 1 ∷ 0 ∷ 16 ∷ 16 ∷ []) 80 8;
+      comes = gives 0 (1 ∷ 0 ∷ 0 ∷ 1 ∷ 1 ∷ 1 ∷ 33 ∷ 0 ∷ 0 ∷ 33 ∷ 1 ∷ 0 ∷ 34 ∷ 1 ∷ 2 ∷ 1 ∷ 0 ∷ 16 ∷ 19 ∷ 16 ∷ 21 ∷ 5 ∷ 33 ∷ 0 ∷ 0 ∷ 32 ∷ 1 ∷ 0 ∷ 0 ∷ 0 ∷ []) 3 ((pos 2 ∷ pos 2 ∷ pos 2 ∷ []) ∷ (pos 2 ∷ pos 3 ∷ pos 2 ∷ []) ∷ []);
+    } ∷
+    -- three applying permits: the OR nests to the right, in list order, and new numbers go on from one to the next
+    record {
+      over = pair;
+      call = asks (64 ∷ 0 ∷ 1 ∷ 0 ∷ 22 ∷ 1 ∷ 0 ∷ 16 ∷ 64 ∷ 0 ∷ 1 ∷ 0 ∷ 18 ∷ 17 ∷ 64 ∷ 0 ∷ 1 ∷ 0 ∷ 22 ∷ 3 ∷ 0 ∷ 16 ∷ []) (1 ∷ 0 ∷ 0 ∷ 33 ∷ 0 ∷ 0 ∷ 16 ∷ []) 80 8;
+      comes = gives 0 (1 ∷ 0 ∷ 0 ∷ 33 ∷ 0 ∷ 0 ∷ 19 ∷ 16 ∷ 20 ∷ 22 ∷ 8 ∷ 0 ∷ 16 ∷ 20 ∷ 18 ∷ 17 ∷ 22 ∷ 9 ∷ 0 ∷ 16 ∷ []) 1 ((negsuc 2 ∷ []) ∷ (negsuc 3 ∷ []) ∷ []);
+    } ∷
+    -- rows below another one, by a permit's SOME: the guard inside the question's SOME takes 8, the range guard 9
+    record {
+      over = pair;
+      call = asks (64 ∷ 0 ∷ 1 ∷ 0 ∷ 22 ∷ 1 ∷ 0 ∷ 21 ∷ 5 ∷ 33 ∷ 1 ∷ 0 ∷ 33 ∷ 0 ∷ 0 ∷ []) (1 ∷ 0 ∷ 0 ∷ 33 ∷ 0 ∷ 0 ∷ 22 ∷ 1 ∷ 0 ∷ 21 ∷ 1 ∷ 33 ∷ 1 ∷ 0 ∷ 33 ∷ 0 ∷ 0 ∷ []) 80 8;
+      comes = gives 0 (1 ∷ 0 ∷ 0 ∷ 33 ∷ 0 ∷ 0 ∷ 19 ∷ 22 ∷ 1 ∷ 0 ∷ 19 ∷ 21 ∷ 1 ∷ 33 ∷ 1 ∷ 0 ∷ 33 ∷ 0 ∷ 0 ∷ 22 ∷ 8 ∷ 0 ∷ 21 ∷ 5 ∷ 33 ∷ 8 ∷ 0 ∷ 33 ∷ 1 ∷ 0 ∷ 22 ∷ 9 ∷ 0 ∷ 21 ∷ 5 ∷ 33 ∷ 9 ∷ 0 ∷ 33 ∷ 0 ∷ 0 ∷ []) 1 ((negsuc 3 ∷ []) ∷ []);
+    } ∷
+    -- a permit's SOME over a relation with no rows harms no other permit of the OR
+    record {
+      over = bare;
+      call = asks (64 ∷ 0 ∷ 1 ∷ 0 ∷ 22 ∷ 1 ∷ 1 ∷ 16 ∷ 64 ∷ 0 ∷ 1 ∷ 0 ∷ 16 ∷ []) (1 ∷ 0 ∷ 0 ∷ 33 ∷ 0 ∷ 0 ∷ 16 ∷ []) 80 8;
+      comes = gives 0 (1 ∷ 0 ∷ 0 ∷ 33 ∷ 0 ∷ 0 ∷ 19 ∷ 16 ∷ 20 ∷ 22 ∷ 8 ∷ 1 ∷ 16 ∷ 16 ∷ []) 1 ((pos 1 ∷ []) ∷ (pos 2 ∷ []) ∷ []);
+    } ∷
+    -- two masks are not added up
+    record { over = offers; call = asks (64 ∷ 0 ∷ 1 ∷ 0 ∷ 16 ∷ 64 ∷ 0 ∷ 2 ∷ 0 ∷ 16 ∷ []) (1 ∷ 0 ∷ 0 ∷ 33 ∷ 0 ∷ 0 ∷ 33 ∷ 0 ∷ 1 ∷ 16 ∷ []) 80 8; comes = refused 33 } ∷
+    -- the rewritten question is just as long as its buffer
+    record {
+      over = pair;
+      call = asks wide (1 ∷ 0 ∷ 0 ∷ 33 ∷ 0 ∷ 0 ∷ 16 ∷ []) 9 8;
+      comes = gives 0 (1 ∷ 0 ∷ 0 ∷ 33 ∷ 0 ∷ 0 ∷ 19 ∷ 16 ∷ 16 ∷ []) 1 ((negsuc 2 ∷ []) ∷ (negsuc 3 ∷ []) ∷ []);
+    } ∷
+    -- and one byte longer: 40, both buffers as lent, although the cells are too few as well
+    record { over = pair; call = asks wide (1 ∷ 0 ∷ 0 ∷ 33 ∷ 0 ∷ 0 ∷ 16 ∷ []) 8 1; comes = refused 40 } ∷
+    -- 41: one row fits, and the cell that is left stays
+    record {
+      over = pair;
+      call = asks wide (1 ∷ 0 ∷ 0 ∷ 33 ∷ 0 ∷ 0 ∷ 33 ∷ 0 ∷ 0 ∷ 16 ∷ []) 80 3;
+      comes = gives 41 (1 ∷ 0 ∷ 0 ∷ 33 ∷ 0 ∷ 0 ∷ 33 ∷ 0 ∷ 0 ∷ 19 ∷ 16 ∷ 16 ∷ []) 2 ((negsuc 2 ∷ negsuc 2 ∷ []) ∷ []);
+    } ∷
+    -- one permitted row and one cell: it fits, whatever else there is
+    record {
+      over = pair;
+      call = asks (64 ∷ 0 ∷ 1 ∷ 0 ∷ 21 ∷ 3 ∷ 33 ∷ 0 ∷ 0 ∷ 32 ∷ 253 ∷ 255 ∷ 255 ∷ 255 ∷ []) (1 ∷ 0 ∷ 0 ∷ 33 ∷ 0 ∷ 0 ∷ 16 ∷ []) 80 1;
+      comes = gives 0 (1 ∷ 0 ∷ 0 ∷ 33 ∷ 0 ∷ 0 ∷ 19 ∷ 16 ∷ 21 ∷ 3 ∷ 33 ∷ 0 ∷ 0 ∷ 32 ∷ 253 ∷ 255 ∷ 255 ∷ 255 ∷ []) 1 ((negsuc 3 ∷ []) ∷ []);
+    } ∷
+    -- no cell: 41 if there is a row
+    record { over = pair; call = evaluates (1 ∷ 0 ∷ 0 ∷ 33 ∷ 0 ∷ 0 ∷ 16 ∷ []) 0; comes = gives 41 [] 1 [] } ∷
+    -- and accepted if there is none
+    record { over = pair; call = evaluates (1 ∷ 0 ∷ 0 ∷ 33 ∷ 0 ∷ 0 ∷ 17 ∷ []) 0; comes = gives 0 [] 1 [] } ∷
+    -- plain, one row fits
+    record { over = pair; call = evaluates (1 ∷ 0 ∷ 0 ∷ 33 ∷ 0 ∷ 0 ∷ 33 ∷ 0 ∷ 0 ∷ 16 ∷ []) 3; comes = gives 41 [] 2 ((negsuc 2 ∷ negsuc 2 ∷ []) ∷ []) } ∷
     []
+
+-- each refusal once, with grounds of higher numbers beside it
+abbrev pub refusals : List Example
+refusals =
+    -- no record (10); the values, the permits and the question are wrong too
+    record { over = nothing; call = asks (9 ∷ []) (9 ∷ []) 80 8; comes = refused 10 } ∷
+    -- one value for two rows (11)
+    record { over = cutShort; call = asks (9 ∷ []) (9 ∷ []) 80 8; comes = refused 11 } ∷
+    -- a permit cut short (20)
+    record { over = pair; call = asks (64 ∷ []) (9 ∷ []) 80 8; comes = refused 20 } ∷
+    -- four bindings (21), and one number bound twice
+    record { over = pair; call = asks (64 ∷ 0 ∷ 1 ∷ 0 ∷ 22 ∷ 1 ∷ 0 ∷ 22 ∷ 2 ∷ 0 ∷ 22 ∷ 3 ∷ 0 ∷ 22 ∷ 1 ∷ 0 ∷ 16 ∷ []) (9 ∷ []) 80 8; comes = refused 21 } ∷
+    -- mask 0 (22), over a workspace
+    record { over = desk; call = asks (64 ∷ 1 ∷ 0 ∷ 0 ∷ 16 ∷ []) (9 ∷ []) 80 8; comes = refused 22 } ∷
+    -- a permit over a workspace (23)
+    record { over = desk; call = asks (64 ∷ 1 ∷ 1 ∷ 0 ∷ 16 ∷ []) (9 ∷ []) 80 8; comes = refused 23 } ∷
+    -- no target (30)
+    record { over = pair; call = asks [] (16 ∷ []) 80 8; comes = refused 30 } ∷
+    -- five RANGEs (31), all of one number
+    record { over = pair; call = asks [] (1 ∷ 0 ∷ 0 ∷ 1 ∷ 0 ∷ 0 ∷ 1 ∷ 0 ∷ 0 ∷ 1 ∷ 0 ∷ 0 ∷ 1 ∷ 0 ∷ 0 ∷ 33 ∷ 0 ∷ 0 ∷ 16 ∷ []) 80 8; comes = refused 31 } ∷
+    -- an attribute that is not there (32), and no permit
+    record { over = pair; call = asks [] (1 ∷ 0 ∷ 0 ∷ 33 ∷ 0 ∷ 1 ∷ 16 ∷ []) 0 0; comes = refused 32 } ∷
+    -- no permit (33), and no byte lent
+    record { over = pair; call = asks [] (1 ∷ 0 ∷ 0 ∷ 33 ∷ 0 ∷ 0 ∷ 16 ∷ []) 0 0; comes = refused 33 } ∷
+    -- variable 8 of a question (32)
+    record { over = pair; call = asks wide (1 ∷ 8 ∷ 0 ∷ 33 ∷ 8 ∷ 0 ∷ 16 ∷ []) 80 8; comes = refused 32 } ∷
+    -- is one of the plain evaluator's
+    record { over = pair; call = evaluates (1 ∷ 8 ∷ 0 ∷ 33 ∷ 8 ∷ 0 ∷ 16 ∷ []) 8; comes = gives 0 [] 1 ((negsuc 2 ∷ []) ∷ (negsuc 3 ∷ []) ∷ []) } ∷
+    -- which has 10, 11, 30 to 32 alone: here no target
+    record { over = pair; call = evaluates (16 ∷ []) 8; comes = refused 30 } ∷
+    []
+
+-- the table
+abbrev pub examples : List Example
+examples = starred ++ (further ++ refusals)
