@@ -249,11 +249,17 @@ further =
       call = asks (64 ∷ 0 ∷ 1 ∷ 0 ∷ 21 ∷ 5 ∷ 33 ∷ 0 ∷ 0 ∷ 32 ∷ 1 ∷ 0 ∷ 0 ∷ 0 ∷ []) (1 ∷ 0 ∷ 0 ∷ 1 ∷ 1 ∷ 1 ∷ 33 ∷ 0 ∷ 0 ∷ 33 ∷ 1 ∷ 0 ∷ 34 ∷ 1 ∷ 2 ∷ 1 ∷ 0 ∷ 16 ∷ 16 ∷ []) 80 8;
       comes = gives 0 (1 ∷ 0 ∷ 0 ∷ 1 ∷ 1 ∷ 1 ∷ 33 ∷ 0 ∷ 0 ∷ 33 ∷ 1 ∷ 0 ∷ 34 ∷ 1 ∷ 2 ∷ 1 ∷ 0 ∷ 16 ∷ 19 ∷ 16 ∷ 21 ∷ 5 ∷ 33 ∷ 0 ∷ 0 ∷ 32 ∷ 1 ∷ 0 ∷ 0 ∷ 0 ∷ []) 3 ((pos 2 ∷ pos 2 ∷ pos 2 ∷ []) ∷ (pos 2 ∷ pos 3 ∷ pos 2 ∷ []) ∷ []);
     } ∷
-    -- three applying permits: the OR nests to the right, in list order, and new numbers go on from one to the next
+    -- three applying permits: the OR nests to the right, in list order; one that binds 3 before 1 gives 8 to 3 and 9 to 1
     record {
       over = pair;
-      call = asks (64 ∷ 0 ∷ 1 ∷ 0 ∷ 22 ∷ 1 ∷ 0 ∷ 16 ∷ 64 ∷ 0 ∷ 1 ∷ 0 ∷ 18 ∷ 17 ∷ 64 ∷ 0 ∷ 1 ∷ 0 ∷ 22 ∷ 3 ∷ 0 ∷ 16 ∷ []) (1 ∷ 0 ∷ 0 ∷ 33 ∷ 0 ∷ 0 ∷ 16 ∷ []) 80 8;
-      comes = gives 0 (1 ∷ 0 ∷ 0 ∷ 33 ∷ 0 ∷ 0 ∷ 19 ∷ 16 ∷ 20 ∷ 22 ∷ 8 ∷ 0 ∷ 16 ∷ 20 ∷ 18 ∷ 17 ∷ 22 ∷ 9 ∷ 0 ∷ 16 ∷ []) 1 ((negsuc 2 ∷ []) ∷ (negsuc 3 ∷ []) ∷ []);
+      call = asks (64 ∷ 0 ∷ 1 ∷ 0 ∷ 22 ∷ 3 ∷ 0 ∷ 22 ∷ 1 ∷ 0 ∷ 21 ∷ 5 ∷ 33 ∷ 3 ∷ 0 ∷ 33 ∷ 1 ∷ 0 ∷ 64 ∷ 0 ∷ 1 ∷ 0 ∷ 18 ∷ 17 ∷ 64 ∷ 0 ∷ 1 ∷ 0 ∷ 22 ∷ 1 ∷ 0 ∷ 16 ∷ []) (1 ∷ 0 ∷ 0 ∷ 33 ∷ 0 ∷ 0 ∷ 16 ∷ []) 80 8;
+      comes = gives 0 (1 ∷ 0 ∷ 0 ∷ 33 ∷ 0 ∷ 0 ∷ 19 ∷ 16 ∷ 20 ∷ 22 ∷ 8 ∷ 0 ∷ 22 ∷ 9 ∷ 0 ∷ 21 ∷ 5 ∷ 33 ∷ 8 ∷ 0 ∷ 33 ∷ 9 ∷ 0 ∷ 20 ∷ 18 ∷ 17 ∷ 22 ∷ 10 ∷ 0 ∷ 16 ∷ []) 1 ((negsuc 2 ∷ []) ∷ (negsuc 3 ∷ []) ∷ []);
+    } ∷
+    -- new numbers in byte order: 8 in the target, 9 in the inner SOME, 10 in the outer one, 11 in the range guard
+    record {
+      over = pair;
+      call = asks (64 ∷ 0 ∷ 1 ∷ 0 ∷ 22 ∷ 1 ∷ 0 ∷ 16 ∷ []) (1 ∷ 0 ∷ 0 ∷ 34 ∷ 1 ∷ 1 ∷ 0 ∷ 0 ∷ 16 ∷ 22 ∷ 2 ∷ 0 ∷ 22 ∷ 3 ∷ 0 ∷ 16 ∷ []) 80 8;
+      comes = gives 0 (1 ∷ 0 ∷ 0 ∷ 34 ∷ 1 ∷ 1 ∷ 0 ∷ 0 ∷ 19 ∷ 16 ∷ 22 ∷ 8 ∷ 0 ∷ 16 ∷ 19 ∷ 22 ∷ 2 ∷ 0 ∷ 19 ∷ 22 ∷ 3 ∷ 0 ∷ 19 ∷ 16 ∷ 22 ∷ 9 ∷ 0 ∷ 16 ∷ 22 ∷ 10 ∷ 0 ∷ 16 ∷ 22 ∷ 11 ∷ 0 ∷ 16 ∷ []) 1 ((pos 2 ∷ []) ∷ []);
     } ∷
     -- rows below another one, by a permit's SOME: the guard inside the question's SOME takes 8, the range guard 9
     record {
