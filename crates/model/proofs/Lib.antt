@@ -1,5 +1,6 @@
 pub mod Tests
 pub mod Lists
+pub mod Records
 pub mod Reading
 pub mod Sizes
 pub mod ReadingQueries

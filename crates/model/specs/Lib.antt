@@ -3,6 +3,7 @@ pub mod Lists
 pub mod Kinds
 pub mod Syntax
 pub mod Encoding
+pub mod Records
 pub mod Meaning
 pub mod Catalogue
 pub mod Permits
