@@ -1,4 +1,4 @@
-/* The benchmark: one workload, four ways to answer it. */
+/* The benchmark: one workload, and the ways to answer it. */
 #ifndef BENCH_H
 #define BENCH_H
 
@@ -6,7 +6,7 @@
 #include <stddef.h>
 #include <stdint.h>
 
-enum { MOST_RELATIONS = 16, MOST_CELLS = 4096 };
+enum { MOST_RELATIONS = 16, MOST_CELLS = 1 << 16, USUAL_CELLS = 4096, MOST_PLACES = 4 };
 
 typedef struct {
     uint8_t *bytes; /* never NULL; a zero byte follows the last one */
@@ -27,6 +27,8 @@ typedef struct {
     size_t relations;
     relation relation[MOST_RELATIONS];
     size_t cells; /* of the answer buffer */
+    /* A question asked many times in a row, each time with another key; times is 1 if not. */
+    size_t times, keys, places, place[MOST_PLACES]; /* the bytes of the question where a key goes */
 } workload;
 
 typedef struct {
@@ -39,14 +41,18 @@ typedef struct {
 void fail(const char *workload, const char *message);
 workload load(const char *folder, const char *name);
 void unload(workload *loaded);
-void read_expected(const workload *from, answer *to);
+/* False if the expected file leaves the rows to the loop by hand ("rows by the loop"). */
+bool read_expected(const workload *from, answer *to);
+/* The key of question i, from 0; the last one is 7, as in the file. */
+int32_t asked_key(const workload *of, size_t i);
+void set_key(workload *of, int32_t key);
 /* Keeps the first rows of the one relation. */
 void shorten(workload *loaded, size_t rows);
 
 /* engine.c */
 enum { REWRITTEN_BYTES = 17216 };
 typedef struct {
-    const workload *from;
+    workload *from;
     answer to;
     uint8_t rewritten[REWRITTEN_BYTES];
     size_t length;
@@ -68,7 +74,7 @@ bool loop_open(loop *self, const workload *from);
 void loop_call(void *self);
 
 /* measure.c */
-enum { MOST_SAMPLES = 201, MOST_CONTENDERS = 4 };
+enum { MOST_SAMPLES = 201, MOST_CONTENDERS = 9 };
 typedef struct {
     void (*call)(void *self);
     void *self;      /* NULL: takes no part */

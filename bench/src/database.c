@@ -54,17 +54,74 @@ static void fill(database *self, size_t i)
     sqlite3_finalize(insert);
 }
 
-void database_open(database *self, const workload *from, bool with_index)
+static void prepare(database *self, const char *sql, sqlite3_stmt **to)
+{
+    need(self, sqlite3_prepare_v2(self->db, sql, -1, to, NULL), SQLITE_OK);
+}
+
+/* The key of question i, if the statement has a place for it. */
+static void bind_key(database *self, sqlite3_stmt *select, size_t i)
+{
+    if (self->from->places > 0)
+        sqlite3_bind_int(select, 1, asked_key(self->from, i));
+}
+
+/* How many rows all questions have together. */
+static size_t count_rows(database *self, sqlite3_stmt *select)
+{
+    size_t count = 0;
+    for (size_t i = 0; i < self->from->times; i++) {
+        int result;
+        bind_key(self, select, i);
+        while ((result = sqlite3_step(select)) == SQLITE_ROW)
+            count++;
+        need(self, result, SQLITE_DONE);
+        sqlite3_reset(select);
+    }
+    return count;
+}
+
+/* Takes DISTINCT away. False, and it stays, if there are then more rows. */
+static bool make_bare(database *self)
+{
+    static const char with[] = "SELECT DISTINCT ";
+    const char *sql = (const char *)self->from->select.bytes;
+    sqlite3_stmt *bare;
+    char *text;
+    if (strncmp(sql, with, sizeof with - 1) != 0)
+        return false;
+    if (asprintf(&text, "SELECT %s", sql + sizeof with - 1) < 0)
+        fail(self->from->name, "no memory");
+    prepare(self, text, &bare);
+    free(text);
+    if (count_rows(self, bare) != count_rows(self, self->select)) {
+        sqlite3_finalize(bare);
+        return false;
+    }
+    sqlite3_finalize(self->select);
+    self->select = bare;
+    return true;
+}
+
+bool database_open(database *self, const workload *from, variant how)
 {
     self->from = from;
+    if (how.index && from->index.length == 0)
+        return false;
     need(self, sqlite3_open(":memory:", &self->db), SQLITE_OK);
     run(self, (const char *)from->schema.bytes);
     for (size_t i = 0; i < from->relations; i++)
         fill(self, i);
-    if (with_index)
+    if (how.index)
         run(self, (const char *)from->index.bytes);
-    need(self, sqlite3_prepare_v2(self->db, (const char *)from->select.bytes, -1, &self->select, NULL),
-         SQLITE_OK);
+    if (how.analyze)
+        run(self, "ANALYZE");
+    prepare(self, (const char *)from->select.bytes, &self->select);
+    if (how.bare && !make_bare(self)) {
+        database_close(self);
+        return false;
+    }
+    return true;
 }
 
 void database_close(database *self)
@@ -73,15 +130,10 @@ void database_close(database *self)
     sqlite3_close(self->db);
 }
 
-/* Takes the rows until they end or one does not fit. */
-void database_call(void *self)
+/* Takes the rows of one question until they end or one does not fit. */
+static void take_rows(database *d)
 {
-    database *d = self;
-    size_t columns = (size_t)sqlite3_column_count(d->select);
-    size_t most = d->from->cells / columns;
-    d->to.columns = columns;
-    d->to.rows = 0;
-    d->to.number = 0;
+    size_t columns = d->to.columns, most = d->from->cells / columns;
     while (sqlite3_step(d->select) == SQLITE_ROW) {
         if (d->to.rows == most) {
             d->to.number = NO_ROOM;
@@ -94,38 +146,81 @@ void database_call(void *self)
     sqlite3_reset(d->select);
 }
 
-static bool row_is(sqlite3_stmt *select, const int64_t *row, size_t columns)
+void database_call(void *self)
 {
-    for (size_t c = 0; c < columns; c++)
-        if (sqlite3_column_int64(select, (int)c) != row[c])
-            return false;
-    return true;
+    database *d = self;
+    d->to.columns = (size_t)sqlite3_column_count(d->select);
+    d->to.rows = 0;
+    d->to.number = 0;
+    for (size_t i = 0; i < d->from->times; i++) {
+        bind_key(d, d->select, i);
+        take_rows(d);
+    }
 }
 
-/* Marks the answer's row that the statement stands on. False if there is none, or it was marked. */
-static bool mark(sqlite3_stmt *select, const answer *with, bool *marked)
+static size_t compared; /* columns */
+
+static int by_cells(const void *left, const void *right)
 {
-    for (size_t r = 0; r < with->rows; r++)
-        if (!marked[r] && row_is(select, with->cells + r * with->columns, with->columns))
-            return marked[r] = true;
-    return false;
+    const int64_t *a = left, *b = right;
+    for (size_t c = 0; c < compared; c++)
+        if (a[c] != b[c])
+            return a[c] < b[c] ? -1 : 1;
+    return 0;
+}
+
+/* A sorted copy of some rows. */
+static int64_t *sorted(const int64_t *cells, size_t rows, size_t columns)
+{
+    size_t bytes = columns * sizeof *cells;
+    int64_t *copy = malloc(rows * bytes + 1);
+    if (copy == NULL)
+        fail("bench", "no memory");
+    memcpy(copy, cells, rows * bytes);
+    compared = columns;
+    qsort(copy, rows, bytes, by_cells);
+    return copy;
+}
+
+/* Whether each of the few rows is among the many, as often. Both are sorted. */
+static bool are_among(const int64_t *few, size_t few_rows, const int64_t *many, size_t many_rows)
+{
+    size_t f = 0;
+    for (size_t m = 0; m < many_rows && f < few_rows; m++)
+        if (by_cells(few + f * compared, many + m * compared) == 0)
+            f++;
+    return f == few_rows;
+}
+
+/* All rows, whether they fit the workload's buffer or not. */
+static int64_t *all_rows(database *self, size_t rows)
+{
+    size_t columns = (size_t)sqlite3_column_count(self->select), at = 0;
+    int64_t *cells = malloc((rows * columns + 1) * sizeof *cells), *ordered;
+    if (cells == NULL)
+        fail(self->from->name, "no memory");
+    for (size_t i = 0; i < self->from->times; i++) {
+        bind_key(self, self->select, i);
+        while (at < rows * columns && sqlite3_step(self->select) == SQLITE_ROW)
+            for (size_t c = 0; c < columns; c++)
+                cells[at++] = sqlite3_column_int64(self->select, (int)c);
+        sqlite3_reset(self->select);
+    }
+    ordered = sorted(cells, rows, columns);
+    free(cells);
+    return ordered;
 }
 
 /* An accepted answer has the same rows; one cut short (41) has some of them, and not all. */
 bool database_agrees(database *self, const answer *with)
 {
-    bool marked[MOST_CELLS] = {false};
-    size_t met = 0, others = 0;
-    int result;
     if ((size_t)sqlite3_column_count(self->select) != with->columns)
         return false;
-    while ((result = sqlite3_step(self->select)) == SQLITE_ROW) {
-        if (mark(self->select, with, marked))
-            met++;
-        else
-            others++;
-    }
-    need(self, result, SQLITE_DONE);
-    sqlite3_reset(self->select);
-    return met == with->rows && (with->number == NO_ROOM) == (others > 0);
+    size_t rows = count_rows(self, self->select);
+    int64_t *mine = all_rows(self, rows), *others = sorted(with->cells, with->rows, with->columns);
+    bool fits = with->number == NO_ROOM ? rows > with->rows : rows == with->rows;
+    bool agrees = fits && are_among(others, with->rows, mine, rows);
+    free(mine);
+    free(others);
+    return agrees;
 }

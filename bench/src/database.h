@@ -6,6 +6,13 @@
 
 #include <sqlite3.h>
 
+/* What is done for SQLite's sake. */
+typedef struct {
+    bool index;    /* the user's */
+    bool analyze;  /* ANALYZE, after the rows and the index are there */
+    bool bare;     /* SELECT for SELECT DISTINCT, where the data make no two rows equal */
+} variant;
+
 typedef struct {
     const workload *from;
     sqlite3 *db;
@@ -13,10 +20,11 @@ typedef struct {
     answer to;
 } database;
 
-void database_open(database *self, const workload *from, bool with_index);
+/* False if the variant does not exist: no index, or equal rows without DISTINCT. */
+bool database_open(database *self, const workload *from, variant how);
 void database_close(database *self);
 void database_call(void *self);
-/* Compares all rows of the statement with an answer, as sets. */
+/* Compares all rows of the statement with an answer, in any order. */
 bool database_agrees(database *self, const answer *with);
 
 #endif

@@ -1,49 +1,44 @@
 /*
- * The same jobs by hand: nested loops over the rows, guards written in, equal rows found by a walk
- * over the answer, the first meeting first. No index, no hash, no sorting.
+ * The same jobs by hand, as one would write them for one question: the plan is fixed, rows that a
+ * guard lets through are found once, equal keys are met by chains, aggregates are computed once,
+ * equal answer rows are found by hashing, and the first meeting comes first.
  */
-#include "bench.h"
+#include "loop.h"
 
-#include <string.h>
+typedef struct {
+    uint32_t call, row; /* of the call that put it there; other slots are empty */
+} slot;
+enum { SLOTS = 1 << 16 }; /* over twice the rows that ever fit */
+static slot slots[SLOTS];
+static uint32_t this_call;
 
-#define EACH(type, name, relation_number)                                                         \
-    for (const type *name = table(w, relation_number), *name##_end = name + size(w, relation_number); \
-         name < name##_end; name++)
-
-static const void *table(const workload *w, size_t i)
+static inline size_t slot_of(size_t columns, const int64_t *row)
 {
-    return w->relation[i].first;
+    uint64_t mixed = 0;
+    for (size_t c = 0; c < columns; c++)
+        mixed = (mixed ^ (uint64_t)row[c]) * 0x9E3779B97F4A7C15u;
+    return mixed >> 48;
 }
 
-static size_t size(const workload *w, size_t i)
+bool keep(const workload *w, answer *to, size_t columns, const int64_t *row)
 {
-    return w->relation[i].rows;
-}
-
-/* Adds a row unless it is there. False, with 41, if there is no room. */
-static inline bool keep(const workload *w, answer *to, size_t columns, const int64_t *row)
-{
-    for (size_t r = 0; r < to->rows; r++)
-        if (memcmp(to->cells + r * columns, row, columns * sizeof *row) == 0)
+    size_t at = slot_of(columns, row);
+    for (; slots[at].call == this_call; at = (at + 1) % SLOTS)
+        if (memcmp(to->cells + slots[at].row * columns, row, columns * sizeof *row) == 0)
             return true;
     if ((to->rows + 1) * columns > w->cells) {
         to->number = 41;
         return false;
     }
+    slots[at] = (slot){this_call, (uint32_t)to->rows};
     memcpy(to->cells + to->rows * columns, row, columns * sizeof *row);
     to->rows++;
     return true;
 }
 
-static inline bool keep1(const workload *w, answer *to, int64_t a)
+void keep_anew(void)
 {
-    return keep(w, to, 1, &a);
-}
-
-static inline bool keep2(const workload *w, answer *to, int64_t a, int64_t b)
-{
-    const int64_t row[2] = {a, b};
-    return keep(w, to, 2, row);
+    this_call++;
 }
 
 typedef struct {
@@ -79,27 +74,21 @@ typedef struct {
 typedef struct {
     int32_t id, tier, minprice;
 } b5_zone;
-typedef struct {
-    int32_t article, rank, number;
-} b6_offer;
 
-static bool w1_seen(const offer *x)
-{
-    return x->region == 2 || x->brand == 3;
-}
-
+/* One pass: the rows of the best rank so far. */
 static void w1(const workload *w, answer *to)
 {
-    int32_t least = 0;
-    bool some = false;
-    EACH(offer, y, 0)
-        if (y->article == 7 && w1_seen(y) && (!some || y->rank < least)) {
-            least = y->rank;
-            some = true;
-        }
+    const offer *best[1024];
+    size_t count = 0;
     EACH(offer, x, 0)
-        if (x->article == 7 && x->rank == least && w1_seen(x) &&
-            !keep2(w, to, x->number, x->price))
+        if (x->article == 7 && (x->region == 2 || x->brand == 3)) {
+            if (count > 0 && x->rank < best[0]->rank)
+                count = 0;
+            if (count == 0 || x->rank == best[0]->rank)
+                best[count++] = x;
+        }
+    for (size_t i = 0; i < count; i++)
+        if (!keep2(w, to, best[i]->number, best[i]->price))
             return;
 }
 
@@ -130,32 +119,43 @@ static bool w3_seen(const short_offer *y)
 
 static void w3(const workload *w, answer *to)
 {
+    chain offers;
+    CHAIN(&offers, short_offer, y, 1, y->article, w3_seen(y));
     EACH(label, x, 0)
         if (x->store <= 3)
-            EACH(short_offer, y, 1)
-                if (x->article == y->article && y->price < x->price && w3_seen(y) &&
+            MEET(&offers, short_offer, y, 1, x->article)
+                if (x->article == y->article && y->price < x->price &&
                     !keep2(w, to, x->label, y->number))
                     return;
 }
 
+/* A handful of stores a region, so the tiers are compared one by one. */
 static void w5(const workload *w, answer *to)
 {
+    chain brands, stores;
+    CHAIN(&brands, brand, b, 1, b->id, b->owner != 3);
+    CHAIN(&stores, store, s, 2, s->region, s->size >= 20);
     EACH(offer, x, 0)
         if (x->stock > 99)
-            EACH(brand, b, 1)
-                if (x->brand == b->id && b->owner != 3)
-                    EACH(store, s, 2)
-                        if (x->region == s->region && b->tier == s->tier && s->size >= 20 &&
+            MEET(&brands, brand, b, 1, x->brand)
+                if (x->brand == b->id)
+                    MEET(&stores, store, s, 2, x->region)
+                        if (x->region == s->region && b->tier == s->tier &&
                             !keep2(w, to, x->number, s->id))
                             return;
 }
 
 static void w7(const workload *w, answer *to)
 {
+    const zone *seen[1024];
+    size_t count = 0;
+    EACH(zone, z, 1)
+        if (z->store != 9)
+            seen[count++] = z;
     EACH(offer, x, 0)
         if (x->stock > 99)
-            EACH(zone, z, 1)
-                if (x->price >= z->minprice && z->store != 9 && !keep2(w, to, x->brand, z->kind))
+            for (size_t i = 0; i < count; i++)
+                if (x->price >= seen[i]->minprice && !keep2(w, to, x->brand, seen[i]->kind))
                     return;
 }
 
@@ -166,37 +166,54 @@ static void w8(const workload *w, answer *to)
             return;
 }
 
-static bool b1_some_store(const workload *w, const b1_offer *x)
+static bool b1_some_store(const workload *w, const chain *stores, const b1_offer *x)
 {
-    EACH(store, s, 1)
-        if (s->region == x->region && s->tier == x->rank && s->size >= 20)
+    MEET(stores, store, s, 1, x->region)
+        if (s->region == x->region && s->tier == x->rank)
             return true;
     return false;
 }
 
-static bool b1_some_brand(const workload *w, const b1_offer *x)
+static bool b1_some_brand(const workload *w, const chain *brands, const b1_offer *x)
 {
-    EACH(brand, b, 2)
-        if (b->id == x->brand && b->tier > 2 && b->owner != 3)
+    MEET(brands, brand, b, 2, x->brand)
+        if (b->id == x->brand)
             return true;
     return false;
 }
 
 static void b1(const workload *w, answer *to)
 {
+    chain stores, brands;
+    CHAIN(&stores, store, s, 1, s->region, s->size >= 20);
+    CHAIN(&brands, brand, b, 2, b->id, b->tier > 2 && b->owner != 3);
     EACH(b1_offer, x, 0)
-        if (x->stock > 30 && b1_some_store(w, x) && b1_some_brand(w, x) && !keep1(w, to, x->number))
+        if (x->stock > 30 && b1_some_store(w, &stores, x) && b1_some_brand(w, &brands, x) &&
+            !keep1(w, to, x->number))
             return;
 }
 
+/* Two chains, walked side by side so that offers come in their order, each once. */
 static void b2(const workload *w, answer *to)
 {
-    EACH(label, x, 0)
-        if (x->store <= 3)
-            EACH(short_offer, y, 1)
-                if ((x->article == y->article || x->price == y->price) && w3_seen(y) &&
-                    !keep2(w, to, x->label, y->number))
-                    return;
+    chain articles, prices;
+    const short_offer *offers = table(w, 1);
+    CHAIN(&articles, short_offer, y, 1, y->article, w3_seen(y));
+    CHAIN(&prices, short_offer, y, 1, y->price, w3_seen(y));
+    EACH(label, x, 0) {
+        if (x->store > 3)
+            continue;
+        size_t a = articles.head[bucket(x->article)], p = prices.head[bucket(x->price)];
+        while (a != 0 || p != 0) {
+            size_t at = p == 0 || (a != 0 && a <= p) ? a : p;
+            const short_offer *y = &offers[at - 1];
+            a = at == a ? articles.next[a] : a;
+            p = at == p ? prices.next[p] : p;
+            if ((x->article == y->article || x->price == y->price) &&
+                !keep2(w, to, x->label, y->number))
+                return;
+        }
+    }
 }
 
 typedef struct {
@@ -249,22 +266,27 @@ static void b3(const workload *w, answer *to)
             add(&low, y->salary);
     }
     EACH(employee, x, 0) {
-        const int64_t row[5] = {x->name, count, salaries.sum, most, high.sum / divisor(&high)};
+        /* halves away from zero; salaries are positive */
+        const int64_t mean = (2 * high.sum + divisor(&high)) / (2 * divisor(&high));
+        const int64_t row[5] = {x->name, count, salaries.sum, most, mean};
         if (b3_all(x) && x->salary * divisor(&low) >= low.sum && !keep(w, to, 5, row))
             return;
     }
 }
 
-static bool b4_seen(const workload *w, const employee *x, int32_t least)
+static bool b4_seen(const workload *w, const chain *departments, const employee *x, int32_t least)
 {
-    EACH(department, d, 1)
-        if (d->dept == x->dept && d->floor == 2)
+    if (x->salary <= least)
+        return true;
+    MEET(departments, department, d, 1, x->dept)
+        if (d->dept == x->dept)
             return true;
-    return x->salary <= least;
+    return false;
 }
 
 static void b4(const workload *w, answer *to)
 {
+    chain departments, names;
     int32_t least = 0;
     bool some = false;
     EACH(employee, e, 0)
@@ -272,17 +294,20 @@ static void b4(const workload *w, answer *to)
             least = e->salary;
             some = true;
         }
+    CHAIN(&departments, department, d, 1, d->dept, d->floor == 2);
+    CHAIN(&names, employee, y, 0, y->name, b4_seen(w, &departments, y, least));
     EACH(employee, x, 0)
-        if (b4_seen(w, x, least))
-            EACH(employee, y, 0)
-                if (x->manager == y->name && x->salary > y->salary && b4_seen(w, y, least) &&
+        if (b4_seen(w, &departments, x, least))
+            MEET(&names, employee, y, 0, x->manager)
+                if (x->manager == y->name && x->salary > y->salary &&
                     !keep2(w, to, x->name, y->name))
                     return;
 }
 
-static bool b5_zones(const workload *w, answer *to, const b5_offer *x, const store *s)
+static bool b5_zones(const workload *w, const chain *zones, answer *to, const b5_offer *x,
+                     const store *s)
 {
-    EACH(b5_zone, z, 3) {
+    MEET(zones, b5_zone, z, 3, s->tier) {
         const int64_t row[3] = {x->number, s->id, z->id};
         if (s->tier == z->tier && x->price >= z->minprice && !keep(w, to, 3, row))
             return false;
@@ -292,13 +317,17 @@ static bool b5_zones(const workload *w, answer *to, const b5_offer *x, const sto
 
 static void b5(const workload *w, answer *to)
 {
+    chain brands, stores, zones;
+    CHAIN(&brands, brand, b, 1, b->id, b->owner != 3);
+    CHAIN(&stores, store, s, 2, s->region, s->size >= 20);
+    CHAIN(&zones, b5_zone, z, 3, z->tier, true);
     EACH(b5_offer, x, 0)
         if (x->stock > 99)
-            EACH(brand, b, 1)
-                if (x->brand == b->id && b->owner != 3)
-                    EACH(store, s, 2)
-                        if (x->region == s->region && b->tier == s->tier && s->size >= 20 &&
-                            !b5_zones(w, to, x, s))
+            MEET(&brands, brand, b, 1, x->brand)
+                if (x->brand == b->id)
+                    MEET(&stores, store, s, 2, x->region)
+                        if (x->region == s->region && b->tier == s->tier &&
+                            !b5_zones(w, &zones, to, x, s))
                             return;
 }
 
@@ -309,18 +338,20 @@ static void b6(const workload *w, answer *to)
     (void)to;
 }
 
-static bool b8_some_offer(const workload *w, const label *x)
+static bool b8_some_offer(const workload *w, const chain *offers, const label *x)
 {
-    EACH(short_offer, y, 1)
-        if (y->article == x->article && y->price < x->price && w3_seen(y))
+    MEET(offers, short_offer, y, 1, x->article)
+        if (y->article == x->article && y->price < x->price)
             return true;
     return false;
 }
 
 static void b8(const workload *w, answer *to)
 {
+    chain offers;
+    CHAIN(&offers, short_offer, y, 1, y->article, w3_seen(y));
     EACH(label, x, 0)
-        if (!b8_some_offer(w, x) && !keep1(w, to, x->label))
+        if (!b8_some_offer(w, &offers, x) && !keep1(w, to, x->label))
             return;
 }
 
@@ -329,17 +360,21 @@ static const struct {
     size_t columns;
     loop_function *run;
 } loops[] = {
-    {"W1", 2, w1}, {"W2", 2, w2}, {"W3", 2, w3}, {"W5", 2, w5}, {"W7", 2, w7},
-    {"W8", 1, w8}, {"B1", 1, b1}, {"B2", 2, b2}, {"B3", 5, b3}, {"B4", 2, b4},
-    {"B5", 3, b5}, {"B6", 1, b6}, {"B7", 2, w3}, {"B8", 1, b8},
+    {"W1", 2, w1}, {"W2", 2, w2}, {"W3", 2, w3}, {"W5", 2, w5}, {"W7", 2, w7}, {"W8", 1, w8},
+    {"B1", 1, b1}, {"B2", 2, b2}, {"B3", 5, b3}, {"B4", 2, b4}, {"B5", 3, b5}, {"B6", 1, b6},
+    {"B7", 2, w3}, {"B8", 1, b8}, {"N1", 1, n1}, {"N2", 1, n2}, {"N3", 1, n3}, {"N4", 2, n4},
+    {"N5", 1, n5}, {"N6", 2, n6}, {"N7", 2, n7}, {"N8", 2, n8}, {"N9", 2, n9}, {"N10", 3, n10},
+    {"G1", 2, g1}, {"G2", 1, g2}, {"G3", 2, g3}, {"G4", 1, g4},
 };
 enum { LOOPS = sizeof loops / sizeof loops[0] };
 
+/* N1@128 is N1 with 128 rows. */
 bool loop_open(loop *self, const workload *from)
 {
+    size_t length = strcspn(from->name, "@");
     self->from = from;
     for (size_t i = 0; i < LOOPS; i++)
-        if (strcmp(loops[i].name, from->name) == 0) {
+        if (strncmp(loops[i].name, from->name, length) == 0 && loops[i].name[length] == 0) {
             self->run = loops[i].run;
             self->to.columns = loops[i].columns;
             return true;
@@ -352,5 +387,6 @@ void loop_call(void *self)
     loop *l = self;
     l->to.number = 0;
     l->to.rows = 0;
+    keep_anew();
     l->run(l->from, &l->to);
 }

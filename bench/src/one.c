@@ -3,7 +3,7 @@
  *
  *     one FOLDER WORKLOAD [SECONDS]
  *
- * Compares the answer, then prints the median of the microseconds a call takes. SECONDS is how long
+ * Compares the answer, then prints the median of the microseconds a question takes. SECONDS is how long
  * it goes on measuring, 1 if not said.
  */
 #include "bench.h"
@@ -29,7 +29,7 @@ int main(int count, char **words)
     c.call = engine_call;
     c.self = &e;
     measure(&c, 1, count > 3 ? strtod(words[3], NULL) : 1);
-    printf("%s %.4g\n", w.name, c.median * 1e6);
+    printf("%s %.4g\n", w.name, c.median * 1e6 / (double)w.times);
     unload(&w);
     return 0;
 }

@@ -1,3 +1,0 @@
-CREATE TABLE offer(number INTEGER, region INTEGER, brand INTEGER, rank INTEGER, stock INTEGER);
-CREATE TABLE store(id INTEGER, region INTEGER, tier INTEGER, size INTEGER);
-CREATE TABLE brand(id INTEGER, tier INTEGER, owner INTEGER);

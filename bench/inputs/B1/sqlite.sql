@@ -1,1 +1,0 @@
-SELECT DISTINCT x.number FROM offer x WHERE EXISTS (SELECT 1 FROM store s WHERE s.region = x.region AND s.tier = x.rank AND s.size >= 20) AND EXISTS (SELECT 1 FROM brand b WHERE b.id = x.brand AND b.tier > 2 AND b.owner <> 3) AND x.stock > 30

@@ -1,1 +1,0 @@
-SELECT DISTINCT x.label, y.number FROM label x, offer y WHERE (x.article = y.article OR x.price = y.price) AND x.store <= 3 AND (y.brand = 12 OR y.brand <= 6)

@@ -1,1 +1,0 @@
-CREATE TABLE employee(name INTEGER, dept INTEGER, salary INTEGER, manager INTEGER);

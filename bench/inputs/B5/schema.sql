@@ -1,4 +1,0 @@
-CREATE TABLE offer(number INTEGER, brand INTEGER, region INTEGER, price INTEGER, stock INTEGER);
-CREATE TABLE brand(id INTEGER, tier INTEGER, owner INTEGER);
-CREATE TABLE store(id INTEGER, region INTEGER, tier INTEGER, size INTEGER);
-CREATE TABLE zone(id INTEGER, tier INTEGER, minprice INTEGER);

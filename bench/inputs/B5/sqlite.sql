@@ -1,1 +1,0 @@
-SELECT DISTINCT x.number, s.id, z.id FROM offer x, brand b, store s, zone z WHERE x.brand = b.id AND x.region = s.region AND b.tier = s.tier AND s.tier = z.tier AND x.price >= z.minprice AND 1 <> 2 AND x.stock > 99 AND b.owner <> 3 AND s.size >= 20

@@ -1,1 +1,0 @@
-CREATE INDEX offer_article ON offer(article);

@@ -1,1 +1,0 @@
-CREATE TABLE offer(article INTEGER, rank INTEGER, number INTEGER);

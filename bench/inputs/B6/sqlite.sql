@@ -1,1 +1,0 @@
-SELECT DISTINCT x.number FROM offer x, offer y, offer z, offer v WHERE x.article = y.article AND y.article = z.article AND z.article = v.article AND 2 < 1 AND x.rank <= 8 AND y.rank <= 8 AND z.rank <= 8 AND v.rank <= 8

@@ -1,1 +1,0 @@
-SELECT DISTINCT x.label FROM label x WHERE NOT EXISTS (SELECT 1 FROM offer y WHERE y.article = x.article AND y.price < x.price AND (y.brand = 12 OR y.brand <= 6))
