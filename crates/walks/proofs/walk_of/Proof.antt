@@ -64,7 +64,14 @@ add-t10 c = search needs
 
 -- src/lib.rt:21:1
 returns : tie.Need-returns
-returns c = (walk-is (now (c .before .before .before .before .before .before .before .args .walks)) (c .before .before .before .before .before .before .before .args .variable) _ _ _ _ _ _ _ (c .before .before .before .before .before .wide .ensures) refl (c .before .before .before .before .size-at .ensures .0) (c .before .before .before .size-at2 .ensures .0) (c .before .before .size-at3 .ensures .0) (c .before .size-at4 .ensures .0) (c .size-at5 .ensures .0), record { start = c .before .before .before .before .size-at .ensures .1; count = c .before .before .before .size-at2 .ensures .1; base = omega (arith, c .before .before .size-at3 .ensures .1, c .before .size-at4 .ensures .1); width = c .size-at5 .ensures .1 })
+returns c =
+    let c₁ = c .before in let size-at4 = c₁ .size-at4 in
+    let c₂ = c₁ .before in let size-at3 = c₂ .size-at3 in
+    let c₃ = c₂ .before in let size-at2 = c₃ .size-at2 in
+    let c₄ = c₃ .before in let size-at = c₄ .size-at in
+    let c₅ = c₄ .before in let wide = c₅ .wide in
+    let c₇ = c₅ .before .before in let args = c₇ .args in
+    (walk-is (now (args .walks)) (args .variable) _ _ _ _ _ _ _ (wide .ensures) refl (size-at .ensures .0) (size-at2 .ensures .0) (size-at3 .ensures .0) (size-at4 .ensures .0) (c .size-at5 .ensures .0), record { start = size-at .ensures .1; count = size-at2 .ensures .1; base = omega (arith, size-at3 .ensures .1, size-at4 .ensures .1); width = c .size-at5 .ensures .1 })
 
 pub walk-of-spec : {M : Type 1} → statement M
 walk-of-spec =
