@@ -356,7 +356,7 @@ condition-returns-10 t c =
     (no-condition (now (args .walks)) (now (args .vs)) (now (args .memo)) (now (args .env)) (now (args .q)) (now (args .z)) (args .level) _ (if1 .left) (c .before .read .ensures) (c .match .keys7), search needs)
 
 abbrev gather-Inv-loop : gather-lts.InvT-loop
-gather-Inv-loop q z level ws vs memo env₀ variable attribute walk n old taken₀ i₀ env taken i = 
+gather-Inv-loop q z level ws vs memo env₀ variable attribute walk n old taken₀ i₀ env taken i =
     (set env variable old ≡ env₀)
     × Accumulates taken (kept vs (holdsOn level q z ws vs memo env₀ variable) attribute (placeAt ws walk) i)
     × (i ≤ n) × (length env ≡ length env₀)
@@ -437,7 +437,7 @@ gather-returns t c =
     (subst (Accumulates (loop .taken)) (taken-all level q z walks vs memo env variable attribute (loop .i) (walk-of .result) (walk-of .ensures .0) (omega (arith, loop-test .left, loop .inv .2))) (loop .inv .1), (omega (arith, taken-few (placeAt walks (walk-of .result)) vs (holdsOn level q z walks vs memo env variable) attribute (loop .i) (loop .taken) (loop .inv .1) (loop .i) (omega arith), loop .inv .2, walk-of .ensures .1 .count), c .before .before .set-place2 .ensures ∙ loop .inv .0))
 
 abbrev some-row-Inv-loop : some-row-lts.InvT-loop
-some-row-Inv-loop q z level ws vs memo env₀ variable walk n old i₀ env i = 
+some-row-Inv-loop q z level ws vs memo env₀ variable walk n old i₀ env i =
     (set env variable old ≡ env₀)
     × (any (holdsOn level q z ws vs memo env₀ variable) (map (tupleAt vs) (places (placeAt ws walk) i (n - i))) ≡ any (holdsOn level q z ws vs memo env₀ variable) (walked ws vs variable))
     × (i ≤ n) × (length env ≡ length env₀)
