@@ -3,7 +3,8 @@ use native.Mathlib.Omega.{arith}
 use mathlib.Core.Path.{_≡_, refl, sym, ap, _∙_}
 use denote.Ref.{now}
 use lib.ListN.{length}
-use Rattle.evaluator.specs.Evaluation.{assigned, rowsBy}
+use Rattle.walks.specs.Walks.{rowsBy}
+use Rattle.evaluator.specs.Evaluation.{assigned}
 use Rattle.aggregates.proofs.Steps.{targets-none, targets-more}
 use Prim.Native.Nat.{ℕ, _<_}
 use borrow.Fn.Kinds.{In}
