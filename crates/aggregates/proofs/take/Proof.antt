@@ -21,7 +21,7 @@ use Rattle.walks.proofs.place.Reads as place-reads′
 use Rattle.walks.proofs.walk_of.Reads as walk-of-reads
 
 abbrev Inv-loop : tie.InvT-loop
-Inv-loop t xs q z walks vs memo env₀ variable attribute walk n old taken₀ i₀ env taken i = 
+Inv-loop t xs q z walks vs memo env₀ variable attribute walk n old taken₀ i₀ env taken i =
     (set env variable old ≡ env₀) × Accumulates taken (kept vs (meets t xs q z walks vs memo env₀ variable) attribute (placeAt walks walk) i) × (i ≤ n) × (length env ≡ length env₀)
 
 abbrev μ-loop : tie.MeasureT-loop

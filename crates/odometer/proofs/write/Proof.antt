@@ -48,7 +48,7 @@ returns c =
     let c₁₀ = c₇ .before .before .before in let tail-sizes = c₁₀ .tail-sizes in
     let c₁₁ = c₁₀ .before in let tail = c₁₁ .tail in
     let c₁₆ = c₁₁ .before .before .before .before .before in let args = c₁₆ .args in let pre = c₁₆ .pre in
-    (write-row (args .plan) (now (args .cb)) (now (args .vs)) (now (args .memo)) (now (args .env)) (now (args .q)) (now (args .z)) (record { rows = args .state .rows; full = args .state .full; cells = (now (args .answer)) }) _ _ _ _ _ (tail .ensures) (tail-sizes .ensures) (targets .ensures .0) (pre .1) (c .before .add-row .ensures), targets .ensures .1)
+    (write-row (args .plan) (now (args .walks)) (now (args .vs)) (now (args .memo)) (now (args .env)) (now (args .q)) (now (args .z)) (record { rows = args .state .rows; full = args .state .full; cells = (now (args .answer)) }) _ _ _ _ _ (tail .ensures) (tail-sizes .ensures) (targets .ensures .0) (pre .1) (c .before .add-row .ensures), targets .ensures .1)
 
 pub write-spec : {M : Type 1} → statement M
 write-spec =
