@@ -36,10 +36,22 @@ pub fn walk_of(walks: &[u16], variable: u8) -> Walk
     }
 }
 
+// The number of row i in its relation.
+fn row_at(walks: &[u16], start: usize, i: usize) -> usize
+    requires { ⌜ (start ≤ 65535) × (i ≤ 65535) ⌝ }
+    ensures { λ r. ⌜ r ≡ W.rowAt (now (walks .entry)) start i ⌝ }
+    ensures { λ r. ⌜ r ≤ 65535 ⌝ }
+{
+    if start == 0 {
+        return i;
+    }
+    kinds::size_at(walks, start + i)
+}
+
 // The place of row i of a walk among the values.
 pub fn place(walks: &[u16], walk: Walk, i: usize) -> usize
     requires { ⌜ W.Fits walk × (i ≤ 65535) ⌝ }
     ensures { λ r. ⌜ r ≡ W.placeAt (now (walks .entry)) walk i ⌝ }
 {
-    walk.base + kinds::size_at(walks, walk.start + i) * walk.width
+    walk.base + row_at(walks, walk.start, i) * walk.width
 }

@@ -58,7 +58,7 @@ abbrev run-claims : ℕ → run-lts.Claims
 run-claims t = (due-reads.Asked, due-reads.Learnt, write-reads.Asked, write-reads.Learnt, each-row-below t, each-row.Post)
 
 abbrev each-row-Inv-loop : each-row-lts.InvT-loop
-each-row-Inv-loop ranges q z t xs ws vs memo env₀ answer₀ variable rest inner walk n old stage filled₀ i₀ env answer filled i = 
+each-row-Inv-loop ranges q z t xs ws vs memo env₀ answer₀ variable rest inner walk n old stage filled₀ i₀ env answer filled i =
     (set env variable old ≡ env₀)
     × (record { rows = filled .rows; full = filled .full; cells = answer } ≡ addedAll (record { rows = filled₀ .rows; full = filled₀ .full; cells = answer₀ }) (passed inner t xs q z ws vs memo env₀ variable rest (placeAt ws walk) i))
     × (i ≤ n) × (length env ≡ length env₀) × (length answer ≡ length answer₀)

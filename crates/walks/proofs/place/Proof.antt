@@ -1,34 +1,32 @@
-use mathlib.Core.Path.{ap}
-use native.Mathlib.Omega.{arith}
+use Rattle.walks.proofs.Table.{place-is}
+use denote.Ref.{now}
 use native.Mathlib.Nat.{mul-le-mul}
-use mathlib.Core.Path.{refl, ap}
-use Prim.Native.Nat.{_+_, _*_}
+use native.Mathlib.Omega.{arith}
 use borrow.Author.Needs.{needs}
 use Rattle.walks.proofs.place.Statement.{statement}
 use Rattle.walks.proofs.place.Tie as tie
 use Rattle.walks.proofs.place.Reads as reads
 use Rattle.walks.proofs.place.Lts as lts
-use Rattle.kinds.proofs.size_at.Reads as size-at-reads
+use Rattle.walks.proofs.row_at.Reads as row-at-reads
 
--- src/lib.rt:44:39
-add-size-at : tie.Need-add-size-at
-add-size-at c = search needs
+-- src/lib.rt:56:17
+row-at-requires : tie.Need-row-at-requires
+row-at-requires c κs = search needs
 
--- src/lib.rt:44:17
-size-at-requires : tie.Need-size-at-requires
-size-at-requires c κs = search needs
-
--- src/lib.rt:44:17
+-- src/lib.rt:56:17
 mul-result : tie.Need-mul-result
-mul-result c = omega (arith, mul-le-mul (c .before .size-at .ensures .1) (c .before .before .before .before .pre .0 .width))
+mul-result c = omega (arith, mul-le-mul (c .before .row-at .ensures .1) (c .before .before .before .pre .0 .width))
 
--- src/lib.rt:44:5
+-- src/lib.rt:56:5
 add-result : tie.Need-add-result
-add-result c = omega (arith, mul-le-mul (c .before .before .size-at .ensures .1) (c .before .before .before .before .before .pre .0 .width), c .before .before .before .before .before .pre .0 .base)
+add-result c = omega (arith, mul-le-mul (c .before .before .row-at .ensures .1) (c .before .before .before .before .pre .0 .width), c .before .before .before .before .pre .0 .base)
 
--- src/lib.rt:40:1
+-- src/lib.rt:52:1
 returns : tie.Need-returns
-returns c = ap (λ n. (c .before .before .before .before .before .args .walk) .base + n * (c .before .before .before .before .before .args .walk) .width) (c .before .before .size-at .ensures .0)
+returns c =
+    let c₂ = c .before .before in let row-at = c₂ .row-at in
+    let c₄ = c₂ .before .before in let args = c₄ .args in
+    place-is (now (args .walks)) (args .walk) (args .i) (row-at .result) (row-at .ensures .0)
 
 pub place-spec : {M : Type 1} → statement M
-place-spec = tie.close (tie.spec add-size-at size-at-requires mul-result add-result returns)
+place-spec = tie.close (tie.spec row-at-requires mul-result add-result returns)
