@@ -1,4 +1,4 @@
-// The plain evaluator: a query over all rows, with no permits.
+// A query answered over the rows of its walks; the plain evaluator takes all rows, with no permits.
 use grammar::Layout;
 use odometer::Plan;
 use queries::Checked;
@@ -12,7 +12,8 @@ ghost use Rattle.model.specs.Encoding.{queryOf};
 ghost use Rattle.model.specs.Meaning.{answers};
 ghost use Rattle.model.specs.Catalogue.{catalogueOf, tuplesAt, allRows};
 ghost use Rattle.model.specs.Calls.{give, evaluate};
-ghost use Rattle.evaluator.specs.Evaluation.{assigned, rowsIn};
+ghost use Rattle.walks.specs.Walks.{rowsBy};
+ghost use Rattle.evaluator.specs.Evaluation.{assigned};
 ghost use Rattle.queries.specs.Parts.{queryAt};
 ghost use Rattle.plain.specs.Reply.{answerOf, replyOf, planOf, memoOf, Answerable, Accepted, Trusted, Unbound};
 
@@ -59,24 +60,24 @@ fn remember(
     z: &[u16],
     layout: Layout,
     level: usize,
-    catalogue: &[u8],
+    walks: &[u16],
     values: &[i32],
     env: &mut [usize],
     memo: &mut [i64],
 )
     requires { ⌜ 256 ≤ length (now env) ⌝ }
-    ensures { λ _. ⌜ now (memo .exit) ≡ memoOf (queryAt layout level (now (q .entry)) (now (z .entry))) (rowsIn (now (catalogue .entry)) (now (values .entry))) (assigned (now (values .entry)) (now (env .entry))) (now (memo .entry)) ⌝ }
+    ensures { λ _. ⌜ now (memo .exit) ≡ memoOf (queryAt layout level (now (q .entry)) (now (z .entry))) (rowsBy (now (walks .entry)) (now (values .entry))) (assigned (now (values .entry)) (now (env .entry))) (now (memo .entry)) ⌝ }
     ensures { λ _. ⌜ now (env .exit) ≡ now (env .entry) ⌝ }
 {
     let t = layout.first;
     let n = layout.targets;
     let x = kinds::tail(q, t);
     let y = kinds::tail_sizes(z, t);
-    aggregates::targets(x, y, n, level, catalogue, values, env, memo);
+    aggregates::targets(x, y, n, level, walks, values, env, memo);
     let c = layout.condition;
     let u = kinds::tail(q, c);
     let v = kinds::tail_sizes(z, c);
-    aggregates::condition(u, v, level, catalogue, values, env, memo);
+    aggregates::condition(u, v, level, walks, values, env, memo);
 }
 
 // All ranges are left to bind.
@@ -102,20 +103,21 @@ fn no_rows() -> Filled
     }
 }
 
-// A query that passed its checks, over all rows, by a memo that says nothing false of it; no variable is bound yet.
+// A query that passed its checks, over the rows of its walks, by a memo that says nothing false of it; no variable is bound yet.
 fn answer_by(
     q: &[u8],
     z: &[u16],
     layout: Layout,
     level: usize,
     catalogue: &[u8],
+    walks: &[u16],
     values: &[i32],
     memo: &[i64],
     env: &mut [usize],
     answer: &mut [i64],
 ) -> Reply
-    requires { ⌜ Answerable layout level (now q) (now z) (now catalogue) × Trusted (now memo) (rowsIn (now catalogue) (now values)) (queryAt layout level (now q) (now z)) × Unbound (now values) (now env) ⌝ }
-    ensures { λ r. ⌜ answerOf r (now (answer .exit)) ≡ give (length (queryOf (now (q .entry)) .targets)) (answers (queryOf (now (q .entry))) (allRows (tuplesAt (catalogueOf (now (catalogue .entry))) (now (values .entry))))) (now (answer .entry)) ⌝ }
+    requires { ⌜ Answerable layout level (now q) (now z) (now catalogue) × Trusted (now memo) (rowsBy (now walks) (now values)) (queryAt layout level (now q) (now z)) × Unbound (now values) (now env) ⌝ }
+    ensures { λ r. ⌜ answerOf r (now (answer .exit)) ≡ give (length (queryOf (now (q .entry)) .targets)) (answers (queryOf (now (q .entry))) (rowsBy (now (walks .entry)) (now (values .entry)))) (now (answer .entry)) ⌝ }
 {
     let mut t = [0u16; 512];
     let mut xs = [0i32; 128];
@@ -129,7 +131,7 @@ fn answer_by(
         &t,
         &xs,
         plan_of(layout, level),
-        catalogue,
+        walks,
         values,
         memo,
         env,
@@ -146,16 +148,28 @@ fn answer_filled(
     layout: Layout,
     level: usize,
     catalogue: &[u8],
+    walks: &[u16],
     values: &[i32],
     env: &mut [usize],
     answer: &mut [i64],
 ) -> Reply
     requires { ⌜ Answerable layout level (now q) (now z) (now catalogue) × Unbound (now values) (now env) ⌝ }
-    ensures { λ r. ⌜ answerOf r (now (answer .exit)) ≡ give (length (queryOf (now (q .entry)) .targets)) (answers (queryOf (now (q .entry))) (allRows (tuplesAt (catalogueOf (now (catalogue .entry))) (now (values .entry))))) (now (answer .entry)) ⌝ }
+    ensures { λ r. ⌜ answerOf r (now (answer .exit)) ≡ give (length (queryOf (now (q .entry)) .targets)) (answers (queryOf (now (q .entry))) (rowsBy (now (walks .entry)) (now (values .entry)))) (now (answer .entry)) ⌝ }
 {
     let mut memo = [0i64; 512];
-    remember(q, z, layout, level, catalogue, values, env, &mut memo);
-    answer_by(q, z, layout, level, catalogue, values, &memo, env, answer)
+    remember(q, z, layout, level, walks, values, env, &mut memo);
+    answer_by(
+        q,
+        z,
+        layout,
+        level,
+        catalogue,
+        walks,
+        values,
+        &memo,
+        env,
+        answer,
+    )
 }
 
 // Whether a record of the query is an aggregate. It promises nothing, since any memo that can be trusted will do: it only saves time.
@@ -170,8 +184,51 @@ fn aggregated(q: &[u8]) -> bool {
     false
 }
 
-// A query that passed its checks, over all rows. A memo that knows nothing can be trusted for any query: without aggregates no large one is cleared.
-fn answer_query(
+// A query that passed its checks, over the rows of its walks. A memo that knows nothing can be trusted for any query: without aggregates no large one is cleared.
+pub fn answer_query(
+    q: &[u8],
+    z: &[u16],
+    layout: Layout,
+    level: usize,
+    catalogue: &[u8],
+    walks: &[u16],
+    values: &[i32],
+    answer: &mut [i64],
+) -> Reply
+    requires { ⌜ Answerable layout level (now q) (now z) (now catalogue) ⌝ }
+    ensures { λ r. ⌜ answerOf r (now (answer .exit)) ≡ give (length (queryOf (now (q .entry)) .targets)) (answers (queryOf (now (q .entry))) (rowsBy (now (walks .entry)) (now (values .entry)))) (now (answer .entry)) ⌝ }
+{
+    let mut env = [values.len(); 256];
+    if aggregated(q) {
+        return answer_filled(
+            q,
+            z,
+            layout,
+            level,
+            catalogue,
+            walks,
+            values,
+            &mut env,
+            answer,
+        );
+    }
+    let memo = [0i64; 2];
+    answer_by(
+        q,
+        z,
+        layout,
+        level,
+        catalogue,
+        walks,
+        values,
+        &memo,
+        &mut env,
+        answer,
+    )
+}
+
+// The same over all rows.
+fn answer_all(
     q: &[u8],
     z: &[u16],
     layout: Layout,
@@ -183,22 +240,9 @@ fn answer_query(
     requires { ⌜ Answerable layout level (now q) (now z) (now catalogue) ⌝ }
     ensures { λ r. ⌜ answerOf r (now (answer .exit)) ≡ give (length (queryOf (now (q .entry)) .targets)) (answers (queryOf (now (q .entry))) (allRows (tuplesAt (catalogueOf (now (catalogue .entry))) (now (values .entry))))) (now (answer .entry)) ⌝ }
 {
-    let mut env = [values.len(); 256];
-    if aggregated(q) {
-        return answer_filled(q, z, layout, level, catalogue, values, &mut env, answer);
-    }
-    let memo = [0i64; 2];
-    answer_by(
-        q,
-        z,
-        layout,
-        level,
-        catalogue,
-        values,
-        &memo,
-        &mut env,
-        answer,
-    )
+    let mut walks = [0u16; 2048];
+    allrows::fill(q, catalogue, &mut walks);
+    answer_query(q, z, layout, level, catalogue, &walks, values, answer)
 }
 
 // The checks by rising number, then the answer; the table of sizes is lent.
@@ -223,7 +267,7 @@ fn evaluate_with(
     };
     match queries::check(query, limits, catalogue, z) {
         Checked::Refused(n) => refused(n),
-        Checked::Passed(layout) => { answer_query(query, z, layout, 64, catalogue, values, answer) }
+        Checked::Passed(layout) => { answer_all(query, z, layout, 64, catalogue, values, answer) }
     }
 }
 
@@ -266,7 +310,7 @@ fn answer_with(
     ensures { λ r. ⌜ answerOf r (now (answer .exit)) ≡ evaluate (now (catalogue .entry)) (now (values .entry)) (now (query .entry)) (now (answer .entry)) ⌝ }
 {
     let layout = queries::prepare(query, like, 64, z);
-    answer_query(query, z, layout, 64, catalogue, values, answer)
+    answer_all(query, z, layout, 64, catalogue, values, answer)
 }
 
 fn answer_short(

@@ -23,7 +23,7 @@ slice-aggregate-plan-2 c = search needs
 
 -- src/lib.rt:123:5
 plan-requires : tie.Need-plan-requires
-plan-requires c κs = let h = c .before .before .before .before .before .before .pre .0 in (omega arith, omega arith, omega (arith, h .ranges), omega (arith, h .place), omega (arith, h .level), getD-same 512 0)
+plan-requires c κs = let h = c .before .before .before .before .before .before .before .pre .0 in (omega arith, omega arith, omega (arith, h .ranges), omega (arith, h .place), omega (arith, h .level), getD-same 512 0)
 
 -- src/lib.rt:128:9
 slice-aggregate-run : tie.Need-slice-aggregate-run
@@ -43,10 +43,7 @@ no-rows-requires c κs = search needs
 
 -- src/lib.rt:124:9
 run-requires : tie.Need-run-requires
-run-requires c κs =
-    let c₃ = c .before .before .before in let plan-of = c₃ .plan-of in
-    let c₁₅ = c₃ .before .before .before .before .before .before .before .before .before .before .before .before in let args = c₁₅ .args in let pre = c₁₅ .pre in
-    (pre .2 .places, bounded (args .layout) (args .level) (now (args .q)) (now (args .z)) (now (args .catalogue)) _ (pre .0) (plan-of .ensures))
+run-requires c κs = (c .before .before .before .before .before .before .before .before .before .before .before .before .before .before .before .before .pre .2 .places, bounded (c .before .before .before .before .before .before .before .before .before .before .before .before .before .before .before .before .args .layout) (c .before .before .before .before .before .before .before .before .before .before .before .before .before .before .before .before .args .level) (now (c .before .before .before .before .before .before .before .before .before .before .before .before .before .before .before .before .args .q)) (now (c .before .before .before .before .before .before .before .before .before .before .before .before .before .before .before .before .args .z)) (now (c .before .before .before .before .before .before .before .before .before .before .before .before .before .before .before .before .args .catalogue)) _ (c .before .before .before .before .before .before .before .before .before .before .before .before .before .before .before .before .pre .0) (c .before .before .before .plan-of .ensures))
 
 -- src/lib.rt:138:5
 filled-requires : tie.Need-filled-requires
@@ -62,14 +59,7 @@ same-length-2 c = search needs
 
 -- src/lib.rt:105:1
 returns : tie.Need-returns
-returns c =
-    let c₄ = c .before .before .before .before in let run = c₄ .run in
-    let c₅ = c₄ .before in let no-rows = c₅ .no-rows in
-    let c₈ = c₅ .before .before .before in let plan-of = c₈ .plan-of in
-    let c₁₃ = c₈ .before .before .before .before .before in let plan = c₁₃ .plan in
-    let c₂₀ = c₁₃ .before .before .before .before .before .before .before in let args = c₂₀ .args in let pre = c₂₀ .pre in
-    let values = now (args .values) in
-    answered (args .layout) (args .level) (now (args .q)) (now (args .z)) (now (args .catalogue)) values (now (args .memo)) (now (args .env)) (pre .0) (pre .1) (pre .2) _ _ (plan .ensures values) (plan-of .result) (no-rows .result) (run .result) _ _ _ (plan-of .ensures) (no-rows .ensures) (run .ensures .0) (c .filled .ensures)
+returns c = answered (c .before .before .before .before .before .before .before .before .before .before .before .before .before .before .before .before .before .before .before .before .before .args .layout) (c .before .before .before .before .before .before .before .before .before .before .before .before .before .before .before .before .before .before .before .before .before .args .level) (now (c .before .before .before .before .before .before .before .before .before .before .before .before .before .before .before .before .before .before .before .before .before .args .q)) (now (c .before .before .before .before .before .before .before .before .before .before .before .before .before .before .before .before .before .before .before .before .before .args .z)) (now (c .before .before .before .before .before .before .before .before .before .before .before .before .before .before .before .before .before .before .before .before .before .args .catalogue)) (now (c .before .before .before .before .before .before .before .before .before .before .before .before .before .before .before .before .before .before .before .before .before .args .walks)) (now (c .before .before .before .before .before .before .before .before .before .before .before .before .before .before .before .before .before .before .before .before .before .args .values)) (now (c .before .before .before .before .before .before .before .before .before .before .before .before .before .before .before .before .before .before .before .before .before .args .memo)) (now (c .before .before .before .before .before .before .before .before .before .before .before .before .before .before .before .before .before .before .before .before .before .args .env)) (c .before .before .before .before .before .before .before .before .before .before .before .before .before .before .before .before .before .before .before .before .before .pre .0) (c .before .before .before .before .before .before .before .before .before .before .before .before .before .before .before .before .before .before .before .before .before .pre .1) (c .before .before .before .before .before .before .before .before .before .before .before .before .before .before .before .before .before .before .before .before .before .pre .2) _ _ (c .before .before .before .before .before .before .before .before .before .before .before .before .before .plan .ensures (now (c .before .before .before .before .before .before .before .before .before .before .before .before .before .before .before .before .before .before .before .before .before .args .walks)) (now (c .before .before .before .before .before .before .before .before .before .before .before .before .before .before .before .before .before .before .before .before .before .args .values))) (c .before .before .before .before .before .before .before .before .plan-of .result) (c .before .before .before .before .before .no-rows .result) (c .before .before .before .before .run .result) _ _ _ (c .before .before .before .before .before .before .before .before .plan-of .ensures) (c .before .before .before .before .before .no-rows .ensures) (c .before .before .before .before .run .ensures .0) (c .filled .ensures)
 
 pub answer-by-spec : {M : Type 1} → statement M
 answer-by-spec =

@@ -21,7 +21,7 @@ slice-aggregate-answer-filled c = search needs
 
 -- src/lib.rt:165:9
 answer-filled-requires : tie.Need-answer-filled-requires
-answer-filled-requires c κs = (c .before .before .before .before .before .before .before .pre, none-bound (now (c .before .before .before .before .before .before .before .args .values)))
+answer-filled-requires c κs = (c .before .before .before .before .before .before .before .before .pre, none-bound (now (c .before .before .before .before .before .before .before .before .args .values)))
 
 -- src/lib.rt:165:9
 same-length : tie.Need-same-length
@@ -41,9 +41,7 @@ slice-aggregate-answer-by-2 c = search needs
 
 -- src/lib.rt:168:5
 answer-by-requires : tie.Need-answer-by-requires
-answer-by-requires c κs =
-    let c₈ = c .before .before .before .before .before .before .before .before in let args = c₈ .args in let pre = c₈ .pre in
-    (pre, blank-trusted _ _ (getD-same 2 (pos 0)) _, none-bound (now (args .values)))
+answer-by-requires c κs = (c .before .before .before .before .before .before .before .before .before .pre, blank-trusted _ _ (getD-same 2 (pos 0)) _, none-bound (now (c .before .before .before .before .before .before .before .before .before .args .values)))
 
 -- src/lib.rt:151:1
 same-length-2 : tie.Need-same-length-2
