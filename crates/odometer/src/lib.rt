@@ -7,6 +7,7 @@ ghost use lib.ListN.{length};
 ghost use lib.Seq.{sets};
 ghost use Rattle.sizes.specs.Parts.{targetsAt};
 ghost use Rattle.rows.specs.Buffer.{added, addedAll};
+ghost use Rattle.rows.specs.Chains.{Linked};
 ghost use Rattle.evaluator.specs.Evaluation.{assigned, rowsIn};
 ghost use Rattle.odometer.specs.Staged.{depthHolds};
 ghost use Rattle.odometer.specs.Plan.{Bounds, cellsBy, rowBy, rowsFrom, rowsBelow};
@@ -58,11 +59,13 @@ fn write(
     memo: &[i64],
     env: &mut [usize],
     answer: &mut [i64],
+    table: &mut [u16],
     state: Filled,
 ) -> Filled
-    requires { ⌜ (256 ≤ length (now env)) × (plan .columns ≤ 8) ⌝ }
+    requires { ⌜ (256 ≤ length (now env)) × (plan .columns ≤ 8) × Linked (plan .columns) (state .rows) (now answer) (now table) ⌝ }
     ensures { λ r. ⌜ record { rows = r .rows; full = r .full; cells = now (answer .exit) } ≡ added (record { rows = state .rows; full = state .full; cells = now (answer .entry) }) (rowBy plan (now (q .entry)) (now (z .entry)) (now (cb .entry)) (now (vs .entry)) (now (memo .entry)) (assigned (now (vs .entry)) (now (env .entry)))) ⌝ }
     ensures { λ _. ⌜ now (env .exit) ≡ now (env .entry) ⌝ }
+    ensures { λ r. ⌜ Linked (plan .columns) (r .rows) (now (answer .exit)) (now (table .exit)) ⌝ }
 {
     let level = plan.level;
     let n = plan.columns;
@@ -71,7 +74,7 @@ fn write(
     let y = kinds::tail_sizes(z, t);
     let mut row = [0i64; 8];
     targets(x, y, n, level, cb, vs, memo, env, &mut row, 0);
-    rows::add_row(answer, state, &row[..n])
+    rows::add_row(answer, table, state, &row[..n])
 }
 
 // Whether the conjuncts hold that are due at this depth, the cheap ones first.
@@ -125,11 +128,13 @@ pub fn run(
     memo: &[i64],
     env: &mut [usize],
     answer: &mut [i64],
+    table: &mut [u16],
     state: Filled,
 ) -> Filled
-    requires { ⌜ (256 ≤ length (now env)) × Bounds plan ⌝ }
+    requires { ⌜ (256 ≤ length (now env)) × Bounds plan × Linked (plan .columns) (state .rows) (now answer) (now table) ⌝ }
     ensures { λ r. ⌜ record { rows = r .rows; full = r .full; cells = now (answer .exit) } ≡ addedAll (record { rows = state .rows; full = state .full; cells = now (answer .entry) }) (rowsFrom plan (now (t .entry)) (now (xs .entry)) (now (q .entry)) (now (z .entry)) (now (cb .entry)) (now (vs .entry)) (now (memo .entry)) (now (ranges .entry)) (assigned (now (vs .entry)) (now (env .entry)))) ⌝ }
     ensures { λ _. ⌜ now (env .exit) ≡ now (env .entry) ⌝ }
+    ensures { λ r. ⌜ Linked (plan .columns) (r .rows) (now (answer .exit)) (now (table .exit)) ⌝ }
 {
     let full = state.full;
     if full {
@@ -140,9 +145,23 @@ pub fn run(
     }
     let left = plan.left;
     if left == 0 {
-        return write(q, z, plan, cb, vs, memo, env, answer, state);
+        return write(q, z, plan, cb, vs, memo, env, answer, table, state);
     }
-    each_row(ranges, q, z, t, xs, plan, cb, vs, memo, env, answer, state)
+    each_row(
+        ranges,
+        q,
+        z,
+        t,
+        xs,
+        plan,
+        cb,
+        vs,
+        memo,
+        env,
+        answer,
+        table,
+        state,
+    )
 }
 
 // The variable of the first RANGE record on each row of its relation that does not fail the first comparison due there.
@@ -158,11 +177,13 @@ fn each_row(
     memo: &[i64],
     env: &mut [usize],
     answer: &mut [i64],
+    table: &mut [u16],
     state: Filled,
 ) -> Filled
-    requires { ⌜ (256 ≤ length (now env)) × Bounds plan × (1 ≤ plan .left) ⌝ }
+    requires { ⌜ (256 ≤ length (now env)) × Bounds plan × (1 ≤ plan .left) × Linked (plan .columns) (state .rows) (now answer) (now table) ⌝ }
     ensures { λ r. ⌜ record { rows = r .rows; full = r .full; cells = now (answer .exit) } ≡ addedAll (record { rows = state .rows; full = state .full; cells = now (answer .entry) }) (rowsBelow plan (now (t .entry)) (now (xs .entry)) (now (q .entry)) (now (z .entry)) (now (cb .entry)) (now (vs .entry)) (now (memo .entry)) (now (ranges .entry)) (assigned (now (vs .entry)) (now (env .entry)))) ⌝ }
     ensures { λ _. ⌜ now (env .exit) ≡ now (env .entry) ⌝ }
+    ensures { λ r. ⌜ Linked (plan .columns) (r .rows) (now (answer .exit)) (now (table .exit)) ⌝ }
 {
     let variable = kinds::byte(ranges, 1);
     let relation = kinds::byte(ranges, 2);
@@ -178,7 +199,21 @@ fn each_row(
     let mut filled = state;
     while i < n {
         evaluator::set_place(env, variable, row);
-        filled = run(rest, q, z, t, xs, inner, cb, vs, memo, env, answer, filled);
+        filled = run(
+            rest,
+            q,
+            z,
+            t,
+            xs,
+            inner,
+            cb,
+            vs,
+            memo,
+            env,
+            answer,
+            table,
+            filled,
+        );
         let s = probes::ahead(t, xs, stage, variable, vs, memo, env, row + w, w, n - i - 1);
         row += w + s * w;
         i += 1 + s;
