@@ -1,5 +1,5 @@
 -- One step of each function as an equation over plain variables.
-use mathlib.Core.Path.{_≡_, refl, sym, ap, ap₂, _∙_}
+use mathlib.Core.Path.{_≡_, refl, sym, ap, ap₂, _∙_, subst}
 use mathlib.Core.Bool.{Bool, true, false, not}
 use mathlib.Core.List.{List, [], _∷_, _++_, map, map-append, append-nil}
 use Prim.Native.Nat.{ℕ, zero, suc, _+_, _-_, _*_, _≤_, _<_}
@@ -7,7 +7,7 @@ use native.Mathlib.Omega.{arith}
 use native.Mathlib.Numerals.{sub-one, add-one}
 use lib.IntN.{ℤ}
 use lib.ListN.{length, getD, set, drop, take, length-map}
-use lib.Seq.{sets, sets-eq, take-at}
+use lib.Seq.{sets, sets-eq, take-at, length-take-le}
 use Rattle.model.specs.Lists.{update, concatMap}
 use Rattle.model.specs.Syntax.{Binding}
 use Rattle.model.specs.Meaning.{Tuple, Assignment, Rows, cell}
@@ -23,6 +23,7 @@ use Rattle.catalogue.specs.Layout.{tupleAt}
 use Rattle.walks.specs.declared.Walk.{Walk}
 use Rattle.walks.proofs.Loops.{concat-to}
 use Rattle.rows.specs.Buffer.{Buffer, added, addedAll}
+use Rattle.rows.specs.Chains.{Linked}
 use Rattle.rows.proofs.Laws.{added-append, full-stays}
 use Rattle.sizes.specs.Parts.{rangesAt, targetsAt}
 use Rattle.conjuncts.specs.Stages.{stageHolds}
@@ -64,6 +65,14 @@ pub write-row : (p : Plan) (ws : List ℕ) (vs m : List ℤ) (e q z : List ℕ) 
     → r ≡ added s (rowBy p q z ws vs m (assigned vs e))
 write-row p ws vs m e q z s u v row row₀ r eu ev er hl e′ =
     e′ ∙ ap (added s) (ap (take (p .columns)) (er ∙ rw (eu, ev)) ∙ written (p .columns) row₀ (rowBy p q z ws vs m (assigned vs e)) (length-row (p .columns) (p .level) (drop (p .targets) q) (drop (p .targets) z) m (rowsBy ws vs) (assigned vs e)) hl)
+
+-- the row handed on has as many cells as the plan says
+module _ (n : ℕ) (row : List ℤ) (k : ℕ) (cells : List ℤ) (t : List ℕ) (h : n ≤ length row) where
+  pub row-linked : Linked n k cells t → Linked (length (take n row)) k cells t
+  row-linked l = subst (λ (w : ℕ). Linked w k cells t) (sym (length-take-le n row h)) l
+
+  pub linked-row : Linked (length (take n row)) k cells t → Linked n k cells t
+  linked-row l = subst (λ (w : ℕ). Linked w k cells t) (length-take-le n row h) l
 
 module _ (t : List ℕ) (xs : List ℤ) (q z ws : List ℕ) (vs m : List ℤ) (e : List ℕ) (d : ℕ) (b : Bool) (eb : b ≡ stageHolds t xs q z ws vs m (2 * d) (assigned vs e)) where
   pub due-no : not b ≡ true → false ≡ depthHolds t xs q z ws vs m d (assigned vs e)

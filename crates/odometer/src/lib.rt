@@ -7,6 +7,7 @@ ghost use lib.ListN.{length};
 ghost use lib.Seq.{sets};
 ghost use Rattle.sizes.specs.Parts.{targetsAt};
 ghost use Rattle.rows.specs.Buffer.{added, addedAll};
+ghost use Rattle.rows.specs.Chains.{Linked};
 ghost use Rattle.walks.specs.Walks.{rowsBy};
 ghost use Rattle.evaluator.specs.Evaluation.{assigned};
 ghost use Rattle.odometer.specs.Staged.{depthHolds};
@@ -59,11 +60,13 @@ fn write(
     memo: &[i64],
     env: &mut [usize],
     answer: &mut [i64],
+    table: &mut [u16],
     state: Filled,
 ) -> Filled
-    requires { ⌜ (256 ≤ length (now env)) × (plan .columns ≤ 8) ⌝ }
+    requires { ⌜ (256 ≤ length (now env)) × (plan .columns ≤ 8) × Linked (plan .columns) (state .rows) (now answer) (now table) ⌝ }
     ensures { λ r. ⌜ record { rows = r .rows; full = r .full; cells = now (answer .exit) } ≡ added (record { rows = state .rows; full = state .full; cells = now (answer .entry) }) (rowBy plan (now (q .entry)) (now (z .entry)) (now (walks .entry)) (now (vs .entry)) (now (memo .entry)) (assigned (now (vs .entry)) (now (env .entry)))) ⌝ }
     ensures { λ _. ⌜ now (env .exit) ≡ now (env .entry) ⌝ }
+    ensures { λ r. ⌜ Linked (plan .columns) (r .rows) (now (answer .exit)) (now (table .exit)) ⌝ }
 {
     let level = plan.level;
     let n = plan.columns;
@@ -72,7 +75,7 @@ fn write(
     let y = kinds::tail_sizes(z, t);
     let mut row = [0i64; 8];
     targets(x, y, n, level, walks, vs, memo, env, &mut row, 0);
-    rows::add_row(answer, state, &row[..n])
+    rows::add_row(answer, table, state, &row[..n])
 }
 
 // Whether the conjuncts hold that are due at this depth, the cheap ones first.
@@ -126,11 +129,13 @@ pub fn run(
     memo: &[i64],
     env: &mut [usize],
     answer: &mut [i64],
+    table: &mut [u16],
     state: Filled,
 ) -> Filled
-    requires { ⌜ (256 ≤ length (now env)) × Bounds plan ⌝ }
+    requires { ⌜ (256 ≤ length (now env)) × Bounds plan × Linked (plan .columns) (state .rows) (now answer) (now table) ⌝ }
     ensures { λ r. ⌜ record { rows = r .rows; full = r .full; cells = now (answer .exit) } ≡ addedAll (record { rows = state .rows; full = state .full; cells = now (answer .entry) }) (rowsFrom plan (now (t .entry)) (now (xs .entry)) (now (q .entry)) (now (z .entry)) (now (walks .entry)) (now (vs .entry)) (now (memo .entry)) (now (ranges .entry)) (assigned (now (vs .entry)) (now (env .entry)))) ⌝ }
     ensures { λ _. ⌜ now (env .exit) ≡ now (env .entry) ⌝ }
+    ensures { λ r. ⌜ Linked (plan .columns) (r .rows) (now (answer .exit)) (now (table .exit)) ⌝ }
 {
     let full = state.full;
     if full {
@@ -141,7 +146,7 @@ pub fn run(
     }
     let left = plan.left;
     if left == 0 {
-        return write(q, z, plan, walks, vs, memo, env, answer, state);
+        return write(q, z, plan, walks, vs, memo, env, answer, table, state);
     }
     each_row(
         ranges,
@@ -155,6 +160,7 @@ pub fn run(
         memo,
         env,
         answer,
+        table,
         state,
     )
 }
@@ -172,11 +178,13 @@ fn each_row(
     memo: &[i64],
     env: &mut [usize],
     answer: &mut [i64],
+    table: &mut [u16],
     state: Filled,
 ) -> Filled
-    requires { ⌜ (256 ≤ length (now env)) × Bounds plan × (1 ≤ plan .left) ⌝ }
+    requires { ⌜ (256 ≤ length (now env)) × Bounds plan × (1 ≤ plan .left) × Linked (plan .columns) (state .rows) (now answer) (now table) ⌝ }
     ensures { λ r. ⌜ record { rows = r .rows; full = r .full; cells = now (answer .exit) } ≡ addedAll (record { rows = state .rows; full = state .full; cells = now (answer .entry) }) (rowsBelow plan (now (t .entry)) (now (xs .entry)) (now (q .entry)) (now (z .entry)) (now (walks .entry)) (now (vs .entry)) (now (memo .entry)) (now (ranges .entry)) (assigned (now (vs .entry)) (now (env .entry)))) ⌝ }
     ensures { λ _. ⌜ now (env .exit) ≡ now (env .entry) ⌝ }
+    ensures { λ r. ⌜ Linked (plan .columns) (r .rows) (now (answer .exit)) (now (table .exit)) ⌝ }
 {
     let variable = kinds::byte(ranges, 1);
     let rest = kinds::tail(ranges, kinds::record_length(1));
@@ -201,6 +209,7 @@ fn each_row(
             memo,
             env,
             answer,
+            table,
             filled,
         );
         i = probes::ahead(t, xs, stage, variable, walks, walk, vs, memo, env, i + 1);

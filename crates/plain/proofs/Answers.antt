@@ -6,7 +6,7 @@ use Prim.Native.Nat.{ℕ, zero, suc, _+_, _*_, _≤_, _<_}
 use native.Mathlib.Omega.{arith}
 use lib.Dec.{ltb}
 use lib.IntN.{ℤ}
-use lib.ListN.{length, drop, length-map}
+use lib.ListN.{length, getD, drop, length-map}
 use borrow.Author.Tests.{ltb-false}
 use Rattle.model.specs.Lists.{filter, concatMap, Every}
 use Rattle.model.specs.Syntax.{Binding, Query, bindings, bindingsT, bindingsQ}
@@ -25,7 +25,9 @@ use Rattle.catalogue.specs.Layout.{tuplesIn}
 use Rattle.catalogue.proofs.Reading.{tuples-are}
 use Rattle.rows.specs.declared.Filled.{Filled}
 use Rattle.rows.specs.Buffer.{Buffer, addedAll, start}
+use Rattle.rows.specs.Chains.{Linked}
 use Rattle.rows.proofs.Laws.{given, whole-rows}
+use Rattle.rows.proofs.Links.{linked-none}
 use Rattle.scans.specs.Flat.{flatBindings}
 use Rattle.scans.proofs.Whole.{bindings-query}
 use Rattle.walks.specs.Walks.{rowsBy}
@@ -61,6 +63,10 @@ wide-rows u R = whole-rows (length (u .targets)) (targetRow (u .targets) R) (λ 
 -- its plan is in bounds
 pub bounded : (y : Layout) (l : ℕ) (q z cb : List ℕ) (p : Plan) → Answerable y l q z cb → p ≡ planOf y l → Bounds p
 bounded y l q z cb p ok e = subst Bounds (sym e) (record { columns = ok .columns; ranges = omega (arith, ok .ranges) })
+
+-- no row is linked before the first
+pub none-linked : (w : ℕ) (s : Filled) (cells : List ℤ) (t : List ℕ) → s ≡ record { rows = 0; full = false } → length t ≤ 65535 → ((i : ℕ) → getD t i 0 ≡ 0) → Linked w (s .rows) cells t
+none-linked w s cells t e h z = subst (λ (n : ℕ). Linked w n cells t) (sym (ap (λ (x : Filled). x .rows) e)) (linked-none w cells t h z)
 
 module _ (y : Layout) (l : ℕ) (q z cb ws : List ℕ) (vs m : List ℤ) (e : List ℕ) (ok : Answerable y l q z cb) (h : Trusted m (rowsBy ws vs) (queryAt y l q z)) (b : Unbound vs e) where
   module _ (t : List ℕ) (xs : List ℤ) (w : Planned t xs q z ws vs m (decode l (drop (y .condition) q) (drop (y .condition) z)) (rangesAt (y .ranges) q)) where

@@ -6,8 +6,8 @@ use queries::Limits;
 use rows::Filled;
 ghost use mathlib.Core.Path.{_≡_};
 ghost use mathlib.Core.Bool.{false};
-ghost use Prim.Native.Nat.{_≤_};
-ghost use lib.ListN.{length};
+ghost use Prim.Native.Nat.{ℕ, _≤_};
+ghost use lib.ListN.{length, getD};
 ghost use Rattle.model.specs.Encoding.{queryOf};
 ghost use Rattle.model.specs.Meaning.{answers};
 ghost use Rattle.model.specs.Catalogue.{catalogueOf, tuplesAt, allRows};
@@ -103,8 +103,9 @@ fn no_rows() -> Filled
     }
 }
 
-// A query that passed its checks, over the rows of its walks, by a memo that says nothing false of it; no variable is bound yet.
-fn answer_by(
+// A query that passed its checks, over the rows of its walks, by a memo that says nothing false of it; no variable is bound yet. The table for the
+// answer's rows is lent, cleared.
+fn answer_in(
     q: &[u8],
     z: &[u16],
     layout: Layout,
@@ -115,8 +116,9 @@ fn answer_by(
     memo: &[i64],
     env: &mut [usize],
     answer: &mut [i64],
+    table: &mut [u16],
 ) -> Reply
-    requires { ⌜ Answerable layout level (now q) (now z) (now catalogue) × Trusted (now memo) (rowsBy (now walks) (now values)) (queryAt layout level (now q) (now z)) × Unbound (now values) (now env) ⌝ }
+    requires { ⌜ Answerable layout level (now q) (now z) (now catalogue) × Trusted (now memo) (rowsBy (now walks) (now values)) (queryAt layout level (now q) (now z)) × Unbound (now values) (now env) × (length (now table) ≤ 65535) × ((i : ℕ) → getD (now table) i 0 ≡ 0) ⌝ }
     ensures { λ r. ⌜ answerOf r (now (answer .exit)) ≡ give (length (queryOf (now (q .entry)) .targets)) (answers (queryOf (now (q .entry))) (rowsBy (now (walks .entry)) (now (values .entry)))) (now (answer .entry)) ⌝ }
 {
     let mut t = [0u16; 512];
@@ -136,9 +138,138 @@ fn answer_by(
         memo,
         env,
         answer,
+        table,
         no_rows(),
     );
     filled(state, layout.targets)
+}
+
+// The same where the answer has at most 1,024 rows: 512 heads.
+fn answer_few(
+    q: &[u8],
+    z: &[u16],
+    layout: Layout,
+    level: usize,
+    catalogue: &[u8],
+    walks: &[u16],
+    values: &[i32],
+    memo: &[i64],
+    env: &mut [usize],
+    answer: &mut [i64],
+) -> Reply
+    requires { ⌜ Answerable layout level (now q) (now z) (now catalogue) × Trusted (now memo) (rowsBy (now walks) (now values)) (queryAt layout level (now q) (now z)) × Unbound (now values) (now env) ⌝ }
+    ensures { λ r. ⌜ answerOf r (now (answer .exit)) ≡ give (length (queryOf (now (q .entry)) .targets)) (answers (queryOf (now (q .entry))) (rowsBy (now (walks .entry)) (now (values .entry)))) (now (answer .entry)) ⌝ }
+{
+    let mut table = [0u16; 1536];
+    answer_in(
+        q,
+        z,
+        layout,
+        level,
+        catalogue,
+        walks,
+        values,
+        memo,
+        env,
+        answer,
+        &mut table,
+    )
+}
+
+// The same for more rows: 4,096 heads, and 16,384 rows are linked.
+fn answer_many(
+    q: &[u8],
+    z: &[u16],
+    layout: Layout,
+    level: usize,
+    catalogue: &[u8],
+    walks: &[u16],
+    values: &[i32],
+    memo: &[i64],
+    env: &mut [usize],
+    answer: &mut [i64],
+) -> Reply
+    requires { ⌜ Answerable layout level (now q) (now z) (now catalogue) × Trusted (now memo) (rowsBy (now walks) (now values)) (queryAt layout level (now q) (now z)) × Unbound (now values) (now env) ⌝ }
+    ensures { λ r. ⌜ answerOf r (now (answer .exit)) ≡ give (length (queryOf (now (q .entry)) .targets)) (answers (queryOf (now (q .entry))) (rowsBy (now (walks .entry)) (now (values .entry)))) (now (answer .entry)) ⌝ }
+{
+    let mut table = [0u16; 20480];
+    answer_in(
+        q,
+        z,
+        layout,
+        level,
+        catalogue,
+        walks,
+        values,
+        memo,
+        env,
+        answer,
+        &mut table,
+    )
+}
+
+// How many rows the ranges can give, exact up to 1,024. It promises nothing, since a table of any length will do: it only saves time.
+fn most_rows(q: &[u8], ranges: usize, walks: &[u16]) -> usize
+    requires { ⌜ ranges ≤ 4 ⌝ }
+{
+    let mut n = 1;
+    let mut i = 0;
+    while i < ranges {
+        let walk = walks::walk_of(walks, kinds::byte(q, 3 * i + 1));
+        n *= walk.count;
+        if 1024 < n {
+            return n;
+        }
+        i += 1;
+    }
+    n
+}
+
+// The same for any number of rows, by the ranges and by the room for them.
+fn answer_by(
+    q: &[u8],
+    z: &[u16],
+    layout: Layout,
+    level: usize,
+    catalogue: &[u8],
+    walks: &[u16],
+    values: &[i32],
+    memo: &[i64],
+    env: &mut [usize],
+    answer: &mut [i64],
+) -> Reply
+    requires { ⌜ Answerable layout level (now q) (now z) (now catalogue) × Trusted (now memo) (rowsBy (now walks) (now values)) (queryAt layout level (now q) (now z)) × Unbound (now values) (now env) ⌝ }
+    ensures { λ r. ⌜ answerOf r (now (answer .exit)) ≡ give (length (queryOf (now (q .entry)) .targets)) (answers (queryOf (now (q .entry))) (rowsBy (now (walks .entry)) (now (values .entry)))) (now (answer .entry)) ⌝ }
+{
+    let room = answer.len();
+    let most = most_rows(q, layout.ranges, walks);
+    let n = if room < most { room } else { most };
+    if 1024 < n {
+        return answer_many(
+            q,
+            z,
+            layout,
+            level,
+            catalogue,
+            walks,
+            values,
+            memo,
+            env,
+            answer,
+        );
+    }
+    answer_few(
+        q,
+        z,
+        layout,
+        level,
+        catalogue,
+        walks,
+        values,
+        memo,
+        env,
+        answer,
+    )
 }
 
 // The same where the query may have aggregates: each is evaluated once, into a memo with two cells for each variable.
@@ -185,6 +316,7 @@ fn aggregated(q: &[u8]) -> bool {
 }
 
 // A query that passed its checks, over the rows of its walks. A memo that knows nothing can be trusted for any query: without aggregates no large one is cleared.
+// For few rows no table is.
 pub fn answer_query(
     q: &[u8],
     z: &[u16],
@@ -213,7 +345,22 @@ pub fn answer_query(
         );
     }
     let memo = [0i64; 2];
-    answer_by(
+    if 16 < most_rows(q, layout.ranges, walks) {
+        return answer_by(
+            q,
+            z,
+            layout,
+            level,
+            catalogue,
+            walks,
+            values,
+            &memo,
+            &mut env,
+            answer,
+        );
+    }
+    let mut table = [0u16; 1];
+    answer_in(
         q,
         z,
         layout,
@@ -224,6 +371,7 @@ pub fn answer_query(
         &memo,
         &mut env,
         answer,
+        &mut table,
     )
 }
 

@@ -1,7 +1,9 @@
 use Rattle.walks.specs.Walks.{placeAt}
+use Rattle.rows.specs.Chains.{Linked}
+use Rattle.odometer.specs.declared.Plan.{Plan}
 use native.Mathlib.Omega.{arith}
 use Prim.Native.Nat.{ℕ, _+_, _*_, _-_, _≤_, _<_}
-use mathlib.Core.Path.{_≡_, refl, ap, _∙_}
+use mathlib.Core.Path.{_≡_, refl, sym, ap, _∙_, subst}
 use denote.Ref.{now}
 use lib.ListN.{length, set, length-set}
 use Rattle.rows.specs.Buffer.{addedAll}
@@ -32,24 +34,24 @@ use Rattle.walks.proofs.walk_of.Reads as walk-of-reads
 use Rattle.odometer.proofs.+each_row+run.{statement}
 use Rattle.odometer.proofs.+each_row+run.Tie.{close}
 
-abbrev μ-each-row : Measures 10 each-row-kinds.ps ℕ
+abbrev μ-each-row : Measures 11 each-row-kinds.ps ℕ
 μ-each-row κs a = 2 * (a .1 .1 .1 .1 .1 .0 .left)
 
-abbrev μ-run : Measures 10 run-kinds.ps ℕ
+abbrev μ-run : Measures 11 run-kinds.ps ℕ
 μ-run κs a = 2 * (a .1 .1 .1 .1 .1 .0 .left) + 1
 
-abbrev each-row-at : ℕ → In 10 each-row-kinds.ps
-each-row-at t = and 10 each-row-kinds.ps (is 10 each-row-kinds.ps μ-each-row t) each-row.Pre
+abbrev each-row-at : ℕ → In 11 each-row-kinds.ps
+each-row-at t = and 11 each-row-kinds.ps (is 11 each-row-kinds.ps μ-each-row t) each-row.Pre
 
-abbrev each-row-below : ℕ → In 10 each-row-kinds.ps
+abbrev each-row-below : ℕ → In 11 each-row-kinds.ps
 each-row-below t =
-    and 10 each-row-kinds.ps (falls 10 each-row-kinds.ps _<_ μ-each-row t) each-row.Pre
+    and 11 each-row-kinds.ps (falls 11 each-row-kinds.ps _<_ μ-each-row t) each-row.Pre
 
-abbrev run-at : ℕ → In 10 run-kinds.ps
-run-at t = and 10 run-kinds.ps (is 10 run-kinds.ps μ-run t) run.Pre
+abbrev run-at : ℕ → In 11 run-kinds.ps
+run-at t = and 11 run-kinds.ps (is 11 run-kinds.ps μ-run t) run.Pre
 
-abbrev run-below : ℕ → In 10 run-kinds.ps
-run-below t = and 10 run-kinds.ps (falls 10 run-kinds.ps _<_ μ-run t) run.Pre
+abbrev run-below : ℕ → In 11 run-kinds.ps
+run-below t = and 11 run-kinds.ps (falls 11 run-kinds.ps _<_ μ-run t) run.Pre
 
 abbrev each-row-claims : ℕ → each-row-lts.Claims
 each-row-claims t = (byte-reads.Asked, byte-reads.Learnt, record-length-reads.Asked, record-length-reads.Learnt, tail-reads.Asked, tail-reads.Learnt, deeper-reads.Asked, deeper-reads.Learnt, walk-of-reads.Asked, walk-of-reads.Learnt, place-reads.Asked, place-reads.Learnt, ahead-reads.Asked, ahead-reads.Learnt, place-reads′.Asked, place-reads′.Learnt, set-place-reads.Asked, set-place-reads.Learnt, run-below t, run.Post)
@@ -58,13 +60,14 @@ abbrev run-claims : ℕ → run-lts.Claims
 run-claims t = (due-reads.Asked, due-reads.Learnt, write-reads.Asked, write-reads.Learnt, each-row-below t, each-row.Post)
 
 abbrev each-row-Inv-loop : each-row-lts.InvT-loop
-each-row-Inv-loop ranges q z t xs ws vs memo env₀ answer₀ variable rest inner walk n old stage filled₀ i₀ env answer filled i =
+each-row-Inv-loop ranges q z t xs ws vs memo env₀ answer₀ table₀ variable rest inner walk n old stage filled₀ i₀ env answer table filled i =
     (set env variable old ≡ env₀)
     × (record { rows = filled .rows; full = filled .full; cells = answer } ≡ addedAll (record { rows = filled₀ .rows; full = filled₀ .full; cells = answer₀ }) (passed inner t xs q z ws vs memo env₀ variable rest (placeAt ws walk) i))
     × (i ≤ n) × (length env ≡ length env₀) × (length answer ≡ length answer₀)
+    × Linked (inner .columns) (filled .rows) answer table × (length table ≡ length table₀)
 
 abbrev each-row-μ-loop : each-row-lts.MeasureT-loop
-each-row-μ-loop ranges q z t xs ws vs memo env₀ answer₀ variable rest inner walk n old stage filled₀ i₀ env answer filled i = n - i
+each-row-μ-loop ranges q z t xs ws vs memo env₀ answer₀ table₀ variable rest inner walk n old stage filled₀ i₀ env answer table filled i = n - i
 
 each-row-byte-requires : (t : ℕ) → each-row-lts.Need-byte-requires (each-row-claims t) (each-row-at t) each-row.Post each-row-Inv-loop each-row-μ-loop
 each-row-byte-requires t c κs = search needs
@@ -90,7 +93,7 @@ each-row-mul-stage t c = omega (arith, c .before .before .before .before .deeper
 each-row-ahead-requires : (t : ℕ) → each-row-lts.Need-ahead-requires (each-row-claims t) (each-row-at t) each-row.Post each-row-Inv-loop each-row-μ-loop
 each-row-ahead-requires t c κs =
     let c₄ = c .before .before .before .before in let walk-of = c₄ .walk-of in
-    let c₁₅ = c₄ .before .before .before .before .before .before .before .before .before .before .before in let pre = c₁₅ .pre in
+    let c₁₆ = c₄ .before .before .before .before .before .before .before .before .before .before .before .before in let pre = c₁₆ .pre in
     (pre .1 .0, walk-of .ensures .1, omega arith)
 
 each-row-loop-holds : (t : ℕ) → each-row-lts.Need-loop-holds (each-row-claims t) (each-row-at t) each-row.Post each-row-Inv-loop each-row-μ-loop
@@ -99,9 +102,9 @@ each-row-loop-holds t c =
     let c₅ = c₃ .before .before in let walk-of = c₅ .walk-of in
     let c₆ = c₅ .before in let deeper = c₆ .deeper in
     let c₉ = c₆ .before .before .before in let byte = c₉ .byte in
-    let c₁₆ = c₉ .before .before .before .before .before .before .before in let args = c₁₆ .args in
-    let env = now (args .env) in let q = now (args .q) in let walks = now (args .walks) in let z = now (args .z) in let state = args .state in
-    ((places-start env (byte .result) (place .result) (place .ensures)), each-first (deeper .result) (now (args .t)) (now (args .xs)) q z walks (now (args .vs)) (now (args .memo)) env (byte .result) _ (placeAt walks (walk-of .result)) (record { rows = state .rows; full = state .full; cells = (now (args .answer)) }) (place .result) (c .ahead .result) (places-start env (byte .result) (place .result) (place .ensures)) (c .ahead .ensures .1 q z walks), c .ahead .ensures .0 .1, refl, refl)
+    let c₁₇ = c₉ .before .before .before .before .before .before .before .before in let args = c₁₇ .args in let pre = c₁₇ .pre in
+    let answer = now (args .answer) in let env = now (args .env) in let q = now (args .q) in let walks = now (args .walks) in let z = now (args .z) in let state = args .state in
+    ((places-start env (byte .result) (place .result) (place .ensures)), each-first (deeper .result) (now (args .t)) (now (args .xs)) q z walks (now (args .vs)) (now (args .memo)) env (byte .result) _ (placeAt walks (walk-of .result)) (record { rows = state .rows; full = state .full; cells = answer }) (place .result) (c .ahead .result) (places-start env (byte .result) (place .result) (place .ensures)) (c .ahead .ensures .1 q z walks), c .ahead .ensures .0 .1, refl, refl, subst (λ (p : Plan). Linked (p .columns) (state .rows) answer (now (args .table))) (sym (deeper .ensures .0)) (pre .1 .3), refl)
 
 each-row-place-requires-2 : (t : ℕ) → each-row-lts.Need-place-requires-2 (each-row-claims t) (each-row-at t) each-row.Post each-row-Inv-loop each-row-μ-loop
 each-row-place-requires-2 t c κs =
@@ -113,49 +116,51 @@ each-row-set-place-requires t c κs = search needs
 
 each-row-run-requires : (t : ℕ) → each-row-lts.Need-run-requires (each-row-claims t) (each-row-at t) each-row.Post each-row-Inv-loop each-row-μ-loop
 each-row-run-requires t c κs =
-    let c₄ = c .before .before .before .before in let set-place = c₄ .set-place in
-    let c₅ = c₄ .before in let place2 = c₅ .place2 in
-    let c₈ = c₅ .before .before .before in let loop = c₈ .loop in
-    let c₁₅ = c₈ .before .before .before .before .before .before .before in let deeper = c₁₅ .deeper in
-    let c₁₈ = c₁₅ .before .before .before in let byte = c₁₈ .byte in
-    let c₂₅ = c₁₈ .before .before .before .before .before .before .before in let pre = c₂₅ .pre in
-    (omega (arith, pre .0, ap (λ (u : Plan). u .left) (deeper .ensures .0), pre .1 .2), (omega (arith, pre .1 .0, loop .inv .3, ap length (set-place .ensures), length-set (loop .env) (byte .result) (place2 .result)), deeper .ensures .1))
+    let c₅ = c .before .before .before .before .before in let set-place = c₅ .set-place in
+    let c₆ = c₅ .before in let place2 = c₆ .place2 in
+    let c₉ = c₆ .before .before .before in let loop = c₉ .loop in
+    let c₁₆ = c₉ .before .before .before .before .before .before .before in let deeper = c₁₆ .deeper in
+    let c₁₉ = c₁₆ .before .before .before in let byte = c₁₉ .byte in
+    let c₂₇ = c₁₉ .before .before .before .before .before .before .before .before in let pre = c₂₇ .pre in
+    (omega (arith, pre .0, ap (λ (u : Plan). u .left) (deeper .ensures .0), pre .1 .2), (omega (arith, pre .1 .0, loop .inv .3, ap length (set-place .ensures), length-set (loop .env) (byte .result) (place2 .result)), deeper .ensures .1, loop .inv .5))
 
 each-row-add-ahead : (t : ℕ) → each-row-lts.Need-add-ahead (each-row-claims t) (each-row-at t) each-row.Post each-row-Inv-loop each-row-μ-loop
 each-row-add-ahead t c =
-    let c₁₂ = c .before .before .before .before .before .before .before .before .before .before .before .before in let loop-test = c₁₂ .loop-test in
-    let c₁₉ = c₁₂ .before .before .before .before .before .before .before in let walk-of = c₁₉ .walk-of in
+    let c₁₅ = c .before .before .before .before .before .before .before .before .before .before .before .before .before .before .before in let loop-test = c₁₅ .loop-test in
+    let c₂₂ = c₁₅ .before .before .before .before .before .before .before in let walk-of = c₂₂ .walk-of in
     omega (arith, walk-of .ensures .1 .count, loop-test .taken)
 
 each-row-ahead-requires-2 : (t : ℕ) → each-row-lts.Need-ahead-requires-2 (each-row-claims t) (each-row-at t) each-row.Post each-row-Inv-loop each-row-μ-loop
 each-row-ahead-requires-2 t c κs =
-    let c₄ = c .before .before .before .before in let run = c₄ .run in
-    let c₉ = c₄ .before .before .before .before .before in let set-place = c₉ .set-place in
-    let c₁₀ = c₉ .before in let place2 = c₁₀ .place2 in
-    let c₁₂ = c₁₀ .before .before in let loop-test = c₁₂ .loop-test in
-    let c₁₃ = c₁₂ .before in let loop = c₁₃ .loop in
-    let c₁₇ = c₁₃ .before .before .before .before in let place = c₁₇ .place in
-    let c₁₉ = c₁₇ .before .before in let walk-of = c₁₉ .walk-of in
-    let c₂₃ = c₁₉ .before .before .before .before in let byte = c₂₃ .byte in
-    let c₃₀ = c₂₃ .before .before .before .before .before .before .before in let args = c₃₀ .args in let pre = c₃₀ .pre in
-    (omega (arith, pre .1 .0, places-length (loop .env) (now (args .env)) _ (byte .result) (place .result) (place2 .result) (loop .inv .0) (set-place .ensures) _ (run .ensures .1) (loop .inv .3)), walk-of .ensures .1, omega (arith, loop-test .taken))
+    let c₆ = c .before .before .before .before .before .before in let run = c₆ .run in
+    let c₁₂ = c₆ .before .before .before .before .before .before in let set-place = c₁₂ .set-place in
+    let c₁₃ = c₁₂ .before in let place2 = c₁₃ .place2 in
+    let c₁₅ = c₁₃ .before .before in let loop-test = c₁₅ .loop-test in
+    let c₁₆ = c₁₅ .before in let loop = c₁₆ .loop in
+    let c₂₀ = c₁₆ .before .before .before .before in let place = c₂₀ .place in
+    let c₂₂ = c₂₀ .before .before in let walk-of = c₂₂ .walk-of in
+    let c₂₆ = c₂₂ .before .before .before .before in let byte = c₂₆ .byte in
+    let c₃₄ = c₂₆ .before .before .before .before .before .before .before .before in let args = c₃₄ .args in let pre = c₃₄ .pre in
+    (omega (arith, pre .1 .0, places-length (loop .env) (now (args .env)) _ (byte .result) (place .result) (place2 .result) (loop .inv .0) (set-place .ensures) _ (run .ensures .1 .0) (loop .inv .3)), walk-of .ensures .1, omega (arith, loop-test .taken))
 
 each-row-loop-less : (t : ℕ) → each-row-lts.Need-loop-less (each-row-claims t) (each-row-at t) each-row.Post each-row-Inv-loop each-row-μ-loop
-each-row-loop-less t c = omega (arith, c .ahead2 .ensures .0 .0, c .before .before .before .before .before .before .before .before .before .before .before .before .before .loop-test .taken)
+each-row-loop-less t c =
+    let c₁₆ = c .before .before .before .before .before .before .before .before .before .before .before .before .before .before .before .before in let loop-test = c₁₆ .loop-test in
+    omega (arith, c .ahead2 .ensures .0 .0, loop-test .taken)
 
 each-row-loop-again : (t : ℕ) → each-row-lts.Need-loop-again (each-row-claims t) (each-row-at t) each-row.Post each-row-Inv-loop each-row-μ-loop
 each-row-loop-again t c =
-    let c₅ = c .before .before .before .before .before in let run = c₅ .run in
-    let c₁₀ = c₅ .before .before .before .before .before in let set-place = c₁₀ .set-place in
-    let c₁₁ = c₁₀ .before in let place2 = c₁₁ .place2 in
-    let c₁₄ = c₁₁ .before .before .before in let loop = c₁₄ .loop in
-    let c₁₈ = c₁₄ .before .before .before .before in let place = c₁₈ .place in
-    let c₂₀ = c₁₈ .before .before in let walk-of = c₂₀ .walk-of in
-    let c₂₁ = c₂₀ .before in let deeper = c₂₁ .deeper in
-    let c₂₄ = c₂₁ .before .before .before in let byte = c₂₄ .byte in
-    let c₃₁ = c₂₄ .before .before .before .before .before .before .before in let args = c₃₁ .args in let pre = c₃₁ .pre in
+    let c₇ = c .before .before .before .before .before .before .before in let run = c₇ .run in
+    let c₁₃ = c₇ .before .before .before .before .before .before in let set-place = c₁₃ .set-place in
+    let c₁₄ = c₁₃ .before in let place2 = c₁₄ .place2 in
+    let c₁₇ = c₁₄ .before .before .before in let loop = c₁₇ .loop in
+    let c₂₁ = c₁₇ .before .before .before .before in let place = c₂₁ .place in
+    let c₂₃ = c₂₁ .before .before in let walk-of = c₂₃ .walk-of in
+    let c₂₄ = c₂₃ .before in let deeper = c₂₄ .deeper in
+    let c₂₇ = c₂₄ .before .before .before in let byte = c₂₇ .byte in
+    let c₃₅ = c₂₇ .before .before .before .before .before .before .before .before in let args = c₃₅ .args in let pre = c₃₅ .pre in
     let env = now (args .env) in let q = now (args .q) in let walks = now (args .walks) in let z = now (args .z) in let state = args .state in
-    (places-back (loop .env) env _ (byte .result) (place .result) (place2 .result) (loop .inv .0) (set-place .ensures) _ (run .ensures .1), each-next (deeper .result) (now (args .t)) (now (args .xs)) q z walks (now (args .vs)) (now (args .memo)) env (byte .result) _ (placeAt walks (walk-of .result)) (record { rows = state .rows; full = state .full; cells = (now (args .answer)) }) _ _ (place .result) (loop .i) (c .ahead2 .result) (place2 .result) (record { rows = loop .filled .rows; full = loop .filled .full; cells = loop .answer }) _ (place2 .ensures) (places-on (loop .env) env _ (byte .result) (place .result) (place2 .result) (loop .inv .0) (set-place .ensures)) (omega (arith, pre .1 .0, byte .ok)) (run .ensures .1) (places-back (loop .env) env _ (byte .result) (place .result) (place2 .result) (loop .inv .0) (set-place .ensures) _ refl) (c .ahead2 .ensures .0 .0) (loop .inv .1) (run .ensures .0) (c .ahead2 .ensures .1 q z walks), c .ahead2 .ensures .0 .1, places-length (loop .env) env _ (byte .result) (place .result) (place2 .result) (loop .inv .0) (set-place .ensures) _ (run .ensures .1) (loop .inv .3), run .kept .1 .1 .1 .1 .1 .1 .1 .1 .1 .1 .0 ∙ loop .inv .4)
+    (places-back (loop .env) env _ (byte .result) (place .result) (place2 .result) (loop .inv .0) (set-place .ensures) _ (run .ensures .1 .0), each-next (deeper .result) (now (args .t)) (now (args .xs)) q z walks (now (args .vs)) (now (args .memo)) env (byte .result) _ (placeAt walks (walk-of .result)) (record { rows = state .rows; full = state .full; cells = (now (args .answer)) }) _ _ (place .result) (loop .i) (c .ahead2 .result) (place2 .result) (record { rows = loop .filled .rows; full = loop .filled .full; cells = loop .answer }) _ (place2 .ensures) (places-on (loop .env) env _ (byte .result) (place .result) (place2 .result) (loop .inv .0) (set-place .ensures)) (omega (arith, pre .1 .0, byte .ok)) (run .ensures .1 .0) (places-back (loop .env) env _ (byte .result) (place .result) (place2 .result) (loop .inv .0) (set-place .ensures) _ refl) (c .ahead2 .ensures .0 .0) (loop .inv .1) (run .ensures .0) (c .ahead2 .ensures .1 q z walks), c .ahead2 .ensures .0 .1, places-length (loop .env) env _ (byte .result) (place .result) (place2 .result) (loop .inv .0) (set-place .ensures) _ (run .ensures .1 .0) (loop .inv .3), run .kept .1 .1 .1 .1 .1 .1 .1 .1 .1 .1 .0 ∙ loop .inv .4, run .ensures .1 .1, run .kept .1 .1 .1 .1 .1 .1 .1 .1 .1 .1 .1 .0 ∙ loop .inv .6)
 
 each-row-set-place-requires-2 : (t : ℕ) → each-row-lts.Need-set-place-requires-2 (each-row-claims t) (each-row-at t) each-row.Post each-row-Inv-loop each-row-μ-loop
 each-row-set-place-requires-2 t c κs = search needs
@@ -166,6 +171,9 @@ each-row-same-length t c = search needs
 each-row-same-length-2 : (t : ℕ) → each-row-lts.Need-same-length-2 (each-row-claims t) (each-row-at t) each-row.Post each-row-Inv-loop each-row-μ-loop
 each-row-same-length-2 t c = search needs
 
+each-row-same-length-3 : (t : ℕ) → each-row-lts.Need-same-length-3 (each-row-claims t) (each-row-at t) each-row.Post each-row-Inv-loop each-row-μ-loop
+each-row-same-length-3 t c = search needs
+
 each-row-returns : (t : ℕ) → each-row-lts.Need-returns (each-row-claims t) (each-row-at t) each-row.Post each-row-Inv-loop each-row-μ-loop
 each-row-returns t c =
     let c₄ = c .before .before .before .before in let loop-test = c₄ .loop-test in
@@ -175,14 +183,14 @@ each-row-returns t c =
     let c₁₃ = c₁₂ .before in let tail = c₁₃ .tail in
     let c₁₄ = c₁₃ .before in let record-length = c₁₄ .record-length in
     let c₁₅ = c₁₄ .before in let byte = c₁₅ .byte in
-    let c₂₂ = c₁₅ .before .before .before .before .before .before .before in let args = c₂₂ .args in
+    let c₂₃ = c₁₅ .before .before .before .before .before .before .before .before in let args = c₂₃ .args in
     let state = args .state in
-    (each-all (args .plan) (deeper .result) (now (args .t)) (now (args .xs)) (now (args .q)) (now (args .z)) (now (args .walks)) (now (args .vs)) (now (args .memo)) (now (args .env)) (byte .result) _ (walk-of .result) (record { rows = state .rows; full = state .full; cells = (now (args .answer)) }) (now (args .ranges)) (loop .i) _ _ (deeper .ensures .0) (byte .ensures) (record-length .ensures .0) (tail .ensures) (walk-of .ensures .0) (omega (arith, loop-test .left, loop .inv .2)) (loop .inv .1), c .before .before .set-place2 .ensures ∙ loop .inv .0)
+    (each-all (args .plan) (deeper .result) (now (args .t)) (now (args .xs)) (now (args .q)) (now (args .z)) (now (args .walks)) (now (args .vs)) (now (args .memo)) (now (args .env)) (byte .result) _ (walk-of .result) (record { rows = state .rows; full = state .full; cells = (now (args .answer)) }) (now (args .ranges)) (loop .i) _ _ (deeper .ensures .0) (byte .ensures) (record-length .ensures .0) (tail .ensures) (walk-of .ensures .0) (omega (arith, loop-test .left, loop .inv .2)) (loop .inv .1), (c .before .before .set-place2 .ensures ∙ loop .inv .0, subst (λ (p : Plan). Linked (p .columns) (loop .filled .rows) (loop .answer) (loop .table)) (deeper .ensures .0) (loop .inv .5)))
 
 run-returns : (t : ℕ) → run-lts.Need-returns (run-claims t) (run-at t) run.Post
 run-returns t c =
-    let args = c .before .before .before .before .before .before .before .args in
-    (run-full (args .plan) (now (args .t)) (now (args .xs)) (now (args .q)) (now (args .z)) (now (args .walks)) (now (args .vs)) (now (args .memo)) (now (args .ranges)) (now (args .env)) (record { rows = args .state .rows; full = args .state .full; cells = (now (args .answer)) }) (c .if1 .taken), search needs)
+    let args = c .before .before .before .before .before .before .before .before .args in
+    (run-full (args .plan) (now (args .t)) (now (args .xs)) (now (args .q)) (now (args .z)) (now (args .walks)) (now (args .vs)) (now (args .memo)) (now (args .ranges)) (now (args .env)) (record { rows = args .state .rows; full = args .state .full; cells = (now (args .answer)) }) (c .if1 .taken), (search needs, c .before .before .before .before .before .before .before .before .pre .1 .2))
 
 run-due-requires : (t : ℕ) → run-lts.Need-due-requires (run-claims t) (run-at t) run.Post
 run-due-requires t c κs = search needs
@@ -192,8 +200,8 @@ run-same-length t c = search needs
 
 run-returns-2 : (t : ℕ) → run-lts.Need-returns-2 (run-claims t) (run-at t) run.Post
 run-returns-2 t c =
-    let args = c .before .before .before .before .before .before .before .before .before .before .before .before .args in
-    (run-no (args .plan) (now (args .t)) (now (args .xs)) (now (args .q)) (now (args .z)) (now (args .walks)) (now (args .vs)) (now (args .memo)) (now (args .ranges)) (now (args .env)) (record { rows = args .state .rows; full = args .state .full; cells = (now (args .answer)) }) _ (c .before .before .before .due .ensures .0) (c .if2 .taken), c .before .before .before .due .ensures .1)
+    let args = c .before .before .before .before .before .before .before .before .before .before .before .before .before .args in
+    (run-no (args .plan) (now (args .t)) (now (args .xs)) (now (args .q)) (now (args .z)) (now (args .walks)) (now (args .vs)) (now (args .memo)) (now (args .ranges)) (now (args .env)) (record { rows = args .state .rows; full = args .state .full; cells = (now (args .answer)) }) _ (c .before .before .before .due .ensures .0) (c .if2 .taken), (c .before .before .before .due .ensures .1, c .before .before .before .before .before .before .before .before .before .before .before .before .before .pre .1 .2))
 
 run-write-requires : (t : ℕ) → run-lts.Need-write-requires (run-claims t) (run-at t) run.Post
 run-write-requires t c κs = search needs
@@ -204,24 +212,32 @@ run-same-length-2 t c = search needs
 run-same-length-3 : (t : ℕ) → run-lts.Need-same-length-3 (run-claims t) (run-at t) run.Post
 run-same-length-3 t c = search needs
 
-run-returns-3 : (t : ℕ) → run-lts.Need-returns-3 (run-claims t) (run-at t) run.Post
-run-returns-3 t c =
-    let args = c .before .before .before .before .before .before .before .before .before .before .before .before .before .before .before .before .before .before .before .args in
-    (run-row (args .plan) (now (args .t)) (now (args .xs)) (now (args .q)) (now (args .z)) (now (args .walks)) (now (args .vs)) (now (args .memo)) (now (args .ranges)) (now (args .env)) (record { rows = args .state .rows; full = args .state .full; cells = (now (args .answer)) }) _ (c .before .before .before .before .before .before .before .before .before .before .due .ensures .0) _ _ (c .before .before .before .before .before .before .before .if2 .left) (c .before .before .before .before .before .before .if3 .taken) (c .before .before .before .before .before .before .before .before .before .before .due .ensures .1) (c .before .before .before .write .ensures .0), c .before .before .before .write .ensures .1 ∙ c .before .before .before .before .before .before .before .before .before .before .due .ensures .1)
-
-run-each-row-requires : (t : ℕ) → run-lts.Need-each-row-requires (run-claims t) (run-at t) run.Post
-run-each-row-requires t c κs = search needs
-
 run-same-length-4 : (t : ℕ) → run-lts.Need-same-length-4 (run-claims t) (run-at t) run.Post
 run-same-length-4 t c = search needs
+
+run-returns-3 : (t : ℕ) → run-lts.Need-returns-3 (run-claims t) (run-at t) run.Post
+run-returns-3 t c =
+    let args = c .before .before .before .before .before .before .before .before .before .before .before .before .before .before .before .before .before .before .before .before .before .before .before .args in
+    (run-row (args .plan) (now (args .t)) (now (args .xs)) (now (args .q)) (now (args .z)) (now (args .walks)) (now (args .vs)) (now (args .memo)) (now (args .ranges)) (now (args .env)) (record { rows = args .state .rows; full = args .state .full; cells = (now (args .answer)) }) _ (c .before .before .before .before .before .before .before .before .before .before .before .before .before .due .ensures .0) _ _ (c .before .before .before .before .before .before .before .before .before .before .if2 .left) (c .before .before .before .before .before .before .before .before .before .if3 .taken) (c .before .before .before .before .before .before .before .before .before .before .before .before .before .due .ensures .1) (c .before .before .before .before .before .write .ensures .0), (c .before .before .before .before .before .write .ensures .1 .0 ∙ c .before .before .before .before .before .before .before .before .before .before .before .before .before .due .ensures .1, c .before .before .before .before .before .write .ensures .1 .1))
+
+run-each-row-requires : (t : ℕ) → run-lts.Need-each-row-requires (run-claims t) (run-at t) run.Post
+run-each-row-requires t c κs =
+    let c₁₇ = c .before .before .before .before .before .before .before .before .before .before .before .before .before .before .before .before .before in let pre = c₁₇ .pre in
+    (search needs, (search needs, search needs, search needs, pre .1 .2))
 
 run-same-length-5 : (t : ℕ) → run-lts.Need-same-length-5 (run-claims t) (run-at t) run.Post
 run-same-length-5 t c = search needs
 
+run-same-length-6 : (t : ℕ) → run-lts.Need-same-length-6 (run-claims t) (run-at t) run.Post
+run-same-length-6 t c = search needs
+
+run-same-length-7 : (t : ℕ) → run-lts.Need-same-length-7 (run-claims t) (run-at t) run.Post
+run-same-length-7 t c = search needs
+
 run-returns-4 : (t : ℕ) → run-lts.Need-returns-4 (run-claims t) (run-at t) run.Post
 run-returns-4 t c =
-    let args = c .before .before .before .before .before .before .before .before .before .before .before .before .before .before .before .before .before .before .before .args in
-    (run-rows (args .plan) (now (args .t)) (now (args .xs)) (now (args .q)) (now (args .z)) (now (args .walks)) (now (args .vs)) (now (args .memo)) (now (args .ranges)) (now (args .env)) (record { rows = args .state .rows; full = args .state .full; cells = (now (args .answer)) }) _ (c .before .before .before .before .before .before .before .before .before .before .due .ensures .0) _ _ (c .before .before .before .before .before .before .before .if2 .left) (c .before .before .before .before .before .before .if3 .left) (c .before .before .before .before .before .before .before .before .before .before .due .ensures .1) (c .before .before .before .each-row .ensures .0), c .before .before .before .each-row .ensures .1 ∙ c .before .before .before .before .before .before .before .before .before .before .due .ensures .1)
+    let args = c .before .before .before .before .before .before .before .before .before .before .before .before .before .before .before .before .before .before .before .before .before .before .before .args in
+    (run-rows (args .plan) (now (args .t)) (now (args .xs)) (now (args .q)) (now (args .z)) (now (args .walks)) (now (args .vs)) (now (args .memo)) (now (args .ranges)) (now (args .env)) (record { rows = args .state .rows; full = args .state .full; cells = (now (args .answer)) }) _ (c .before .before .before .before .before .before .before .before .before .before .before .before .before .due .ensures .0) _ _ (c .before .before .before .before .before .before .before .before .before .before .if2 .left) (c .before .before .before .before .before .before .before .before .before .if3 .left) (c .before .before .before .before .before .before .before .before .before .before .before .before .before .due .ensures .1) (c .before .before .before .before .before .each-row .ensures .0), (c .before .before .before .before .before .each-row .ensures .1 .0 ∙ c .before .before .before .before .before .before .before .before .before .before .before .before .before .due .ensures .1, c .before .before .before .before .before .each-row .ensures .1 .1))
 
 pub +each-row+run-spec : {M : Type 1} → statement M
 +each-row+run-spec = close μ-each-row μ-run (λ t. each-row-lts.spec (each-row-claims t)
@@ -248,6 +264,7 @@ pub +each-row+run-spec : {M : Type 1} → statement M
     (each-row-set-place-requires-2 t)
     (each-row-same-length t)
     (each-row-same-length-2 t)
+    (each-row-same-length-3 t)
     (each-row-returns t))
     λ t. run-lts.spec (run-claims t)
     (run-at t)
@@ -259,8 +276,10 @@ pub +each-row+run-spec : {M : Type 1} → statement M
     (run-write-requires t)
     (run-same-length-2 t)
     (run-same-length-3 t)
+    (run-same-length-4 t)
     (run-returns-3 t)
     (run-each-row-requires t)
-    (run-same-length-4 t)
     (run-same-length-5 t)
+    (run-same-length-6 t)
+    (run-same-length-7 t)
     (run-returns-4 t)

@@ -38,7 +38,11 @@ same-length c = search needs
 
 -- src/lib.rt:231:1
 returns : tie.Need-returns
-returns c = c .before .answer-query .ensures ∙ ap (λ (l : List (List ℤ)). give (length (queryOf (now (c .before .before .before .before .before .before .before .before .before .before .args .q)) .targets)) l (now (c .before .before .before .before .before .before .before .before .before .before .args .answer))) (all-answers (c .before .before .before .before .before .before .before .before .before .before .args .layout) (c .before .before .before .before .before .before .before .before .before .before .args .level) (now (c .before .before .before .before .before .before .before .before .before .before .args .q)) (now (c .before .before .before .before .before .before .before .before .before .before .args .z)) (now (c .before .before .before .before .before .before .before .before .before .before .args .catalogue)) _ _ (now (c .before .before .before .before .before .before .before .before .before .before .args .values)) (c .before .before .before .before .before .before .before .before .before .before .pre) (omega (arith, length-replicate {A = ℕ} 2048 0)) (c .before .before .before .before .before .fill .ensures))
+returns c =
+    let c₅ = c .before .before .before .before .before in let fill = c₅ .fill in
+    let c₁₀ = c₅ .before .before .before .before .before in let args = c₁₀ .args in let pre = c₁₀ .pre in
+    let q = now (args .q) in
+    c .before .answer-query .ensures ∙ ap (λ (l : List (List ℤ)). give (length (queryOf q .targets)) l (now (args .answer))) (all-answers (args .layout) (args .level) q (now (args .z)) (now (args .catalogue)) _ _ (now (args .values)) (pre) (omega (arith, length-replicate {A = ℕ} 2048 0)) (fill .ensures))
 
 pub answer-all-spec : {M : Type 1} → statement M
 answer-all-spec =

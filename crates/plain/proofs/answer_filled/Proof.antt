@@ -24,7 +24,11 @@ slice-aggregate-answer-by c = search needs
 
 -- src/lib.rt:135:5
 answer-by-requires : tie.Need-answer-by-requires
-answer-by-requires c κs = (c .before .before .before .before .before .before .before .before .before .before .before .before .before .before .pre .0, filled-trusted (c .before .before .before .before .before .before .before .before .before .before .before .before .before .before .args .layout) (c .before .before .before .before .before .before .before .before .before .before .before .before .before .before .args .level) (now (c .before .before .before .before .before .before .before .before .before .before .before .before .before .before .args .q)) (now (c .before .before .before .before .before .before .before .before .before .before .before .before .before .before .args .z)) (now (c .before .before .before .before .before .before .before .before .before .before .before .before .before .before .args .catalogue)) (now (c .before .before .before .before .before .before .before .before .before .before .before .before .before .before .args .walks)) (now (c .before .before .before .before .before .before .before .before .before .before .before .before .before .before .args .values)) _ (now (c .before .before .before .before .before .before .before .before .before .before .before .before .before .before .args .env)) (c .before .before .before .before .before .before .before .before .before .before .before .before .before .before .pre .0) (c .before .before .before .before .before .before .remember .ensures .0), subst (Unbound (now (c .before .before .before .before .before .before .before .before .before .before .before .before .before .before .args .values))) (sym (c .before .before .before .before .before .before .remember .ensures .1)) (c .before .before .before .before .before .before .before .before .before .before .before .before .before .before .pre .1))
+answer-by-requires c κs =
+    let c₆ = c .before .before .before .before .before .before in let remember = c₆ .remember in
+    let c₁₄ = c₆ .before .before .before .before .before .before .before .before in let args = c₁₄ .args in let pre = c₁₄ .pre in
+    let values = now (args .values) in
+    (pre .0, filled-trusted (args .layout) (args .level) (now (args .q)) (now (args .z)) (now (args .catalogue)) (now (args .walks)) values _ (now (args .env)) (pre .0) (remember .ensures .0), subst (Unbound values) (sym (remember .ensures .1)) (pre .1))
 
 -- src/lib.rt:120:1
 same-length : tie.Need-same-length
