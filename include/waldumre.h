@@ -57,8 +57,9 @@ extern "C" {
 
 /*
  * Stack that a call may take, with margin. All memory beside the caller's buffers is there. Measured:
- * waldumre_ask takes at most 85,000 bytes, and waldumre_evaluate 128,000 for an accepted query; to
- * refuse 17,216 bytes of aggregates nested without end waldumre_evaluate takes 430,000.
+ * waldumre_ask takes at most 128,000 bytes, and waldumre_evaluate 171,000 for an accepted query,
+ * 43,000 of them for the table by which equal rows are found; to refuse 17,216 bytes of aggregates
+ * nested without end waldumre_evaluate takes 430,000.
  */
 #define WALDUMRE_STACK_BYTES 1048576
 

@@ -20,7 +20,8 @@ use Rattle.numbers.specs.declared.Ratio.{Ratio}
 use Rattle.sizes.specs.Decode.{first, second, conditionBy, termBy, nothing, decode, decodeT}
 use Rattle.sizes.specs.Parts.{targetsAt}
 use Rattle.evaluator.specs.Recalled.{valueBy}
-use Rattle.evaluator.specs.Evaluation.{assigned, rowsIn, valueAt}
+use Rattle.walks.specs.Walks.{rowsBy}
+use Rattle.evaluator.specs.Evaluation.{assigned, valueAt}
 use Rattle.aggregates.specs.Filled.{filledC, filledT, filledTs}
 
 module _ (S : Rows) (e : Assignment) (q z : List ℕ) (m : List ℤ) where
@@ -169,6 +170,6 @@ module _ (S : Rows) (e : Assignment) (q z : List ℕ) (m : List ℤ) (left l : �
       go (suc k) h f = f ∙ rw (sub-one, ee, eu, ev, en, ew)
 
 -- what the evaluator gives, where the places are as they were
-pub term-is : (l : ℕ) (q z cb : List ℕ) (vs n : List ℤ) (e e₁ : List ℕ) (u : Ratio) → e₁ ≡ e → u ≡ represent (valueAt l q z cb vs n e₁) → u ≡ represent (valueBy n (decodeT l q z) (rowsIn cb vs) (assigned vs e))
+pub term-is : (l : ℕ) (q z ws : List ℕ) (vs n : List ℤ) (e e₁ : List ℕ) (u : Ratio) → e₁ ≡ e → u ≡ represent (valueAt l q z ws vs n e₁) → u ≡ represent (valueBy n (decodeT l q z) (rowsBy ws vs) (assigned vs e))
 unfolding valueAt
-term-is l q z cb vs n e e₁ u ee eu = eu ∙ ap (λ (i : List ℕ). represent (valueBy n (decodeT l q z) (rowsIn cb vs) (assigned vs i))) ee
+term-is l q z ws vs n e e₁ u ee eu = eu ∙ ap (λ (i : List ℕ). represent (valueBy n (decodeT l q z) (rowsBy ws vs) (assigned vs i))) ee

@@ -5,15 +5,15 @@ use mathlib.Core.List.{List, map}
 use lib.IntN.{ℤ}
 use Rattle.model.specs.Lists.{update, filter}
 use Rattle.model.specs.Meaning.{Tuple, Assignment}
-use Rattle.catalogue.specs.Layout.{tuplesIn}
+use Rattle.walks.specs.Walks.{walked}
 use Rattle.evaluator.specs.Evaluation.{assigned}
 use Rattle.conjuncts.specs.Stages.{stageHolds}
 
-module _ (t : List ℕ) (xs : List ℤ) (q z cb : List ℕ) (vs m : List ℤ) where
+module _ (t : List ℕ) (xs : List ℤ) (q z ws : List ℕ) (vs m : List ℤ) where
   -- its two stages
   unfoldable pub bothHold : Assignment → Bool
-  bothHold e = stageHolds t xs q z cb vs m 0 e && stageHolds t xs q z cb vs m 1 e
+  bothHold e = stageHolds t xs q z ws vs m 0 e && stageHolds t xs q z ws vs m 1 e
 
-  -- attribute a of the rows of relation r for which they hold
-  unfoldable pub takenBy : List ℕ → ℕ → ℕ → ℕ → List ℤ
-  takenBy e v r a = map (λ (x : Tuple). x a) (filter (λ x. bothHold (update (assigned vs e) v x)) (tuplesIn cb vs r))
+  -- attribute a of the rows of variable v for which they hold
+  unfoldable pub takenBy : List ℕ → ℕ → ℕ → List ℤ
+  takenBy e v a = map (λ (x : Tuple). x a) (filter (λ x. bothHold (update (assigned vs e) v x)) (walked ws vs v))

@@ -9,9 +9,9 @@ ghost use lib.IntN.{pos};
 ghost use lib.ListN.{length, getD};
 ghost use Rattle.sizes.specs.Decode.{decode, decodeT};
 ghost use Rattle.sizes.specs.Parts.{targetsAt};
-ghost use Rattle.catalogue.specs.Layout.{tuplesIn};
+ghost use Rattle.walks.specs.Walks.{rowsBy};
 ghost use Rattle.numbers.specs.Numbers.{represent, added, Small, Bounded, Accumulates};
-ghost use Rattle.evaluator.specs.Evaluation.{assigned, rowsIn, valueAt, valuesOn};
+ghost use Rattle.evaluator.specs.Evaluation.{assigned, valueAt, valuesOn};
 ghost use Rattle.aggregates.specs.Taken.{bothHold, takenBy};
 ghost use Rattle.aggregates.specs.Filled.{filledC, filledT, filledTs};
 
@@ -34,19 +34,19 @@ fn both(
     xs: &[i32],
     q: &[u8],
     z: &[u16],
-    cb: &[u8],
+    walks: &[u16],
     vs: &[i32],
     memo: &[i64],
     env: &mut [usize],
 ) -> bool
     requires { ⌜ 256 ≤ length (now env) ⌝ }
-    ensures { λ r. ⌜ r ≡ bothHold (now (t .entry)) (now (xs .entry)) (now (q .entry)) (now (z .entry)) (now (cb .entry)) (now (vs .entry)) (now (memo .entry)) (assigned (now (vs .entry)) (now (env .entry))) ⌝ }
+    ensures { λ r. ⌜ r ≡ bothHold (now (t .entry)) (now (xs .entry)) (now (q .entry)) (now (z .entry)) (now (walks .entry)) (now (vs .entry)) (now (memo .entry)) (assigned (now (vs .entry)) (now (env .entry))) ⌝ }
     ensures { λ _. ⌜ now (env .exit) ≡ now (env .entry) ⌝ }
 {
-    if !conjuncts::holds(t, xs, 0, q, z, cb, vs, memo, env) {
+    if !conjuncts::holds(t, xs, 0, q, z, walks, vs, memo, env) {
         return false;
     }
-    conjuncts::holds(t, xs, 1, q, z, cb, vs, memo, env)
+    conjuncts::holds(t, xs, 1, q, z, walks, vs, memo, env)
 }
 
 // What was taken, and an attribute of the row at a place where the conjuncts hold.
@@ -55,7 +55,7 @@ fn with_row(
     xs: &[i32],
     q: &[u8],
     z: &[u16],
-    cb: &[u8],
+    walks: &[u16],
     vs: &[i32],
     memo: &[i64],
     env: &mut [usize],
@@ -64,87 +64,70 @@ fn with_row(
     taken: Accumulator,
 ) -> Accumulator
     requires { ⌜ (256 ≤ length (now env)) × (taken .count < 65535) × Bounded taken ⌝ }
-    ensures { λ r. ⌜ r ≡ cond (bothHold (now (t .entry)) (now (xs .entry)) (now (q .entry)) (now (z .entry)) (now (cb .entry)) (now (vs .entry)) (now (memo .entry)) (assigned (now (vs .entry)) (now (env .entry)))) (added taken (getD (now (vs .entry)) (row + attribute) (pos 0))) taken ⌝ }
+    ensures { λ r. ⌜ r ≡ cond (bothHold (now (t .entry)) (now (xs .entry)) (now (q .entry)) (now (z .entry)) (now (walks .entry)) (now (vs .entry)) (now (memo .entry)) (assigned (now (vs .entry)) (now (env .entry)))) (added taken (getD (now (vs .entry)) (row + attribute) (pos 0))) taken ⌝ }
     ensures { λ r. ⌜ Bounded r ⌝ }
     ensures { λ _. ⌜ now (env .exit) ≡ now (env .entry) ⌝ }
 {
-    if !both(t, xs, q, z, cb, vs, memo, env) {
+    if !both(t, xs, q, z, walks, vs, memo, env) {
         return taken;
     }
     numbers::add(taken, catalogue::cell(vs, row, attribute))
 }
 
-// The attribute of each row of the relation for which the conjuncts hold.
+// The attribute of each row of the variable for which the conjuncts hold.
 fn take(
     t: &[u16],
     xs: &[i32],
     q: &[u8],
     z: &[u16],
-    cb: &[u8],
+    walks: &[u16],
     vs: &[i32],
     memo: &[i64],
     env: &mut [usize],
     variable: u8,
-    relation: u8,
     attribute: u8,
 ) -> Accumulator
     requires { ⌜ 256 ≤ length (now env) ⌝ }
-    ensures { λ r. ⌜ Accumulates r (takenBy (now (t .entry)) (now (xs .entry)) (now (q .entry)) (now (z .entry)) (now (cb .entry)) (now (vs .entry)) (now (memo .entry)) (now (env .entry)) variable relation attribute) ⌝ }
+    ensures { λ r. ⌜ Accumulates r (takenBy (now (t .entry)) (now (xs .entry)) (now (q .entry)) (now (z .entry)) (now (walks .entry)) (now (vs .entry)) (now (memo .entry)) (now (env .entry)) variable attribute) ⌝ }
     ensures { λ r. ⌜ r .count ≤ 65535 ⌝ }
     ensures { λ _. ⌜ now (env .exit) ≡ now (env .entry) ⌝ }
 {
-    let n = catalogue::rows(cb, relation);
-    let w = catalogue::attributes(cb, relation);
+    let walk = walks::walk_of(walks, variable);
+    let n = walk.count;
     let old = evaluator::place(env, variable);
-    let base = catalogue::base(cb, relation);
-    let mut i = probes::ahead(t, xs, 0, variable, vs, memo, env, base, w, n);
-    let mut row = base + i * w;
     let mut taken = numbers::empty();
+    let mut i = probes::ahead(t, xs, 0, variable, walks, walk, vs, memo, env, 0);
     while i < n {
+        let row = walks::place(walks, walk, i);
         evaluator::set_place(env, variable, row);
-        taken = with_row(t, xs, q, z, cb, vs, memo, env, row, attribute, taken);
-        let s = probes::ahead(t, xs, 0, variable, vs, memo, env, row + w, w, n - i - 1);
-        row += w + s * w;
-        i += 1 + s;
+        taken = with_row(t, xs, q, z, walks, vs, memo, env, row, attribute, taken);
+        i = probes::ahead(t, xs, 0, variable, walks, walk, vs, memo, env, i + 1);
     }
     evaluator::set_place(env, variable, old);
     taken
 }
 
-// The attribute of each row of the relation that meets the condition that q starts with.
+// The attribute of each row of the variable that meets the condition that q starts with. With no ranges the plan looks at no catalogue: any bytes will do.
 fn gather(
     q: &[u8],
     z: &[u16],
     level: usize,
-    cb: &[u8],
+    walks: &[u16],
     vs: &[i32],
     memo: &[i64],
     env: &mut [usize],
     variable: u8,
-    relation: u8,
     attribute: u8,
 ) -> Accumulator
     requires { ⌜ (256 ≤ length (now env)) × (level ≤ 65535) ⌝ }
-    ensures { λ r. ⌜ Accumulates r (valuesOn level (now (q .entry)) (now (z .entry)) (now (cb .entry)) (now (vs .entry)) (now (memo .entry)) (now (env .entry)) variable relation attribute) ⌝ }
+    ensures { λ r. ⌜ Accumulates r (valuesOn level (now (q .entry)) (now (z .entry)) (now (walks .entry)) (now (vs .entry)) (now (memo .entry)) (now (env .entry)) variable attribute) ⌝ }
     ensures { λ r. ⌜ r .count ≤ 65535 ⌝ }
     ensures { λ _. ⌜ now (env .exit) ≡ now (env .entry) ⌝ }
 {
     let mut t = [0u16; 512];
     let mut xs = [0i32; 128];
-    conjuncts::plan(q, z, 0, 0, level, cb, 200, memo, &mut t, &mut xs);
-    take(
-        &t,
-        &xs,
-        q,
-        z,
-        cb,
-        vs,
-        memo,
-        env,
-        variable,
-        relation,
-        attribute,
-    )
+    conjuncts::plan(q, z, 0, 0, level, q, 200, memo, &mut t, &mut xs);
+    take(&t, &xs, q, z, walks, vs, memo, env, variable, attribute)
 }
 
 // The value of the term that q starts with; an aggregate's condition is compiled once for its rows.
@@ -152,21 +135,21 @@ fn value(
     q: &[u8],
     z: &[u16],
     level: usize,
-    cb: &[u8],
+    walks: &[u16],
     vs: &[i32],
     memo: &[i64],
     env: &mut [usize],
 ) -> Ratio
     requires { ⌜ 256 ≤ length (now env) ⌝ }
-    ensures { λ r. ⌜ r ≡ represent (valueAt level (now (q .entry)) (now (z .entry)) (now (cb .entry)) (now (vs .entry)) (now (memo .entry)) (now (env .entry))) ⌝ }
+    ensures { λ r. ⌜ r ≡ represent (valueAt level (now (q .entry)) (now (z .entry)) (now (walks .entry)) (now (vs .entry)) (now (memo .entry)) (now (env .entry))) ⌝ }
     ensures { λ r. ⌜ Small r ⌝ }
     ensures { λ _. ⌜ now (env .exit) ≡ now (env .entry) ⌝ }
 {
     if !compiled(level) {
-        return evaluator::term(q, z, level, cb, vs, memo, env);
+        return evaluator::term(q, z, level, walks, vs, memo, env);
     }
-    let Record::Aggregate(function, variable, relation, attribute) = kinds::read(q) else {
-        return evaluator::term(q, z, level, cb, vs, memo, env);
+    let Record::Aggregate(function, variable, _, attribute) = kinds::read(q) else {
+        return evaluator::term(q, z, level, walks, vs, memo, env);
     };
     if numbers::knows(memo, variable) {
         return numbers::recall(memo, variable);
@@ -175,7 +158,7 @@ fn value(
     let x = kinds::tail(q, n);
     let y = kinds::tail_sizes(z, n);
     let l = level - 1;
-    let taken = gather(x, y, l, cb, vs, memo, env, variable, relation, attribute);
+    let taken = gather(x, y, l, walks, vs, memo, env, variable, attribute);
     numbers::finish(function, taken)
 }
 
@@ -184,13 +167,13 @@ pub fn condition(
     q: &[u8],
     z: &[u16],
     level: usize,
-    cb: &[u8],
+    walks: &[u16],
     vs: &[i32],
     env: &mut [usize],
     memo: &mut [i64],
 )
     requires { ⌜ 256 ≤ length (now env) ⌝ }
-    ensures { λ _. ⌜ now (memo .exit) ≡ filledC (decode level (now (q .entry)) (now (z .entry))) (rowsIn (now (cb .entry)) (now (vs .entry))) (assigned (now (vs .entry)) (now (env .entry))) (now (memo .entry)) ⌝ }
+    ensures { λ _. ⌜ now (memo .exit) ≡ filledC (decode level (now (q .entry)) (now (z .entry))) (rowsBy (now (walks .entry)) (now (vs .entry))) (assigned (now (vs .entry)) (now (env .entry))) (now (memo .entry)) ⌝ }
     ensures { λ _. ⌜ now (env .exit) ≡ now (env .entry) ⌝ }
 {
     if level == 0 {
@@ -205,22 +188,22 @@ pub fn condition(
     let v = kinds::tail_sizes(z, b);
     match kinds::read(q) {
         Record::Not => {
-            condition(x, y, l, cb, vs, env, memo);
+            condition(x, y, l, walks, vs, env, memo);
         }
         Record::And => {
-            condition(x, y, l, cb, vs, env, memo);
-            condition(u, v, l, cb, vs, env, memo);
+            condition(x, y, l, walks, vs, env, memo);
+            condition(u, v, l, walks, vs, env, memo);
         }
         Record::Or => {
-            condition(x, y, l, cb, vs, env, memo);
-            condition(u, v, l, cb, vs, env, memo);
+            condition(x, y, l, walks, vs, env, memo);
+            condition(u, v, l, walks, vs, env, memo);
         }
         Record::Compare(_) => {
-            term(x, y, l, cb, vs, env, memo);
-            term(u, v, l, cb, vs, env, memo);
+            term(x, y, l, walks, vs, env, memo);
+            term(u, v, l, walks, vs, env, memo);
         }
         Record::Some(_, _) => {
-            condition(x, y, l, cb, vs, env, memo);
+            condition(x, y, l, walks, vs, env, memo);
         }
         _ => {}
     }
@@ -231,13 +214,13 @@ fn term(
     q: &[u8],
     z: &[u16],
     level: usize,
-    cb: &[u8],
+    walks: &[u16],
     vs: &[i32],
     env: &mut [usize],
     memo: &mut [i64],
 )
     requires { ⌜ 256 ≤ length (now env) ⌝ }
-    ensures { λ _. ⌜ now (memo .exit) ≡ filledT (decodeT level (now (q .entry)) (now (z .entry))) (rowsIn (now (cb .entry)) (now (vs .entry))) (assigned (now (vs .entry)) (now (env .entry))) (now (memo .entry)) ⌝ }
+    ensures { λ _. ⌜ now (memo .exit) ≡ filledT (decodeT level (now (q .entry)) (now (z .entry))) (rowsBy (now (walks .entry)) (now (vs .entry))) (assigned (now (vs .entry)) (now (env .entry))) (now (memo .entry)) ⌝ }
     ensures { λ _. ⌜ now (env .exit) ≡ now (env .entry) ⌝ }
 {
     if level == 0 {
@@ -251,12 +234,12 @@ fn term(
         kinds::tail(q, a),
         kinds::tail_sizes(z, a),
         level - 1,
-        cb,
+        walks,
         vs,
         env,
         memo,
     );
-    let x = value(q, z, level, cb, vs, memo, env);
+    let x = value(q, z, level, walks, vs, memo, env);
     numbers::remember(memo, variable, x);
 }
 
@@ -266,26 +249,26 @@ pub fn targets(
     z: &[u16],
     left: usize,
     level: usize,
-    cb: &[u8],
+    walks: &[u16],
     vs: &[i32],
     env: &mut [usize],
     memo: &mut [i64],
 )
     requires { ⌜ 256 ≤ length (now env) ⌝ }
-    ensures { λ _. ⌜ now (memo .exit) ≡ filledTs (targetsAt left level (now (q .entry)) (now (z .entry))) (rowsIn (now (cb .entry)) (now (vs .entry))) (assigned (now (vs .entry)) (now (env .entry))) (now (memo .entry)) ⌝ }
+    ensures { λ _. ⌜ now (memo .exit) ≡ filledTs (targetsAt left level (now (q .entry)) (now (z .entry))) (rowsBy (now (walks .entry)) (now (vs .entry))) (assigned (now (vs .entry)) (now (env .entry))) (now (memo .entry)) ⌝ }
     ensures { λ _. ⌜ now (env .exit) ≡ now (env .entry) ⌝ }
 {
     if left == 0 {
         return;
     }
-    term(q, z, level, cb, vs, env, memo);
+    term(q, z, level, walks, vs, env, memo);
     let n = kinds::size_at(z, 0);
     targets(
         kinds::tail(q, n),
         kinds::tail_sizes(z, n),
         left - 1,
         level,
-        cb,
+        walks,
         vs,
         env,
         memo,

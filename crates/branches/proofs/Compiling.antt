@@ -12,7 +12,7 @@ use Rattle.model.specs.Syntax.{Condition}
 use Rattle.model.specs.Meaning.{Assignment}
 use Rattle.sizes.specs.Decode.{decode}
 use Rattle.evaluator.specs.Recalled.{holdsBy}
-use Rattle.evaluator.specs.Evaluation.{rowsIn}
+use Rattle.walks.specs.Walks.{rowsBy}
 use Rattle.branches.specs.Branches.{field, branchHolds, next, runs}
 use Rattle.branches.specs.Compiled.{Compares, comparing, placing, Kept, Compiled}
 use Rattle.branches.specs.declared.Comparison.{Comparison}
@@ -22,16 +22,16 @@ use Rattle.branches.proofs.Writing.{sets-before, sets-at}
 -- branch k holds where c holds, and leads to met or to unmet
 module _ (k met unmet : ℕ) (t t′ : List ℕ) (xs xs′ : List ℤ) (q z : List ℕ) (m : List ℤ) (c : Condition) (h : Kept k t t′ xs xs′)
     (low : 2 ≤ k) (hm : met < k) (hu : unmet < k) (em : field t′ k 5 ≡ met) (eu : field t′ k 6 ≡ unmet)
-    (holds : (cb : List ℕ) (vs : List ℤ) (e : Assignment) → branchHolds t′ xs′ q z cb vs m k e ≡ holdsBy m c (rowsIn cb vs) e) where
-  leads-to : (cb : List ℕ) (vs : List ℤ) (e : Assignment) (n : ℕ) → n < k → next t′ xs′ q z cb vs m k e ≡ n → runs t′ xs′ q z cb vs m k e ≡ runs t xs q z cb vs m n e
-  leads-to cb vs e n g p = runs-step t′ xs′ q z cb vs m k e low (subst (λ (j : ℕ). j < k) (sym p) g) ∙ ap (λ (j : ℕ). runs t′ xs′ q z cb vs m j e) p ∙ runs-kept k t t′ xs xs′ q z cb vs m h n e g
+    (holds : (ws : List ℕ) (vs : List ℤ) (e : Assignment) → branchHolds t′ xs′ q z ws vs m k e ≡ holdsBy m c (rowsBy ws vs) e) where
+  leads-to : (ws : List ℕ) (vs : List ℤ) (e : Assignment) (n : ℕ) → n < k → next t′ xs′ q z ws vs m k e ≡ n → runs t′ xs′ q z ws vs m k e ≡ runs t xs q z ws vs m n e
+  leads-to ws vs e n g p = runs-step t′ xs′ q z ws vs m k e low (subst (λ (j : ℕ). j < k) (sym p) g) ∙ ap (λ (j : ℕ). runs t′ xs′ q z ws vs m j e) p ∙ runs-kept k t t′ xs xs′ q z ws vs m h n e g
 
-  decides : (cb : List ℕ) (vs : List ℤ) (e : Assignment) (b : Bool) → branchHolds t′ xs′ q z cb vs m k e ≡ b → runs t′ xs′ q z cb vs m k e ≡ cond b (runs t xs q z cb vs m met e) (runs t xs q z cb vs m unmet e)
-  decides cb vs e true p = leads-to cb vs e met hm (rw p em)
-  decides cb vs e false p = leads-to cb vs e unmet hu (rw p eu)
+  decides : (ws : List ℕ) (vs : List ℤ) (e : Assignment) (b : Bool) → branchHolds t′ xs′ q z ws vs m k e ≡ b → runs t′ xs′ q z ws vs m k e ≡ cond b (runs t xs q z ws vs m met e) (runs t xs q z ws vs m unmet e)
+  decides ws vs e true p = leads-to ws vs e met hm (rw p em)
+  decides ws vs e false p = leads-to ws vs e unmet hu (rw p eu)
 
   one-branch : Compiled k k met unmet t t′ xs xs′ q z m c
-  one-branch = record { kept = h; means = λ cb vs e. decides cb vs e (holdsBy m c (rowsIn cb vs) e) (holds cb vs e) }
+  one-branch = record { kept = h; means = λ ws vs e. decides ws vs e (holdsBy m c (rowsBy ws vs) e) (holds ws vs e) }
 
 -- a condition by its place
 module _ (k met unmet : ℕ) (t t′ : List ℕ) (xs : List ℤ) (q z : List ℕ) (m : List ℤ) (place l p n : ℕ) (ep : p ≡ place) (en : n ≡ l)
@@ -39,9 +39,9 @@ module _ (k met unmet : ℕ) (t t′ : List ℕ) (xs : List ℤ) (q z : List ℕ
   at-place : (j : ℕ) → j < 8 → field t′ k j ≡ getD (placing place l met unmet) j 0
   at-place j h = ap (λ (y : List ℕ). getD y (8 * k + j) 0) et ∙ sets-at 0 (placing p n met unmet) t (8 * k) j rt h ∙ ap₂ (λ (a b : ℕ). getD (placing a b met unmet) j 0) ep en
 
-  says : (cb : List ℕ) (vs : List ℤ) (e : Assignment) → branchHolds t′ xs q z cb vs m k e ≡ holdsBy m (decode l (drop place q) (drop place z)) (rowsIn cb vs) e
+  says : (ws : List ℕ) (vs : List ℤ) (e : Assignment) → branchHolds t′ xs q z ws vs m k e ≡ holdsBy m (decode l (drop place q) (drop place z)) (rowsBy ws vs) e
   unfolding branchHolds
-  says cb vs e = rw (at-place 0 (omega arith), at-place 1 (omega arith), at-place 2 (omega arith))
+  says ws vs e = rw (at-place 0 (omega arith), at-place 1 (omega arith), at-place 2 (omega arith))
 
   pub placed : 2 ≤ k → met < k → unmet < k → Compiled k k met unmet t t′ xs xs q z m (decode l (drop place q) (drop place z))
   placed low hm hu =
@@ -66,11 +66,11 @@ module _ (k met unmet : ℕ) (t t′ : List ℕ) (xs xs′ : List ℤ) (q z u w 
   right : getD xs′ (2 * k + 1) (pos 0) ≡ x .right .number
   right = ap (λ (y : List ℤ). getD y (2 * k + 1) (pos 0)) ex ∙ sets-at (pos 0) (a ∷ b ∷ []) xs (2 * k) 1 rx (omega arith) ∙ eb
 
-  compared-says : (cb : List ℕ) (vs : List ℤ) (e : Assignment) → branchHolds t′ xs′ q z cb vs m k e ≡ holdsBy m (decode l (drop place q) (drop place z)) (rowsIn cb vs) e
+  compared-says : (ws : List ℕ) (vs : List ℤ) (e : Assignment) → branchHolds t′ xs′ q z ws vs m k e ≡ holdsBy m (decode l (drop place q) (drop place z)) (rowsBy ws vs) e
   unfolding branchHolds
-  compared-says cb vs e =
+  compared-says ws vs e =
       rw (at-comparison 0 (omega arith), at-comparison 1 (omega arith), at-comparison 2 (omega arith), at-comparison 3 (omega arith), at-comparison 4 (omega arith), left, right, ne-eqb (x .operator) 0 no)
-      (sym (ap₂ (λ (y v : List ℕ). holdsBy m (decode l y v) (rowsIn cb vs) e) (sym eu) (sym ew) ∙ ec no (rowsIn cb vs) e))
+      (sym (ap₂ (λ (y v : List ℕ). holdsBy m (decode l y v) (rowsBy ws vs) e) (sym eu) (sym ew) ∙ ec no (rowsBy ws vs) e))
 
   pub compared : 2 ≤ k → met < k → unmet < k → Compiled k k met unmet t t′ xs xs′ q z m (decode l (drop place q) (drop place z))
   compared low hm hu =

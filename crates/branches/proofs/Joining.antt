@@ -19,7 +19,7 @@ use Rattle.kinds.proofs.Records.{whole-record}
 use Rattle.kinds.specs.declared.Record.the-variants as R
 use Rattle.sizes.specs.Decode.{first, second, conditionBy, decode, decodeT}
 use Rattle.evaluator.specs.Recalled.{holdsBy}
-use Rattle.evaluator.specs.Evaluation.{rowsIn}
+use Rattle.walks.specs.Walks.{rowsBy}
 use Rattle.branches.specs.Branches.{runs}
 use Rattle.branches.specs.Compiled.{Compiled, node, joined, Parted}
 use Rattle.branches.specs.declared.Parts.{Parts}
@@ -87,7 +87,7 @@ module _ (k met unmet : ℕ) (q z : List ℕ) (m : List ℤ) (c d w : Condition)
   unfolding holdsBy
   joined-not r t t′ xs xs′ h a =
       subst (Compiled k r met unmet t t′ xs xs′ q z m) (sym is-not)
-      (record { kept = a .kept; means = λ cb vs e. a .means cb vs e ∙ turned (holdsBy m c (rowsIn cb vs) e) (runs t xs q z cb vs m met e) (runs t xs q z cb vs m unmet e) })
+      (record { kept = a .kept; means = λ ws vs e. a .means ws vs e ∙ turned (holdsBy m c (rowsBy ws vs) e) (runs t xs q z ws vs m met e) (runs t xs q z ws vs m unmet e) })
     where
       is-not : w ≡ NOT c
       is-not = ew ∙ rw h
@@ -97,8 +97,8 @@ module _ (k met unmet : ℕ) (q z : List ℕ) (m : List ℤ) (c d w : Condition)
       turned false x y = refl
 
   module _ (r s : ℕ) (t t′ t″ : List ℕ) (xs xs′ xs″ : List ℤ) (le : k ≤ r) (hm : met < k) (hu : unmet < k) (b : Compiled k r met unmet t t′ xs xs′ q z m d) where
-    back : (i : ℕ) (cb : List ℕ) (vs : List ℤ) (e : Assignment) → i < k → runs t′ xs′ q z cb vs m i e ≡ runs t xs q z cb vs m i e
-    back i cb vs e h = runs-kept k t t′ xs xs′ q z cb vs m (b .kept) i e h
+    back : (i : ℕ) (ws : List ℕ) (vs : List ℤ) (e : Assignment) → i < k → runs t′ xs′ q z ws vs m i e ≡ runs t xs q z ws vs m i e
+    back i ws vs e h = runs-kept k t t′ xs xs′ q z ws vs m (b .kept) i e h
 
     pub joined-and : kind ≡ 2 → Compiled (r + 1) s r unmet t′ t″ xs′ xs″ q z m c → Compiled k s met unmet t t″ xs xs″ q z m w
     unfolding holdsBy
@@ -106,8 +106,8 @@ module _ (k met unmet : ℕ) (q z : List ℕ) (m : List ℤ) (c d w : Condition)
         subst (Compiled k s met unmet t t″ xs xs″ q z m) (sym is-and)
         (record {
           kept = kept-both k (r + 1) t t′ t″ xs xs′ xs″ (omega arith) (b .kept) (a .kept);
-          means = λ cb vs e. a .means cb vs e ∙ ap₂ (cond (holdsBy m c (rowsIn cb vs) e)) (b .means cb vs e) (back unmet cb vs e hu)
-              ∙ both (holdsBy m c (rowsIn cb vs) e) (holdsBy m d (rowsIn cb vs) e) (runs t xs q z cb vs m met e) (runs t xs q z cb vs m unmet e);
+          means = λ ws vs e. a .means ws vs e ∙ ap₂ (cond (holdsBy m c (rowsBy ws vs) e)) (b .means ws vs e) (back unmet ws vs e hu)
+              ∙ both (holdsBy m c (rowsBy ws vs) e) (holdsBy m d (rowsBy ws vs) e) (runs t xs q z ws vs m met e) (runs t xs q z ws vs m unmet e);
         })
       where
         is-and : w ≡ AND c d
@@ -123,8 +123,8 @@ module _ (k met unmet : ℕ) (q z : List ℕ) (m : List ℤ) (c d w : Condition)
         subst (Compiled k s met unmet t t″ xs xs″ q z m) (sym is-or)
         (record {
           kept = kept-both k (r + 1) t t′ t″ xs xs′ xs″ (omega arith) (b .kept) (a .kept);
-          means = λ cb vs e. a .means cb vs e ∙ ap₂ (cond (holdsBy m c (rowsIn cb vs) e)) (back met cb vs e hm) (b .means cb vs e)
-              ∙ either (holdsBy m c (rowsIn cb vs) e) (holdsBy m d (rowsIn cb vs) e) (runs t xs q z cb vs m met e) (runs t xs q z cb vs m unmet e);
+          means = λ ws vs e. a .means ws vs e ∙ ap₂ (cond (holdsBy m c (rowsBy ws vs) e)) (back met ws vs e hm) (b .means ws vs e)
+              ∙ either (holdsBy m c (rowsBy ws vs) e) (holdsBy m d (rowsBy ws vs) e) (runs t xs q z ws vs m met e) (runs t xs q z ws vs m unmet e);
         })
       where
         is-or : w ≡ OR c d

@@ -11,7 +11,7 @@ use Rattle.model.specs.Meaning.{Assignment, Ratio, whole, compare}
 use Rattle.numbers.specs.Memo.{knows, recalled}
 use Rattle.sizes.specs.Decode.{decode}
 use Rattle.evaluator.specs.Recalled.{holdsBy}
-use Rattle.evaluator.specs.Evaluation.{rowsIn}
+use Rattle.walks.specs.Walks.{rowsBy}
 
 -- number j of branch i
 abbrev pub field : List ℕ → ℕ → ℕ → ℕ
@@ -25,12 +25,12 @@ recalledOr0 m v = cond (knows m v) (recalled m v) (whole (pos 0))
 abbrev pub operand : List ℤ → ℕ → ℕ → ℤ → Assignment → Ratio
 operand m v a x e = cond (ltb v 256) (whole (e v a)) (cond (ltb v 512) (recalledOr0 m (v - 256)) (whole x))
 
-module _ (t : List ℕ) (xs : List ℤ) (q z cb : List ℕ) (vs m : List ℤ) where
+module _ (t : List ℕ) (xs : List ℤ) (q z ws : List ℕ) (vs m : List ℤ) where
   -- whether branch i holds
   unfoldable pub branchHolds : ℕ → Assignment → Bool
   branchHolds i e =
       cond (eqb (field t i 0) 0)
-      (holdsBy m (decode (field t i 2) (drop (field t i 1) q) (drop (field t i 1) z)) (rowsIn cb vs) e)
+      (holdsBy m (decode (field t i 2) (drop (field t i 1) q) (drop (field t i 1) z)) (rowsBy ws vs) e)
       (compare (field t i 0) (operand m (field t i 1) (field t i 2) (getD xs (2 * i) (pos 0)) e) (operand m (field t i 3) (field t i 4) (getD xs (2 * i + 1) (pos 0)) e))
 
   -- where it leads

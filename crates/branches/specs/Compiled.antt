@@ -12,7 +12,7 @@ use Rattle.kinds.specs.declared.Record.{Record}
 use Rattle.kinds.specs.declared.Record.the-variants as R
 use Rattle.sizes.specs.Decode.{decode}
 use Rattle.evaluator.specs.Recalled.{holdsBy, valueBy}
-use Rattle.evaluator.specs.Evaluation.{rowsIn}
+use Rattle.walks.specs.Walks.{rowsBy}
 use Rattle.branches.specs.Branches.{operand, runs}
 use Rattle.branches.specs.declared.Operand.{Operand}
 use Rattle.branches.specs.declared.Comparison.{Comparison}
@@ -44,7 +44,7 @@ pub record Kept (k : ℕ) (t t′ : List ℕ) (xs xs′ : List ℤ) : Type 0 whe
 -- branch r decides the condition c: it leads where `met` leads if c holds, else where `unmet` leads
 pub record Compiled (k r met unmet : ℕ) (t t′ : List ℕ) (xs xs′ : List ℤ) (q z : List ℕ) (m : List ℤ) (c : Condition) : Type 0 where
   pub kept : Kept k t t′ xs xs′
-  pub means : (cb : List ℕ) (vs : List ℤ) (e : Assignment) → runs t′ xs′ q z cb vs m r e ≡ cond (holdsBy m c (rowsIn cb vs) e) (runs t xs q z cb vs m met e) (runs t xs q z cb vs m unmet e)
+  pub means : (ws : List ℕ) (vs : List ℤ) (e : Assignment) → runs t′ xs′ q z ws vs m r e ≡ cond (holdsBy m c (rowsBy ws vs) e) (runs t xs q z ws vs m met e) (runs t xs q z ws vs m unmet e)
 
 -- 1 NOT, 2 AND, 3 OR: the record, and the condition of its parts
 abbrev pub node : ℕ → Record

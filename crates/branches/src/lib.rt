@@ -74,13 +74,13 @@ fn branch(
     i: usize,
     q: &[u8],
     z: &[u16],
-    catalogue: &[u8],
+    walks: &[u16],
     values: &[i32],
     memo: &[i64],
     env: &mut [usize],
 ) -> bool
     requires { ⌜ (256 ≤ length (now env)) × (i ≤ 65535) ⌝ }
-    ensures { λ r. ⌜ r ≡ B.branchHolds (now (t .entry)) (now (xs .entry)) (now (q .entry)) (now (z .entry)) (now (catalogue .entry)) (now (values .entry)) (now (memo .entry)) i (assigned (now (values .entry)) (now (env .entry))) ⌝ }
+    ensures { λ r. ⌜ r ≡ B.branchHolds (now (t .entry)) (now (xs .entry)) (now (q .entry)) (now (z .entry)) (now (walks .entry)) (now (values .entry)) (now (memo .entry)) i (assigned (now (values .entry)) (now (env .entry))) ⌝ }
     ensures { λ _. ⌜ now (env .exit) ≡ now (env .entry) ⌝ }
 {
     let p = 8 * i;
@@ -90,7 +90,7 @@ fn branch(
         let level = kinds::size_at(t, p + 2);
         let c = kinds::tail(q, place);
         let sizes = kinds::tail_sizes(z, place);
-        return evaluator::condition(c, sizes, level, catalogue, values, memo, env);
+        return evaluator::condition(c, sizes, level, walks, values, memo, env);
     }
     let a = side(t, p + 1, xs, 2 * i, values, memo, env);
     let b = side(t, p + 3, xs, 2 * i + 1, values, memo, env);
@@ -104,16 +104,16 @@ fn next(
     i: usize,
     q: &[u8],
     z: &[u16],
-    catalogue: &[u8],
+    walks: &[u16],
     values: &[i32],
     memo: &[i64],
     env: &mut [usize],
 ) -> usize
     requires { ⌜ (256 ≤ length (now env)) × (i ≤ 65535) ⌝ }
-    ensures { λ r. ⌜ r ≡ B.next (now (t .entry)) (now (xs .entry)) (now (q .entry)) (now (z .entry)) (now (catalogue .entry)) (now (values .entry)) (now (memo .entry)) i (assigned (now (values .entry)) (now (env .entry))) ⌝ }
+    ensures { λ r. ⌜ r ≡ B.next (now (t .entry)) (now (xs .entry)) (now (q .entry)) (now (z .entry)) (now (walks .entry)) (now (values .entry)) (now (memo .entry)) i (assigned (now (values .entry)) (now (env .entry))) ⌝ }
     ensures { λ _. ⌜ now (env .exit) ≡ now (env .entry) ⌝ }
 {
-    if branch(t, xs, i, q, z, catalogue, values, memo, env) {
+    if branch(t, xs, i, q, z, walks, values, memo, env) {
         return kinds::size_at(t, 8 * i + 5);
     }
     kinds::size_at(t, 8 * i + 6)
@@ -126,18 +126,18 @@ pub fn holds(
     i: usize,
     q: &[u8],
     z: &[u16],
-    catalogue: &[u8],
+    walks: &[u16],
     values: &[i32],
     memo: &[i64],
     env: &mut [usize],
 ) -> bool
     requires { ⌜ (256 ≤ length (now env)) × (i ≤ 65535) ⌝ }
-    ensures { λ r. ⌜ r ≡ B.runs (now (t .entry)) (now (xs .entry)) (now (q .entry)) (now (z .entry)) (now (catalogue .entry)) (now (values .entry)) (now (memo .entry)) i (assigned (now (values .entry)) (now (env .entry))) ⌝ }
+    ensures { λ r. ⌜ r ≡ B.runs (now (t .entry)) (now (xs .entry)) (now (q .entry)) (now (z .entry)) (now (walks .entry)) (now (values .entry)) (now (memo .entry)) i (assigned (now (values .entry)) (now (env .entry))) ⌝ }
     ensures { λ _. ⌜ now (env .exit) ≡ now (env .entry) ⌝ }
 {
     let mut at = i;
     while 2 <= at {
-        let to = next(t, xs, at, q, z, catalogue, values, memo, env);
+        let to = next(t, xs, at, q, z, walks, values, memo, env);
         if at <= to {
             return false;
         }

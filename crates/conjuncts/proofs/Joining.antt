@@ -17,7 +17,7 @@ use Rattle.model.proofs.Tests.{and-true, or-no}
 use Rattle.kinds.specs.declared.Record.the-variants as R
 use Rattle.sizes.specs.Decode.{decode}
 use Rattle.evaluator.specs.Recalled.{holdsBy}
-use Rattle.evaluator.specs.Evaluation.{rowsIn}
+use Rattle.walks.specs.Walks.{rowsBy}
 use Rattle.branches.specs.Branches.{field, branchHolds, next, leads, runs}
 use Rattle.branches.specs.Compiled.{Compiled, Parted}
 use Rattle.branches.specs.declared.Parts.{Parts}
@@ -30,32 +30,32 @@ use Rattle.conjuncts.specs.Filling.{Stable, Begun, Joined}
 use Rattle.conjuncts.proofs.Below.{and-and, all-true, all-gains}
 
 -- a stage from where it starts
-pub from-start : (t : List ℕ) (xs : List ℤ) (q z cb : List ℕ) (vs m : List ℤ) (i s : ℕ) (e : Assignment) → i ≡ getD t s 0 → runs t xs q z cb vs m i e ≡ stageHolds t xs q z cb vs m s e
+pub from-start : (t : List ℕ) (xs : List ℤ) (q z ws : List ℕ) (vs m : List ℤ) (i s : ℕ) (e : Assignment) → i ≡ getD t s 0 → runs t xs q z ws vs m i e ≡ stageHolds t xs q z ws vs m s e
 unfolding stageHolds
-from-start t xs q z cb vs m i s e h = ap (λ j. runs t xs q z cb vs m j e) h
+from-start t xs q z ws vs m i s e h = ap (λ j. runs t xs q z ws vs m j e) h
 
 -- tables that differ before branch 2 alone
-module _ (t t′ : List ℕ) (xs : List ℤ) (q z cb : List ℕ) (vs m : List ℤ) (h : (i : ℕ) → 16 ≤ i → getD t′ i 0 ≡ getD t i 0) where
+module _ (t t′ : List ℕ) (xs : List ℤ) (q z ws : List ℕ) (vs m : List ℤ) (h : (i : ℕ) → 16 ≤ i → getD t′ i 0 ≡ getD t i 0) where
   same-field : (i j : ℕ) → 2 ≤ i → field t′ i j ≡ field t i j
   same-field i j a = h (8 * i + j) (omega arith)
 
-  same-next : (i : ℕ) (e : Assignment) → 2 ≤ i → next t′ xs q z cb vs m i e ≡ next t xs q z cb vs m i e
+  same-next : (i : ℕ) (e : Assignment) → 2 ≤ i → next t′ xs q z ws vs m i e ≡ next t xs q z ws vs m i e
   unfolding branchHolds
   same-next i e a = rw (same-field i 0 a, same-field i 1 a, same-field i 2 a, same-field i 3 a, same-field i 4 a, same-field i 5 a, same-field i 6 a)
 
-  same-leads : (n i : ℕ) (e : Assignment) → leads t′ xs q z cb vs m n i e ≡ leads t xs q z cb vs m n i e
+  same-leads : (n i : ℕ) (e : Assignment) → leads t′ xs q z ws vs m n i e ≡ leads t xs q z ws vs m n i e
   unfolding leads
   same-leads zero i e = refl
   same-leads (suc n) i e = go (ltb i 2) refl (λ o. same-leads n o e)
     where
-      go : (b : Bool) → ltb i 2 ≡ b → ((o : ℕ) → leads t′ xs q z cb vs m n o e ≡ leads t xs q z cb vs m n o e)
-          → cond b (eqb i 0) (cond (ltb (next t′ xs q z cb vs m i e) i) (leads t′ xs q z cb vs m n (next t′ xs q z cb vs m i e) e) false) ≡ cond b (eqb i 0) (cond (ltb (next t xs q z cb vs m i e) i) (leads t xs q z cb vs m n (next t xs q z cb vs m i e) e) false)
+      go : (b : Bool) → ltb i 2 ≡ b → ((o : ℕ) → leads t′ xs q z ws vs m n o e ≡ leads t xs q z ws vs m n o e)
+          → cond b (eqb i 0) (cond (ltb (next t′ xs q z ws vs m i e) i) (leads t′ xs q z ws vs m n (next t′ xs q z ws vs m i e) e) false) ≡ cond b (eqb i 0) (cond (ltb (next t xs q z ws vs m i e) i) (leads t xs q z ws vs m n (next t xs q z ws vs m i e) e) false)
       go true p f = refl
       go false p f =
-          ap (λ o. cond (ltb o i) (leads t′ xs q z cb vs m n o e) false) (same-next i e (ltb-false i 2 p))
-          ∙ ap (λ b. cond (ltb (next t xs q z cb vs m i e) i) b false) (f (next t xs q z cb vs m i e))
+          ap (λ o. cond (ltb o i) (leads t′ xs q z ws vs m n o e) false) (same-next i e (ltb-false i 2 p))
+          ∙ ap (λ b. cond (ltb (next t xs q z ws vs m i e) i) b false) (f (next t xs q z ws vs m i e))
 
-  same-runs : (i : ℕ) (e : Assignment) → runs t′ xs q z cb vs m i e ≡ runs t xs q z cb vs m i e
+  same-runs : (i : ℕ) (e : Assignment) → runs t′ xs q z ws vs m i e ≡ runs t xs q z ws vs m i e
   unfolding runs
   same-runs i e = same-leads (suc i) i e
 
@@ -72,7 +72,7 @@ fewer w (b ∷ bs) (suc s) zero h k = absurd (omega arith)
 fewer w (b ∷ bs) (suc s) (suc s′) h k = fewer w bs s s′ (omega arith) k
 
 -- a condition compiled before stage s
-module _ (k r s after : ℕ) (t t₁ t′ : List ℕ) (xs xs′ : List ℤ) (q z cb : List ℕ) (m : List ℤ) (c : Condition) (bs : List Binding)
+module _ (k r s after : ℕ) (t t₁ t′ : List ℕ) (xs xs′ : List ℤ) (q z : List ℕ) (m : List ℤ) (c : Condition) (bs : List Binding)
     (d : Compiled k r after 1 t t₁ xs xs′ q z m c) (ea : after ≡ getD t s 0) (et : t′ ≡ set t₁ s r) (two : 2 ≤ k) (low : k ≤ r) (room : 16 ≤ length t₁) (b : Begun k t) (few : length bs ≤ 7) where
   start-here : s < 16 → getD t′ s 0 ≡ r
   start-here h = ap (λ (y : List ℕ). getD y s 0) et ∙ getD-set-same t₁ s r 0 (omega arith)
@@ -87,69 +87,69 @@ module _ (k r s after : ℕ) (t t₁ t′ : List ℕ) (xs xs′ : List ℤ) (q z
       go true p = let j = eqb-true i s p in let f = start-here h in subst (λ (y : ℕ). getD t′ y 0 < r + 1) (sym j) (omega arith)
       go false p = let f = start-other i g (eqb-false i s p) in let f′ = b i g in omega arith
 
-  module _ (vs : List ℤ) (hs : s < 16) where
-    past : (i : ℕ) (e : Assignment) → runs t′ xs′ q z cb vs m i e ≡ runs t₁ xs′ q z cb vs m i e
-    past i e = same-runs t₁ t′ xs′ q z cb vs m (λ j a. ap (λ (y : List ℕ). getD y j 0) et ∙ getD-set-other t₁ s j r 0 (λ f. omega arith)) i e
+  module _ (ws : List ℕ) (vs : List ℤ) (hs : s < 16) where
+    past : (i : ℕ) (e : Assignment) → runs t′ xs′ q z ws vs m i e ≡ runs t₁ xs′ q z ws vs m i e
+    past i e = same-runs t₁ t′ xs′ q z ws vs m (λ j a. ap (λ (y : List ℕ). getD y j 0) et ∙ getD-set-other t₁ s j r 0 (λ f. omega arith)) i e
 
-    stage-here : (e : Assignment) → stageHolds t′ xs′ q z cb vs m s e ≡ holdsBy m c (rowsIn cb vs) e && stageHolds t xs q z cb vs m s e
+    stage-here : (e : Assignment) → stageHolds t′ xs′ q z ws vs m s e ≡ holdsBy m c (rowsBy ws vs) e && stageHolds t xs q z ws vs m s e
     unfolding stageHolds
     stage-here e =
-        ap (λ i. runs t′ xs′ q z cb vs m i e) (start-here hs) ∙ past r e ∙ d .means cb vs e
-        ∙ ap₂ (λ (i : ℕ) (y : Bool). cond (holdsBy m c (rowsIn cb vs) e) (runs t xs q z cb vs m i e) y) ea (runs-1 t xs q z cb vs m e) ∙ both (holdsBy m c (rowsIn cb vs) e) (runs t xs q z cb vs m (getD t s 0) e)
+        ap (λ i. runs t′ xs′ q z ws vs m i e) (start-here hs) ∙ past r e ∙ d .means ws vs e
+        ∙ ap₂ (λ (i : ℕ) (y : Bool). cond (holdsBy m c (rowsBy ws vs) e) (runs t xs q z ws vs m i e) y) ea (runs-1 t xs q z ws vs m e) ∙ both (holdsBy m c (rowsBy ws vs) e) (runs t xs q z ws vs m (getD t s 0) e)
       where
         both : (x y : Bool) → cond x y false ≡ x && y
         both true y = refl
         both false y = refl
 
-    stage-other : (i : ℕ) (e : Assignment) → i < 16 → (i ≡ s → ⊥) → stageHolds t′ xs′ q z cb vs m i e ≡ stageHolds t xs q z cb vs m i e
+    stage-other : (i : ℕ) (e : Assignment) → i < 16 → (i ≡ s → ⊥) → stageHolds t′ xs′ q z ws vs m i e ≡ stageHolds t xs q z ws vs m i e
     unfolding stageHolds
-    stage-other i e h n = ap (λ j. runs t′ xs′ q z cb vs m j e) (start-other i h n) ∙ past (getD t i 0) e ∙ runs-kept k t t₁ xs xs′ q z cb vs m (d .kept) (getD t i 0) e (b i h)
+    stage-other i e h n = ap (λ j. runs t′ xs′ q z ws vs m j e) (start-other i h n) ∙ past (getD t i 0) e ∙ runs-kept k t t₁ xs xs′ q z ws vs m (d .kept) (getD t i 0) e (b i h)
 
-    whole : (e : Assignment) → s < 2 * length bs + 2 → stagesHold t′ xs′ q z cb vs m (length bs) e ≡ holdsBy m c (rowsIn cb vs) e && stagesHold t xs q z cb vs m (length bs) e
+    whole : (e : Assignment) → s < 2 * length bs + 2 → stagesHold t′ xs′ q z ws vs m (length bs) e ≡ holdsBy m c (rowsBy ws vs) e && stagesHold t xs q z ws vs m (length bs) e
     unfolding stagesHold
     whole e h =
-        all-gains (λ i. stageHolds t′ xs′ q z cb vs m i e) (λ i. stageHolds t xs q z cb vs m i e) (holdsBy m c (rowsIn cb vs) e) s (2 * length bs + 2) h (stage-here e) (λ i g n. stage-other i e (omega arith) n)
+        all-gains (λ i. stageHolds t′ xs′ q z ws vs m i e) (λ i. stageHolds t xs q z ws vs m i e) (holdsBy m c (rowsBy ws vs) e) s (2 * length bs + 2) h (stage-here e) (λ i g n. stage-other i e (omega arith) n)
 
-    steady : (bound : ℕ) → 2 * bound ≤ s → Stable c bound bs → Steady t xs q z cb vs m bs → Steady t′ xs′ q z cb vs m bs
+    steady : (bound : ℕ) → 2 * bound ≤ s → Stable c bound bs → Steady t xs q z ws vs m bs → Steady t′ xs′ q z ws vs m bs
     steady bound h g f i n a a′ e e′ x = go (eqb i s) refl
       where
-        go : (y : Bool) → eqb i s ≡ y → stageHolds t′ xs′ q z cb vs m i e′ ≡ stageHolds t′ xs′ q z cb vs m i e
+        go : (y : Bool) → eqb i s ≡ y → stageHolds t′ xs′ q z ws vs m i e′ ≡ stageHolds t′ xs′ q z ws vs m i e
         go true p =
             let j = eqb-true i s p in
-            subst (λ (o : ℕ). stageHolds t′ xs′ q z cb vs m o e′ ≡ stageHolds t′ xs′ q z cb vs m o e) (sym j)
-            (stage-here e′ ∙ ap₂ _&&_ (g m (rowsIn cb vs) e e′ (λ w y. x w (fewer w bs bound n (omega arith) y))) (f s n (omega arith) a′ e e′ x) ∙ sym (stage-here e))
+            subst (λ (o : ℕ). stageHolds t′ xs′ q z ws vs m o e′ ≡ stageHolds t′ xs′ q z ws vs m o e) (sym j)
+            (stage-here e′ ∙ ap₂ _&&_ (g m (rowsBy ws vs) e e′ (λ w y. x w (fewer w bs bound n (omega arith) y))) (f s n (omega arith) a′ e e′ x) ∙ sym (stage-here e))
         go false p = let o = eqb-false i s p in stage-other i e′ (omega arith) o ∙ f i n a a′ e e′ x ∙ sym (stage-other i e (omega arith) o)
 
-  pub joined : (bound : ℕ) → bound ≤ length bs → 2 * bound ≤ s → s ≤ 2 * bound + 1 → Stable c bound bs → Joined (r + 1) t t′ xs xs′ q z cb m c bs
+  pub joined : (bound : ℕ) → bound ≤ length bs → 2 * bound ≤ s → s ≤ 2 * bound + 1 → Stable c bound bs → Joined (r + 1) t t′ xs xs′ q z m c bs
   joined bound h l u g =
       record {
         begun = begun (omega arith);
-        whole = λ vs e. whole vs (omega arith) e (omega arith);
-        steady = λ vs f. steady vs (omega arith) bound l g f;
+        whole = λ ws vs e. whole ws vs (omega arith) e (omega arith);
+        steady = λ ws vs f. steady ws vs (omega arith) bound l g f;
       }
 
 -- the second part of an AND, then the first
 -- TRUE leaves the table as it is
-pub joined-true : (k : ℕ) (t : List ℕ) (xs : List ℤ) (q z cb : List ℕ) (m : List ℤ) (c : Condition) (bs : List Binding) → Begun k t → c ≡ TRUE → Joined k t t xs xs q z cb m c bs
+pub joined-true : (k : ℕ) (t : List ℕ) (xs : List ℤ) (q z : List ℕ) (m : List ℤ) (c : Condition) (bs : List Binding) → Begun k t → c ≡ TRUE → Joined k t t xs xs q z m c bs
 unfolding holdsBy
-joined-true k t xs q z cb m c bs b h =
+joined-true k t xs q z m c bs b h =
     record {
       begun = b;
-      whole = λ vs e. sym (ap (λ (d : Condition). holdsBy m d (rowsIn cb vs) e && stagesHold t xs q z cb vs m (length bs) e) h);
-      steady = λ vs s. s;
+      whole = λ ws vs e. sym (ap (λ (d : Condition). holdsBy m d (rowsBy ws vs) e && stagesHold t xs q z ws vs m (length bs) e) h);
+      steady = λ ws vs s. s;
     }
 
 pub true-there : (q : List ℕ) (place l b : ℕ) → (l ≡ 0 → ⊥) → b ≡ getD q place 0 → b ≡ 16 → (z : List ℕ) → decode l (drop place q) z ≡ TRUE
 unfolding kindOf find
 true-there q place l b nz eb h z = sym (condition-is [] (drop place q) l R.True nz (sym (bare (drop place q) 15 k-true (first-at place q ∙ sym eb ∙ h) refl refl)) z)
 
-pub joined-both : (n r : ℕ) (t t₁ t₂ : List ℕ) (xs xs₁ xs₂ : List ℤ) (q z cb : List ℕ) (m : List ℤ) (c d : Condition) (bs : List Binding) → Joined n t t₁ xs xs₁ q z cb m d bs → Joined r t₁ t₂ xs₁ xs₂ q z cb m c bs → Joined r t t₂ xs xs₂ q z cb m (AND c d) bs
+pub joined-both : (n r : ℕ) (t t₁ t₂ : List ℕ) (xs xs₁ xs₂ : List ℤ) (q z : List ℕ) (m : List ℤ) (c d : Condition) (bs : List Binding) → Joined n t t₁ xs xs₁ q z m d bs → Joined r t₁ t₂ xs₁ xs₂ q z m c bs → Joined r t t₂ xs xs₂ q z m (AND c d) bs
 unfolding holdsBy
-joined-both n r t t₁ t₂ xs xs₁ xs₂ q z cb m c d bs a b =
+joined-both n r t t₁ t₂ xs xs₁ xs₂ q z m c d bs a b =
     record {
       begun = b .begun;
-      whole = λ vs e. b .whole vs e ∙ ap (λ y. holdsBy m c (rowsIn cb vs) e && y) (a .whole vs e) ∙ sym (and-and (holdsBy m c (rowsIn cb vs) e) (holdsBy m d (rowsIn cb vs) e) (stagesHold t xs q z cb vs m (length bs) e));
-      steady = λ vs f. b .steady vs (a .steady vs f);
+      whole = λ ws vs e. b .whole ws vs e ∙ ap (λ y. holdsBy m c (rowsBy ws vs) e && y) (a .whole ws vs e) ∙ sym (and-and (holdsBy m c (rowsBy ws vs) e) (holdsBy m d (rowsBy ws vs) e) (stagesHold t xs q z ws vs m (length bs) e));
+      steady = λ ws vs f. b .steady ws vs (a .steady ws vs f);
     }
 
 -- the parts of an AND
@@ -168,15 +168,15 @@ module _ (t : List ℕ) (h : (s : ℕ) → getD t s 0 ≡ 0) where
   pub cleared-begun : Begun 2 t
   cleared-begun s g = let i = h s in omega arith
 
-  module _ (xs : List ℤ) (q z cb : List ℕ) (vs m : List ℤ) where
-    holds : (s : ℕ) (e : Assignment) → stageHolds t xs q z cb vs m s e ≡ true
+  module _ (xs : List ℤ) (q z ws : List ℕ) (vs m : List ℤ) where
+    holds : (s : ℕ) (e : Assignment) → stageHolds t xs q z ws vs m s e ≡ true
     unfolding stageHolds
-    holds s e = ap (λ i. runs t xs q z cb vs m i e) (h s) ∙ runs-0 t xs q z cb vs m e
+    holds s e = ap (λ i. runs t xs q z ws vs m i e) (h s) ∙ runs-0 t xs q z ws vs m e
 
-    pub planned : (n : ℕ) (t′ : List ℕ) (xs′ : List ℤ) (c : Condition) (bs : List Binding) → Joined n t t′ xs xs′ q z cb m c bs → Planned t′ xs′ q z cb vs m c bs
+    pub planned : (n : ℕ) (t′ : List ℕ) (xs′ : List ℤ) (c : Condition) (bs : List Binding) → Joined n t t′ xs xs′ q z m c bs → Planned t′ xs′ q z ws vs m c bs
     unfolding stagesHold
     planned n t′ xs′ c bs j =
         record {
-          whole = λ e. j .whole vs e ∙ ap (λ y. holdsBy m c (rowsIn cb vs) e && y) (all-true (λ s. stageHolds t xs q z cb vs m s e) (2 * length bs + 2) (λ s. holds s e)) ∙ and-true (holdsBy m c (rowsIn cb vs) e);
-          steady = j .steady vs (λ s d a b e e′ x. holds s e′ ∙ sym (holds s e));
+          whole = λ e. j .whole ws vs e ∙ ap (λ y. holdsBy m c (rowsBy ws vs) e && y) (all-true (λ s. stageHolds t xs q z ws vs m s e) (2 * length bs + 2) (λ s. holds s e)) ∙ and-true (holdsBy m c (rowsBy ws vs) e);
+          steady = j .steady ws vs (λ s d a b e e′ x. holds s e′ ∙ sym (holds s e));
         }

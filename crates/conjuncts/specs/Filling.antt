@@ -9,7 +9,7 @@ use Rattle.model.specs.Lists.{contains}
 use Rattle.model.specs.Syntax.{Condition, Binding, variables}
 use Rattle.model.specs.Meaning.{Assignment, Rows}
 use Rattle.evaluator.specs.Recalled.{holdsBy}
-use Rattle.evaluator.specs.Evaluation.{rowsIn}
+use Rattle.walks.specs.Walks.{rowsBy}
 use Rattle.conjuncts.specs.Stages.{stagesHold, Extends, Steady}
 
 -- the truth of c does not depend on the ranges after the first s
@@ -24,8 +24,8 @@ Unreached bs s = (w : ℕ) → contains w (variables bs) ≡ true → getD s w 0
 abbrev pub Begun : ℕ → List ℕ → Type 0
 Begun k t = (s : ℕ) → s < 16 → getD t s 0 < k
 
--- the stages are what they were, and the condition c; branches below n are in use
-pub record Joined (n : ℕ) (t t′ : List ℕ) (xs xs′ : List ℤ) (q z cb : List ℕ) (m : List ℤ) (c : Condition) (bs : List Binding) : Type 0 where
+-- the stages are what they were, and the condition c, whatever the rows; branches below n are in use
+pub record Joined (n : ℕ) (t t′ : List ℕ) (xs xs′ : List ℤ) (q z : List ℕ) (m : List ℤ) (c : Condition) (bs : List Binding) : Type 0 where
   pub begun : Begun n t′
-  pub whole : (vs : List ℤ) (e : Assignment) → stagesHold t′ xs′ q z cb vs m (length bs) e ≡ holdsBy m c (rowsIn cb vs) e && stagesHold t xs q z cb vs m (length bs) e
-  pub steady : (vs : List ℤ) → Steady t xs q z cb vs m bs → Steady t′ xs′ q z cb vs m bs
+  pub whole : (ws : List ℕ) (vs : List ℤ) (e : Assignment) → stagesHold t′ xs′ q z ws vs m (length bs) e ≡ holdsBy m c (rowsBy ws vs) e && stagesHold t xs q z ws vs m (length bs) e
+  pub steady : (ws : List ℕ) (vs : List ℤ) → Steady t xs q z ws vs m bs → Steady t′ xs′ q z ws vs m bs

@@ -10,16 +10,16 @@ use Rattle.model.specs.Lists.{all, below, contains}
 use Rattle.model.specs.Syntax.{Condition, Binding, variables}
 use Rattle.model.specs.Meaning.{Assignment}
 use Rattle.evaluator.specs.Recalled.{holdsBy}
-use Rattle.evaluator.specs.Evaluation.{rowsIn}
+use Rattle.walks.specs.Walks.{rowsBy}
 use Rattle.branches.specs.Branches.{runs}
 
 -- whether the conjuncts of stage s hold
 unfoldable pub stageHolds : List ℕ → List ℤ → List ℕ → List ℕ → List ℕ → List ℤ → List ℤ → ℕ → Assignment → Bool
-stageHolds t xs q z cb vs m s e = runs t xs q z cb vs m (getD t s 0) e
+stageHolds t xs q z ws vs m s e = runs t xs q z ws vs m (getD t s 0) e
 
 -- the stages where at most n ranges are bound
 unfoldable pub stagesHold : List ℕ → List ℤ → List ℕ → List ℕ → List ℕ → List ℤ → List ℤ → ℕ → Assignment → Bool
-stagesHold t xs q z cb vs m n e = all (λ s. stageHolds t xs q z cb vs m s e) (below (2 * n + 2))
+stagesHold t xs q z ws vs m n e = all (λ s. stageHolds t xs q z ws vs m s e) (below (2 * n + 2))
 
 -- e and e′ agree but for the variables of these ranges
 abbrev pub Extends : List Binding → Assignment → Assignment → Type 0
@@ -27,9 +27,9 @@ Extends bs e e′ = (w : ℕ) → contains w (variables bs) ≡ false → e w �
 
 -- a stage does not depend on the ranges that are not bound yet
 abbrev pub Steady : List ℕ → List ℤ → List ℕ → List ℕ → List ℕ → List ℤ → List ℤ → List Binding → Type 0
-Steady t xs q z cb vs m bs = (s d : ℕ) → s ≤ 2 * d + 1 → d ≤ length bs → (e e′ : Assignment) → Extends (drop d bs) e e′ → stageHolds t xs q z cb vs m s e′ ≡ stageHolds t xs q z cb vs m s e
+Steady t xs q z ws vs m bs = (s d : ℕ) → s ≤ 2 * d + 1 → d ≤ length bs → (e e′ : Assignment) → Extends (drop d bs) e e′ → stageHolds t xs q z ws vs m s e′ ≡ stageHolds t xs q z ws vs m s e
 
 -- the stages are the condition c
-pub record Planned (t : List ℕ) (xs : List ℤ) (q z cb : List ℕ) (vs m : List ℤ) (c : Condition) (bs : List Binding) : Type 0 where
-  pub whole : (e : Assignment) → stagesHold t xs q z cb vs m (length bs) e ≡ holdsBy m c (rowsIn cb vs) e
-  pub steady : Steady t xs q z cb vs m bs
+pub record Planned (t : List ℕ) (xs : List ℤ) (q z ws : List ℕ) (vs m : List ℤ) (c : Condition) (bs : List Binding) : Type 0 where
+  pub whole : (e : Assignment) → stagesHold t xs q z ws vs m (length bs) e ≡ holdsBy m c (rowsBy ws vs) e
+  pub steady : Steady t xs q z ws vs m bs

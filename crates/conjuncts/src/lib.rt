@@ -20,17 +20,17 @@ pub fn holds(
     stage: usize,
     q: &[u8],
     z: &[u16],
-    catalogue: &[u8],
+    walks: &[u16],
     values: &[i32],
     memo: &[i64],
     env: &mut [usize],
 ) -> bool
     requires { ⌜ 256 ≤ length (now env) ⌝ }
-    ensures { λ r. ⌜ r ≡ S.stageHolds (now (t .entry)) (now (xs .entry)) (now (q .entry)) (now (z .entry)) (now (catalogue .entry)) (now (values .entry)) (now (memo .entry)) stage (assigned (now (values .entry)) (now (env .entry))) ⌝ }
+    ensures { λ r. ⌜ r ≡ S.stageHolds (now (t .entry)) (now (xs .entry)) (now (q .entry)) (now (z .entry)) (now (walks .entry)) (now (values .entry)) (now (memo .entry)) stage (assigned (now (values .entry)) (now (env .entry))) ⌝ }
     ensures { λ _. ⌜ now (env .exit) ≡ now (env .entry) ⌝ }
 {
     let i = kinds::size_at(t, stage);
-    branches::holds(t, xs, i, q, z, catalogue, values, memo, env)
+    branches::holds(t, xs, i, q, z, walks, values, memo, env)
 }
 
 // How many of the RANGE variables must be bound for the condition that q starts with: the last ones leave reach as long as it stays in scope.
@@ -145,7 +145,7 @@ fn join(
 ) -> usize
     requires { ⌜ (8 * end ≤ length (now t)) × (2 * end ≤ length (now xs)) × (2 ≤ k) × (k < end) × (end ≤ 64) × (ranges ≤ 7) × (place ≤ 65535) × (level ≤ 65535) × F.Begun k (now t) ⌝ }
     ensures { λ r. ⌜ (k ≤ r) × (r ≤ end) ⌝ }
-    ensures { λ r. ⌜ F.Joined r (now (t .entry)) (now (t .exit)) (now (xs .entry)) (now (xs .exit)) (now (q .entry)) (now (z .entry)) (now (cb .entry)) (now (memo .entry)) (decode level (drop place (now (q .entry))) (drop place (now (z .entry)))) (rangesAt ranges (now (q .entry))) ⌝ }
+    ensures { λ r. ⌜ F.Joined r (now (t .entry)) (now (t .exit)) (now (xs .entry)) (now (xs .exit)) (now (q .entry)) (now (z .entry)) (now (memo .entry)) (decode level (drop place (now (q .entry))) (drop place (now (z .entry)))) (rangesAt ranges (now (q .entry))) ⌝ }
 {
     if always(q, place, level) {
         return k;
@@ -175,7 +175,7 @@ fn split(
 ) -> usize
     requires { ⌜ (8 * end ≤ length (now t)) × (2 * end ≤ length (now xs)) × (2 ≤ k) × (k < end) × (end ≤ 64) × (ranges ≤ 7) × (place ≤ 65535) × (level ≤ 65535) × F.Begun k (now t) ⌝ }
     ensures { λ r. ⌜ (k ≤ r) × (r ≤ end) ⌝ }
-    ensures { λ r. ⌜ F.Joined r (now (t .entry)) (now (t .exit)) (now (xs .entry)) (now (xs .exit)) (now (q .entry)) (now (z .entry)) (now (cb .entry)) (now (memo .entry)) (decode level (drop place (now (q .entry))) (drop place (now (z .entry)))) (rangesAt ranges (now (q .entry))) ⌝ }
+    ensures { λ r. ⌜ F.Joined r (now (t .entry)) (now (t .exit)) (now (xs .entry)) (now (xs .exit)) (now (q .entry)) (now (z .entry)) (now (memo .entry)) (decode level (drop place (now (q .entry))) (drop place (now (z .entry)))) (rangesAt ranges (now (q .entry))) ⌝ }
 {
     let x = branches::parts_at(q, z, place, level, end - k);
     let first = x.first;
@@ -203,7 +203,7 @@ pub fn plan(
     xs: &mut [i32],
 )
     requires { ⌜ (512 ≤ length (now t)) × (128 ≤ length (now xs)) × (ranges ≤ 7) × (condition ≤ 65535) × (level ≤ 65535) × ((s : ℕ) → getD (now t) s 0 ≡ 0) ⌝ }
-    ensures { λ _. ⌜ ((vs : List ℤ) → S.Planned (now (t .exit)) (now (xs .exit)) (now (q .entry)) (now (z .entry)) (now (catalogue .entry)) vs (now (memo .entry)) (decode level (drop condition (now (q .entry))) (drop condition (now (z .entry)))) (rangesAt ranges (now (q .entry)))) ⌝ }
+    ensures { λ _. ⌜ ((ws : List ℕ) (vs : List ℤ) → S.Planned (now (t .exit)) (now (xs .exit)) (now (q .entry)) (now (z .entry)) ws vs (now (memo .entry)) (decode level (drop condition (now (q .entry))) (drop condition (now (z .entry)))) (rangesAt ranges (now (q .entry)))) ⌝ }
 {
     split(
         q,

@@ -3,7 +3,6 @@ use mathlib.Core.Path.{_≡_, refl, sym, ap, ap₂, _∙_, fun-ext, subst, subst
 use mathlib.Core.Bool.{Bool, true, false, not, cond, _&&_, _||_}
 use mathlib.Core.List.{List, [], _∷_, _++_, map}
 use Prim.Native.Nat.{ℕ, zero, suc, _+_, _-_, _*_, _≤_, _<_}
-use native.Mathlib.Nat.{mul-le-mul}
 use native.Mathlib.Omega.{arith}
 use native.Mathlib.Numerals.{sub-one}
 use lib.Dec.{eqb}
@@ -25,12 +24,14 @@ use Rattle.kinds.specs.declared.Record.the-variants as R
 use Rattle.numbers.specs.declared.Accumulator.{Accumulator}
 use Rattle.numbers.specs.Numbers.{Bounded, accumulatorOf, added, Accumulates}
 use Rattle.numbers.proofs.Laws.{starts, continues, counts}
-use Rattle.catalogue.specs.Layout.{tupleAt, tuplesIn, attributesOf, rowsOf, baseOf, offsets, kept}
-use Rattle.catalogue.proofs.Loops.{any-none, any-found, any-left, kept-start, kept-hit, kept-miss, kept-length}
+use Rattle.catalogue.specs.Layout.{tupleAt}
+use Rattle.walks.specs.declared.Walk.{Walk}
+use Rattle.walks.specs.Walks.{walkOf, placeAt, places, walked, rowsBy, kept}
+use Rattle.walks.proofs.Loops.{any-none, any-found, any-left, kept-start, kept-hit, kept-miss, kept-length}
 use Rattle.sizes.specs.Decode.{first, second, conditionBy, termBy, nothing, decode, decodeT}
 use Rattle.numbers.specs.Memo.{knows, recalled}
 use Rattle.evaluator.specs.Recalled.{holdsBy, valueBy}
-use Rattle.evaluator.specs.Evaluation.{assigned, rowsIn, holdsAt, valueAt, holdsOn, valuesOn}
+use Rattle.evaluator.specs.Evaluation.{assigned, holdsAt, valueAt, holdsOn, valuesOn}
 
 -- within the list the default does not matter
 pub getD-inside : (xs : List ℕ) (i d f : ℕ) → i < length xs → getD xs i d ≡ getD xs i f
@@ -46,24 +47,24 @@ assigned-set vs e v p h = fun-ext λ w. go w (eqb w v) refl
     go w true k = rw k (ap (tupleAt vs) (ap (λ (i : ℕ). getD (set e v p) i (length vs)) (eqb-true w v k) ∙ getD-set-same e v p (length vs) h))
     go w false k = rw k (ap (tupleAt vs) (getD-set-other e v w p (length vs) (eqb-false w v k)))
 
-module _ (cb : List ℕ) (vs m : List ℤ) (e q z : List ℕ) where
-  pub holds-zero : (l : ℕ) → l ≡ 0 → false ≡ holdsAt l q z cb vs m e
+module _ (ws : List ℕ) (vs m : List ℤ) (e q z : List ℕ) where
+  pub holds-zero : (l : ℕ) → l ≡ 0 → false ≡ holdsAt l q z ws vs m e
   unfolding holdsAt decode holdsBy
   holds-zero l h = rw h
 
-  pub value-zero : (l : ℕ) → l ≡ 0 → whole (pos 0) ≡ valueAt l q z cb vs m e
+  pub value-zero : (l : ℕ) → l ≡ 0 → whole (pos 0) ≡ valueAt l q z ws vs m e
   unfolding valueAt decode holdsBy signed
   value-zero l h = rw h
 
   -- by the record that q starts with
   holds-is : (l : ℕ) (r : Record) → (l ≡ 0 → ⊥) → r ≡ recordAt q
-      → holdsBy m (conditionBy r (λ x y. decode (l - 1) x y) (λ x y. decodeT (l - 1) x y) q z) (rowsIn cb vs) (assigned vs e) ≡ holdsAt l q z cb vs m e
+      → holdsBy m (conditionBy r (λ x y. decode (l - 1) x y) (λ x y. decodeT (l - 1) x y) q z) (rowsBy ws vs) (assigned vs e) ≡ holdsAt l q z ws vs m e
   unfolding holdsAt decode
   holds-is zero r h k = absurd (h refl)
   holds-is (suc l) r h k = rw (sub-one, k)
 
   value-is : (l : ℕ) (r : Record) → (l ≡ 0 → ⊥) → r ≡ recordAt q
-      → valueBy m (termBy r (λ x y. decode (l - 1) x y) q z) (rowsIn cb vs) (assigned vs e) ≡ valueAt l q z cb vs m e
+      → valueBy m (termBy r (λ x y. decode (l - 1) x y) q z) (rowsBy ws vs) (assigned vs e) ≡ valueAt l q z ws vs m e
   unfolding valueAt decode
   value-is zero r h k = absurd (h refl)
   value-is (suc l) r h k = rw (sub-one, k)
@@ -73,47 +74,47 @@ module _ (cb : List ℕ) (vs m : List ℤ) (e q z : List ℕ) where
     at-first : a ≡ first q
     at-first = ea ∙ ap recordLength ek
 
-    pub true-is : r ≡ R.True → true ≡ holdsAt l q z cb vs m e
+    pub true-is : r ≡ R.True → true ≡ holdsAt l q z ws vs m e
     unfolding holdsBy
     true-is h = holds-is l R.True nz (sym h ∙ er)
 
     -- an aggregate that the memo knows
-    pub known-is : (f v r′ t : ℕ) (u : Ratio) (b : Bool) → r ≡ R.Aggregate f v r′ t → b ≡ knows m v → b ≡ true → u ≡ recalled m v → u ≡ valueAt l q z cb vs m e
+    pub known-is : (f v r′ t : ℕ) (u : Ratio) (b : Bool) → r ≡ R.Aggregate f v r′ t → b ≡ knows m v → b ≡ true → u ≡ recalled m v → u ≡ valueAt l q z ws vs m e
     unfolding holdsBy
     known-is f v r′ t u b h ek f′ eu = let g = sym ek ∙ f′ in eu ∙ sym (rw g) ∙ value-is l (R.Aggregate f v r′ t) nz (sym h ∙ er)
 
     module _ (x y : List ℕ) (ex : x ≡ drop a q) (ey : y ≡ drop a z) where
-      child : holdsAt (l - 1) x y cb vs m e ≡ holdsBy m (decode (l - 1) (drop (first q) q) (drop (first q) z)) (rowsIn cb vs) (assigned vs e)
+      child : holdsAt (l - 1) x y ws vs m e ≡ holdsBy m (decode (l - 1) (drop (first q) q) (drop (first q) z)) (rowsBy ws vs) (assigned vs e)
       unfolding holdsAt
-      child = ap₂ (λ (u w : List ℕ). holdsBy m (decode (l - 1) u w) (rowsIn cb vs) (assigned vs e)) (ex ∙ ap (λ n. drop n q) at-first) (ey ∙ ap (λ n. drop n z) at-first)
+      child = ap₂ (λ (u w : List ℕ). holdsBy m (decode (l - 1) u w) (rowsBy ws vs) (assigned vs e)) (ex ∙ ap (λ n. drop n q) at-first) (ey ∙ ap (λ n. drop n z) at-first)
 
-      childT : valueAt (l - 1) x y cb vs m e ≡ valueBy m (decodeT (l - 1) (drop (first q) q) (drop (first q) z)) (rowsIn cb vs) (assigned vs e)
+      childT : valueAt (l - 1) x y ws vs m e ≡ valueBy m (decodeT (l - 1) (drop (first q) q) (drop (first q) z)) (rowsBy ws vs) (assigned vs e)
       unfolding valueAt
-      childT = ap₂ (λ (u w : List ℕ). valueBy m (decodeT (l - 1) u w) (rowsIn cb vs) (assigned vs e)) (ex ∙ ap (λ n. drop n q) at-first) (ey ∙ ap (λ n. drop n z) at-first)
+      childT = ap₂ (λ (u w : List ℕ). valueBy m (decodeT (l - 1) u w) (rowsBy ws vs) (assigned vs e)) (ex ∙ ap (λ n. drop n q) at-first) (ey ∙ ap (λ n. drop n z) at-first)
 
-      pub not-is : (b : Bool) → r ≡ R.Not → b ≡ holdsAt (l - 1) x y cb vs m e → not b ≡ holdsAt l q z cb vs m e
+      pub not-is : (b : Bool) → r ≡ R.Not → b ≡ holdsAt (l - 1) x y ws vs m e → not b ≡ holdsAt l q z ws vs m e
       unfolding holdsBy
       not-is b h eb = ap not (eb ∙ child) ∙ holds-is l R.Not nz (sym h ∙ er)
 
-      pub and-no : (b : Bool) → r ≡ R.And → b ≡ holdsAt (l - 1) x y cb vs m e → not b ≡ true → false ≡ holdsAt l q z cb vs m e
+      pub and-no : (b : Bool) → r ≡ R.And → b ≡ holdsAt (l - 1) x y ws vs m e → not b ≡ true → false ≡ holdsAt l q z ws vs m e
       unfolding holdsBy
       and-no b h eb f = let g = sym child ∙ sym eb ∙ not-yes b f in sym (rw g) ∙ holds-is l R.And nz (sym h ∙ er)
 
-      pub or-yes : (b : Bool) → r ≡ R.Or → b ≡ holdsAt (l - 1) x y cb vs m e → b ≡ true → true ≡ holdsAt l q z cb vs m e
+      pub or-yes : (b : Bool) → r ≡ R.Or → b ≡ holdsAt (l - 1) x y ws vs m e → b ≡ true → true ≡ holdsAt l q z ws vs m e
       unfolding holdsBy
       or-yes b h eb f = let g = sym child ∙ sym eb ∙ f in sym (rw g) ∙ holds-is l R.Or nz (sym h ∙ er)
 
-      pub some-is : (v r′ : ℕ) (b : Bool) → r ≡ R.Some v r′ → b ≡ any (holdsOn (l - 1) x y cb vs m e v) (tuplesIn cb vs r′) → b ≡ holdsAt l q z cb vs m e
+      pub some-is : (v r′ : ℕ) (b : Bool) → r ≡ R.Some v r′ → b ≡ any (holdsOn (l - 1) x y ws vs m e v) (walked ws vs v) → b ≡ holdsAt l q z ws vs m e
       unfolding holdsBy holdsOn
       some-is v r′ b h eb =
-          eb ∙ ap₂ (λ (u w : List ℕ). any (λ t. holdsBy m (decode (l - 1) u w) (rowsIn cb vs) (update (assigned vs e) v t)) (tuplesIn cb vs r′)) (ex ∙ ap (λ n. drop n q) at-first) (ey ∙ ap (λ n. drop n z) at-first)
+          eb ∙ ap₂ (λ (u w : List ℕ). any (λ t. holdsBy m (decode (l - 1) u w) (rowsBy ws vs) (update (assigned vs e) v t)) (walked ws vs v)) (ex ∙ ap (λ n. drop n q) at-first) (ey ∙ ap (λ n. drop n z) at-first)
           ∙ holds-is l (R.Some v r′) nz (sym h ∙ er)
 
-      pub aggregate-is : (f v r′ t : ℕ) (u : Ratio) (b : Bool) → r ≡ R.Aggregate f v r′ t → b ≡ knows m v → b ≡ false → u ≡ aggregate f (valuesOn (l - 1) x y cb vs m e v r′ t) → u ≡ valueAt l q z cb vs m e
+      pub aggregate-is : (f v r′ t : ℕ) (u : Ratio) (b : Bool) → r ≡ R.Aggregate f v r′ t → b ≡ knows m v → b ≡ false → u ≡ aggregate f (valuesOn (l - 1) x y ws vs m e v t) → u ≡ valueAt l q z ws vs m e
       unfolding holdsBy holdsOn valuesOn
       aggregate-is f v r′ t u b h ek f′ eu =
           let g = sym ek ∙ f′ in
-          eu ∙ ap₂ (λ (i w : List ℕ). aggregate f (map (λ (s : Tuple). s t) (filter (λ s. holdsBy m (decode (l - 1) i w) (rowsIn cb vs) (update (assigned vs e) v s)) (tuplesIn cb vs r′)))) (ex ∙ ap (λ n. drop n q) at-first) (ey ∙ ap (λ n. drop n z) at-first)
+          eu ∙ ap₂ (λ (i w : List ℕ). aggregate f (map (λ (s : Tuple). s t) (filter (λ s. holdsBy m (decode (l - 1) i w) (rowsBy ws vs) (update (assigned vs e) v s)) (walked ws vs v)))) (ex ∙ ap (λ n. drop n q) at-first) (ey ∙ ap (λ n. drop n z) at-first)
           ∙ sym (rw g) ∙ value-is l (R.Aggregate f v r′ t) nz (sym h ∙ er)
 
       -- the second child
@@ -121,36 +122,36 @@ module _ (cb : List ℕ) (vs m : List ℤ) (e q z : List ℕ) where
         at-second : b ≡ second q z
         at-second = eb ∙ ap (λ n. a + n) es ∙ ap (λ n. n + getD z n 0) at-first
 
-        next : holdsAt (l - 1) u w cb vs m e ≡ holdsBy m (decode (l - 1) (drop (second q z) q) (drop (second q z) z)) (rowsIn cb vs) (assigned vs e)
+        next : holdsAt (l - 1) u w ws vs m e ≡ holdsBy m (decode (l - 1) (drop (second q z) q) (drop (second q z) z)) (rowsBy ws vs) (assigned vs e)
         unfolding holdsAt
-        next = ap₂ (λ (i n : List ℕ). holdsBy m (decode (l - 1) i n) (rowsIn cb vs) (assigned vs e)) (eu ∙ ap (λ n. drop n q) at-second) (ew ∙ ap (λ n. drop n z) at-second)
+        next = ap₂ (λ (i n : List ℕ). holdsBy m (decode (l - 1) i n) (rowsBy ws vs) (assigned vs e)) (eu ∙ ap (λ n. drop n q) at-second) (ew ∙ ap (λ n. drop n z) at-second)
 
-        nextT : valueAt (l - 1) u w cb vs m e ≡ valueBy m (decodeT (l - 1) (drop (second q z) q) (drop (second q z) z)) (rowsIn cb vs) (assigned vs e)
+        nextT : valueAt (l - 1) u w ws vs m e ≡ valueBy m (decodeT (l - 1) (drop (second q z) q) (drop (second q z) z)) (rowsBy ws vs) (assigned vs e)
         unfolding valueAt
-        nextT = ap₂ (λ (i n : List ℕ). valueBy m (decodeT (l - 1) i n) (rowsIn cb vs) (assigned vs e)) (eu ∙ ap (λ n. drop n q) at-second) (ew ∙ ap (λ n. drop n z) at-second)
+        nextT = ap₂ (λ (i n : List ℕ). valueBy m (decodeT (l - 1) i n) (rowsBy ws vs) (assigned vs e)) (eu ∙ ap (λ n. drop n q) at-second) (ew ∙ ap (λ n. drop n z) at-second)
 
-        pub and-yes : (c d : Bool) (e₁ : List ℕ) → r ≡ R.And → c ≡ holdsAt (l - 1) x y cb vs m e → not c ≡ false → e₁ ≡ e → d ≡ holdsAt (l - 1) u w cb vs m e₁ → d ≡ holdsAt l q z cb vs m e
+        pub and-yes : (c d : Bool) (e₁ : List ℕ) → r ≡ R.And → c ≡ holdsAt (l - 1) x y ws vs m e → not c ≡ false → e₁ ≡ e → d ≡ holdsAt (l - 1) u w ws vs m e₁ → d ≡ holdsAt l q z ws vs m e
         unfolding holdsBy
         and-yes c d e₁ h ec f ee ed =
             let g = sym child ∙ sym ec ∙ not-no c f in
-            ed ∙ ap (holdsAt (l - 1) u w cb vs m) ee ∙ next ∙ sym (rw g) ∙ holds-is l R.And nz (sym h ∙ er)
+            ed ∙ ap (holdsAt (l - 1) u w ws vs m) ee ∙ next ∙ sym (rw g) ∙ holds-is l R.And nz (sym h ∙ er)
 
-        pub or-no : (c d : Bool) (e₁ : List ℕ) → r ≡ R.Or → c ≡ holdsAt (l - 1) x y cb vs m e → c ≡ false → e₁ ≡ e → d ≡ holdsAt (l - 1) u w cb vs m e₁ → d ≡ holdsAt l q z cb vs m e
+        pub or-no : (c d : Bool) (e₁ : List ℕ) → r ≡ R.Or → c ≡ holdsAt (l - 1) x y ws vs m e → c ≡ false → e₁ ≡ e → d ≡ holdsAt (l - 1) u w ws vs m e₁ → d ≡ holdsAt l q z ws vs m e
         unfolding holdsBy
         or-no c d e₁ h ec f ee ed =
             let g = sym child ∙ sym ec ∙ f in
-            ed ∙ ap (holdsAt (l - 1) u w cb vs m) ee ∙ next ∙ sym (rw g) ∙ holds-is l R.Or nz (sym h ∙ er)
+            ed ∙ ap (holdsAt (l - 1) u w ws vs m) ee ∙ next ∙ sym (rw g) ∙ holds-is l R.Or nz (sym h ∙ er)
 
-        pub compare-is : (o : ℕ) (c d : Ratio) (e₁ : List ℕ) (t : Bool) → r ≡ R.Compare o → c ≡ valueAt (l - 1) x y cb vs m e → e₁ ≡ e → d ≡ valueAt (l - 1) u w cb vs m e₁ → t ≡ compare o c d → t ≡ holdsAt l q z cb vs m e
+        pub compare-is : (o : ℕ) (c d : Ratio) (e₁ : List ℕ) (t : Bool) → r ≡ R.Compare o → c ≡ valueAt (l - 1) x y ws vs m e → e₁ ≡ e → d ≡ valueAt (l - 1) u w ws vs m e₁ → t ≡ compare o c d → t ≡ holdsAt l q z ws vs m e
         unfolding holdsBy
         compare-is o c d e₁ t h ec ee ed et =
-            et ∙ ap₂ (compare o) (ec ∙ childT) (ed ∙ ap (valueAt (l - 1) u w cb vs m) ee ∙ nextT) ∙ holds-is l (R.Compare o) nz (sym h ∙ er)
+            et ∙ ap₂ (compare o) (ec ∙ childT) (ed ∙ ap (valueAt (l - 1) u w ws vs m) ee ∙ nextT) ∙ holds-is l (R.Compare o) nz (sym h ∙ er)
 
-  pub constant-is : (l a b c d : ℕ) (r : Record) (t : ℤ) → (l ≡ 0 → ⊥) → r ≡ recordAt q → r ≡ R.Constant a b c d → t ≡ signed a b c d → whole t ≡ valueAt l q z cb vs m e
+  pub constant-is : (l a b c d : ℕ) (r : Record) (t : ℤ) → (l ≡ 0 → ⊥) → r ≡ recordAt q → r ≡ R.Constant a b c d → t ≡ signed a b c d → whole t ≡ valueAt l q z ws vs m e
   unfolding holdsBy
   constant-is l a b c d r t nz er h et = ap whole et ∙ value-is l (R.Constant a b c d) nz (sym h ∙ er)
 
-  pub attribute-is : (l v a p : ℕ) (r : Record) (t : ℤ) → (l ≡ 0 → ⊥) → r ≡ recordAt q → r ≡ R.Attribute v a → v < length e → p ≡ getD e v 0 → t ≡ getD vs (p + a) (pos 0) → whole t ≡ valueAt l q z cb vs m e
+  pub attribute-is : (l v a p : ℕ) (r : Record) (t : ℤ) → (l ≡ 0 → ⊥) → r ≡ recordAt q → r ≡ R.Attribute v a → v < length e → p ≡ getD e v 0 → t ≡ getD vs (p + a) (pos 0) → whole t ≡ valueAt l q z ws vs m e
   unfolding holdsBy
   attribute-is l v a p r t nz er h hv ep et = ap whole (et ∙ ap (λ n. getD vs (n + a) (pos 0)) (ep ∙ getD-inside e v 0 (length vs) hv)) ∙ value-is l (R.Attribute v a) nz (sym h ∙ er)
 
@@ -191,14 +192,14 @@ rest-term f q z (R.Permit a b c) h = refl
 rest-term f q z R.Unknown h = refl
 rest-term f q z R.Short h = refl
 
-module _ (cb : List ℕ) (vs m : List ℤ) (e q z : List ℕ) (l : ℕ) (r : Record) (nz : l ≡ 0 → ⊥) (er : r ≡ recordAt q) where
-  pub no-condition : OneOf (0 ∷ 2 ∷ 8 ∷ 9 ∷ 10 ∷ 11 ∷ 12 ∷ 13 ∷ 14 ∷ 15 ∷ []) (tagOf (declared enum) r) → false ≡ holdsAt l q z cb vs m e
+module _ (ws : List ℕ) (vs m : List ℤ) (e q z : List ℕ) (l : ℕ) (r : Record) (nz : l ≡ 0 → ⊥) (er : r ≡ recordAt q) where
+  pub no-condition : OneOf (0 ∷ 2 ∷ 8 ∷ 9 ∷ 10 ∷ 11 ∷ 12 ∷ 13 ∷ 14 ∷ 15 ∷ []) (tagOf (declared enum) r) → false ≡ holdsAt l q z ws vs m e
   unfolding holdsBy
-  no-condition h = sym (ap (λ (c : Condition). holdsBy m c (rowsIn cb vs) (assigned vs e)) (rest-condition (λ x y. decode (l - 1) x y) (λ x y. decodeT (l - 1) x y) q z r h)) ∙ holds-is cb vs m e q z l r nz er
+  no-condition h = sym (ap (λ (c : Condition). holdsBy m c (rowsBy ws vs) (assigned vs e)) (rest-condition (λ x y. decode (l - 1) x y) (λ x y. decodeT (l - 1) x y) q z r h)) ∙ holds-is ws vs m e q z l r nz er
 
-  pub no-term : OneOf (0 ∷ 1 ∷ 2 ∷ 3 ∷ 4 ∷ 5 ∷ 6 ∷ 7 ∷ 11 ∷ 12 ∷ 13 ∷ 14 ∷ 15 ∷ []) (tagOf (declared enum) r) → whole (pos 0) ≡ valueAt l q z cb vs m e
+  pub no-term : OneOf (0 ∷ 1 ∷ 2 ∷ 3 ∷ 4 ∷ 5 ∷ 6 ∷ 7 ∷ 11 ∷ 12 ∷ 13 ∷ 14 ∷ 15 ∷ []) (tagOf (declared enum) r) → whole (pos 0) ≡ valueAt l q z ws vs m e
   unfolding holdsBy signed
-  no-term h = sym (ap (λ (t : Term). valueBy m t (rowsIn cb vs) (assigned vs e)) (rest-term (λ x y. decode (l - 1) x y) q z r h)) ∙ value-is cb vs m e q z l r nz er
+  no-term h = sym (ap (λ (t : Term). valueBy m t (rowsBy ws vs) (assigned vs e)) (rest-term (λ x y. decode (l - 1) x y) q z r h)) ∙ value-is ws vs m e q z l r nz er
 
 -- the places: the variable's own is put back at the end, so a loop keeps what they are with the old one back
 pub places-start : (e : List ℕ) (v old : ℕ) → old ≡ getD e v 0 → set e v old ≡ e
@@ -214,56 +215,41 @@ module _ (d e y : List ℕ) (v old p : ℕ) (inv : set d v old ≡ e) (ey : y �
   pub places-length : (x : List ℕ) → x ≡ y → length d ≡ length e → length x ≡ length e
   places-length x ex h = ap length (ex ∙ ey) ∙ length-set d v p ∙ h
 
-  pub on-row : (l : ℕ) (q z cb : List ℕ) (vs m : List ℤ) (b : Bool) → v < length e → b ≡ holdsAt l q z cb vs m y → holdsOn l q z cb vs m e v (tupleAt vs p) ≡ b
+  pub on-row : (l : ℕ) (q z ws : List ℕ) (vs m : List ℤ) (b : Bool) → v < length e → b ≡ holdsAt l q z ws vs m y → holdsOn l q z ws vs m e v (tupleAt vs p) ≡ b
   unfolding holdsAt holdsOn
-  on-row l q z cb vs m b h eb = sym (eb ∙ ap (λ (x : List ℕ). holdsBy m (decode l q z) (rowsIn cb vs) (assigned vs x)) places-on ∙ ap (holdsBy m (decode l q z) (rowsIn cb vs)) (assigned-set vs e v p h))
+  on-row l q z ws vs m b h eb = sym (eb ∙ ap (λ (x : List ℕ). holdsBy m (decode l q z) (rowsBy ws vs) (assigned vs x)) places-on ∙ ap (holdsBy m (decode l q z) (rowsBy ws vs)) (assigned-set vs e v p h))
 
--- a search over the rows
-pub search-start : (f : Tuple → Bool) (cb : List ℕ) (vs : List ℤ) (r n w p : ℕ) → n ≡ rowsOf cb r → w ≡ attributesOf cb r → p ≡ baseOf cb r → any f (map (tupleAt vs) (offsets p w (n - 0))) ≡ any f (tuplesIn cb vs r)
-unfolding tuplesIn
-search-start f cb vs r n w p en ew ep = let z : rowsOf cb r - 0 ≡ rowsOf cb r = omega arith in rw (en, ew, ep, z)
+-- a search over the rows; P i is the place of row i
+pub search-start : (f : Tuple → Bool) (ws : List ℕ) (vs : List ℤ) (v : ℕ) (x : Walk) → x ≡ walkOf ws v → any f (map (tupleAt vs) (places (placeAt ws x) 0 (x .count - 0))) ≡ any f (walked ws vs v)
+unfolding walked
+search-start f ws vs v x e = let z : x .count - 0 ≡ x .count = omega arith in rw z (rw e)
 
-module _ (f : Tuple → Bool) (cb : List ℕ) (vs : List ℤ) (r n w p i : ℕ) (inv : any f (map (tupleAt vs) (offsets p w (n - i))) ≡ any f (tuplesIn cb vs r)) where
-  pub search-found : i < n → f (tupleAt vs p) ≡ true → true ≡ any f (tuplesIn cb vs r)
-  search-found h e = sym (any-found vs f p w n i h e) ∙ inv
+module _ (f : Tuple → Bool) (vs : List ℤ) (P : ℕ → ℕ) (n i : ℕ) (xs : List Tuple) (inv : any f (map (tupleAt vs) (places P i (n - i))) ≡ any f xs) where
+  pub search-found : i < n → f (tupleAt vs (P i)) ≡ true → true ≡ any f xs
+  search-found h e = sym (any-found P vs f n i h e) ∙ inv
 
-  pub search-next : i < n → f (tupleAt vs p) ≡ false → any f (map (tupleAt vs) (offsets (p + w) w (n - (i + 1)))) ≡ any f (tuplesIn cb vs r)
-  search-next h e = sym (any-left vs f p w n i h e) ∙ inv
+  pub search-next : i < n → f (tupleAt vs (P i)) ≡ false → any f (map (tupleAt vs) (places P (i + 1) (n - (i + 1)))) ≡ any f xs
+  search-next h e = sym (any-left P vs f n i h e) ∙ inv
 
-  pub search-none : n ≤ i → false ≡ any f (tuplesIn cb vs r)
-  search-none h = sym (any-none vs f p w n i h) ∙ inv
+  pub search-none : n ≤ i → false ≡ any f xs
+  search-none h = sym (any-none P vs f n i h) ∙ inv
 
 -- the values taken
-pub taken-all : (l : ℕ) (q z cb : List ℕ) (vs m : List ℤ) (e : List ℕ) (v r a n w p i : ℕ) → n ≡ rowsOf cb r → w ≡ attributesOf cb r → p ≡ baseOf cb r → i ≡ n → kept vs (holdsOn l q z cb vs m e v) a p w i ≡ valuesOn l q z cb vs m e v r a
-unfolding kept valuesOn tuplesIn
-taken-all l q z cb vs m e v r a n w p i en ew ep ei = rw (ei, en, ew, ep)
-
--- rows are w values apart; a row's place fits
-pub next-row : (b w p i : ℕ) → p ≡ b + i * w → p + w ≡ b + (i + 1) * w
-next-row b w p i h = omega arith
-
-pub row-fits : (b w p i n r : ℕ) → p ≡ b + i * w → b ≤ 16711425 * r → r < 256 → i < n → n ≤ 65535 → w ≤ 255 → p + w < 18446744073709551616
-row-fits b w p i n r e h k l m o = omega (arith, mul-le-mul (lt-bound i n l m) o)
-  where
-    lt-bound : (i n : ℕ) → i < n → n ≤ 65535 → i ≤ 65535
-    lt-bound i n l m = omega arith
+pub taken-all : (l : ℕ) (q z ws : List ℕ) (vs m : List ℤ) (e : List ℕ) (v a i : ℕ) (x : Walk) → x ≡ walkOf ws v → i ≡ x .count → kept vs (holdsOn l q z ws vs m e v) a (placeAt ws x) i ≡ valuesOn l q z ws vs m e v a
+unfolding kept valuesOn walked
+taken-all l q z ws vs m e v a i x ex ei = rw ei (rw ex)
 
 -- a collection of the values of the rows that meet the condition
-pub taken-start : (vs : List ℤ) (f : Tuple → Bool) (t p w : ℕ) (a : Accumulator) → a ≡ accumulatorOf [] → Accumulates a (kept vs f t p w 0)
-taken-start vs f t p w a e = subst (Accumulates a) (sym (kept-start vs f t p w)) (starts a e)
+module _ (P : ℕ → ℕ) where
+  pub taken-start : (vs : List ℤ) (f : Tuple → Bool) (t : ℕ) (a : Accumulator) → a ≡ accumulatorOf [] → Accumulates a (kept vs f t P 0)
+  taken-start vs f t a e = subst (Accumulates a) (sym (kept-start P vs f t)) (starts a e)
 
-module _ (vs : List ℤ) (f : Tuple → Bool) (t b w i : ℕ) (a : Accumulator) (inv : Accumulates a (kept vs f t b w i)) where
-  pub taken-few : (n : ℕ) → i ≤ n → a .count ≤ n
-  taken-few n h = omega (arith, counts a (kept vs f t b w i) inv, kept-length vs f t b w i)
+  module _ (vs : List ℤ) (f : Tuple → Bool) (t i : ℕ) (a : Accumulator) (inv : Accumulates a (kept vs f t P i)) where
+    pub taken-few : (n : ℕ) → i ≤ n → a .count ≤ n
+    taken-few n h = omega (arith, counts a (kept vs f t P i) inv, kept-length P vs f t i)
 
-  module _ (p : ℕ) (h : p ≡ b + i * w) where
-    pub taken-hit : (r : Accumulator) (x : ℤ) → f (tupleAt vs p) ≡ true → x ≡ getD vs (p + t) (pos 0) → r ≡ added a x → Bounded r → Accumulates r (kept vs f t b w (i + 1))
-    taken-hit r x e ex er k =
-        let e′ : f (tupleAt vs (b + i * w)) ≡ true = ap (λ n. f (tupleAt vs n)) (sym h) ∙ e in
-        let y = ap (λ n. getD vs (n + t) (pos 0)) h in
-        subst (Accumulates r) (ap (λ z. kept vs f t b w i ++ (z ∷ [])) (ex ∙ y) ∙ sym (kept-hit vs f t b w i e′)) (continues a r (kept vs f t b w i) x inv er k)
+    pub taken-hit : (r : Accumulator) (x : ℤ) → f (tupleAt vs (P i)) ≡ true → x ≡ getD vs (P i + t) (pos 0) → r ≡ added a x → Bounded r → Accumulates r (kept vs f t P (i + 1))
+    taken-hit r x e ex er k = subst (Accumulates r) (ap (λ z. kept vs f t P i ++ (z ∷ [])) ex ∙ sym (kept-hit P vs f t i e)) (continues a r (kept vs f t P i) x inv er k)
 
-    pub taken-miss : (r : Accumulator) → f (tupleAt vs p) ≡ false → r ≡ a → Accumulates r (kept vs f t b w (i + 1))
-    taken-miss r e er =
-        let e′ : f (tupleAt vs (b + i * w)) ≡ false = ap (λ n. f (tupleAt vs n)) (sym h) ∙ e in
-        subst₂ Accumulates (sym er) (sym (kept-miss vs f t b w i e′)) inv
+    pub taken-miss : (r : Accumulator) → f (tupleAt vs (P i)) ≡ false → r ≡ a → Accumulates r (kept vs f t P (i + 1))
+    taken-miss r e er = subst₂ Accumulates (sym er) (sym (kept-miss P vs f t i e)) inv

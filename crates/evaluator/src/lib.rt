@@ -9,7 +9,7 @@ ghost use Prim.Native.Nat.{_≤_, _<_};
 ghost use lib.ListN.{length, getD, set};
 ghost use Rattle.model.specs.Lists.{any};
 ghost use Rattle.numbers.specs.Numbers.{represent, Small, Accumulates};
-ghost use Rattle.catalogue.specs.Layout.{tuplesIn};
+ghost use Rattle.walks.specs.Walks.{walked};
 ghost use Rattle.evaluator.specs.Evaluation.{holdsAt, valueAt, holdsOn, valuesOn};
 
 // The place of a variable's row.
@@ -34,13 +34,13 @@ pub fn condition(
     q: &[u8],
     z: &[u16],
     level: usize,
-    cb: &[u8],
+    walks: &[u16],
     vs: &[i32],
     memo: &[i64],
     env: &mut [usize],
 ) -> bool
     requires { ⌜ 256 ≤ length (now env) ⌝ }
-    ensures { λ r. ⌜ r ≡ holdsAt level (now (q .entry)) (now (z .entry)) (now (cb .entry)) (now (vs .entry)) (now (memo .entry)) (now (env .entry)) ⌝ }
+    ensures { λ r. ⌜ r ≡ holdsAt level (now (q .entry)) (now (z .entry)) (now (walks .entry)) (now (vs .entry)) (now (memo .entry)) (now (env .entry)) ⌝ }
     ensures { λ _. ⌜ now (env .exit) ≡ now (env .entry) ⌝ }
 {
     if level == 0 {
@@ -52,36 +52,34 @@ pub fn condition(
     let y = kinds::tail_sizes(z, a);
     match kinds::read(q) {
         Record::True => true,
-        Record::Not => !condition(x, y, l, cb, vs, memo, env),
+        Record::Not => !condition(x, y, l, walks, vs, memo, env),
         Record::And => {
-            if !condition(x, y, l, cb, vs, memo, env) {
+            if !condition(x, y, l, walks, vs, memo, env) {
                 return false;
             }
             let b = a + kinds::size_at(z, a);
             let u = kinds::tail(q, b);
             let v = kinds::tail_sizes(z, b);
-            condition(u, v, l, cb, vs, memo, env)
+            condition(u, v, l, walks, vs, memo, env)
         }
         Record::Or => {
-            if condition(x, y, l, cb, vs, memo, env) {
+            if condition(x, y, l, walks, vs, memo, env) {
                 return true;
             }
             let b = a + kinds::size_at(z, a);
             let u = kinds::tail(q, b);
             let v = kinds::tail_sizes(z, b);
-            condition(u, v, l, cb, vs, memo, env)
+            condition(u, v, l, walks, vs, memo, env)
         }
         Record::Compare(operator) => {
-            let left = term(x, y, l, cb, vs, memo, env);
+            let left = term(x, y, l, walks, vs, memo, env);
             let b = a + kinds::size_at(z, a);
             let u = kinds::tail(q, b);
             let v = kinds::tail_sizes(z, b);
-            let right = term(u, v, l, cb, vs, memo, env);
+            let right = term(u, v, l, walks, vs, memo, env);
             numbers::compare(operator, left, right)
         }
-        Record::Some(variable, relation) => {
-            some_row(x, y, l, cb, vs, memo, env, variable, relation)
-        }
+        Record::Some(variable, _) => some_row(x, y, l, walks, vs, memo, env, variable),
         _ => false,
     }
 }
@@ -91,13 +89,13 @@ pub fn term(
     q: &[u8],
     z: &[u16],
     level: usize,
-    cb: &[u8],
+    walks: &[u16],
     vs: &[i32],
     memo: &[i64],
     env: &mut [usize],
 ) -> Ratio
     requires { ⌜ 256 ≤ length (now env) ⌝ }
-    ensures { λ r. ⌜ r ≡ represent (valueAt level (now (q .entry)) (now (z .entry)) (now (cb .entry)) (now (vs .entry)) (now (memo .entry)) (now (env .entry))) ⌝ }
+    ensures { λ r. ⌜ r ≡ represent (valueAt level (now (q .entry)) (now (z .entry)) (now (walks .entry)) (now (vs .entry)) (now (memo .entry)) (now (env .entry))) ⌝ }
     ensures { λ r. ⌜ Small r ⌝ }
     ensures { λ _. ⌜ now (env .exit) ≡ now (env .entry) ⌝ }
 {
@@ -112,83 +110,78 @@ pub fn term(
             let row = place(env, variable);
             numbers::whole(catalogue::cell(vs, row, attribute))
         }
-        Record::Aggregate(function, variable, relation, attribute) => {
+        Record::Aggregate(function, variable, _, attribute) => {
             if numbers::knows(memo, variable) {
                 return numbers::recall(memo, variable);
             }
             let x = kinds::tail(q, at);
             let y = kinds::tail_sizes(z, at);
-            let taken = gather(x, y, l, cb, vs, memo, env, variable, relation, attribute);
+            let taken = gather(x, y, l, walks, vs, memo, env, variable, attribute);
             numbers::finish(function, taken)
         }
         _ => numbers::whole(0),
     }
 }
 
-// Whether some row of the relation meets the condition; the search ends at the first.
+// Whether some row of the variable meets the condition; the search ends at the first.
 fn some_row(
     q: &[u8],
     z: &[u16],
     level: usize,
-    cb: &[u8],
+    walks: &[u16],
     vs: &[i32],
     memo: &[i64],
     env: &mut [usize],
     variable: u8,
-    relation: u8,
 ) -> bool
     requires { ⌜ 256 ≤ length (now env) ⌝ }
-    ensures { λ r. ⌜ r ≡ any (holdsOn level (now (q .entry)) (now (z .entry)) (now (cb .entry)) (now (vs .entry)) (now (memo .entry)) (now (env .entry)) variable) (tuplesIn (now (cb .entry)) (now (vs .entry)) relation) ⌝ }
+    ensures { λ r. ⌜ r ≡ any (holdsOn level (now (q .entry)) (now (z .entry)) (now (walks .entry)) (now (vs .entry)) (now (memo .entry)) (now (env .entry)) variable) (walked (now (walks .entry)) (now (vs .entry)) variable) ⌝ }
     ensures { λ _. ⌜ now (env .exit) ≡ now (env .entry) ⌝ }
 {
-    let n = catalogue::rows(cb, relation);
-    let w = catalogue::attributes(cb, relation);
+    let walk = walks::walk_of(walks, variable);
+    let n = walk.count;
     let old = place(env, variable);
-    let mut row = catalogue::base(cb, relation);
     let mut i = 0;
     while i < n {
-        set_place(env, variable, row);
-        if condition(q, z, level, cb, vs, memo, env) {
+        set_place(env, variable, walks::place(walks, walk, i));
+        if condition(q, z, level, walks, vs, memo, env) {
             set_place(env, variable, old);
             return true;
         }
-        row += w;
         i += 1;
     }
     set_place(env, variable, old);
     false
 }
 
-// The attribute of each row of the relation that meets the condition.
+// The attribute of each row of the variable that meets the condition.
 fn gather(
     q: &[u8],
     z: &[u16],
     level: usize,
-    cb: &[u8],
+    walks: &[u16],
     vs: &[i32],
     memo: &[i64],
     env: &mut [usize],
     variable: u8,
-    relation: u8,
     attribute: u8,
 ) -> Accumulator
     requires { ⌜ 256 ≤ length (now env) ⌝ }
-    ensures { λ r. ⌜ Accumulates r (valuesOn level (now (q .entry)) (now (z .entry)) (now (cb .entry)) (now (vs .entry)) (now (memo .entry)) (now (env .entry)) variable relation attribute) ⌝ }
+    ensures { λ r. ⌜ Accumulates r (valuesOn level (now (q .entry)) (now (z .entry)) (now (walks .entry)) (now (vs .entry)) (now (memo .entry)) (now (env .entry)) variable attribute) ⌝ }
     ensures { λ r. ⌜ r .count ≤ 65535 ⌝ }
     ensures { λ _. ⌜ now (env .exit) ≡ now (env .entry) ⌝ }
 {
-    let n = catalogue::rows(cb, relation);
-    let w = catalogue::attributes(cb, relation);
+    let walk = walks::walk_of(walks, variable);
+    let n = walk.count;
     let old = place(env, variable);
     let mut taken = numbers::empty();
-    let mut row = catalogue::base(cb, relation);
     let mut i = 0;
     while i < n {
+        let row = walks::place(walks, walk, i);
         set_place(env, variable, row);
-        if condition(q, z, level, cb, vs, memo, env) {
+        if condition(q, z, level, walks, vs, memo, env) {
             taken = numbers::add(taken, catalogue::cell(vs, row, attribute));
         }
-        row += w;
         i += 1;
     }
     set_place(env, variable, old);

@@ -15,4 +15,4 @@ stagedFrom T d (b ∷ bs) R e = cond (T d e) (concatMap (λ x. stagedFrom T (suc
 
 -- the stages that are due where d range variables are bound
 unfoldable pub depthHolds : List ℕ → List ℤ → List ℕ → List ℕ → List ℕ → List ℤ → List ℤ → ℕ → Assignment → Bool
-depthHolds t xs q z cb vs m d e = stageHolds t xs q z cb vs m (2 * d) e && stageHolds t xs q z cb vs m (2 * d + 1) e
+depthHolds t xs q z ws vs m d e = stageHolds t xs q z ws vs m (2 * d) e && stageHolds t xs q z ws vs m (2 * d + 1) e

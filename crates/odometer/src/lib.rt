@@ -7,7 +7,9 @@ ghost use lib.ListN.{length};
 ghost use lib.Seq.{sets};
 ghost use Rattle.sizes.specs.Parts.{targetsAt};
 ghost use Rattle.rows.specs.Buffer.{added, addedAll};
-ghost use Rattle.evaluator.specs.Evaluation.{assigned, rowsIn};
+ghost use Rattle.rows.specs.Chains.{Linked};
+ghost use Rattle.walks.specs.Walks.{rowsBy};
+ghost use Rattle.evaluator.specs.Evaluation.{assigned};
 ghost use Rattle.odometer.specs.Staged.{depthHolds};
 ghost use Rattle.odometer.specs.Plan.{Bounds, cellsBy, rowBy, rowsFrom, rowsBelow};
 
@@ -26,7 +28,7 @@ fn targets(
     z: &[u16],
     left: usize,
     level: usize,
-    cb: &[u8],
+    walks: &[u16],
     vs: &[i32],
     memo: &[i64],
     env: &mut [usize],
@@ -34,18 +36,18 @@ fn targets(
     at: usize,
 )
     requires { ⌜ (256 ≤ length (now env)) × (at + left ≤ length (now row)) ⌝ }
-    ensures { λ _. ⌜ now (row .exit) ≡ sets (now (row .entry)) at (cellsBy (now (memo .entry)) (targetsAt left level (now (q .entry)) (now (z .entry))) (rowsIn (now (cb .entry)) (now (vs .entry))) (assigned (now (vs .entry)) (now (env .entry)))) ⌝ }
+    ensures { λ _. ⌜ now (row .exit) ≡ sets (now (row .entry)) at (cellsBy (now (memo .entry)) (targetsAt left level (now (q .entry)) (now (z .entry))) (rowsBy (now (walks .entry)) (now (vs .entry))) (assigned (now (vs .entry)) (now (env .entry)))) ⌝ }
     ensures { λ _. ⌜ now (env .exit) ≡ now (env .entry) ⌝ }
 {
     if left == 0 {
         return;
     }
-    let x = numbers::cell(evaluator::term(q, z, level, cb, vs, memo, env));
+    let x = numbers::cell(evaluator::term(q, z, level, walks, vs, memo, env));
     row[at] = x;
     let n = kinds::size_at(z, 0);
     let u = kinds::tail(q, n);
     let v = kinds::tail_sizes(z, n);
-    targets(u, v, left - 1, level, cb, vs, memo, env, row, at + 1);
+    targets(u, v, left - 1, level, walks, vs, memo, env, row, at + 1);
 }
 
 // The row of one assignment.
@@ -53,16 +55,18 @@ fn write(
     q: &[u8],
     z: &[u16],
     plan: Plan,
-    cb: &[u8],
+    walks: &[u16],
     vs: &[i32],
     memo: &[i64],
     env: &mut [usize],
     answer: &mut [i64],
+    table: &mut [u16],
     state: Filled,
 ) -> Filled
-    requires { ⌜ (256 ≤ length (now env)) × (plan .columns ≤ 8) ⌝ }
-    ensures { λ r. ⌜ record { rows = r .rows; full = r .full; cells = now (answer .exit) } ≡ added (record { rows = state .rows; full = state .full; cells = now (answer .entry) }) (rowBy plan (now (q .entry)) (now (z .entry)) (now (cb .entry)) (now (vs .entry)) (now (memo .entry)) (assigned (now (vs .entry)) (now (env .entry)))) ⌝ }
+    requires { ⌜ (256 ≤ length (now env)) × (plan .columns ≤ 8) × Linked (plan .columns) (state .rows) (now answer) (now table) ⌝ }
+    ensures { λ r. ⌜ record { rows = r .rows; full = r .full; cells = now (answer .exit) } ≡ added (record { rows = state .rows; full = state .full; cells = now (answer .entry) }) (rowBy plan (now (q .entry)) (now (z .entry)) (now (walks .entry)) (now (vs .entry)) (now (memo .entry)) (assigned (now (vs .entry)) (now (env .entry)))) ⌝ }
     ensures { λ _. ⌜ now (env .exit) ≡ now (env .entry) ⌝ }
+    ensures { λ r. ⌜ Linked (plan .columns) (r .rows) (now (answer .exit)) (now (table .exit)) ⌝ }
 {
     let level = plan.level;
     let n = plan.columns;
@@ -70,8 +74,8 @@ fn write(
     let x = kinds::tail(q, t);
     let y = kinds::tail_sizes(z, t);
     let mut row = [0i64; 8];
-    targets(x, y, n, level, cb, vs, memo, env, &mut row, 0);
-    rows::add_row(answer, state, &row[..n])
+    targets(x, y, n, level, walks, vs, memo, env, &mut row, 0);
+    rows::add_row(answer, table, state, &row[..n])
 }
 
 // Whether the conjuncts hold that are due at this depth, the cheap ones first.
@@ -81,20 +85,20 @@ fn due(
     xs: &[i32],
     q: &[u8],
     z: &[u16],
-    cb: &[u8],
+    walks: &[u16],
     vs: &[i32],
     memo: &[i64],
     env: &mut [usize],
 ) -> bool
     requires { ⌜ (256 ≤ length (now env)) × Bounds plan ⌝ }
-    ensures { λ r. ⌜ r ≡ depthHolds (now (t .entry)) (now (xs .entry)) (now (q .entry)) (now (z .entry)) (now (cb .entry)) (now (vs .entry)) (now (memo .entry)) (plan .depth) (assigned (now (vs .entry)) (now (env .entry))) ⌝ }
+    ensures { λ r. ⌜ r ≡ depthHolds (now (t .entry)) (now (xs .entry)) (now (q .entry)) (now (z .entry)) (now (walks .entry)) (now (vs .entry)) (now (memo .entry)) (plan .depth) (assigned (now (vs .entry)) (now (env .entry))) ⌝ }
     ensures { λ _. ⌜ now (env .exit) ≡ now (env .entry) ⌝ }
 {
     let s = 2 * plan.depth;
-    if !conjuncts::holds(t, xs, s, q, z, cb, vs, memo, env) {
+    if !conjuncts::holds(t, xs, s, q, z, walks, vs, memo, env) {
         return false;
     }
-    conjuncts::holds(t, xs, s + 1, q, z, cb, vs, memo, env)
+    conjuncts::holds(t, xs, s + 1, q, z, walks, vs, memo, env)
 }
 
 // The plan with one range more bound.
@@ -120,32 +124,48 @@ pub fn run(
     t: &[u16],
     xs: &[i32],
     plan: Plan,
-    cb: &[u8],
+    walks: &[u16],
     vs: &[i32],
     memo: &[i64],
     env: &mut [usize],
     answer: &mut [i64],
+    table: &mut [u16],
     state: Filled,
 ) -> Filled
-    requires { ⌜ (256 ≤ length (now env)) × Bounds plan ⌝ }
-    ensures { λ r. ⌜ record { rows = r .rows; full = r .full; cells = now (answer .exit) } ≡ addedAll (record { rows = state .rows; full = state .full; cells = now (answer .entry) }) (rowsFrom plan (now (t .entry)) (now (xs .entry)) (now (q .entry)) (now (z .entry)) (now (cb .entry)) (now (vs .entry)) (now (memo .entry)) (now (ranges .entry)) (assigned (now (vs .entry)) (now (env .entry)))) ⌝ }
+    requires { ⌜ (256 ≤ length (now env)) × Bounds plan × Linked (plan .columns) (state .rows) (now answer) (now table) ⌝ }
+    ensures { λ r. ⌜ record { rows = r .rows; full = r .full; cells = now (answer .exit) } ≡ addedAll (record { rows = state .rows; full = state .full; cells = now (answer .entry) }) (rowsFrom plan (now (t .entry)) (now (xs .entry)) (now (q .entry)) (now (z .entry)) (now (walks .entry)) (now (vs .entry)) (now (memo .entry)) (now (ranges .entry)) (assigned (now (vs .entry)) (now (env .entry)))) ⌝ }
     ensures { λ _. ⌜ now (env .exit) ≡ now (env .entry) ⌝ }
+    ensures { λ r. ⌜ Linked (plan .columns) (r .rows) (now (answer .exit)) (now (table .exit)) ⌝ }
 {
     let full = state.full;
     if full {
         return state;
     }
-    if !due(plan, t, xs, q, z, cb, vs, memo, env) {
+    if !due(plan, t, xs, q, z, walks, vs, memo, env) {
         return state;
     }
     let left = plan.left;
     if left == 0 {
-        return write(q, z, plan, cb, vs, memo, env, answer, state);
+        return write(q, z, plan, walks, vs, memo, env, answer, table, state);
     }
-    each_row(ranges, q, z, t, xs, plan, cb, vs, memo, env, answer, state)
+    each_row(
+        ranges,
+        q,
+        z,
+        t,
+        xs,
+        plan,
+        walks,
+        vs,
+        memo,
+        env,
+        answer,
+        table,
+        state,
+    )
 }
 
-// The variable of the first RANGE record on each row of its relation that does not fail the first comparison due there.
+// The variable of the first RANGE record on each of its rows that does not fail the first comparison due there.
 fn each_row(
     ranges: &[u8],
     q: &[u8],
@@ -153,35 +173,46 @@ fn each_row(
     t: &[u16],
     xs: &[i32],
     plan: Plan,
-    cb: &[u8],
+    walks: &[u16],
     vs: &[i32],
     memo: &[i64],
     env: &mut [usize],
     answer: &mut [i64],
+    table: &mut [u16],
     state: Filled,
 ) -> Filled
-    requires { ⌜ (256 ≤ length (now env)) × Bounds plan × (1 ≤ plan .left) ⌝ }
-    ensures { λ r. ⌜ record { rows = r .rows; full = r .full; cells = now (answer .exit) } ≡ addedAll (record { rows = state .rows; full = state .full; cells = now (answer .entry) }) (rowsBelow plan (now (t .entry)) (now (xs .entry)) (now (q .entry)) (now (z .entry)) (now (cb .entry)) (now (vs .entry)) (now (memo .entry)) (now (ranges .entry)) (assigned (now (vs .entry)) (now (env .entry)))) ⌝ }
+    requires { ⌜ (256 ≤ length (now env)) × Bounds plan × (1 ≤ plan .left) × Linked (plan .columns) (state .rows) (now answer) (now table) ⌝ }
+    ensures { λ r. ⌜ record { rows = r .rows; full = r .full; cells = now (answer .exit) } ≡ addedAll (record { rows = state .rows; full = state .full; cells = now (answer .entry) }) (rowsBelow plan (now (t .entry)) (now (xs .entry)) (now (q .entry)) (now (z .entry)) (now (walks .entry)) (now (vs .entry)) (now (memo .entry)) (now (ranges .entry)) (assigned (now (vs .entry)) (now (env .entry)))) ⌝ }
     ensures { λ _. ⌜ now (env .exit) ≡ now (env .entry) ⌝ }
+    ensures { λ r. ⌜ Linked (plan .columns) (r .rows) (now (answer .exit)) (now (table .exit)) ⌝ }
 {
     let variable = kinds::byte(ranges, 1);
-    let relation = kinds::byte(ranges, 2);
     let rest = kinds::tail(ranges, kinds::record_length(1));
     let inner = deeper(plan);
-    let n = catalogue::rows(cb, relation);
-    let w = catalogue::attributes(cb, relation);
+    let walk = walks::walk_of(walks, variable);
+    let n = walk.count;
     let old = evaluator::place(env, variable);
     let stage = 2 * inner.depth;
-    let base = catalogue::base(cb, relation);
-    let mut i = probes::ahead(t, xs, stage, variable, vs, memo, env, base, w, n);
-    let mut row = base + i * w;
     let mut filled = state;
+    let mut i = probes::ahead(t, xs, stage, variable, walks, walk, vs, memo, env, 0);
     while i < n {
-        evaluator::set_place(env, variable, row);
-        filled = run(rest, q, z, t, xs, inner, cb, vs, memo, env, answer, filled);
-        let s = probes::ahead(t, xs, stage, variable, vs, memo, env, row + w, w, n - i - 1);
-        row += w + s * w;
-        i += 1 + s;
+        evaluator::set_place(env, variable, walks::place(walks, walk, i));
+        filled = run(
+            rest,
+            q,
+            z,
+            t,
+            xs,
+            inner,
+            walks,
+            vs,
+            memo,
+            env,
+            answer,
+            table,
+            filled,
+        );
+        i = probes::ahead(t, xs, stage, variable, walks, walk, vs, memo, env, i + 1);
     }
     evaluator::set_place(env, variable, old);
     filled

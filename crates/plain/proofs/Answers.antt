@@ -1,27 +1,39 @@
 -- From the odometer's buffer to the model's answer, and the numbers of the whole call.
 use mathlib.Core.Path.{_≡_, refl, sym, ap, ap₂, _∙_, subst, fun-ext}
 use mathlib.Core.Bool.{Bool, true, false, cond}
-use mathlib.Core.List.{List, [], map}
-use Prim.Native.Nat.{ℕ, zero, suc, _≤_}
+use mathlib.Core.List.{List, [], _++_, map}
+use Prim.Native.Nat.{ℕ, zero, suc, _+_, _*_, _≤_, _<_}
 use native.Mathlib.Omega.{arith}
 use lib.Dec.{ltb}
 use lib.IntN.{ℤ}
-use lib.ListN.{length, drop, length-map}
+use lib.ListN.{length, getD, drop, length-map}
 use borrow.Author.Tests.{ltb-false}
-use Rattle.model.specs.Lists.{filter, Every}
-use Rattle.model.specs.Syntax.{Query}
+use Rattle.model.specs.Lists.{filter, concatMap, Every}
+use Rattle.model.specs.Syntax.{Binding, Query, bindings, bindingsT, bindingsQ}
+use Rattle.model.specs.Scope.{boundOnce, rangeScope}
 use Rattle.model.specs.Encoding.{failed, readQuery, queryOf}
 use Rattle.model.specs.Meaning.{Assignment, Rows, holds, assignments, unbound, targetRow, addRows, qualifying, answers}
-use Rattle.model.specs.Catalogue.{catalogueOf, shapeOf, tuplesAt, allRows}
+use Rattle.model.specs.Catalogue.{Shape, catalogueOf, shapeOf, tuplesAt, allRows}
 use Rattle.model.specs.Checks.{plainLimits, fails10, fails11, fails30, keeperChecks, queryChecks, evaluateChecks, refusal}
 use Rattle.model.specs.Calls.{refuse, give, evaluateUnless, evaluate}
-use Rattle.model.proofs.Passed.{refusal-cons, within}
+use Rattle.model.proofs.Passed.{refusal-cons, within, Scoped, scoped, Below, known, scope-low, scope-lowTs}
+use Rattle.model.proofs.Lists.{every-map, every-join}
 use Rattle.model.proofs.Grounds.{refusal-skip}
+use Rattle.model.proofs.ReadingQueries.{query-inverse}
+use Rattle.model.proofs.NonInterference.{Agree}
+use Rattle.catalogue.specs.Layout.{tuplesIn}
 use Rattle.catalogue.proofs.Reading.{tuples-are}
 use Rattle.rows.specs.declared.Filled.{Filled}
 use Rattle.rows.specs.Buffer.{Buffer, addedAll, start}
+use Rattle.rows.specs.Chains.{Linked}
 use Rattle.rows.proofs.Laws.{given, whole-rows}
-use Rattle.evaluator.specs.Evaluation.{assigned, rowsIn}
+use Rattle.rows.proofs.Links.{linked-none}
+use Rattle.scans.specs.Flat.{flatBindings}
+use Rattle.scans.proofs.Whole.{bindings-query}
+use Rattle.walks.specs.Walks.{rowsBy}
+use Rattle.allrows.specs.Filled.{filledBy}
+use Rattle.allrows.proofs.All.{answers-agree, filled-agree}
+use Rattle.evaluator.specs.Evaluation.{assigned}
 use Rattle.grammar.specs.declared.Layout.{Layout}
 use Rattle.grammar.specs.Shapes.{layout}
 use Rattle.odometer.specs.declared.Plan.{Plan}
@@ -52,31 +64,54 @@ wide-rows u R = whole-rows (length (u .targets)) (targetRow (u .targets) R) (λ 
 pub bounded : (y : Layout) (l : ℕ) (q z cb : List ℕ) (p : Plan) → Answerable y l q z cb → p ≡ planOf y l → Bounds p
 bounded y l q z cb p ok e = subst Bounds (sym e) (record { columns = ok .columns; ranges = omega (arith, ok .ranges) })
 
-module _ (y : Layout) (l : ℕ) (q z cb : List ℕ) (vs m : List ℤ) (e : List ℕ) (ok : Answerable y l q z cb) (h : Trusted m (rowsIn cb vs) (queryAt y l q z)) (b : Unbound vs e) where
-  module _ (t : List ℕ) (xs : List ℤ) (w : Planned t xs q z cb vs m (decode l (drop (y .condition) q) (drop (y .condition) z)) (rangesAt (y .ranges) q)) where
-    as-query : rowsFrom (planOf y l) t xs q z cb vs m q (assigned vs e) ≡ rowsBefore (queryOf q) (allRows (tuplesAt (catalogueOf cb) vs))
+-- no row is linked before the first
+pub none-linked : (w : ℕ) (s : Filled) (cells : List ℤ) (t : List ℕ) → s ≡ record { rows = 0; full = false } → length t ≤ 65535 → ((i : ℕ) → getD t i 0 ≡ 0) → Linked w (s .rows) cells t
+none-linked w s cells t e h z = subst (λ (n : ℕ). Linked w n cells t) (sym (ap (λ (x : Filled). x .rows) e)) (linked-none w cells t h z)
+
+module _ (y : Layout) (l : ℕ) (q z cb ws : List ℕ) (vs m : List ℤ) (e : List ℕ) (ok : Answerable y l q z cb) (h : Trusted m (rowsBy ws vs) (queryAt y l q z)) (b : Unbound vs e) where
+  module _ (t : List ℕ) (xs : List ℤ) (w : Planned t xs q z ws vs m (decode l (drop (y .condition) q) (drop (y .condition) z)) (rangesAt (y .ranges) q)) where
+    as-query : rowsFrom (planOf y l) t xs q z ws vs m q (assigned vs e) ≡ rowsBefore (queryOf q) (rowsBy ws vs)
     as-query =
         let u = queryAt y l q z in
-        let R = rowsIn cb vs in
-        rows-planned (planOf y l) t xs q z cb vs m (u .condition) q refl w (assigned vs e)
+        let R = rowsBy ws vs in
+        rows-planned (planOf y l) t xs q z ws vs m (u .condition) q refl w (assigned vs e)
         ∙ ap₂ (λ (f : Assignment → List ℤ) (g : Assignment → Bool). map f (filter g (assignments (u .ranges) R (assigned vs e)))) (fun-ext (h .targets)) (fun-ext (h .condition))
         ∙ ap (λ (e : Assignment). map (targetRow (u .targets) R) (filter (holds (u .condition) R) (assignments (u .ranges) R e))) (b .none)
-        ∙ ap₂ (λ (u : Query) (D : ℕ → List (ℕ → ℤ)). rowsBefore u (allRows D)) (ok .ready) (fun-ext λ r. sym (tuples-are cb (ok .catalogue) vs r))
+        ∙ ap (λ (u : Query). rowsBefore u R) (ok .ready)
 
     columns-are : y .targets ≡ length (queryOf q .targets)
     unfolding layout
     columns-are = ap (λ (x : Layout). x .targets) (ok .laid .place)
 
     pub answered : (p : Plan) (s₀ s : Filled) (r : Reply) (cells after : List ℤ) → p ≡ planOf y l → s₀ ≡ record { rows = 0; full = false }
-        → record { rows = s .rows; full = s .full; cells = after } ≡ addedAll (record { rows = s₀ .rows; full = s₀ .full; cells = cells }) (rowsFrom p t xs q z cb vs m q (assigned vs e))
-        → r ≡ replyOf (y .targets) s → answerOf r after ≡ give (length (queryOf q .targets)) (answers (queryOf q) (allRows (tuplesAt (catalogueOf cb) vs))) cells
+        → record { rows = s .rows; full = s .full; cells = after } ≡ addedAll (record { rows = s₀ .rows; full = s₀ .full; cells = cells }) (rowsFrom p t xs q z ws vs m q (assigned vs e))
+        → r ≡ replyOf (y .targets) s → answerOf r after ≡ give (length (queryOf q .targets)) (answers (queryOf q) (rowsBy ws vs)) cells
     answered p s₀ s r cells after ep es eb er =
-        let R = allRows (tuplesAt (catalogueOf cb) vs) in
+        let R = rowsBy ws vs in
         let w = length (queryOf q .targets) in
         ap (λ (x : Reply). answerOf x after) (er ∙ ap (λ k. replyOf k s) columns-are)
-        ∙ ap (λ (b : Buffer). record { number = cond (b .full) 41 0; rows = b .rows; columns = w; cells = b .cells }) (eb ∙ ap₂ (λ (i : Plan) (j : Filled). addedAll (record { rows = j .rows; full = j .full; cells = cells }) (rowsFrom i t xs q z cb vs m q (assigned vs e))) ep es ∙ ap (addedAll (start cells)) as-query)
+        ∙ ap (λ (b : Buffer). record { number = cond (b .full) 41 0; rows = b .rows; columns = w; cells = b .cells }) (eb ∙ ap₂ (λ (i : Plan) (j : Filled). addedAll (record { rows = j .rows; full = j .full; cells = cells }) (rowsFrom i t xs q z ws vs m q (assigned vs e))) ep es ∙ ap (addedAll (start cells)) as-query)
         ∙ sym (given w (rowsBefore (queryOf q) R) cells (wide-rows (queryOf q) R))
         ∙ ap (λ (xs : List (List ℤ)). give w xs cells) (sym (answers-are (queryOf q) R))
+
+-- each variable that a query binds is below the limit
+bound-low : (sh : Shape) (k : ℕ) (u : Query) → Scoped sh k u → Every (Below k) (bindingsQ u)
+unfolding bindingsQ
+bound-low sh k u s =
+    every-join (Below k) (u .ranges) (concatMap bindingsT (u .targets) ++ bindings (u .condition)) (every-map _ _ (λ b h. known sh k b h .0) (u .ranges) (s .ranges))
+    (every-join (Below k) (concatMap bindingsT (u .targets)) (bindings (u .condition)) (scope-lowTs sh k (u .targets) (rangeScope (u .ranges)) (s .targets)) (scope-low sh k (u .condition) (rangeScope (u .ranges)) (s .condition)))
+
+-- over walks of all rows the answer is that over all rows
+pub all-answers : (y : Layout) (l : ℕ) (q z cb ws₀ ws : List ℕ) (vs : List ℤ) → Answerable y l q z cb → 2048 ≤ length ws₀ → ws ≡ filledBy cb (flatBindings q) ws₀ → answers (queryOf q) (rowsBy ws vs) ≡ answers (queryOf q) (allRows (tuplesAt (catalogueOf cb) vs))
+unfolding boundOnce
+all-answers y l q z cb ws₀ ws vs ok room e =
+    let u = queryOf q in
+    let sh = shapeOf (catalogueOf cb) in
+    let s = scoped (ok .limits) sh u (ok .known) in
+    let bs : flatBindings q ≡ bindingsQ u = ap flatBindings (query-inverse q u [] (ok .laid .read) .bytes) ∙ bindings-query u in
+    let low : Every (λ (b : Binding). 8 * b .variable + 4 < length ws₀) (bindingsQ u) = every-map (Below (ok .limits .bound)) (λ (b : Binding). 8 * b .variable + 4 < length ws₀) (λ b h. omega (arith, h, ok .bound, room)) (bindingsQ u) (bound-low sh (ok .limits .bound) u s) in
+    let a = filled-agree cb ws₀ vs (bindingsQ u) (s .once) low in
+    answers-agree (rowsBy ws vs) (allRows (tuplesAt (catalogueOf cb) vs)) u (every-map (λ (b : Binding). rowsBy (filledBy cb (bindingsQ u) ws₀) vs (b .variable) (b .relation) ≡ tuplesIn cb vs (b .relation)) (Agree (rowsBy ws vs) (allRows (tuplesAt (catalogueOf cb) vs))) (λ b h. ap (λ (x : List ℕ). rowsBy x vs (b .variable) (b .relation)) (e ∙ ap (λ (l : List Binding). filledBy cb l ws₀) bs) ∙ h ∙ sym (tuples-are cb (ok .catalogue) vs (b .relation))) (bindingsQ u) a)
 
 -- the whole call
 module _ (cb : List ℕ) (vs : List ℤ) (q : List ℕ) (cells : List ℤ) (n : ℕ) (en : n ≡ refusal (keeperChecks cb vs)) where
@@ -126,6 +161,8 @@ module _ (cb : List ℕ) (vs : List ℤ) (q : List ℕ) (cells : List ℤ) (n : 
             ranges = omega (arith, ap (λ (x : Layout). x .ranges) (laid .place), t .ranges);
             place = omega (arith, condition-room y q laid);
             level = omega arith;
+            limits = plainLimits;
+            bound = omega arith;
             known = refusal-cons _ 32 _ (omega arith) (b .1) .0;
           }
 

@@ -11,14 +11,14 @@ use Rattle.model.specs.Syntax.{Condition, Term, TRUE, FALSE, NOT, AND, OR, COMP
 use Rattle.model.specs.Encoding.{queryOf}
 use Rattle.model.specs.Meaning.{Assignment, Rows, cell, targetRow}
 use Rattle.model.specs.Catalogue.{catalogueOf, shapeOf}
-use Rattle.model.specs.Checks.{plainLimits}
 use Rattle.model.proofs.Passed.{Scoped, scoped}
 use Rattle.model.proofs.Tests.{clash}
 use Rattle.numbers.specs.Memo.{knows}
 use Rattle.grammar.specs.declared.Layout.{Layout}
 use Rattle.sizes.specs.Decode.{decode}
 use Rattle.sizes.specs.Parts.{targetsAt}
-use Rattle.evaluator.specs.Evaluation.{assigned, rowsIn}
+use Rattle.walks.specs.Walks.{rowsBy}
+use Rattle.evaluator.specs.Evaluation.{assigned}
 use Rattle.odometer.specs.Plan.{cellsBy}
 use Rattle.aggregates.specs.Filled.{filledC, filledTs}
 use Rattle.aggregates.proofs.Taking.{getD-same}
@@ -66,18 +66,19 @@ module _ (m : List ℤ) (R : Rows) (blank : (i : ℕ) → getD m i (pos 0) ≡ p
   blank-trusted u = trusted m R u (record { targets = blank-faithfulTs (u .targets); condition = blank-faithful (u .condition) })
 
 -- filled from such a one for a query that passed its checks
-pub filled-trusted : (y : Layout) (l : ℕ) (q z cb : List ℕ) (vs m : List ℤ) (e : List ℕ) → Answerable y l q z cb → m ≡ memoOf (queryAt y l q z) (rowsIn cb vs) (assigned vs e) (replicate 512 (pos 0)) → Trusted m (rowsIn cb vs) (queryAt y l q z)
-filled-trusted y l q z cb vs m e ok em =
+pub filled-trusted : (y : Layout) (l : ℕ) (q z cb ws : List ℕ) (vs m : List ℤ) (e : List ℕ) → Answerable y l q z cb → m ≡ memoOf (queryAt y l q z) (rowsBy ws vs) (assigned vs e) (replicate 512 (pos 0)) → Trusted m (rowsBy ws vs) (queryAt y l q z)
+filled-trusted y l q z cb ws vs m e ok em =
     let sh = shapeOf (catalogueOf cb) in
     let u = queryAt y l q z in
-    let R = rowsIn cb vs in
-    let s = subst (Scoped sh 200) (sym (ok .ready)) (scoped plainLimits sh (queryOf q) (ok .known)) in
-    trusted m R u (subst (λ (m : List ℤ). FaithfulQ m R u) (sym em) (query-faithful sh 200 u R (assigned vs e) (replicate 512 (pos 0)) s (getD-same 512 (pos 0)) (omega (arith, length-replicate 512 (pos 0)))))
+    let R = rowsBy ws vs in
+    let n = ok .limits .bound in
+    let s = subst (Scoped sh n) (sym (ok .ready)) (scoped (ok .limits) sh (queryOf q) (ok .known)) in
+    trusted m R u (subst (λ (m : List ℤ). FaithfulQ m R u) (sym em) (query-faithful sh n u R (assigned vs e) (replicate 512 (pos 0)) s (getD-same 512 (pos 0)) (omega (arith, ok .bound, length-replicate 512 (pos 0)))))
 
 -- the memo, targets first
-pub remembered-is : (y : Layout) (l : ℕ) (q z cb : List ℕ) (vs : List ℤ) (e e₁ a b c d : List ℕ) (m n o : List ℤ) → a ≡ drop (y .first) q → b ≡ drop (y .first) z → n ≡ filledTs (targetsAt (y .targets) l a b) (rowsIn cb vs) (assigned vs e) m
-    → e₁ ≡ e → c ≡ drop (y .condition) q → d ≡ drop (y .condition) z → o ≡ filledC (decode l c d) (rowsIn cb vs) (assigned vs e₁) n → o ≡ memoOf (queryAt y l q z) (rowsIn cb vs) (assigned vs e) m
-remembered-is y l q z cb vs e e₁ a b c d m n o ea eb en ee ec ed eo = eo ∙ rw (en, ee, ec, ed, ea, eb)
+pub remembered-is : (y : Layout) (l : ℕ) (q z ws : List ℕ) (vs : List ℤ) (e e₁ a b c d : List ℕ) (m n o : List ℤ) → a ≡ drop (y .first) q → b ≡ drop (y .first) z → n ≡ filledTs (targetsAt (y .targets) l a b) (rowsBy ws vs) (assigned vs e) m
+    → e₁ ≡ e → c ≡ drop (y .condition) q → d ≡ drop (y .condition) z → o ≡ filledC (decode l c d) (rowsBy ws vs) (assigned vs e₁) n → o ≡ memoOf (queryAt y l q z) (rowsBy ws vs) (assigned vs e) m
+remembered-is y l q z ws vs e e₁ a b c d m n o ea eb en ee ec ed eo = eo ∙ rw (en, ee, ec, ed, ea, eb)
 
 -- places past the values: no variable is bound yet
 pub none-bound : (vs : List ℤ) → Unbound vs (replicate 256 (length vs))

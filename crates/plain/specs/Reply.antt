@@ -10,7 +10,7 @@ use Rattle.model.specs.Encoding.{queryOf}
 use Rattle.model.specs.Syntax.{Query}
 use Rattle.model.specs.Meaning.{Assignment, Rows, holds, targetRow, unbound}
 use Rattle.model.specs.Catalogue.{catalogueOf, shapeOf}
-use Rattle.model.specs.Checks.{fails10, fails32, plainLimits, keeperChecks, queryChecks, refusal}
+use Rattle.model.specs.Checks.{Limits, fails10, fails32, plainLimits, keeperChecks, queryChecks, refusal}
 use Rattle.evaluator.specs.Evaluation.{assigned}
 use Rattle.evaluator.specs.Recalled.{holdsBy}
 use Rattle.odometer.specs.declared.Plan.{Plan}
@@ -46,7 +46,7 @@ pub record Unbound (vs : List ℤ) (e : List ℕ) : Type 0 where
   pub places : 256 ≤ length e
   pub none : assigned vs e ≡ unbound
 
--- a query that passed its checks: bytes, table, layout and catalogue
+-- a query that passed its checks, under the limits of either call: bytes, table, layout and catalogue
 pub record Answerable (y : Layout) (l : ℕ) (q z cb : List ℕ) : Type 0 where
   pub catalogue : fails10 cb ≡ false
   pub laid : Laid y q
@@ -55,7 +55,9 @@ pub record Answerable (y : Layout) (l : ℕ) (q z cb : List ℕ) : Type 0 where
   pub ranges : y .ranges ≤ 4
   pub place : y .condition ≤ 17216
   pub level : l ≤ 64
-  pub known : fails32 plainLimits (shapeOf (catalogueOf cb)) (queryOf q) ≡ false
+  pub limits : Limits
+  pub bound : limits .bound ≤ 200
+  pub known : fails32 limits (shapeOf (catalogueOf cb)) (queryOf q) ≡ false
 
 -- a call whose checks pass, and a layout with the query's counts of RANGEs and targets
 pub record Accepted (y : Layout) (cb : List ℕ) (vs : List ℤ) (q : List ℕ) : Type 0 where

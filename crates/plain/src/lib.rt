@@ -1,4 +1,4 @@
-// The plain evaluator: a query over all rows, with no permits.
+// A query answered over the rows of its walks; the plain evaluator takes all rows, with no permits.
 use grammar::Layout;
 use odometer::Plan;
 use queries::Checked;
@@ -6,13 +6,14 @@ use queries::Limits;
 use rows::Filled;
 ghost use mathlib.Core.Path.{_≡_};
 ghost use mathlib.Core.Bool.{false};
-ghost use Prim.Native.Nat.{_≤_};
-ghost use lib.ListN.{length};
+ghost use Prim.Native.Nat.{ℕ, _≤_};
+ghost use lib.ListN.{length, getD};
 ghost use Rattle.model.specs.Encoding.{queryOf};
 ghost use Rattle.model.specs.Meaning.{answers};
 ghost use Rattle.model.specs.Catalogue.{catalogueOf, tuplesAt, allRows};
 ghost use Rattle.model.specs.Calls.{give, evaluate};
-ghost use Rattle.evaluator.specs.Evaluation.{assigned, rowsIn};
+ghost use Rattle.walks.specs.Walks.{rowsBy};
+ghost use Rattle.evaluator.specs.Evaluation.{assigned};
 ghost use Rattle.queries.specs.Parts.{queryAt};
 ghost use Rattle.plain.specs.Reply.{answerOf, replyOf, planOf, memoOf, Answerable, Accepted, Trusted, Unbound};
 
@@ -59,24 +60,24 @@ fn remember(
     z: &[u16],
     layout: Layout,
     level: usize,
-    catalogue: &[u8],
+    walks: &[u16],
     values: &[i32],
     env: &mut [usize],
     memo: &mut [i64],
 )
     requires { ⌜ 256 ≤ length (now env) ⌝ }
-    ensures { λ _. ⌜ now (memo .exit) ≡ memoOf (queryAt layout level (now (q .entry)) (now (z .entry))) (rowsIn (now (catalogue .entry)) (now (values .entry))) (assigned (now (values .entry)) (now (env .entry))) (now (memo .entry)) ⌝ }
+    ensures { λ _. ⌜ now (memo .exit) ≡ memoOf (queryAt layout level (now (q .entry)) (now (z .entry))) (rowsBy (now (walks .entry)) (now (values .entry))) (assigned (now (values .entry)) (now (env .entry))) (now (memo .entry)) ⌝ }
     ensures { λ _. ⌜ now (env .exit) ≡ now (env .entry) ⌝ }
 {
     let t = layout.first;
     let n = layout.targets;
     let x = kinds::tail(q, t);
     let y = kinds::tail_sizes(z, t);
-    aggregates::targets(x, y, n, level, catalogue, values, env, memo);
+    aggregates::targets(x, y, n, level, walks, values, env, memo);
     let c = layout.condition;
     let u = kinds::tail(q, c);
     let v = kinds::tail_sizes(z, c);
-    aggregates::condition(u, v, level, catalogue, values, env, memo);
+    aggregates::condition(u, v, level, walks, values, env, memo);
 }
 
 // All ranges are left to bind.
@@ -102,20 +103,23 @@ fn no_rows() -> Filled
     }
 }
 
-// A query that passed its checks, over all rows, by a memo that says nothing false of it; no variable is bound yet.
-fn answer_by(
+// A query that passed its checks, over the rows of its walks, by a memo that says nothing false of it; no variable is bound yet. The table for the
+// answer's rows is lent, cleared.
+fn answer_in(
     q: &[u8],
     z: &[u16],
     layout: Layout,
     level: usize,
     catalogue: &[u8],
+    walks: &[u16],
     values: &[i32],
     memo: &[i64],
     env: &mut [usize],
     answer: &mut [i64],
+    table: &mut [u16],
 ) -> Reply
-    requires { ⌜ Answerable layout level (now q) (now z) (now catalogue) × Trusted (now memo) (rowsIn (now catalogue) (now values)) (queryAt layout level (now q) (now z)) × Unbound (now values) (now env) ⌝ }
-    ensures { λ r. ⌜ answerOf r (now (answer .exit)) ≡ give (length (queryOf (now (q .entry)) .targets)) (answers (queryOf (now (q .entry))) (allRows (tuplesAt (catalogueOf (now (catalogue .entry))) (now (values .entry))))) (now (answer .entry)) ⌝ }
+    requires { ⌜ Answerable layout level (now q) (now z) (now catalogue) × Trusted (now memo) (rowsBy (now walks) (now values)) (queryAt layout level (now q) (now z)) × Unbound (now values) (now env) × (length (now table) ≤ 65535) × ((i : ℕ) → getD (now table) i 0 ≡ 0) ⌝ }
+    ensures { λ r. ⌜ answerOf r (now (answer .exit)) ≡ give (length (queryOf (now (q .entry)) .targets)) (answers (queryOf (now (q .entry))) (rowsBy (now (walks .entry)) (now (values .entry)))) (now (answer .entry)) ⌝ }
 {
     let mut t = [0u16; 512];
     let mut xs = [0i32; 128];
@@ -129,14 +133,143 @@ fn answer_by(
         &t,
         &xs,
         plan_of(layout, level),
-        catalogue,
+        walks,
         values,
         memo,
         env,
         answer,
+        table,
         no_rows(),
     );
     filled(state, layout.targets)
+}
+
+// The same where the answer has at most 1,024 rows: 512 heads.
+fn answer_few(
+    q: &[u8],
+    z: &[u16],
+    layout: Layout,
+    level: usize,
+    catalogue: &[u8],
+    walks: &[u16],
+    values: &[i32],
+    memo: &[i64],
+    env: &mut [usize],
+    answer: &mut [i64],
+) -> Reply
+    requires { ⌜ Answerable layout level (now q) (now z) (now catalogue) × Trusted (now memo) (rowsBy (now walks) (now values)) (queryAt layout level (now q) (now z)) × Unbound (now values) (now env) ⌝ }
+    ensures { λ r. ⌜ answerOf r (now (answer .exit)) ≡ give (length (queryOf (now (q .entry)) .targets)) (answers (queryOf (now (q .entry))) (rowsBy (now (walks .entry)) (now (values .entry)))) (now (answer .entry)) ⌝ }
+{
+    let mut table = [0u16; 1536];
+    answer_in(
+        q,
+        z,
+        layout,
+        level,
+        catalogue,
+        walks,
+        values,
+        memo,
+        env,
+        answer,
+        &mut table,
+    )
+}
+
+// The same for more rows: 4,096 heads, and 16,384 rows are linked.
+fn answer_many(
+    q: &[u8],
+    z: &[u16],
+    layout: Layout,
+    level: usize,
+    catalogue: &[u8],
+    walks: &[u16],
+    values: &[i32],
+    memo: &[i64],
+    env: &mut [usize],
+    answer: &mut [i64],
+) -> Reply
+    requires { ⌜ Answerable layout level (now q) (now z) (now catalogue) × Trusted (now memo) (rowsBy (now walks) (now values)) (queryAt layout level (now q) (now z)) × Unbound (now values) (now env) ⌝ }
+    ensures { λ r. ⌜ answerOf r (now (answer .exit)) ≡ give (length (queryOf (now (q .entry)) .targets)) (answers (queryOf (now (q .entry))) (rowsBy (now (walks .entry)) (now (values .entry)))) (now (answer .entry)) ⌝ }
+{
+    let mut table = [0u16; 20480];
+    answer_in(
+        q,
+        z,
+        layout,
+        level,
+        catalogue,
+        walks,
+        values,
+        memo,
+        env,
+        answer,
+        &mut table,
+    )
+}
+
+// How many rows the ranges can give, exact up to 1,024. It promises nothing, since a table of any length will do: it only saves time.
+fn most_rows(q: &[u8], ranges: usize, walks: &[u16]) -> usize
+    requires { ⌜ ranges ≤ 4 ⌝ }
+{
+    let mut n = 1;
+    let mut i = 0;
+    while i < ranges {
+        let walk = walks::walk_of(walks, kinds::byte(q, 3 * i + 1));
+        n *= walk.count;
+        if 1024 < n {
+            return n;
+        }
+        i += 1;
+    }
+    n
+}
+
+// The same for any number of rows, by the ranges and by the room for them.
+fn answer_by(
+    q: &[u8],
+    z: &[u16],
+    layout: Layout,
+    level: usize,
+    catalogue: &[u8],
+    walks: &[u16],
+    values: &[i32],
+    memo: &[i64],
+    env: &mut [usize],
+    answer: &mut [i64],
+) -> Reply
+    requires { ⌜ Answerable layout level (now q) (now z) (now catalogue) × Trusted (now memo) (rowsBy (now walks) (now values)) (queryAt layout level (now q) (now z)) × Unbound (now values) (now env) ⌝ }
+    ensures { λ r. ⌜ answerOf r (now (answer .exit)) ≡ give (length (queryOf (now (q .entry)) .targets)) (answers (queryOf (now (q .entry))) (rowsBy (now (walks .entry)) (now (values .entry)))) (now (answer .entry)) ⌝ }
+{
+    let room = answer.len();
+    let most = most_rows(q, layout.ranges, walks);
+    let n = if room < most { room } else { most };
+    if 1024 < n {
+        return answer_many(
+            q,
+            z,
+            layout,
+            level,
+            catalogue,
+            walks,
+            values,
+            memo,
+            env,
+            answer,
+        );
+    }
+    answer_few(
+        q,
+        z,
+        layout,
+        level,
+        catalogue,
+        walks,
+        values,
+        memo,
+        env,
+        answer,
+    )
 }
 
 // The same where the query may have aggregates: each is evaluated once, into a memo with two cells for each variable.
@@ -146,16 +279,28 @@ fn answer_filled(
     layout: Layout,
     level: usize,
     catalogue: &[u8],
+    walks: &[u16],
     values: &[i32],
     env: &mut [usize],
     answer: &mut [i64],
 ) -> Reply
     requires { ⌜ Answerable layout level (now q) (now z) (now catalogue) × Unbound (now values) (now env) ⌝ }
-    ensures { λ r. ⌜ answerOf r (now (answer .exit)) ≡ give (length (queryOf (now (q .entry)) .targets)) (answers (queryOf (now (q .entry))) (allRows (tuplesAt (catalogueOf (now (catalogue .entry))) (now (values .entry))))) (now (answer .entry)) ⌝ }
+    ensures { λ r. ⌜ answerOf r (now (answer .exit)) ≡ give (length (queryOf (now (q .entry)) .targets)) (answers (queryOf (now (q .entry))) (rowsBy (now (walks .entry)) (now (values .entry)))) (now (answer .entry)) ⌝ }
 {
     let mut memo = [0i64; 512];
-    remember(q, z, layout, level, catalogue, values, env, &mut memo);
-    answer_by(q, z, layout, level, catalogue, values, &memo, env, answer)
+    remember(q, z, layout, level, walks, values, env, &mut memo);
+    answer_by(
+        q,
+        z,
+        layout,
+        level,
+        catalogue,
+        walks,
+        values,
+        &memo,
+        env,
+        answer,
+    )
 }
 
 // Whether a record of the query is an aggregate. It promises nothing, since any memo that can be trusted will do: it only saves time.
@@ -170,8 +315,68 @@ fn aggregated(q: &[u8]) -> bool {
     false
 }
 
-// A query that passed its checks, over all rows. A memo that knows nothing can be trusted for any query: without aggregates no large one is cleared.
-fn answer_query(
+// A query that passed its checks, over the rows of its walks. A memo that knows nothing can be trusted for any query: without aggregates no large one is cleared.
+// For few rows no table is.
+pub fn answer_query(
+    q: &[u8],
+    z: &[u16],
+    layout: Layout,
+    level: usize,
+    catalogue: &[u8],
+    walks: &[u16],
+    values: &[i32],
+    answer: &mut [i64],
+) -> Reply
+    requires { ⌜ Answerable layout level (now q) (now z) (now catalogue) ⌝ }
+    ensures { λ r. ⌜ answerOf r (now (answer .exit)) ≡ give (length (queryOf (now (q .entry)) .targets)) (answers (queryOf (now (q .entry))) (rowsBy (now (walks .entry)) (now (values .entry)))) (now (answer .entry)) ⌝ }
+{
+    let mut env = [values.len(); 256];
+    if aggregated(q) {
+        return answer_filled(
+            q,
+            z,
+            layout,
+            level,
+            catalogue,
+            walks,
+            values,
+            &mut env,
+            answer,
+        );
+    }
+    let memo = [0i64; 2];
+    if 16 < most_rows(q, layout.ranges, walks) {
+        return answer_by(
+            q,
+            z,
+            layout,
+            level,
+            catalogue,
+            walks,
+            values,
+            &memo,
+            &mut env,
+            answer,
+        );
+    }
+    let mut table = [0u16; 1];
+    answer_in(
+        q,
+        z,
+        layout,
+        level,
+        catalogue,
+        walks,
+        values,
+        &memo,
+        &mut env,
+        answer,
+        &mut table,
+    )
+}
+
+// The same over all rows.
+fn answer_all(
     q: &[u8],
     z: &[u16],
     layout: Layout,
@@ -183,22 +388,9 @@ fn answer_query(
     requires { ⌜ Answerable layout level (now q) (now z) (now catalogue) ⌝ }
     ensures { λ r. ⌜ answerOf r (now (answer .exit)) ≡ give (length (queryOf (now (q .entry)) .targets)) (answers (queryOf (now (q .entry))) (allRows (tuplesAt (catalogueOf (now (catalogue .entry))) (now (values .entry))))) (now (answer .entry)) ⌝ }
 {
-    let mut env = [values.len(); 256];
-    if aggregated(q) {
-        return answer_filled(q, z, layout, level, catalogue, values, &mut env, answer);
-    }
-    let memo = [0i64; 2];
-    answer_by(
-        q,
-        z,
-        layout,
-        level,
-        catalogue,
-        values,
-        &memo,
-        &mut env,
-        answer,
-    )
+    let mut walks = [0u16; 2048];
+    allrows::fill(q, catalogue, &mut walks);
+    answer_query(q, z, layout, level, catalogue, &walks, values, answer)
 }
 
 // The checks by rising number, then the answer; the table of sizes is lent.
@@ -223,7 +415,7 @@ fn evaluate_with(
     };
     match queries::check(query, limits, catalogue, z) {
         Checked::Refused(n) => refused(n),
-        Checked::Passed(layout) => { answer_query(query, z, layout, 64, catalogue, values, answer) }
+        Checked::Passed(layout) => { answer_all(query, z, layout, 64, catalogue, values, answer) }
     }
 }
 
@@ -266,7 +458,7 @@ fn answer_with(
     ensures { λ r. ⌜ answerOf r (now (answer .exit)) ≡ evaluate (now (catalogue .entry)) (now (values .entry)) (now (query .entry)) (now (answer .entry)) ⌝ }
 {
     let layout = queries::prepare(query, like, 64, z);
-    answer_query(query, z, layout, 64, catalogue, values, answer)
+    answer_all(query, z, layout, 64, catalogue, values, answer)
 }
 
 fn answer_short(

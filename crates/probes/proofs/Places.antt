@@ -1,12 +1,11 @@
--- A loop over rows that passes some over: rows are w values apart, and each place fits.
+-- A loop over rows that passes some over.
 use mathlib.Core.Path.{_≡_, refl, sym, ap, _∙_, fun-ext}
 use mathlib.Core.Bool.{Bool, true, false}
 use mathlib.Core.List.{List}
-use Prim.Native.Nat.{ℕ, _+_, _-_, _*_, _≤_, _<_}
-use native.Mathlib.Nat.{add-assoc, add-mul, mul-le-mul}
+use Prim.Native.Nat.{ℕ, zero, suc, _+_, _≤_, _<_}
 use native.Mathlib.Omega.{arith}
 use lib.Dec.{eqb}
-use borrow.Author.Tests.{eqb-false}
+use borrow.Author.Tests.{eqb-true, eqb-false}
 use lib.IntN.{ℤ}
 use lib.ListN.{length, getD, set}
 use lib.Seq.{getD-set-other}
@@ -14,9 +13,6 @@ use Rattle.model.specs.Lists.{update}
 use Rattle.model.specs.Meaning.{Tuple}
 use Rattle.catalogue.specs.Layout.{tupleAt}
 use Rattle.evaluator.specs.Evaluation.{assigned}
-
-pub row-on : (b w i j : ℕ) → b + i * w + j * w ≡ b + (i + j) * w
-row-on b w i j = add-assoc b (i * w) (j * w) ∙ ap (λ (k : ℕ). b + k) (sym (add-mul i j w))
 
 -- the variable's own place does not matter where it gets a tuple
 pub places-alike : (vs : List ℤ) (d e : List ℕ) (v old : ℕ) (x : Tuple) → set d v old ≡ e → update (assigned vs d) v x ≡ update (assigned vs e) v x
@@ -26,33 +22,11 @@ places-alike vs d e v old x h = fun-ext λ w. go w (eqb w v) refl
     go w true k = rw k
     go w false k = rw k (ap (tupleAt vs) (sym (getD-set-other d v w old (length vs) (eqb-false w v k)) ∙ ap (λ (u : List ℕ). getD u w (length vs)) h))
 
-few : (i n : ℕ) → i ≤ n → n ≤ 65535 → i ≤ 65535
-few i n l m = omega arith
-
-pub places-fit : (b w i n r : ℕ) → b ≤ 16711425 * r → r < 256 → i ≤ n → n ≤ 65535 → w ≤ 255 → b + i * w < 9223372036854775808
-places-fit b w i n r h k l m o = let x : i * w ≤ 65535 * 255 = mul-le-mul (few i n l m) o in omega arith
-
-pub steps-fit : (w s n : ℕ) → s ≤ n → n ≤ 65535 → w ≤ 255 → s * w ≤ 16711425
-steps-fit w s n h k l = let x : s * w ≤ 65535 * 255 = mul-le-mul (few s n h k) l in omega arith
-
--- the rows from the next on
-pub rest-fit : (b w i n r row : ℕ) → row ≡ b + i * w → i < n → b ≤ 16711425 * r → r < 256 → n ≤ 65535 → w ≤ 255 → row + w + (n - i - 1) * w < 18446744073709551616
-rest-fit b w i n r row e h k l m o =
-    let x : (n - i - 1) * w ≤ 65535 * 255 = mul-le-mul (lt n i m) o in
-    let y = places-fit b w i n r k l (le i n h) m o in
-    omega arith
+-- what comes of the rows does not change where they are passed over
+pub passed-over : {A : Type 0} (g : ℕ → A) (i s : ℕ) → i ≤ s → ((j : ℕ) → i ≤ j → j < s → g (j + 1) ≡ g j) → g s ≡ g i
+passed-over g i zero h f = let e : i ≡ 0 = omega arith in ap g (sym e)
+passed-over g i (suc s) h f = go (eqb i (suc s)) refl (λ l. passed-over g i s l (λ j a b. f j a (omega arith)))
   where
-    lt : (n i : ℕ) → n ≤ 65535 → n - i - 1 ≤ 65535
-    lt n i m = omega arith
-
-    le : (i n : ℕ) → i < n → i ≤ n
-    le i n h = omega arith
-
-pub row-next : (b w i s row : ℕ) → row ≡ b + i * w → row + (w + s * w) ≡ b + (i + (1 + s)) * w
-row-next b w i s row e = ap (λ (k : ℕ). k + (w + s * w)) e ∙ add-assoc b (i * w) (w + s * w) ∙ ap (λ (k : ℕ). b + k) (ap (λ (k : ℕ). i * w + k) (one-more w s) ∙ sym (add-mul i (1 + s) w))
-  where
-    one-more : (w s : ℕ) → w + s * w ≡ (1 + s) * w
-    one-more w s = sym (add-mul 1 s w ∙ ap (λ (k : ℕ). k + s * w) (one-times w))
-      where
-        one-times : (w : ℕ) → 1 * w ≡ w
-        one-times w = omega arith
+    go : (b : Bool) → eqb i (suc s) ≡ b → (i ≤ s → g s ≡ g i) → g (suc s) ≡ g i
+    go true k r = ap g (sym (eqb-true i (suc s) k))
+    go false k r = let l : i ≤ s = omega (arith, eqb-false i (suc s) k) in let e : suc s ≡ s + 1 = omega arith in ap g e ∙ f s l (omega arith) ∙ r l

@@ -2,8 +2,8 @@
 use mathlib.Core.Path.{_≡_, refl, sym, ap, ap₂, _∙_}
 use mathlib.Core.Bool.{Bool, true, false}
 use mathlib.Core.List.{List}
-use Prim.Native.Nat.{ℕ, suc, _+_, _*_, _≤_, _<_}
-use native.Mathlib.Nat.{mul-le-mul, le-refl, add-zero}
+use Prim.Native.Nat.{ℕ, _+_, _*_, _≤_, _<_}
+use native.Mathlib.Nat.{add-zero}
 use native.Mathlib.Omega.{arith}
 use lib.Dec.{eqb}
 use lib.IntN.{ℤ, pos, _*ℤ_, natAbs, one, *ℤ-one}
@@ -20,23 +20,17 @@ use Rattle.branches.proofs.Running.{runs-1, runs-step}
 use Rattle.conjuncts.specs.Stages.{stageHolds}
 use Rattle.probes.specs.Probe.{sided, placed}
 
-pub one-more : (f : ℕ → Bool) (j : ℕ) → ((i : ℕ) → i < j → f i ≡ false) → f j ≡ false → (i : ℕ) → i < j + 1 → f i ≡ false
-one-more f j h e i l = go (eqb i j) refl
+-- one row more that fails
+pub one-more : (f : ℕ → Bool) (a j : ℕ) → ((i : ℕ) → a ≤ i → i < j → f i ≡ false) → f j ≡ false → (i : ℕ) → a ≤ i → i < j + 1 → f i ≡ false
+one-more f a j h e i k l = go (eqb i j) refl
   where
     go : (b : Bool) → eqb i j ≡ b → f i ≡ false
-    go true k = ap f (eqb-true i j k) ∙ e
-    go false k = h i (omega (arith, eqb-false i j k))
+    go true p = ap f (eqb-true i j p) ∙ e
+    go false p = h i k (omega (arith, eqb-false i j p))
 
--- a row's place fits
-pub place-fits : (row w j rows at : ℕ) → at ≡ row + j * w → j < rows → row + rows * w < 18446744073709551616 → at + w < 18446744073709551616
-place-fits row w j rows at e h k = let m : suc j * w ≤ rows * w = mul-le-mul h (le-refl w) in omega (arith, m, suc-times j w)
-  where
-    suc-times : (j w : ℕ) → suc j * w ≡ w + j * w
-    suc-times j w = omega arith
-
-pub row-fails : (o : ℕ) (mirrored : Bool) (vs : List ℤ) (row w j a at : ℕ) (v u n d : ℤ) (b : Bool) → at ≡ row + j * w → v ≡ getD vs (at + a) (pos 0) → u ≡ v *ℤ d → b ≡ placed o mirrored u n → b ≡ false
-    → placed o mirrored (tupleAt vs (row + j * w) a *ℤ d) n ≡ false
-row-fails o mirrored vs row w j a at v u n d b ea ev eu eb h = ap (λ (y : ℤ). placed o mirrored (y *ℤ d) n) (ap (λ (p : ℕ). getD vs (p + a) (pos 0)) (sym ea) ∙ sym ev) ∙ ap (λ (y : ℤ). placed o mirrored y n) (sym eu) ∙ sym eb ∙ h
+pub row-fails : (o : ℕ) (mirrored : Bool) (vs : List ℤ) (p a at : ℕ) (v u n d : ℤ) (b : Bool) → at ≡ p → v ≡ getD vs (at + a) (pos 0) → u ≡ v *ℤ d → b ≡ placed o mirrored u n → b ≡ false
+    → placed o mirrored (tupleAt vs p a *ℤ d) n ≡ false
+row-fails o mirrored vs p a at v u n d b ea ev eu eb h = ap (λ (y : ℤ). placed o mirrored (y *ℤ d) n) (ap (λ (p : ℕ). getD vs (p + a) (pos 0)) (sym ea) ∙ sym ev) ∙ ap (λ (y : ℤ). placed o mirrored y n) (sym eu) ∙ sym eb ∙ h
 
 -- a whole number is compared by one cross product
 pub whole-fails : (o : ℕ) (mirrored : Bool) (a n d : ℤ) (x : Ratio) → Small x → n ≡ x .numerator → d ≡ x .denominator → placed o mirrored (a *ℤ d) n ≡ false → sided o mirrored (M.whole a) (ratioOf x) ≡ false
@@ -46,7 +40,7 @@ whole-fails o mirrored a n d x s en ed h =
     let right : a *ℤ pos (natAbs (x .denominator)) ≡ a *ℤ d = ap (λ (y : ℤ). a *ℤ y) (sym (ed ∙ s .sign)) in
     ap₂ (placed o mirrored) right left ∙ h
 
-module _ (t : List ℕ) (xs : List ℤ) (q z cb : List ℕ) (vs m : List ℤ) (i v : ℕ) (e : Assignment) (row : Tuple) where
+module _ (t : List ℕ) (xs : List ℤ) (q z ws : List ℕ) (vs m : List ℤ) (i v : ℕ) (e : Assignment) (row : Tuple) where
   -- an operand of the variable, and one of no or another variable
   own : (w a : ℕ) (x : ℤ) → w ≡ v → v < 256 → operand m w a x (update e v row) ≡ M.whole (row a)
   own w a x h l = rw (lt-ltb w 256 (omega (arith, h, l)), eq-eqb w v h)
@@ -61,27 +55,27 @@ module _ (t : List ℕ) (xs : List ℤ) (q z cb : List ℕ) (vs m : List ℤ) (i
       ap ratioOf hy ∙ ap (λ (n : ℕ). operand m (getD t n 0) (getD t (n + 1) 0) x e) hp ∙ ap₂ (λ (u n : ℕ). operand m u (getD t n 0) x e) (sym hw) k
 
   module _ (o a b : ℕ) (y : Ratio) (eo : o ≡ getD t (8 * i) 0) (nz : o ≡ 0 → ⊥) (ea : a ≡ field t i 1) (eb : b ≡ field t i 3) (l : v < 256) where
-    branch-is : branchHolds t xs q z cb vs m i (update e v row) ≡ compare o (operand m a (field t i 2) (getD xs (2 * i) (pos 0)) (update e v row)) (operand m b (field t i 4) (getD xs (2 * i + 1) (pos 0)) (update e v row))
+    branch-is : branchHolds t xs q z ws vs m i (update e v row) ≡ compare o (operand m a (field t i 2) (getD xs (2 * i) (pos 0)) (update e v row)) (operand m b (field t i 4) (getD xs (2 * i + 1) (pos 0)) (update e v row))
     unfolding branchHolds
     branch-is = rw (add-zero (8 * i), sym eo, sym ea, sym eb, ne-eqb o 0 nz)
 
     pub left-fails : (p c : ℕ) → a ≡ v → (b ≡ v → ⊥) → p ≡ 8 * i + 3 → c ≡ field t i 2 → y ≡ represent (operand m (getD t p 0) (getD t (p + 1) 0) (getD xs (2 * i + 1) (pos 0)) e) → sided o false (M.whole (row c)) (ratioOf y) ≡ false
-        → branchHolds t xs q z cb vs m i (update e v row) ≡ false
+        → branchHolds t xs q z ws vs m i (update e v row) ≡ false
     left-fails p c ha hb hp hc hy h =
         branch-is
         ∙ ap₂ (compare o) (own a (field t i 2) (getD xs (2 * i) (pos 0)) ha l ∙ ap (λ (n : ℕ). M.whole (row n)) (sym hc)) (other b (field t i 4) (getD xs (2 * i + 1) (pos 0)) hb ∙ sym (fixed p 3 b (getD xs (2 * i + 1) (pos 0)) y hp eb hy))
         ∙ h
 
     pub right-fails : (p c : ℕ) → (a ≡ v → ⊥) → b ≡ v → p ≡ 8 * i + 1 → c ≡ field t i 4 → y ≡ represent (operand m (getD t p 0) (getD t (p + 1) 0) (getD xs (2 * i) (pos 0)) e) → sided o true (M.whole (row c)) (ratioOf y) ≡ false
-        → branchHolds t xs q z cb vs m i (update e v row) ≡ false
+        → branchHolds t xs q z ws vs m i (update e v row) ≡ false
     right-fails p c ha hb hp hc hy h =
         branch-is
         ∙ ap₂ (compare o) (other a (field t i 2) (getD xs (2 * i) (pos 0)) ha ∙ sym (fixed p 1 a (getD xs (2 * i) (pos 0)) y hp ea hy)) (own b (field t i 4) (getD xs (2 * i + 1) (pos 0)) hb l ∙ ap (λ (n : ℕ). M.whole (row n)) (sym hc))
         ∙ h
 
 -- a stage whose first branch fails, and leads to 1 where it fails
-pub stage-fails : (t : List ℕ) (xs : List ℤ) (q z cb : List ℕ) (vs m : List ℤ) (s i f : ℕ) (e : Assignment) → i ≡ getD t s 0 → 2 ≤ i → f ≡ field t i 6 → f ≡ 1 → branchHolds t xs q z cb vs m i e ≡ false → stageHolds t xs q z cb vs m s e ≡ false
+pub stage-fails : (t : List ℕ) (xs : List ℤ) (q z ws : List ℕ) (vs m : List ℤ) (s i f : ℕ) (e : Assignment) → i ≡ getD t s 0 → 2 ≤ i → f ≡ field t i 6 → f ≡ 1 → branchHolds t xs q z ws vs m i e ≡ false → stageHolds t xs q z ws vs m s e ≡ false
 unfolding stageHolds
-stage-fails t xs q z cb vs m s i f e ei l ef e1 h =
-    let n : next t xs q z cb vs m i e ≡ 1 = rw h (sym ef ∙ e1) in
-    ap (λ (k : ℕ). runs t xs q z cb vs m k e) (sym ei) ∙ runs-step t xs q z cb vs m i e l (omega (arith, n)) ∙ ap (λ (k : ℕ). runs t xs q z cb vs m k e) n ∙ runs-1 t xs q z cb vs m e
+stage-fails t xs q z ws vs m s i f e ei l ef e1 h =
+    let n : next t xs q z ws vs m i e ≡ 1 = rw h (sym ef ∙ e1) in
+    ap (λ (k : ℕ). runs t xs q z ws vs m k e) (sym ei) ∙ runs-step t xs q z ws vs m i e l (omega (arith, n)) ∙ ap (λ (k : ℕ). runs t xs q z ws vs m k e) n ∙ runs-1 t xs q z ws vs m e

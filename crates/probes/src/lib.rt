@@ -1,15 +1,17 @@
 // Rows that fail a comparison are passed over in one short loop: the side that does not run with the rows is read once.
 use numbers::Ratio;
+use walks::Walk;
 ghost use mathlib.Core.Path.{_≡_};
 ghost use mathlib.Core.Bool.{false};
 ghost use mathlib.Core.List.{List};
-ghost use Prim.Native.Nat.{ℕ, _+_, _*_, _≤_, _<_};
+ghost use Prim.Native.Nat.{ℕ, _≤_, _<_};
 ghost use lib.IntN.{natAbs, _*ℤ_};
 ghost use lib.ListN.{length};
 ghost use Rattle.model.specs.Lists.{update};
 ghost use Rattle.model.specs.Meaning as M;
 ghost use Rattle.numbers.specs.Numbers.{ratioOf, Small};
 ghost use Rattle.catalogue.specs.Layout.{tupleAt};
+ghost use Rattle.walks.specs.Walks.{placeAt, Fits};
 ghost use Rattle.evaluator.specs.Evaluation.{assigned};
 ghost use Rattle.branches.specs.Branches.{branchHolds};
 ghost use Rattle.conjuncts.specs.Stages.{stageHolds};
@@ -34,100 +36,100 @@ fn holds(operator: usize, mirrored: bool, a: i64, x: i64) -> bool
     }
 }
 
-// How many rows, w values apart, fail the comparison of an attribute with x before the first that meets it.
+// The first row of a walk, from one on, that meets the comparison of an attribute with x; where none does, the count of rows.
 fn failing(
     values: &[i32],
-    row: usize,
-    w: usize,
-    rows: usize,
+    walks: &[u16],
+    walk: Walk,
+    from: usize,
     attribute: usize,
     operator: usize,
     mirrored: bool,
     x: Ratio,
 ) -> usize
-    requires { ⌜ (row + rows * w < 18446744073709551616) × (attribute ≤ 65535) × Small x ⌝ }
-    ensures { λ r. ⌜ r ≤ rows ⌝ }
-    ensures { λ r. ⌜ ((j : ℕ) → j < r → sided operator mirrored (M.whole (tupleAt (now (values .entry)) (row + j * w) attribute)) (ratioOf x) ≡ false) ⌝ }
+    requires { ⌜ Fits walk × (from ≤ walk .count) × Small x ⌝ }
+    ensures { λ r. ⌜ (from ≤ r) × (r ≤ walk .count) ⌝ }
+    ensures { λ r. ⌜ ((j : ℕ) → from ≤ j → j < r → sided operator mirrored (M.whole (tupleAt (now (values .entry)) (placeAt (now (walks .entry)) walk j) attribute)) (ratioOf x) ≡ false) ⌝ }
 {
     let n = x.numerator;
     let d = x.denominator;
-    let mut at = row;
-    let mut j = 0;
+    let rows = walk.count;
+    let mut j = from;
     while j < rows {
+        let at = walks::place(walks, walk, j);
         let a = scaled(catalogue::value(values, at, attribute), d);
         if holds(operator, mirrored, a, n) {
             return j;
         }
-        at += w;
         j += 1;
     }
     j
 }
 
-// How many rows of a variable fail branch i before one that may meet it.
+// The first row of a variable, from one on, that may meet branch i.
 fn skip(
     t: &[u16],
     xs: &[i32],
     i: usize,
     variable: u8,
+    walks: &[u16],
+    walk: Walk,
     values: &[i32],
     memo: &[i64],
     env: &[usize],
-    row: usize,
-    w: usize,
-    rows: usize,
+    from: usize,
 ) -> usize
-    requires { ⌜ (256 ≤ length (now env)) × (i ≤ 65535) × (row + rows * w < 18446744073709551616) ⌝ }
-    ensures { λ r. ⌜ r ≤ rows ⌝ }
-    ensures { λ r. ⌜ ((q z cb : List ℕ) (j : ℕ) → j < r → branchHolds (now (t .entry)) (now (xs .entry)) q z cb (now (values .entry)) (now (memo .entry)) i (update (assigned (now (values .entry)) (now (env .entry))) variable (tupleAt (now (values .entry)) (row + j * w))) ≡ false) ⌝ }
+    requires { ⌜ (256 ≤ length (now env)) × (i ≤ 65535) × Fits walk × (from ≤ walk .count) ⌝ }
+    ensures { λ r. ⌜ (from ≤ r) × (r ≤ walk .count) ⌝ }
+    ensures { λ r. ⌜ ((q z ws : List ℕ) (j : ℕ) → from ≤ j → j < r → branchHolds (now (t .entry)) (now (xs .entry)) q z ws (now (values .entry)) (now (memo .entry)) i (update (assigned (now (values .entry)) (now (env .entry))) variable (tupleAt (now (values .entry)) (placeAt (now (walks .entry)) walk j))) ≡ false) ⌝ }
 {
     let p = 8 * i;
     let operator = kinds::size_at(t, p);
     if operator == 0 {
-        return 0;
+        return from;
     }
     let v = variable as usize;
     let a = kinds::size_at(t, p + 1);
     let b = kinds::size_at(t, p + 3);
     if a == v {
         if b == v {
-            return 0;
+            return from;
         }
         let x = branches::side(t, p + 3, xs, 2 * i + 1, values, memo, env);
         let c = kinds::size_at(t, p + 2);
-        return failing(values, row, w, rows, c, operator, false, x);
+        return failing(values, walks, walk, from, c, operator, false, x);
     }
     if b == v {
         let x = branches::side(t, p + 1, xs, 2 * i, values, memo, env);
         let c = kinds::size_at(t, p + 4);
-        return failing(values, row, w, rows, c, operator, true, x);
+        return failing(values, walks, walk, from, c, operator, true, x);
     }
-    0
+    from
 }
 
-// How many rows of a variable fail the first branch of a stage, and with it the stage, before one that may meet it.
+// The first row of a variable, from one on, that may meet a stage: those before it fail its first branch, and with it the stage.
 pub fn ahead(
     t: &[u16],
     xs: &[i32],
     stage: usize,
     variable: u8,
+    walks: &[u16],
+    walk: Walk,
     values: &[i32],
     memo: &[i64],
     env: &[usize],
-    row: usize,
-    w: usize,
-    rows: usize,
+    from: usize,
 ) -> usize
-    requires { ⌜ (256 ≤ length (now env)) × (row + rows * w < 18446744073709551616) ⌝ }
-    ensures { λ r. ⌜ r ≤ rows ⌝ }
-    ensures { λ r. ⌜ ((q z cb : List ℕ) (j : ℕ) → j < r → stageHolds (now (t .entry)) (now (xs .entry)) q z cb (now (values .entry)) (now (memo .entry)) stage (update (assigned (now (values .entry)) (now (env .entry))) variable (tupleAt (now (values .entry)) (row + j * w))) ≡ false) ⌝ }
+    requires { ⌜ (256 ≤ length (now env)) × Fits walk × (from ≤ walk .count) ⌝ }
+    ensures { λ r. ⌜ (from ≤ r) × (r ≤ walk .count) ⌝ }
+    ensures { λ r. ⌜ ((q z ws : List ℕ) (j : ℕ) → from ≤ j → j < r → stageHolds (now (t .entry)) (now (xs .entry)) q z ws (now (values .entry)) (now (memo .entry)) stage (update (assigned (now (values .entry)) (now (env .entry))) variable (tupleAt (now (values .entry)) (placeAt (now (walks .entry)) walk j))) ≡ false) ⌝ }
 {
     let i = kinds::size_at(t, stage);
     if i < 2 {
-        return 0;
+        return from;
     }
     if kinds::size_at(t, 8 * i + 6) != 1 {
-        return 0;
+        return from;
     }
-    skip(t, xs, i, variable, values, memo, env, row, w, rows)
+    skip(t, xs, i, variable, walks, walk, values, memo, env, from)
 }

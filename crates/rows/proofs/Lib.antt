@@ -1,2 +1,4 @@
 pub mod Compared
+pub mod Folded
 pub mod Laws
+pub mod Links

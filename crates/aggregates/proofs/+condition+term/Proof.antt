@@ -4,7 +4,8 @@ use lib.ListN.{length}
 use Rattle.sizes.specs.Decode.{decodeT}
 use Rattle.numbers.specs.Numbers.{represent}
 use Rattle.evaluator.specs.Recalled.{valueBy}
-use Rattle.evaluator.specs.Evaluation.{assigned, rowsIn, valueAt}
+use Rattle.walks.specs.Walks.{rowsBy}
+use Rattle.evaluator.specs.Evaluation.{assigned, valueAt}
 use Rattle.aggregates.proofs.Steps.{none-left, none-leftT, not-is, some-is, and-is, or-is, compare-is, no-aggregate, no-term, aggregate-is, term-is}
 use borrow.Author.Needs.{needs}
 use native.Mathlib.Omega.{arith}
@@ -59,7 +60,7 @@ condition-returns : (t : ℕ) → condition-lts.Need-returns (condition-claims t
 condition-returns t c =
     let c₅ = c .before .before .before .before .before in let args = c₅ .args in
     let vs = now (args .vs) in
-    (none-left (rowsIn (now (args .cb)) vs) (assigned vs (now (args .env))) (now (args .q)) (now (args .z)) (now (args .memo)) (args .level) (c .if1 .taken), search needs)
+    (none-left (rowsBy (now (args .walks)) vs) (assigned vs (now (args .env))) (now (args .q)) (now (args .z)) (now (args .memo)) (args .level) (c .if1 .taken), search needs)
 
 condition-sub-l : (t : ℕ) → condition-lts.Need-sub-l (condition-claims t) (condition-at t) condition.Post
 condition-sub-l t c = search needs
@@ -160,7 +161,7 @@ condition-returns-2 t c =
     let c₁₆ = c₁₅ .before in let if1 = c₁₆ .if1 in
     let c₂₁ = c₁₆ .before .before .before .before .before in let args = c₂₁ .args in
     let vs = now (args .vs) in
-    (not-is (rowsIn (now (args .cb)) vs) (assigned vs (now (args .env))) (now (args .q)) (now (args .z)) (now (args .memo)) (args .level) _ _ _ (if1 .left) (byte .ensures) (record-length .ensures .0) (read .ensures) _ _ (tail .ensures) (tail-sizes .ensures) _ (enum-told .given .1) (condition .ensures .0), condition .ensures .1)
+    (not-is (rowsBy (now (args .walks)) vs) (assigned vs (now (args .env))) (now (args .q)) (now (args .z)) (now (args .memo)) (args .level) _ _ _ (if1 .left) (byte .ensures) (record-length .ensures .0) (read .ensures) _ _ (tail .ensures) (tail-sizes .ensures) _ (enum-told .given .1) (condition .ensures .0), condition .ensures .1)
 
 condition-same-length-3 : (t : ℕ) → condition-lts.Need-same-length-3 (condition-claims t) (condition-at t) condition.Post
 condition-same-length-3 t c = search needs
@@ -184,7 +185,7 @@ condition-returns-3 t c =
     let c₂₂ = c₂₁ .before in let if1 = c₂₂ .if1 in
     let c₂₇ = c₂₂ .before .before .before .before .before in let args = c₂₇ .args in
     let vs = now (args .vs) in
-    (and-is (rowsIn (now (args .cb)) vs) (assigned vs (now (args .env))) (now (args .q)) (now (args .z)) (now (args .memo)) (args .level) _ _ _ (if1 .left) (byte .ensures) (record-length .ensures .0) (read .ensures) _ _ (tail .ensures) (tail-sizes .ensures) _ _ _ _ (size-at .ensures .0) refl (tail2 .ensures) (tail-sizes2 .ensures) _ _ _ (ap (assigned vs) (condition2 .ensures .1)) (condition2 .ensures .0) (condition3 .ensures .0) (enum-told2 .given .1), condition3 .ensures .1 ∙ condition2 .ensures .1)
+    (and-is (rowsBy (now (args .walks)) vs) (assigned vs (now (args .env))) (now (args .q)) (now (args .z)) (now (args .memo)) (args .level) _ _ _ (if1 .left) (byte .ensures) (record-length .ensures .0) (read .ensures) _ _ (tail .ensures) (tail-sizes .ensures) _ _ _ _ (size-at .ensures .0) refl (tail2 .ensures) (tail-sizes2 .ensures) _ _ _ (ap (assigned vs) (condition2 .ensures .1)) (condition2 .ensures .0) (condition3 .ensures .0) (enum-told2 .given .1), condition3 .ensures .1 ∙ condition2 .ensures .1)
 
 condition-same-length-5 : (t : ℕ) → condition-lts.Need-same-length-5 (condition-claims t) (condition-at t) condition.Post
 condition-same-length-5 t c = search needs
@@ -208,7 +209,7 @@ condition-returns-4 t c =
     let c₂₂ = c₂₁ .before in let if1 = c₂₂ .if1 in
     let c₂₇ = c₂₂ .before .before .before .before .before in let args = c₂₇ .args in
     let vs = now (args .vs) in
-    (or-is (rowsIn (now (args .cb)) vs) (assigned vs (now (args .env))) (now (args .q)) (now (args .z)) (now (args .memo)) (args .level) _ _ _ (if1 .left) (byte .ensures) (record-length .ensures .0) (read .ensures) _ _ (tail .ensures) (tail-sizes .ensures) _ _ _ _ (size-at .ensures .0) refl (tail2 .ensures) (tail-sizes2 .ensures) _ _ _ (ap (assigned vs) (condition4 .ensures .1)) (condition4 .ensures .0) (condition5 .ensures .0) (enum-told3 .given .1), condition5 .ensures .1 ∙ condition4 .ensures .1)
+    (or-is (rowsBy (now (args .walks)) vs) (assigned vs (now (args .env))) (now (args .q)) (now (args .z)) (now (args .memo)) (args .level) _ _ _ (if1 .left) (byte .ensures) (record-length .ensures .0) (read .ensures) _ _ (tail .ensures) (tail-sizes .ensures) _ _ _ _ (size-at .ensures .0) refl (tail2 .ensures) (tail-sizes2 .ensures) _ _ _ (ap (assigned vs) (condition4 .ensures .1)) (condition4 .ensures .0) (condition5 .ensures .0) (enum-told3 .given .1), condition5 .ensures .1 ∙ condition4 .ensures .1)
 
 condition-same-length-7 : (t : ℕ) → condition-lts.Need-same-length-7 (condition-claims t) (condition-at t) condition.Post
 condition-same-length-7 t c = search needs
@@ -232,7 +233,7 @@ condition-returns-5 t c =
     let c₂₂ = c₂₁ .before in let if1 = c₂₂ .if1 in
     let c₂₇ = c₂₂ .before .before .before .before .before in let args = c₂₇ .args in
     let vs = now (args .vs) in
-    (compare-is (rowsIn (now (args .cb)) vs) (assigned vs (now (args .env))) (now (args .q)) (now (args .z)) (now (args .memo)) (args .level) _ _ _ (if1 .left) (byte .ensures) (record-length .ensures .0) (read .ensures) _ _ (tail .ensures) (tail-sizes .ensures) _ _ _ _ (size-at .ensures .0) refl (tail2 .ensures) (tail-sizes2 .ensures) _ _ _ (ap (assigned vs) (term .ensures .1)) _ (enum-told4 .given .1) (term .ensures .0) (term2 .ensures .0), term2 .ensures .1 ∙ term .ensures .1)
+    (compare-is (rowsBy (now (args .walks)) vs) (assigned vs (now (args .env))) (now (args .q)) (now (args .z)) (now (args .memo)) (args .level) _ _ _ (if1 .left) (byte .ensures) (record-length .ensures .0) (read .ensures) _ _ (tail .ensures) (tail-sizes .ensures) _ _ _ _ (size-at .ensures .0) refl (tail2 .ensures) (tail-sizes2 .ensures) _ _ _ (ap (assigned vs) (term .ensures .1)) _ (enum-told4 .given .1) (term .ensures .0) (term2 .ensures .0), term2 .ensures .1 ∙ term .ensures .1)
 
 condition-same-length-9 : (t : ℕ) → condition-lts.Need-same-length-9 (condition-claims t) (condition-at t) condition.Post
 condition-same-length-9 t c = search needs
@@ -252,20 +253,20 @@ condition-returns-6 t c =
     let c₁₆ = c₁₅ .before in let if1 = c₁₆ .if1 in
     let c₂₁ = c₁₆ .before .before .before .before .before in let args = c₂₁ .args in
     let vs = now (args .vs) in
-    (some-is (rowsIn (now (args .cb)) vs) (assigned vs (now (args .env))) (now (args .q)) (now (args .z)) (now (args .memo)) (args .level) _ _ _ (if1 .left) (byte .ensures) (record-length .ensures .0) (read .ensures) _ _ (tail .ensures) (tail-sizes .ensures) _ _ _ (enum-told5 .given .1) (condition6 .ensures .0), condition6 .ensures .1)
+    (some-is (rowsBy (now (args .walks)) vs) (assigned vs (now (args .env))) (now (args .q)) (now (args .z)) (now (args .memo)) (args .level) _ _ _ (if1 .left) (byte .ensures) (record-length .ensures .0) (read .ensures) _ _ (tail .ensures) (tail-sizes .ensures) _ _ _ (enum-told5 .given .1) (condition6 .ensures .0), condition6 .ensures .1)
 
 condition-returns-7 : (t : ℕ) → condition-lts.Need-returns-7 (condition-claims t) (condition-at t) condition.Post
 condition-returns-7 t c =
     let c₉ = c .before .before .before .before .before .before .before .before .before in let if1 = c₉ .if1 in
     let c₁₄ = c₉ .before .before .before .before .before in let args = c₁₄ .args in
     let vs = now (args .vs) in
-    (no-aggregate (rowsIn (now (args .cb)) vs) (assigned vs (now (args .env))) (now (args .q)) (now (args .z)) (now (args .memo)) (args .level) _ (if1 .left) (c .before .read .ensures) (c .match .keys6), search needs)
+    (no-aggregate (rowsBy (now (args .walks)) vs) (assigned vs (now (args .env))) (now (args .q)) (now (args .z)) (now (args .memo)) (args .level) _ (if1 .left) (c .before .read .ensures) (c .match .keys6), search needs)
 
 term-returns : (t : ℕ) → term-lts.Need-returns (term-claims t) (term-at t) term.Post
 term-returns t c =
     let c₅ = c .before .before .before .before .before in let args = c₅ .args in
     let vs = now (args .vs) in
-    (none-leftT (rowsIn (now (args .cb)) vs) (assigned vs (now (args .env))) (now (args .q)) (now (args .z)) (now (args .memo)) (args .level) (c .if1 .taken), search needs)
+    (none-leftT (rowsBy (now (args .walks)) vs) (assigned vs (now (args .env))) (now (args .q)) (now (args .z)) (now (args .memo)) (args .level) (c .if1 .taken), search needs)
 
 term-read-requires : (t : ℕ) → term-lts.Need-read-requires (term-claims t) (term-at t) term.Post
 term-read-requires t c κs = search needs
@@ -277,7 +278,7 @@ term-returns-2 : (t : ℕ) → term-lts.Need-returns-2 (term-claims t) (term-at 
 term-returns-2 t c =
     let c₇ = c .before .before .before .before .before .before .before in let args = c₇ .args in
     let vs = now (args .vs) in
-    (no-term (rowsIn (now (args .cb)) vs) (assigned vs (now (args .env))) (now (args .q)) (now (args .z)) (now (args .memo)) (args .level) _ (c .before .before .if1 .left) (c .before .read .ensures) (c .match .keys2), search needs)
+    (no-term (rowsBy (now (args .walks)) vs) (assigned vs (now (args .env))) (now (args .q)) (now (args .z)) (now (args .memo)) (args .level) _ (c .before .before .if1 .left) (c .before .read .ensures) (c .match .keys2), search needs)
 
 term-byte-requires : (t : ℕ) → term-lts.Need-byte-requires (term-claims t) (term-at t) term.Post
 term-byte-requires t c κs = search needs
@@ -321,8 +322,8 @@ term-returns-3 t c =
     let c₂₁ = c₁₉ .before .before in let read = c₂₁ .read in
     let c₂₂ = c₂₁ .before in let if1 = c₂₂ .if1 in
     let c₂₇ = c₂₂ .before .before .before .before .before in let args = c₂₇ .args in
-    let cb = now (args .cb) in let env = now (args .env) in let q = now (args .q) in let vs = now (args .vs) in let z = now (args .z) in let level = args .level in
-    (aggregate-is (rowsIn cb vs) (assigned vs env) q z (now (args .memo)) level _ _ _ (if1 .left) (byte .ensures) (record-length .ensures .0) (read .ensures) _ _ (tail .ensures) (tail-sizes .ensures) _ _ _ _ _ _ _ (variable .given .1) (condition .ensures .0) (term-is level q z cb vs _ env _ _ (condition .ensures .1) (value .ensures .0)) (c .before .remember .ensures), value .ensures .1 .1 ∙ condition .ensures .1)
+    let ws = now (args .walks) in let env = now (args .env) in let q = now (args .q) in let vs = now (args .vs) in let z = now (args .z) in let level = args .level in
+    (aggregate-is (rowsBy ws vs) (assigned vs env) q z (now (args .memo)) level _ _ _ (if1 .left) (byte .ensures) (record-length .ensures .0) (read .ensures) _ _ (tail .ensures) (tail-sizes .ensures) _ _ _ _ _ _ _ (variable .given .1) (condition .ensures .0) (term-is level q z ws vs _ env _ _ (condition .ensures .1) (value .ensures .0)) (c .before .remember .ensures), value .ensures .1 .1 ∙ condition .ensures .1)
 
 pub +condition+term-spec : {M : Type 1} → statement M
 +condition+term-spec = close μ-condition μ-term (λ t. condition-lts.spec (condition-claims t)

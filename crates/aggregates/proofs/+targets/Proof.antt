@@ -3,7 +3,8 @@ use native.Mathlib.Omega.{arith}
 use mathlib.Core.Path.{_≡_, refl, sym, ap, _∙_}
 use denote.Ref.{now}
 use lib.ListN.{length}
-use Rattle.evaluator.specs.Evaluation.{assigned, rowsIn}
+use Rattle.walks.specs.Walks.{rowsBy}
+use Rattle.evaluator.specs.Evaluation.{assigned}
 use Rattle.aggregates.proofs.Steps.{targets-none, targets-more}
 use Prim.Native.Nat.{ℕ, _<_}
 use borrow.Fn.Kinds.{In}
@@ -34,7 +35,7 @@ targets-returns : (t : ℕ) → targets-lts.Need-returns (targets-claims t) (tar
 targets-returns t c =
     let c₅ = c .before .before .before .before .before in let args = c₅ .args in
     let vs = now (args .vs) in
-    (targets-none (rowsIn (now (args .cb)) vs) (assigned vs (now (args .env))) (now (args .q)) (now (args .z)) (now (args .memo)) (args .left) (args .level) (c .if1 .taken), search needs)
+    (targets-none (rowsBy (now (args .walks)) vs) (assigned vs (now (args .env))) (now (args .q)) (now (args .z)) (now (args .memo)) (args .left) (args .level) (c .if1 .taken), search needs)
 
 targets-term-requires : (t : ℕ) → targets-lts.Need-term-requires (targets-claims t) (targets-at t) targets.Post
 targets-term-requires t c κs = search needs
@@ -70,7 +71,7 @@ targets-returns-2 t c =
     let c₁₅ = c₁₂ .before .before .before in let if1 = c₁₅ .if1 in
     let c₂₀ = c₁₅ .before .before .before .before .before in let args = c₂₀ .args in
     let vs = now (args .vs) in
-    (targets-more (rowsIn (now (args .cb)) vs) (assigned vs (now (args .env))) (now (args .q)) (now (args .z)) (now (args .memo)) (args .left) (args .level) _ _ _ _ _ _ (if1 .left) (term .ensures .0) (size-at .ensures .0) (tail .ensures) (tail-sizes .ensures) (ap (assigned vs) (term .ensures .1)) (targets .ensures .0), targets .ensures .1 ∙ term .ensures .1)
+    (targets-more (rowsBy (now (args .walks)) vs) (assigned vs (now (args .env))) (now (args .q)) (now (args .z)) (now (args .memo)) (args .left) (args .level) _ _ _ _ _ _ (if1 .left) (term .ensures .0) (size-at .ensures .0) (tail .ensures) (tail-sizes .ensures) (ap (assigned vs) (term .ensures .1)) (targets .ensures .0), targets .ensures .1 ∙ term .ensures .1)
 
 pub +targets-spec : {M : Type 1} → statement M
 +targets-spec = close μ-targets λ t. targets-lts.spec (targets-claims t)

@@ -21,7 +21,7 @@ returns : tie.Need-returns
 returns c =
     let c₃ = c .before .before .before in let holds = c₃ .holds in
     let c₁₀ = c₃ .before .before .before .before .before .before .before in let args = c₁₀ .args in
-    (both-no (now (args .t)) (now (args .xs)) (now (args .q)) (now (args .z)) (now (args .cb)) (now (args .vs)) (now (args .memo)) (now (args .env)) _ (holds .ensures .0) (c .if1 .taken), holds .ensures .1)
+    (both-no (now (args .t)) (now (args .xs)) (now (args .q)) (now (args .z)) (now (args .walks)) (now (args .vs)) (now (args .memo)) (now (args .env)) _ (holds .ensures .0) (c .if1 .taken), holds .ensures .1)
 
 -- src/lib.rt:43:5
 holds-requires-2 : tie.Need-holds-requires-2
@@ -38,7 +38,7 @@ returns-2 c =
     let c₄ = c₂ .before .before in let if1 = c₄ .if1 in
     let c₇ = c₄ .before .before .before in let holds = c₇ .holds in
     let c₁₄ = c₇ .before .before .before .before .before .before .before in let args = c₁₄ .args in
-    (both-yes (now (args .t)) (now (args .xs)) (now (args .q)) (now (args .z)) (now (args .cb)) (now (args .vs)) (now (args .memo)) (now (args .env)) _ _ _ (holds .ensures .0) (if1 .left) (holds .ensures .1) (holds2 .ensures .0), holds2 .ensures .1 ∙ holds .ensures .1)
+    (both-yes (now (args .t)) (now (args .xs)) (now (args .q)) (now (args .z)) (now (args .walks)) (now (args .vs)) (now (args .memo)) (now (args .env)) _ _ _ (holds .ensures .0) (if1 .left) (holds .ensures .1) (holds2 .ensures .0), holds2 .ensures .1 ∙ holds .ensures .1)
 
 pub both-spec : {M : Type 1} → statement M
 both-spec =

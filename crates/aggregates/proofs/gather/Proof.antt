@@ -48,7 +48,7 @@ returns c =
     let c₈ = c₂ .before .before .before .before .before .before in let plan = c₈ .plan in
     let c₁₅ = c₈ .before .before .before .before .before .before .before in let args = c₁₅ .args in
     let vs = now (args .vs) in
-    (taken-planned _ _ (now (args .q)) (now (args .z)) (now (args .cb)) vs (now (args .memo)) (args .level) (now (args .env)) (args .variable) (args .relation) (args .attribute) _ (plan .ensures vs) (take .ensures .0), (take .ensures .1 .0, take .ensures .1 .1))
+    (taken-planned _ _ (now (args .q)) (now (args .z)) (now (args .walks)) vs (now (args .memo)) (args .level) (now (args .env)) (args .variable) (args .attribute) _ (plan .ensures (now (args .walks)) vs) (take .ensures .0), (take .ensures .1 .0, take .ensures .1 .1))
 
 pub gather-spec : {M : Type 1} → statement M
 gather-spec =

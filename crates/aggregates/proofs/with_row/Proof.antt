@@ -25,7 +25,7 @@ returns : tie.Need-returns
 returns c =
     let c₃ = c .before .before .before in let both = c₃ .both in
     let c₁₀ = c₃ .before .before .before .before .before .before .before in let args = c₁₀ .args in let pre = c₁₀ .pre in
-    (row-no (now (args .t)) (now (args .xs)) (now (args .q)) (now (args .z)) (now (args .cb)) (now (args .vs)) (now (args .memo)) (now (args .env)) _ (args .taken) (both .ensures .0) (c .if1 .taken) _, (pre .2, both .ensures .1))
+    (row-no (now (args .t)) (now (args .xs)) (now (args .q)) (now (args .z)) (now (args .walks)) (now (args .vs)) (now (args .memo)) (now (args .env)) _ (args .taken) (both .ensures .0) (c .if1 .taken) _, (pre .2, both .ensures .1))
 
 -- src/lib.rt:68:25
 cell-requires : tie.Need-cell-requires
@@ -45,7 +45,7 @@ returns-2 c =
     let c₁ = c .before in let cell = c₁ .cell in
     let c₅ = c₁ .before .before .before .before in let both = c₅ .both in
     let c₁₂ = c₅ .before .before .before .before .before .before .before in let args = c₁₂ .args in
-    (row-yes (now (args .t)) (now (args .xs)) (now (args .q)) (now (args .z)) (now (args .cb)) (now (args .vs)) (now (args .memo)) (now (args .env)) _ (args .taken) (both .ensures .0) _ _ _ (c .before .before .if1 .left) (toZ-ofZ {w = w32} (record { sfits = cell .ok }) ∙ cell .ensures) (c .add .ensures .0), (c .add .ensures .1, both .ensures .1))
+    (row-yes (now (args .t)) (now (args .xs)) (now (args .q)) (now (args .z)) (now (args .walks)) (now (args .vs)) (now (args .memo)) (now (args .env)) _ (args .taken) (both .ensures .0) _ _ _ (c .before .before .if1 .left) (toZ-ofZ {w = w32} (record { sfits = cell .ok }) ∙ cell .ensures) (c .add .ensures .0), (c .add .ensures .1, both .ensures .1))
 
 pub with-row-spec : {M : Type 1} → statement M
 with-row-spec =

@@ -45,7 +45,7 @@ returns c =
     let tail-sizes = c .before .before .before .before .tail-sizes in
     let condition = c .before .before .condition in
     let if1 = c .before .before .before .before .before .before .before .before .if1 in
-    (branch-condition (now (args .t)) (now (args .xs)) (now (args .q)) (now (args .z)) (now (args .catalogue)) (now (args .values)) (now (args .memo)) (now (args .env)) (args .i) (size-at .result) (size-at .ensures .0) _ _ _ _ _ (if1 .taken) (size-at2 .ensures .0) (size-at3 .ensures .0) (tail .ensures) (tail-sizes .ensures) (condition .ensures .0), condition .ensures .1)
+    (branch-condition (now (args .t)) (now (args .xs)) (now (args .q)) (now (args .z)) (now (args .walks)) (now (args .values)) (now (args .memo)) (now (args .env)) (args .i) (size-at .result) (size-at .ensures .0) _ _ _ _ _ (if1 .taken) (size-at2 .ensures .0) (size-at3 .ensures .0) (tail .ensures) (tail-sizes .ensures) (condition .ensures .0), condition .ensures .1)
 
 add-side : tie.Need-add-side
 add-side c = search needs
@@ -81,7 +81,7 @@ returns-2 c =
     let side = c .before .before .before .side in
     let side2 = c .before .side2 in
     let if1 = c .before .before .before .before .before .if1 in
-    (branch-compared (now (args .t)) (now (args .xs)) (now (args .q)) (now (args .z)) (now (args .catalogue)) (now (args .values)) (now (args .memo)) (now (args .env)) (args .i) (size-at .result) (size-at .ensures .0) (side .result) (side2 .result) _ (if1 .left) (side .ensures .0) (side2 .ensures .0) (c .compared .ensures), refl)
+    (branch-compared (now (args .t)) (now (args .xs)) (now (args .q)) (now (args .z)) (now (args .walks)) (now (args .values)) (now (args .memo)) (now (args .env)) (args .i) (size-at .result) (size-at .ensures .0) (side .result) (side2 .result) _ (if1 .left) (side .ensures .0) (side2 .ensures .0) (c .compared .ensures), refl)
 
 pub branch-spec : {M : Type 1} → statement M
 branch-spec =

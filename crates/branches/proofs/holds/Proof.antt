@@ -11,10 +11,10 @@ use Rattle.branches.proofs.holds.Statement.{statement}
 use Rattle.branches.proofs.holds.Tie as tie
 
 abbrev Inv-loop : tie.InvT-loop
-Inv-loop t xs i q z catalogue values memo env₀ at₀ env at = (runs t xs q z catalogue values memo at (assigned values env₀) ≡ runs t xs q z catalogue values memo i (assigned values env₀)) × (env ≡ env₀) × (at ≤ 65535) × (length env ≡ length env₀)
+Inv-loop t xs i q z ws values memo env₀ at₀ env at = (runs t xs q z ws values memo at (assigned values env₀) ≡ runs t xs q z ws values memo i (assigned values env₀)) × (env ≡ env₀) × (at ≤ 65535) × (length env ≡ length env₀)
 
 abbrev μ-loop : tie.MeasureT-loop
-μ-loop t xs i q z catalogue values memo env₀ at₀ env at = at
+μ-loop t xs i q z ws values memo env₀ at₀ env at = at
 
 loop-holds : tie.Need-loop-holds Inv-loop μ-loop
 loop-holds c =
@@ -34,7 +34,7 @@ returns c =
     let loop = c .before .before .before .before .before .before .loop in
     let loop-test = c .before .before .before .before .before .loop-test in
     let next = c .before .before .before .next in
-    (follow-stuck (now (args .t)) (now (args .xs)) (now (args .q)) (now (args .z)) (now (args .catalogue)) (now (args .values)) (now (args .memo)) (now (args .env)) (loop .at) (args .i) (next .result) (loop .env) (loop .inv .1) (loop-test .taken) (next .ensures .0) (loop .inv .0) (c .if1 .taken), next .ensures .1 ∙ loop .inv .1)
+    (follow-stuck (now (args .t)) (now (args .xs)) (now (args .q)) (now (args .z)) (now (args .walks)) (now (args .values)) (now (args .memo)) (now (args .env)) (loop .at) (args .i) (next .result) (loop .env) (loop .inv .1) (loop-test .taken) (next .ensures .0) (loop .inv .0) (c .if1 .taken), next .ensures .1 ∙ loop .inv .1)
 
 loop-less : tie.Need-loop-less Inv-loop μ-loop
 loop-less c = search needs
@@ -45,7 +45,7 @@ loop-again c =
     let loop = c .before .before .before .before .before .before .loop in
     let loop-test = c .before .before .before .before .before .loop-test in
     let next = c .before .before .before .next in
-    (follow-on (now (args .t)) (now (args .xs)) (now (args .q)) (now (args .z)) (now (args .catalogue)) (now (args .values)) (now (args .memo)) (now (args .env)) (loop .at) (args .i) (next .result) (loop .env) (loop .inv .1) (loop-test .taken) (next .ensures .0) (loop .inv .0) (c .if1 .left), next .ensures .1 ∙ loop .inv .1, omega (arith, c .if1 .left, loop .inv .2), ap length (next .ensures .1 ∙ loop .inv .1))
+    (follow-on (now (args .t)) (now (args .xs)) (now (args .q)) (now (args .z)) (now (args .walks)) (now (args .values)) (now (args .memo)) (now (args .env)) (loop .at) (args .i) (next .result) (loop .env) (loop .inv .1) (loop-test .taken) (next .ensures .0) (loop .inv .0) (c .if1 .left), next .ensures .1 ∙ loop .inv .1, omega (arith, c .if1 .left, loop .inv .2), ap length (next .ensures .1 ∙ loop .inv .1))
 
 same-length-2 : tie.Need-same-length-2 Inv-loop μ-loop
 same-length-2 c = search needs
@@ -54,7 +54,7 @@ returns-2 : tie.Need-returns-2 Inv-loop μ-loop
 returns-2 c =
     let args = c .before .before .before .before .before .before .before .args in
     let loop = c .before .loop in
-    (follow-end (now (args .t)) (now (args .xs)) (now (args .q)) (now (args .z)) (now (args .catalogue)) (now (args .values)) (now (args .memo)) (now (args .env)) (loop .at) (args .i) (c .loop-test .left) (loop .inv .0), loop .inv .1)
+    (follow-end (now (args .t)) (now (args .xs)) (now (args .q)) (now (args .z)) (now (args .walks)) (now (args .values)) (now (args .memo)) (now (args .env)) (loop .at) (args .i) (c .loop-test .left) (loop .inv .0), loop .inv .1)
 
 pub holds-spec : {M : Type 1} → statement M
 holds-spec =

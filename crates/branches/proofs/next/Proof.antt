@@ -24,7 +24,7 @@ returns c =
     let args = c .before .before .before .before .before .before .before .before .before .before .before .args in
     let branch = c .before .before .before .before .branch in
     let if1 = c .before .if1 in
-    (leads-met (now (args .t)) (now (args .xs)) (now (args .q)) (now (args .z)) (now (args .catalogue)) (now (args .values)) (now (args .memo)) (now (args .env)) (args .i) (branch .result) (c .size-at .result) (branch .ensures .0) (if1 .taken) (c .size-at .ensures .0), branch .ensures .1)
+    (leads-met (now (args .t)) (now (args .xs)) (now (args .q)) (now (args .z)) (now (args .walks)) (now (args .values)) (now (args .memo)) (now (args .env)) (args .i) (branch .result) (c .size-at .result) (branch .ensures .0) (if1 .taken) (c .size-at .ensures .0), branch .ensures .1)
 
 mul-size-at-2 : tie.Need-mul-size-at-2
 mul-size-at-2 c = search needs
@@ -43,7 +43,7 @@ returns-2 c =
     let args = c .before .before .before .before .before .before .before .before .before .before .before .args in
     let branch = c .before .before .before .before .branch in
     let if1 = c .before .if1 in
-    (leads-unmet (now (args .t)) (now (args .xs)) (now (args .q)) (now (args .z)) (now (args .catalogue)) (now (args .values)) (now (args .memo)) (now (args .env)) (args .i) (branch .result) (c .size-at2 .result) (branch .ensures .0) (if1 .left) (c .size-at2 .ensures .0), branch .ensures .1)
+    (leads-unmet (now (args .t)) (now (args .xs)) (now (args .q)) (now (args .z)) (now (args .walks)) (now (args .values)) (now (args .memo)) (now (args .env)) (args .i) (branch .result) (c .size-at2 .result) (branch .ensures .0) (if1 .left) (c .size-at2 .ensures .0), branch .ensures .1)
 
 pub next-spec : {M : Type 1} → statement M
 next-spec =

@@ -90,8 +90,8 @@ split-returns-2 t c =
     let c₁₂ = c₉ .before .before .before in let if1 = c₁₂ .if1 in
     let c₁₄ = c₁₂ .before .before in let parts-at = c₁₄ .parts-at in
     let c₁₉ = c₁₄ .before .before .before .before .before in let args = c₁₉ .args in
-    let cb = now (args .cb) in let memo = now (args .memo) in let q = now (args .q) in let xs = now (args .xs) in let z = now (args .z) in let level = args .level in let ranges = args .ranges in
-    ((omega (arith, split .ensures .0 .0, split2 .ensures .0 .0), split2 .ensures .0 .1), subst (λ (d : Condition). Joined (split2 .result) (now (args .t)) (split2 .last .1 .1 .1 .1 .1 .1 .1 .1 .0) xs (split2 .last .1 .1 .1 .1 .1 .1 .1 .1 .1 .0) q z cb memo d (rangesAt ranges q)) (sym (and-whole (parts-at .result) ((args .end) - (args .k)) level (args .place) q z (parts-at .ensures) (if1 .left))) (joined-both (split .result) (split2 .result) (now (args .t)) (split .last .1 .1 .1 .1 .1 .1 .1 .1 .0) (split2 .last .1 .1 .1 .1 .1 .1 .1 .1 .0) xs (split .last .1 .1 .1 .1 .1 .1 .1 .1 .1 .0) (split2 .last .1 .1 .1 .1 .1 .1 .1 .1 .1 .0) q z cb memo (decode (level - 1) (drop (parts-at .result .first) q) (drop (parts-at .result .first) z)) (decode (level - 1) (drop (parts-at .result .second) q) (drop (parts-at .result .second) z)) (rangesAt ranges q) (split .ensures .1) (split2 .ensures .1)))
+    let memo = now (args .memo) in let q = now (args .q) in let xs = now (args .xs) in let z = now (args .z) in let level = args .level in let ranges = args .ranges in
+    ((omega (arith, split .ensures .0 .0, split2 .ensures .0 .0), split2 .ensures .0 .1), subst (λ (d : Condition). Joined (split2 .result) (now (args .t)) (split2 .last .1 .1 .1 .1 .1 .1 .1 .1 .0) xs (split2 .last .1 .1 .1 .1 .1 .1 .1 .1 .1 .0) q z memo d (rangesAt ranges q)) (sym (and-whole (parts-at .result) ((args .end) - (args .k)) level (args .place) q z (parts-at .ensures) (if1 .left))) (joined-both (split .result) (split2 .result) (now (args .t)) (split .last .1 .1 .1 .1 .1 .1 .1 .1 .0) (split2 .last .1 .1 .1 .1 .1 .1 .1 .1 .0) xs (split .last .1 .1 .1 .1 .1 .1 .1 .1 .1 .0) (split2 .last .1 .1 .1 .1 .1 .1 .1 .1 .1 .0) q z memo (decode (level - 1) (drop (parts-at .result .first) q) (drop (parts-at .result .first) z)) (decode (level - 1) (drop (parts-at .result .second) q) (drop (parts-at .result .second) z)) (rangesAt ranges q) (split .ensures .1) (split2 .ensures .1)))
 
 pub +split-spec : {M : Type 1} → statement M
 +split-spec = close μ-split λ t. split-lts.spec (split-claims t)

@@ -25,7 +25,7 @@ returns c =
     let c₄ = c₂ .before .before in let size-at = c₄ .size-at in
     let c₁₀ = c₄ .before .before .before .before .before .before in let args = c₁₀ .args in
     let values = now (args .values) in
-    (holds .ensures .0 ∙ from-start (now (args .t)) (now (args .xs)) (now (args .q)) (now (args .z)) (now (args .catalogue)) values (now (args .memo)) (size-at .result) (args .stage) (assigned values (now (args .env))) (size-at .ensures .0), holds .ensures .1)
+    (holds .ensures .0 ∙ from-start (now (args .t)) (now (args .xs)) (now (args .q)) (now (args .z)) (now (args .walks)) values (now (args .memo)) (size-at .result) (args .stage) (assigned values (now (args .env))) (size-at .ensures .0), holds .ensures .1)
 
 pub holds-spec : {M : Type 1} → statement M
 holds-spec = tie.close (tie.spec size-at-requires holds-requires same-length returns)

@@ -27,7 +27,7 @@ returns c =
     let c₃ = c .before .before .before in let split = c₃ .split in
     let c₁₀ = c₃ .before .before .before .before .before .before .before in let args = c₁₀ .args in let pre = c₁₀ .pre in
     let q = now (args .q) in let z = now (args .z) in let condition = args .condition in
-    λ vs. planned (now (args .t)) (pre .5) (now (args .xs)) q z (now (args .catalogue)) vs (now (args .memo)) (split .result) (split .last .1 .1 .1 .1 .1 .1 .1 .1 .0) (split .last .1 .1 .1 .1 .1 .1 .1 .1 .1 .0) (decode (args .level) (drop condition q) (drop condition z)) (rangesAt (args .ranges) q) (split .ensures .1)
+    λ ws vs. planned (now (args .t)) (pre .5) (now (args .xs)) q z ws vs (now (args .memo)) (split .result) (split .last .1 .1 .1 .1 .1 .1 .1 .1 .0) (split .last .1 .1 .1 .1 .1 .1 .1 .1 .1 .0) (decode (args .level) (drop condition q) (drop condition z)) (rangesAt (args .ranges) q) (split .ensures .1)
 
 pub plan-spec : {M : Type 1} → statement M
 plan-spec = tie.close (tie.spec split-requires same-length same-length-2 returns)

@@ -1,3 +1,4 @@
+use lib.IntN.{pos}
 use borrow.Author.Needs.{needs}
 use native.Mathlib.Omega.{arith}
 use Prim.Native.Nat.{ℕ, _+_, _*_, _-_, _<_, _≤_}
@@ -11,10 +12,14 @@ use lib.ListN.{length, getD, set, length-set}
 use Rattle.model.specs.Lists.{any}
 use Rattle.numbers.specs.declared.Accumulator.{Accumulator}
 use Rattle.numbers.specs.Numbers.{represent, ratioOf, Small, Accumulates}
-use Rattle.catalogue.specs.Layout.{tupleAt, tuplesIn, offsets, kept}
+use Rattle.catalogue.specs.Layout.{tupleAt}
+use Rattle.walks.specs.Walks.{placeAt, places, walked, kept}
 use Rattle.evaluator.specs.Evaluation.{holdsAt, valueAt, holdsOn, valuesOn}
-use Rattle.evaluator.proofs.Steps.{holds-zero, value-zero, true-is, not-is, and-no, and-yes, or-yes, or-no, compare-is, some-is, aggregate-is, known-is, constant-is, attribute-is, no-condition, no-term, places-start, places-back, places-length, on-row, search-start, search-found, search-next, search-none, taken-all, next-row, row-fits, taken-start, taken-few, taken-hit, taken-miss}
+use Rattle.evaluator.proofs.Steps.{holds-zero, value-zero, true-is, not-is, and-no, and-yes, or-yes, or-no, compare-is, some-is, aggregate-is, known-is, constant-is, attribute-is, no-condition, no-term, places-start, places-back, places-length, on-row, search-start, search-found, search-next, search-none, taken-all, taken-start, taken-few, taken-hit, taken-miss}
 use Rattle.numbers.proofs.Laws.{ends}
+use Rattle.catalogue.proofs.attributes.Reads as attributes-reads
+use Rattle.catalogue.proofs.base.Reads as base-reads
+use Rattle.catalogue.proofs.rows.Reads as rows-reads
 use Prim.Native.Nat.{ℕ, _<_}
 use borrow.Fn.Kinds.{In}
 use borrow.Fn.PlainCycle.{Measures, is, falls, and}
@@ -30,10 +35,7 @@ use Rattle.evaluator.proofs.+condition+gather+some_row+term.Lts-some_ro
 use Rattle.evaluator.proofs.term.Reads as term
 use Rattle.evaluator.proofs.term.Kinds as term-kinds
 use Rattle.evaluator.proofs.+condition+gather+some_row+term.Lts-term as term-lts
-use Rattle.catalogue.proofs.attributes.Reads as attributes-reads
-use Rattle.catalogue.proofs.base.Reads as base-reads
 use Rattle.catalogue.proofs.cell.Reads as cell-reads
-use Rattle.catalogue.proofs.rows.Reads as rows-reads
 use Rattle.evaluator.proofs.place.Reads as place-reads
 use Rattle.evaluator.proofs.set_place.Reads as set-place-reads
 use Rattle.kinds.proofs.byte.Reads as byte-reads
@@ -50,6 +52,8 @@ use Rattle.numbers.proofs.finish.Reads as finish-reads
 use Rattle.numbers.proofs.knows.Reads as knows-reads
 use Rattle.numbers.proofs.recall.Reads as recall-reads
 use Rattle.numbers.proofs.whole.Reads as whole-reads
+use Rattle.walks.proofs.place.Reads as place-reads′
+use Rattle.walks.proofs.walk_of.Reads as walk-of-reads
 use Rattle.evaluator.proofs.+condition+gather+some_row+term.{statement}
 use Rattle.evaluator.proofs.+condition+gather+some_row+term.Tie.{close}
 
@@ -95,10 +99,10 @@ abbrev condition-claims : ℕ → condition-lts.Claims
 condition-claims t = (byte-reads.Asked, byte-reads.Learnt, record-length-reads.Asked, record-length-reads.Learnt, tail-reads.Asked, tail-reads.Learnt, tail-sizes-reads.Asked, tail-sizes-reads.Learnt, read-reads.Asked, read-reads.Learnt, condition-below t, condition.Post, size-at-reads.Asked, size-at-reads.Learnt, term-below t, term.Post, compare-reads.Asked, compare-reads.Learnt, some-row-below t, some-row.Post)
 
 abbrev gather-claims : ℕ → gather-lts.Claims
-gather-claims t = (rows-reads.Asked, rows-reads.Learnt, attributes-reads.Asked, attributes-reads.Learnt, place-reads.Asked, place-reads.Learnt, empty-reads.Asked, empty-reads.Learnt, base-reads.Asked, base-reads.Learnt, set-place-reads.Asked, set-place-reads.Learnt, condition-below t, condition.Post, cell-reads.Asked, cell-reads.Learnt, add-reads.Asked, add-reads.Learnt)
+gather-claims t = (walk-of-reads.Asked, walk-of-reads.Learnt, place-reads.Asked, place-reads.Learnt, empty-reads.Asked, empty-reads.Learnt, place-reads′.Asked, place-reads′.Learnt, set-place-reads.Asked, set-place-reads.Learnt, condition-below t, condition.Post, cell-reads.Asked, cell-reads.Learnt, add-reads.Asked, add-reads.Learnt)
 
 abbrev some-row-claims : ℕ → some-row-lts.Claims
-some-row-claims t = (rows-reads.Asked, rows-reads.Learnt, attributes-reads.Asked, attributes-reads.Learnt, place-reads.Asked, place-reads.Learnt, base-reads.Asked, base-reads.Learnt, set-place-reads.Asked, set-place-reads.Learnt, condition-below t, condition.Post)
+some-row-claims t = (walk-of-reads.Asked, walk-of-reads.Learnt, place-reads.Asked, place-reads.Learnt, place-reads′.Asked, place-reads′.Learnt, set-place-reads.Asked, set-place-reads.Learnt, condition-below t, condition.Post)
 
 abbrev term-claims : ℕ → term-lts.Claims
 term-claims t = (whole-reads.Asked, whole-reads.Learnt, byte-reads.Asked, byte-reads.Learnt, record-length-reads.Asked, record-length-reads.Learnt, read-reads.Asked, read-reads.Learnt, constant-reads.Asked, constant-reads.Learnt, place-reads.Asked, place-reads.Learnt, cell-reads.Asked, cell-reads.Learnt, knows-reads.Asked, knows-reads.Learnt, recall-reads.Asked, recall-reads.Learnt, tail-reads.Asked, tail-reads.Learnt, tail-sizes-reads.Asked, tail-sizes-reads.Learnt, gather-below t, gather.Post, finish-reads.Asked, finish-reads.Learnt)
@@ -106,7 +110,7 @@ term-claims t = (whole-reads.Asked, whole-reads.Learnt, byte-reads.Asked, byte-r
 condition-returns : (t : ℕ) → condition-lts.Need-returns (condition-claims t) (condition-at t) condition.Post
 condition-returns t c =
     let c₅ = c .before .before .before .before .before in let args = c₅ .args in
-    (holds-zero (now (args .cb)) (now (args .vs)) (now (args .memo)) (now (args .env)) (now (args .q)) (now (args .z)) (args .level) (c .if1 .taken), search needs)
+    (holds-zero (now (args .walks)) (now (args .vs)) (now (args .memo)) (now (args .env)) (now (args .q)) (now (args .z)) (args .level) (c .if1 .taken), search needs)
 
 condition-sub-l : (t : ℕ) → condition-lts.Need-sub-l (condition-claims t) (condition-at t) condition.Post
 condition-sub-l t c = search needs
@@ -155,7 +159,7 @@ condition-returns-2 t c =
     let c₁₁ = c₁₀ .before in let byte = c₁₁ .byte in
     let c₁₂ = c₁₁ .before in let if1 = c₁₂ .if1 in
     let c₁₇ = c₁₂ .before .before .before .before .before in let args = c₁₇ .args in
-    (and-no (now (args .cb)) (now (args .vs)) (now (args .memo)) (now (args .env)) (now (args .q)) (now (args .z)) (args .level) _ _ _ (if1 .left) (byte .ensures) (record-length .ensures .0) (read .ensures) _ _ (tail .ensures) (tail-sizes .ensures) _ (enum-told3 .given .1) (condition2 .ensures .0) (c .if2 .taken), condition2 .ensures .1)
+    (and-no (now (args .walks)) (now (args .vs)) (now (args .memo)) (now (args .env)) (now (args .q)) (now (args .z)) (args .level) _ _ _ (if1 .left) (byte .ensures) (record-length .ensures .0) (read .ensures) _ _ (tail .ensures) (tail-sizes .ensures) _ (enum-told3 .given .1) (condition2 .ensures .0) (c .if2 .taken), condition2 .ensures .1)
 
 condition-size-at-requires : (t : ℕ) → condition-lts.Need-size-at-requires (condition-claims t) (condition-at t) condition.Post
 condition-size-at-requires t c κs = search needs
@@ -192,7 +196,7 @@ condition-returns-3 t c =
     let c₁₁ = c₁₀ .before in let byte = c₁₁ .byte in
     let c₁₂ = c₁₁ .before in let if1 = c₁₂ .if1 in
     let c₁₇ = c₁₂ .before .before .before .before .before in let args = c₁₇ .args in
-    (or-yes (now (args .cb)) (now (args .vs)) (now (args .memo)) (now (args .env)) (now (args .q)) (now (args .z)) (args .level) _ _ _ (if1 .left) (byte .ensures) (record-length .ensures .0) (read .ensures) _ _ (tail .ensures) (tail-sizes .ensures) _ (enum-told4 .given .1) (condition4 .ensures .0) (c .if3 .taken), condition4 .ensures .1)
+    (or-yes (now (args .walks)) (now (args .vs)) (now (args .memo)) (now (args .env)) (now (args .q)) (now (args .z)) (args .level) _ _ _ (if1 .left) (byte .ensures) (record-length .ensures .0) (read .ensures) _ _ (tail .ensures) (tail-sizes .ensures) _ (enum-told4 .given .1) (condition4 .ensures .0) (c .if3 .taken), condition4 .ensures .1)
 
 condition-size-at-requires-2 : (t : ℕ) → condition-lts.Need-size-at-requires-2 (condition-claims t) (condition-at t) condition.Post
 condition-size-at-requires-2 t c κs = search needs
@@ -249,7 +253,7 @@ condition-returns-4 t c =
     let c₆ = c₅ .before in let byte = c₆ .byte in
     let c₇ = c₆ .before in let if1 = c₇ .if1 in
     let c₁₂ = c₇ .before .before .before .before .before in let args = c₁₂ .args in
-    (true-is (now (args .cb)) (now (args .vs)) (now (args .memo)) (now (args .env)) (now (args .q)) (now (args .z)) (args .level) _ _ _ (if1 .left) (byte .ensures) (record-length .ensures .0) (c .before .before .read .ensures) (c .enum-told .given .1), search needs)
+    (true-is (now (args .walks)) (now (args .vs)) (now (args .memo)) (now (args .env)) (now (args .q)) (now (args .z)) (args .level) _ _ _ (if1 .left) (byte .ensures) (record-length .ensures .0) (c .before .before .read .ensures) (c .enum-told .given .1), search needs)
 
 condition-same-length-3 : (t : ℕ) → condition-lts.Need-same-length-3 (condition-claims t) (condition-at t) condition.Post
 condition-same-length-3 t c = search needs
@@ -265,7 +269,7 @@ condition-returns-5 t c =
     let c₁₀ = c₉ .before in let byte = c₁₀ .byte in
     let c₁₁ = c₁₀ .before in let if1 = c₁₁ .if1 in
     let c₁₆ = c₁₁ .before .before .before .before .before in let args = c₁₆ .args in
-    (not-is (now (args .cb)) (now (args .vs)) (now (args .memo)) (now (args .env)) (now (args .q)) (now (args .z)) (args .level) _ _ _ (if1 .left) (byte .ensures) (record-length .ensures .0) (read .ensures) _ _ (tail .ensures) (tail-sizes .ensures) _ (enum-told2 .given .1) (condition .ensures .0), condition .ensures .1)
+    (not-is (now (args .walks)) (now (args .vs)) (now (args .memo)) (now (args .env)) (now (args .q)) (now (args .z)) (args .level) _ _ _ (if1 .left) (byte .ensures) (record-length .ensures .0) (read .ensures) _ _ (tail .ensures) (tail-sizes .ensures) _ (enum-told2 .given .1) (condition .ensures .0), condition .ensures .1)
 
 condition-same-length-4 : (t : ℕ) → condition-lts.Need-same-length-4 (condition-claims t) (condition-at t) condition.Post
 condition-same-length-4 t c = search needs
@@ -286,7 +290,7 @@ condition-returns-6 t c =
     let c₁₈ = c₁₇ .before in let byte = c₁₈ .byte in
     let c₁₉ = c₁₈ .before in let if1 = c₁₉ .if1 in
     let c₂₄ = c₁₉ .before .before .before .before .before in let args = c₂₄ .args in
-    (and-yes (now (args .cb)) (now (args .vs)) (now (args .memo)) (now (args .env)) (now (args .q)) (now (args .z)) (args .level) _ _ _ (if1 .left) (byte .ensures) (record-length .ensures .0) (read .ensures) _ _ (tail .ensures) (tail-sizes .ensures) _ _ _ _ (size-at .ensures .0) refl (tail2 .ensures) (tail-sizes2 .ensures) _ _ _ (enum-told3 .given .1) (condition2 .ensures .0) (if2 .left) (condition2 .ensures .1) (condition3 .ensures .0), condition3 .ensures .1 ∙ condition2 .ensures .1)
+    (and-yes (now (args .walks)) (now (args .vs)) (now (args .memo)) (now (args .env)) (now (args .q)) (now (args .z)) (args .level) _ _ _ (if1 .left) (byte .ensures) (record-length .ensures .0) (read .ensures) _ _ (tail .ensures) (tail-sizes .ensures) _ _ _ _ (size-at .ensures .0) refl (tail2 .ensures) (tail-sizes2 .ensures) _ _ _ (enum-told3 .given .1) (condition2 .ensures .0) (if2 .left) (condition2 .ensures .1) (condition3 .ensures .0), condition3 .ensures .1 ∙ condition2 .ensures .1)
 
 condition-same-length-5 : (t : ℕ) → condition-lts.Need-same-length-5 (condition-claims t) (condition-at t) condition.Post
 condition-same-length-5 t c = search needs
@@ -307,7 +311,7 @@ condition-returns-7 t c =
     let c₁₈ = c₁₇ .before in let byte = c₁₈ .byte in
     let c₁₉ = c₁₈ .before in let if1 = c₁₉ .if1 in
     let c₂₄ = c₁₉ .before .before .before .before .before in let args = c₂₄ .args in
-    (or-no (now (args .cb)) (now (args .vs)) (now (args .memo)) (now (args .env)) (now (args .q)) (now (args .z)) (args .level) _ _ _ (if1 .left) (byte .ensures) (record-length .ensures .0) (read .ensures) _ _ (tail .ensures) (tail-sizes .ensures) _ _ _ _ (size-at2 .ensures .0) refl (tail3 .ensures) (tail-sizes3 .ensures) _ _ _ (enum-told4 .given .1) (condition4 .ensures .0) (if3 .left) (condition4 .ensures .1) (condition5 .ensures .0), condition5 .ensures .1 ∙ condition4 .ensures .1)
+    (or-no (now (args .walks)) (now (args .vs)) (now (args .memo)) (now (args .env)) (now (args .q)) (now (args .z)) (args .level) _ _ _ (if1 .left) (byte .ensures) (record-length .ensures .0) (read .ensures) _ _ (tail .ensures) (tail-sizes .ensures) _ _ _ _ (size-at2 .ensures .0) refl (tail3 .ensures) (tail-sizes3 .ensures) _ _ _ (enum-told4 .given .1) (condition4 .ensures .0) (if3 .left) (condition4 .ensures .1) (condition5 .ensures .0), condition5 .ensures .1 ∙ condition4 .ensures .1)
 
 condition-same-length-6 : (t : ℕ) → condition-lts.Need-same-length-6 (condition-claims t) (condition-at t) condition.Post
 condition-same-length-6 t c = search needs
@@ -327,7 +331,7 @@ condition-returns-8 t c =
     let c₁₉ = c₁₈ .before in let byte = c₁₉ .byte in
     let c₂₀ = c₁₉ .before in let if1 = c₂₀ .if1 in
     let c₂₅ = c₂₀ .before .before .before .before .before in let args = c₂₅ .args in
-    (compare-is (now (args .cb)) (now (args .vs)) (now (args .memo)) (now (args .env)) (now (args .q)) (now (args .z)) (args .level) _ _ _ (if1 .left) (byte .ensures) (record-length .ensures .0) (read .ensures) _ _ (tail .ensures) (tail-sizes .ensures) _ _ _ _ (size-at3 .ensures .0) refl (tail4 .ensures) (tail-sizes4 .ensures) _ _ _ _ _ (operator .given .1) (ap ratioOf (term .ensures .0)) (term .ensures .1 .1) (ap ratioOf (term2 .ensures .0)) (c .compare .ensures), term2 .ensures .1 .1 ∙ term .ensures .1 .1)
+    (compare-is (now (args .walks)) (now (args .vs)) (now (args .memo)) (now (args .env)) (now (args .q)) (now (args .z)) (args .level) _ _ _ (if1 .left) (byte .ensures) (record-length .ensures .0) (read .ensures) _ _ (tail .ensures) (tail-sizes .ensures) _ _ _ _ (size-at3 .ensures .0) refl (tail4 .ensures) (tail-sizes4 .ensures) _ _ _ _ _ (operator .given .1) (ap ratioOf (term .ensures .0)) (term .ensures .1 .1) (ap ratioOf (term2 .ensures .0)) (c .compare .ensures), term2 .ensures .1 .1 ∙ term .ensures .1 .1)
 
 condition-same-length-7 : (t : ℕ) → condition-lts.Need-same-length-7 (condition-claims t) (condition-at t) condition.Post
 condition-same-length-7 t c = search needs
@@ -343,28 +347,25 @@ condition-returns-9 t c =
     let c₁₁ = c₁₀ .before in let byte = c₁₁ .byte in
     let c₁₂ = c₁₁ .before in let if1 = c₁₂ .if1 in
     let c₁₇ = c₁₂ .before .before .before .before .before in let args = c₁₇ .args in
-    (some-is (now (args .cb)) (now (args .vs)) (now (args .memo)) (now (args .env)) (now (args .q)) (now (args .z)) (args .level) _ _ _ (if1 .left) (byte .ensures) (record-length .ensures .0) (read .ensures) _ _ (tail .ensures) (tail-sizes .ensures) _ _ _ (variable .given .1) (some-row .ensures .0), some-row .ensures .1)
+    (some-is (now (args .walks)) (now (args .vs)) (now (args .memo)) (now (args .env)) (now (args .q)) (now (args .z)) (args .level) _ _ _ (if1 .left) (byte .ensures) (record-length .ensures .0) (read .ensures) _ _ (tail .ensures) (tail-sizes .ensures) _ _ _ (variable .given .1) (some-row .ensures .0), some-row .ensures .1)
 
 condition-returns-10 : (t : ℕ) → condition-lts.Need-returns-10 (condition-claims t) (condition-at t) condition.Post
 condition-returns-10 t c =
     let c₆ = c .before .before .before .before .before .before in let if1 = c₆ .if1 in
     let c₁₁ = c₆ .before .before .before .before .before in let args = c₁₁ .args in
-    (no-condition (now (args .cb)) (now (args .vs)) (now (args .memo)) (now (args .env)) (now (args .q)) (now (args .z)) (args .level) _ (if1 .left) (c .before .read .ensures) (c .match .keys7), search needs)
+    (no-condition (now (args .walks)) (now (args .vs)) (now (args .memo)) (now (args .env)) (now (args .q)) (now (args .z)) (args .level) _ (if1 .left) (c .before .read .ensures) (c .match .keys7), search needs)
 
 abbrev gather-Inv-loop : gather-lts.InvT-loop
-gather-Inv-loop q z level catalogue values memo env₀ variable relation attribute n w old taken₀ row₀ i₀ env taken row i =
+gather-Inv-loop q z level ws vs memo env₀ variable attribute walk n old taken₀ i₀ env taken i =
     (set env variable old ≡ env₀)
-    × Accumulates taken (kept values (holdsOn level q z catalogue values memo env₀ variable) attribute row₀ w i)
-    × (row ≡ row₀ + i * w) × (i ≤ n) × (length env ≡ length env₀)
+    × Accumulates taken (kept vs (holdsOn level q z ws vs memo env₀ variable) attribute (placeAt ws walk) i)
+    × (i ≤ n) × (length env ≡ length env₀)
 
 abbrev gather-μ-loop : gather-lts.MeasureT-loop
-gather-μ-loop q z level catalogue values memo env₀ variable relation attribute n w old taken₀ row₀ i₀ env taken row i = n - i
+gather-μ-loop q z level ws vs memo env₀ variable attribute walk n old taken₀ i₀ env taken i = n - i
 
-gather-rows-requires : (t : ℕ) → gather-lts.Need-rows-requires (gather-claims t) (gather-at t) gather.Post gather-Inv-loop gather-μ-loop
-gather-rows-requires t c κs = search needs
-
-gather-attributes-requires : (t : ℕ) → gather-lts.Need-attributes-requires (gather-claims t) (gather-at t) gather.Post gather-Inv-loop gather-μ-loop
-gather-attributes-requires t c κs = search needs
+gather-walk-of-requires : (t : ℕ) → gather-lts.Need-walk-of-requires (gather-claims t) (gather-at t) gather.Post gather-Inv-loop gather-μ-loop
+gather-walk-of-requires t c κs = search needs
 
 gather-place-requires : (t : ℕ) → gather-lts.Need-place-requires (gather-claims t) (gather-at t) gather.Post gather-Inv-loop gather-μ-loop
 gather-place-requires t c κs = search needs
@@ -372,17 +373,16 @@ gather-place-requires t c κs = search needs
 gather-empty-requires : (t : ℕ) → gather-lts.Need-empty-requires (gather-claims t) (gather-at t) gather.Post gather-Inv-loop gather-μ-loop
 gather-empty-requires t c κs = search needs
 
-gather-base-requires : (t : ℕ) → gather-lts.Need-base-requires (gather-claims t) (gather-at t) gather.Post gather-Inv-loop gather-μ-loop
-gather-base-requires t c κs = search needs
-
 gather-loop-holds : (t : ℕ) → gather-lts.Need-loop-holds (gather-claims t) (gather-at t) gather.Post gather-Inv-loop gather-μ-loop
 gather-loop-holds t c =
-    let c₁ = c .before in let empty = c₁ .empty in
-    let c₂ = c₁ .before in let place = c₂ .place in
-    let c₄ = c₂ .before .before in let attributes = c₄ .attributes in
-    let c₁₀ = c₄ .before .before .before .before .before .before in let args = c₁₀ .args in
-    let env = now (args .env) in let vs = now (args .vs) in let variable = args .variable in
-    (places-start env variable (place .result) (place .ensures), taken-start vs (holdsOn (args .level) (now (args .q)) (now (args .z)) (now (args .cb)) vs (now (args .memo)) env variable) (args .attribute) (c .base .result) (attributes .result) (empty .result) (empty .ensures), omega arith, omega arith, refl)
+    let c₁ = c .before in let place = c₁ .place in
+    let c₃ = c₁ .before .before in let walk-of = c₃ .walk-of in
+    let c₈ = c₃ .before .before .before .before .before in let args = c₈ .args in
+    let env = now (args .env) in let vs = now (args .vs) in let walks = now (args .walks) in let variable = args .variable in
+    (places-start env variable (place .result) (place .ensures), taken-start (placeAt walks (walk-of .result)) vs (holdsOn (args .level) (now (args .q)) (now (args .z)) walks vs (now (args .memo)) env variable) (args .attribute) (c .empty .result) (c .empty .ensures), omega arith, refl)
+
+gather-place-requires-2 : (t : ℕ) → gather-lts.Need-place-requires-2 (gather-claims t) (gather-at t) gather.Post gather-Inv-loop gather-μ-loop
+gather-place-requires-2 t c κs = (c .before .before .before .before .before .walk-of .ensures .1, omega (arith, c .before .before .before .before .before .walk-of .ensures .1 .count, c .loop-test .taken))
 
 gather-set-place-requires : (t : ℕ) → gather-lts.Need-set-place-requires (gather-claims t) (gather-at t) gather.Post gather-Inv-loop gather-μ-loop
 gather-set-place-requires t c κs = search needs
@@ -395,24 +395,12 @@ gather-cell-requires t c κs = search needs
 
 gather-add-requires : (t : ℕ) → gather-lts.Need-add-requires (gather-claims t) (gather-at t) gather.Post gather-Inv-loop gather-μ-loop
 gather-add-requires t c κs =
-    let c₁₀ = c .before .before .before .before .before .before .before .before .before .before in let loop-test = c₁₀ .loop-test in
-    let c₁₁ = c₁₀ .before in let loop = c₁₁ .loop in
-    let c₁₂ = c₁₁ .before in let base = c₁₂ .base in
-    let c₁₆ = c₁₂ .before .before .before .before in let attributes = c₁₆ .attributes in
-    let c₁₇ = c₁₆ .before in let rows = c₁₇ .rows in
-    let c₂₂ = c₁₇ .before .before .before .before .before in let args = c₂₂ .args in
-    let vs = now (args .vs) in
-    (loop .inv .1 .bounded, omega (arith, taken-few vs (holdsOn (args .level) (now (args .q)) (now (args .z)) (now (args .cb)) vs (now (args .memo)) (now (args .env)) (args .variable)) (args .attribute) (base .result) (attributes .result) (loop .i) (loop .taken) (loop .inv .1) (loop .i) (omega arith), loop-test .taken, rows .ensures .1))
-
-gather-add-row : (t : ℕ) → gather-lts.Need-add-row (gather-claims t) (gather-at t) gather.Post gather-Inv-loop gather-μ-loop
-gather-add-row t c =
-    let c₉ = c .before .before .before .before .before .before .before .before .before in let loop-test = c₉ .loop-test in
-    let c₁₀ = c₉ .before in let loop = c₁₀ .loop in
-    let c₁₁ = c₁₀ .before in let base = c₁₁ .base in
-    let c₁₅ = c₁₁ .before .before .before .before in let attributes = c₁₅ .attributes in
-    let c₁₆ = c₁₅ .before in let rows = c₁₆ .rows in
-    let c₂₁ = c₁₆ .before .before .before .before .before in let good = c₂₁ .good in
-    omega (arith, row-fits _ _ _ _ _ _ (loop .inv .2) (base .ensures .1) (omega (arith, good)) (loop-test .taken) (rows .ensures .1) (attributes .ensures .1))
+    let c₁₁ = c .before .before .before .before .before .before .before .before .before .before .before in let loop-test = c₁₁ .loop-test in
+    let c₁₂ = c₁₁ .before in let loop = c₁₂ .loop in
+    let c₁₆ = c₁₂ .before .before .before .before in let walk-of = c₁₆ .walk-of in
+    let c₂₁ = c₁₆ .before .before .before .before .before in let args = c₂₁ .args in
+    let vs = now (args .vs) in let walks = now (args .walks) in
+    (loop .inv .1 .bounded, omega (arith, taken-few (placeAt walks (walk-of .result)) vs (holdsOn (args .level) (now (args .q)) (now (args .z)) walks vs (now (args .memo)) (now (args .env)) (args .variable)) (args .attribute) (loop .i) (loop .taken) (loop .inv .1) (loop .i) (omega arith), loop-test .taken, walk-of .ensures .1 .count))
 
 gather-add-i : (t : ℕ) → gather-lts.Need-add-i (gather-claims t) (gather-at t) gather.Post gather-Inv-loop gather-μ-loop
 gather-add-i t c = search needs
@@ -424,13 +412,14 @@ gather-loop-again : (t : ℕ) → gather-lts.Need-loop-again (gather-claims t) (
 gather-loop-again t c =
     let c₃ = c .before .before .before in let condition = c₃ .condition in
     let c₇ = c₃ .before .before .before .before in let set-place = c₇ .set-place in
-    let c₁₀ = c₇ .before .before .before in let loop = c₁₀ .loop in
-    let c₁₁ = c₁₀ .before in let base = c₁₁ .base in
+    let c₉ = c₇ .before .before in let place2 = c₉ .place2 in
+    let c₁₀ = c₉ .before in let loop-test = c₁₀ .loop-test in
+    let c₁₁ = c₁₀ .before in let loop = c₁₁ .loop in
     let c₁₃ = c₁₁ .before .before in let place = c₁₃ .place in
-    let c₁₅ = c₁₃ .before .before in let attributes = c₁₅ .attributes in
-    let c₂₁ = c₁₅ .before .before .before .before .before .before in let args = c₂₁ .args in let good = c₂₁ .good in let pre = c₂₁ .pre in
-    let cb = now (args .cb) in let env = now (args .env) in let memo = now (args .memo) in let q = now (args .q) in let vs = now (args .vs) in let z = now (args .z) in let attribute = args .attribute in let level = args .level in let variable = args .variable in
-    (places-back (loop .env) env _ variable (place .result) (loop .row) (loop .inv .0) (set-place .ensures) _ (condition .ensures .1), ⊎-elim (λ h. subst (λ (u : Accumulator). Accumulates u (kept vs (holdsOn level q z cb vs memo env variable) attribute (base .result) (attributes .result) (loop .i + 1))) (sym (h .3)) (taken-hit vs (holdsOn level q z cb vs memo env variable) attribute (base .result) (attributes .result) (loop .i) (loop .taken) (loop .inv .1) _ (loop .inv .2) _ _ (on-row (loop .env) env _ variable (place .result) (loop .row) (loop .inv .0) (set-place .ensures) level q z cb vs memo _ (omega (arith, pre, good)) (condition .ensures .0) ∙ h .0 .taken) (toZ-ofZ {w = w32} (record { sfits = h .1 .ok }) ∙ h .1 .ensures) (h .2 .ensures .0) (h .2 .ensures .1))) (λ h. taken-miss vs (holdsOn level q z cb vs memo env variable) attribute (base .result) (attributes .result) (loop .i) (loop .taken) (loop .inv .1) _ (loop .inv .2) _ (on-row (loop .env) env _ variable (place .result) (loop .row) (loop .inv .0) (set-place .ensures) level q z cb vs memo _ (omega (arith, pre, good)) (condition .ensures .0) ∙ h .0 .left) (h .1)) (c .if1 .came), next-row _ _ _ _ (loop .inv .2), omega (arith, c₇ .before .before .loop-test .taken), places-length (loop .env) env _ variable (place .result) (loop .row) (loop .inv .0) (set-place .ensures) _ (condition .ensures .1) (loop .inv .4))
+    let c₁₅ = c₁₃ .before .before in let walk-of = c₁₅ .walk-of in
+    let c₂₀ = c₁₅ .before .before .before .before .before in let args = c₂₀ .args in let good = c₂₀ .good in let pre = c₂₀ .pre in
+    let env = now (args .env) in let memo = now (args .memo) in let q = now (args .q) in let vs = now (args .vs) in let walks = now (args .walks) in let z = now (args .z) in let attribute = args .attribute in let level = args .level in let variable = args .variable in
+    (places-back (loop .env) env _ variable (place .result) (place2 .result) (loop .inv .0) (set-place .ensures) _ (condition .ensures .1), ⊎-elim (λ h. subst (λ (u : Accumulator). Accumulates u (kept vs (holdsOn level q z walks vs memo env variable) attribute (placeAt walks (walk-of .result)) (loop .i + 1))) (sym (h .3)) (taken-hit (placeAt walks (walk-of .result)) vs (holdsOn level q z walks vs memo env variable) attribute (loop .i) (loop .taken) (loop .inv .1) _ _ ((ap (λ (p : ℕ). (holdsOn level q z walks vs memo env variable) (tupleAt vs p)) (sym (place2 .ensures)) ∙ on-row (loop .env) env _ variable (place .result) (place2 .result) (loop .inv .0) (set-place .ensures) level q z walks vs memo _ (omega (arith, pre, good)) (condition .ensures .0)) ∙ h .0 .taken) (toZ-ofZ {w = w32} (record { sfits = h .1 .ok }) ∙ h .1 .ensures ∙ ap (λ (k : ℕ). getD vs (k + attribute) (pos 0)) (place2 .ensures)) (h .2 .ensures .0) (h .2 .ensures .1))) (λ h. taken-miss (placeAt walks (walk-of .result)) vs (holdsOn level q z walks vs memo env variable) attribute (loop .i) (loop .taken) (loop .inv .1) _ ((ap (λ (p : ℕ). (holdsOn level q z walks vs memo env variable) (tupleAt vs p)) (sym (place2 .ensures)) ∙ on-row (loop .env) env _ variable (place .result) (place2 .result) (loop .inv .0) (set-place .ensures) level q z walks vs memo _ (omega (arith, pre, good)) (condition .ensures .0)) ∙ h .0 .left) (h .1)) (c .if1 .came), omega (arith, loop-test .taken), places-length (loop .env) env _ variable (place .result) (place2 .result) (loop .inv .0) (set-place .ensures) _ (condition .ensures .1) (loop .inv .3))
 
 gather-set-place-requires-2 : (t : ℕ) → gather-lts.Need-set-place-requires-2 (gather-claims t) (gather-at t) gather.Post gather-Inv-loop gather-μ-loop
 gather-set-place-requires-2 t c κs = search needs
@@ -442,42 +431,35 @@ gather-returns : (t : ℕ) → gather-lts.Need-returns (gather-claims t) (gather
 gather-returns t c =
     let c₄ = c .before .before .before .before in let loop-test = c₄ .loop-test in
     let c₅ = c₄ .before in let loop = c₅ .loop in
-    let c₆ = c₅ .before in let base = c₆ .base in
-    let c₁₀ = c₆ .before .before .before .before in let attributes = c₁₀ .attributes in
-    let c₁₁ = c₁₀ .before in let rows = c₁₁ .rows in
-    let c₁₆ = c₁₁ .before .before .before .before .before in let args = c₁₆ .args in
-    let cb = now (args .cb) in let env = now (args .env) in let memo = now (args .memo) in let q = now (args .q) in let vs = now (args .vs) in let z = now (args .z) in let attribute = args .attribute in let level = args .level in let variable = args .variable in
-    (subst (Accumulates (loop .taken)) (taken-all level q z cb vs memo env variable (args .relation) attribute _ _ _ _ (rows .ensures .0) (attributes .ensures .0) (base .ensures .0) (omega (arith, loop-test .left, loop .inv .3))) (loop .inv .1), (omega (arith, taken-few vs (holdsOn level q z cb vs memo env variable) attribute (base .result) (attributes .result) (loop .i) (loop .taken) (loop .inv .1) _ (loop .inv .3), rows .ensures .1), c .before .before .set-place2 .ensures ∙ loop .inv .0))
+    let c₉ = c₅ .before .before .before .before in let walk-of = c₉ .walk-of in
+    let c₁₄ = c₉ .before .before .before .before .before in let args = c₁₄ .args in
+    let env = now (args .env) in let memo = now (args .memo) in let q = now (args .q) in let vs = now (args .vs) in let walks = now (args .walks) in let z = now (args .z) in let attribute = args .attribute in let level = args .level in let variable = args .variable in
+    (subst (Accumulates (loop .taken)) (taken-all level q z walks vs memo env variable attribute (loop .i) (walk-of .result) (walk-of .ensures .0) (omega (arith, loop-test .left, loop .inv .2))) (loop .inv .1), (omega (arith, taken-few (placeAt walks (walk-of .result)) vs (holdsOn level q z walks vs memo env variable) attribute (loop .i) (loop .taken) (loop .inv .1) (loop .i) (omega arith), loop .inv .2, walk-of .ensures .1 .count), c .before .before .set-place2 .ensures ∙ loop .inv .0))
 
 abbrev some-row-Inv-loop : some-row-lts.InvT-loop
-some-row-Inv-loop q z level catalogue values memo env₀ variable relation n w old row₀ i₀ env row i =
+some-row-Inv-loop q z level ws vs memo env₀ variable walk n old i₀ env i =
     (set env variable old ≡ env₀)
-    × (any (holdsOn level q z catalogue values memo env₀ variable) (map (tupleAt values) (offsets row w (n - i))) ≡ any (holdsOn level q z catalogue values memo env₀ variable) (tuplesIn catalogue values relation))
-    × (row ≡ row₀ + i * w) × (i ≤ n) × (length env ≡ length env₀)
+    × (any (holdsOn level q z ws vs memo env₀ variable) (map (tupleAt vs) (places (placeAt ws walk) i (n - i))) ≡ any (holdsOn level q z ws vs memo env₀ variable) (walked ws vs variable))
+    × (i ≤ n) × (length env ≡ length env₀)
 
 abbrev some-row-μ-loop : some-row-lts.MeasureT-loop
-some-row-μ-loop q z level catalogue values memo env₀ variable relation n w old row₀ i₀ env row i = n - i
+some-row-μ-loop q z level ws vs memo env₀ variable walk n old i₀ env i = n - i
 
-some-row-rows-requires : (t : ℕ) → some-row-lts.Need-rows-requires (some-row-claims t) (some-row-at t) some-row.Post some-row-Inv-loop some-row-μ-loop
-some-row-rows-requires t c κs = search needs
-
-some-row-attributes-requires : (t : ℕ) → some-row-lts.Need-attributes-requires (some-row-claims t) (some-row-at t) some-row.Post some-row-Inv-loop some-row-μ-loop
-some-row-attributes-requires t c κs = search needs
+some-row-walk-of-requires : (t : ℕ) → some-row-lts.Need-walk-of-requires (some-row-claims t) (some-row-at t) some-row.Post some-row-Inv-loop some-row-μ-loop
+some-row-walk-of-requires t c κs = search needs
 
 some-row-place-requires : (t : ℕ) → some-row-lts.Need-place-requires (some-row-claims t) (some-row-at t) some-row.Post some-row-Inv-loop some-row-μ-loop
 some-row-place-requires t c κs = search needs
 
-some-row-base-requires : (t : ℕ) → some-row-lts.Need-base-requires (some-row-claims t) (some-row-at t) some-row.Post some-row-Inv-loop some-row-μ-loop
-some-row-base-requires t c κs = search needs
-
 some-row-loop-holds : (t : ℕ) → some-row-lts.Need-loop-holds (some-row-claims t) (some-row-at t) some-row.Post some-row-Inv-loop some-row-μ-loop
 some-row-loop-holds t c =
-    let c₁ = c .before in let place = c₁ .place in
-    let c₃ = c₁ .before .before in let attributes = c₃ .attributes in
-    let c₄ = c₃ .before in let rows = c₄ .rows in
-    let c₉ = c₄ .before .before .before .before .before in let args = c₉ .args in
-    let cb = now (args .cb) in let env = now (args .env) in let vs = now (args .vs) in let variable = args .variable in
-    (places-start env variable (place .result) (place .ensures), search-start (holdsOn (args .level) (now (args .q)) (now (args .z)) cb vs (now (args .memo)) env variable) cb vs (args .relation) _ _ _ (rows .ensures .0) (attributes .ensures .0) (c .base .ensures .0), omega arith, omega arith, refl)
+    let c₂ = c .before .before in let walk-of = c₂ .walk-of in
+    let c₇ = c₂ .before .before .before .before .before in let args = c₇ .args in
+    let env = now (args .env) in let vs = now (args .vs) in let walks = now (args .walks) in let variable = args .variable in
+    (places-start env variable (c .place .result) (c .place .ensures), search-start (holdsOn (args .level) (now (args .q)) (now (args .z)) walks vs (now (args .memo)) env variable) walks vs variable (walk-of .result) (walk-of .ensures .0), omega arith, refl)
+
+some-row-place-requires-2 : (t : ℕ) → some-row-lts.Need-place-requires-2 (some-row-claims t) (some-row-at t) some-row.Post some-row-Inv-loop some-row-μ-loop
+some-row-place-requires-2 t c κs = (c .before .before .before .before .before .walk-of .ensures .1, omega (arith, c .before .before .before .before .before .walk-of .ensures .1 .count, c .before .loop-test .taken))
 
 some-row-set-place-requires : (t : ℕ) → some-row-lts.Need-set-place-requires (some-row-claims t) (some-row-at t) some-row.Post some-row-Inv-loop some-row-μ-loop
 some-row-set-place-requires t c κs = search needs
@@ -496,17 +478,14 @@ some-row-returns t c =
     let c₄ = c .before .before .before .before in let if1 = c₄ .if1 in
     let c₇ = c₄ .before .before .before in let condition = c₇ .condition in
     let c₁₁ = c₇ .before .before .before .before in let set-place = c₁₁ .set-place in
-    let c₁₃ = c₁₁ .before .before in let loop-test = c₁₃ .loop-test in
-    let c₁₄ = c₁₃ .before in let loop = c₁₄ .loop in
-    let c₁₆ = c₁₄ .before .before in let place = c₁₆ .place in
-    let c₁₈ = c₁₆ .before .before in let attributes = c₁₈ .attributes in
-    let c₁₉ = c₁₈ .before in let rows = c₁₉ .rows in
-    let c₂₄ = c₁₉ .before .before .before .before .before in let args = c₂₄ .args in let good = c₂₄ .good in let pre = c₂₄ .pre in
-    let cb = now (args .cb) in let env = now (args .env) in let memo = now (args .memo) in let q = now (args .q) in let vs = now (args .vs) in let z = now (args .z) in let level = args .level in let variable = args .variable in
-    (search-found (holdsOn level q z cb vs memo env variable) cb vs (args .relation) (rows .result) (attributes .result) (loop .row) (loop .i) (loop .inv .1) (loop-test .taken) (on-row (loop .env) env _ variable (place .result) (loop .row) (loop .inv .0) (set-place .ensures) level q z cb vs memo _ (omega (arith, pre, good)) (condition .ensures .0) ∙ if1 .taken), c .before .before .set-place2 .ensures ∙ places-back (loop .env) env _ variable (place .result) (loop .row) (loop .inv .0) (set-place .ensures) _ (condition .ensures .1))
-
-some-row-add-row : (t : ℕ) → some-row-lts.Need-add-row (some-row-claims t) (some-row-at t) some-row.Post some-row-Inv-loop some-row-μ-loop
-some-row-add-row t c = omega (arith, row-fits _ _ _ _ _ _ (c .before .before .before .before .before .before .before .before .before .before .loop .inv .2) (c .before .before .before .before .before .before .before .before .before .before .before .base .ensures .1) (search needs) (c .before .before .before .before .before .before .before .before .before .loop-test .taken) (c .before .before .before .before .before .before .before .before .before .before .before .before .before .before .before .rows .ensures .1) (c .before .before .before .before .before .before .before .before .before .before .before .before .before .before .attributes .ensures .1))
+    let c₁₂ = c₁₁ .before in let place2 = c₁₂ .place2 in
+    let c₁₄ = c₁₂ .before .before in let loop-test = c₁₄ .loop-test in
+    let c₁₅ = c₁₄ .before in let loop = c₁₅ .loop in
+    let c₁₆ = c₁₅ .before in let place = c₁₆ .place in
+    let c₁₈ = c₁₆ .before .before in let walk-of = c₁₈ .walk-of in
+    let c₂₃ = c₁₈ .before .before .before .before .before in let args = c₂₃ .args in let good = c₂₃ .good in let pre = c₂₃ .pre in
+    let env = now (args .env) in let memo = now (args .memo) in let q = now (args .q) in let vs = now (args .vs) in let walks = now (args .walks) in let z = now (args .z) in let level = args .level in let variable = args .variable in
+    (search-found (holdsOn level q z walks vs memo env variable) vs (placeAt walks (walk-of .result)) (walk-of .result .count) (loop .i) (walked walks vs variable) (loop .inv .1) (loop-test .taken) ((ap (λ (p : ℕ). (holdsOn level q z walks vs memo env variable) (tupleAt vs p)) (sym (place2 .ensures)) ∙ on-row (loop .env) env _ variable (place .result) (place2 .result) (loop .inv .0) (set-place .ensures) level q z walks vs memo _ (omega (arith, pre, good)) (condition .ensures .0)) ∙ if1 .taken), c .before .before .set-place2 .ensures ∙ places-back (loop .env) env _ variable (place .result) (place2 .result) (loop .inv .0) (set-place .ensures) _ (condition .ensures .1))
 
 some-row-add-i : (t : ℕ) → some-row-lts.Need-add-i (some-row-claims t) (some-row-at t) some-row.Post some-row-Inv-loop some-row-μ-loop
 some-row-add-i t c = search needs
@@ -518,14 +497,14 @@ some-row-loop-again : (t : ℕ) → some-row-lts.Need-loop-again (some-row-claim
 some-row-loop-again t c =
     let c₃ = c .before .before .before in let condition = c₃ .condition in
     let c₇ = c₃ .before .before .before .before in let set-place = c₇ .set-place in
-    let c₉ = c₇ .before .before in let loop-test = c₉ .loop-test in
-    let c₁₀ = c₉ .before in let loop = c₁₀ .loop in
-    let c₁₂ = c₁₀ .before .before in let place = c₁₂ .place in
-    let c₁₄ = c₁₂ .before .before in let attributes = c₁₄ .attributes in
-    let c₁₅ = c₁₄ .before in let rows = c₁₅ .rows in
-    let c₂₀ = c₁₅ .before .before .before .before .before in let args = c₂₀ .args in let good = c₂₀ .good in let pre = c₂₀ .pre in
-    let cb = now (args .cb) in let env = now (args .env) in let memo = now (args .memo) in let q = now (args .q) in let vs = now (args .vs) in let z = now (args .z) in let level = args .level in let variable = args .variable in
-    (places-back (loop .env) env _ variable (place .result) (loop .row) (loop .inv .0) (set-place .ensures) _ (condition .ensures .1), search-next (holdsOn level q z cb vs memo env variable) cb vs (args .relation) (rows .result) (attributes .result) (loop .row) (loop .i) (loop .inv .1) (loop-test .taken) (on-row (loop .env) env _ variable (place .result) (loop .row) (loop .inv .0) (set-place .ensures) level q z cb vs memo _ (omega (arith, pre, good)) (condition .ensures .0) ∙ c .if1 .left), next-row _ _ _ _ (loop .inv .2), search needs, places-length (loop .env) env _ variable (place .result) (loop .row) (loop .inv .0) (set-place .ensures) _ (condition .ensures .1) (loop .inv .4))
+    let c₈ = c₇ .before in let place2 = c₈ .place2 in
+    let c₁₀ = c₈ .before .before in let loop-test = c₁₀ .loop-test in
+    let c₁₁ = c₁₀ .before in let loop = c₁₁ .loop in
+    let c₁₂ = c₁₁ .before in let place = c₁₂ .place in
+    let c₁₄ = c₁₂ .before .before in let walk-of = c₁₄ .walk-of in
+    let c₁₉ = c₁₄ .before .before .before .before .before in let args = c₁₉ .args in let good = c₁₉ .good in let pre = c₁₉ .pre in
+    let env = now (args .env) in let memo = now (args .memo) in let q = now (args .q) in let vs = now (args .vs) in let walks = now (args .walks) in let z = now (args .z) in let level = args .level in let variable = args .variable in
+    (places-back (loop .env) env _ variable (place .result) (place2 .result) (loop .inv .0) (set-place .ensures) _ (condition .ensures .1), search-next (holdsOn level q z walks vs memo env variable) vs (placeAt walks (walk-of .result)) (walk-of .result .count) (loop .i) (walked walks vs variable) (loop .inv .1) (loop-test .taken) ((ap (λ (p : ℕ). (holdsOn level q z walks vs memo env variable) (tupleAt vs p)) (sym (place2 .ensures)) ∙ on-row (loop .env) env _ variable (place .result) (place2 .result) (loop .inv .0) (set-place .ensures) level q z walks vs memo _ (omega (arith, pre, good)) (condition .ensures .0)) ∙ c .if1 .left), omega (arith, loop-test .taken), places-length (loop .env) env _ variable (place .result) (place2 .result) (loop .inv .0) (set-place .ensures) _ (condition .ensures .1) (loop .inv .3))
 
 some-row-set-place-requires-3 : (t : ℕ) → some-row-lts.Need-set-place-requires-3 (some-row-claims t) (some-row-at t) some-row.Post some-row-Inv-loop some-row-μ-loop
 some-row-set-place-requires-3 t c κs = search needs
@@ -537,11 +516,10 @@ some-row-returns-2 : (t : ℕ) → some-row-lts.Need-returns-2 (some-row-claims 
 some-row-returns-2 t c =
     let c₄ = c .before .before .before .before in let loop-test = c₄ .loop-test in
     let c₅ = c₄ .before in let loop = c₅ .loop in
-    let c₉ = c₅ .before .before .before .before in let attributes = c₉ .attributes in
-    let c₁₀ = c₉ .before in let rows = c₁₀ .rows in
-    let c₁₅ = c₁₀ .before .before .before .before .before in let args = c₁₅ .args in
-    let cb = now (args .cb) in let vs = now (args .vs) in
-    (search-none (holdsOn (args .level) (now (args .q)) (now (args .z)) cb vs (now (args .memo)) (now (args .env)) (args .variable)) cb vs (args .relation) (rows .result) (attributes .result) (loop .row) (loop .i) (loop .inv .1) (loop-test .left), c .before .before .set-place3 .ensures ∙ loop .inv .0)
+    let c₈ = c₅ .before .before .before in let walk-of = c₈ .walk-of in
+    let c₁₃ = c₈ .before .before .before .before .before in let args = c₁₃ .args in
+    let vs = now (args .vs) in let walks = now (args .walks) in let variable = args .variable in
+    (search-none (holdsOn (args .level) (now (args .q)) (now (args .z)) walks vs (now (args .memo)) (now (args .env)) variable) vs (placeAt walks (walk-of .result)) (walk-of .result .count) (loop .i) (walked walks vs variable) (loop .inv .1) (loop-test .left), c .before .before .set-place3 .ensures ∙ loop .inv .0)
 
 term-whole-requires : (t : ℕ) → term-lts.Need-whole-requires (term-claims t) (term-at t) term.Post
 term-whole-requires t c κs = search needs
@@ -549,7 +527,7 @@ term-whole-requires t c κs = search needs
 term-returns : (t : ℕ) → term-lts.Need-returns (term-claims t) (term-at t) term.Post
 term-returns t c =
     let c₆ = c .before .before .before .before .before .before in let args = c₆ .args in
-    ((c .whole .ensures .0) ∙ ap represent (value-zero (now (args .cb)) (now (args .vs)) (now (args .memo)) (now (args .env)) (now (args .q)) (now (args .z)) (args .level) (c .before .if1 .taken)), (c .whole .ensures .1, search needs))
+    ((c .whole .ensures .0) ∙ ap represent (value-zero (now (args .walks)) (now (args .vs)) (now (args .memo)) (now (args .env)) (now (args .q)) (now (args .z)) (args .level) (c .before .if1 .taken)), (c .whole .ensures .1, search needs))
 
 term-sub-l : (t : ℕ) → term-lts.Need-sub-l (term-claims t) (term-at t) term.Post
 term-sub-l t c = search needs
@@ -601,7 +579,7 @@ term-returns-2 t c =
     let c₈ = c₇ .before in let byte = c₈ .byte in
     let c₉ = c₈ .before in let if1 = c₉ .if1 in
     let c₁₄ = c₉ .before .before .before .before .before in let args = c₁₄ .args in
-    (c .recall .ensures .0 ∙ ap represent (known-is (now (args .cb)) (now (args .vs)) (now (args .memo)) (now (args .env)) (now (args .q)) (now (args .z)) (args .level) _ _ _ (if1 .left) (byte .ensures) (record-length .ensures .0) (read .ensures) _ _ _ _ _ _ (function .given .1) (c .before .before .knows .ensures) (c .before .if2 .taken) refl), (c .recall .ensures .1, search needs))
+    (c .recall .ensures .0 ∙ ap represent (known-is (now (args .walks)) (now (args .vs)) (now (args .memo)) (now (args .env)) (now (args .q)) (now (args .z)) (args .level) _ _ _ (if1 .left) (byte .ensures) (record-length .ensures .0) (read .ensures) _ _ _ _ _ _ (function .given .1) (c .before .before .knows .ensures) (c .before .if2 .taken) refl), (c .recall .ensures .1, search needs))
 
 term-tail-requires : (t : ℕ) → term-lts.Need-tail-requires (term-claims t) (term-at t) term.Post
 term-tail-requires t c κs = search needs
@@ -625,7 +603,7 @@ term-returns-3 t c =
     let c₅ = c₃ .before .before in let read = c₅ .read in
     let c₈ = c₅ .before .before .before in let if1 = c₈ .if1 in
     let c₁₃ = c₈ .before .before .before .before .before in let args = c₁₃ .args in
-    ((c .whole2 .ensures .0) ∙ ap represent (constant-is (now (args .cb)) (now (args .vs)) (now (args .memo)) (now (args .env)) (now (args .q)) (now (args .z)) (args .level) _ _ _ _ _ _ (if1 .left) (read .ensures) (a .given .1) (toZ-ofZ {w = w32} (record { sfits = constant .ok }) ∙ constant .ensures .0)), (c .whole2 .ensures .1, search needs))
+    ((c .whole2 .ensures .0) ∙ ap represent (constant-is (now (args .walks)) (now (args .vs)) (now (args .memo)) (now (args .env)) (now (args .q)) (now (args .z)) (args .level) _ _ _ _ _ _ (if1 .left) (read .ensures) (a .given .1) (toZ-ofZ {w = w32} (record { sfits = constant .ok }) ∙ constant .ensures .0)), (c .whole2 .ensures .1, search needs))
 
 term-same-length : (t : ℕ) → term-lts.Need-same-length (term-claims t) (term-at t) term.Post
 term-same-length t c = search needs
@@ -638,7 +616,7 @@ term-returns-4 t c =
     let c₇ = c₅ .before .before in let read = c₇ .read in
     let c₁₀ = c₇ .before .before .before in let if1 = c₁₀ .if1 in
     let c₁₅ = c₁₀ .before .before .before .before .before in let args = c₁₅ .args in let pre = c₁₅ .pre in
-    ((c .whole3 .ensures .0) ∙ ap represent (attribute-is (now (args .cb)) (now (args .vs)) (now (args .memo)) (now (args .env)) (now (args .q)) (now (args .z)) (args .level) _ _ _ _ _ (if1 .left) (read .ensures) (variable .given .1) (omega (arith, pre .1, known-told2 .given)) (c .before .before .place .ensures) (toZ-ofZ {w = w32} (record { sfits = cell .ok }) ∙ cell .ensures)), (c .whole3 .ensures .1, search needs))
+    ((c .whole3 .ensures .0) ∙ ap represent (attribute-is (now (args .walks)) (now (args .vs)) (now (args .memo)) (now (args .env)) (now (args .q)) (now (args .z)) (args .level) _ _ _ _ _ (if1 .left) (read .ensures) (variable .given .1) (omega (arith, pre .1, known-told2 .given)) (c .before .before .place .ensures) (toZ-ofZ {w = w32} (record { sfits = cell .ok }) ∙ cell .ensures)), (c .whole3 .ensures .1, search needs))
 
 term-same-length-2 : (t : ℕ) → term-lts.Need-same-length-2 (term-claims t) (term-at t) term.Post
 term-same-length-2 t c = search needs
@@ -656,13 +634,13 @@ term-returns-5 t c =
     let c₁₄ = c₁₃ .before in let byte = c₁₄ .byte in
     let c₁₅ = c₁₄ .before in let if1 = c₁₅ .if1 in
     let c₂₀ = c₁₅ .before .before .before .before .before in let args = c₂₀ .args in
-    (ends _ _ _ _ (gather .ensures .0) (c .finish .ensures .0) ∙ ap represent (aggregate-is (now (args .cb)) (now (args .vs)) (now (args .memo)) (now (args .env)) (now (args .q)) (now (args .z)) (args .level) _ _ _ (if1 .left) (byte .ensures) (record-length .ensures .0) (read .ensures) _ _ (tail .ensures) (tail-sizes .ensures) _ _ _ _ _ _ (function .given .1) (knows .ensures) (if2 .left) refl), (c .finish .ensures .1, gather .ensures .1 .1))
+    (ends _ _ _ _ (gather .ensures .0) (c .finish .ensures .0) ∙ ap represent (aggregate-is (now (args .walks)) (now (args .vs)) (now (args .memo)) (now (args .env)) (now (args .q)) (now (args .z)) (args .level) _ _ _ (if1 .left) (byte .ensures) (record-length .ensures .0) (read .ensures) _ _ (tail .ensures) (tail-sizes .ensures) _ _ _ _ _ _ (function .given .1) (knows .ensures) (if2 .left) refl), (c .finish .ensures .1, gather .ensures .1 .1))
 
 term-returns-6 : (t : ℕ) → term-lts.Need-returns-6 (term-claims t) (term-at t) term.Post
 term-returns-6 t c =
     let c₅ = c .before .before .before .before .before in let if1 = c₅ .if1 in
     let c₁₀ = c₅ .before .before .before .before .before in let args = c₁₀ .args in
-    ((c .whole4 .ensures .0) ∙ ap represent (no-term (now (args .cb)) (now (args .vs)) (now (args .memo)) (now (args .env)) (now (args .q)) (now (args .z)) (args .level) _ (if1 .left) (c .before .before .read .ensures) (c .before .match .keys4)), (c .whole4 .ensures .1, search needs))
+    ((c .whole4 .ensures .0) ∙ ap represent (no-term (now (args .walks)) (now (args .vs)) (now (args .memo)) (now (args .env)) (now (args .q)) (now (args .z)) (args .level) _ (if1 .left) (c .before .before .read .ensures) (c .before .match .keys4)), (c .whole4 .ensures .1, search needs))
 
 pub +condition+gather+some-row+term-spec : {M : Type 1} → statement M
 +condition+gather+some-row+term-spec =
@@ -724,17 +702,15 @@ pub +condition+gather+some-row+term-spec : {M : Type 1} → statement M
     gather.Post
     gather-Inv-loop
     gather-μ-loop
-    (gather-rows-requires t)
-    (gather-attributes-requires t)
+    (gather-walk-of-requires t)
     (gather-place-requires t)
     (gather-empty-requires t)
-    (gather-base-requires t)
     (gather-loop-holds t)
+    (gather-place-requires-2 t)
     (gather-set-place-requires t)
     (gather-condition-requires t)
     (gather-cell-requires t)
     (gather-add-requires t)
-    (gather-add-row t)
     (gather-add-i t)
     (gather-loop-less t)
     (gather-loop-again t)
@@ -746,17 +722,15 @@ pub +condition+gather+some-row+term-spec : {M : Type 1} → statement M
     some-row.Post
     some-row-Inv-loop
     some-row-μ-loop
-    (some-row-rows-requires t)
-    (some-row-attributes-requires t)
+    (some-row-walk-of-requires t)
     (some-row-place-requires t)
-    (some-row-base-requires t)
     (some-row-loop-holds t)
+    (some-row-place-requires-2 t)
     (some-row-set-place-requires t)
     (some-row-condition-requires t)
     (some-row-set-place-requires-2 t)
     (some-row-same-length t)
     (some-row-returns t)
-    (some-row-add-row t)
     (some-row-add-i t)
     (some-row-loop-less t)
     (some-row-loop-again t)

@@ -36,7 +36,7 @@ targets-claims t = (term-reads.Asked, term-reads.Learnt, cell-reads.Asked, cell-
 targets-returns : (t : ℕ) → targets-lts.Need-returns (targets-claims t) (targets-at t) targets.Post
 targets-returns t c =
     let c₅ = c .before .before .before .before .before in let args = c₅ .args in
-    (targets-none (now (args .cb)) (now (args .vs)) (now (args .memo)) (now (args .env)) (now (args .q)) (now (args .z)) (args .left) (args .level) (args .at) (now (args .row)) (c .if1 .taken), search needs)
+    (targets-none (now (args .walks)) (now (args .vs)) (now (args .memo)) (now (args .env)) (now (args .q)) (now (args .z)) (args .left) (args .level) (args .at) (now (args .row)) (c .if1 .taken), search needs)
 
 targets-term-requires : (t : ℕ) → targets-lts.Need-term-requires (targets-claims t) (targets-at t) targets.Post
 targets-term-requires t c κs = search needs
@@ -96,7 +96,7 @@ targets-returns-2 t c =
     let c₁₂ = c₉ .before .before .before in let term = c₁₂ .term in
     let c₁₄ = c₁₂ .before .before in let if1 = c₁₄ .if1 in
     let c₁₉ = c₁₄ .before .before .before .before .before in let args = c₁₉ .args in
-    (targets-more (now (args .cb)) (now (args .vs)) (now (args .memo)) (now (args .env)) (now (args .q)) (now (args .z)) (args .left) (args .level) (args .at) (now (args .row)) _ _ _ _ _ _ _ _ (if1 .left) (term .ensures .0) (toZ-ofZ {w = w64} (record { sfits = cell .ok }) ∙ cell .ensures) refl (size-at .ensures .0) (tail .ensures) (tail-sizes .ensures) (term .ensures .1 .1) (targets .ensures .0), targets .ensures .1 ∙ term .ensures .1 .1)
+    (targets-more (now (args .walks)) (now (args .vs)) (now (args .memo)) (now (args .env)) (now (args .q)) (now (args .z)) (args .left) (args .level) (args .at) (now (args .row)) _ _ _ _ _ _ _ _ (if1 .left) (term .ensures .0) (toZ-ofZ {w = w64} (record { sfits = cell .ok }) ∙ cell .ensures) refl (size-at .ensures .0) (tail .ensures) (tail-sizes .ensures) (term .ensures .1 .1) (targets .ensures .0), targets .ensures .1 ∙ term .ensures .1 .1)
 
 pub +targets-spec : {M : Type 1} → statement M
 +targets-spec = close μ-targets λ t. targets-lts.spec (targets-claims t)

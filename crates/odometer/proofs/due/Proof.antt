@@ -24,7 +24,7 @@ same-length c = search needs
 returns : tie.Need-returns
 returns c =
     let args = c .before .before .before .before .before .before .before .before .before .before .before .args in
-    (due-no (now (args .t)) (now (args .xs)) (now (args .q)) (now (args .z)) (now (args .cb)) (now (args .vs)) (now (args .memo)) (now (args .env)) (args .plan .depth) _ (c .before .before .before .holds .ensures .0) (c .if1 .taken), c .before .before .before .holds .ensures .1)
+    (due-no (now (args .t)) (now (args .xs)) (now (args .q)) (now (args .z)) (now (args .walks)) (now (args .vs)) (now (args .memo)) (now (args .env)) (args .plan .depth) _ (c .before .before .before .holds .ensures .0) (c .if1 .taken), c .before .before .before .holds .ensures .1)
 
 -- src/lib.rt:97:29
 add-holds : tie.Need-add-holds
@@ -42,7 +42,7 @@ same-length-2 c = search needs
 returns-2 : tie.Need-returns-2
 returns-2 c =
     let args = c .before .before .before .before .before .before .before .before .before .before .before .before .before .before .before .args in
-    (due-yes (now (args .t)) (now (args .xs)) (now (args .q)) (now (args .z)) (now (args .cb)) (now (args .vs)) (now (args .memo)) (now (args .env)) (args .plan .depth) _ (c .before .before .before .before .before .before .before .holds .ensures .0) _ _ (c .before .before .before .before .if1 .left) (c .before .before .before .before .before .before .before .holds .ensures .1) (c .before .before .holds2 .ensures .0), c .before .before .holds2 .ensures .1 ∙ c .before .before .before .before .before .before .before .holds .ensures .1)
+    (due-yes (now (args .t)) (now (args .xs)) (now (args .q)) (now (args .z)) (now (args .walks)) (now (args .vs)) (now (args .memo)) (now (args .env)) (args .plan .depth) _ (c .before .before .before .before .before .before .before .holds .ensures .0) _ _ (c .before .before .before .before .if1 .left) (c .before .before .before .before .before .before .before .holds .ensures .1) (c .before .before .holds2 .ensures .0), c .before .before .holds2 .ensures .1 ∙ c .before .before .before .before .before .before .before .holds .ensures .1)
 
 pub due-spec : {M : Type 1} → statement M
 due-spec =

@@ -26,9 +26,9 @@ slice-aggregate-answer-by c = search needs
 answer-by-requires : tie.Need-answer-by-requires
 answer-by-requires c κs =
     let c₆ = c .before .before .before .before .before .before in let remember = c₆ .remember in
-    let c₁₃ = c₆ .before .before .before .before .before .before .before in let args = c₁₃ .args in let pre = c₁₃ .pre in
+    let c₁₄ = c₆ .before .before .before .before .before .before .before .before in let args = c₁₄ .args in let pre = c₁₄ .pre in
     let values = now (args .values) in
-    (pre .0, filled-trusted (args .layout) (args .level) (now (args .q)) (now (args .z)) (now (args .catalogue)) values _ (now (args .env)) (pre .0) (remember .ensures .0), subst (Unbound values) (sym (remember .ensures .1)) (pre .1))
+    (pre .0, filled-trusted (args .layout) (args .level) (now (args .q)) (now (args .z)) (now (args .catalogue)) (now (args .walks)) values _ (now (args .env)) (pre .0) (remember .ensures .0), subst (Unbound values) (sym (remember .ensures .1)) (pre .1))
 
 -- src/lib.rt:120:1
 same-length : tie.Need-same-length

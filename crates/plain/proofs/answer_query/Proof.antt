@@ -1,3 +1,7 @@
+use native.Mathlib.Omega.{arith}
+use lib.IntN.{pos}
+use Rattle.aggregates.proofs.Taking.{getD-same}
+use Rattle.plain.proofs.Memo.{blank-trusted, none-bound}
 use borrow.Author.Needs.{needs}
 use Rattle.plain.proofs.answer_query.Statement.{statement}
 use Rattle.plain.proofs.answer_query.Tie as tie
@@ -6,52 +10,76 @@ use Rattle.plain.proofs.answer_query.Lts as lts
 use Rattle.plain.proofs.aggregated.Reads as aggregated-reads
 use Rattle.plain.proofs.answer_by.Reads as answer-by-reads
 use Rattle.plain.proofs.answer_filled.Reads as answer-filled-reads
-use lib.IntN.{pos}
-use denote.Ref.{now}
-use Rattle.aggregates.proofs.Taking.{getD-same}
-use Rattle.plain.proofs.Memo.{blank-trusted, none-bound}
+use Rattle.plain.proofs.answer_in.Reads as answer-in-reads
+use Rattle.plain.proofs.most_rows.Reads as most-rows-reads
 
--- src/lib.rt:164:8
+-- src/lib.rt:291:8
 aggregated-requires : tie.Need-aggregated-requires
 aggregated-requires c κs = search needs
 
--- src/lib.rt:165:70
+-- src/lib.rt:292:70
 slice-aggregate-answer-filled : tie.Need-slice-aggregate-answer-filled
 slice-aggregate-answer-filled c = search needs
 
--- src/lib.rt:165:9
+-- src/lib.rt:292:9
 answer-filled-requires : tie.Need-answer-filled-requires
-answer-filled-requires c κs = (c .before .before .before .before .before .before .before .pre, none-bound (now (c .before .before .before .before .before .before .before .args .values)))
+answer-filled-requires c κs = (search needs, none-bound _)
 
--- src/lib.rt:165:9
+-- src/lib.rt:292:9
 same-length : tie.Need-same-length
 same-length c = search needs
 
--- src/lib.rt:165:9
+-- src/lib.rt:292:9
 returns : tie.Need-returns
 returns c = search needs
 
--- src/lib.rt:168:55
+-- src/lib.rt:295:13
+most-rows-requires : tie.Need-most-rows-requires
+most-rows-requires c κs = search needs
+
+-- src/lib.rt:303:13
 slice-aggregate-answer-by : tie.Need-slice-aggregate-answer-by
 slice-aggregate-answer-by c = search needs
 
--- src/lib.rt:168:62
+-- src/lib.rt:304:13
 slice-aggregate-answer-by-2 : tie.Need-slice-aggregate-answer-by-2
 slice-aggregate-answer-by-2 c = search needs
 
--- src/lib.rt:168:5
+-- src/lib.rt:296:9
 answer-by-requires : tie.Need-answer-by-requires
-answer-by-requires c κs =
-    let c₈ = c .before .before .before .before .before .before .before .before in let args = c₈ .args in let pre = c₈ .pre in
-    (pre, blank-trusted _ _ (getD-same 2 (pos 0)) _, none-bound (now (args .values)))
+answer-by-requires c κs = (search needs, blank-trusted _ _ (getD-same 2 (pos 0)) _, none-bound _)
 
--- src/lib.rt:151:1
+-- src/lib.rt:296:9
 same-length-2 : tie.Need-same-length-2
 same-length-2 c = search needs
 
--- src/lib.rt:151:1
+-- src/lib.rt:296:9
 returns-2 : tie.Need-returns-2
 returns-2 c = search needs
+
+-- src/lib.rt:316:9
+slice-aggregate-answer-in : tie.Need-slice-aggregate-answer-in
+slice-aggregate-answer-in c = search needs
+
+-- src/lib.rt:317:9
+slice-aggregate-answer-in-2 : tie.Need-slice-aggregate-answer-in-2
+slice-aggregate-answer-in-2 c = search needs
+
+-- src/lib.rt:319:9
+slice-aggregate-answer-in-3 : tie.Need-slice-aggregate-answer-in-3
+slice-aggregate-answer-in-3 c = search needs
+
+-- src/lib.rt:309:5
+answer-in-requires : tie.Need-answer-in-requires
+answer-in-requires c κs = (search needs, blank-trusted _ _ (getD-same 2 (pos 0)) _, none-bound _, omega arith, getD-same 1 0)
+
+-- src/lib.rt:278:1
+same-length-3 : tie.Need-same-length-3
+same-length-3 c = search needs
+
+-- src/lib.rt:278:1
+returns-3 : tie.Need-returns-3
+returns-3 c = search needs
 
 pub answer-query-spec : {M : Type 1} → statement M
 answer-query-spec =
@@ -62,8 +90,15 @@ answer-query-spec =
     answer-filled-requires
     same-length
     returns
+    most-rows-requires
     slice-aggregate-answer-by
     slice-aggregate-answer-by-2
     answer-by-requires
     same-length-2
-    returns-2)
+    returns-2
+    slice-aggregate-answer-in
+    slice-aggregate-answer-in-2
+    slice-aggregate-answer-in-3
+    answer-in-requires
+    same-length-3
+    returns-3)

@@ -11,7 +11,7 @@ use Rattle.plain.proofs.evaluate_with.Tie as tie
 use Rattle.plain.proofs.evaluate_with.Reads as reads
 use Rattle.plain.proofs.evaluate_with.Lts as lts
 use Rattle.catalogue.proofs.check.Reads as check-reads
-use Rattle.plain.proofs.answer_query.Reads as answer-query-reads
+use Rattle.plain.proofs.answer_all.Reads as answer-all-reads
 use Rattle.plain.proofs.refused.Reads as refused-reads
 use Rattle.queries.proofs.check.Reads as check-reads′
 
@@ -40,8 +40,8 @@ refused-requires-2 c κs = search needs
 enum-known-layout : tie.Need-enum-known-layout
 enum-known-layout c = search needs
 
-answer-query-requires : tie.Need-answer-query-requires
-answer-query-requires c κs =
+answer-all-requires : tie.Need-answer-all-requires
+answer-all-requires c κs =
     let c₃ = c .before .before .before in let layout = c₃ .layout in
     let c₇ = c₃ .before .before .before .before in let check2 = c₇ .check2 in
     let c₉ = c₇ .before .before in let if1 = c₉ .if1 in
@@ -76,7 +76,7 @@ returns-3 c =
     let c₁₁ = c₉ .before .before in let if1 = c₁₁ .if1 in
     let c₁₂ = c₁₁ .before in let check = c₁₂ .check in
     let c₁₆ = c₁₂ .before .before .before .before in let args = c₁₆ .args in
-    accepted (now (args .catalogue)) (now (args .values)) (now (args .query)) (now (args .answer)) _ (check .ensures) (if1 .left) (layout .given .0 .0) (check2 .last .1 .1 .1 .0) (sym (ap numberOf (layout .given .1)) ∙ check2 .ensures .0) _ _ (c .before .answer-query .ensures)
+    accepted (now (args .catalogue)) (now (args .values)) (now (args .query)) (now (args .answer)) _ (check .ensures) (if1 .left) (layout .given .0 .0) (check2 .last .1 .1 .1 .0) (sym (ap numberOf (layout .given .1)) ∙ check2 .ensures .0) _ _ (c .before .answer-all .ensures)
 
 pub evaluate-with-spec : {M : Type 1} → statement M
 evaluate-with-spec =
@@ -89,7 +89,7 @@ evaluate-with-spec =
     enum-known-n
     refused-requires-2
     enum-known-layout
-    answer-query-requires
+    answer-all-requires
     same-length
     returns-2
     same-length-2

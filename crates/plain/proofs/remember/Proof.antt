@@ -53,7 +53,7 @@ returns c =
     let c₁₄ = c₁₁ .before .before .before in let tail-sizes = c₁₄ .tail-sizes in
     let c₁₅ = c₁₄ .before in let tail = c₁₅ .tail in
     let c₂₀ = c₁₅ .before .before .before .before .before in let args = c₂₀ .args in
-    (remembered-is (args .layout) (args .level) (now (args .q)) (now (args .z)) (now (args .catalogue)) (now (args .values)) (now (args .env)) _ _ _ _ _ (now (args .memo)) _ _ (tail .ensures) (tail-sizes .ensures) (targets .ensures .0) (targets .ensures .1) (tail2 .ensures) (tail-sizes2 .ensures) (condition .ensures .0), condition .ensures .1 ∙ targets .ensures .1)
+    (remembered-is (args .layout) (args .level) (now (args .q)) (now (args .z)) (now (args .walks)) (now (args .values)) (now (args .env)) _ _ _ _ _ (now (args .memo)) _ _ (tail .ensures) (tail-sizes .ensures) (targets .ensures .0) (targets .ensures .1) (tail2 .ensures) (tail-sizes2 .ensures) (condition .ensures .0), condition .ensures .1 ∙ targets .ensures .1)
 
 pub remember-spec : {M : Type 1} → statement M
 remember-spec =

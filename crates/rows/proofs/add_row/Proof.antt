@@ -1,4 +1,6 @@
 use Rattle.rows.proofs.Laws.{row-room, added-full, added-stored, added-over, added-laid}
+use Rattle.rows.proofs.Links.{linked-laid}
+use Rattle.rows.proofs.Folded.{bucket-low}
 use lib.ListN.{length}
 use mathlib.Core.Bool.{false}
 use lib.IntN.{ℤ}
@@ -10,79 +12,125 @@ use mathlib.Core.Path.{sym, ap, _∙_}
 use borrow.Author.Needs.{needs}
 use Rattle.rows.proofs.add_row.Statement.{statement}
 use Rattle.rows.proofs.add_row.Tie as tie
+use Rattle.rows.proofs.add_row.Reads as reads
+use Rattle.rows.proofs.add_row.Lts as lts
+use Rattle.rows.proofs.append.Reads as append-reads
+use Rattle.rows.proofs.bucket.Reads as bucket-reads
+use Rattle.rows.proofs.capacity.Reads as capacity-reads
+use Rattle.rows.proofs.known.Reads as known-reads
+use Rattle.rows.proofs.link.Reads as link-reads
 
+-- src/lib.rt:198:9
 returns : tie.Need-returns
-returns c = added-full (c .before .args .state .rows) (c .before .args .state .full) (now (c .before .args .answer)) (now (c .before .args .row)) (c .if1 .taken)
+returns c = (added-full (c .before .before .args .state .rows) (c .before .before .args .state .full) (now (c .before .before .args .answer)) (now (c .before .before .args .row)) (c .if1 .taken), c .before .before .pre)
 
-find-requires : tie.Need-find-requires
-find-requires c κs = search needs
+-- src/lib.rt:200:9
+bucket-requires : tie.Need-bucket-requires
+bucket-requires c κs = search needs
 
+-- src/lib.rt:201:8
+known-requires : tie.Need-known-requires
+known-requires c κs = search needs
+
+-- src/lib.rt:202:9
 same-length : tie.Need-same-length
 same-length c = search needs
 
-returns-2 : tie.Need-returns-2
-returns-2 c =
-    let args = c .before .before .before .before .args in
-    let if1 = c .before .before .before .if1 in
-    let find = c .before .find in
-    added-stored (args .state .rows) (args .state .full) (now (args .answer)) (now (args .row)) (if1 .left) (sym (find .ensures) ∙ c .if2 .taken)
-
-capacity-requires : tie.Need-capacity-requires
-capacity-requires c κs = search needs
-
+-- src/lib.rt:202:9
 same-length-2 : tie.Need-same-length-2
 same-length-2 c = search needs
 
-returns-3 : tie.Need-returns-3
-returns-3 c =
-    let args = c .before .before .before .before .before .before .args in
-    let if1 = c .before .before .before .before .before .if1 in
-    let find = c .before .before .before .find in
-    let if2 = c .before .before .if2 in
-    let capacity = c .before .capacity in
-    added-over (args .state .rows) (args .state .full) (now (args .answer)) (now (args .row)) (if1 .left) (sym (find .ensures) ∙ if2 .left) (omega (arith, capacity .ensures))
+-- src/lib.rt:202:9
+returns-2 : tie.Need-returns-2
+returns-2 c =
+    let c₅ = c .before .before .before .before .before in let if1 = c₅ .if1 in
+    let c₇ = c₅ .before .before in let args = c₇ .args in let pre = c₇ .pre in
+    (added-stored (args .state .rows) (args .state .full) (now (args .answer)) (now (args .row)) (if1 .left) (sym (c .before .known .ensures) ∙ c .if2 .taken), pre)
 
-mul-at : tie.Need-mul-at
-mul-at c =
-    let args = c .before .before .before .before .before .before .args in
-    let capacity = c .before .capacity in
-    omega (arith, row-room (args .state .rows) (length (now (args .row))) (length (now (args .answer))) (omega (arith, capacity .ensures)))
+-- src/lib.rt:204:8
+capacity-requires : tie.Need-capacity-requires
+capacity-requires c κs = search needs
 
-append-requires : tie.Need-append-requires
-append-requires c κs =
-    let args = c .before .before .before .before .before .before .before .args in
-    let capacity = c .before .before .capacity in
-    omega (arith, row-room (args .state .rows) (length (now (args .row))) (length (now (args .answer))) (omega (arith, capacity .ensures)))
-
-add-t12 : tie.Need-add-t12
-add-t12 c = search needs
-
+-- src/lib.rt:205:9
 same-length-3 : tie.Need-same-length-3
 same-length-3 c = search needs
 
+-- src/lib.rt:205:9
+same-length-4 : tie.Need-same-length-4
+same-length-4 c = search needs
+
+-- src/lib.rt:205:9
+returns-3 : tie.Need-returns-3
+returns-3 c =
+    let c₃ = c .before .before .before in let known = c₃ .known in
+    let c₇ = c₃ .before .before .before .before in let if1 = c₇ .if1 in
+    let c₉ = c₇ .before .before in let args = c₉ .args in let pre = c₉ .pre in
+    (added-over (args .state .rows) (args .state .full) (now (args .answer)) (now (args .row)) (if1 .left) (sym (known .ensures) ∙ c .before .before .if2 .left) (omega (arith, c .before .capacity .ensures, c .if3 .taken)), pre)
+
+-- src/lib.rt:207:14
+mul-at : tie.Need-mul-at
+mul-at c =
+    let c₉ = c .before .before .before .before .before .before .before .before .before in let args = c₉ .args in
+    omega (arith, row-room (args .state .rows) (length (now (args .row))) (length (now (args .answer))) (omega (arith, c .before .capacity .ensures, c .if3 .left)))
+
+-- src/lib.rt:208:5
+append-requires : tie.Need-append-requires
+append-requires c κs =
+    let c₁₀ = c .before .before .before .before .before .before .before .before .before .before in let args = c₁₀ .args in
+    omega (arith, row-room (args .state .rows) (length (now (args .row))) (length (now (args .answer))) (omega (arith, c .before .before .capacity .ensures, c .before .if3 .left)))
+
+-- src/lib.rt:209:5
+link-requires : tie.Need-link-requires
+link-requires c κs =
+    let c₁₀ = c .before .before .before .before .before .before .before .before .before .before in let bucket = c₁₀ .bucket in
+    let c₁₃ = c₁₀ .before .before .before in let args = c₁₃ .args in let pre = c₁₃ .pre in
+    (pre .short, omega (arith, bucket .ensures, bucket-low (length (now (args .table))) (now (args .row))))
+
+-- src/lib.rt:211:15
+add-t16 : tie.Need-add-t16
+add-t16 c = search needs
+
+-- src/lib.rt:190:1
+same-length-5 : tie.Need-same-length-5
+same-length-5 c = search needs
+
+-- src/lib.rt:190:1
+same-length-6 : tie.Need-same-length-6
+same-length-6 c = search needs
+
+-- src/lib.rt:190:1
 returns-4 : tie.Need-returns-4
 returns-4 c =
-    let args = c .before .before .before .before .before .before .before .before .before .args in
-    let if1 = c .before .before .before .before .before .before .before .before .if1 in
-    let find = c .before .before .before .before .before .before .find in
-    let if2 = c .before .before .before .before .before .if2 in
-    let capacity = c .before .before .before .before .capacity in
-    let append = c .before .append in
-    ap (λ (l : List ℤ). record { rows = args .state .rows + 1; full = false; cells = l }) (append .ensures) ∙ added-laid (args .state .rows) (args .state .full) (now (args .answer)) (now (args .row)) (if1 .left) (sym (find .ensures) ∙ if2 .left) (omega (arith, capacity .ensures))
+    let c₂ = c .before .before in let link = c₂ .link in
+    let c₅ = c₂ .before .before .before in let append = c₅ .append in
+    let c₇ = c₅ .before .before in let if3 = c₇ .if3 in
+    let c₈ = c₇ .before in let capacity = c₈ .capacity in
+    let c₉ = c₈ .before in let if2 = c₉ .if2 in
+    let c₁₀ = c₉ .before in let known = c₁₀ .known in
+    let c₁₃ = c₁₀ .before .before .before in let bucket = c₁₃ .bucket in
+    let c₁₄ = c₁₃ .before in let if1 = c₁₄ .if1 in
+    let c₁₆ = c₁₄ .before .before in let args = c₁₆ .args in let pre = c₁₆ .pre in
+    let answer = now (args .answer) in let row = now (args .row) in
+    (ap (λ (l : List ℤ). record { rows = args .state .rows + 1; full = false; cells = l }) (append .ensures) ∙ added-laid (args .state .rows) (args .state .full) answer row (if1 .left) (sym (known .ensures) ∙ if2 .left) (omega (arith, capacity .ensures, if3 .left)), linked-laid answer _ row (args .state .rows) (bucket .result) (now (args .table)) _ (pre) (omega (arith, capacity .ensures, if3 .left)) (bucket .ensures) (append .ensures) (append .kept .0) (link .kept .0) (link .ensures))
 
 pub add-row-spec : {M : Type 1} → statement M
 add-row-spec =
     tie.close
     (tie.spec
     returns
-    find-requires
+    bucket-requires
+    known-requires
     same-length
+    same-length-2
     returns-2
     capacity-requires
-    same-length-2
+    same-length-3
+    same-length-4
     returns-3
     mul-at
     append-requires
-    add-t12
-    same-length-3
+    link-requires
+    add-t16
+    same-length-5
+    same-length-6
     returns-4)

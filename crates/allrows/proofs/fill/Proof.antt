@@ -1,0 +1,74 @@
+use borrow.Author.Needs.{needs}
+use Rattle.allrows.proofs.Steps.{filled-on, filled-end}
+use Rattle.allrows.specs.Filled.{filledBy}
+use Rattle.scans.specs.Flat.{flatBindings}
+use lib.ListN.{length, drop}
+use Prim.Native.Nat.{_-_}
+use mathlib.Core.Path.{_≡_, refl, _∙_}
+use native.Mathlib.Omega.{arith}
+use denote.Ref.{now}
+use Rattle.allrows.proofs.fill.Statement.{statement}
+use Rattle.allrows.proofs.fill.Tie as tie
+use Rattle.allrows.proofs.fill.Reads as reads
+use Rattle.allrows.proofs.fill.Lts as lts
+use Rattle.allrows.proofs.fill_one.Reads as fill-one-reads
+use Rattle.scans.proofs.binding.Reads as binding-reads
+use Rattle.scans.proofs.step.Reads as step-reads
+
+abbrev Inv-loop : tie.InvT-loop
+Inv-loop query catalogue walks₀ at₀ walks at = (filledBy catalogue (flatBindings (drop at query)) walks ≡ filledBy catalogue (flatBindings query) walks₀) × (length walks ≡ length walks₀)
+
+abbrev μ-loop : tie.MeasureT-loop
+μ-loop query catalogue walks₀ at₀ walks at = length query - at
+
+-- src/lib.rt:76:5
+loop-holds : tie.Need-loop-holds Inv-loop μ-loop
+loop-holds c = (refl, refl)
+
+-- src/lib.rt:77:29
+binding-requires : tie.Need-binding-requires Inv-loop μ-loop
+binding-requires c κs = search needs
+
+-- src/lib.rt:77:9
+fill-one-requires : tie.Need-fill-one-requires Inv-loop μ-loop
+fill-one-requires c κs = search needs
+
+-- src/lib.rt:78:15
+step-requires : tie.Need-step-requires Inv-loop μ-loop
+step-requires c κs = search needs
+
+-- src/lib.rt:78:9
+add-at : tie.Need-add-at Inv-loop μ-loop
+add-at c = search needs
+
+-- src/lib.rt:76:5
+loop-less : tie.Need-loop-less Inv-loop μ-loop
+loop-less c = search needs
+
+-- src/lib.rt:76:5
+loop-again : tie.Need-loop-again Inv-loop μ-loop
+loop-again c = (filled-on (now (c .before .before .before .before .before .before .before .before .before .before .before .args .catalogue)) (now (c .before .before .before .before .before .before .before .before .before .before .before .args .query)) (c .before .before .before .before .before .before .before .loop .at) (c .step .result) (c .before .before .before .before .before .before .loop-test .taken) (c .step .ensures .0) (c .before .before .before .before .before .binding .result) (c .before .before .before .before .before .binding .ensures) _ _ _ (c .before .before .before .fill-one .ensures) (c .before .before .before .before .before .before .before .loop .inv .0), c .before .before .before .fill-one .kept .1 .1 .0 ∙ c .before .before .before .before .before .before .before .loop .inv .1)
+
+-- src/lib.rt:72:1
+same-length : tie.Need-same-length Inv-loop μ-loop
+same-length c = search needs
+
+-- src/lib.rt:72:1
+returns : tie.Need-returns Inv-loop μ-loop
+returns c = filled-end (now (c .before .before .before .before .before .args .catalogue)) (now (c .before .before .before .before .before .args .query)) (c .before .loop .at) (c .loop-test .left) _ _ (c .before .loop .inv .0)
+
+pub fill-spec : {M : Type 1} → statement M
+fill-spec =
+    tie.close
+    (tie.spec
+    Inv-loop
+    μ-loop
+    loop-holds
+    binding-requires
+    fill-one-requires
+    step-requires
+    add-at
+    loop-less
+    loop-again
+    same-length
+    returns)

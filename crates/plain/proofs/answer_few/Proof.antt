@@ -1,0 +1,33 @@
+use native.Mathlib.Omega.{arith}
+use Rattle.aggregates.proofs.Taking.{getD-same}
+use borrow.Author.Needs.{needs}
+use Rattle.plain.proofs.answer_few.Statement.{statement}
+use Rattle.plain.proofs.answer_few.Tie as tie
+use Rattle.plain.proofs.answer_few.Reads as reads
+use Rattle.plain.proofs.answer_few.Lts as lts
+use Rattle.plain.proofs.answer_in.Reads as answer-in-reads
+
+-- src/lib.rt:172:9
+slice-aggregate-answer-in : tie.Need-slice-aggregate-answer-in
+slice-aggregate-answer-in c = search needs
+
+-- src/lib.rt:162:5
+answer-in-requires : tie.Need-answer-in-requires
+answer-in-requires c κs = (search needs, search needs, search needs, omega arith, getD-same 1536 0)
+
+-- src/lib.rt:147:1
+same-length : tie.Need-same-length
+same-length c = search needs
+
+-- src/lib.rt:147:1
+same-length-2 : tie.Need-same-length-2
+same-length-2 c = search needs
+
+-- src/lib.rt:147:1
+returns : tie.Need-returns
+returns c = search needs
+
+pub answer-few-spec : {M : Type 1} → statement M
+answer-few-spec =
+    tie.close
+    (tie.spec slice-aggregate-answer-in answer-in-requires same-length same-length-2 returns)

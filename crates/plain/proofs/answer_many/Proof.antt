@@ -1,0 +1,33 @@
+use native.Mathlib.Omega.{arith}
+use Rattle.aggregates.proofs.Taking.{getD-same}
+use borrow.Author.Needs.{needs}
+use Rattle.plain.proofs.answer_many.Statement.{statement}
+use Rattle.plain.proofs.answer_many.Tie as tie
+use Rattle.plain.proofs.answer_many.Reads as reads
+use Rattle.plain.proofs.answer_many.Lts as lts
+use Rattle.plain.proofs.answer_in.Reads as answer-in-reads
+
+-- src/lib.rt:202:9
+slice-aggregate-answer-in : tie.Need-slice-aggregate-answer-in
+slice-aggregate-answer-in c = search needs
+
+-- src/lib.rt:192:5
+answer-in-requires : tie.Need-answer-in-requires
+answer-in-requires c κs = (search needs, search needs, search needs, omega arith, getD-same 20480 0)
+
+-- src/lib.rt:177:1
+same-length : tie.Need-same-length
+same-length c = search needs
+
+-- src/lib.rt:177:1
+same-length-2 : tie.Need-same-length-2
+same-length-2 c = search needs
+
+-- src/lib.rt:177:1
+returns : tie.Need-returns
+returns c = search needs
+
+pub answer-many-spec : {M : Type 1} → statement M
+answer-many-spec =
+    tie.close
+    (tie.spec slice-aggregate-answer-in answer-in-requires same-length same-length-2 returns)

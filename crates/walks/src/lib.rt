@@ -1,0 +1,57 @@
+// The rows of each variable, in the order in which they are walked (specs/Walks).
+ghost use mathlib.Core.Path.{_≡_};
+ghost use Prim.Native.Nat.{_≤_};
+ghost use Rattle.walks.specs.Walks as W;
+
+// Where a variable's list stands in the table and how many rows it has; where the values of its relation begin and how many a row has.
+pub struct Walk {
+    pub start: usize,
+    pub count: usize,
+    pub base: usize,
+    pub width: usize,
+}
+
+fn wide(x: u8) -> usize
+    ensures { λ r. ⌜ r ≡ x ⌝ }
+{
+    x as usize
+}
+
+// The walk of a variable.
+pub fn walk_of(walks: &[u16], variable: u8) -> Walk
+    ensures { λ r. ⌜ r ≡ W.walkOf (now (walks .entry)) variable ⌝ }
+    ensures { λ r. ⌜ W.Fits r ⌝ }
+{
+    let i = 8 * wide(variable);
+    let start = kinds::size_at(walks, i);
+    let count = kinds::size_at(walks, i + 1);
+    let low = kinds::size_at(walks, i + 2);
+    let high = kinds::size_at(walks, i + 3);
+    let width = kinds::size_at(walks, i + 4);
+    Walk {
+        start,
+        count,
+        base: low + 65536 * high,
+        width,
+    }
+}
+
+// The number of row i in its relation.
+fn row_at(walks: &[u16], start: usize, i: usize) -> usize
+    requires { ⌜ (start ≤ 65535) × (i ≤ 65535) ⌝ }
+    ensures { λ r. ⌜ r ≡ W.rowAt (now (walks .entry)) start i ⌝ }
+    ensures { λ r. ⌜ r ≤ 65535 ⌝ }
+{
+    if start == 0 {
+        return i;
+    }
+    kinds::size_at(walks, start + i)
+}
+
+// The place of row i of a walk among the values.
+pub fn place(walks: &[u16], walk: Walk, i: usize) -> usize
+    requires { ⌜ W.Fits walk × (i ≤ 65535) ⌝ }
+    ensures { λ r. ⌜ r ≡ W.placeAt (now (walks .entry)) walk i ⌝ }
+{
+    walk.base + row_at(walks, walk.start, i) * walk.width
+}
