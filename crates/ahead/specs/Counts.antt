@@ -1,0 +1,44 @@
+-- What stands ahead of each token, one number a place: the V's of its level, the ^'s before the next V, the sign, and how many tokens end the level.
+use Prim.Native.Nat.{ℕ, suc, _/_, _%_, _≤_}
+use mathlib.Core.List.{List, [], _∷_, map}
+use mathlib.Core.Path.{_≡_}
+use lib.ListN.{length, drop, getD}
+use Rattle.quel.specs.Tokens.{Token}
+use Rattle.quel.specs.Elaboration.{operatorOf}
+use Rattle.quel.specs.Ahead.{ahead, outer, orsAt, andsAt, operatorAt}
+use Rattle.tokens.specs.Table.{tokenOf}
+
+abbrev pub orsIn : ℕ → ℕ
+orsIn c = c % 4096
+
+abbrev pub andsIn : ℕ → ℕ
+andsIn c = c / 4096 % 4096
+
+-- one less than the operator's number, so that 0 stands for nothing ahead
+abbrev pub signIn : ℕ → ℕ
+signIn c = c / 16777216 % 8
+
+abbrev pub skipIn : ℕ → ℕ
+skipIn c = c / 134217728
+
+-- tokens by their kinds alone: words and numbers do not count
+unfoldable pub plain : List ℕ → List Token
+plain ks = map (λ (k : ℕ). tokenOf k [] 0) ks
+
+-- c says what stands ahead in ts
+pub record Place (c : ℕ) (ts : List Token) : Type 0 where
+  pub ors : orsIn c ≡ orsAt ts
+  pub ands : andsIn c ≡ andsAt ts
+  pub operator : suc (signIn c) ≡ operatorOf (operatorAt ts)
+  pub level : outer (ahead ts) ≡ ahead (drop (skipIn c) ts)
+  pub ors-most : orsIn c ≤ length ts
+  pub ands-most : andsIn c ≤ length ts
+  pub skip-most : skipIn c ≤ length ts
+
+-- one token more, before those of `next`; `after` is the place at which their level has ended
+pub record Stepped (kind next after r : ℕ) : Type 0 where
+  pub place : (ts : List Token) → Place next ts → Place after (drop (skipIn next) ts) → Place r (tokenOf kind [] 0 ∷ ts)
+
+-- every place of the kinds, and the one after the last
+pub record Counted (kinds counts : List ℕ) : Type 0 where
+  pub at : (i : ℕ) → i ≤ length kinds → Place (getD counts i 0) (plain (drop i kinds))

@@ -1,0 +1,24 @@
+use Rattle.marks.proofs.Walks.{deeper-pos}
+use mathlib.Core.Path.{_≡_, refl, sym, _∙_, ap}
+use denote.Ref.{now}
+use native.Mathlib.Omega.{arith}
+use borrow.Author.Needs.{needs}
+use Rattle.marks.proofs.deeper.Statement.{statement}
+use Rattle.marks.proofs.deeper.Tie as tie
+use Rattle.marks.proofs.deeper.Reads as reads
+use Rattle.marks.proofs.deeper.Lts as lts
+
+-- src/lib.rt:75:28
+add-result : tie.Need-add-result
+add-result c = search needs
+
+-- src/lib.rt:71:1
+returns : tie.Need-returns
+returns c = search needs
+
+-- src/lib.rt:71:1
+returns-2 : tie.Need-returns-2
+returns-2 c = deeper-pos (c .before .args .d) (c .if1 .left)
+
+pub deeper-spec : {M : Type 1} → statement M
+deeper-spec = tie.close (tie.spec add-result returns returns-2)

@@ -1,0 +1,8 @@
+pub mod Same
+pub mod Words
+pub mod Reserved
+pub mod Walk
+pub mod Finds
+pub mod Reading
+pub mod Checked
+pub mod Callers

@@ -1,0 +1,12 @@
+pub mod Worked
+pub mod Results
+pub mod Lexical
+pub mod WellFormed
+pub mod Complete
+pub mod Sound
+pub mod Printing
+pub mod Demands
+pub mod Ahead
+pub mod Numbering
+pub mod InReach
+pub mod Writing

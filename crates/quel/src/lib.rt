@@ -1,0 +1,1 @@
+// The model: definitions in specs/, theorems in proofs/. It has no code.

@@ -1,0 +1,169 @@
+-- The loop that stores: the tokens held so far, before those of what is left, are the text's.
+use Prim.Native.Nat.{ℕ, zero, suc, _+_, _-_, _≤_, _<_}
+use mathlib.Core.Bool.{Bool, true, false, cond}
+use mathlib.Core.List.{List, [], _∷_, _++_, append-assoc, append-nil}
+use mathlib.Core.Path.{_≡_, refl, sym, _∙_, ap, ap₂, subst}
+use native.Mathlib.Omega.{arith}
+use native.Mathlib.Numerals.{add-one}
+use lib.Dec.{leb}
+use lib.ListN.{length, getD, take, drop, set, length-drop, drop-of-length-le}
+use lib.Seq.{getD-set-same, getD-set-other, drop-drop}
+use borrow.Author.Tests.{le-leb, lt-leb}
+use Rattle.model.proofs.Tests.{clash}
+use Rattle.quel.specs.Results.{Read, fail, ok, then, need}
+use Rattle.quel.specs.Tokens.{Token, isBlank, past, token, tokensFrom, tokens}
+use Rattle.quel.specs.Lexical.{first, Spelled}
+use Rattle.quel.proofs.Results.{never}
+use Rattle.quel.proofs.Lexical.{spelled-cut, cut-spelled}
+use Rattle.tokens.specs.Table.{Table, tokenOf, wordIn, tokenAt, tokensAt}
+use Rattle.tokens.specs.Pieces.{leading, stands, Leads, readOf}
+use Rattle.tokens.specs.declared.Piece.the-variants as P
+use Rattle.tokens.specs.declared.Outcome.the-variants as O
+use Rattle.tokens.proofs.Places.{past-first}
+
+abbrev Tokens : Type 0
+Tokens = Read (List ℕ) (List Token)
+
+-- with steps enough
+abbrev pub lex : List ℕ → Tokens
+lex s = tokensFrom (suc (length s)) s
+
+fuel : (n : ℕ) (s : List ℕ) → length s < n → tokensFrom n s ≡ lex s
+fuel n s h = go (tokensFrom n s) refl
+  where
+    none : (x : Tokens) → lex s ≡ x → tokensFrom n s ≡ fail → fail ≡ x
+    none fail f e = refl
+    none (ok ts r) f e = never ts [] (sym e ∙ spelled-cut (cut-spelled (suc (length s)) s ts r f) n h)
+
+    go : (x : Tokens) → tokensFrom n s ≡ x → x ≡ lex s
+    go fail e = none (lex s) refl e
+    go (ok ts r) e = let p = cut-spelled n s ts r e in sym e ∙ (spelled-cut p n h ∙ sym (spelled-cut p (suc (length s)) (omega arith)))
+
+lex-blank : (b : ℕ) (s : List ℕ) → isBlank b ≡ true → lex (b ∷ s) ≡ lex s
+unfolding tokensFrom
+lex-blank b s e = rw (tokensFrom, e)
+
+lex-past : (s : List ℕ) → lex (past isBlank s) ≡ lex s
+unfolding past
+lex-past [] = refl
+lex-past (b ∷ s) = go (isBlank b) refl (lex-past s)
+  where
+    go : (x : Bool) → isBlank b ≡ x → lex (past isBlank s) ≡ lex s → lex (cond x (past isBlank s) (b ∷ s)) ≡ lex (b ∷ s)
+    go true e h = h ∙ sym (lex-blank b s e)
+    go false e h = refl
+
+abbrev pub before : Token → Tokens → Tokens
+before t x = then x λ ts r. ok (t ∷ ts) r
+
+lex-token : (s : List ℕ) (t : Token) (n : ℕ) → first isBlank s ≡ false → leading s ≡ ok t (drop n s) → 1 ≤ n → n ≤ length s → lex s ≡ before t (lex (drop n s))
+unfolding tokensFrom
+lex-token [] t n f e h l = absurd (omega arith)
+lex-token (b ∷ s) t n f e h l = rw (tokensFrom, f, e, fuel (suc (length s)) (drop n (b ∷ s)) (omega (arith, length-drop n (b ∷ s))))
+
+lex-refused : (s : List ℕ) → 1 ≤ length s → first isBlank s ≡ false → leading s ≡ fail → lex s ≡ fail
+unfolding tokensFrom
+lex-refused [] h f e = absurd (omega arith)
+lex-refused (b ∷ s) h f e = rw (tokensFrom, f, e)
+
+lex-end : lex [] ≡ ok [] []
+unfolding tokensFrom
+lex-end = refl
+
+-- arrays with one token more
+module _ (text K S L N : List ℕ) (n k a m v : ℕ) where
+  abbrev old : Table
+  old = record { kinds = K; starts = S; lengths = L; numbers = N }
+
+  abbrev pub new : Table
+  new = record { kinds = set K n k; starts = set S n a; lengths = set L n m; numbers = set N n v }
+
+  kept : (i : ℕ) → i < n → tokenAt text new i ≡ tokenAt text old i
+  unfolding tokenAt wordIn
+  kept i h =
+      rw (
+        getD-set-other K n i k 0 (λ e. omega arith),
+        getD-set-other S n i a 0 (λ e. omega arith),
+        getD-set-other L n i m 0 (λ e. omega arith),
+        getD-set-other N n i v 0 (λ e. omega arith),
+      )
+
+  added : n < length K → n < length S → n < length L → n < length N → tokenAt text new n ≡ tokenOf k (take m (drop a text)) v
+  unfolding tokenAt wordIn
+  added h₁ h₂ h₃ h₄ = rw (getD-set-same K n k 0 h₁, getD-set-same S n a 0 h₂, getD-set-same L n m 0 h₃, getD-set-same N n v 0 h₄)
+
+  more : (i j : ℕ) → i + j ≡ n → tokensAt text new i (suc j) ≡ tokensAt text old i j ++ (tokenAt text new n ∷ [])
+  unfolding tokensAt
+  more i zero e = ap (λ (x : ℕ). tokenAt text new x ∷ []) (omega arith)
+  more i (suc j) e = ap₂ (λ (t : Token) (ts : List Token). t ∷ ts) (kept i (omega arith)) (more (suc i) j (omega arith))
+
+-- tokens before those of the rest
+abbrev ahead : List Token → Tokens → Tokens
+ahead ts fail = fail
+ahead ts (ok us r) = ok (ts ++ us) r
+
+ahead-none : (x : Tokens) → ahead [] x ≡ x
+ahead-none fail = refl
+ahead-none (ok us r) = refl
+
+ahead-more : (ts : List Token) (t : Token) (x : Tokens) → ahead (ts ++ (t ∷ [])) x ≡ ahead ts (before t x)
+ahead-more ts t fail = refl
+ahead-more ts t (ok us r) = rw append-assoc
+
+pub record Held (text K S L N : List ℕ) (at n : ℕ) : Type 0 where
+  pub reads : ahead (tokensAt text (record { kinds = K; starts = S; lengths = L; numbers = N }) 0 n) (lex (drop at text)) ≡ lex text
+  pub word : first isBlank (drop at text) ≡ false
+  pub behind : n ≤ at
+  pub inside : at ≤ length text
+
+pub held-start : (text K S L N : List ℕ) (at : ℕ) → drop at text ≡ past isBlank text → at ≤ length text → Held text K S L N at 0
+unfolding tokensAt
+held-start text K S L N at e h = record {
+  reads = ahead-none (lex (drop at text)) ∙ (ap lex e ∙ lex-past text);
+  word = rw e (past-first isBlank text);
+  behind = omega arith;
+  inside = h;
+}
+
+pub too-long : (text : List ℕ) → 2000 < length text → tokens text ≡ fail
+unfolding tokens
+too-long text h = rw (lt-leb (length text) 2000 h)
+
+module _ (text K S L N : List ℕ) (at n : ℕ) (h : Held text K S L N at n) (short : length text ≤ 2000) where
+  whole : tokens text ≡ lex text
+  unfolding tokens
+  whole = rw (le-leb (length text) 2000 short)
+
+  pub held-end : length text ≤ at → ok (tokensAt text (record { kinds = K; starts = S; lengths = L; numbers = N }) 0 n) [] ≡ tokens text
+  held-end l =
+      let t : Table = record { kinds = K; starts = S; lengths = L; numbers = N } in
+      sym (ap (ahead (tokensAt text t 0 n)) (ap lex (drop-of-length-le text l) ∙ lex-end) ∙ nil (tokensAt text t 0 n)) ∙ (h .reads ∙ sym whole)
+    where
+      nil : (ts : List Token) → ahead ts (ok [] []) ≡ ok ts []
+      nil ts = ap (λ (us : List Token). ok us []) (append-nil ts)
+
+  module _ (l : at < length text) where
+    pub held-refused : Leads P.Refused (drop at text) → fail ≡ tokens text
+    held-refused p =
+        ap (ahead (tokensAt text (record { kinds = K; starts = S; lengths = L; numbers = N }) 0 n)) (sym (lex-refused (drop at text) (omega (arith, length-drop at text)) (h .word) (sym (p .says))))
+        ∙ (h .reads ∙ sym whole)
+
+    module _ (k m v : ℕ) (p : Leads (P.Found k m v) (drop at text)) where
+      pub held-room : (1 ≤ m) × (at + m ≤ length text)
+      held-room = (p .fits .0, omega (arith, p .fits .1, length-drop at text))
+
+      pub held-more : n < length K → n < length S → n < length L → n < length N → (to : ℕ) → drop to text ≡ past isBlank (drop (at + m) text) → at + m ≤ to → to ≤ length text
+          → Held text (set K n k) (set S n at) (set L n m) (set N n v) to (n + 1)
+      held-more h₁ h₂ h₃ h₄ to e g i = record {
+        reads =
+            ap₂ ahead (ap (tokensAt text (new text K S L N n k at m v) 0) (add-one n) ∙ (more text K S L N n k at m v 0 n (omega arith) ∙ ap (λ (t : Token). tokensAt text (old text K S L N n k at m v) 0 n ++ (t ∷ [])) (added text K S L N n k at m v h₁ h₂ h₃ h₄))) (ap lex e ∙ lex-past (drop (at + m) text))
+            ∙ (ahead-more (tokensAt text (old text K S L N n k at m v) 0 n) (tokenOf k (take m (drop at text)) v) (lex (drop (at + m) text))
+            ∙ (ap (ahead (tokensAt text (old text K S L N n k at m v) 0 n)) turned ∙ h .reads));
+        word = rw e (past-first isBlank (drop (at + m) text));
+        behind = omega (arith, h .behind, p .fits .0);
+        inside = i;
+      }
+        where
+          turned : before (tokenOf k (take m (drop at text)) v) (lex (drop (at + m) text)) ≡ lex (drop at text)
+          turned =
+              ap (λ (s : List ℕ). before (tokenOf k (take m (drop at text)) v) (lex s)) (sym (drop-drop m at text))
+              ∙ sym (lex-token (drop at text) (tokenOf k (take m (drop at text)) v) m (h .word) (sym (p .says)) (p .fits .0) (p .fits .1))

@@ -1,0 +1,6 @@
+pub mod Places
+pub mod Values
+pub mod Words
+pub mod Leading
+pub mod Reached
+pub mod Cutting

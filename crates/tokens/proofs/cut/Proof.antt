@@ -1,0 +1,195 @@
+use Rattle.tokens.proofs.Cutting.{Held, held-start, too-long, held-end, held-refused, held-room, held-more}
+use Rattle.tokens.specs.Pieces.{Leads}
+use Rattle.tokens.specs.declared.Piece.{Piece}
+use lib.ListN.{length, drop, length-set}
+use Prim.Native.Nat.{_-_, _≤_}
+use mathlib.Core.Path.{_≡_, refl, sym, _∙_, subst}
+use denote.Ref.{now}
+use native.Mathlib.Omega.{arith}
+use borrow.Author.Needs.{needs}
+use Rattle.tokens.proofs.cut.Statement.{statement}
+use Rattle.tokens.proofs.cut.Tie as tie
+
+abbrev Inv-loop : tie.InvT-loop
+Inv-loop text kinds₀ starts₀ lengths₀ numbers₀ at₀ n₀ kinds starts lengths numbers at n = Held text kinds starts lengths numbers at n × (length text ≤ 2000) × (length kinds ≡ length kinds₀) × (length starts ≡ length starts₀) × (length lengths ≡ length lengths₀) × (length numbers ≡ length numbers₀)
+
+abbrev μ-loop : tie.MeasureT-loop
+μ-loop text kinds₀ starts₀ lengths₀ numbers₀ at₀ n₀ kinds starts lengths numbers at n = length text - at
+
+returns : tie.Need-returns Inv-loop μ-loop
+returns c = (sym (too-long (now (c .before .before .before .before .before .before .args .text)) (c .if1 .taken)), omega arith)
+
+skip-requires : tie.Need-skip-requires Inv-loop μ-loop
+skip-requires c κs = search needs
+
+loop-holds : tie.Need-loop-holds Inv-loop μ-loop
+loop-holds c = (held-start (now (c .before .before .before .before .before .before .before .args .text)) _ _ _ _ (c .skip .result) (c .skip .ensures .0) (c .skip .ensures .2), c .before .if1 .left, refl, refl, refl, refl)
+
+piece-at-requires : tie.Need-piece-at-requires Inv-loop μ-loop
+piece-at-requires c κs = search needs
+
+enum-known-kind : tie.Need-enum-known-kind Inv-loop μ-loop
+enum-known-kind c = search needs
+
+enum-told : tie.Need-enum-told Inv-loop μ-loop
+enum-told c = search needs
+
+same-length : tie.Need-same-length Inv-loop μ-loop
+same-length c = search needs
+
+same-length-2 : tie.Need-same-length-2 Inv-loop μ-loop
+same-length-2 c = search needs
+
+same-length-3 : tie.Need-same-length-3 Inv-loop μ-loop
+same-length-3 c = search needs
+
+same-length-4 : tie.Need-same-length-4 Inv-loop μ-loop
+same-length-4 c = search needs
+
+returns-2 : tie.Need-returns-2 Inv-loop μ-loop
+returns-2 c =
+    let c₃ = c .before .before .before in let loop-test = c₃ .loop-test in
+    let c₄ = c₃ .before in let loop = c₄ .loop in
+    let c₁₂ = c₄ .before .before .before .before .before .before .before .before in let args = c₁₂ .args in
+    let text = now (args .text) in
+    (held-refused text (loop .kinds) (loop .starts) (loop .lengths) (loop .numbers) (loop .at) (loop .n) (loop .inv .0) (loop .inv .1) (loop-test .taken) (subst (λ (r : Piece). Leads r (drop (loop .at) text)) (c .enum-told .given .1) (c .before .before .piece-at .ensures)), omega arith)
+
+slice-write-kinds : tie.Need-slice-write-kinds Inv-loop μ-loop
+slice-write-kinds c =
+    let c₅ = c .before .before .before .before .before in let loop = c₅ .loop in
+    omega (arith, loop .inv .2, loop .inv .0 .behind, loop .inv .1)
+
+cast-starts : tie.Need-cast-starts Inv-loop μ-loop
+cast-starts c = record { fits = omega (arith, c .before .before .before .before .before .loop .inv .0 .behind, c .before .before .before .before .before .loop .inv .1) }
+
+mul-starts : tie.Need-mul-starts Inv-loop μ-loop
+mul-starts c = record { fits = omega (arith, c .before .before .before .before .before .loop .inv .0 .behind, c .before .before .before .before .before .loop .inv .1) }
+
+slice-write-starts : tie.Need-slice-write-starts Inv-loop μ-loop
+slice-write-starts c =
+    let c₅ = c .before .before .before .before .before in let loop = c₅ .loop in
+    omega (arith, loop .inv .3, loop .inv .0 .behind, loop .inv .1)
+
+cast-lengths : tie.Need-cast-lengths Inv-loop μ-loop
+cast-lengths c =
+    let c₁ = c .before in let kind = c₁ .kind in
+    let c₃ = c₁ .before .before in let piece-at = c₃ .piece-at in
+    let c₄ = c₃ .before in let loop-test = c₄ .loop-test in
+    let c₅ = c₄ .before in let loop = c₅ .loop in
+    let c₁₃ = c₅ .before .before .before .before .before .before .before .before in let args = c₁₃ .args in
+    let text = now (args .text) in
+    let h = held-room text (loop .kinds) (loop .starts) (loop .lengths) (loop .numbers) (loop .at) (loop .n) (loop .inv .0) (loop .inv .1) (loop-test .taken) (kind .given .0 .0) (kind .given .0 .1 .0) (kind .given .0 .1 .1 .0) (subst (λ (r : Piece). Leads r (drop (loop .at) text)) (kind .given .1) (piece-at .ensures)) in record { fits = omega (arith, h .0, h .1, loop .inv .1) }
+
+mul-lengths : tie.Need-mul-lengths Inv-loop μ-loop
+mul-lengths c = record { fits = omega (arith, c .before .before .before .before .before .loop .inv .0 .behind, c .before .before .before .before .before .loop .inv .1) }
+
+slice-write-lengths : tie.Need-slice-write-lengths Inv-loop μ-loop
+slice-write-lengths c =
+    let c₅ = c .before .before .before .before .before in let loop = c₅ .loop in
+    omega (arith, loop .inv .4, loop .inv .0 .behind, loop .inv .1)
+
+mul-numbers : tie.Need-mul-numbers Inv-loop μ-loop
+mul-numbers c = record { fits = omega (arith, c .before .before .before .before .before .loop .inv .0 .behind, c .before .before .before .before .before .loop .inv .1) }
+
+slice-write-numbers : tie.Need-slice-write-numbers Inv-loop μ-loop
+slice-write-numbers c =
+    let c₅ = c .before .before .before .before .before in let loop = c₅ .loop in
+    omega (arith, loop .inv .5, loop .inv .0 .behind, loop .inv .1)
+
+add-n : tie.Need-add-n Inv-loop μ-loop
+add-n c = record { fits = omega (arith, c .before .before .before .before .before .loop .inv .0 .behind, c .before .before .before .before .before .loop .inv .1) }
+
+add-skip : tie.Need-add-skip Inv-loop μ-loop
+add-skip c =
+    let c₁ = c .before in let kind = c₁ .kind in
+    let c₃ = c₁ .before .before in let piece-at = c₃ .piece-at in
+    let c₄ = c₃ .before in let loop-test = c₄ .loop-test in
+    let c₅ = c₄ .before in let loop = c₅ .loop in
+    let c₁₃ = c₅ .before .before .before .before .before .before .before .before in let args = c₁₃ .args in
+    let text = now (args .text) in
+    let h = held-room text (loop .kinds) (loop .starts) (loop .lengths) (loop .numbers) (loop .at) (loop .n) (loop .inv .0) (loop .inv .1) (loop-test .taken) (kind .given .0 .0) (kind .given .0 .1 .0) (kind .given .0 .1 .1 .0) (subst (λ (r : Piece). Leads r (drop (loop .at) text)) (kind .given .1) (piece-at .ensures)) in record { fits = omega (arith, h .0, h .1, loop .inv .1) }
+
+skip-requires-2 : tie.Need-skip-requires-2 Inv-loop μ-loop
+skip-requires-2 c κs =
+    let c₁ = c .before in let kind = c₁ .kind in
+    let c₃ = c₁ .before .before in let piece-at = c₃ .piece-at in
+    let c₄ = c₃ .before in let loop-test = c₄ .loop-test in
+    let c₅ = c₄ .before in let loop = c₅ .loop in
+    let c₁₃ = c₅ .before .before .before .before .before .before .before .before in let args = c₁₃ .args in
+    let text = now (args .text) in
+    held-room text (loop .kinds) (loop .starts) (loop .lengths) (loop .numbers) (loop .at) (loop .n) (loop .inv .0) (loop .inv .1) (loop-test .taken) (kind .given .0 .0) (kind .given .0 .1 .0) (kind .given .0 .1 .1 .0) (subst (λ (r : Piece). Leads r (drop (loop .at) text)) (kind .given .1) (piece-at .ensures)) .1
+
+loop-less : tie.Need-loop-less Inv-loop μ-loop
+loop-less c =
+    let c₂ = c .before .before in let kind = c₂ .kind in
+    let c₄ = c₂ .before .before in let piece-at = c₄ .piece-at in
+    let c₅ = c₄ .before in let loop-test = c₅ .loop-test in
+    let c₆ = c₅ .before in let loop = c₆ .loop in
+    let c₁₄ = c₆ .before .before .before .before .before .before .before .before in let args = c₁₄ .args in
+    let text = now (args .text) in
+    let h = held-room text (loop .kinds) (loop .starts) (loop .lengths) (loop .numbers) (loop .at) (loop .n) (loop .inv .0) (loop .inv .1) (loop-test .taken) (kind .given .0 .0) (kind .given .0 .1 .0) (kind .given .0 .1 .1 .0) (subst (λ (r : Piece). Leads r (drop (loop .at) text)) (kind .given .1) (piece-at .ensures)) in omega (arith, h .0, c .skip2 .ensures .1, c .skip2 .ensures .2, loop-test .taken)
+
+loop-again : tie.Need-loop-again Inv-loop μ-loop
+loop-again c =
+    let c₂ = c .before .before in let kind = c₂ .kind in
+    let c₄ = c₂ .before .before in let piece-at = c₄ .piece-at in
+    let c₅ = c₄ .before in let loop-test = c₅ .loop-test in
+    let c₆ = c₅ .before in let loop = c₆ .loop in
+    let c₁₄ = c₆ .before .before .before .before .before .before .before .before in let args = c₁₄ .args in
+    let text = now (args .text) in
+    (held-more text (loop .kinds) (loop .starts) (loop .lengths) (loop .numbers) (loop .at) (loop .n) (loop .inv .0) (loop .inv .1) (loop-test .taken) (kind .given .0 .0) (kind .given .0 .1 .0) (kind .given .0 .1 .1 .0) (subst (λ (r : Piece). Leads r (drop (loop .at) text)) (kind .given .1) (piece-at .ensures)) (omega (arith, loop .inv .2, loop .inv .0 .behind, loop .inv .1)) (omega (arith, loop .inv .3, loop .inv .0 .behind, loop .inv .1)) (omega (arith, loop .inv .4, loop .inv .0 .behind, loop .inv .1)) (omega (arith, loop .inv .5, loop .inv .0 .behind, loop .inv .1)) (c .skip2 .result) (c .skip2 .ensures .0) (c .skip2 .ensures .1) (c .skip2 .ensures .2), loop .inv .1, length-set (loop .kinds) (loop .n) (kind .given .0 .0) ∙ loop .inv .2, length-set (loop .starts) (loop .n) (loop .at) ∙ loop .inv .3, length-set (loop .lengths) (loop .n) (kind .given .0 .1 .0) ∙ loop .inv .4, length-set (loop .numbers) (loop .n) (kind .given .0 .1 .1 .0) ∙ loop .inv .5)
+
+same-length-5 : tie.Need-same-length-5 Inv-loop μ-loop
+same-length-5 c = search needs
+
+same-length-6 : tie.Need-same-length-6 Inv-loop μ-loop
+same-length-6 c = search needs
+
+same-length-7 : tie.Need-same-length-7 Inv-loop μ-loop
+same-length-7 c = search needs
+
+same-length-8 : tie.Need-same-length-8 Inv-loop μ-loop
+same-length-8 c = search needs
+
+returns-3 : tie.Need-returns-3 Inv-loop μ-loop
+returns-3 c =
+    let c₁ = c .before in let loop = c₁ .loop in
+    let c₉ = c₁ .before .before .before .before .before .before .before .before in let args = c₉ .args in
+    (held-end (now (args .text)) (loop .kinds) (loop .starts) (loop .lengths) (loop .numbers) (loop .at) (loop .n) (loop .inv .0) (loop .inv .1) (c .loop-test .left), omega (arith, loop .inv .0 .behind, loop .inv .0 .inside, loop .inv .1))
+
+pub cut-spec : {M : Type 1} → statement M
+cut-spec =
+    tie.close
+    (tie.spec
+    Inv-loop
+    μ-loop
+    returns
+    skip-requires
+    loop-holds
+    piece-at-requires
+    enum-known-kind
+    enum-told
+    same-length
+    same-length-2
+    same-length-3
+    same-length-4
+    returns-2
+    slice-write-kinds
+    cast-starts
+    mul-starts
+    slice-write-starts
+    cast-lengths
+    mul-lengths
+    slice-write-lengths
+    mul-numbers
+    slice-write-numbers
+    add-n
+    add-skip
+    skip-requires-2
+    loop-less
+    loop-again
+    same-length-5
+    same-length-6
+    same-length-7
+    same-length-8
+    returns-3)

@@ -1,0 +1,4 @@
+pub mod Table
+pub mod Kinds
+pub mod Spans
+pub mod Pieces
