@@ -57,9 +57,10 @@ extern "C" {
 
 /*
  * Stack that a call may take, with margin. All memory beside the caller's buffers is there. Measured:
- * waldumre_ask takes at most 128,000 bytes, and waldumre_evaluate 171,000 for an accepted query,
- * 43,000 of them for the table by which equal rows are found; to refuse 17,216 bytes of aggregates
- * nested without end waldumre_evaluate takes 430,000.
+ * waldumre_ask takes at most 132,000 bytes, and waldumre_evaluate 193,000 for an accepted query, each
+ * the sum of two measurements: the deepest query, and 43,000 for the table by which equal rows of a
+ * large answer are found; to refuse 17,216 bytes of aggregates nested without end waldumre_evaluate
+ * takes 430,000.
  */
 #define WALDUMRE_STACK_BYTES 1048576
 
