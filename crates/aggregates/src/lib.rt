@@ -12,6 +12,7 @@ ghost use Rattle.sizes.specs.Parts.{targetsAt};
 ghost use Rattle.walks.specs.Walks.{rowsBy};
 ghost use Rattle.numbers.specs.Numbers.{represent, added, Small, Bounded, Accumulates};
 ghost use Rattle.evaluator.specs.Evaluation.{assigned, valueAt, valuesOn};
+ghost use Rattle.seeks.specs.Keys.{Faithful};
 ghost use Rattle.aggregates.specs.Taken.{bothHold, takenBy};
 ghost use Rattle.aggregates.specs.Filled.{filledC, filledT, filledTs};
 
@@ -35,18 +36,19 @@ fn both(
     q: &[u8],
     z: &[u16],
     walks: &[u16],
+    chains: &[u16],
     vs: &[i32],
     memo: &[i64],
     env: &mut [usize],
 ) -> bool
-    requires { ⌜ 256 ≤ length (now env) ⌝ }
+    requires { ⌜ (256 ≤ length (now env)) × Faithful (now t) (now walks) (now vs) (now chains) ⌝ }
     ensures { λ r. ⌜ r ≡ bothHold (now (t .entry)) (now (xs .entry)) (now (q .entry)) (now (z .entry)) (now (walks .entry)) (now (vs .entry)) (now (memo .entry)) (assigned (now (vs .entry)) (now (env .entry))) ⌝ }
     ensures { λ _. ⌜ now (env .exit) ≡ now (env .entry) ⌝ }
 {
-    if !conjuncts::holds(t, xs, 0, q, z, walks, vs, memo, env) {
+    if !conjuncts::holds(t, xs, 0, q, z, walks, chains, vs, memo, env) {
         return false;
     }
-    conjuncts::holds(t, xs, 1, q, z, walks, vs, memo, env)
+    conjuncts::holds(t, xs, 1, q, z, walks, chains, vs, memo, env)
 }
 
 // What was taken, and an attribute of the row at a place where the conjuncts hold.
@@ -56,6 +58,7 @@ fn with_row(
     q: &[u8],
     z: &[u16],
     walks: &[u16],
+    chains: &[u16],
     vs: &[i32],
     memo: &[i64],
     env: &mut [usize],
@@ -63,12 +66,12 @@ fn with_row(
     attribute: u8,
     taken: Accumulator,
 ) -> Accumulator
-    requires { ⌜ (256 ≤ length (now env)) × (taken .count < 65535) × Bounded taken ⌝ }
+    requires { ⌜ (256 ≤ length (now env)) × (taken .count < 65535) × Bounded taken × Faithful (now t) (now walks) (now vs) (now chains) ⌝ }
     ensures { λ r. ⌜ r ≡ cond (bothHold (now (t .entry)) (now (xs .entry)) (now (q .entry)) (now (z .entry)) (now (walks .entry)) (now (vs .entry)) (now (memo .entry)) (assigned (now (vs .entry)) (now (env .entry)))) (added taken (getD (now (vs .entry)) (row + attribute) (pos 0))) taken ⌝ }
     ensures { λ r. ⌜ Bounded r ⌝ }
     ensures { λ _. ⌜ now (env .exit) ≡ now (env .entry) ⌝ }
 {
-    if !both(t, xs, q, z, walks, vs, memo, env) {
+    if !both(t, xs, q, z, walks, chains, vs, memo, env) {
         return taken;
     }
     numbers::add(taken, catalogue::cell(vs, row, attribute))
@@ -76,6 +79,53 @@ fn with_row(
 
 // The attribute of each row of the variable for which the conjuncts hold.
 fn take(
+    t: &[u16],
+    xs: &[i32],
+    q: &[u8],
+    z: &[u16],
+    walks: &[u16],
+    chains: &[u16],
+    vs: &[i32],
+    memo: &[i64],
+    env: &mut [usize],
+    variable: u8,
+    attribute: u8,
+) -> Accumulator
+    requires { ⌜ (256 ≤ length (now env)) × Faithful (now t) (now walks) (now vs) (now chains) ⌝ }
+    ensures { λ r. ⌜ Accumulates r (takenBy (now (t .entry)) (now (xs .entry)) (now (q .entry)) (now (z .entry)) (now (walks .entry)) (now (vs .entry)) (now (memo .entry)) (now (env .entry)) variable attribute) ⌝ }
+    ensures { λ r. ⌜ r .count ≤ 65535 ⌝ }
+    ensures { λ _. ⌜ now (env .exit) ≡ now (env .entry) ⌝ }
+{
+    let walk = walks::walk_of(walks, variable);
+    let n = walk.count;
+    let old = evaluator::place(env, variable);
+    let mut taken = numbers::empty();
+    let mut i = probes::ahead(t, xs, 0, variable, walks, walk, vs, memo, env, 0);
+    while i < n {
+        let row = walks::place(walks, walk, i);
+        evaluator::set_place(env, variable, row);
+        taken = with_row(
+            t,
+            xs,
+            q,
+            z,
+            walks,
+            chains,
+            vs,
+            memo,
+            env,
+            row,
+            attribute,
+            taken,
+        );
+        i = probes::ahead(t, xs, 0, variable, walks, walk, vs, memo, env, i + 1);
+    }
+    evaluator::set_place(env, variable, old);
+    taken
+}
+
+// The same where the conjuncts ask for rows of other variables: those are chained, up to four of 1,024 rows.
+fn take_linked(
     t: &[u16],
     xs: &[i32],
     q: &[u8],
@@ -92,19 +142,21 @@ fn take(
     ensures { λ r. ⌜ r .count ≤ 65535 ⌝ }
     ensures { λ _. ⌜ now (env .exit) ≡ now (env .entry) ⌝ }
 {
-    let walk = walks::walk_of(walks, variable);
-    let n = walk.count;
-    let old = evaluator::place(env, variable);
-    let mut taken = numbers::empty();
-    let mut i = probes::ahead(t, xs, 0, variable, walks, walk, vs, memo, env, 0);
-    while i < n {
-        let row = walks::place(walks, walk, i);
-        evaluator::set_place(env, variable, row);
-        taken = with_row(t, xs, q, z, walks, vs, memo, env, row, attribute, taken);
-        i = probes::ahead(t, xs, 0, variable, walks, walk, vs, memo, env, i + 1);
-    }
-    evaluator::set_place(env, variable, old);
-    taken
+    let mut chains = [0u16; 8272];
+    seeks::add_searches(t, walks, vs, &mut chains, 64);
+    take(
+        t,
+        xs,
+        q,
+        z,
+        walks,
+        &chains,
+        vs,
+        memo,
+        env,
+        variable,
+        attribute,
+    )
 }
 
 // The attribute of each row of the variable that meets the condition that q starts with. With no ranges the plan looks at no catalogue: any bytes will do.
@@ -127,7 +179,23 @@ fn gather(
     let mut t = [0u16; 512];
     let mut xs = [0i32; 128];
     conjuncts::plan(q, z, 0, 0, level, q, 200, memo, &mut t, &mut xs);
-    take(&t, &xs, q, z, walks, vs, memo, env, variable, attribute)
+    if seeks::searches(&t) {
+        return take_linked(&t, &xs, q, z, walks, vs, memo, env, variable, attribute);
+    }
+    let chains = [0u16; 1];
+    take(
+        &t,
+        &xs,
+        q,
+        z,
+        walks,
+        &chains,
+        vs,
+        memo,
+        env,
+        variable,
+        attribute,
+    )
 }
 
 // The value of the term that q starts with; an aggregate's condition is compiled once for its rows.

@@ -11,18 +11,20 @@ use lib.ListN.{getD, drop}
 use lib.Seq.{drop-drop, getD-drop}
 use borrow.Author.Tests.{ne-eqb}
 use Rattle.model.specs.Kinds.{Kind, kindOf, bodyLength}
-use Rattle.model.specs.Syntax.{Condition, NOT, AND, OR}
+use Rattle.model.specs.Syntax.{Condition, NOT, AND, OR, SOME}
 use Rattle.model.specs.Meaning.{Assignment}
 use Rattle.kinds.specs.Tables.{recordLength}
 use Rattle.kinds.specs.Record.{filled, recordAt}
 use Rattle.kinds.proofs.Records.{whole-record}
+use Rattle.kinds.specs.declared.Record.{Record}
 use Rattle.kinds.specs.declared.Record.the-variants as R
 use Rattle.sizes.specs.Decode.{first, second, conditionBy, decode, decodeT}
 use Rattle.evaluator.specs.Recalled.{holdsBy}
 use Rattle.walks.specs.Walks.{rowsBy}
 use Rattle.branches.specs.Branches.{runs}
-use Rattle.branches.specs.Compiled.{Compiled, node, joined, Parted}
+use Rattle.branches.specs.Compiled.{Compiled, node, joined, Parted, Searched}
 use Rattle.branches.specs.declared.Parts.{Parts}
+use Rattle.branches.specs.declared.Search.{Search}
 use Rattle.branches.proofs.Running.{runs-kept, kept-both}
 use Rattle.branches.proofs.Operands.{condition-is}
 
@@ -73,6 +75,30 @@ module _ (x : Parts) (n l place : ℕ) (q z here : List ℕ) (k b a s : ℕ) (nz
             (ap₂ (decode (l - 1)) (part q (x .second) (second (drop place q) (drop place z)) at-second) (part z (x .second) (second (drop place q) (drop place z)) at-second))
             ∙ ap (λ (j : ℕ). joined j (decode (l - 1) (drop (x .first) q) (drop (x .first) z)) (decode (l - 1) (drop (x .second) q) (drop (x .second) z))) (sym ex-kind);
       }
+
+-- a SOME
+pub no-search : (x : Search) (n l place : ℕ) (q : List ℕ) → x ≡ record { place = 0; variable = 0 } → (x .place ≡ 0 → ⊥) → Searched (x .place) (x .variable) n l place q
+no-search x n l place q ex h = absurd (h (ap (λ (y : Search). y .place) ex))
+
+pub search-found : (n l place : ℕ) (q here : List ℕ) (b a v g u : ℕ) (r : Record) → (l ≡ 0 → ⊥) → 2 ≤ n → here ≡ drop place q → r ≡ recordAt here → r ≡ R.Some v g → b ≡ getD here 0 0 → a ≡ recordLength b → place + a ≤ 65535 → u ≡ v → u ≤ 255 → Searched (place + a) u n l place q
+search-found n l place q here b a v g u r nz room eh er es eb ea le eu hu =
+    record {
+      room = room;
+      deep = nz;
+      low = le;
+      byte = omega arith;
+      relation = g;
+      whole = λ z.
+          sym (condition-is [] (drop place q) l (R.Some v g) nz (sym es ∙ er ∙ ap recordAt eh) (drop place z))
+          ∙ ap₂ (λ (x y : List ℕ). SOME v g (decode (l - 1) x y)) (part q) (part z)
+          ∙ ap (λ (w : ℕ). SOME w g (decode (l - 1) (drop (place + a) q) (drop (place + a) z))) (sym eu);
+    }
+  where
+    i : a ≡ first (drop place q)
+    i = ea ∙ ap recordLength (eb ∙ ap (λ (y : List ℕ). getD y 0 0) eh)
+
+    part : (y : List ℕ) → drop (first (drop place q)) (drop place y) ≡ drop (place + a) y
+    part y = drop-drop (first (drop place q)) place y ∙ ap (λ (j : ℕ). drop (place + j) y) (sym i)
 
 pub positive : (l : ℕ) → (l ≡ 0 → ⊥) → 1 ≤ l
 positive l h = omega (arith, h)

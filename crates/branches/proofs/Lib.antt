@@ -1,5 +1,5 @@
 pub mod Running
-pub mod Following
+pub mod Sides
 pub mod Operands
 pub mod Writing
 pub mod Compiling

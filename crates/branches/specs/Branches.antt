@@ -1,6 +1,7 @@
 -- A condition as a table of branches: each leads on to one of two earlier ones, until 0, it holds, or 1, it fails. Eight numbers a branch:
--- operator (0: a condition of the query, by its place and its level), left variable or place, left attribute or level, right variable,
--- right attribute, where it leads if it holds, where if it fails, and 0; and two numbers, the left and the right.
+-- operator (0: a condition of the query, by its place and its level; 256: some row of a variable leads from an earlier branch to 0), left variable or
+-- place or the variable, left attribute or level or that branch, right variable, right attribute, where it leads if it holds, where if it fails,
+-- and 0; and two numbers, the left and the right.
 use Prim.Native.Nat.{ℕ, zero, suc, _+_, _-_, _*_}
 use mathlib.Core.Bool.{Bool, false, cond}
 use mathlib.Core.List.{List}
@@ -11,7 +12,8 @@ use Rattle.model.specs.Meaning.{Assignment, Ratio, whole, compare}
 use Rattle.numbers.specs.Memo.{knows, recalled}
 use Rattle.sizes.specs.Decode.{decode}
 use Rattle.evaluator.specs.Recalled.{holdsBy}
-use Rattle.walks.specs.Walks.{rowsBy}
+use Rattle.walks.specs.Walks.{walked, rowsBy}
+use Rattle.model.specs.Lists.{update, any}
 
 -- number j of branch i
 abbrev pub field : List ℕ → ℕ → ℕ → ℕ
@@ -26,21 +28,29 @@ abbrev pub operand : List ℤ → ℕ → ℕ → ℤ → Assignment → Ratio
 operand m v a x e = cond (ltb v 256) (whole (e v a)) (cond (ltb v 512) (recalledOr0 m (v - 256)) (whole x))
 
 module _ (t : List ℕ) (xs : List ℤ) (q z ws : List ℕ) (vs m : List ℤ) where
-  -- whether branch i holds
-  unfoldable pub branchHolds : ℕ → Assignment → Bool
-  branchHolds i e =
+  -- whether branch i holds, where `run` says which of the earlier ones lead to 0
+  unfoldable pub holdsIn : (ℕ → Assignment → Bool) → ℕ → Assignment → Bool
+  holdsIn run i e =
       cond (eqb (field t i 0) 0)
       (holdsBy m (decode (field t i 2) (drop (field t i 1) q) (drop (field t i 1) z)) (rowsBy ws vs) e)
-      (compare (field t i 0) (operand m (field t i 1) (field t i 2) (getD xs (2 * i) (pos 0)) e) (operand m (field t i 3) (field t i 4) (getD xs (2 * i + 1) (pos 0)) e))
+      (cond (eqb (field t i 0) 256)
+      (cond (ltb (field t i 2) i) (cond (ltb (field t i 1) 256) (any (λ x. run (field t i 2) (update e (field t i 1) x)) (walked ws vs (field t i 1))) false) false)
+      (compare (field t i 0) (operand m (field t i 1) (field t i 2) (getD xs (2 * i) (pos 0)) e) (operand m (field t i 3) (field t i 4) (getD xs (2 * i + 1) (pos 0)) e)))
 
   -- where it leads
-  abbrev pub next : ℕ → Assignment → ℕ
-  next i e = cond (branchHolds i e) (field t i 5) (field t i 6)
+  abbrev pub nextIn : (ℕ → Assignment → Bool) → ℕ → Assignment → ℕ
+  nextIn run i e = cond (holdsIn run i e) (field t i 5) (field t i 6)
 
   -- the end that branch i leads to, in fewer than n steps; one that does not lead to an earlier branch fails
   unfoldable pub leads : ℕ → ℕ → Assignment → Bool
   leads zero i e = false
-  leads (suc n) i e = cond (ltb i 2) (eqb i 0) (cond (ltb (next i e) i) (leads n (next i e) e) false)
+  leads (suc n) i e = cond (ltb i 2) (eqb i 0) (cond (ltb (nextIn (λ j u. leads n j u) i e) i) (leads n (nextIn (λ j u. leads n j u) i e) e) false)
 
   unfoldable pub runs : ℕ → Assignment → Bool
   runs i e = leads (suc i) i e
+
+  unfoldable pub branchHolds : ℕ → Assignment → Bool
+  branchHolds i e = holdsIn (λ j u. runs j u) i e
+
+  abbrev pub next : ℕ → Assignment → ℕ
+  next i e = cond (branchHolds i e) (field t i 5) (field t i 6)

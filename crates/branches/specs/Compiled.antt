@@ -6,7 +6,7 @@ use mathlib.Core.List.{List, [], _∷_}
 use lib.Dec.{eqb}
 use lib.IntN.{ℤ, pos}
 use lib.ListN.{getD, drop}
-use Rattle.model.specs.Syntax.{Condition, Term, NOT, AND, OR}
+use Rattle.model.specs.Syntax.{Condition, Term, NOT, AND, OR, SOME}
 use Rattle.model.specs.Meaning.{Assignment, Rows, Ratio, compare}
 use Rattle.kinds.specs.declared.Record.{Record}
 use Rattle.kinds.specs.declared.Record.the-variants as R
@@ -60,3 +60,12 @@ pub record Parted (x : Parts) (n l place : ℕ) (q z : List ℕ) : Type 0 where
   pub first : x .first ≤ 65535
   pub second : x .second ≤ 65535
   pub whole : decode l (drop place q) (drop place z) ≡ joined (x .kind) (decode (l - 1) (drop (x .first) q) (drop (x .first) z)) (decode (l - 1) (drop (x .second) q) (drop (x .second) z))
+
+-- the condition at a place is SOME of a variable, and what it asks of a row stands at another place; there is room for two branches
+pub record Searched (inner v n l place : ℕ) (q : List ℕ) : Type 0 where
+  pub room : 2 ≤ n
+  pub deep : l ≡ 0 → ⊥
+  pub low : inner ≤ 65535
+  pub byte : v < 256
+  pub relation : ℕ
+  pub whole : (z : List ℕ) → decode l (drop place q) (drop place z) ≡ SOME v relation (decode (l - 1) (drop inner q) (drop inner z))

@@ -67,85 +67,6 @@ pub fn side(
     numbers::whole(number(xs, j))
 }
 
-// Whether branch i holds.
-fn branch(
-    t: &[u16],
-    xs: &[i32],
-    i: usize,
-    q: &[u8],
-    z: &[u16],
-    walks: &[u16],
-    values: &[i32],
-    memo: &[i64],
-    env: &mut [usize],
-) -> bool
-    requires { ⌜ (256 ≤ length (now env)) × (i ≤ 65535) ⌝ }
-    ensures { λ r. ⌜ r ≡ B.branchHolds (now (t .entry)) (now (xs .entry)) (now (q .entry)) (now (z .entry)) (now (walks .entry)) (now (values .entry)) (now (memo .entry)) i (assigned (now (values .entry)) (now (env .entry))) ⌝ }
-    ensures { λ _. ⌜ now (env .exit) ≡ now (env .entry) ⌝ }
-{
-    let p = 8 * i;
-    let operator = kinds::size_at(t, p);
-    if operator == 0 {
-        let place = kinds::size_at(t, p + 1);
-        let level = kinds::size_at(t, p + 2);
-        let c = kinds::tail(q, place);
-        let sizes = kinds::tail_sizes(z, place);
-        return evaluator::condition(c, sizes, level, walks, values, memo, env);
-    }
-    let a = side(t, p + 1, xs, 2 * i, values, memo, env);
-    let b = side(t, p + 3, xs, 2 * i + 1, values, memo, env);
-    numbers::compared(operator, a, b)
-}
-
-// Where branch i leads.
-fn next(
-    t: &[u16],
-    xs: &[i32],
-    i: usize,
-    q: &[u8],
-    z: &[u16],
-    walks: &[u16],
-    values: &[i32],
-    memo: &[i64],
-    env: &mut [usize],
-) -> usize
-    requires { ⌜ (256 ≤ length (now env)) × (i ≤ 65535) ⌝ }
-    ensures { λ r. ⌜ r ≡ B.next (now (t .entry)) (now (xs .entry)) (now (q .entry)) (now (z .entry)) (now (walks .entry)) (now (values .entry)) (now (memo .entry)) i (assigned (now (values .entry)) (now (env .entry))) ⌝ }
-    ensures { λ _. ⌜ now (env .exit) ≡ now (env .entry) ⌝ }
-{
-    if branch(t, xs, i, q, z, walks, values, memo, env) {
-        return kinds::size_at(t, 8 * i + 5);
-    }
-    kinds::size_at(t, 8 * i + 6)
-}
-
-// Whether branch i leads to 0.
-pub fn holds(
-    t: &[u16],
-    xs: &[i32],
-    i: usize,
-    q: &[u8],
-    z: &[u16],
-    walks: &[u16],
-    values: &[i32],
-    memo: &[i64],
-    env: &mut [usize],
-) -> bool
-    requires { ⌜ (256 ≤ length (now env)) × (i ≤ 65535) ⌝ }
-    ensures { λ r. ⌜ r ≡ B.runs (now (t .entry)) (now (xs .entry)) (now (q .entry)) (now (z .entry)) (now (walks .entry)) (now (values .entry)) (now (memo .entry)) i (assigned (now (values .entry)) (now (env .entry))) ⌝ }
-    ensures { λ _. ⌜ now (env .exit) ≡ now (env .entry) ⌝ }
-{
-    let mut at = i;
-    while 2 <= at {
-        let to = next(t, xs, at, q, z, walks, values, memo, env);
-        if at <= to {
-            return false;
-        }
-        at = to;
-    }
-    at == 0
-}
-
 // One side of a comparison, where it can be kept in numbers: an attribute of a variable, from variable 256 on a known aggregate, 512 a number.
 struct Operand {
     known: bool,
@@ -163,6 +84,13 @@ struct Comparison {
 
 fn wide(x: u8) -> u16
     ensures { λ r. ⌜ r ≡ x ⌝ }
+{
+    x as u16
+}
+
+// A byte, which is below 256.
+fn from_byte(x: u8) -> u16
+    ensures { λ r. ⌜ (r ≡ x) × (r ≤ 255) ⌝ }
 {
     x as u16
 }
@@ -335,7 +263,7 @@ fn single(
     write(
         t,
         k,
-        wide(operator),
+        from_byte(operator),
         a.variable,
         a.attribute,
         b.variable,
@@ -401,6 +329,45 @@ pub fn parts_at(q: &[u8], z: &[u16], place: usize, level: usize, room: usize) ->
     parts_of(kind, first, second)
 }
 
+// The place of what a SOME asks of a row, and its variable; place 0: no SOME, or no room for two branches.
+struct Search {
+    place: usize,
+    variable: u16,
+}
+
+fn no_search() -> Search
+    ensures { λ r. ⌜ r ≡ record { place = 0; variable = 0 } ⌝ }
+{
+    Search {
+        place: 0,
+        variable: 0,
+    }
+}
+
+fn search_at(q: &[u8], place: usize, level: usize, room: usize) -> Search
+    requires { ⌜ place ≤ 65535 ⌝ }
+    ensures { λ r. ⌜ ((r .place ≡ 0 → ⊥) → C.Searched (r .place) (r .variable) room level place (now (q .entry))) ⌝ }
+{
+    if level == 0 {
+        return no_search();
+    }
+    if room < 2 {
+        return no_search();
+    }
+    let here = kinds::tail(q, place);
+    let Record::Some(variable, _) = kinds::read(here) else {
+        return no_search();
+    };
+    let inner = place + kinds::record_length(kinds::byte(here, 0));
+    if 65535 < inner {
+        return no_search();
+    }
+    Search {
+        place: inner,
+        variable: from_byte(variable),
+    }
+}
+
 // Branches from k on and below `end` for the condition at a place; the number of the last, with which it starts. The second part of an
 // AND or an OR comes first, so that the first part can lead to it.
 pub fn compile(
@@ -423,8 +390,15 @@ pub fn compile(
     let x = parts_at(q, z, place, level, end - k);
     let kind = x.kind;
     if kind == 0 {
-        single(q, z, place, level, memo, t, xs, k, met, unmet);
-        return k;
+        let s = search_at(q, place, level, end - k);
+        let inner = s.place;
+        if inner == 0 {
+            single(q, z, place, level, memo, t, xs, k, met, unmet);
+            return k;
+        }
+        let r = compile(q, z, inner, level - 1, memo, t, xs, k, end - 1, 0, 1);
+        write(t, r + 1, 256, s.variable, narrow(r), 0, 0, met, unmet);
+        return r + 1;
     }
     let first = x.first;
     let second = x.second;

@@ -18,13 +18,13 @@ use Rattle.kinds.specs.declared.Record.the-variants as R
 use Rattle.sizes.specs.Decode.{decode}
 use Rattle.evaluator.specs.Recalled.{holdsBy}
 use Rattle.walks.specs.Walks.{rowsBy}
-use Rattle.branches.specs.Branches.{field, branchHolds, next, leads, runs}
+use Rattle.branches.specs.Branches.{field, holdsIn, nextIn, leads, runs}
 use Rattle.branches.specs.Compiled.{Compiled, Parted}
 use Rattle.branches.specs.declared.Parts.{Parts}
 use Rattle.scans.proofs.Walk.{first-at}
 use Rattle.branches.proofs.Joining.{bare}
 use Rattle.branches.proofs.Operands.{condition-is}
-use Rattle.branches.proofs.Running.{runs-0, runs-1, runs-kept}
+use Rattle.branches.proofs.Running.{runs-0, runs-1, runs-kept, holds-same}
 use Rattle.conjuncts.specs.Stages.{stageHolds, stagesHold, Steady, Planned}
 use Rattle.conjuncts.specs.Filling.{Stable, Begun, Joined}
 use Rattle.conjuncts.proofs.Below.{and-and, all-true, all-gains}
@@ -39,21 +39,27 @@ module _ (t t′ : List ℕ) (xs : List ℤ) (q z ws : List ℕ) (vs m : List �
   same-field : (i j : ℕ) → 2 ≤ i → field t′ i j ≡ field t i j
   same-field i j a = h (8 * i + j) (omega arith)
 
-  same-next : (i : ℕ) (e : Assignment) → 2 ≤ i → next t′ xs q z ws vs m i e ≡ next t xs q z ws vs m i e
-  unfolding branchHolds
-  same-next i e a = rw (same-field i 0 a, same-field i 1 a, same-field i 2 a, same-field i 3 a, same-field i 4 a, same-field i 5 a, same-field i 6 a)
+  same-branch : (f : ℕ → Assignment → Bool) (i : ℕ) (e : Assignment) → 2 ≤ i → holdsIn t′ xs q z ws vs m f i e ≡ holdsIn t xs q z ws vs m f i e
+  unfolding holdsIn
+  same-branch f i e a = rw (same-field i 0 a, same-field i 1 a, same-field i 2 a, same-field i 3 a, same-field i 4 a)
+
+  same-next : (f g : ℕ → Assignment → Bool) (i : ℕ) (e : Assignment) → 2 ≤ i → ((j : ℕ) (u : Assignment) → f j u ≡ g j u) → nextIn t′ xs q z ws vs m f i e ≡ nextIn t xs q z ws vs m g i e
+  same-next f g i e a r = rw (same-holds, same-field i 5 a, same-field i 6 a)
+    where
+      same-holds : holdsIn t′ xs q z ws vs m f i e ≡ holdsIn t xs q z ws vs m g i e
+      same-holds = same-branch f i e a ∙ holds-same t xs q z ws vs m f g i e (λ j l u. r j u)
 
   same-leads : (n i : ℕ) (e : Assignment) → leads t′ xs q z ws vs m n i e ≡ leads t xs q z ws vs m n i e
   unfolding leads
   same-leads zero i e = refl
-  same-leads (suc n) i e = go (ltb i 2) refl (λ o. same-leads n o e)
+  same-leads (suc n) i e = go (ltb i 2) refl (λ o u. same-leads n o u)
     where
-      go : (b : Bool) → ltb i 2 ≡ b → ((o : ℕ) → leads t′ xs q z ws vs m n o e ≡ leads t xs q z ws vs m n o e)
-          → cond b (eqb i 0) (cond (ltb (next t′ xs q z ws vs m i e) i) (leads t′ xs q z ws vs m n (next t′ xs q z ws vs m i e) e) false) ≡ cond b (eqb i 0) (cond (ltb (next t xs q z ws vs m i e) i) (leads t xs q z ws vs m n (next t xs q z ws vs m i e) e) false)
+      go : (b : Bool) → ltb i 2 ≡ b → ((o : ℕ) (u : Assignment) → leads t′ xs q z ws vs m n o u ≡ leads t xs q z ws vs m n o u)
+          → cond b (eqb i 0) (cond (ltb (nextIn t′ xs q z ws vs m (λ j u. leads t′ xs q z ws vs m n j u) i e) i) (leads t′ xs q z ws vs m n (nextIn t′ xs q z ws vs m (λ j u. leads t′ xs q z ws vs m n j u) i e) e) false) ≡ cond b (eqb i 0) (cond (ltb (nextIn t xs q z ws vs m (λ j u. leads t xs q z ws vs m n j u) i e) i) (leads t xs q z ws vs m n (nextIn t xs q z ws vs m (λ j u. leads t xs q z ws vs m n j u) i e) e) false)
       go true p f = refl
       go false p f =
-          ap (λ o. cond (ltb o i) (leads t′ xs q z ws vs m n o e) false) (same-next i e (ltb-false i 2 p))
-          ∙ ap (λ b. cond (ltb (next t xs q z ws vs m i e) i) b false) (f (next t xs q z ws vs m i e))
+          ap (λ o. cond (ltb o i) (leads t′ xs q z ws vs m n o e) false) (same-next (λ j u. leads t′ xs q z ws vs m n j u) (λ j u. leads t xs q z ws vs m n j u) i e (ltb-false i 2 p) f)
+          ∙ ap (λ b. cond (ltb (nextIn t xs q z ws vs m (λ j u. leads t xs q z ws vs m n j u) i e) i) b false) (f (nextIn t xs q z ws vs m (λ j u. leads t xs q z ws vs m n j u) i e) e)
 
   same-runs : (i : ℕ) (e : Assignment) → runs t′ xs q z ws vs m i e ≡ runs t xs q z ws vs m i e
   unfolding runs

@@ -10,6 +10,7 @@ ghost use Rattle.model.specs.Syntax.{TRUE};
 ghost use Rattle.sizes.specs.Decode.{decode};
 ghost use Rattle.evaluator.specs.Evaluation.{assigned};
 ghost use Rattle.sizes.specs.Parts.{rangesAt};
+ghost use Rattle.seeks.specs.Keys.{Faithful};
 ghost use Rattle.conjuncts.specs.Stages as S;
 ghost use Rattle.conjuncts.specs.Filling as F;
 
@@ -21,16 +22,17 @@ pub fn holds(
     q: &[u8],
     z: &[u16],
     walks: &[u16],
+    chains: &[u16],
     values: &[i32],
     memo: &[i64],
     env: &mut [usize],
 ) -> bool
-    requires { ⌜ 256 ≤ length (now env) ⌝ }
+    requires { ⌜ (256 ≤ length (now env)) × Faithful (now t) (now walks) (now values) (now chains) ⌝ }
     ensures { λ r. ⌜ r ≡ S.stageHolds (now (t .entry)) (now (xs .entry)) (now (q .entry)) (now (z .entry)) (now (walks .entry)) (now (values .entry)) (now (memo .entry)) stage (assigned (now (values .entry)) (now (env .entry))) ⌝ }
     ensures { λ _. ⌜ now (env .exit) ≡ now (env .entry) ⌝ }
 {
     let i = kinds::size_at(t, stage);
-    branches::holds(t, xs, i, q, z, walks, values, memo, env)
+    decide::holds(t, xs, i, q, z, walks, chains, values, memo, env)
 }
 
 // How many of the RANGE variables must be bound for the condition that q starts with: the last ones leave reach as long as it stays in scope.

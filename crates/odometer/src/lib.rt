@@ -14,7 +14,7 @@ ghost use Rattle.evaluator.specs.Evaluation.{assigned};
 ghost use Rattle.odometer.specs.Staged.{depthHolds};
 ghost use Rattle.odometer.specs.Plan.{Bounds, cellsBy, rowBy, rowsFrom, rowsBelow};
 
-// Chains for the ranges after the first: those are walked again and again.
+// Chains for what is walked again and again: the ranges after the first, and the rows that a branch asks for.
 pub fn link(q: &[u8], ranges: usize, t: &[u16], walks: &[u16], values: &[i32], chains: &mut [u16])
     requires { ⌜ (ranges ≤ 7) × ((i : ℕ) → getD (now chains) i 0 ≡ 0) ⌝ }
     ensures { λ _. ⌜ Faithful (now (t .entry)) (now (walks .entry)) (now (values .entry)) (now (chains .exit)) ⌝ }
@@ -27,6 +27,7 @@ pub fn link(q: &[u8], ranges: usize, t: &[u16], walks: &[u16], values: &[i32], c
         free = seeks::add(t, start, variable, walks, values, chains, free);
         d += 1;
     }
+    seeks::add_searches(t, walks, values, chains, free);
 }
 
 // Where a query's targets start, how many they are and how deep; how many ranges are left, and are bound.
@@ -102,19 +103,20 @@ fn due(
     q: &[u8],
     z: &[u16],
     walks: &[u16],
+    chains: &[u16],
     vs: &[i32],
     memo: &[i64],
     env: &mut [usize],
 ) -> bool
-    requires { ⌜ (256 ≤ length (now env)) × Bounds plan ⌝ }
+    requires { ⌜ (256 ≤ length (now env)) × Bounds plan × Faithful (now t) (now walks) (now vs) (now chains) ⌝ }
     ensures { λ r. ⌜ r ≡ depthHolds (now (t .entry)) (now (xs .entry)) (now (q .entry)) (now (z .entry)) (now (walks .entry)) (now (vs .entry)) (now (memo .entry)) (plan .depth) (assigned (now (vs .entry)) (now (env .entry))) ⌝ }
     ensures { λ _. ⌜ now (env .exit) ≡ now (env .entry) ⌝ }
 {
     let s = 2 * plan.depth;
-    if !conjuncts::holds(t, xs, s, q, z, walks, vs, memo, env) {
+    if !conjuncts::holds(t, xs, s, q, z, walks, chains, vs, memo, env) {
         return false;
     }
-    conjuncts::holds(t, xs, s + 1, q, z, walks, vs, memo, env)
+    conjuncts::holds(t, xs, s + 1, q, z, walks, chains, vs, memo, env)
 }
 
 // The plan with one range more bound.
@@ -158,7 +160,7 @@ pub fn run(
     if full {
         return state;
     }
-    if !due(plan, t, xs, q, z, walks, vs, memo, env) {
+    if !due(plan, t, xs, q, z, walks, chains, vs, memo, env) {
         return state;
     }
     let left = plan.left;

@@ -249,6 +249,20 @@ fn answer_chained(
     )
 }
 
+// The same with one record more; no more than 1,000 are counted.
+fn counted(n: usize, kind: u8) -> usize
+    ensures { λ r. ⌜ (n ≤ 1001 → r ≤ 1001) ⌝ }
+{
+    if 999 < n {
+        return n;
+    }
+    match kind {
+        22 => n + 2,
+        34 => n / 2 * 2 + 1,
+        _ => n,
+    }
+}
+
 // 1 where a chain may pay for so many rows.
 fn pays(rows: usize) -> usize
     ensures { λ r. ⌜ r ≤ 1 ⌝ }
@@ -287,7 +301,7 @@ fn answer_walked(
     requires { ⌜ Answerable layout level (now q) (now z) (now catalogue) × Trusted (now memo) (rowsBy (now walks) (now values)) (queryAt layout level (now q) (now z)) × Unbound (now values) (now env) × (length (now table) ≤ 65535) × ((i : ℕ) → getD (now table) i 0 ≡ 0) ⌝ }
     ensures { λ r. ⌜ answerOf r (now (answer .exit)) ≡ give (length (queryOf (now (q .entry)) .targets)) (answers (queryOf (now (q .entry))) (rowsBy (now (walks .entry)) (now (values .entry)))) (now (answer .entry)) ⌝ }
 {
-    let n = chained(q, layout.ranges, walks);
+    let n = chained(q, layout.ranges, walks) + holding(q) / 2;
     if n == 0 {
         return answer_unlinked(
             q,
@@ -492,16 +506,24 @@ fn answer_filled(
     )
 }
 
-// Whether a record of the query is an aggregate. It promises nothing, since any memo that can be trusted will do: it only saves time.
-fn aggregated(q: &[u8]) -> bool {
+// Twice the number of SOME records of a query, and 1 more where it has an aggregate. It promises nothing, since any memo that can be trusted and any
+// room for chains will do: it only saves time.
+fn holding(q: &[u8]) -> usize {
+    let mut n = 0;
     let mut at = 0;
     while at < q.len() {
-        if kinds::byte(q, at) == 34 {
-            return true;
-        }
+        n = counted(n, kinds::byte(q, at));
         at += scans::step(q, at);
     }
-    false
+    n
+}
+
+// Whether no SOME is in a query, and its ranges give few rows.
+fn few(h: usize, rows: usize) -> bool {
+    if 1 < h {
+        return false;
+    }
+    rows <= 16
 }
 
 // A query that passed its checks, over the rows of its walks. A memo that knows nothing can be trusted for any query: without aggregates no large one is cleared.
@@ -520,7 +542,8 @@ pub fn answer_query(
     ensures { λ r. ⌜ answerOf r (now (answer .exit)) ≡ give (length (queryOf (now (q .entry)) .targets)) (answers (queryOf (now (q .entry))) (rowsBy (now (walks .entry)) (now (values .entry)))) (now (answer .entry)) ⌝ }
 {
     let mut env = [values.len(); 256];
-    if aggregated(q) {
+    let h = holding(q);
+    if h % 2 == 1 {
         return answer_filled(
             q,
             z,
@@ -534,7 +557,7 @@ pub fn answer_query(
         );
     }
     let memo = [0i64; 2];
-    if 16 < most_rows(q, layout.ranges, walks) {
+    if !few(h, most_rows(q, layout.ranges, walks)) {
         return answer_by(
             q,
             z,

@@ -46,15 +46,18 @@ module _ (t : List ℕ) (i v o a b c : ℕ) (eo : o ≡ getD t (8 * i) 0) (e1 : 
   some-operator : o ≡ 0 → ⊥
   some-operator h = omega arith
 
+  no-search : o ≡ 256 → ⊥
+  no-search h = omega arith
+
   pub tells-left : a ≡ v → (b ≡ v → ⊥) → c ≡ field t i 2 → Tells t i v (8 * i + 3) (2 * i + 1) c
   tells-left ha hb hc xs q z ws vs m e row h =
       let y = operand m (getD t (8 * i + 3) 0) (getD t (8 * i + 3 + 1) 0) (getD xs (2 * i + 1) (pos 0)) e in
-      left-fails t xs q z ws vs m i v e row o a b (represent y) eo some-operator ea eb l (8 * i + 3) c ha hb refl hc refl (ap (λ (k : ℕ). compare k (whole (row c)) y) e1 ∙ h)
+      left-fails t xs q z ws vs m i v e row o a b (represent y) eo some-operator no-search ea eb l (8 * i + 3) c ha hb refl hc refl (ap (λ (k : ℕ). compare k (whole (row c)) y) e1 ∙ h)
 
   pub tells-right : (a ≡ v → ⊥) → b ≡ v → c ≡ field t i 4 → Tells t i v (8 * i + 1) (2 * i) c
   tells-right ha hb hc xs q z ws vs m e row h =
       let y = operand m (getD t (8 * i + 1) 0) (getD t (8 * i + 1 + 1) 0) (getD xs (2 * i) (pos 0)) e in
-      right-fails t xs q z ws vs m i v e row o a b (represent y) eo some-operator ea eb l (8 * i + 1) c ha hb refl hc refl (ap (λ (k : ℕ). compare k y (whole (row c))) e1 ∙ equal-turn y (whole (row c)) ∙ h)
+      right-fails t xs q z ws vs m i v e row o a b (represent y) eo some-operator no-search ea eb l (8 * i + 1) c ha hb refl hc refl (ap (λ (k : ℕ). compare k y (whole (row c))) e1 ∙ equal-turn y (whole (row c)) ∙ h)
 
 -- what starts with branch s fails where it fails from branch i on
 abbrev pub Along : List ℕ → ℕ → ℕ → Type 0

@@ -1,3 +1,4 @@
 pub mod Steps
 pub mod Keys
 pub mod Filling
+pub mod Places

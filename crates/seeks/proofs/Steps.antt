@@ -15,7 +15,7 @@ use Rattle.model.specs.Meaning.{Assignment, Tuple, compare}
 use Rattle.numbers.specs.Numbers.{represent, ratioOf, Small}
 use Rattle.numbers.specs.declared.Ratio.{Ratio}
 use Rattle.catalogue.specs.Layout.{tupleAt}
-use Rattle.branches.specs.Branches.{field, operand, branchHolds, next, runs}
+use Rattle.branches.specs.Branches.{field, operand, holdsIn, branchHolds, next, runs}
 use Rattle.branches.proofs.Running.{runs-1, runs-step}
 use Rattle.seeks.specs.Probe.{sided, placed}
 
@@ -53,10 +53,10 @@ module _ (t : List ℕ) (xs : List ℤ) (q z ws : List ℕ) (vs m : List ℤ) (i
       let k : 8 * i + j + 1 ≡ 8 * i + (j + 1) = omega arith in
       ap ratioOf hy ∙ ap (λ (n : ℕ). operand m (getD t n 0) (getD t (n + 1) 0) x e) hp ∙ ap₂ (λ (u n : ℕ). operand m u (getD t n 0) x e) (sym hw) k
 
-  module _ (o a b : ℕ) (y : Ratio) (eo : o ≡ getD t (8 * i) 0) (nz : o ≡ 0 → ⊥) (ea : a ≡ field t i 1) (eb : b ≡ field t i 3) (l : v < 256) where
+  module _ (o a b : ℕ) (y : Ratio) (eo : o ≡ getD t (8 * i) 0) (nz : o ≡ 0 → ⊥) (nb : o ≡ 256 → ⊥) (ea : a ≡ field t i 1) (eb : b ≡ field t i 3) (l : v < 256) where
     branch-is : branchHolds t xs q z ws vs m i (update e v row) ≡ compare o (operand m a (field t i 2) (getD xs (2 * i) (pos 0)) (update e v row)) (operand m b (field t i 4) (getD xs (2 * i + 1) (pos 0)) (update e v row))
-    unfolding branchHolds
-    branch-is = rw (add-zero (8 * i), sym eo, sym ea, sym eb, ne-eqb o 0 nz)
+    unfolding branchHolds holdsIn
+    branch-is = rw (add-zero (8 * i), sym eo, sym ea, sym eb, ne-eqb o 0 nz, ne-eqb o 256 nb)
 
     pub left-fails : (p c : ℕ) → a ≡ v → (b ≡ v → ⊥) → p ≡ 8 * i + 3 → c ≡ field t i 2 → y ≡ represent (operand m (getD t p 0) (getD t (p + 1) 0) (getD xs (2 * i + 1) (pos 0)) e) → sided o false (M.whole (row c)) (ratioOf y) ≡ false
         → branchHolds t xs q z ws vs m i (update e v row) ≡ false

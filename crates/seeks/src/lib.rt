@@ -90,6 +90,9 @@ fn skip(
     if operator == 0 {
         return from;
     }
+    if 255 < operator {
+        return from;
+    }
     let v = variable as usize;
     let a = kinds::size_at(t, p + 1);
     let b = kinds::size_at(t, p + 3);
@@ -276,6 +279,68 @@ pub fn add(
     chains::build(values, walks, walk, attribute, chains, free + 4);
     chains[start] = narrow(free);
     end
+}
+
+fn byte_of(x: usize) -> u8
+    requires { ⌜ x < 256 ⌝ }
+    ensures { λ r. ⌜ r ≡ x ⌝ }
+{
+    x as u8
+}
+
+// A chain for what branch i asks of a row, where it asks for one; the next free place.
+fn add_search(
+    t: &[u16],
+    i: usize,
+    walks: &[u16],
+    values: &[i32],
+    chains: &mut [u16],
+    free: usize,
+) -> usize
+    requires { ⌜ (i < 64) × K.Filling free (now t) (now walks) (now values) (now chains) ⌝ }
+    ensures { λ r. ⌜ K.Filling r (now (t .entry)) (now (walks .entry)) (now (values .entry)) (now (chains .exit)) ⌝ }
+{
+    if kinds::size_at(t, 8 * i) != 256 {
+        return free;
+    }
+    let v = kinds::size_at(t, 8 * i + 1);
+    if 255 < v {
+        return free;
+    }
+    let start = kinds::size_at(t, 8 * i + 2);
+    add(t, start, byte_of(v), walks, values, chains, free)
+}
+
+// Chains for all branches of a table that ask for a row; the next free place.
+pub fn add_searches(
+    t: &[u16],
+    walks: &[u16],
+    values: &[i32],
+    chains: &mut [u16],
+    free: usize,
+) -> usize
+    requires { ⌜ K.Filling free (now t) (now walks) (now values) (now chains) ⌝ }
+    ensures { λ r. ⌜ K.Filling r (now (t .entry)) (now (walks .entry)) (now (values .entry)) (now (chains .exit)) ⌝ }
+{
+    let mut next = free;
+    let mut i = 2;
+    while i < 64 {
+        next = add_search(t, i, walks, values, chains, next);
+        i += 1;
+    }
+    next
+}
+
+// Whether a branch of a table asks for a row. It promises nothing: it only tells whether chains can be of use.
+pub fn searches(t: &[u16]) -> bool {
+    let mut i = 2;
+    while i < 64 {
+        if kinds::size_at(t, 8 * i) == 256 {
+            return true;
+        }
+        i += 1;
+    }
+    false
 }
 
 // The place of the chain for a variable by branch `start`, 0 where there is none.

@@ -8,36 +8,34 @@ use Rattle.aggregates.proofs.both.Reads as reads
 use Rattle.aggregates.proofs.both.Lts as lts
 use Rattle.conjuncts.proofs.holds.Reads as holds-reads
 
--- src/lib.rt:40:9
+-- src/lib.rt:48:9
 holds-requires : tie.Need-holds-requires
 holds-requires c κs = search needs
 
--- src/lib.rt:41:9
+-- src/lib.rt:49:9
 same-length : tie.Need-same-length
 same-length c = search needs
 
--- src/lib.rt:41:9
+-- src/lib.rt:49:9
 returns : tie.Need-returns
-returns c =
-    let c₃ = c .before .before .before in let holds = c₃ .holds in
-    let c₁₀ = c₃ .before .before .before .before .before .before .before in let args = c₁₀ .args in
+returns c = let holds = c .before .before .before .holds in
+    let args = c .before .before .before .before .before .before .before .before .before .before .before .args in
     (both-no (now (args .t)) (now (args .xs)) (now (args .q)) (now (args .z)) (now (args .walks)) (now (args .vs)) (now (args .memo)) (now (args .env)) _ (holds .ensures .0) (c .if1 .taken), holds .ensures .1)
 
--- src/lib.rt:43:5
+-- src/lib.rt:51:5
 holds-requires-2 : tie.Need-holds-requires-2
 holds-requires-2 c κs = search needs
 
--- src/lib.rt:26:1
+-- src/lib.rt:33:1
 same-length-2 : tie.Need-same-length-2
 same-length-2 c = search needs
 
--- src/lib.rt:26:1
+-- src/lib.rt:33:1
 returns-2 : tie.Need-returns-2
-returns-2 c =
-    let c₂ = c .before .before in let holds2 = c₂ .holds2 in
-    let c₄ = c₂ .before .before in let if1 = c₄ .if1 in
-    let c₇ = c₄ .before .before .before in let holds = c₇ .holds in
-    let c₁₄ = c₇ .before .before .before .before .before .before .before in let args = c₁₄ .args in
+returns-2 c = let holds2 = c .before .before .holds2 in
+    let if1 = c .before .before .before .before .if1 in
+    let holds = c .before .before .before .before .before .before .before .holds in
+    let args = c .before .before .before .before .before .before .before .before .before .before .before .before .before .before .before .args in
     (both-yes (now (args .t)) (now (args .xs)) (now (args .q)) (now (args .z)) (now (args .walks)) (now (args .vs)) (now (args .memo)) (now (args .env)) _ _ _ (holds .ensures .0) (if1 .left) (holds .ensures .1) (holds2 .ensures .0), holds2 .ensures .1 ∙ holds .ensures .1)
 
 pub both-spec : {M : Type 1} → statement M

@@ -1,3 +1,5 @@
+use Rattle.branches.proofs.Compiling.{searched}
+use mathlib.Core.Path.{refl}
 use Prim.Native.Nat.{_-_, ℕ, _<_}
 use native.Mathlib.Omega.{arith}
 use lib.ListN.{drop}
@@ -5,13 +7,17 @@ use denote.Ref.{now}
 use Rattle.sizes.specs.Decode.{decode}
 use Rattle.branches.proofs.Joining.{positive, falls-by, joined-not, joined-and, joined-or}
 use borrow.Author.Needs.{needs}
+use Prim.Native.Nat.{ℕ, _<_}
 use borrow.Fn.Kinds.{In}
 use borrow.Fn.PlainCycle.{Measures, is, falls, and}
 use Rattle.branches.proofs.compile.Reads as compile
 use Rattle.branches.proofs.compile.Kinds as compile-kinds
 use Rattle.branches.proofs.+compile.Lts-compile as compile-lts
+use Rattle.branches.proofs.narrow.Reads as narrow-reads
 use Rattle.branches.proofs.parts_at.Reads as parts-at-reads
+use Rattle.branches.proofs.search_at.Reads as search-at-reads
 use Rattle.branches.proofs.single.Reads as single-reads
+use Rattle.branches.proofs.write.Reads as write-reads
 use Rattle.branches.proofs.+compile.{statement}
 use Rattle.branches.proofs.+compile.Tie.{close}
 
@@ -25,13 +31,19 @@ abbrev compile-below : ℕ → In 5 compile-kinds.ps
 compile-below t = and 5 compile-kinds.ps (falls 5 compile-kinds.ps _<_ μ-compile t) compile.Pre
 
 abbrev compile-claims : ℕ → compile-lts.Claims
-compile-claims t = (parts-at-reads.Asked, parts-at-reads.Learnt, single-reads.Asked, single-reads.Learnt, compile-below t, compile.Post)
+compile-claims t = (parts-at-reads.Asked, parts-at-reads.Learnt, search-at-reads.Asked, search-at-reads.Learnt, single-reads.Asked, single-reads.Learnt, compile-below t, compile.Post, narrow-reads.Asked, narrow-reads.Learnt, write-reads.Asked, write-reads.Learnt)
 
 compile-sub-parts-at : (t : ℕ) → compile-lts.Need-sub-parts-at (compile-claims t) (compile-at t) compile.Post
 compile-sub-parts-at t c = search needs
 
 compile-parts-at-requires : (t : ℕ) → compile-lts.Need-parts-at-requires (compile-claims t) (compile-at t) compile.Post
 compile-parts-at-requires t c κs = search needs
+
+compile-sub-search-at : (t : ℕ) → compile-lts.Need-sub-search-at (compile-claims t) (compile-at t) compile.Post
+compile-sub-search-at t c = search needs
+
+compile-search-at-requires : (t : ℕ) → compile-lts.Need-search-at-requires (compile-claims t) (compile-at t) compile.Post
+compile-search-at-requires t c κs = search needs
 
 compile-single-requires : (t : ℕ) → compile-lts.Need-single-requires (compile-claims t) (compile-at t) compile.Post
 compile-single-requires t c κs = search needs
@@ -45,20 +57,26 @@ compile-same-length-2 t c = search needs
 compile-returns : (t : ℕ) → compile-lts.Need-returns (compile-claims t) (compile-at t) compile.Post
 compile-returns t c = search needs
 
-compile-sub-l : (t : ℕ) → compile-lts.Need-sub-l (compile-claims t) (compile-at t) compile.Post
-compile-sub-l t c =
-    let args = c .before .before .before .before .before .args in
-    let parts-at = c .before .parts-at in
-    let if1 = c .if1 in
-    positive (args .level) ((parts-at .ensures (if1 .left)) .deep)
+compile-sub-compile : (t : ℕ) → compile-lts.Need-sub-compile (compile-claims t) (compile-at t) compile.Post
+compile-sub-compile t c = positive (c .before .before .before .before .before .before .before .args .level) ((c .before .search-at .ensures (c .if2 .left)) .deep)
+
+compile-sub-compile-2 : (t : ℕ) → compile-lts.Need-sub-compile-2 (compile-claims t) (compile-at t) compile.Post
+compile-sub-compile-2 t c = search needs
 
 compile-compile-requires : (t : ℕ) → compile-lts.Need-compile-requires (compile-claims t) (compile-at t) compile.Post
-compile-compile-requires t c κs =
-    let args = c .before .before .before .before .before .before .before .before .args in
-    let pre = c .before .before .before .before .before .before .before .before .pre in
-    let parts-at = c .before .before .before .before .parts-at in
-    let if1 = c .before .before .before .if1 in
-    (falls-by (args .level) t ((parts-at .ensures (if1 .left)) .deep) (pre .0), (pre .1 .0, pre .1 .1, pre .1 .2, pre .1 .3, pre .1 .4, pre .1 .6, pre .1 .5, (parts-at .ensures (if1 .left)) .first, omega (arith, pre .1 .8)))
+compile-compile-requires t c κs = (falls-by (c .before .before .before .before .before .before .before .before .before .args .level) t ((c .before .before .before .search-at .ensures (c .before .before .if2 .left)) .deep) (c .before .before .before .before .before .before .before .before .before .pre .0), (omega (arith, c .before .before .before .before .before .before .before .before .before .pre .1 .0), omega (arith, c .before .before .before .before .before .before .before .before .before .pre .1 .1), c .before .before .before .before .before .before .before .before .before .pre .1 .2, omega (arith, (c .before .before .before .search-at .ensures (c .before .before .if2 .left)) .room, c .before .before .before .before .before .before .before .before .before .pre .1 .3), omega (arith, c .before .before .before .before .before .before .before .before .before .pre .1 .4), omega (arith, c .before .before .before .before .before .before .before .before .before .pre .1 .2), omega (arith, c .before .before .before .before .before .before .before .before .before .pre .1 .2), (c .before .before .before .search-at .ensures (c .before .before .if2 .left)) .low, omega (arith, c .before .before .before .before .before .before .before .before .before .pre .1 .8)))
+
+compile-add-write : (t : ℕ) → compile-lts.Need-add-write (compile-claims t) (compile-at t) compile.Post
+compile-add-write t c = search needs
+
+compile-narrow-requires : (t : ℕ) → compile-lts.Need-narrow-requires (compile-claims t) (compile-at t) compile.Post
+compile-narrow-requires t c κs = search needs
+
+compile-write-requires : (t : ℕ) → compile-lts.Need-write-requires (compile-claims t) (compile-at t) compile.Post
+compile-write-requires t c κs = search needs
+
+compile-add-result : (t : ℕ) → compile-lts.Need-add-result (compile-claims t) (compile-at t) compile.Post
+compile-add-result t c = search needs
 
 compile-same-length-3 : (t : ℕ) → compile-lts.Need-same-length-3 (compile-claims t) (compile-at t) compile.Post
 compile-same-length-3 t c = search needs
@@ -67,38 +85,20 @@ compile-same-length-4 : (t : ℕ) → compile-lts.Need-same-length-4 (compile-cl
 compile-same-length-4 t c = search needs
 
 compile-returns-2 : (t : ℕ) → compile-lts.Need-returns-2 (compile-claims t) (compile-at t) compile.Post
-compile-returns-2 t c =
-    let args = c .before .before .before .before .before .before .before .before .before .before .before .before .args in
-    let parts-at = c .before .before .before .before .before .before .before .before .parts-at in
-    let if1 = c .before .before .before .before .before .before .before .if1 in
-    let if2 = c .before .before .before .before .before .before .if2 in
-    let compile = c .before .before .before .compile in
-    (compile .ensures .0, joined-not (args .k) (args .met) (args .unmet) (now (args .q)) (now (args .z)) (now (args .memo)) (decode (args .level - 1) (drop (parts-at .result .first) (now (args .q))) (drop (parts-at .result .first) (now (args .z)))) (decode (args .level - 1) (drop (parts-at .result .second) (now (args .q))) (drop (parts-at .result .second) (now (args .z)))) (decode (args .level) (drop (args .place) (now (args .q))) (drop (args .place) (now (args .z)))) (parts-at .result .kind) ((parts-at .ensures (if1 .left)) .whole) (compile .result) (now (args .t)) (compile .last .1 .1 .1 .1 .1 .0) (now (args .xs)) (compile .last .1 .1 .1 .1 .1 .1 .0) (if2 .taken) (compile .ensures .1))
+compile-returns-2 t c = ((omega (arith, c .before .before .before .before .before .before .before .before .compile .ensures .0 .0), omega (arith, c .before .before .before .before .before .before .before .before .compile .ensures .0 .1)), searched (c .before .before .before .before .before .before .before .before .before .before .before .before .before .before .before .before .before .before .args .k) (c .before .before .before .before .before .before .before .before .compile .result) (c .before .before .before .before .before .before .before .before .before .before .before .before .before .before .before .before .before .before .args .met) (c .before .before .before .before .before .before .before .before .before .before .before .before .before .before .before .before .before .before .args .unmet) (c .before .before .before .before .before .before .before .before .before .before .before .before .search-at .result .variable) ((c .before .before .before .before .before .before .before .before .before .before .before .before .search-at .ensures (c .before .before .before .before .before .before .before .before .before .before .before .if2 .left)) .relation) (now (c .before .before .before .before .before .before .before .before .before .before .before .before .before .before .before .before .before .before .args .t)) (c .before .before .before .before .before .before .before .before .compile .last .1 .1 .1 .1 .1 .0) (c .before .before .write .last .0) (now (c .before .before .before .before .before .before .before .before .before .before .before .before .before .before .before .before .before .before .args .xs)) (c .before .before .before .before .before .before .before .before .compile .last .1 .1 .1 .1 .1 .1 .0) (now (c .before .before .before .before .before .before .before .before .before .before .before .before .before .before .before .before .before .before .args .q)) (now (c .before .before .before .before .before .before .before .before .before .before .before .before .before .before .before .before .before .before .args .z)) (now (c .before .before .before .before .before .before .before .before .before .before .before .before .before .before .before .before .before .before .args .memo)) (decode ((c .before .before .before .before .before .before .before .before .before .before .before .before .before .before .before .before .before .before .args .level) - 1) (drop (c .before .before .before .before .before .before .before .before .before .before .before .before .search-at .result .place) (now (c .before .before .before .before .before .before .before .before .before .before .before .before .before .before .before .before .before .before .args .q))) (drop (c .before .before .before .before .before .before .before .before .before .before .before .before .search-at .result .place) (now (c .before .before .before .before .before .before .before .before .before .before .before .before .before .before .before .before .before .before .args .z)))) _ ((c .before .before .before .before .before .before .before .before .before .before .before .before .search-at .ensures (c .before .before .before .before .before .before .before .before .before .before .before .if2 .left)) .whole (now (c .before .before .before .before .before .before .before .before .before .before .before .before .before .before .before .before .before .before .args .z))) ((c .before .before .before .before .before .before .before .before .before .before .before .before .search-at .ensures (c .before .before .before .before .before .before .before .before .before .before .before .if2 .left)) .byte) (c .before .before .before .before .before .before .before .before .before .before .before .before .before .before .before .before .before .before .pre .1 .2) (c .before .before .before .before .before .before .before .before .compile .ensures .0 .0) (c .before .before .before .before .before .before .before .before .before .before .before .before .before .before .before .before .before .before .pre .1 .5) (c .before .before .before .before .before .before .before .before .before .before .before .before .before .before .before .before .before .before .pre .1 .6) (c .before .before .before .before .before .before .before .before .compile .ensures .1) _ _ refl (c .before .before .before .narrow .ensures) (c .before .before .write .ensures) (omega (arith, c .before .before .before .before .before .before .before .before .compile .ensures .0 .1, c .before .before .before .before .before .before .before .before .compile .kept .1 .1 .1 .1 .1 .0, c .before .before .before .before .before .before .before .before .before .before .before .before .before .before .before .before .before .before .pre .1 .0)))
 
-compile-sub-compile : (t : ℕ) → compile-lts.Need-sub-compile (compile-claims t) (compile-at t) compile.Post
-compile-sub-compile t c = search needs
+compile-sub-l : (t : ℕ) → compile-lts.Need-sub-l (compile-claims t) (compile-at t) compile.Post
+compile-sub-l t c = let args = c .before .before .before .before .before .args in
+    let parts-at = c .before .parts-at in
+    let if1 = c .if1 in
+    positive (args .level) ((parts-at .ensures (if1 .left)) .deep)
 
 compile-compile-requires-2 : (t : ℕ) → compile-lts.Need-compile-requires-2 (compile-claims t) (compile-at t) compile.Post
-compile-compile-requires-2 t c κs =
-    let args = c .before .before .before .before .before .before .before .before .args in
+compile-compile-requires-2 t c κs = let args = c .before .before .before .before .before .before .before .before .args in
     let pre = c .before .before .before .before .before .before .before .before .pre in
     let parts-at = c .before .before .before .before .parts-at in
     let if1 = c .before .before .before .if1 in
-    let if2 = c .before .before .if2 in
-    (falls-by (args .level) t ((parts-at .ensures (if1 .left)) .deep) (pre .0), (omega (arith, pre .1 .0), omega (arith, pre .1 .1), pre .1 .2, omega (arith, (parts-at .ensures (if1 .left)) .room (omega (arith, if1 .left, if2 .left)), pre .1 .3), omega (arith, pre .1 .4), pre .1 .5, pre .1 .6, (parts-at .ensures (if1 .left)) .second, omega (arith, pre .1 .8)))
-
-compile-add-compile : (t : ℕ) → compile-lts.Need-add-compile (compile-claims t) (compile-at t) compile.Post
-compile-add-compile t c = search needs
-
-compile-compile-requires-3 : (t : ℕ) → compile-lts.Need-compile-requires-3 (compile-claims t) (compile-at t) compile.Post
-compile-compile-requires-3 t c κs =
-    let args = c .before .before .before .before .before .before .before .before .before .before .before .before .before .before .before .args in
-    let pre = c .before .before .before .before .before .before .before .before .before .before .before .before .before .before .before .pre in
-    let parts-at = c .before .before .before .before .before .before .before .before .before .before .before .parts-at in
-    let if1 = c .before .before .before .before .before .before .before .before .before .before .if1 in
-    let if2 = c .before .before .before .before .before .before .before .before .before .if2 in
-    let compile2 = c .before .before .before .before .before .before .compile2 in
-    (falls-by (args .level) t ((parts-at .ensures (if1 .left)) .deep) (pre .0), (omega (arith, pre .1 .0, compile2 .kept), omega (arith, pre .1 .1, compile2 .kept), omega (arith, pre .1 .2, compile2 .ensures .0 .0), omega (arith, compile2 .ensures .0 .1, (parts-at .ensures (if1 .left)) .room (omega (arith, if1 .left, if2 .left)), pre .1 .3), pre .1 .4, omega arith, omega (arith, pre .1 .6, compile2 .ensures .0 .0), (parts-at .ensures (if1 .left)) .first, omega (arith, pre .1 .8)))
+    (falls-by (args .level) t ((parts-at .ensures (if1 .left)) .deep) (pre .0), (pre .1 .0, pre .1 .1, pre .1 .2, pre .1 .3, pre .1 .4, pre .1 .6, pre .1 .5, (parts-at .ensures (if1 .left)) .first, omega (arith, pre .1 .8)))
 
 compile-same-length-5 : (t : ℕ) → compile-lts.Need-same-length-5 (compile-claims t) (compile-at t) compile.Post
 compile-same-length-5 t c = search needs
@@ -107,29 +107,35 @@ compile-same-length-6 : (t : ℕ) → compile-lts.Need-same-length-6 (compile-cl
 compile-same-length-6 t c = search needs
 
 compile-returns-3 : (t : ℕ) → compile-lts.Need-returns-3 (compile-claims t) (compile-at t) compile.Post
-compile-returns-3 t c =
-    let args = c .before .before .before .before .before .before .before .before .before .before .before .before .before .before .before .before .before .before .before .args in
-    let pre = c .before .before .before .before .before .before .before .before .before .before .before .before .before .before .before .before .before .before .before .pre in
-    let parts-at = c .before .before .before .before .before .before .before .before .before .before .before .before .before .before .before .parts-at in
-    let if1 = c .before .before .before .before .before .before .before .before .before .before .before .before .before .before .if1 in
-    let if2 = c .before .before .before .before .before .before .before .before .before .before .before .before .before .if2 in
+compile-returns-3 t c = let args = c .before .before .before .before .before .before .before .before .before .before .before .before .args in
+    let parts-at = c .before .before .before .before .before .before .before .before .parts-at in
+    let if1 = c .before .before .before .before .before .before .before .if1 in
     let if3 = c .before .before .before .before .before .before .if3 in
-    let compile2 = c .before .before .before .before .before .before .before .before .before .before .compile2 in
-    let compile3 = c .before .before .before .compile3 in
-    ((omega (arith, compile2 .ensures .0 .0, compile3 .ensures .0 .0), compile3 .ensures .0 .1), joined-and (args .k) (args .met) (args .unmet) (now (args .q)) (now (args .z)) (now (args .memo)) (decode (args .level - 1) (drop (parts-at .result .first) (now (args .q))) (drop (parts-at .result .first) (now (args .z)))) (decode (args .level - 1) (drop (parts-at .result .second) (now (args .q))) (drop (parts-at .result .second) (now (args .z)))) (decode (args .level) (drop (args .place) (now (args .q))) (drop (args .place) (now (args .z)))) (parts-at .result .kind) ((parts-at .ensures (if1 .left)) .whole) (compile2 .result) (compile3 .result) (now (args .t)) (compile2 .last .1 .1 .1 .1 .1 .0) (compile3 .last .1 .1 .1 .1 .1 .0) (now (args .xs)) (compile2 .last .1 .1 .1 .1 .1 .1 .0) (compile3 .last .1 .1 .1 .1 .1 .1 .0) (compile2 .ensures .0 .0) (pre .1 .5) (pre .1 .6) (compile2 .ensures .1) (if3 .taken) (compile3 .ensures .1))
+    let compile2 = c .before .before .before .compile2 in
+    (compile2 .ensures .0, joined-not (args .k) (args .met) (args .unmet) (now (args .q)) (now (args .z)) (now (args .memo)) (decode (args .level - 1) (drop (parts-at .result .first) (now (args .q))) (drop (parts-at .result .first) (now (args .z)))) (decode (args .level - 1) (drop (parts-at .result .second) (now (args .q))) (drop (parts-at .result .second) (now (args .z)))) (decode (args .level) (drop (args .place) (now (args .q))) (drop (args .place) (now (args .z)))) (parts-at .result .kind) ((parts-at .ensures (if1 .left)) .whole) (compile2 .result) (now (args .t)) (compile2 .last .1 .1 .1 .1 .1 .0) (now (args .xs)) (compile2 .last .1 .1 .1 .1 .1 .1 .0) (if3 .taken) (compile2 .ensures .1))
 
-compile-add-compile-2 : (t : ℕ) → compile-lts.Need-add-compile-2 (compile-claims t) (compile-at t) compile.Post
-compile-add-compile-2 t c = search needs
+compile-sub-compile-3 : (t : ℕ) → compile-lts.Need-sub-compile-3 (compile-claims t) (compile-at t) compile.Post
+compile-sub-compile-3 t c = search needs
+
+compile-compile-requires-3 : (t : ℕ) → compile-lts.Need-compile-requires-3 (compile-claims t) (compile-at t) compile.Post
+compile-compile-requires-3 t c κs = let args = c .before .before .before .before .before .before .before .before .args in
+    let pre = c .before .before .before .before .before .before .before .before .pre in
+    let parts-at = c .before .before .before .before .parts-at in
+    let if1 = c .before .before .before .if1 in
+    let if3 = c .before .before .if3 in
+    (falls-by (args .level) t ((parts-at .ensures (if1 .left)) .deep) (pre .0), (omega (arith, pre .1 .0), omega (arith, pre .1 .1), pre .1 .2, omega (arith, (parts-at .ensures (if1 .left)) .room (omega (arith, if1 .left, if3 .left)), pre .1 .3), omega (arith, pre .1 .4), pre .1 .5, pre .1 .6, (parts-at .ensures (if1 .left)) .second, omega (arith, pre .1 .8)))
+
+compile-add-compile : (t : ℕ) → compile-lts.Need-add-compile (compile-claims t) (compile-at t) compile.Post
+compile-add-compile t c = search needs
 
 compile-compile-requires-4 : (t : ℕ) → compile-lts.Need-compile-requires-4 (compile-claims t) (compile-at t) compile.Post
-compile-compile-requires-4 t c κs =
-    let args = c .before .before .before .before .before .before .before .before .before .before .before .before .before .before .before .args in
+compile-compile-requires-4 t c κs = let args = c .before .before .before .before .before .before .before .before .before .before .before .before .before .before .before .args in
     let pre = c .before .before .before .before .before .before .before .before .before .before .before .before .before .before .before .pre in
     let parts-at = c .before .before .before .before .before .before .before .before .before .before .before .parts-at in
     let if1 = c .before .before .before .before .before .before .before .before .before .before .if1 in
-    let if2 = c .before .before .before .before .before .before .before .before .before .if2 in
-    let compile2 = c .before .before .before .before .before .before .compile2 in
-    (falls-by (args .level) t ((parts-at .ensures (if1 .left)) .deep) (pre .0), (omega (arith, pre .1 .0, compile2 .kept), omega (arith, pre .1 .1, compile2 .kept), omega (arith, pre .1 .2, compile2 .ensures .0 .0), omega (arith, compile2 .ensures .0 .1, (parts-at .ensures (if1 .left)) .room (omega (arith, if1 .left, if2 .left)), pre .1 .3), pre .1 .4, omega (arith, pre .1 .5, compile2 .ensures .0 .0), omega arith, (parts-at .ensures (if1 .left)) .first, omega (arith, pre .1 .8)))
+    let if3 = c .before .before .before .before .before .before .before .before .before .if3 in
+    let compile3 = c .before .before .before .before .before .before .compile3 in
+    (falls-by (args .level) t ((parts-at .ensures (if1 .left)) .deep) (pre .0), (omega (arith, pre .1 .0, compile3 .kept), omega (arith, pre .1 .1, compile3 .kept), omega (arith, pre .1 .2, compile3 .ensures .0 .0), omega (arith, compile3 .ensures .0 .1, (parts-at .ensures (if1 .left)) .room (omega (arith, if1 .left, if3 .left)), pre .1 .3), pre .1 .4, omega arith, omega (arith, pre .1 .6, compile3 .ensures .0 .0), (parts-at .ensures (if1 .left)) .first, omega (arith, pre .1 .8)))
 
 compile-same-length-7 : (t : ℕ) → compile-lts.Need-same-length-7 (compile-claims t) (compile-at t) compile.Post
 compile-same-length-7 t c = search needs
@@ -138,16 +144,44 @@ compile-same-length-8 : (t : ℕ) → compile-lts.Need-same-length-8 (compile-cl
 compile-same-length-8 t c = search needs
 
 compile-returns-4 : (t : ℕ) → compile-lts.Need-returns-4 (compile-claims t) (compile-at t) compile.Post
-compile-returns-4 t c =
-    let args = c .before .before .before .before .before .before .before .before .before .before .before .before .before .before .before .before .before .before .before .args in
+compile-returns-4 t c = let args = c .before .before .before .before .before .before .before .before .before .before .before .before .before .before .before .before .before .before .before .args in
     let pre = c .before .before .before .before .before .before .before .before .before .before .before .before .before .before .before .before .before .before .before .pre in
     let parts-at = c .before .before .before .before .before .before .before .before .before .before .before .before .before .before .before .parts-at in
     let if1 = c .before .before .before .before .before .before .before .before .before .before .before .before .before .before .if1 in
-    let if2 = c .before .before .before .before .before .before .before .before .before .before .before .before .before .if2 in
-    let if3 = c .before .before .before .before .before .before .if3 in
-    let compile2 = c .before .before .before .before .before .before .before .before .before .before .compile2 in
+    let if3 = c .before .before .before .before .before .before .before .before .before .before .before .before .before .if3 in
+    let if4 = c .before .before .before .before .before .before .if4 in
+    let compile3 = c .before .before .before .before .before .before .before .before .before .before .compile3 in
     let compile4 = c .before .before .before .compile4 in
-    ((omega (arith, compile2 .ensures .0 .0, compile4 .ensures .0 .0), compile4 .ensures .0 .1), joined-or (args .k) (args .met) (args .unmet) (now (args .q)) (now (args .z)) (now (args .memo)) (decode (args .level - 1) (drop (parts-at .result .first) (now (args .q))) (drop (parts-at .result .first) (now (args .z)))) (decode (args .level - 1) (drop (parts-at .result .second) (now (args .q))) (drop (parts-at .result .second) (now (args .z)))) (decode (args .level) (drop (args .place) (now (args .q))) (drop (args .place) (now (args .z)))) (parts-at .result .kind) ((parts-at .ensures (if1 .left)) .whole) (compile2 .result) (compile4 .result) (now (args .t)) (compile2 .last .1 .1 .1 .1 .1 .0) (compile4 .last .1 .1 .1 .1 .1 .0) (now (args .xs)) (compile2 .last .1 .1 .1 .1 .1 .1 .0) (compile4 .last .1 .1 .1 .1 .1 .1 .0) (compile2 .ensures .0 .0) (pre .1 .5) (pre .1 .6) (compile2 .ensures .1) (if2 .left) (if3 .left) (compile4 .ensures .1))
+    ((omega (arith, compile3 .ensures .0 .0, compile4 .ensures .0 .0), compile4 .ensures .0 .1), joined-and (args .k) (args .met) (args .unmet) (now (args .q)) (now (args .z)) (now (args .memo)) (decode (args .level - 1) (drop (parts-at .result .first) (now (args .q))) (drop (parts-at .result .first) (now (args .z)))) (decode (args .level - 1) (drop (parts-at .result .second) (now (args .q))) (drop (parts-at .result .second) (now (args .z)))) (decode (args .level) (drop (args .place) (now (args .q))) (drop (args .place) (now (args .z)))) (parts-at .result .kind) ((parts-at .ensures (if1 .left)) .whole) (compile3 .result) (compile4 .result) (now (args .t)) (compile3 .last .1 .1 .1 .1 .1 .0) (compile4 .last .1 .1 .1 .1 .1 .0) (now (args .xs)) (compile3 .last .1 .1 .1 .1 .1 .1 .0) (compile4 .last .1 .1 .1 .1 .1 .1 .0) (compile3 .ensures .0 .0) (pre .1 .5) (pre .1 .6) (compile3 .ensures .1) (if4 .taken) (compile4 .ensures .1))
+
+compile-add-compile-2 : (t : ℕ) → compile-lts.Need-add-compile-2 (compile-claims t) (compile-at t) compile.Post
+compile-add-compile-2 t c = search needs
+
+compile-compile-requires-5 : (t : ℕ) → compile-lts.Need-compile-requires-5 (compile-claims t) (compile-at t) compile.Post
+compile-compile-requires-5 t c κs = let args = c .before .before .before .before .before .before .before .before .before .before .before .before .before .before .before .args in
+    let pre = c .before .before .before .before .before .before .before .before .before .before .before .before .before .before .before .pre in
+    let parts-at = c .before .before .before .before .before .before .before .before .before .before .before .parts-at in
+    let if1 = c .before .before .before .before .before .before .before .before .before .before .if1 in
+    let if3 = c .before .before .before .before .before .before .before .before .before .if3 in
+    let compile3 = c .before .before .before .before .before .before .compile3 in
+    (falls-by (args .level) t ((parts-at .ensures (if1 .left)) .deep) (pre .0), (omega (arith, pre .1 .0, compile3 .kept), omega (arith, pre .1 .1, compile3 .kept), omega (arith, pre .1 .2, compile3 .ensures .0 .0), omega (arith, compile3 .ensures .0 .1, (parts-at .ensures (if1 .left)) .room (omega (arith, if1 .left, if3 .left)), pre .1 .3), pre .1 .4, omega (arith, pre .1 .5, compile3 .ensures .0 .0), omega arith, (parts-at .ensures (if1 .left)) .first, omega (arith, pre .1 .8)))
+
+compile-same-length-9 : (t : ℕ) → compile-lts.Need-same-length-9 (compile-claims t) (compile-at t) compile.Post
+compile-same-length-9 t c = search needs
+
+compile-same-length-10 : (t : ℕ) → compile-lts.Need-same-length-10 (compile-claims t) (compile-at t) compile.Post
+compile-same-length-10 t c = search needs
+
+compile-returns-5 : (t : ℕ) → compile-lts.Need-returns-5 (compile-claims t) (compile-at t) compile.Post
+compile-returns-5 t c = let args = c .before .before .before .before .before .before .before .before .before .before .before .before .before .before .before .before .before .before .before .args in
+    let pre = c .before .before .before .before .before .before .before .before .before .before .before .before .before .before .before .before .before .before .before .pre in
+    let parts-at = c .before .before .before .before .before .before .before .before .before .before .before .before .before .before .before .parts-at in
+    let if1 = c .before .before .before .before .before .before .before .before .before .before .before .before .before .before .if1 in
+    let if3 = c .before .before .before .before .before .before .before .before .before .before .before .before .before .if3 in
+    let if4 = c .before .before .before .before .before .before .if4 in
+    let compile3 = c .before .before .before .before .before .before .before .before .before .before .compile3 in
+    let compile5 = c .before .before .before .compile5 in
+    ((omega (arith, compile3 .ensures .0 .0, compile5 .ensures .0 .0), compile5 .ensures .0 .1), joined-or (args .k) (args .met) (args .unmet) (now (args .q)) (now (args .z)) (now (args .memo)) (decode (args .level - 1) (drop (parts-at .result .first) (now (args .q))) (drop (parts-at .result .first) (now (args .z)))) (decode (args .level - 1) (drop (parts-at .result .second) (now (args .q))) (drop (parts-at .result .second) (now (args .z)))) (decode (args .level) (drop (args .place) (now (args .q))) (drop (args .place) (now (args .z)))) (parts-at .result .kind) ((parts-at .ensures (if1 .left)) .whole) (compile3 .result) (compile5 .result) (now (args .t)) (compile3 .last .1 .1 .1 .1 .1 .0) (compile5 .last .1 .1 .1 .1 .1 .0) (now (args .xs)) (compile3 .last .1 .1 .1 .1 .1 .1 .0) (compile5 .last .1 .1 .1 .1 .1 .1 .0) (compile3 .ensures .0 .0) (pre .1 .5) (pre .1 .6) (compile3 .ensures .1) (if3 .left) (if4 .left) (compile5 .ensures .1))
 
 pub +compile-spec : {M : Type 1} → statement M
 +compile-spec = close μ-compile λ t. compile-lts.spec (compile-claims t)
@@ -155,24 +189,36 @@ pub +compile-spec : {M : Type 1} → statement M
     compile.Post
     (compile-sub-parts-at t)
     (compile-parts-at-requires t)
+    (compile-sub-search-at t)
+    (compile-search-at-requires t)
     (compile-single-requires t)
     (compile-same-length t)
     (compile-same-length-2 t)
     (compile-returns t)
-    (compile-sub-l t)
+    (compile-sub-compile t)
+    (compile-sub-compile-2 t)
     (compile-compile-requires t)
+    (compile-add-write t)
+    (compile-narrow-requires t)
+    (compile-write-requires t)
+    (compile-add-result t)
     (compile-same-length-3 t)
     (compile-same-length-4 t)
     (compile-returns-2 t)
-    (compile-sub-compile t)
+    (compile-sub-l t)
     (compile-compile-requires-2 t)
-    (compile-add-compile t)
-    (compile-compile-requires-3 t)
     (compile-same-length-5 t)
     (compile-same-length-6 t)
     (compile-returns-3 t)
-    (compile-add-compile-2 t)
+    (compile-sub-compile-3 t)
+    (compile-compile-requires-3 t)
+    (compile-add-compile t)
     (compile-compile-requires-4 t)
     (compile-same-length-7 t)
     (compile-same-length-8 t)
     (compile-returns-4 t)
+    (compile-add-compile-2 t)
+    (compile-compile-requires-5 t)
+    (compile-same-length-9 t)
+    (compile-same-length-10 t)
+    (compile-returns-5 t)

@@ -2,7 +2,7 @@ use mathlib.Core.Path.{refl, sym, _∙_}
 use lib.IntN.{pos}
 use denote.Ref.{now}
 use Rattle.model.proofs.Tests.{not-no}
-use Rattle.branches.proofs.Following.{recalled-none, recalled-some}
+use Rattle.branches.proofs.Sides.{recalled-none, recalled-some}
 use borrow.Author.Needs.{needs}
 use Rattle.branches.proofs.recalled.Statement.{statement}
 use Rattle.branches.proofs.recalled.Tie as tie

@@ -3,7 +3,7 @@ use lib.ListN.{getD}
 use mir.Facts.{toZ-ofZ}
 use mir.Syntax.{w32}
 use denote.Ref.{now}
-use Rattle.branches.proofs.Following.{side-attribute, side-memo, side-number}
+use Rattle.branches.proofs.Sides.{side-attribute, side-memo, side-number}
 use borrow.Author.Needs.{needs}
 use Rattle.branches.proofs.side.Statement.{statement}
 use Rattle.branches.proofs.side.Tie as tie

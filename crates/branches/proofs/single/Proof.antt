@@ -1,3 +1,4 @@
+use native.Mathlib.Omega.{arith}
 use mir.Facts.{toZ-ofZ}
 use mir.Syntax.{w32}
 use denote.Ref.{now}
@@ -36,8 +37,8 @@ returns c =
     let write = c .before .before .write in
     placed (args .k) (args .met) (args .unmet) (now (args .t)) (write .last .0) (now (args .xs)) (now (args .q)) (now (args .z)) (now (args .memo)) (args .place) (args .level) _ _ (narrow .ensures) (narrow2 .ensures) (write .ensures) (pre .0) (pre .2) (pre .4) (pre .5)
 
-wide-requires : tie.Need-wide-requires
-wide-requires c κs = search needs
+from-byte-requires : tie.Need-from-byte-requires
+from-byte-requires c κs = search needs
 
 write-requires-2 : tie.Need-write-requires-2
 write-requires-2 c κs = search needs
@@ -59,12 +60,12 @@ returns-2 c =
     let tail-sizes = c .before .before .before .before .before .before .before .before .before .before .before .before .before .before .tail-sizes in
     let comparison-at = c .before .before .before .before .before .before .before .before .before .before .before .before .before .comparison-at in
     let if1 = c .before .before .before .before .before .before .before .before .before .before .before .before .if1 in
-    let wide = c .before .before .before .before .before .before .before .before .wide in
+    let from-byte = c .before .before .before .before .before .before .before .before .from-byte in
     let write2 = c .before .before .before .before .before .before .before .write2 in
     let write-numbers = c .before .write-numbers in
     let struct-told = c .before .before .before .struct-told in
     let struct-told2 = c .before .before .struct-told2 in
-    compared (args .k) (args .met) (args .unmet) (now (args .t)) (write2 .last .0) (now (args .xs)) (write-numbers .last .0) (now (args .q)) (now (args .z)) _ _ (now (args .memo)) (args .place) (args .level) _ (comparison-at .result) _ _ (wide .ensures) (write2 .ensures) (pre .0) (toZ-ofZ {w = w32} (record { sfits = struct-told .given .1 .1 .1 .0 .1 })) (toZ-ofZ {w = w32} (record { sfits = struct-told2 .given .1 .1 .1 .0 .1 })) (write-numbers .ensures) (pre .1) (tail .ensures) (tail-sizes .ensures) (comparison-at .ensures) (if1 .left) (pre .2) (pre .4) (pre .5)
+    compared (args .k) (args .met) (args .unmet) (now (args .t)) (write2 .last .0) (now (args .xs)) (write-numbers .last .0) (now (args .q)) (now (args .z)) _ _ (now (args .memo)) (args .place) (args .level) _ (comparison-at .result) _ _ (from-byte .ensures .0) (write2 .ensures) (pre .0) (toZ-ofZ {w = w32} (record { sfits = struct-told .given .1 .1 .1 .0 .1 })) (toZ-ofZ {w = w32} (record { sfits = struct-told2 .given .1 .1 .1 .0 .1 })) (write-numbers .ensures) (pre .1) (tail .ensures) (tail-sizes .ensures) (comparison-at .ensures) (if1 .left) (λ e. omega (arith, e, from-byte .ensures)) (pre .2) (pre .4) (pre .5)
 
 pub single-spec : {M : Type 1} → statement M
 single-spec =
@@ -78,7 +79,7 @@ single-spec =
     write-requires
     same-length
     returns
-    wide-requires
+    from-byte-requires
     write-requires-2
     write-numbers-requires
     same-length-2

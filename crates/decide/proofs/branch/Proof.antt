@@ -1,9 +1,10 @@
+use mathlib.Core.Path.{sym, _∙_}
 use mathlib.Core.Path.{refl}
 use denote.Ref.{now}
-use Rattle.branches.proofs.Following.{branch-condition, branch-compared}
+use Rattle.decide.proofs.Following.{branch-condition, branch-compared}
 use borrow.Author.Needs.{needs}
-use Rattle.branches.proofs.branch.Statement.{statement}
-use Rattle.branches.proofs.branch.Tie as tie
+use Rattle.decide.proofs.branch.Statement.{statement}
+use Rattle.decide.proofs.branch.Tie as tie
 
 mul-p : tie.Need-mul-p
 mul-p c = search needs
@@ -81,7 +82,7 @@ returns-2 c =
     let side = c .before .before .before .side in
     let side2 = c .before .side2 in
     let if1 = c .before .before .before .before .before .if1 in
-    (branch-compared (now (args .t)) (now (args .xs)) (now (args .q)) (now (args .z)) (now (args .walks)) (now (args .values)) (now (args .memo)) (now (args .env)) (args .i) (size-at .result) (size-at .ensures .0) (side .result) (side2 .result) _ (if1 .left) (side .ensures .0) (side2 .ensures .0) (c .compared .ensures), refl)
+    (branch-compared (now (args .t)) (now (args .xs)) (now (args .q)) (now (args .z)) (now (args .walks)) (now (args .values)) (now (args .memo)) (now (args .env)) (args .i) (size-at .result) (size-at .ensures .0) (side .result) (side2 .result) _ (if1 .left) (λ e. c .before .before .before .before .before .before .before .before .before .before .before .before .pre .2 (sym (c .before .before .before .before .before .before .size-at .ensures .0) ∙ e)) (side .ensures .0) (side2 .ensures .0) (c .compared .ensures), refl)
 
 pub branch-spec : {M : Type 1} → statement M
 branch-spec =

@@ -1,6 +1,6 @@
--- One side of a comparison read, one branch tried, and the branches followed to their end.
+-- One branch tried, and the branches followed to their end.
 use Prim.Native.Nat.{ℕ, zero, suc, _+_, _-_, _*_, _≤_, _<_}
-use mathlib.Core.Bool.{Bool, true, false, not}
+use mathlib.Core.Bool.{Bool, true, false, not, cond}
 use mathlib.Core.List.{List}
 use mathlib.Core.Path.{_≡_, sym, ap, ap₂, _∙_, subst}
 use native.Mathlib.Omega.{arith}
@@ -16,33 +16,8 @@ use Rattle.numbers.specs.Memo.{knows, recalled}
 use Rattle.numbers.specs.declared.Ratio.{Ratio}
 use Rattle.evaluator.specs.Evaluation.{assigned, holdsAt}
 use Rattle.evaluator.proofs.Steps.{getD-inside}
-use Rattle.branches.specs.Branches.{field, recalledOr0, operand, branchHolds, next, runs}
+use Rattle.branches.specs.Branches.{field, recalledOr0, operand, holdsIn, branchHolds, next, runs}
 use Rattle.branches.proofs.Running.{runs-0, runs-1, runs-step, runs-stuck}
-
--- what the memo has
-module _ (m : List ℤ) (v : ℕ) (b : Bool) (r : Ratio) (eb : b ≡ knows m v) where
-  pub recalled-none : (x : ℤ) → not b ≡ true → x ≡ pos 0 → r ≡ represent (whole x) → r ≡ represent (recalledOr0 m v)
-  recalled-none x h ex er = er ∙ ap (λ (y : ℤ). represent (whole y)) ex ∙ sym (rw (sym eb ∙ not-yes b h))
-
-  pub recalled-some : not b ≡ false → r ≡ represent (recalled m v) → r ≡ represent (recalledOr0 m v)
-  recalled-some h er = er ∙ sym (rw (sym eb ∙ not-no b h))
-
--- one side of a comparison
-module _ (t e : List ℕ) (xs vs m : List ℤ) (i j v : ℕ) (r : Ratio) (ev : v ≡ getD t i 0) where
-  at-v : (x : M.Ratio) → r ≡ represent x → operand m v (getD t (i + 1) 0) (getD xs j (pos 0)) (assigned vs e) ≡ x
-      → r ≡ represent (operand m (getD t i 0) (getD t (i + 1) 0) (getD xs j (pos 0)) (assigned vs e))
-  at-v x er ex = er ∙ ap represent (sym ex) ∙ ap (λ (w : ℕ). represent (operand m w (getD t (i + 1) 0) (getD xs j (pos 0)) (assigned vs e))) ev
-
-  pub side-attribute : (row a : ℕ) (x : ℤ) → v < 256 → 256 ≤ length e → row ≡ getD e v 0 → a ≡ getD t (i + 1) 0 → x ≡ getD vs (row + a) (pos 0) → r ≡ represent (whole x)
-      → r ≡ represent (operand m (getD t i 0) (getD t (i + 1) 0) (getD xs j (pos 0)) (assigned vs e))
-  side-attribute row a x h k er ea ex eq =
-      at-v (whole x) eq (rw (lt-ltb v 256 h) (ap whole (sym (ex ∙ ap₂ (λ (r b : ℕ). getD vs (r + b) (pos 0)) (er ∙ getD-inside e v 0 (length vs) (omega arith)) ea))))
-
-  pub side-memo : (w : ℕ) → 256 ≤ v → v < 512 → w ≡ v - 256 → r ≡ represent (recalledOr0 m w) → r ≡ represent (operand m (getD t i 0) (getD t (i + 1) 0) (getD xs j (pos 0)) (assigned vs e))
-  side-memo w h k ew eq = at-v (recalledOr0 m w) eq (rw (le-ltb v 256 h, lt-ltb v 512 k) (ap (recalledOr0 m) (sym ew)))
-
-  pub side-number : (x : ℤ) → 256 ≤ v → 512 ≤ v → x ≡ getD xs j (pos 0) → r ≡ represent (whole x) → r ≡ represent (operand m (getD t i 0) (getD t (i + 1) 0) (getD xs j (pos 0)) (assigned vs e))
-  side-number x h k ex eq = at-v (whole x) eq (rw (le-ltb v 256 h, le-ltb v 512 k) (ap whole (sym ex)))
 
 module _ (t : List ℕ) (xs : List ℤ) (q z ws : List ℕ) (vs m : List ℤ) (e : List ℕ) (i : ℕ) where
   -- one branch
@@ -51,17 +26,18 @@ module _ (t : List ℕ) (xs : List ℤ) (q z ws : List ℕ) (vs m : List ℤ) (e
     own = let n : 8 * i + 0 ≡ 8 * i = omega arith in sym (eo ∙ ap (λ (n : ℕ). getD t n 0) (sym n))
 
     pub branch-condition : (p l : ℕ) (c s : List ℕ) (b : Bool) → o ≡ 0 → p ≡ getD t (8 * i + 1) 0 → l ≡ getD t (8 * i + 2) 0 → c ≡ drop p q → s ≡ drop p z → b ≡ holdsAt l c s ws vs m e → b ≡ branchHolds t xs q z ws vs m i (assigned vs e)
-    unfolding branchHolds holdsAt
+    unfolding branchHolds holdsIn holdsAt
     branch-condition p l c s b h ep el ec es eb = eb ∙ rw (ec, es, ep, el) (sym (rw (own ∙ h)))
 
-    pub branch-compared : (a b : Ratio) (r : Bool) → (o ≡ 0 → ⊥) → a ≡ represent (operand m (getD t (8 * i + 1) 0) (getD t (8 * i + 1 + 1) 0) (getD xs (2 * i) (pos 0)) (assigned vs e))
+    pub branch-compared : (a b : Ratio) (r : Bool) → (o ≡ 0 → ⊥) → (o ≡ 256 → ⊥) → a ≡ represent (operand m (getD t (8 * i + 1) 0) (getD t (8 * i + 1 + 1) 0) (getD xs (2 * i) (pos 0)) (assigned vs e))
         → b ≡ represent (operand m (getD t (8 * i + 3) 0) (getD t (8 * i + 3 + 1) 0) (getD xs (2 * i + 1) (pos 0)) (assigned vs e)) → r ≡ compare o (ratioOf a) (ratioOf b) → r ≡ branchHolds t xs q z ws vs m i (assigned vs e)
-    unfolding branchHolds
-    branch-compared a b r h ea eb er =
+    unfolding branchHolds holdsIn
+    branch-compared a b r h g ea eb er =
         let n = ap (λ (w : ℕ). eqb w 0) own ∙ ne-eqb o 0 h in
+        let p = ap (λ (w : ℕ). eqb w 256) own ∙ ne-eqb o 256 g in
         let j : 8 * i + 2 ≡ 8 * i + 1 + 1 = omega arith in
         let k : 8 * i + 4 ≡ 8 * i + 3 + 1 = omega arith in
-        er ∙ rw (ea, eb) (sym (rw (n, own, j, k)))
+        er ∙ rw (ea, eb) (sym (rw (n, p, own, j, k)))
 
   -- where it leads
   module _ (b : Bool) (r : ℕ) (eb : b ≡ branchHolds t xs q z ws vs m i (assigned vs e)) where
@@ -90,3 +66,9 @@ module _ (t : List ℕ) (xs : List ℤ) (q z ws : List ℕ) (vs m : List ℤ) (e
       go zero g = runs-0 t xs q z ws vs m (assigned vs e)
       go (suc zero) g = runs-1 t xs q z ws vs m (assigned vs e)
       go (suc (suc n)) g = absurd (omega arith)
+
+pub way-met : (b : Bool) (r x y : ℕ) → b ≡ true → r ≡ x → r ≡ cond b x y
+way-met b r x y h e = e ∙ sym (rw h)
+
+pub way-unmet : (b : Bool) (r x y : ℕ) → b ≡ false → r ≡ y → r ≡ cond b x y
+way-unmet b r x y h e = e ∙ sym (rw h)

@@ -1,8 +1,8 @@
 use denote.Ref.{now}
-use Rattle.branches.proofs.Following.{leads-met, leads-unmet}
+use Rattle.decide.proofs.Following.{leads-met, leads-unmet}
 use borrow.Author.Needs.{needs}
-use Rattle.branches.proofs.next.Statement.{statement}
-use Rattle.branches.proofs.next.Tie as tie
+use Rattle.decide.proofs.next.Statement.{statement}
+use Rattle.decide.proofs.next.Tie as tie
 
 branch-requires : tie.Need-branch-requires
 branch-requires c κs = search needs

@@ -1,0 +1,211 @@
+// Whether a branch of a table leads to 0 (branches/specs/Branches). Comparisons are followed in one loop; where a branch asks for some row of a variable,
+// its rows are tried, those that cannot meet what is asked passed over.
+use walks::Walk;
+ghost use mathlib.Core.Path.{_≡_};
+ghost use mathlib.Core.Bool.{cond};
+ghost use Prim.Native.Nat.{_+_, _*_, _≤_, _<_};
+ghost use lib.ListN.{length, getD};
+ghost use Rattle.evaluator.specs.Evaluation.{assigned};
+ghost use Rattle.branches.specs.Branches as B;
+ghost use Rattle.seeks.specs.Keys.{Faithful};
+ghost use Rattle.walks.specs.Walks.{walkOf};
+
+// Whether branch i holds, which asks for no row.
+fn branch(
+    t: &[u16],
+    xs: &[i32],
+    i: usize,
+    q: &[u8],
+    z: &[u16],
+    walks: &[u16],
+    values: &[i32],
+    memo: &[i64],
+    env: &mut [usize],
+) -> bool
+    requires { ⌜ (256 ≤ length (now env)) × (i ≤ 65535) × (getD (now t) (8 * i) 0 ≡ 256 → ⊥) ⌝ }
+    ensures { λ r. ⌜ r ≡ B.branchHolds (now (t .entry)) (now (xs .entry)) (now (q .entry)) (now (z .entry)) (now (walks .entry)) (now (values .entry)) (now (memo .entry)) i (assigned (now (values .entry)) (now (env .entry))) ⌝ }
+    ensures { λ _. ⌜ now (env .exit) ≡ now (env .entry) ⌝ }
+{
+    let p = 8 * i;
+    let operator = kinds::size_at(t, p);
+    if operator == 0 {
+        let place = kinds::size_at(t, p + 1);
+        let level = kinds::size_at(t, p + 2);
+        let c = kinds::tail(q, place);
+        let sizes = kinds::tail_sizes(z, place);
+        return evaluator::condition(c, sizes, level, walks, values, memo, env);
+    }
+    let a = branches::side(t, p + 1, xs, 2 * i, values, memo, env);
+    let b = branches::side(t, p + 3, xs, 2 * i + 1, values, memo, env);
+    numbers::compared(operator, a, b)
+}
+
+// Where branch i leads.
+fn next(
+    t: &[u16],
+    xs: &[i32],
+    i: usize,
+    q: &[u8],
+    z: &[u16],
+    walks: &[u16],
+    values: &[i32],
+    memo: &[i64],
+    env: &mut [usize],
+) -> usize
+    requires { ⌜ (256 ≤ length (now env)) × (i ≤ 65535) × (getD (now t) (8 * i) 0 ≡ 256 → ⊥) ⌝ }
+    ensures { λ r. ⌜ r ≡ B.next (now (t .entry)) (now (xs .entry)) (now (q .entry)) (now (z .entry)) (now (walks .entry)) (now (values .entry)) (now (memo .entry)) i (assigned (now (values .entry)) (now (env .entry))) ⌝ }
+    ensures { λ _. ⌜ now (env .exit) ≡ now (env .entry) ⌝ }
+{
+    if branch(t, xs, i, q, z, walks, values, memo, env) {
+        return kinds::size_at(t, 8 * i + 5);
+    }
+    kinds::size_at(t, 8 * i + 6)
+}
+
+// Follows the branches from `start` on up to an end, or to one that asks for a row.
+fn run(
+    t: &[u16],
+    xs: &[i32],
+    start: usize,
+    q: &[u8],
+    z: &[u16],
+    walks: &[u16],
+    values: &[i32],
+    memo: &[i64],
+    env: &mut [usize],
+) -> usize
+    requires { ⌜ (256 ≤ length (now env)) × (start ≤ 65535) ⌝ }
+    ensures { λ r. ⌜ B.runs (now (t .entry)) (now (xs .entry)) (now (q .entry)) (now (z .entry)) (now (walks .entry)) (now (values .entry)) (now (memo .entry)) r (assigned (now (values .entry)) (now (env .entry))) ≡ B.runs (now (t .entry)) (now (xs .entry)) (now (q .entry)) (now (z .entry)) (now (walks .entry)) (now (values .entry)) (now (memo .entry)) start (assigned (now (values .entry)) (now (env .entry))) ⌝ }
+    ensures { λ r. ⌜ (r ≤ start) × (2 ≤ r → getD (now (t .entry)) (8 * r) 0 ≡ 256) ⌝ }
+    ensures { λ _. ⌜ now (env .exit) ≡ now (env .entry) ⌝ }
+{
+    let mut at = start;
+    while 2 <= at {
+        if kinds::size_at(t, 8 * at) == 256 {
+            return at;
+        }
+        let to = next(t, xs, at, q, z, walks, values, memo, env);
+        if at <= to {
+            return 1;
+        }
+        at = to;
+    }
+    at
+}
+
+// Whether branch `start` leads to 0.
+pub fn holds(
+    t: &[u16],
+    xs: &[i32],
+    start: usize,
+    q: &[u8],
+    z: &[u16],
+    walks: &[u16],
+    chains: &[u16],
+    values: &[i32],
+    memo: &[i64],
+    env: &mut [usize],
+) -> bool
+    requires { ⌜ (256 ≤ length (now env)) × (start ≤ 65535) × Faithful (now t) (now walks) (now values) (now chains) ⌝ }
+    ensures { λ r. ⌜ r ≡ B.runs (now (t .entry)) (now (xs .entry)) (now (q .entry)) (now (z .entry)) (now (walks .entry)) (now (values .entry)) (now (memo .entry)) start (assigned (now (values .entry)) (now (env .entry))) ⌝ }
+    ensures { λ _. ⌜ now (env .exit) ≡ now (env .entry) ⌝ }
+{
+    let mut from = start;
+    loop {
+        let at = run(t, xs, from, q, z, walks, values, memo, env);
+        if at < 2 {
+            return at == 0;
+        }
+        let found = some_row(t, xs, at, q, z, walks, chains, values, memo, env);
+        let to = way(t, at, found);
+        if at <= to {
+            return false;
+        }
+        from = to;
+    }
+}
+
+// Where a branch leads.
+fn way(t: &[u16], i: usize, met: bool) -> usize
+    requires { ⌜ i ≤ 65535 ⌝ }
+    ensures { λ r. ⌜ r ≡ cond met (getD (now (t .entry)) (8 * i + 5) 0) (getD (now (t .entry)) (8 * i + 6) 0) ⌝ }
+    ensures { λ r. ⌜ r ≤ 65535 ⌝ }
+{
+    if met {
+        return kinds::size_at(t, 8 * i + 5);
+    }
+    kinds::size_at(t, 8 * i + 6)
+}
+
+fn byte_of(x: usize) -> u8
+    requires { ⌜ x < 256 ⌝ }
+    ensures { λ r. ⌜ r ≡ x ⌝ }
+{
+    x as u8
+}
+
+// Whether branch i holds, which asks for a row.
+fn some_row(
+    t: &[u16],
+    xs: &[i32],
+    i: usize,
+    q: &[u8],
+    z: &[u16],
+    walks: &[u16],
+    chains: &[u16],
+    values: &[i32],
+    memo: &[i64],
+    env: &mut [usize],
+) -> bool
+    requires { ⌜ (256 ≤ length (now env)) × (i ≤ 65535) × (getD (now t) (8 * i) 0 ≡ 256) × Faithful (now t) (now walks) (now values) (now chains) ⌝ }
+    ensures { λ r. ⌜ r ≡ B.branchHolds (now (t .entry)) (now (xs .entry)) (now (q .entry)) (now (z .entry)) (now (walks .entry)) (now (values .entry)) (now (memo .entry)) i (assigned (now (values .entry)) (now (env .entry))) ⌝ }
+    ensures { λ _. ⌜ now (env .exit) ≡ now (env .entry) ⌝ }
+{
+    let inner = kinds::size_at(t, 8 * i + 2);
+    if i <= inner {
+        return false;
+    }
+    let v = kinds::size_at(t, 8 * i + 1);
+    if 255 < v {
+        return false;
+    }
+    let variable = byte_of(v);
+    let walk = walks::walk_of(walks, variable);
+    let n = walk.count;
+    let old = evaluator::place(env, variable);
+    let mut j = seeks::seek(
+        t,
+        xs,
+        inner,
+        variable,
+        walks,
+        walk,
+        chains,
+        values,
+        memo,
+        env,
+        0,
+    );
+    while j < n {
+        evaluator::set_place(env, variable, walks::place(walks, walk, j));
+        if holds(t, xs, inner, q, z, walks, chains, values, memo, env) {
+            evaluator::set_place(env, variable, old);
+            return true;
+        }
+        j = seeks::seek(
+            t,
+            xs,
+            inner,
+            variable,
+            walks,
+            walk,
+            chains,
+            values,
+            memo,
+            env,
+            j + 1,
+        );
+    }
+    evaluator::set_place(env, variable, old);
+    false
+}
