@@ -20,10 +20,10 @@ use Rattle.model.specs.Checks.{fails10, fails11, refusal, keeperChecks}
 use Rattle.catalogue.specs.Layout.{kindOf, attributesOf, rowsOf, storedOf, latestOf, countOf, baseOf, knownOf, tupleAt, offsets, tuplesIn}
 
 -- the records from the front
-abbrev relationAt : List ℕ → ℕ → Relation
+abbrev pub relationAt : List ℕ → ℕ → Relation
 relationAt c r = record { stored = storedOf c r; latest = latestOf c r; attributes = attributesOf c r; rows = rowsOf c r }
 
-unfoldable relationsIn : ℕ → List ℕ → List Relation
+unfoldable pub relationsIn : ℕ → List ℕ → List Relation
 relationsIn zero c = []
 relationsIn (suc n) c = relationAt c 0 ∷ relationsIn n (drop 4 c)
 
@@ -278,6 +278,9 @@ tuples-by-offset (suc n) w p vs =
 module _ (c : List ℕ) (h : fails10 c ≡ false) where
   valid : Valid c
   valid = passes-valid c h
+
+  pub relations-are : (catalogueOf c ≡ relationsIn (countOf c) c) × (length c ≡ 4 * countOf c)
+  relations-are = (catalogue-valid c valid, valid .size)
 
   pub count-is : length (catalogueOf c) ≡ countOf c
   count-is = ap length (catalogue-valid c valid) ∙ relations-length (countOf c) c
