@@ -1,0 +1,166 @@
+// The reader of QUEL (document 02, Change 1): a text and a name list, to the records of a question in a lent buffer.
+use loops::End;
+use tokens::Outcome;
+ghost use mathlib.Core.Path.{_≡_};
+ghost use Prim.Native.Nat.{_≤_, _<_};
+ghost use lib.ListN.{length};
+ghost use Rattle.quel.specs.ReadText.{readText};
+ghost use Rattle.marks.specs.Places.{table};
+ghost use Rattle.reader.specs.Readings.{recordsOf, readingOf, measured, writing};
+
+// The number of a refusal, 0 where there is none, and the length of the records.
+pub struct Reading {
+    pub number: u8,
+    pub length: usize,
+}
+
+fn refused(number: u8) -> Reading
+    ensures { λ r. ⌜ r ≡ record { number = number; length = 0 } ⌝ }
+{
+    Reading { number, length: 0 }
+}
+
+// Where the records would end: written into no bytes.
+fn measure(
+    text: &[u8],
+    kinds: &[u8],
+    starts: &[u16],
+    lengths: &[u16],
+    numbers: &[u32],
+    list: &[u8],
+    counts: &mut [u64],
+    symbols: &mut [u64],
+    frames: &mut [u64],
+) -> End
+    requires { ⌜ (length (now kinds) < 4000) × (4000 < length (now counts)) × (4000 < length (now symbols)) × (4001 < length (now frames)) ⌝ }
+    ensures { λ r. ⌜ r ≡ measured (recordsOf (now (text .entry)) (table (now (kinds .entry)) (now (starts .entry)) (now (lengths .entry)) (now (numbers .entry))) (now (list .entry))) ⌝ }
+{
+    let mut none = [0u8; 0];
+    elaborate::elaborate(
+        text,
+        kinds,
+        starts,
+        lengths,
+        numbers,
+        list,
+        counts,
+        symbols,
+        frames,
+        &mut none,
+    )
+}
+
+// The records of all tokens, or 51 for a name and 52 for their length. They are measured first, so that a buffer that is too short is not touched.
+fn write(
+    text: &[u8],
+    kinds: &[u8],
+    starts: &[u16],
+    lengths: &[u16],
+    numbers: &[u32],
+    list: &[u8],
+    counts: &mut [u64],
+    symbols: &mut [u64],
+    frames: &mut [u64],
+    out: &mut [u8],
+) -> Reading
+    requires { ⌜ (length (now kinds) < 4000) × (4000 < length (now counts)) × (4000 < length (now symbols)) × (4001 < length (now frames)) ⌝ }
+    ensures { λ r. ⌜ readingOf r (now (out .exit)) ≡ writing (recordsOf (now (text .entry)) (table (now (kinds .entry)) (now (starts .entry)) (now (lengths .entry)) (now (numbers .entry))) (now (list .entry))) (now (out .entry)) ⌝ }
+{
+    let End::Place(n) = measure(
+        text,
+        kinds,
+        starts,
+        lengths,
+        numbers,
+        list,
+        counts,
+        symbols,
+        frames,
+    ) else {
+        return refused(51);
+    };
+    if out.len() < n {
+        return refused(52);
+    }
+    elaborate::elaborate(
+        text,
+        kinds,
+        starts,
+        lengths,
+        numbers,
+        list,
+        counts,
+        symbols,
+        frames,
+        out,
+    );
+    Reading {
+        number: 0,
+        length: n,
+    }
+}
+
+// 50 for the text alone, 51 for the name list, then its names; the tables are lent.
+fn read_with(
+    text: &[u8],
+    list: &[u8],
+    kinds: &mut [u8],
+    starts: &mut [u16],
+    lengths: &mut [u16],
+    numbers: &mut [u32],
+    counts: &mut [u64],
+    symbols: &mut [u64],
+    frames: &mut [u64],
+    out: &mut [u8],
+) -> Reading
+    requires { ⌜ (2000 ≤ length (now kinds)) × (2000 ≤ length (now starts)) × (2000 ≤ length (now lengths)) × (2000 ≤ length (now numbers)) ⌝ }
+    requires { ⌜ (4000 < length (now counts)) × (4000 < length (now symbols)) × (4001 < length (now frames)) ⌝ }
+    ensures { λ r. ⌜ readingOf r (now (out .exit)) ≡ readText (now (list .entry)) (now (text .entry)) (now (out .entry)) ⌝ }
+{
+    let Outcome::Tokens(n) = tokens::cut(text, kinds, starts, lengths, numbers) else {
+        return refused(50);
+    };
+    if !syntax::accepted(kinds, n) {
+        return refused(50);
+    }
+    if !names::listed(list) {
+        return refused(51);
+    }
+    write(
+        text,
+        &kinds[..n],
+        starts,
+        lengths,
+        numbers,
+        list,
+        counts,
+        symbols,
+        frames,
+        out,
+    )
+}
+
+// Reads a text: for every input what the definition gives. A refusal leaves the buffer as it was.
+pub fn read(text: &[u8], list: &[u8], out: &mut [u8]) -> Reading
+    ensures { λ r. ⌜ readingOf r (now (out .exit)) ≡ readText (now (list .entry)) (now (text .entry)) (now (out .entry)) ⌝ }
+{
+    let mut kinds = [0u8; 2000];
+    let mut starts = [0u16; 2000];
+    let mut lengths = [0u16; 2000];
+    let mut numbers = [0u32; 2000];
+    let mut counts = [0u64; 4001];
+    let mut symbols = [0u64; 4001];
+    let mut frames = [0u64; 4002];
+    read_with(
+        text,
+        list,
+        &mut kinds,
+        &mut starts,
+        &mut lengths,
+        &mut numbers,
+        &mut counts,
+        &mut symbols,
+        &mut frames,
+        out,
+    )
+}
