@@ -1,7 +1,6 @@
 -- What the reader returns, with the buffer afterwards, as the definition's reading.
 use Prim.Native.Nat.{ℕ}
 use mathlib.Core.List.{List}
-use lib.ListN.{length}
 use Rattle.quel.specs.Results.{Read, fail, ok}
 use Rattle.quel.specs.ReadText as Q
 use Rattle.quel.specs.ReadText.{refused, written}
@@ -10,8 +9,6 @@ use Rattle.flat.specs.Flat.{flatText}
 use Rattle.names.specs.Entries.{entries}
 use Rattle.tokens.specs.Table.{Table}
 use Rattle.marks.specs.Places.{tokensFrom}
-use Rattle.loops.specs.declared.End.{End}
-use Rattle.loops.specs.declared.End.the-variants as E
 use Rattle.reader.specs.declared.Reading.{Reading}
 
 -- the bytes of a table's tokens
@@ -20,11 +17,6 @@ recordsOf text t list = flatText (entries list) (tokensFrom text t 0)
 
 abbrev pub readingOf : Reading → List ℕ → Q.Reading
 readingOf r records = record { number = r .number; count = r .length; records = records }
-
--- where bytes that are written from the first place on end
-abbrev pub measured : Written → End
-measured fail = E.Refused
-measured (ok bs n) = E.Place (length bs)
 
 -- bytes, put into a buffer that they may not fit
 abbrev pub writing : Written → List ℕ → Q.Reading

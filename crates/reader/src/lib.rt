@@ -6,7 +6,7 @@ ghost use Prim.Native.Nat.{_≤_, _<_};
 ghost use lib.ListN.{length};
 ghost use Rattle.quel.specs.ReadText.{readText};
 ghost use Rattle.marks.specs.Places.{table};
-ghost use Rattle.reader.specs.Readings.{recordsOf, readingOf, measured, writing};
+ghost use Rattle.reader.specs.Readings.{recordsOf, readingOf, writing};
 
 // The number of a refusal, 0 where there is none, and the length of the records.
 pub struct Reading {
@@ -20,37 +20,8 @@ fn refused(number: u8) -> Reading
     Reading { number, length: 0 }
 }
 
-// Where the records would end: written into no bytes.
-fn measure(
-    text: &[u8],
-    kinds: &[u8],
-    starts: &[u16],
-    lengths: &[u16],
-    numbers: &[u32],
-    list: &[u8],
-    counts: &mut [u64],
-    symbols: &mut [u64],
-    frames: &mut [u64],
-) -> End
-    requires { ⌜ (length (now kinds) < 4000) × (4000 < length (now counts)) × (4000 < length (now symbols)) × (4001 < length (now frames)) ⌝ }
-    ensures { λ r. ⌜ r ≡ measured (recordsOf (now (text .entry)) (table (now (kinds .entry)) (now (starts .entry)) (now (lengths .entry)) (now (numbers .entry))) (now (list .entry))) ⌝ }
-{
-    let mut none = [0u8; 0];
-    elaborate::elaborate(
-        text,
-        kinds,
-        starts,
-        lengths,
-        numbers,
-        list,
-        counts,
-        symbols,
-        frames,
-        &mut none,
-    )
-}
-
-// The records of all tokens, or 51 for a name and 52 for their length. They are measured first, so that a buffer that is too short is not touched.
+// The records of all tokens, or 51 for a name and 52 for their length. They are written into `spare` first, so that a buffer that is too short is not
+// touched; where they are longer than that they are made twice.
 fn write(
     text: &[u8],
     kinds: &[u8],
@@ -61,12 +32,13 @@ fn write(
     counts: &mut [u64],
     symbols: &mut [u64],
     frames: &mut [u64],
+    spare: &mut [u8],
     out: &mut [u8],
 ) -> Reading
-    requires { ⌜ (length (now kinds) < 4000) × (4000 < length (now counts)) × (4000 < length (now symbols)) × (4001 < length (now frames)) ⌝ }
+    requires { ⌜ (length (now kinds) < 4000) × (4000 < length (now counts)) × (4000 < length (now symbols)) × (4001 < length (now frames)) × (length (now spare) ≤ 2048) ⌝ }
     ensures { λ r. ⌜ readingOf r (now (out .exit)) ≡ writing (recordsOf (now (text .entry)) (table (now (kinds .entry)) (now (starts .entry)) (now (lengths .entry)) (now (numbers .entry))) (now (list .entry))) (now (out .entry)) ⌝ }
 {
-    let End::Place(n) = measure(
+    let End::Place(n) = elaborate::elaborate(
         text,
         kinds,
         starts,
@@ -76,11 +48,19 @@ fn write(
         counts,
         symbols,
         frames,
+        spare,
     ) else {
         return refused(51);
     };
     if out.len() < n {
         return refused(52);
+    }
+    if n <= spare.len() {
+        copier::copy(out, 0, &spare[..n]);
+        return Reading {
+            number: 0,
+            length: n,
+        };
     }
     elaborate::elaborate(
         text,
@@ -111,10 +91,11 @@ fn read_with(
     counts: &mut [u64],
     symbols: &mut [u64],
     frames: &mut [u64],
+    spare: &mut [u8],
     out: &mut [u8],
 ) -> Reading
     requires { ⌜ (2000 ≤ length (now kinds)) × (2000 ≤ length (now starts)) × (2000 ≤ length (now lengths)) × (2000 ≤ length (now numbers)) ⌝ }
-    requires { ⌜ (4000 < length (now counts)) × (4000 < length (now symbols)) × (4001 < length (now frames)) ⌝ }
+    requires { ⌜ (4000 < length (now counts)) × (4000 < length (now symbols)) × (4001 < length (now frames)) × (length (now spare) ≤ 2048) ⌝ }
     ensures { λ r. ⌜ readingOf r (now (out .exit)) ≡ readText (now (list .entry)) (now (text .entry)) (now (out .entry)) ⌝ }
 {
     let Outcome::Tokens(n) = tokens::cut(text, kinds, starts, lengths, numbers) else {
@@ -136,6 +117,7 @@ fn read_with(
         counts,
         symbols,
         frames,
+        spare,
         out,
     )
 }
@@ -151,6 +133,7 @@ pub fn read(text: &[u8], list: &[u8], out: &mut [u8]) -> Reading
     let mut counts = [0u64; 4001];
     let mut symbols = [0u64; 4001];
     let mut frames = [0u64; 4002];
+    let mut spare = [0u8; 2048];
     read_with(
         text,
         list,
@@ -161,6 +144,7 @@ pub fn read(text: &[u8], list: &[u8], out: &mut [u8]) -> Reading
         &mut counts,
         &mut symbols,
         &mut frames,
+        &mut spare,
         out,
     )
 }

@@ -16,108 +16,108 @@ use Rattle.reader.proofs.write.Reads as write-reads
 use Rattle.syntax.proofs.accepted.Reads as accepted-reads
 use Rattle.tokens.proofs.cut.Reads as cut-reads
 
--- src/lib.rt:122:30
+-- src/lib.rt:101:30
 cut-requires : tie.Need-cut-requires
 cut-requires c κs = search needs
 
--- src/lib.rt:122:25
+-- src/lib.rt:101:25
 enum-known-n : tie.Need-enum-known-n
 enum-known-n c = search needs
 
--- src/lib.rt:123:9
+-- src/lib.rt:102:9
 enum-told : tie.Need-enum-told
 enum-told c = search needs
 
--- src/lib.rt:123:9
+-- src/lib.rt:102:9
 refused-requires : tie.Need-refused-requires
 refused-requires c κs = search needs
 
--- src/lib.rt:123:9
+-- src/lib.rt:102:9
 same-length : tie.Need-same-length
 same-length c = search needs
 
--- src/lib.rt:123:9
+-- src/lib.rt:102:9
 same-length-2 : tie.Need-same-length-2
 same-length-2 c = search needs
 
--- src/lib.rt:123:9
+-- src/lib.rt:102:9
 same-length-3 : tie.Need-same-length-3
 same-length-3 c = search needs
 
--- src/lib.rt:123:9
+-- src/lib.rt:102:9
 same-length-4 : tie.Need-same-length-4
 same-length-4 c = search needs
 
--- src/lib.rt:123:9
+-- src/lib.rt:102:9
 returns : tie.Need-returns
 returns c =
     let c₁₁ = c .before .before .before .before .before .before .before .before .before .before .before in let cut = c₁₁ .cut in
-    let c₂₆ = c₁₁ .before .before .before .before .before .before .before .before .before .before .before .before .before .before .before in let args = c₂₆ .args in
+    let c₂₇ = c₁₁ .before .before .before .before .before .before .before .before .before .before .before .before .before .before .before .before in let args = c₂₇ .args in
     no-tokens (now (args .list)) (now (args .text)) (now (args .out)) (table (cut .last .1 .0) (cut .last .1 .1 .0) (cut .last .1 .1 .1 .0) (cut .last .1 .1 .1 .1 .0)) (cut .result) (cut .ensures .0) (c .before .enum-told .given .1) _ (c .refused .ensures)
 
--- src/lib.rt:125:9
+-- src/lib.rt:104:9
 accepted-requires : tie.Need-accepted-requires
 accepted-requires c κs =
     let c₂ = c .before .before in let n = c₂ .n in
     let c₁₂ = c₂ .before .before .before .before .before .before .before .before .before .before in let cut = c₁₂ .cut in
-    let c₂₇ = c₁₂ .before .before .before .before .before .before .before .before .before .before .before .before .before .before .before in let pre = c₂₇ .pre in
+    let c₂₈ = c₁₂ .before .before .before .before .before .before .before .before .before .before .before .before .before .before .before .before in let pre = c₂₈ .pre in
     (omega (arith, cut-most (cut .result) _ (cut .ensures .1) (n .given .1), cut .kept .1 .0, pre .0 .0), cut-most (cut .result) _ (cut .ensures .1) (n .given .1))
 
--- src/lib.rt:126:9
+-- src/lib.rt:105:9
 refused-requires-2 : tie.Need-refused-requires-2
 refused-requires-2 c κs = search needs
 
--- src/lib.rt:126:9
+-- src/lib.rt:105:9
 same-length-5 : tie.Need-same-length-5
 same-length-5 c = search needs
 
--- src/lib.rt:126:9
+-- src/lib.rt:105:9
 same-length-6 : tie.Need-same-length-6
 same-length-6 c = search needs
 
--- src/lib.rt:126:9
+-- src/lib.rt:105:9
 same-length-7 : tie.Need-same-length-7
 same-length-7 c = search needs
 
--- src/lib.rt:126:9
+-- src/lib.rt:105:9
 same-length-8 : tie.Need-same-length-8
 same-length-8 c = search needs
 
--- src/lib.rt:126:9
+-- src/lib.rt:105:9
 returns-2 : tie.Need-returns-2
 returns-2 c =
     let c₂ = c .before .before in let accepted = c₂ .accepted in
     let c₅ = c₂ .before .before .before in let n = c₅ .n in
     let c₁₅ = c₅ .before .before .before .before .before .before .before .before .before .before in let cut = c₁₅ .cut in
-    let c₃₀ = c₁₅ .before .before .before .before .before .before .before .before .before .before .before .before .before .before .before in let args = c₃₀ .args in
+    let c₃₁ = c₁₅ .before .before .before .before .before .before .before .before .before .before .before .before .before .before .before .before in let args = c₃₁ .args in
     let text = now (args .text) in
     no-text (now (args .list)) text (now (args .out)) (table (cut .last .1 .0) (cut .last .1 .1 .0) (cut .last .1 .1 .1 .0) (cut .last .1 .1 .1 .1 .0)) (cut .result) (cut .ensures .0) _ (n .given .1) (accepted .result) (accepted .ensures text (table (cut .last .1 .0) (cut .last .1 .1 .0) (cut .last .1 .1 .1 .0) (cut .last .1 .1 .1 .1 .0)) refl) (c .before .if1 .taken) _ (c .refused2 .ensures)
 
--- src/lib.rt:128:9
+-- src/lib.rt:107:9
 listed-requires : tie.Need-listed-requires
 listed-requires c κs = search needs
 
--- src/lib.rt:129:9
+-- src/lib.rt:108:9
 refused-requires-3 : tie.Need-refused-requires-3
 refused-requires-3 c κs = search needs
 
--- src/lib.rt:129:9
+-- src/lib.rt:108:9
 same-length-9 : tie.Need-same-length-9
 same-length-9 c = search needs
 
--- src/lib.rt:129:9
+-- src/lib.rt:108:9
 same-length-10 : tie.Need-same-length-10
 same-length-10 c = search needs
 
--- src/lib.rt:129:9
+-- src/lib.rt:108:9
 same-length-11 : tie.Need-same-length-11
 same-length-11 c = search needs
 
--- src/lib.rt:129:9
+-- src/lib.rt:108:9
 same-length-12 : tie.Need-same-length-12
 same-length-12 c = search needs
 
--- src/lib.rt:129:9
+-- src/lib.rt:108:9
 returns-3 : tie.Need-returns-3
 returns-3 c =
     let c₂ = c .before .before in let listed = c₂ .listed in
@@ -125,79 +125,83 @@ returns-3 c =
     let c₄ = c₃ .before in let accepted = c₄ .accepted in
     let c₇ = c₄ .before .before .before in let n = c₇ .n in
     let c₁₇ = c₇ .before .before .before .before .before .before .before .before .before .before in let cut = c₁₇ .cut in
-    let c₃₂ = c₁₇ .before .before .before .before .before .before .before .before .before .before .before .before .before .before .before in let args = c₃₂ .args in
+    let c₃₃ = c₁₇ .before .before .before .before .before .before .before .before .before .before .before .before .before .before .before .before in let args = c₃₃ .args in
     let text = now (args .text) in
     bad-names (now (args .list)) text (now (args .out)) (table (cut .last .1 .0) (cut .last .1 .1 .0) (cut .last .1 .1 .1 .0) (cut .last .1 .1 .1 .1 .0)) (cut .result) (cut .ensures .0) _ (n .given .1) (accepted .result) (accepted .ensures text (table (cut .last .1 .0) (cut .last .1 .1 .0) (cut .last .1 .1 .1 .0) (cut .last .1 .1 .1 .1 .0)) refl) (if1 .left) (listed .result) (listed .ensures) (c .before .if2 .taken) _ (c .refused3 .ensures)
 
--- src/lib.rt:133:9
+-- src/lib.rt:112:9
 slice-reshare-prefix-write : tie.Need-slice-reshare-prefix-write
 slice-reshare-prefix-write c =
     let c₆ = c .before .before .before .before .before .before in let n = c₆ .n in
     let c₁₆ = c₆ .before .before .before .before .before .before .before .before .before .before in let cut = c₁₆ .cut in
-    let c₃₁ = c₁₆ .before .before .before .before .before .before .before .before .before .before .before .before .before .before .before in let pre = c₃₁ .pre in
+    let c₃₂ = c₁₆ .before .before .before .before .before .before .before .before .before .before .before .before .before .before .before .before in let pre = c₃₂ .pre in
     omega (arith, cut-most (cut .result) _ (cut .ensures .1) (n .given .1), cut .kept .1 .0, pre .0 .0)
 
--- src/lib.rt:133:9
+-- src/lib.rt:112:9
 slice-aggregate-write : tie.Need-slice-aggregate-write
 slice-aggregate-write c =
     let c₇ = c .before .before .before .before .before .before .before in let n = c₇ .n in
     let c₁₇ = c₇ .before .before .before .before .before .before .before .before .before .before in let cut = c₁₇ .cut in
-    let c₃₂ = c₁₇ .before .before .before .before .before .before .before .before .before .before .before .before .before .before .before in let pre = c₃₂ .pre in
-    sym (length-take-le _ (cut .last .1 .0) (omega (arith, cut-most (cut .result) _ (cut .ensures .1) (n .given .1), cut .kept .1 .0, pre .0 .0)))
+    let c₃₃ = c₁₇ .before .before .before .before .before .before .before .before .before .before .before .before .before .before .before .before in let pre = c₃₃ .pre in
+    sym (length-take-le (n .given .0 .0) (cut .last .1 .0) (omega (arith, cut-most (cut .result) _ (cut .ensures .1) (n .given .1), cut .kept .1 .0, pre .0 .0)))
 
--- src/lib.rt:131:5
+-- src/lib.rt:110:5
 write-requires : tie.Need-write-requires
 write-requires c κs =
-    let c₁₄ = c .before .before .before .before .before .before .before .before .before .before .before .before .before .before in let n = c₁₄ .n in
-    let c₂₄ = c₁₄ .before .before .before .before .before .before .before .before .before .before in let cut = c₂₄ .cut in
-    let c₃₉ = c₂₄ .before .before .before .before .before .before .before .before .before .before .before .before .before .before .before in let pre = c₃₉ .pre in
-    (omega (arith, cut-most (cut .result) _ (cut .ensures .1) (n .given .1), length-take-le (n .given .0 .0) (cut .last .1 .0) (omega (arith, cut-most (cut .result) _ (cut .ensures .1) (n .given .1), cut .kept .1 .0, pre .0 .0))), pre .1 .0, pre .1 .1, pre .1 .2)
+    let c₁₅ = c .before .before .before .before .before .before .before .before .before .before .before .before .before .before .before in let n = c₁₅ .n in
+    let c₂₅ = c₁₅ .before .before .before .before .before .before .before .before .before .before in let cut = c₂₅ .cut in
+    let c₄₁ = c₂₅ .before .before .before .before .before .before .before .before .before .before .before .before .before .before .before .before in let pre = c₄₁ .pre in
+    (omega (arith, cut-most (cut .result) _ (cut .ensures .1) (n .given .1), length-take-le (n .given .0 .0) (cut .last .1 .0) (omega (arith, cut-most (cut .result) _ (cut .ensures .1) (n .given .1), cut .kept .1 .0, pre .0 .0))), pre .1 .0, pre .1 .1, pre .1 .2, pre .1 .3)
 
--- src/lib.rt:106:1
+-- src/lib.rt:84:1
 same-length-13 : tie.Need-same-length-13
 same-length-13 c = search needs
 
--- src/lib.rt:106:1
+-- src/lib.rt:84:1
 same-length-14 : tie.Need-same-length-14
 same-length-14 c = search needs
 
--- src/lib.rt:106:1
+-- src/lib.rt:84:1
 same-length-15 : tie.Need-same-length-15
 same-length-15 c = search needs
 
--- src/lib.rt:106:1
+-- src/lib.rt:84:1
 same-length-16 : tie.Need-same-length-16
 same-length-16 c = search needs
 
--- src/lib.rt:106:1
+-- src/lib.rt:84:1
 same-length-17 : tie.Need-same-length-17
 same-length-17 c = search needs
 
--- src/lib.rt:106:1
+-- src/lib.rt:84:1
 same-length-18 : tie.Need-same-length-18
 same-length-18 c = search needs
 
--- src/lib.rt:106:1
+-- src/lib.rt:84:1
 same-length-19 : tie.Need-same-length-19
 same-length-19 c = search needs
 
--- src/lib.rt:106:1
+-- src/lib.rt:84:1
 same-length-20 : tie.Need-same-length-20
 same-length-20 c = search needs
 
--- src/lib.rt:106:1
+-- src/lib.rt:84:1
+same-length-21 : tie.Need-same-length-21
+same-length-21 c = search needs
+
+-- src/lib.rt:84:1
 returns-4 : tie.Need-returns-4
 returns-4 c =
-    let c₈ = c .before .before .before .before .before .before .before .before in let write = c₈ .write in
-    let c₁₇ = c₈ .before .before .before .before .before .before .before .before .before in let if2 = c₁₇ .if2 in
-    let c₁₈ = c₁₇ .before in let listed = c₁₈ .listed in
-    let c₁₉ = c₁₈ .before in let if1 = c₁₉ .if1 in
-    let c₂₀ = c₁₉ .before in let accepted = c₂₀ .accepted in
-    let c₂₃ = c₂₀ .before .before .before in let n = c₂₃ .n in
-    let c₃₃ = c₂₃ .before .before .before .before .before .before .before .before .before .before in let cut = c₃₃ .cut in
-    let c₄₈ = c₃₃ .before .before .before .before .before .before .before .before .before .before .before .before .before .before .before in let args = c₄₈ .args in let pre = c₄₈ .pre in
+    let c₁₀ = c .before .before .before .before .before .before .before .before .before .before in let write = c₁₀ .write in
+    let c₂₀ = c₁₀ .before .before .before .before .before .before .before .before .before .before in let if2 = c₂₀ .if2 in
+    let c₂₁ = c₂₀ .before in let listed = c₂₁ .listed in
+    let c₂₂ = c₂₁ .before in let if1 = c₂₂ .if1 in
+    let c₂₃ = c₂₂ .before in let accepted = c₂₃ .accepted in
+    let c₂₆ = c₂₃ .before .before .before in let n = c₂₆ .n in
+    let c₃₆ = c₂₆ .before .before .before .before .before .before .before .before .before .before in let cut = c₃₆ .cut in
+    let c₅₂ = c₃₆ .before .before .before .before .before .before .before .before .before .before .before .before .before .before .before .before in let args = c₅₂ .args in let pre = c₅₂ .pre in
     let text = now (args .text) in
-    read-names (now (args .list)) text (now (args .out)) (table (cut .last .1 .0) (cut .last .1 .1 .0) (cut .last .1 .1 .1 .0) (cut .last .1 .1 .1 .1 .0)) (cut .result) (cut .ensures .0) _ (n .given .1) (accepted .result) (accepted .ensures text (table (cut .last .1 .0) (cut .last .1 .1 .0) (cut .last .1 .1 .1 .0) (cut .last .1 .1 .1 .1 .0)) refl) (if1 .left) (listed .result) (listed .ensures) (if2 .left) _ (first-tokens text (cut .last .1 .0) (cut .last .1 .1 .0) (cut .last .1 .1 .1 .0) (cut .last .1 .1 .1 .1 .0) _ (omega (arith, cut-most (cut .result) _ (cut .ensures .1) (n .given .1), cut .kept .1 .0, pre .0 .0))) _ _ (write .ensures)
+    read-names (now (args .list)) text (now (args .out)) (table (cut .last .1 .0) (cut .last .1 .1 .0) (cut .last .1 .1 .1 .0) (cut .last .1 .1 .1 .1 .0)) (cut .result) (cut .ensures .0) _ (n .given .1) (accepted .result) (accepted .ensures text (table (cut .last .1 .0) (cut .last .1 .1 .0) (cut .last .1 .1 .1 .0) (cut .last .1 .1 .1 .1 .0)) refl) (if1 .left) (listed .result) (listed .ensures) (if2 .left) _ (first-tokens text (cut .last .1 .0) (cut .last .1 .1 .0) (cut .last .1 .1 .1 .0) (cut .last .1 .1 .1 .1 .0) (n .given .0 .0) (omega (arith, cut-most (cut .result) _ (cut .ensures .1) (n .given .1), cut .kept .1 .0, pre .0 .0))) _ _ (write .ensures)
 
 pub read-with-spec : {M : Type 1} → statement M
 read-with-spec =
@@ -237,4 +241,5 @@ read-with-spec =
     same-length-18
     same-length-19
     same-length-20
+    same-length-21
     returns-4)
