@@ -7,7 +7,7 @@ use native.Mathlib.Omega.{arith}
 use lib.Dec.{leb}
 use lib.ListN.{length, take, drop}
 use lib.Seq.{sets, sets-eq, take-append-seam}
-use borrow.Author.Tests.{le-leb, lt-leb}
+use borrow.Author.Tests.{leb-true, le-leb, lt-leb}
 use Rattle.model.specs.Syntax.{Query}
 use Rattle.model.proofs.Tests.{clash}
 use Rattle.quel.specs.Results.{Read, fail, ok}
@@ -19,7 +19,7 @@ use Rattle.quel.specs.Elaboration.{elaborateText}
 use Rattle.quel.specs.Writing.{Written}
 use Rattle.quel.specs.ReadText as Q
 use Rattle.quel.specs.ReadText.{refused, parse, resolve, written, resolved, parsed, readText}
-use Rattle.quel.proofs.Results.{never, ok-value, ok-left}
+use Rattle.quel.proofs.Results.{never, ok-value, ok-left, need-inv}
 use Rattle.quel.proofs.Sound.{sound}
 use Rattle.flat.specs.Flat.{flatText, encoded}
 use Rattle.flat.proofs.Whole.{flat-text}
@@ -164,5 +164,11 @@ module _ (list text d : List ℕ) (t : Table) (c : Outcome) (e : readOf c text t
             on true h = refl
             on false h = sym h
 
-pub cut-most : (c : Outcome) (n : ℕ) → counted c ≤ 2000 → c ≡ O.Tokens n → n ≤ 2000
-cut-most c n h e = subst (λ (o : Outcome). counted o ≤ 2000) e h
+-- no more tokens than bytes, and those are at most 2,000
+pub cut-most : (c : Outcome) (n : ℕ) (text : List ℕ) (t : Table) → (counted c ≤ 2000) × (counted c ≤ length text) → readOf c text t ≡ tokens text → c ≡ O.Tokens n → (n ≤ 2000) × (n ≤ length text) × (length text ≤ 2000)
+unfolding tokens
+cut-most c n text t m e h = (
+  subst (λ (o : Outcome). counted o ≤ 2000) h (m .0),
+  subst (λ (o : Outcome). counted o ≤ length text) h (m .1),
+  need-inv (tokensAt text t 0 n) [] (leb (length text) 2000) _ (sym (ap (λ (o : Outcome). readOf o text t) (sym h) ∙ e)) (λ l g. leb-true (length text) 2000 l),
+)

@@ -35,7 +35,7 @@ fn write(
     spare: &mut [u8],
     out: &mut [u8],
 ) -> Reading
-    requires { ⌜ (length (now kinds) < 4000) × (4000 < length (now counts)) × (4000 < length (now symbols)) × (4001 < length (now frames)) × (length (now spare) ≤ 2048) ⌝ }
+    requires { ⌜ (length (now kinds) < 4000) × (length (now kinds) < length (now counts)) × (length (now kinds) ≤ length (now symbols)) × (length (now kinds) < length (now frames)) × (length (now spare) ≤ 2048) ⌝ }
     ensures { λ r. ⌜ readingOf r (now (out .exit)) ≡ writing (recordsOf (now (text .entry)) (table (now (kinds .entry)) (now (starts .entry)) (now (lengths .entry)) (now (numbers .entry))) (now (list .entry))) (now (out .entry)) ⌝ }
 {
     let End::Place(n) = elaborate::elaborate(
@@ -94,8 +94,8 @@ fn read_with(
     spare: &mut [u8],
     out: &mut [u8],
 ) -> Reading
-    requires { ⌜ (2000 ≤ length (now kinds)) × (2000 ≤ length (now starts)) × (2000 ≤ length (now lengths)) × (2000 ≤ length (now numbers)) ⌝ }
-    requires { ⌜ (4000 < length (now counts)) × (4000 < length (now symbols)) × (4001 < length (now frames)) × (length (now spare) ≤ 2048) ⌝ }
+    requires { ⌜ (length (now text) ≤ 2000 → (length (now text) ≤ length (now kinds)) × (length (now text) ≤ length (now starts)) × (length (now text) ≤ length (now lengths)) × (length (now text) ≤ length (now numbers))) ⌝ }
+    requires { ⌜ (length (now text) ≤ 2000 → (length (now text) < length (now counts)) × (length (now text) ≤ length (now symbols)) × (length (now text) < length (now frames))) × (length (now spare) ≤ 2048) ⌝ }
     ensures { λ r. ⌜ readingOf r (now (out .exit)) ≡ readText (now (list .entry)) (now (text .entry)) (now (out .entry)) ⌝ }
 {
     let Outcome::Tokens(n) = tokens::cut(text, kinds, starts, lengths, numbers) else {
@@ -122,17 +122,45 @@ fn read_with(
     )
 }
 
-// Reads a text: for every input what the definition gives. A refusal leaves the buffer as it was.
-pub fn read(text: &[u8], list: &[u8], out: &mut [u8]) -> Reading
+// A short text: its tables are small, and soon cleared.
+fn read_short(text: &[u8], list: &[u8], out: &mut [u8]) -> Reading
+    requires { ⌜ length (now text) ≤ 256 ⌝ }
+    ensures { λ r. ⌜ readingOf r (now (out .exit)) ≡ readText (now (list .entry)) (now (text .entry)) (now (out .entry)) ⌝ }
+{
+    let mut kinds = [0u8; 256];
+    let mut starts = [0u16; 256];
+    let mut lengths = [0u16; 256];
+    let mut numbers = [0u32; 256];
+    let mut counts = [0u64; 257];
+    let mut symbols = [0u64; 256];
+    let mut frames = [0u64; 257];
+    let mut spare = [0u8; 512];
+    read_with(
+        text,
+        list,
+        &mut kinds,
+        &mut starts,
+        &mut lengths,
+        &mut numbers,
+        &mut counts,
+        &mut symbols,
+        &mut frames,
+        &mut spare,
+        out,
+    )
+}
+
+// A text of any length.
+fn read_long(text: &[u8], list: &[u8], out: &mut [u8]) -> Reading
     ensures { λ r. ⌜ readingOf r (now (out .exit)) ≡ readText (now (list .entry)) (now (text .entry)) (now (out .entry)) ⌝ }
 {
     let mut kinds = [0u8; 2000];
     let mut starts = [0u16; 2000];
     let mut lengths = [0u16; 2000];
     let mut numbers = [0u32; 2000];
-    let mut counts = [0u64; 4001];
-    let mut symbols = [0u64; 4001];
-    let mut frames = [0u64; 4002];
+    let mut counts = [0u64; 2001];
+    let mut symbols = [0u64; 2000];
+    let mut frames = [0u64; 2001];
     let mut spare = [0u8; 2048];
     read_with(
         text,
@@ -147,4 +175,14 @@ pub fn read(text: &[u8], list: &[u8], out: &mut [u8]) -> Reading
         &mut spare,
         out,
     )
+}
+
+// Reads a text: for every input what the definition gives. A refusal leaves the buffer as it was.
+pub fn read(text: &[u8], list: &[u8], out: &mut [u8]) -> Reading
+    ensures { λ r. ⌜ readingOf r (now (out .exit)) ≡ readText (now (list .entry)) (now (text .entry)) (now (out .entry)) ⌝ }
+{
+    if text.len() <= 256 {
+        return read_short(text, list, out);
+    }
+    read_long(text, list, out)
 }

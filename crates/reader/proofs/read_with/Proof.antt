@@ -60,8 +60,8 @@ accepted-requires : tie.Need-accepted-requires
 accepted-requires c κs =
     let c₂ = c .before .before in let n = c₂ .n in
     let c₁₂ = c₂ .before .before .before .before .before .before .before .before .before .before in let cut = c₁₂ .cut in
-    let c₂₈ = c₁₂ .before .before .before .before .before .before .before .before .before .before .before .before .before .before .before .before in let pre = c₂₈ .pre in
-    (omega (arith, cut-most (cut .result) _ (cut .ensures .1) (n .given .1), cut .kept .1 .0, pre .0 .0), cut-most (cut .result) _ (cut .ensures .1) (n .given .1))
+    let c₂₈ = c₁₂ .before .before .before .before .before .before .before .before .before .before .before .before .before .before .before .before in let args = c₂₈ .args in let pre = c₂₈ .pre in
+    let m = (cut-most (cut .result) (n .given .0 .0) (now (args .text)) (table (cut .last .1 .0) (cut .last .1 .1 .0) (cut .last .1 .1 .1 .0) (cut .last .1 .1 .1 .1 .0)) (cut .ensures .1) (cut .ensures .0) (n .given .1)) in (omega (arith, m .1, cut .kept .1 .0, pre .0 (m .2) .0), m .0)
 
 -- src/lib.rt:105:9
 refused-requires-2 : tie.Need-refused-requires-2
@@ -134,24 +134,20 @@ slice-reshare-prefix-write : tie.Need-slice-reshare-prefix-write
 slice-reshare-prefix-write c =
     let c₆ = c .before .before .before .before .before .before in let n = c₆ .n in
     let c₁₆ = c₆ .before .before .before .before .before .before .before .before .before .before in let cut = c₁₆ .cut in
-    let c₃₂ = c₁₆ .before .before .before .before .before .before .before .before .before .before .before .before .before .before .before .before in let pre = c₃₂ .pre in
-    omega (arith, cut-most (cut .result) _ (cut .ensures .1) (n .given .1), cut .kept .1 .0, pre .0 .0)
+    let c₃₂ = c₁₆ .before .before .before .before .before .before .before .before .before .before .before .before .before .before .before .before in let args = c₃₂ .args in let pre = c₃₂ .pre in
+    let m = (cut-most (cut .result) (n .given .0 .0) (now (args .text)) (table (cut .last .1 .0) (cut .last .1 .1 .0) (cut .last .1 .1 .1 .0) (cut .last .1 .1 .1 .1 .0)) (cut .ensures .1) (cut .ensures .0) (n .given .1)) in omega (arith, m .1, cut .kept .1 .0, pre .0 (m .2) .0)
 
 -- src/lib.rt:112:9
 slice-aggregate-write : tie.Need-slice-aggregate-write
 slice-aggregate-write c =
     let c₇ = c .before .before .before .before .before .before .before in let n = c₇ .n in
     let c₁₇ = c₇ .before .before .before .before .before .before .before .before .before .before in let cut = c₁₇ .cut in
-    let c₃₃ = c₁₇ .before .before .before .before .before .before .before .before .before .before .before .before .before .before .before .before in let pre = c₃₃ .pre in
-    sym (length-take-le (n .given .0 .0) (cut .last .1 .0) (omega (arith, cut-most (cut .result) _ (cut .ensures .1) (n .given .1), cut .kept .1 .0, pre .0 .0)))
+    let c₃₃ = c₁₇ .before .before .before .before .before .before .before .before .before .before .before .before .before .before .before .before in let args = c₃₃ .args in let pre = c₃₃ .pre in
+    sym (length-take-le (n .given .0 .0) (cut .last .1 .0) (let m = (cut-most (cut .result) (n .given .0 .0) (now (args .text)) (table (cut .last .1 .0) (cut .last .1 .1 .0) (cut .last .1 .1 .1 .0) (cut .last .1 .1 .1 .1 .0)) (cut .ensures .1) (cut .ensures .0) (n .given .1)) in omega (arith, m .1, cut .kept .1 .0, pre .0 (m .2) .0)))
 
 -- src/lib.rt:110:5
 write-requires : tie.Need-write-requires
-write-requires c κs =
-    let c₁₅ = c .before .before .before .before .before .before .before .before .before .before .before .before .before .before .before in let n = c₁₅ .n in
-    let c₂₅ = c₁₅ .before .before .before .before .before .before .before .before .before .before in let cut = c₂₅ .cut in
-    let c₄₁ = c₂₅ .before .before .before .before .before .before .before .before .before .before .before .before .before .before .before .before in let pre = c₄₁ .pre in
-    (omega (arith, cut-most (cut .result) _ (cut .ensures .1) (n .given .1), length-take-le (n .given .0 .0) (cut .last .1 .0) (omega (arith, cut-most (cut .result) _ (cut .ensures .1) (n .given .1), cut .kept .1 .0, pre .0 .0))), pre .1 .0, pre .1 .1, pre .1 .2, pre .1 .3)
+write-requires c κs = let m = (cut-most (c .before .before .before .before .before .before .before .before .before .before .before .before .before .before .before .before .before .before .before .before .before .before .before .before .before .cut .result) (c .before .before .before .before .before .before .before .before .before .before .before .before .before .before .before .n .given .0 .0) (now (c .before .before .before .before .before .before .before .before .before .before .before .before .before .before .before .before .before .before .before .before .before .before .before .before .before .before .before .before .before .before .before .before .before .before .before .before .before .before .before .before .before .args .text)) (table (c .before .before .before .before .before .before .before .before .before .before .before .before .before .before .before .before .before .before .before .before .before .before .before .before .before .cut .last .1 .0) (c .before .before .before .before .before .before .before .before .before .before .before .before .before .before .before .before .before .before .before .before .before .before .before .before .before .cut .last .1 .1 .0) (c .before .before .before .before .before .before .before .before .before .before .before .before .before .before .before .before .before .before .before .before .before .before .before .before .before .cut .last .1 .1 .1 .0) (c .before .before .before .before .before .before .before .before .before .before .before .before .before .before .before .before .before .before .before .before .before .before .before .before .before .cut .last .1 .1 .1 .1 .0)) (c .before .before .before .before .before .before .before .before .before .before .before .before .before .before .before .before .before .before .before .before .before .before .before .before .before .cut .ensures .1) (c .before .before .before .before .before .before .before .before .before .before .before .before .before .before .before .before .before .before .before .before .before .before .before .before .before .cut .ensures .0) (c .before .before .before .before .before .before .before .before .before .before .before .before .before .before .before .n .given .1)) in let l = length-take-le (c .before .before .before .before .before .before .before .before .before .before .before .before .before .before .before .n .given .0 .0) (c .before .before .before .before .before .before .before .before .before .before .before .before .before .before .before .before .before .before .before .before .before .before .before .before .before .cut .last .1 .0) (let m = (cut-most (c .before .before .before .before .before .before .before .before .before .before .before .before .before .before .before .before .before .before .before .before .before .before .before .before .before .cut .result) (c .before .before .before .before .before .before .before .before .before .before .before .before .before .before .before .n .given .0 .0) (now (c .before .before .before .before .before .before .before .before .before .before .before .before .before .before .before .before .before .before .before .before .before .before .before .before .before .before .before .before .before .before .before .before .before .before .before .before .before .before .before .before .before .args .text)) (table (c .before .before .before .before .before .before .before .before .before .before .before .before .before .before .before .before .before .before .before .before .before .before .before .before .before .cut .last .1 .0) (c .before .before .before .before .before .before .before .before .before .before .before .before .before .before .before .before .before .before .before .before .before .before .before .before .before .cut .last .1 .1 .0) (c .before .before .before .before .before .before .before .before .before .before .before .before .before .before .before .before .before .before .before .before .before .before .before .before .before .cut .last .1 .1 .1 .0) (c .before .before .before .before .before .before .before .before .before .before .before .before .before .before .before .before .before .before .before .before .before .before .before .before .before .cut .last .1 .1 .1 .1 .0)) (c .before .before .before .before .before .before .before .before .before .before .before .before .before .before .before .before .before .before .before .before .before .before .before .before .before .cut .ensures .1) (c .before .before .before .before .before .before .before .before .before .before .before .before .before .before .before .before .before .before .before .before .before .before .before .before .before .cut .ensures .0) (c .before .before .before .before .before .before .before .before .before .before .before .before .before .before .before .n .given .1)) in omega (arith, m .1, c .before .before .before .before .before .before .before .before .before .before .before .before .before .before .before .before .before .before .before .before .before .before .before .before .before .cut .kept .1 .0, c .before .before .before .before .before .before .before .before .before .before .before .before .before .before .before .before .before .before .before .before .before .before .before .before .before .before .before .before .before .before .before .before .before .before .before .before .before .before .before .before .before .pre .0 (m .2) .0)) in let k = c .before .before .before .before .before .before .before .before .before .before .before .before .before .before .before .before .before .before .before .before .before .before .before .before .before .before .before .before .before .before .before .before .before .before .before .before .before .before .before .before .before .pre .1 .0 (m .2) in (omega (arith, l, m .0), omega (arith, l, m .1, k .0), omega (arith, l, m .1, k .1), omega (arith, l, m .1, k .2), c .before .before .before .before .before .before .before .before .before .before .before .before .before .before .before .before .before .before .before .before .before .before .before .before .before .before .before .before .before .before .before .before .before .before .before .before .before .before .before .before .before .pre .1 .1)
 
 -- src/lib.rt:84:1
 same-length-13 : tie.Need-same-length-13
@@ -201,7 +197,7 @@ returns-4 c =
     let c₃₆ = c₂₆ .before .before .before .before .before .before .before .before .before .before in let cut = c₃₆ .cut in
     let c₅₂ = c₃₆ .before .before .before .before .before .before .before .before .before .before .before .before .before .before .before .before in let args = c₅₂ .args in let pre = c₅₂ .pre in
     let text = now (args .text) in
-    read-names (now (args .list)) text (now (args .out)) (table (cut .last .1 .0) (cut .last .1 .1 .0) (cut .last .1 .1 .1 .0) (cut .last .1 .1 .1 .1 .0)) (cut .result) (cut .ensures .0) _ (n .given .1) (accepted .result) (accepted .ensures text (table (cut .last .1 .0) (cut .last .1 .1 .0) (cut .last .1 .1 .1 .0) (cut .last .1 .1 .1 .1 .0)) refl) (if1 .left) (listed .result) (listed .ensures) (if2 .left) _ (first-tokens text (cut .last .1 .0) (cut .last .1 .1 .0) (cut .last .1 .1 .1 .0) (cut .last .1 .1 .1 .1 .0) (n .given .0 .0) (omega (arith, cut-most (cut .result) _ (cut .ensures .1) (n .given .1), cut .kept .1 .0, pre .0 .0))) _ _ (write .ensures)
+    read-names (now (args .list)) text (now (args .out)) (table (cut .last .1 .0) (cut .last .1 .1 .0) (cut .last .1 .1 .1 .0) (cut .last .1 .1 .1 .1 .0)) (cut .result) (cut .ensures .0) _ (n .given .1) (accepted .result) (accepted .ensures text (table (cut .last .1 .0) (cut .last .1 .1 .0) (cut .last .1 .1 .1 .0) (cut .last .1 .1 .1 .1 .0)) refl) (if1 .left) (listed .result) (listed .ensures) (if2 .left) _ (first-tokens text (cut .last .1 .0) (cut .last .1 .1 .0) (cut .last .1 .1 .1 .0) (cut .last .1 .1 .1 .1 .0) (n .given .0 .0) (let m = (cut-most (cut .result) (n .given .0 .0) text (table (cut .last .1 .0) (cut .last .1 .1 .0) (cut .last .1 .1 .1 .0) (cut .last .1 .1 .1 .1 .0)) (cut .ensures .1) (cut .ensures .0) (n .given .1)) in omega (arith, m .1, cut .kept .1 .0, pre .0 (m .2) .0))) _ _ (write .ensures)
 
 pub read-with-spec : {M : Type 1} → statement M
 read-with-spec =
