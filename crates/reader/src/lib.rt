@@ -8,6 +8,13 @@ ghost use Rattle.quel.specs.ReadText.{readText};
 ghost use Rattle.marks.specs.Places.{table};
 ghost use Rattle.reader.specs.Readings.{recordsOf, readingOf, writing};
 
+// A text outside the grammar; a name, or the name list; records longer than the buffer.
+const GRAMMAR: u8 = 50;
+
+const NAMES: u8 = 51;
+
+const LENGTH: u8 = 52;
+
 // The number of a refusal, 0 where there is none, and the length of the records.
 pub struct Reading {
     pub number: u8,
@@ -20,7 +27,7 @@ fn refused(number: u8) -> Reading
     Reading { number, length: 0 }
 }
 
-// The records of all tokens, or 51 for a name and 52 for their length. They are written into `spare` first, so that a buffer that is too short is not
+// The records of all tokens, or 51 for a name and 52 for their length. They are written into a draft first, so that a buffer that is too short is not
 // touched; where they are longer than that they are made twice.
 fn write(
     text: &[u8],
@@ -32,10 +39,10 @@ fn write(
     counts: &mut [u64],
     symbols: &mut [u64],
     frames: &mut [u64],
-    spare: &mut [u8],
+    draft: &mut [u8],
     out: &mut [u8],
 ) -> Reading
-    requires { ⌜ (length (now kinds) < 4000) × (length (now kinds) < length (now counts)) × (length (now kinds) ≤ length (now symbols)) × (length (now kinds) < length (now frames)) × (length (now spare) ≤ 2048) ⌝ }
+    requires { ⌜ (length (now kinds) < 4000) × (length (now kinds) < length (now counts)) × (length (now kinds) ≤ length (now symbols)) × (length (now kinds) < length (now frames)) × (length (now draft) ≤ 2048) ⌝ }
     ensures { λ r. ⌜ readingOf r (now (out .exit)) ≡ writing (recordsOf (now (text .entry)) (table (now (kinds .entry)) (now (starts .entry)) (now (lengths .entry)) (now (numbers .entry))) (now (list .entry))) (now (out .entry)) ⌝ }
 {
     let End::Place(n) = elaborate::elaborate(
@@ -48,15 +55,15 @@ fn write(
         counts,
         symbols,
         frames,
-        spare,
+        draft,
     ) else {
-        return refused(51);
+        return refused(NAMES);
     };
     if out.len() < n {
-        return refused(52);
+        return refused(LENGTH);
     }
-    if n <= spare.len() {
-        copier::copy(out, 0, &spare[..n]);
+    if n <= draft.len() {
+        copier::copy(out, 0, &draft[..n]);
         return Reading {
             number: 0,
             length: n,
@@ -99,13 +106,13 @@ fn read_with(
     ensures { λ r. ⌜ readingOf r (now (out .exit)) ≡ readText (now (list .entry)) (now (text .entry)) (now (out .entry)) ⌝ }
 {
     let Outcome::Tokens(n) = tokens::cut(text, kinds, starts, lengths, numbers) else {
-        return refused(50);
+        return refused(GRAMMAR);
     };
     if !syntax::accepted(kinds, n) {
-        return refused(50);
+        return refused(GRAMMAR);
     }
     if !names::listed(list) {
-        return refused(51);
+        return refused(NAMES);
     }
     write(
         text,

@@ -73,10 +73,10 @@ pub struct Reading {
 pub extern "C" fn waldumre_read_query(text: &[u8], names: &[u8], records: &mut [u8]) -> Reading
     ensures { λ r. ⌜ readingOf r (now (records .exit)) ≡ readText (now (names .entry)) (now (text .entry)) (now (records .entry)) ⌝ }
 {
-    let r = reader::read(text, names, records);
+    let reading = reader::read(text, names, records);
     Reading {
-        number: wide(r.number),
-        length: r.length as u64,
+        number: wide(reading.number),
+        length: reading.length as u64,
     }
 }
 
@@ -94,15 +94,16 @@ pub extern "C" fn waldumre_ask_text(
 ) -> Outcome
     ensures { λ r. ⌜ textOutcomeOf r (now (answer .exit)) (now (rewritten .exit)) (now (records .exit)) ≡ askText (now (catalogue .entry)) (now (values .entry)) (now (permits .entry)) (now (text .entry)) (now (names .entry)) (now (records .entry)) (now (rewritten .entry)) (now (answer .entry)) ⌝ }
 {
-    let r = reader::read(text, names, records);
-    let number = r.number;
-    let n = r.length;
+    let read = reader::read(text, names, records);
+    let number = read.number;
+    let n = read.length;
     if number != 0 {
+        let none = 0;
         return Outcome {
             number: wide(number),
-            rows: 0,
-            columns: 0,
-            length: 0,
+            rows: none,
+            columns: none,
+            length: none,
         };
     }
     waldumre_ask(catalogue, values, permits, &records[..n], rewritten, answer)

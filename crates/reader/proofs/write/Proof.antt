@@ -52,7 +52,7 @@ returns c =
     let c₁₁ = c .before .before .before .before .before .before .before .before .before .before .before in let elaborate = c₁₁ .elaborate in
     let c₂₇ = c₁₁ .before .before .before .before .before .before .before .before .before .before .before .before .before .before .before .before in let args = c₂₇ .args in
     let kinds = now (args .kinds) in let lengths = now (args .lengths) in let list = now (args .list) in let numbers = now (args .numbers) in let starts = now (args .starts) in let text = now (args .text) in
-    no-name (elaborate .result) (recordsOf text (table kinds starts lengths numbers) list) (now (args .out)) (measures (now (args .spare)) (elaborate .last .1 .1 .1 .1 .1 .1 .1 .1 .1 .0) (recordsOf text (table kinds starts lengths numbers) list) (elaborate .result) (elaborate .ensures)) (c .before .enum-told .given .1) _ (c .refused .ensures)
+    no-name (elaborate .result) (recordsOf text (table kinds starts lengths numbers) list) (now (args .out)) (measures (now (args .draft)) (elaborate .last .1 .1 .1 .1 .1 .1 .1 .1 .1 .0) (recordsOf text (table kinds starts lengths numbers) list) (elaborate .result) (elaborate .ensures)) (c .before .enum-told .given .1) _ (c .refused .ensures)
 
 -- src/lib.rt:56:9
 refused-requires-2 : tie.Need-refused-requires-2
@@ -81,7 +81,7 @@ returns-2 c =
     let c₁₃ = c₃ .before .before .before .before .before .before .before .before .before .before in let elaborate = c₁₃ .elaborate in
     let c₂₉ = c₁₃ .before .before .before .before .before .before .before .before .before .before .before .before .before .before .before .before in let args = c₂₉ .args in
     let kinds = now (args .kinds) in let lengths = now (args .lengths) in let list = now (args .list) in let numbers = now (args .numbers) in let starts = now (args .starts) in let text = now (args .text) in
-    too-long (elaborate .result) (recordsOf text (table kinds starts lengths numbers) list) (now (args .out)) (measures (now (args .spare)) (elaborate .last .1 .1 .1 .1 .1 .1 .1 .1 .1 .0) (recordsOf text (table kinds starts lengths numbers) list) (elaborate .result) (elaborate .ensures)) (n .given .0 .0) (n .given .1) (c .before .if1 .taken) _ (c .refused2 .ensures)
+    too-long (elaborate .result) (recordsOf text (table kinds starts lengths numbers) list) (now (args .out)) (measures (now (args .draft)) (elaborate .last .1 .1 .1 .1 .1 .1 .1 .1 .1 .0) (recordsOf text (table kinds starts lengths numbers) list) (elaborate .result) (elaborate .ensures)) (n .given .0 .0) (n .given .1) (c .before .if1 .taken) _ (c .refused2 .ensures)
 
 -- src/lib.rt:59:30
 slice-reshare-prefix-copy : tie.Need-slice-reshare-prefix-copy
@@ -131,8 +131,8 @@ returns-3 c =
     let c₈ = c₆ .before .before in let n = c₈ .n in
     let c₁₈ = c₈ .before .before .before .before .before .before .before .before .before .before in let elaborate = c₁₈ .elaborate in
     let c₃₄ = c₁₈ .before .before .before .before .before .before .before .before .before .before .before .before .before .before .before .before in let args = c₃₄ .args in
-    let kinds = now (args .kinds) in let lengths = now (args .lengths) in let list = now (args .list) in let numbers = now (args .numbers) in let spare = now (args .spare) in let starts = now (args .starts) in let text = now (args .text) in
-    copied (elaborate .result) (recordsOf text (table kinds starts lengths numbers) list) (now (args .out)) (measures spare (elaborate .last .1 .1 .1 .1 .1 .1 .1 .1 .1 .0) (recordsOf text (table kinds starts lengths numbers) list) (elaborate .result) (elaborate .ensures)) (n .given .0 .0) (n .given .1) (if1 .left) spare (elaborate .last .1 .1 .1 .1 .1 .1 .1 .1 .1 .0) (omega (arith, if2 .taken, elaborate .kept .1 .1 .1 .1 .1 .1 .1 .1 .1 .0)) (elaborate .ensures) _ (c .before .before .copy .ensures .1)
+    let kinds = now (args .kinds) in let lengths = now (args .lengths) in let list = now (args .list) in let numbers = now (args .numbers) in let draft = now (args .draft) in let starts = now (args .starts) in let text = now (args .text) in
+    copied (elaborate .result) (recordsOf text (table kinds starts lengths numbers) list) (now (args .out)) (measures draft (elaborate .last .1 .1 .1 .1 .1 .1 .1 .1 .1 .0) (recordsOf text (table kinds starts lengths numbers) list) (elaborate .result) (elaborate .ensures)) (n .given .0 .0) (n .given .1) (if1 .left) draft (elaborate .last .1 .1 .1 .1 .1 .1 .1 .1 .1 .0) (omega (arith, if2 .taken, elaborate .kept .1 .1 .1 .1 .1 .1 .1 .1 .1 .0)) (elaborate .ensures) _ (c .before .before .copy .ensures .1)
 
 -- src/lib.rt:65:5
 elaborate-requires-2 : tie.Need-elaborate-requires-2
@@ -167,7 +167,7 @@ returns-4 c =
     let c₂₆ = c₁₆ .before .before .before .before .before .before .before .before .before .before in let elaborate = c₂₆ .elaborate in
     let c₄₂ = c₂₆ .before .before .before .before .before .before .before .before .before .before .before .before .before .before .before .before in let args = c₄₂ .args in
     let kinds = now (args .kinds) in let lengths = now (args .lengths) in let list = now (args .list) in let numbers = now (args .numbers) in let starts = now (args .starts) in let text = now (args .text) in
-    fits (elaborate .result) (recordsOf text (table kinds starts lengths numbers) list) (now (args .out)) (measures (now (args .spare)) (elaborate .last .1 .1 .1 .1 .1 .1 .1 .1 .1 .0) (recordsOf text (table kinds starts lengths numbers) list) (elaborate .result) (elaborate .ensures)) (n .given .0 .0) (n .given .1) (if1 .left) (elaborate2 .result) _ (elaborate2 .ensures)
+    fits (elaborate .result) (recordsOf text (table kinds starts lengths numbers) list) (now (args .out)) (measures (now (args .draft)) (elaborate .last .1 .1 .1 .1 .1 .1 .1 .1 .1 .0) (recordsOf text (table kinds starts lengths numbers) list) (elaborate .result) (elaborate .ensures)) (n .given .0 .0) (n .given .1) (if1 .left) (elaborate2 .result) _ (elaborate2 .ensures)
 
 pub write-spec : {M : Type 1} → statement M
 write-spec =
