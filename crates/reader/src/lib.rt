@@ -45,7 +45,7 @@ fn write(
     requires { ⌜ (length (now kinds) < 4000) × (length (now kinds) < length (now counts)) × (length (now kinds) ≤ length (now symbols)) × (length (now kinds) < length (now frames)) × (length (now draft) ≤ 2048) ⌝ }
     ensures { λ r. ⌜ readingOf r (now (out .exit)) ≡ writing (recordsOf (now (text .entry)) (table (now (kinds .entry)) (now (starts .entry)) (now (lengths .entry)) (now (numbers .entry))) (now (list .entry))) (now (out .entry)) ⌝ }
 {
-    let End::Place(n) = elaborate::elaborate(
+    let End::Place(length) = elaborate::elaborate(
         text,
         kinds,
         starts,
@@ -59,15 +59,12 @@ fn write(
     ) else {
         return refused(NAMES);
     };
-    if out.len() < n {
+    if out.len() < length {
         return refused(LENGTH);
     }
-    if n <= draft.len() {
-        copier::copy(out, 0, &draft[..n]);
-        return Reading {
-            number: 0,
-            length: n,
-        };
+    if length <= draft.len() {
+        copier::copy(out, 0, &draft[..length]);
+        return Reading { number: 0, length };
     }
     elaborate::elaborate(
         text,
@@ -81,10 +78,7 @@ fn write(
         frames,
         out,
     );
-    Reading {
-        number: 0,
-        length: n,
-    }
+    Reading { number: 0, length }
 }
 
 // 50 for the text alone, 51 for the name list, then its names; the tables are lent.

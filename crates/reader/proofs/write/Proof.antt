@@ -19,8 +19,8 @@ elaborate-requires : tie.Need-elaborate-requires
 elaborate-requires c κs = search needs
 
 -- src/lib.rt:41:20
-enum-known-n : tie.Need-enum-known-n
-enum-known-n c = search needs
+enum-known-length : tie.Need-enum-known-length
+enum-known-length c = search needs
 
 -- src/lib.rt:53:9
 enum-told : tie.Need-enum-told
@@ -77,7 +77,7 @@ same-length-8 c = search needs
 -- src/lib.rt:56:9
 returns-2 : tie.Need-returns-2
 returns-2 c =
-    let c₃ = c .before .before .before in let n = c₃ .n in
+    let c₃ = c .before .before .before in let n = c₃ .length in
     let c₁₃ = c₃ .before .before .before .before .before .before .before .before .before .before in let elaborate = c₁₃ .elaborate in
     let c₂₉ = c₁₃ .before .before .before .before .before .before .before .before .before .before .before .before .before .before .before .before in let args = c₂₉ .args in
     let kinds = now (args .kinds) in let lengths = now (args .lengths) in let list = now (args .list) in let numbers = now (args .numbers) in let starts = now (args .starts) in let text = now (args .text) in
@@ -90,7 +90,7 @@ slice-reshare-prefix-copy c = search needs
 -- src/lib.rt:59:30
 slice-aggregate-copy : tie.Need-slice-aggregate-copy
 slice-aggregate-copy c =
-    let c₅ = c .before .before .before .before .before in let n = c₅ .n in
+    let c₅ = c .before .before .before .before .before in let n = c₅ .length in
     let c₁₅ = c₅ .before .before .before .before .before .before .before .before .before .before in let elaborate = c₁₅ .elaborate in
     sym (length-take-le (n .given .0 .0) (elaborate .last .1 .1 .1 .1 .1 .1 .1 .1 .1 .0) (c .before .before .if2 .taken))
 
@@ -98,7 +98,7 @@ slice-aggregate-copy c =
 copy-requires : tie.Need-copy-requires
 copy-requires c κs =
     let c₂ = c .before .before in let if2 = c₂ .if2 in
-    let c₅ = c₂ .before .before .before in let n = c₅ .n in
+    let c₅ = c₂ .before .before .before in let n = c₅ .length in
     let c₁₅ = c₅ .before .before .before .before .before .before .before .before .before .before in let elaborate = c₁₅ .elaborate in
     let c₃₁ = c₁₅ .before .before .before .before .before .before .before .before .before .before .before .before .before .before .before .before in let pre = c₃₁ .pre in
     omega (arith, length-take-le (n .given .0 .0) (elaborate .last .1 .1 .1 .1 .1 .1 .1 .1 .1 .0) (if2 .taken), if2 .taken, elaborate .kept .1 .1 .1 .1 .1 .1 .1 .1 .1 .0, pre .4)
@@ -128,7 +128,7 @@ returns-3 : tie.Need-returns-3
 returns-3 c =
     let c₅ = c .before .before .before .before .before in let if2 = c₅ .if2 in
     let c₆ = c₅ .before in let if1 = c₆ .if1 in
-    let c₈ = c₆ .before .before in let n = c₈ .n in
+    let c₈ = c₆ .before .before in let n = c₈ .length in
     let c₁₈ = c₈ .before .before .before .before .before .before .before .before .before .before in let elaborate = c₁₈ .elaborate in
     let c₃₄ = c₁₈ .before .before .before .before .before .before .before .before .before .before .before .before .before .before .before .before in let args = c₃₄ .args in
     let kinds = now (args .kinds) in let lengths = now (args .lengths) in let list = now (args .list) in let numbers = now (args .numbers) in let draft = now (args .draft) in let starts = now (args .starts) in let text = now (args .text) in
@@ -163,7 +163,7 @@ returns-4 : tie.Need-returns-4
 returns-4 c =
     let c₈ = c .before .before .before .before .before .before .before .before in let elaborate2 = c₈ .elaborate2 in
     let c₁₄ = c₈ .before .before .before .before .before .before in let if1 = c₁₄ .if1 in
-    let c₁₆ = c₁₄ .before .before in let n = c₁₆ .n in
+    let c₁₆ = c₁₄ .before .before in let n = c₁₆ .length in
     let c₂₆ = c₁₆ .before .before .before .before .before .before .before .before .before .before in let elaborate = c₂₆ .elaborate in
     let c₄₂ = c₂₆ .before .before .before .before .before .before .before .before .before .before .before .before .before .before .before .before in let args = c₄₂ .args in
     let kinds = now (args .kinds) in let lengths = now (args .lengths) in let list = now (args .list) in let numbers = now (args .numbers) in let starts = now (args .starts) in let text = now (args .text) in
@@ -174,7 +174,7 @@ write-spec =
     tie.close
     (tie.spec
     elaborate-requires
-    enum-known-n
+    enum-known-length
     enum-told
     refused-requires
     same-length
