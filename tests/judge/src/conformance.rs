@@ -10,6 +10,7 @@ mod random;
 mod refusals;
 mod rewriting;
 mod rounding;
+pub mod texts;
 mod write;
 
 use crate::program::{output, Files};
