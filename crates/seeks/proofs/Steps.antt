@@ -17,8 +17,7 @@ use Rattle.numbers.specs.declared.Ratio.{Ratio}
 use Rattle.catalogue.specs.Layout.{tupleAt}
 use Rattle.branches.specs.Branches.{field, operand, branchHolds, next, runs}
 use Rattle.branches.proofs.Running.{runs-1, runs-step}
-use Rattle.conjuncts.specs.Stages.{stageHolds}
-use Rattle.probes.specs.Probe.{sided, placed}
+use Rattle.seeks.specs.Probe.{sided, placed}
 
 -- one row more that fails
 pub one-more : (f : ℕ → Bool) (a j : ℕ) → ((i : ℕ) → a ≤ i → i < j → f i ≡ false) → f j ≡ false → (i : ℕ) → a ≤ i → i < j + 1 → f i ≡ false
@@ -73,9 +72,8 @@ module _ (t : List ℕ) (xs : List ℤ) (q z ws : List ℕ) (vs m : List ℤ) (i
         ∙ ap₂ (compare o) (other a (field t i 2) (getD xs (2 * i) (pos 0)) ha ∙ sym (fixed p 1 a (getD xs (2 * i) (pos 0)) y hp ea hy)) (own b (field t i 4) (getD xs (2 * i + 1) (pos 0)) hb l ∙ ap (λ (n : ℕ). M.whole (row n)) (sym hc))
         ∙ h
 
--- a stage whose first branch fails, and leads to 1 where it fails
-pub stage-fails : (t : List ℕ) (xs : List ℤ) (q z ws : List ℕ) (vs m : List ℤ) (s i f : ℕ) (e : Assignment) → i ≡ getD t s 0 → 2 ≤ i → f ≡ field t i 6 → f ≡ 1 → branchHolds t xs q z ws vs m i e ≡ false → stageHolds t xs q z ws vs m s e ≡ false
-unfolding stageHolds
-stage-fails t xs q z ws vs m s i f e ei l ef e1 h =
+-- what starts with a branch that fails, and leads to 1 where it fails
+pub start-fails : (t : List ℕ) (xs : List ℤ) (q z ws : List ℕ) (vs m : List ℤ) (i f : ℕ) (e : Assignment) → 2 ≤ i → f ≡ field t i 6 → f ≡ 1 → branchHolds t xs q z ws vs m i e ≡ false → runs t xs q z ws vs m i e ≡ false
+start-fails t xs q z ws vs m i f e l ef e1 h =
     let n : next t xs q z ws vs m i e ≡ 1 = rw h (sym ef ∙ e1) in
-    ap (λ (k : ℕ). runs t xs q z ws vs m k e) (sym ei) ∙ runs-step t xs q z ws vs m i e l (omega (arith, n)) ∙ ap (λ (k : ℕ). runs t xs q z ws vs m k e) n ∙ runs-1 t xs q z ws vs m e
+    runs-step t xs q z ws vs m i e l (omega (arith, n)) ∙ ap (λ (k : ℕ). runs t xs q z ws vs m k e) n ∙ runs-1 t xs q z ws vs m e

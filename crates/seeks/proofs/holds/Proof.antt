@@ -3,10 +3,10 @@ use mathlib.Core.Bool.{Bool, cond}
 use Rattle.numbers.specs.Numbers.{ordered}
 use Rattle.numbers.proofs.Signed.{test-is}
 use borrow.Author.Needs.{needs}
-use Rattle.probes.proofs.holds.Statement.{statement}
-use Rattle.probes.proofs.holds.Tie as tie
-use Rattle.probes.proofs.holds.Reads as reads
-use Rattle.probes.proofs.holds.Lts as lts
+use Rattle.seeks.proofs.holds.Statement.{statement}
+use Rattle.seeks.proofs.holds.Tie as tie
+use Rattle.seeks.proofs.holds.Reads as reads
+use Rattle.seeks.proofs.holds.Lts as lts
 use Rattle.numbers.proofs.ordered.Reads as ordered-reads
 
 -- src/lib.rt:19:9

@@ -4,15 +4,15 @@ use native.Mathlib.Omega.{arith}
 use denote.Ref.{now}
 use Rattle.catalogue.specs.Layout.{tupleAt}
 use Rattle.evaluator.specs.Evaluation.{assigned}
-use Rattle.probes.proofs.Steps.{left-fails, right-fails}
+use Rattle.seeks.proofs.Steps.{left-fails, right-fails}
 use borrow.Author.Needs.{needs}
-use Rattle.probes.proofs.skip.Statement.{statement}
-use Rattle.probes.proofs.skip.Tie as tie
-use Rattle.probes.proofs.skip.Reads as reads
-use Rattle.probes.proofs.skip.Lts as lts
+use Rattle.seeks.proofs.skip.Statement.{statement}
+use Rattle.seeks.proofs.skip.Tie as tie
+use Rattle.seeks.proofs.skip.Reads as reads
+use Rattle.seeks.proofs.skip.Lts as lts
 use Rattle.branches.proofs.side.Reads as side-reads
 use Rattle.kinds.proofs.size_at.Reads as size-at-reads
-use Rattle.probes.proofs.failing.Reads as failing-reads
+use Rattle.seeks.proofs.failing.Reads as failing-reads
 
 mul-p : tie.Need-mul-p
 mul-p c = search needs

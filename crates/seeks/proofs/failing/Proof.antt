@@ -11,15 +11,15 @@ use mathlib.Core.Bool.{false}
 use borrow.Author.Needs.{needs}
 use Rattle.numbers.proofs.Signed.{fits64}
 use Rattle.catalogue.specs.Layout.{tupleAt}
-use Rattle.probes.specs.Probe.{placed}
-use Rattle.probes.proofs.Steps.{one-more, row-fails, whole-fails}
-use Rattle.probes.proofs.failing.Statement.{statement}
-use Rattle.probes.proofs.failing.Tie as tie
-use Rattle.probes.proofs.failing.Reads as reads
-use Rattle.probes.proofs.failing.Lts as lts
+use Rattle.seeks.specs.Probe.{placed}
+use Rattle.seeks.proofs.Steps.{one-more, row-fails, whole-fails}
+use Rattle.seeks.proofs.failing.Statement.{statement}
+use Rattle.seeks.proofs.failing.Tie as tie
+use Rattle.seeks.proofs.failing.Reads as reads
+use Rattle.seeks.proofs.failing.Lts as lts
 use Rattle.catalogue.proofs.value.Reads as value-reads
-use Rattle.probes.proofs.holds.Reads as holds-reads
-use Rattle.probes.proofs.scaled.Reads as scaled-reads
+use Rattle.seeks.proofs.holds.Reads as holds-reads
+use Rattle.seeks.proofs.scaled.Reads as scaled-reads
 use Rattle.walks.proofs.place.Reads as place-reads
 
 abbrev Inv-loop : tie.InvT-loop

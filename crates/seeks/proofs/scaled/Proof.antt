@@ -5,10 +5,10 @@ use native.Mathlib.Omega.{arith}
 use mathlib.Core.Path.{ap, _∙_}
 use Rattle.numbers.proofs.Signed.{cross, op-fits, op-is}
 use borrow.Author.Needs.{needs}
-use Rattle.probes.proofs.scaled.Statement.{statement}
-use Rattle.probes.proofs.scaled.Tie as tie
-use Rattle.probes.proofs.scaled.Reads as reads
-use Rattle.probes.proofs.scaled.Lts as lts
+use Rattle.seeks.proofs.scaled.Statement.{statement}
+use Rattle.seeks.proofs.scaled.Tie as tie
+use Rattle.seeks.proofs.scaled.Reads as reads
+use Rattle.seeks.proofs.scaled.Lts as lts
 use Rattle.numbers.proofs.wide.Reads as wide-reads
 
 -- src/lib.rt:23:5
