@@ -7,8 +7,8 @@ use Prim.Native.Nat.{ℕ, zero, suc, _+_, _-_, _≤_, _<_}
 use native.Mathlib.Omega.{arith}
 use native.Mathlib.Numerals.{sub-one}
 use lib.ListN.{length, getD, drop, set, replicate}
-use Rattle.model.specs.Lists.{update, all}
-use Rattle.model.specs.Syntax.{Term, Binding, Query}
+use Rattle.model.specs.Lists.{update, any, all, unique, contains}
+use Rattle.model.specs.Syntax.{Term, Binding, Query, variables}
 use Rattle.model.specs.Catalogue.{Shape}
 use Rattle.model.specs.Scope.{Scope, nobody, knownBinding, inScope, inScopeT, rangeScope, queryInScope}
 use Rattle.model.proofs.Tests.{not-yes, not-no}
@@ -108,3 +108,10 @@ module _ (sh : Shape) (limit l : ℕ) (y : Layout) (q z : List ℕ) (b : Bool) (
         let g = sym eb ∙ not-no b known in
         let k = targets-are ∙ not-no c h in
         ed ∙ ap₂ (λ (a o : List ℕ). inScope sh limit (decode l a o) (scopeOf s)) em en ∙ ap (inScope sh limit (decode l (drop (y .condition) q) (drop (y .condition) z))) in-ranges ∙ sym (rw (g, k))
+
+-- one variable is not bound twice
+pub one-bound : (bs : List Binding) → length bs < 2 → true ≡ unique (variables bs)
+unfolding unique contains any
+one-bound [] h = refl
+one-bound (b ∷ []) h = refl
+one-bound (b ∷ c ∷ bs) h = absurd (omega arith)
