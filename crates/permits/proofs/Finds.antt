@@ -2,15 +2,14 @@
 use mathlib.Core.Path.{_≡_, refl, sym, ap, ap₂, _∙_}
 use mathlib.Core.Bool.{Bool, true, false, not, cond, _&&_, _||_}
 use mathlib.Core.List.{List, [], _∷_}
-use Prim.Native.Nat.{ℕ, zero, suc, _-_, _<_, _≤_}
+use Prim.Native.Nat.{ℕ, zero, suc, _-_, _<_}
 use native.Mathlib.Omega.{arith}
-use lib.Dec.{eqb, leb, ltb}
-use lib.ListN.{length, getD, take, drop}
+use lib.Dec.{eqb}
+use lib.ListN.{getD, take, drop}
 use lib.Seq.{getD-drop}
-use borrow.Author.Tests.{not-true, not-false, eqb-true, eq-eqb, ne-eqb, lt-leb, le-leb, lt-ltb, le-ltb}
+use borrow.Author.Tests.{not-true, not-false, eqb-true, eq-eqb, ne-eqb}
 use Rattle.model.specs.Lists.{all, below}
 use Rattle.model.specs.Permits.{bit}
-use Rattle.model.proofs.Tests.{clash, or-false}
 use Rattle.kinds.specs.Tables.{recordLength}
 use Rattle.scans.proofs.Lists.{all-join}
 use Rattle.permits.specs.Entries.{Entry, spanAfter, spanOf, conditionOf, maskOf, entryAt}

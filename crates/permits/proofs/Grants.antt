@@ -3,21 +3,21 @@ use mathlib.Core.Path.{_≡_, refl, sym, ap, ap₂, _∙_, subst}
 use mathlib.Core.Bool.{Bool, true, false, not, cond, _&&_, _||_}
 use mathlib.Core.List.{List, [], _∷_}
 use mathlib.Core.Option.{some}
-use Prim.Native.Nat.{ℕ, zero, suc, _+_, _-_, _*_, _≤_, _<_}
+use Prim.Native.Nat.{ℕ, suc, _+_, _-_, _≤_, _<_}
 use native.Mathlib.Nat.{zero-add}
 use native.Mathlib.Omega.{arith}
-use lib.Dec.{leb, ltb, eqb}
-use lib.ListN.{length, getD, drop, take, set, replicate, length-drop}
+use lib.Dec.{ltb}
+use lib.ListN.{length, drop, take, set, replicate, length-drop}
 use lib.Seq.{drop-drop}
-use borrow.Author.Tests.{le-leb, leb-true, lt-ltb, le-ltb, ltb-false, not-false}
-use Rattle.model.specs.Lists.{update, any, all, unique, contains}
+use borrow.Author.Tests.{le-leb, leb-true, lt-ltb, le-ltb, ltb-false}
+use Rattle.model.specs.Lists.{any, all, unique, contains}
 use Rattle.model.specs.Syntax.{Condition, Binding, Permit, WellFormed, WellFormedPs, bindings, variables, levels}
-use Rattle.model.specs.Encoding.{encode, encodePermit, encodePermits, ok, failed, readCondition, permitsRead, permitsOf}
+use Rattle.model.specs.Encoding.{encode, encodePermit, encodePermits, ok, readCondition, permitsRead, permitsOf}
 use Rattle.model.specs.Catalogue.{Shape, shapeOf, catalogueOf}
-use Rattle.model.specs.Scope.{Scope, nobody, inScope}
+use Rattle.model.specs.Scope.{Scope, inScope}
 use Rattle.model.specs.Permits.{mask}
-use Rattle.model.specs.Checks.{fails10, fails20, fails21, fails22, fails23, permitFits, permitKnown, permitStored, permitChecks, refusal}
-use Rattle.model.proofs.Tests.{and-inv, or-no, not-no, not-yes, clash, all-cons}
+use Rattle.model.specs.Checks.{fails10, fails20, fails21, fails22, fails23, permitFits, permitKnown, permitChecks, refusal}
+use Rattle.model.proofs.Tests.{and-inv, or-no, not-no, not-yes, all-cons}
 use Rattle.model.proofs.Reading.{read-encode}
 use Rattle.model.proofs.ReadingQueries.{read-permits}
 use Rattle.model.proofs.Sizes.{size, size-encode}

@@ -59,7 +59,7 @@ fn wide(x: u8) -> u16
 }
 
 // The mask of the permit that a list starts with, low byte first.
-pub fn mask(list: &[u8]) -> u16
+fn mask(list: &[u8]) -> u16
     ensures { λ r. ⌜ r ≡ maskOf (now (list .entry)) ⌝ }
 {
     wide(kinds::byte(list, 2)) + 256 * wide(kinds::byte(list, 3))
@@ -160,7 +160,7 @@ fn attributes_in(mask: u16, attributes: usize) -> bool
 }
 
 // A mask is not 0, and names attributes of the relation, or is ALL.
-pub fn mask_in(mask: u16, attributes: usize) -> bool
+fn mask_in(mask: u16, attributes: usize) -> bool
     ensures { λ r. ⌜ r ≡ Lim.maskIn attributes mask ⌝ }
 {
     if mask == 0 {
@@ -282,7 +282,8 @@ fn rest(list: &[u8], at: usize, left: usize, catalogue: &[u8], z: &mut [u16]) ->
     let Grant::Whole(n, known, over) = permit(list, at, catalogue, z) else {
         return Listing::Refused;
     };
-    let Listing::Whole(others_known, others_over) = rest(list, at + n, left - 1, catalogue, z) else {
+    let Listing::Whole(others_known, others_over) = rest(list, at + n, left - 1, catalogue, z)
+    else {
         return Listing::Refused;
     };
     Listing::Whole(both(known, others_known), both(over, others_over))
@@ -298,7 +299,11 @@ fn both(a: bool, b: bool) -> bool
 fn number(list: &[u8]) -> u8
     ensures { λ r. ⌜ r ≡ cond (fails20 (now (list .entry))) 20 21 ⌝ }
 {
-    if grammar::permits_refused(list) { 20 } else { 21 }
+    if grammar::permits_refused(list) {
+        20
+    } else {
+        21
+    }
 }
 
 // Checks 20 to 23 of a list, from one reading: the number of the first that fails, or 0.

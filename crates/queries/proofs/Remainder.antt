@@ -1,31 +1,28 @@
 -- The targets and the condition after the RANGE records: a law for each way to return.
 use mathlib.Core.Path.{_≡_, refl, sym, ap, ap₂, _∙_, subst}
-use mathlib.Core.Bool.{Bool, true, false, not, cond, _&&_}
+use mathlib.Core.Bool.{Bool, true, false, not, cond}
 use mathlib.Core.List.{List, [], _∷_}
-use Prim.Native.Nat.{ℕ, zero, suc, _+_, _-_, _*_, _≤_, _<_, max}
+use Prim.Native.Nat.{ℕ, _+_, _-_, _*_, _≤_, _<_}
 use native.Mathlib.Omega.{arith}
 use lib.ListN.{length, getD, drop, length-drop}
-use Rattle.model.specs.Syntax.{Condition, Term, Query, Targets, WellFormed, levels, levelsTs, levelsQ}
+use Rattle.model.specs.Syntax.{Term, Query, Targets, levels, levelsQ}
 use Rattle.model.specs.Encoding.{encode, encodeTargets, ok, readQuery}
 use Rattle.model.specs.Catalogue.{Shape}
-use Rattle.model.specs.Scope.{Scope, inScope}
+use Rattle.model.specs.Scope.{Scope}
 use Rattle.model.proofs.Tests.{not-yes, not-no}
-use Rattle.model.proofs.ReadingQueries.{IsQ, query-inverse}
+use Rattle.model.proofs.ReadingQueries.{query-inverse}
 use Rattle.model.proofs.Sizes.{sizeQ, size-query, size-encode}
 use Rattle.sizes.specs.declared.Size.{Size}
-use Rattle.sizes.specs.declared.Size.the-variants.{Bytes}
-use Rattle.sizes.specs.Measured.{Measured, onward, conditionTable}
+use Rattle.sizes.specs.Measured.{onward, conditionTable}
 use Rattle.reader.specs.declared.Reading.{Reading}
 use Rattle.reader.specs.declared.Reading.the-variants as A
 use Rattle.reader.specs.Answers.{conditionReading}
 use Rattle.reader.proofs.Found.{Found as FoundC, found, unread, the-condition}
-use Rattle.tables.specs.Tables.{targetsMeasured, conditionMeasured, queryMeasured}
-use Rattle.grammar.specs.declared.Layout.{Layout}
+use Rattle.tables.specs.Tables.{conditionMeasured, queryMeasured}
 use Rattle.grammar.specs.Shapes.{layout}
 use Rattle.grammar.proofs.Whole.{targets-place}
 use Rattle.queries.specs.declared.Run.{Run}
 use Rattle.queries.specs.declared.Run.the-variants as T
-use Rattle.queries.specs.declared.Found.{Found}
 use Rattle.queries.specs.declared.Found.the-variants.{Whole, Refused}
 use Rattle.queries.specs.Found.{Targeted, Standing, Leads, TargetsFound, RestFound, Rest}
 use Rattle.queries.proofs.Targeting.{target-byte, byte-at}

@@ -2,22 +2,21 @@
 use mathlib.Core.Path.{_≡_, refl, sym, ap, ap₂, _∙_, subst}
 use mathlib.Core.Bool.{Bool, true, false, not, cond, _&&_, _||_}
 use mathlib.Core.List.{List, [], _∷_}
-use Prim.Native.Nat.{ℕ, zero, suc, _+_, _-_, _*_, _≤_, _<_, max}
+use Prim.Native.Nat.{ℕ, zero, suc, _+_, _-_, _*_, _≤_, _<_}
 use native.Mathlib.Omega.{arith}
 use lib.Dec.{ltb}
 use lib.ListN.{length, getD, drop, length-drop, replicate}
 use borrow.Author.Tests.{le-ltb, lt-ltb, ltb-false}
 use Rattle.model.specs.Lists.{all, unique}
-use Rattle.model.specs.Syntax.{Condition, Term, Binding, Query, Targets, WellFormedQ, bindingsQ, levels, levelsTs, levelsQ, variables}
-use Rattle.model.specs.Encoding.{encode, encodeT, encodeTargets, encodeRanges, encodeQuery, Read as Reads, fail, ok, failed, readOr, readQuery, queryOf}
+use Rattle.model.specs.Syntax.{Term, Query, Targets, WellFormedQ, bindingsQ, levels, levelsQ, variables}
+use Rattle.model.specs.Encoding.{encode, encodeTargets, encodeRanges, encodeQuery, Read as Reads, fail, ok, failed, readOr, readQuery, queryOf}
 use Rattle.model.specs.Catalogue.{Shape, shapeOf, catalogueOf}
 use Rattle.model.specs.Scope.{Scope, knownBinding, inScope, inScopeT, rangeScope, queryInScope, boundOnce}
 use Rattle.model.specs.Checks.{fails10, fails30, fails31, fails32, queryChecks, refusal}
 use Rattle.model.proofs.Tests.{clash, not-no, not-yes, or-no, or-right}
 use Rattle.model.proofs.ReadingQueries.{IsQ, read-query, query-inverse}
-use Rattle.model.proofs.Sizes.{sizeTs, size-targets}
+use Rattle.model.proofs.Sizes.{size-targets}
 use Rattle.kinds.specs.Tables.{recordLength}
-use Rattle.sizes.specs.Measured.{Measured}
 use Rattle.sizes.specs.Parts.{rangesAt}
 use Rattle.scans.specs.Flat.{flatBindings}
 use Rattle.scans.proofs.Whole.{bindings-query, once-query}
@@ -183,10 +182,10 @@ module _ (l : Limits) (cb q : List ℕ) (h10 : fails10 cb ≡ false) (short : le
       passes-30 = passes-30;
       passes-31 = passes-31;
       number-32 =
-        eb
-        ∙ ap₂ _&&_ (ap₂ _&&_ (ap (λ h. all (knownBinding h (l .variables)) (rangesAt n q)) (shape-is cb h10)) both-in) (ap (λ (x : List ℕ). unique (variables (flatBindings x))) encoded ∙ once-query u)
-        ∙ ap (λ x. queryInScope (shapeOf (catalogueOf cb)) (l .variables) x && boundOnce x) (sym is)
-        ∙ sym (twice (queryInScope (shapeOf (catalogueOf cb)) (l .variables) (queryOf q) && boundOnce (queryOf q)));
+          eb
+          ∙ ap₂ _&&_ (ap₂ _&&_ (ap (λ h. all (knownBinding h (l .variables)) (rangesAt n q)) (shape-is cb h10)) both-in) (ap (λ (x : List ℕ). unique (variables (flatBindings x))) encoded ∙ once-query u)
+          ∙ ap (λ x. queryInScope (shapeOf (catalogueOf cb)) (l .variables) x && boundOnce x) (sym is)
+          ∙ sym (twice (queryInScope (shapeOf (catalogueOf cb)) (l .variables) (queryOf q) && boundOnce (queryOf q)));
       laid = laid;
       ready = ready-is y q laid (l .levels) z w room (subst (λ x. levelsQ x ≤ l .levels) (sym is) deep) (a .table ∙ ap (λ p. queryMeasured (y .targets) (l .levels) q p z .table) (sym (a .first)));
     }

@@ -123,7 +123,16 @@ fn targets(
     let Reading::Whole(n, inside) = reader::term(q, z, at, level, catalogue, limit, reach) else {
         return Run::Refused;
     };
-    let Run::Whole(count, end, others) = targets(q, z, at + n, left - 1, level, catalogue, limit, reach) else {
+    let Run::Whole(count, end, others) = targets(
+        q,
+        z,
+        at + n,
+        left - 1,
+        level,
+        catalogue,
+        limit,
+        reach,
+    ) else {
         return Run::Refused;
     };
     if !inside {
@@ -157,13 +166,23 @@ fn rest(
     if q.len() < first {
         return Found::Refused;
     }
-    let Run::Whole(targets, condition, inside) = targets(q, z, first, 8, level, catalogue, limit, reach) else {
+    let Run::Whole(targets, condition, inside) = targets(
+        q,
+        z,
+        first,
+        8,
+        level,
+        catalogue,
+        limit,
+        reach,
+    ) else {
         return Found::Refused;
     };
     if targets == 0 {
         return Found::Refused;
     }
-    let Reading::Whole(n, last) = reader::condition(q, z, condition, level, catalogue, limit, reach) else {
+    let Reading::Whole(n, last) = reader::condition(q, z, condition, level, catalogue, limit, reach)
+    else {
         return Found::Refused;
     };
     if condition + n != q.len() {

@@ -1,10 +1,10 @@
 -- What a reading says of the tree: one that was found, and that none is there.
-use mathlib.Core.Path.{_≡_, refl, sym, ap, ap₂, _∙_}
+use mathlib.Core.Path.{_≡_, refl, sym, ap, _∙_}
 use mathlib.Core.Bool.{Bool}
 use mathlib.Core.List.{List, []}
 use Prim.Native.Nat.{ℕ, _+_, _-_, _≤_}
 use native.Mathlib.Omega.{arith}
-use lib.ListN.{length, drop, length-drop}
+use lib.ListN.{length, drop}
 use Rattle.model.specs.Syntax.{Condition, Term, WellFormed, WellFormedT, levels, levelsT}
 use Rattle.model.specs.Encoding.{encode, encodeT, Read, fail, ok, readCondition, readTerm}
 use Rattle.model.specs.Catalogue.{Shape}

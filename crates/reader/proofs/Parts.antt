@@ -2,20 +2,20 @@
 use mathlib.Core.Path.{_≡_, refl, sym, ap, ap₂, _∙_}
 use mathlib.Core.Bool.{Bool, true, false, not, _&&_}
 use borrow.Author.Tests.{not-true, not-false}
-use mathlib.Core.List.{List, [], _∷_}
-use Prim.Native.Nat.{ℕ, zero, suc, _+_, _-_, _<_, _≤_}
+use mathlib.Core.List.{List}
+use Prim.Native.Nat.{ℕ, zero, suc, _+_, _-_, _≤_}
 use native.Mathlib.Nat.{add-zero, zero-add}
 use native.Mathlib.Omega.{arith}
-use lib.ListN.{length, drop, length-drop}
+use lib.ListN.{length, drop}
 use lib.Seq.{drop-drop}
 use Rattle.model.specs.Encoding.{Read, fail, ok, then}
 use Rattle.sizes.specs.declared.Size.{Size}
 use Rattle.sizes.specs.declared.Size.the-variants as S
-use Rattle.sizes.specs.Measured.{Measured, leaves, onward, children, stored, store, measured, sizeRead}
+use Rattle.sizes.specs.Measured.{Measured, leaves, onward, children, stored, measured, sizeRead}
 use Rattle.sizes.proofs.Reader.{Taken}
 use Rattle.reader.specs.declared.Reading.{Reading}
 use Rattle.reader.specs.declared.Reading.the-variants.{Whole, Refused}
-use Rattle.reader.specs.Answers.{answer, Pair, two, both, sizeOf, bytesOf, held, grown, kept, twoMeasured}
+use Rattle.reader.specs.Answers.{answer, Pair, two, both, sizeOf, bytesOf, held, grown, kept}
 
 -- an answer is not two things
 pub never : {X : Type 0} (n : ℕ) (b : Bool) → Whole n b ≡ Refused → X

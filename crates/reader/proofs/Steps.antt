@@ -3,9 +3,8 @@ use mathlib.Core.Path.{_≡_, refl, sym, ap, ap₂, _∙_}
 use mathlib.Core.Bool.{Bool, true, false, not, _&&_}
 use mathlib.Core.List.{List, [], _∷_}
 use mathlib.Core.Option.{some}
-use Prim.Native.Nat.{ℕ, zero, suc, _+_, _-_, _<_, _≤_}
+use Prim.Native.Nat.{ℕ, suc, _+_, _-_, _<_, _≤_}
 use native.Mathlib.Omega.{arith}
-use native.Mathlib.Numerals.{sub-one}
 use lib.Dec.{ltb}
 use lib.ListN.{length, getD, drop, set, replicate, length-drop}
 use lib.Seq.{drop-drop}
@@ -17,7 +16,7 @@ use Rattle.model.specs.Kinds.{kindOf, find, k-and, k-or, k-true, k-false}
 use Rattle.model.specs.Syntax.{Condition, Term, TRUE, FALSE, NOT, AND, OR, COMPARE, SOME, CONSTANT, ATTRIBUTE, AGGREGATE, Binding, isOperator, isFunction}
 use Rattle.model.specs.Encoding.{Read, fail, ok, then, need, onKind, conditionBody, termBody, readCondition, readTerm}
 use Rattle.model.specs.Catalogue.{Shape, attributesAt}
-use Rattle.model.specs.Scope.{Scope, nobody, knownBinding, knownAttribute, inScope, inScopeT}
+use Rattle.model.specs.Scope.{Scope, knownBinding, knownAttribute, inScope, inScopeT}
 use Rattle.kinds.specs.Tables.{recordLength, ofKind, conditionsOf, termsOf}
 use Rattle.kinds.specs.Record.{recordAt}
 use Rattle.kinds.specs.declared.Record.{Record}
@@ -25,7 +24,7 @@ use Rattle.kinds.specs.declared.Record.the-variants as R
 use Rattle.kinds.proofs.Record.{enum}
 use Rattle.kinds.proofs.Records.{whole-record}
 use Rattle.sizes.specs.declared.Size.the-variants as S
-use Rattle.sizes.specs.Measured.{Measured, leaves, accepts, childrenOf, childTerm, children, stored, store, measured, sizeRead, conditionTable, termTable}
+use Rattle.sizes.specs.Measured.{Measured, leaves, accepts, childrenOf, childTerm, children, store, measured, conditionTable, termTable}
 use Rattle.sizes.proofs.Reader.{agree, condition-taken, term-taken}
 use Rattle.sizes.proofs.Steps.{zero-is, wrong, whole}
 use Rattle.scope.specs.Reach.{scopeOf, someInScope, aggregateInScope}
@@ -33,7 +32,7 @@ use Rattle.scope.proofs.Steps.{known-below}
 use Rattle.scope.proofs.Tables.{scope-set, scope-one}
 use Rattle.reader.specs.declared.Reading.{Reading}
 use Rattle.reader.specs.declared.Reading.the-variants.{Whole, Refused}
-use Rattle.reader.specs.Answers.{answer, Pair, two, both, conditionReading, termReading, someReading, aggregateReading, conditionsReading, termsReading, twoMeasured, sizeOf, bytesOf, held, grown, kept}
+use Rattle.reader.specs.Answers.{answer, two, both, conditionReading, termReading, someReading, aggregateReading, conditionsReading, termsReading, twoMeasured, sizeOf, bytesOf, held, grown, kept}
 use Rattle.reader.proofs.Parts.{answer-size, answer-refused, bytes-fit, wrap, two-fits, two-then, two-stop, two-go, one-inner, inner-stop, inner-go, parent-is}
 use Rattle.reader.proofs.Records.{begins, truth, joining, truth-at, join-at, lengths}
 
@@ -229,8 +228,8 @@ module _ (l : ℕ) (nz : l ≡ 0 → ⊥) (q : List ℕ) (p : ℕ) (z : List ℕ
   parent-table : (n : ℕ) (s : Bool) → childrenOf k ≡ n → childTerm k ≡ s → (r : Reading) (u w : List ℕ) → w ≡ kept p a r u → leaves (sizeOf r) u ≡ children n 0 (λ x m y. measured (l - 1) s x m y) (drop (p + a) q) (p + a) z → w ≡ measured l t (drop p q) p z .table
   parent-table n s en es r u w ew e =
       ap (λ (m : Measured). m .table) (
-        parent-is (λ x m y. measured (l - 1) s x m y) n a (drop p q) (drop (p + a) q) p z r u w (sym (drop-drop a p q)) ew e
-        ∙ whole l t (drop p q) p z nz y (accepts t y) k n a s ey refl (rw ht) ek (sym en) (sym es) ea
+      parent-is (λ x m y. measured (l - 1) s x m y) n a (drop p q) (drop (p + a) q) p z r u w (sym (drop-drop a p q)) ew e
+      ∙ whole l t (drop p q) p z nz y (accepts t y) k n a s ey refl (rw ht) ek (sym en) (sym es) ea
       )
 
 -- a record with no child
@@ -302,7 +301,7 @@ module _ (sh : Shape) (limit l : ℕ) (nz : l ≡ 0 → ⊥) (σ : Scope) (q : L
           let b : drop p q ≡ 18 ∷ drop (p + a) q = h ∙ ap (λ v. 18 ∷ v) (next 1 a n) in (
             arm a (λ c. inScope sh limit c σ) (readCondition (l - 1) (drop (p + a) q)) (λ c r i. condition-taken (l - 1) (drop (p + a) q) c r i .fits) (omega (arith, ap length b, n)) r r′ er er′ NOT (λ c. refl) (ap₂ readCondition level b),
             parent-table l nz q p z k record-is false (ap (accepts false) e) 18 a (sym (ap (λ v. getD v 0 0) h)) ea 1 false (counts .2) (sorts .0) r u w ew
-            (one-inner (λ x m y. measured (l - 1) false x m y) (drop (p + a) q) (p + a) z r u (measured-condition sh limit (l - 1) σ q (p + a) z r u er eu)),
+                (one-inner (λ x m y. measured (l - 1) false x m y) (drop (p + a) q) (p + a) z r u (measured-condition sh limit (l - 1) σ q (p + a) z r u er eu)),
           )
 
       pub some-is : (v m : ℕ) → a ≡ recordLength 22 → k ≡ R.Some v m → r ≡ someReading sh limit (l - 1) (record { variable = v; relation = m }) σ (drop (p + a) q) → u ≡ conditionTable (l - 1) q (p + a) z → (r′ ≡ conditionReading sh limit l σ (drop p q)) × (w ≡ conditionTable l q p z)
@@ -312,7 +311,7 @@ module _ (sh : Shape) (limit l : ℕ) (nz : l ≡ 0 → ⊥) (σ : Scope) (q : L
           let b : drop p q ≡ 22 ∷ v ∷ m ∷ drop (p + a) q = h ∙ ap (λ y. 22 ∷ v ∷ m ∷ y) (next 3 a n) in (
             arm a (λ c. someInScope sh limit (record { variable = v; relation = m }) c σ) (readCondition (l - 1) (drop (p + a) q)) (λ c r i. condition-taken (l - 1) (drop (p + a) q) c r i .fits) (omega (arith, ap length b, n)) r r′ er er′ (SOME v m) (λ c. refl) (ap₂ readCondition level b),
             parent-table l nz q p z k record-is false (ap (accepts false) e) 22 a (sym (ap (λ v. getD v 0 0) h)) ea 1 false (counts .6) (sorts .4) r u w ew
-            (one-inner (λ x m y. measured (l - 1) false x m y) (drop (p + a) q) (p + a) z r u (measured-some sh limit (l - 1) σ q (p + a) z (record { variable = v; relation = m }) r u er eu)),
+                (one-inner (λ x m y. measured (l - 1) false x m y) (drop (p + a) q) (p + a) z r u (measured-some sh limit (l - 1) σ q (p + a) z (record { variable = v; relation = m }) r u er eu)),
           )
 
       pub aggregate-is : (f v m i : ℕ) (d : Bool) → a ≡ recordLength 34 → k ≡ R.Aggregate f v m i → d ≡ isFunction f → not d ≡ false → r ≡ aggregateReading sh limit (l - 1) (record { variable = v; relation = m }) i (drop (p + a) q) → u ≡ conditionTable (l - 1) q (p + a) z → (r′ ≡ termReading sh limit l σ (drop p q)) × (w ≡ termTable l q p z)
@@ -321,9 +320,9 @@ module _ (sh : Shape) (limit l : ℕ) (nz : l ≡ 0 → ⊥) (σ : Scope) (q : L
           let h = begins q x p ex k ek (R.Aggregate f v m i) e in let n = ea ∙ lengths .7 in let known = sym ed ∙ not-false d hd in
           let b : drop p q ≡ 34 ∷ f ∷ v ∷ m ∷ i ∷ drop (p + a) q = h ∙ ap (λ y. 34 ∷ f ∷ v ∷ m ∷ i ∷ y) (next 5 a n) in (
             armT a (λ c. aggregateInScope sh limit (record { variable = v; relation = m }) i c) (readCondition (l - 1) (drop (p + a) q)) (λ c r i. condition-taken (l - 1) (drop (p + a) q) c r i .fits) (omega (arith, ap length b, n)) r r′ er er′ (AGGREGATE f v m i) (λ c. refl)
-            (ap₂ readTerm level b ∙ ap (λ g. need g (then (readCondition (l - 1) (drop (p + a) q)) λ c r. ok (AGGREGATE f v m i c) r)) known),
+                (ap₂ readTerm level b ∙ ap (λ g. need g (then (readCondition (l - 1) (drop (p + a) q)) λ c r. ok (AGGREGATE f v m i c) r)) known),
             parent-table l nz q p z k record-is true (ap (accepts true) e ∙ known) 34 a (sym (ap (λ v. getD v 0 0) h)) ea 1 false (counts .9) (sorts .5) r u w ew
-            (one-inner (λ x m y. measured (l - 1) false x m y) (drop (p + a) q) (p + a) z r u (measured-aggregate sh limit (l - 1) σ q (p + a) z (record { variable = v; relation = m }) i r u er eu)),
+                (one-inner (λ x m y. measured (l - 1) false x m y) (drop (p + a) q) (p + a) z r u (measured-aggregate sh limit (l - 1) σ q (p + a) z (record { variable = v; relation = m }) i r u er eu)),
           )
 
       pub both-is : a ≡ recordLength 19 → OneOf (4 ∷ 5 ∷ []) (tagOf (declared enum) k) → r ≡ conditionsReading sh limit (l - 1) σ (drop (p + a) q) → leaves (sizeOf r) u ≡ twoMeasured false (l - 1) q (p + a) z → (r′ ≡ conditionReading sh limit l σ (drop p q)) × (w ≡ conditionTable l q p z)
@@ -334,13 +333,13 @@ module _ (sh : Shape) (limit l : ℕ) (nz : l ≡ 0 → ⊥) (σ : Scope) (q : L
           go true h =
               let n = ea ∙ lengths .2 in let b : drop p q ≡ 19 ∷ drop (p + a) q = h ∙ ap (λ v. 19 ∷ v) (next 1 a n) in (
                 arm a (both (λ c. inScope sh limit c σ)) (two (λ x. readCondition (l - 1) x) (drop (p + a) q)) (two-fits (λ x. readCondition (l - 1) x) (condition-taken (l - 1)) (drop (p + a) q)) (omega (arith, ap length b, n)) r r′ er er′
-                (λ c. AND (c .left) (c .right)) (λ c. refl) (ap₂ readCondition level b ∙ sym (two-then (λ x. readCondition (l - 1) x) (condition-taken (l - 1)) AND (drop (p + a) q))),
+                    (λ c. AND (c .left) (c .right)) (λ c. refl) (ap₂ readCondition level b ∙ sym (two-then (λ x. readCondition (l - 1) x) (condition-taken (l - 1)) AND (drop (p + a) q))),
                 parent-table l nz q p z k record-is false (ap (accepts false) (record-is ∙ ap recordAt h ∙ whole-record 19 (drop 1 (drop p q)) k-and refl (omega arith))) 19 a (sym (ap (λ v. getD v 0 0) h)) ea 2 false (counts .3) (sorts .1) r u w ew eu,
               )
           go false h =
               let n = ea ∙ lengths .2 in let b : drop p q ≡ 20 ∷ drop (p + a) q = h ∙ ap (λ v. 20 ∷ v) (next 1 a n) in (
                 arm a (both (λ c. inScope sh limit c σ)) (two (λ x. readCondition (l - 1) x) (drop (p + a) q)) (two-fits (λ x. readCondition (l - 1) x) (condition-taken (l - 1)) (drop (p + a) q)) (omega (arith, ap length b, n)) r r′ er er′
-                (λ c. OR (c .left) (c .right)) (λ c. refl) (ap₂ readCondition level b ∙ sym (two-then (λ x. readCondition (l - 1) x) (condition-taken (l - 1)) OR (drop (p + a) q))),
+                    (λ c. OR (c .left) (c .right)) (λ c. refl) (ap₂ readCondition level b ∙ sym (two-then (λ x. readCondition (l - 1) x) (condition-taken (l - 1)) OR (drop (p + a) q))),
                 parent-table l nz q p z k record-is false (ap (accepts false) (record-is ∙ ap recordAt h ∙ whole-record 20 (drop 1 (drop p q)) k-or refl (omega arith))) 20 a (sym (ap (λ v. getD v 0 0) h)) (ea ∙ sym (same-lengths .1)) 2 false (counts .4) (sorts .2) r u w ew eu,
               )
 
@@ -350,8 +349,8 @@ module _ (sh : Shape) (limit l : ℕ) (nz : l ≡ 0 → ⊥) (σ : Scope) (q : L
           let h = begins q x p ex k ek (R.Compare o) e in let n = ea ∙ lengths .3 in let known = sym ed ∙ not-false d hd in
           let b : drop p q ≡ 21 ∷ o ∷ drop (p + a) q = h ∙ ap (λ v. 21 ∷ o ∷ v) (next 2 a n) in (
             arm a (both (λ t. inScopeT sh limit t σ)) (two (λ x. readTerm (l - 1) x) (drop (p + a) q)) (two-fits (λ x. readTerm (l - 1) x) (term-taken (l - 1)) (drop (p + a) q)) (omega (arith, ap length b, n)) r r′ er er′
-            (λ c. COMPARE o (c .left) (c .right)) (λ c. refl)
-            (ap₂ readCondition level b ∙ ap (λ g. need g (then (readTerm (l - 1) (drop (p + a) q)) λ s r. then (readTerm (l - 1) r) λ t r. ok (COMPARE o s t) r)) known ∙ sym (two-then (λ x. readTerm (l - 1) x) (term-taken (l - 1)) (COMPARE o) (drop (p + a) q))),
+                (λ c. COMPARE o (c .left) (c .right)) (λ c. refl)
+                (ap₂ readCondition level b ∙ ap (λ g. need g (then (readTerm (l - 1) (drop (p + a) q)) λ s r. then (readTerm (l - 1) r) λ t r. ok (COMPARE o s t) r)) known ∙ sym (two-then (λ x. readTerm (l - 1) x) (term-taken (l - 1)) (COMPARE o) (drop (p + a) q))),
             parent-table l nz q p z k record-is false (ap (accepts false) e ∙ known) 21 a (sym (ap (λ v. getD v 0 0) h)) ea 2 true (counts .5) (sorts .3) r u w ew eu,
           )
 

@@ -3,7 +3,7 @@ use Prim.Native.Nat.{ℕ, _+_, _-_}
 use mathlib.Core.Bool.{Bool, true, false, _&&_}
 use mathlib.Core.List.{List}
 use lib.ListN.{length, drop}
-use Rattle.model.specs.Syntax.{Condition, Term, Binding}
+use Rattle.model.specs.Syntax.{Binding}
 use Rattle.model.specs.Encoding.{Read, fail, ok, then, readCondition, readTerm}
 use Rattle.model.specs.Catalogue.{Shape}
 use Rattle.model.specs.Scope.{Scope, inScope, inScopeT}
