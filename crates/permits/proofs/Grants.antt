@@ -37,11 +37,11 @@ use Rattle.scans.proofs.Whole.{bindings-condition}
 use Rattle.scope.specs.Reach.{scopeOf, shapeIn, permitScope}
 use Rattle.scope.proofs.Shapes.{shape-is}
 use Rattle.scope.proofs.Tables.{scope-one}
-use Rattle.reader.specs.declared.Reading.{Reading}
-use Rattle.reader.specs.declared.Reading.the-variants as A
-use Rattle.reader.specs.Answers.{conditionReading}
-use Rattle.reader.proofs.Records.{Starts}
-use Rattle.reader.proofs.Found.{Found, found, unread, the-condition}
+use Rattle.conditions.specs.declared.Reading.{Reading}
+use Rattle.conditions.specs.declared.Reading.the-variants as A
+use Rattle.conditions.specs.Answers.{conditionReading}
+use Rattle.conditions.proofs.Records.{Starts}
+use Rattle.conditions.proofs.Found.{Found, found, unread, the-condition}
 use Rattle.permits.specs.Entries.{maskOf}
 use Rattle.permits.specs.Masks.{maskIn}
 use Rattle.permits.specs.declared.Grant.{Grant}

@@ -1,7 +1,7 @@
 // The permit list: its checks 20 to 23 from one reading, and which of its permits apply.
 // To find which apply permits are found by a flat walk: inside a condition no record has their kind.
 use kinds::Record;
-use reader::Reading;
+use conditions::Reading;
 ghost use mathlib.Core.Path.{_≡_};
 ghost use mathlib.Core.Bool.{false, cond, not, _&&_, _||_};
 ghost use mathlib.Core.List.{_∷_};
@@ -16,7 +16,7 @@ ghost use Rattle.model.specs.Checks.{fails10, fails20, permitChecks, refusal};
 ghost use Rattle.catalogue.specs.Layout.{countOf, storedOf, attributesOf};
 ghost use Rattle.scans.specs.Flat.{flatBindings, storedIn};
 ghost use Rattle.scope.specs.Reach.{shapeIn, permitScope};
-ghost use Rattle.reader.specs.Answers.{conditionReading};
+ghost use Rattle.conditions.specs.Answers.{conditionReading};
 ghost use Rattle.permits.specs.Entries.{spanOf, sizeOf, maskOf, entryAt};
 ghost use Rattle.permits.specs.Applying as App;
 ghost use Rattle.permits.specs.Masks as Lim;
@@ -233,7 +233,7 @@ fn condition(bytes: &[u8], z: &mut [u16], catalogue: &[u8], relation: u8) -> Rea
 {
     let mut reach = [0u16; 256];
     scope::bind(&mut reach, 0, relation);
-    reader::condition(bytes, z, 0, 16, catalogue, 4, &mut reach)
+    conditions::condition(bytes, z, 0, 16, catalogue, 4, &mut reach)
 }
 
 // The permit at a place.

@@ -14,10 +14,10 @@ use Rattle.model.proofs.ReadingQueries.{query-inverse}
 use Rattle.model.proofs.Sizes.{sizeQ, size-query, size-encode}
 use Rattle.sizes.specs.declared.Size.{Size}
 use Rattle.sizes.specs.Measured.{onward, conditionTable}
-use Rattle.reader.specs.declared.Reading.{Reading}
-use Rattle.reader.specs.declared.Reading.the-variants as A
-use Rattle.reader.specs.Answers.{conditionReading}
-use Rattle.reader.proofs.Found.{Found as FoundC, found, unread, the-condition}
+use Rattle.conditions.specs.declared.Reading.{Reading}
+use Rattle.conditions.specs.declared.Reading.the-variants as A
+use Rattle.conditions.specs.Answers.{conditionReading}
+use Rattle.conditions.proofs.Found.{Found as FoundC, found, unread, the-condition}
 use Rattle.tables.specs.Tables.{conditionMeasured, queryMeasured}
 use Rattle.grammar.specs.Shapes.{layout}
 use Rattle.grammar.proofs.Whole.{targets-place}

@@ -22,10 +22,10 @@ use Rattle.sizes.specs.Measured.{Measured, onward, termSize, termTable}
 use Rattle.sizes.specs.Parts.{rangesAt}
 use Rattle.sizes.proofs.Decoding.{term-size}
 use Rattle.scope.proofs.Steps.{and-stop, and-go}
-use Rattle.reader.specs.declared.Reading.{Reading}
-use Rattle.reader.specs.declared.Reading.the-variants as A
-use Rattle.reader.specs.Answers.{termReading}
-use Rattle.reader.proofs.Found.{FoundT, foundT, unreadT, the-term}
+use Rattle.conditions.specs.declared.Reading.{Reading}
+use Rattle.conditions.specs.declared.Reading.the-variants as A
+use Rattle.conditions.specs.Answers.{termReading}
+use Rattle.conditions.proofs.Found.{FoundT, foundT, unreadT, the-term}
 use Rattle.tables.specs.Tables.{targetsMeasured}
 use Rattle.queries.specs.declared.Run.{Run}
 use Rattle.queries.specs.declared.Run.the-variants as T

@@ -2,7 +2,7 @@
 // whether the query is ill formed or too large.
 use grammar::Layout;
 use grammar::Shape;
-use reader::Reading;
+use conditions::Reading;
 ghost use mathlib.Core.Path.{_≡_};
 ghost use mathlib.Core.Bool.{cond, true, false};
 ghost use Prim.Native.Nat.{_≤_, _<_};
@@ -120,7 +120,7 @@ fn targets(
     if left == 0 {
         return Run::Refused;
     }
-    let Reading::Whole(n, inside) = reader::term(q, z, at, level, catalogue, limit, reach) else {
+    let Reading::Whole(n, inside) = conditions::term(q, z, at, level, catalogue, limit, reach) else {
         return Run::Refused;
     };
     let Run::Whole(count, end, others) = targets(
@@ -181,7 +181,7 @@ fn rest(
     if targets == 0 {
         return Found::Refused;
     }
-    let Reading::Whole(n, last) = reader::condition(q, z, condition, level, catalogue, limit, reach)
+    let Reading::Whole(n, last) = conditions::condition(q, z, condition, level, catalogue, limit, reach)
     else {
         return Found::Refused;
     };

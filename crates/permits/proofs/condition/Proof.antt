@@ -5,7 +5,7 @@ use Rattle.permits.proofs.condition.Statement.{statement}
 use Rattle.permits.proofs.condition.Tie as tie
 use Rattle.permits.proofs.condition.Reads as reads
 use Rattle.permits.proofs.condition.Lts as lts
-use Rattle.reader.proofs.condition.Reads as condition-reads
+use Rattle.conditions.proofs.condition.Reads as condition-reads
 use Rattle.scope.proofs.bind.Reads as bind-reads
 
 slice-aggregate-bind : tie.Need-slice-aggregate-bind

@@ -1,7 +1,7 @@
 use Rattle.model.specs.Catalogue.{catalogueOf, shapeOf}
 use denote.Ref.{now}
 use Rattle.kinds.specs.declared.Record.the-variants as R
-use Rattle.reader.proofs.Records.{begins}
+use Rattle.conditions.proofs.Records.{begins}
 use Rattle.permits.proofs.Grants.{no-permit, permit-unread, permit-long, permit-binds, permit-unknown, permit-out, permit-all}
 use borrow.Author.Needs.{needs}
 use Rattle.permits.proofs.permit.Statement.{statement}

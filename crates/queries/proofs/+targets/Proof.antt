@@ -4,9 +4,9 @@ use mathlib.Core.Path.{_≡_, refl, sym, ap, _∙_}
 use lib.ListN.{length, drop}
 use denote.Ref.{now}
 use Rattle.scope.specs.Reach.{shapeIn, scopeOf}
-use Rattle.reader.specs.Answers.{bytesOf}
-use Rattle.reader.proofs.Steps.{term-ends}
-use Rattle.reader.proofs.Past.{term-past}
+use Rattle.conditions.specs.Answers.{bytesOf}
+use Rattle.conditions.proofs.Steps.{term-ends}
+use Rattle.conditions.proofs.Past.{term-past}
 use Rattle.queries.proofs.Targeting.{leads-end, leads-full, leads-unread, leads-refused, leads-more, targets-end, targets-out, targets-in, found-few}
 use borrow.Author.Needs.{needs}
 use Prim.Native.Nat.{ℕ, _<_}
@@ -16,7 +16,7 @@ use Rattle.queries.proofs.targets.Reads as targets
 use Rattle.queries.proofs.targets.Kinds as targets-kinds
 use Rattle.queries.proofs.+targets.Lts-targets as targets-lts
 use Rattle.kinds.proofs.byte.Reads as byte-reads
-use Rattle.reader.proofs.term.Reads as term-reads
+use Rattle.conditions.proofs.term.Reads as term-reads
 use Rattle.queries.proofs.+targets.{statement}
 use Rattle.queries.proofs.+targets.Tie.{close}
 

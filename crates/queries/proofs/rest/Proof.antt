@@ -4,9 +4,9 @@ use mathlib.Core.List.{[]}
 use lib.ListN.{length, drop}
 use denote.Ref.{now}
 use Rattle.scope.specs.Reach.{shapeIn, scopeOf}
-use Rattle.reader.specs.Answers.{bytesOf}
-use Rattle.reader.proofs.Steps.{condition-ends}
-use Rattle.reader.proofs.Past.{condition-past}
+use Rattle.conditions.specs.Answers.{bytesOf}
+use Rattle.conditions.proofs.Steps.{condition-ends}
+use Rattle.conditions.proofs.Past.{condition-past}
 use Rattle.queries.proofs.Remainder.{rest-short, rest-unrun, run-inside, rest-none, rest-unread, rest-longer, rest-out, rest-in}
 use borrow.Author.Needs.{needs}
 use Rattle.queries.proofs.rest.Statement.{statement}
@@ -14,7 +14,7 @@ use Rattle.queries.proofs.rest.Tie as tie
 use Rattle.queries.proofs.rest.Reads as reads
 use Rattle.queries.proofs.rest.Lts as lts
 use Rattle.queries.proofs.targets.Reads as targets-reads
-use Rattle.reader.proofs.condition.Reads as condition-reads
+use Rattle.conditions.proofs.condition.Reads as condition-reads
 
 mul-first : tie.Need-mul-first
 mul-first c = search needs

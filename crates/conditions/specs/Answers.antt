@@ -11,8 +11,8 @@ use Rattle.sizes.specs.declared.Size.{Size}
 use Rattle.sizes.specs.declared.Size.the-variants as S
 use Rattle.sizes.specs.Measured.{Measured, store, children, measured}
 use Rattle.scope.specs.Reach.{someInScope, aggregateInScope}
-use Rattle.reader.specs.declared.Reading.{Reading}
-use Rattle.reader.specs.declared.Reading.the-variants.{Whole, Refused}
+use Rattle.conditions.specs.declared.Reading.{Reading}
+use Rattle.conditions.specs.declared.Reading.the-variants.{Whole, Refused}
 
 -- of what was read of q, by a test of scope
 abbrev pub answer : {A : Type 0} → List ℕ → (A → Bool) → Read A → Reading

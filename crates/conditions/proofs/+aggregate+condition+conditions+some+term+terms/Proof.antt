@@ -4,48 +4,48 @@ use lib.ListN.{length}
 use denote.Ref.{now}
 use Rattle.scope.specs.Reach.{shapeIn, scopeOf}
 use Rattle.scope.proofs.Steps.{put-back}
-use Rattle.reader.specs.Answers.{bytesOf}
-use Rattle.reader.proofs.Parts.{same-sized}
-use Rattle.reader.proofs.Records.{not-room, both-room, compare-room, some-room, aggregate-room}
-use Rattle.reader.proofs.Steps.{no-level, no-levelT, no-operator, no-function, no-condition, no-term, condition-ends, term-ends, some-ends, aggregate-ends, conditions-ends, terms-ends, conditions-fit, terms-fit, conditions-stop, conditions-go, terms-stop, terms-go, truth-is, not-is, both-is, compare-is, some-is, constant-is, attribute-is, aggregate-is, under-is, aggregated-is}
+use Rattle.conditions.specs.Answers.{bytesOf}
+use Rattle.conditions.proofs.Parts.{same-sized}
+use Rattle.conditions.proofs.Records.{not-room, both-room, compare-room, some-room, aggregate-room}
+use Rattle.conditions.proofs.Steps.{no-level, no-levelT, no-operator, no-function, no-condition, no-term, condition-ends, term-ends, some-ends, aggregate-ends, conditions-ends, terms-ends, conditions-fit, terms-fit, conditions-stop, conditions-go, terms-stop, terms-go, truth-is, not-is, both-is, compare-is, some-is, constant-is, attribute-is, aggregate-is, under-is, aggregated-is}
 use borrow.Author.Needs.{needs}
 use Prim.Native.Nat.{ℕ, _+_, _*_, _<_}
 use borrow.Fn.Kinds.{In}
 use borrow.Fn.PlainCycle.{Measures, is, falls, and}
-use Rattle.reader.proofs.aggregate.Reads as aggregate
-use Rattle.reader.proofs.aggregate.Kinds as aggregate-kinds
-use Rattle.reader.proofs.+aggregate+condition+conditions+some+term+terms.Lts-aggregate as aggregate-lts
-use Rattle.reader.proofs.condition.Reads as condition
-use Rattle.reader.proofs.condition.Kinds as condition-kinds
-use Rattle.reader.proofs.+aggregate+condition+conditions+some+term+terms.Lts-condition as condition-lts
-use Rattle.reader.proofs.conditions.Reads as conditions
-use Rattle.reader.proofs.conditions.Kinds as conditions-kinds
-use Rattle.reader.proofs.+aggregate+condition+conditions+some+term+terms.Lts-conditions as conditions-lts
-use Rattle.reader.proofs.some.Reads as some
-use Rattle.reader.proofs.some.Kinds as some-kinds
-use Rattle.reader.proofs.+aggregate+condition+conditions+some+term+terms.Lts-some as some-lts
-use Rattle.reader.proofs.term.Reads as term
-use Rattle.reader.proofs.term.Kinds as term-kinds
-use Rattle.reader.proofs.+aggregate+condition+conditions+some+term+terms.Lts-term as term-lts
-use Rattle.reader.proofs.terms.Reads as terms
-use Rattle.reader.proofs.terms.Kinds as terms-kinds
-use Rattle.reader.proofs.+aggregate+condition+conditions+some+term+terms.Lts-terms as terms-lts
+use Rattle.conditions.proofs.aggregate.Reads as aggregate
+use Rattle.conditions.proofs.aggregate.Kinds as aggregate-kinds
+use Rattle.conditions.proofs.+aggregate+condition+conditions+some+term+terms.Lts-aggregate as aggregate-lts
+use Rattle.conditions.proofs.condition.Reads as condition
+use Rattle.conditions.proofs.condition.Kinds as condition-kinds
+use Rattle.conditions.proofs.+aggregate+condition+conditions+some+term+terms.Lts-condition as condition-lts
+use Rattle.conditions.proofs.conditions.Reads as conditions
+use Rattle.conditions.proofs.conditions.Kinds as conditions-kinds
+use Rattle.conditions.proofs.+aggregate+condition+conditions+some+term+terms.Lts-conditions as conditions-lts
+use Rattle.conditions.proofs.some.Reads as some
+use Rattle.conditions.proofs.some.Kinds as some-kinds
+use Rattle.conditions.proofs.+aggregate+condition+conditions+some+term+terms.Lts-some as some-lts
+use Rattle.conditions.proofs.term.Reads as term
+use Rattle.conditions.proofs.term.Kinds as term-kinds
+use Rattle.conditions.proofs.+aggregate+condition+conditions+some+term+terms.Lts-term as term-lts
+use Rattle.conditions.proofs.terms.Reads as terms
+use Rattle.conditions.proofs.terms.Kinds as terms-kinds
+use Rattle.conditions.proofs.+aggregate+condition+conditions+some+term+terms.Lts-terms as terms-lts
 use Rattle.kinds.proofs.is_function.Reads as is-function-reads
 use Rattle.kinds.proofs.is_operator.Reads as is-operator-reads
 use Rattle.kinds.proofs.read.Reads as read-reads
 use Rattle.kinds.proofs.record_length.Reads as record-length-reads
 use Rattle.kinds.proofs.tail.Reads as tail-reads
-use Rattle.reader.proofs.also.Reads as also-reads
-use Rattle.reader.proofs.leaf.Reads as leaf-reads
-use Rattle.reader.proofs.parent.Reads as parent-reads
+use Rattle.conditions.proofs.also.Reads as also-reads
+use Rattle.conditions.proofs.leaf.Reads as leaf-reads
+use Rattle.conditions.proofs.parent.Reads as parent-reads
 use Rattle.scope.proofs.attribute.Reads as attribute-reads
 use Rattle.scope.proofs.bind.Reads as bind-reads
 use Rattle.scope.proofs.entry.Reads as entry-reads
 use Rattle.scope.proofs.has.Reads as has-reads
 use Rattle.scope.proofs.known.Reads as known-reads
 use Rattle.scope.proofs.put.Reads as put-reads
-use Rattle.reader.proofs.+aggregate+condition+conditions+some+term+terms.{statement}
-use Rattle.reader.proofs.+aggregate+condition+conditions+some+term+terms.Tie.{close}
+use Rattle.conditions.proofs.+aggregate+condition+conditions+some+term+terms.{statement}
+use Rattle.conditions.proofs.+aggregate+condition+conditions+some+term+terms.Tie.{close}
 
 abbrev μ-aggregate : Measures 3 aggregate-kinds.ps ℕ
 μ-aggregate κs a = 2 * (a .1 .1 .1 .0) + 1

@@ -12,10 +12,10 @@ use Rattle.model.specs.Scope.{Scope, inScope, inScopeT}
 use Rattle.model.proofs.Reading.{read-encode, read-encodeT, read-inverse, read-inverseT}
 use Rattle.model.proofs.Sizes.{size, sizeT, size-encode, size-encodeT}
 use Rattle.sizes.proofs.Decoding.{condition-rest, term-rest}
-use Rattle.reader.specs.declared.Reading.{Reading}
-use Rattle.reader.specs.declared.Reading.the-variants.{Whole, Refused}
-use Rattle.reader.specs.Answers.{answer, conditionReading, termReading}
-use Rattle.reader.proofs.Parts.{never, bytes-same, scope-same}
+use Rattle.conditions.specs.declared.Reading.{Reading}
+use Rattle.conditions.specs.declared.Reading.the-variants.{Whole, Refused}
+use Rattle.conditions.specs.Answers.{answer, conditionReading, termReading}
+use Rattle.conditions.proofs.Parts.{never, bytes-same, scope-same}
 
 -- the condition, or the term, of n bytes at p, in scope where b says so
 pub record Found (sh : Shape) (limit l : ℕ) (σ : Scope) (q : List ℕ) (p n : ℕ) (b : Bool) : Type 0 where

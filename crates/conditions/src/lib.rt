@@ -7,7 +7,7 @@ ghost use Prim.Native.Nat.{_+_, _≤_, _<_};
 ghost use lib.ListN.{length, drop};
 ghost use Rattle.sizes.specs.Measured.{store, leaves, conditionTable, termTable};
 ghost use Rattle.scope.specs.Reach.{scopeOf, shapeIn};
-ghost use Rattle.reader.specs.Answers.{held, grown, bytesOf, kept, conditionReading, termReading, someReading, aggregateReading, conditionsReading, termsReading, sizeOf, twoMeasured};
+ghost use Rattle.conditions.specs.Answers.{held, grown, bytesOf, kept, conditionReading, termReading, someReading, aggregateReading, conditionsReading, termsReading, sizeOf, twoMeasured};
 
 pub enum Reading {
     // its bytes, and whether it is in scope

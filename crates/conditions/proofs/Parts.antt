@@ -13,9 +13,9 @@ use Rattle.sizes.specs.declared.Size.{Size}
 use Rattle.sizes.specs.declared.Size.the-variants as S
 use Rattle.sizes.specs.Measured.{Measured, leaves, onward, children, stored, measured, sizeRead}
 use Rattle.sizes.proofs.Reader.{Taken}
-use Rattle.reader.specs.declared.Reading.{Reading}
-use Rattle.reader.specs.declared.Reading.the-variants.{Whole, Refused}
-use Rattle.reader.specs.Answers.{answer, Pair, two, both, sizeOf, bytesOf, held, grown, kept}
+use Rattle.conditions.specs.declared.Reading.{Reading}
+use Rattle.conditions.specs.declared.Reading.the-variants.{Whole, Refused}
+use Rattle.conditions.specs.Answers.{answer, Pair, two, both, sizeOf, bytesOf, held, grown, kept}
 
 -- an answer is not two things
 pub never : {X : Type 0} (n : ℕ) (b : Bool) → Whole n b ≡ Refused → X

@@ -30,11 +30,11 @@ use Rattle.sizes.proofs.Steps.{zero-is, wrong, whole}
 use Rattle.scope.specs.Reach.{scopeOf, someInScope, aggregateInScope}
 use Rattle.scope.proofs.Steps.{known-below}
 use Rattle.scope.proofs.Tables.{scope-set, scope-one}
-use Rattle.reader.specs.declared.Reading.{Reading}
-use Rattle.reader.specs.declared.Reading.the-variants.{Whole, Refused}
-use Rattle.reader.specs.Answers.{answer, two, both, conditionReading, termReading, someReading, aggregateReading, conditionsReading, termsReading, twoMeasured, sizeOf, bytesOf, held, grown, kept}
-use Rattle.reader.proofs.Parts.{answer-size, answer-refused, bytes-fit, wrap, two-fits, two-then, two-stop, two-go, one-inner, inner-stop, inner-go, parent-is}
-use Rattle.reader.proofs.Records.{begins, truth, joining, truth-at, join-at, lengths}
+use Rattle.conditions.specs.declared.Reading.{Reading}
+use Rattle.conditions.specs.declared.Reading.the-variants.{Whole, Refused}
+use Rattle.conditions.specs.Answers.{answer, two, both, conditionReading, termReading, someReading, aggregateReading, conditionsReading, termsReading, twoMeasured, sizeOf, bytesOf, held, grown, kept}
+use Rattle.conditions.proofs.Parts.{answer-size, answer-refused, bytes-fit, wrap, two-fits, two-then, two-stop, two-go, one-inner, inner-stop, inner-go, parent-is}
+use Rattle.conditions.proofs.Records.{begins, truth, joining, truth-at, join-at, lengths}
 
 -- an answer with its table is what is measured
 module _ (sh : Shape) (limit l : ℕ) (σ : Scope) (q : List ℕ) (p : ℕ) (z : List ℕ) where

@@ -1,9 +1,9 @@
 use borrow.Author.Needs.{needs}
-use Rattle.reader.proofs.Parts.{also-not, also-yes}
-use Rattle.reader.proofs.also.Statement.{statement}
-use Rattle.reader.proofs.also.Tie as tie
-use Rattle.reader.proofs.also.Reads as reads
-use Rattle.reader.proofs.also.Lts as lts
+use Rattle.conditions.proofs.Parts.{also-not, also-yes}
+use Rattle.conditions.proofs.also.Statement.{statement}
+use Rattle.conditions.proofs.also.Tie as tie
+use Rattle.conditions.proofs.also.Reads as reads
+use Rattle.conditions.proofs.also.Lts as lts
 
 enum-known-r : tie.Need-enum-known-r
 enum-known-r c = search needs

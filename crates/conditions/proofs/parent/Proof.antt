@@ -2,12 +2,12 @@ use borrow.Author.Needs.{needs}
 use native.Mathlib.Omega.{arith}
 use mathlib.Core.Path.{_≡_, refl, sym, ap, _∙_}
 use denote.Ref.{now}
-use Rattle.reader.specs.Answers.{bytesOf, grown, kept}
-use Rattle.reader.proofs.parent.Statement.{statement}
-use Rattle.reader.proofs.parent.Tie as tie
-use Rattle.reader.proofs.parent.Reads as reads
-use Rattle.reader.proofs.parent.Lts as lts
-use Rattle.reader.proofs.leaf.Reads as leaf-reads
+use Rattle.conditions.specs.Answers.{bytesOf, grown, kept}
+use Rattle.conditions.proofs.parent.Statement.{statement}
+use Rattle.conditions.proofs.parent.Tie as tie
+use Rattle.conditions.proofs.parent.Reads as reads
+use Rattle.conditions.proofs.parent.Lts as lts
+use Rattle.conditions.proofs.leaf.Reads as leaf-reads
 
 enum-known-children : tie.Need-enum-known-children
 enum-known-children c = search needs
