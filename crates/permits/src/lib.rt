@@ -1,7 +1,7 @@
 // The permit list: its checks 20 to 23 from one reading, and which of its permits apply.
 // To find which apply permits are found by a flat walk: inside a condition no record has their kind.
-use kinds::Record;
 use conditions::Reading;
+use kinds::Record;
 ghost use mathlib.Core.Path.{_≡_};
 ghost use mathlib.Core.Bool.{false, cond, not, _&&_, _||_};
 ghost use mathlib.Core.List.{_∷_};

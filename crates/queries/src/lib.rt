@@ -1,8 +1,8 @@
 // The checks of a query (30, 31, 32), and its table of sizes, from one reading. Only where it finds no query within the limits does the grammar say
 // whether the query is ill formed or too large.
+use conditions::Reading;
 use grammar::Layout;
 use grammar::Shape;
-use conditions::Reading;
 ghost use mathlib.Core.Path.{_≡_};
 ghost use mathlib.Core.Bool.{cond, true, false};
 ghost use Prim.Native.Nat.{_≤_, _<_};
@@ -120,7 +120,8 @@ fn targets(
     if left == 0 {
         return Run::Refused;
     }
-    let Reading::Whole(n, inside) = conditions::term(q, z, at, level, catalogue, limit, reach) else {
+    let Reading::Whole(n, inside) = conditions::term(q, z, at, level, catalogue, limit, reach)
+    else {
         return Run::Refused;
     };
     let Run::Whole(count, end, others) = targets(
@@ -181,8 +182,15 @@ fn rest(
     if targets == 0 {
         return Found::Refused;
     }
-    let Reading::Whole(n, last) = conditions::condition(q, z, condition, level, catalogue, limit, reach)
-    else {
+    let Reading::Whole(n, last) = conditions::condition(
+        q,
+        z,
+        condition,
+        level,
+        catalogue,
+        limit,
+        reach,
+    ) else {
         return Found::Refused;
     };
     if condition + n != q.len() {
