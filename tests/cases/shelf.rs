@@ -233,14 +233,15 @@ fn average_as_a_target_is_rounded_as_tills_do() {
 #[test]
 fn aggregates_over_no_rows() {
     for function in 1..=5 {
-        let expected: &[i64] = if function <= 2 { &[0] } else { &[] };
+        // Change 2: COUNT and SUM are 0, the others have no value.
+        let cells: &[i64] = if function <= 2 { &[0] } else { &[] };
         assert_eq!(
             evaluated(&[48, 1, 0, 0], &[], &[34, function, 0, 0, 0, 16, 16]),
-            expected
+            cells
         );
         assert_eq!(
             evaluated(&[48, 1, 1, 0], &[9], &[34, function, 0, 0, 0, 17, 16]),
-            expected
+            cells
         );
     }
 }
