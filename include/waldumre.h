@@ -172,7 +172,8 @@ typedef struct {
 #define WALDUMRE_OP_GE 6
 
 /* Functions of an aggregate. AVE is exact in a comparison; as a target it is rounded to the nearer
- * whole number, and from halfway to the one further from zero. Over no rows each is 0. */
+ * whole number, and from halfway to the one further from zero. Over no rows COUNT and SUM are 0; the
+ * others have no value: a comparison with one is false, and with one as a target there is no row. */
 #define WALDUMRE_FN_COUNT 1
 #define WALDUMRE_FN_SUM 2
 #define WALDUMRE_FN_AVE 3

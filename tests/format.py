@@ -110,7 +110,7 @@ def last_line(print_of, function, values):
     data = b"".join(value.to_bytes(4, "little", signed=True) for value in values)
     printed = print_of({"catalogue": [49, 1, len(values) % 256, len(values) // 256], "values": data,
                         "question": [34, function, 0, 0, 0, 16, 16]})
-    return printed.split("\n")[-2]
+    return printed.split("\n")[-2] if printed.startswith("rows 1\n") else "no value"
 
 
 def functions(print_of):
@@ -122,7 +122,8 @@ def functions(print_of):
     for row in rows:
         in_header(f"function {row[0]}", constants(row[4]), [int(row[0])])
         same(f"{row[1]} of {values}", str(means[row[1]]), last_line(print_of, int(row[0]), values))
-        same(f"{row[1]} over no rows", row[3], last_line(print_of, int(row[0]), []))
+        empty = print_of({"catalogue": [49, 1, 0, 0], "question": [34, int(row[0]), 0, 0, 0, 16, 16]})
+        same(f"{row[1]} over no rows", row[3], "no value" if empty.startswith("rows 0\n") else empty.split("\n")[-2])
     for total, count, cell in table("table: averages"):
         total, count = int(total), int(count)
         rounded = (2 * abs(total) + count) // (2 * count) * (-1 if total < 0 else 1)
