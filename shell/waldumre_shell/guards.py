@@ -60,7 +60,7 @@ def conditions(guard, count):
 def name_copies(guards, applying, marks):
     """Gives the variables of the permits' copies symbols: those of the permits where they are free."""
     taken = set(marks.values())
-    for variable, guard in guards.nodes.items():
+    for variable, guard in sorted(guards.nodes.items(), key=lambda item: item[1].at):
         permits = applying[variable]
         if not permits:
             raise Mismatch()
