@@ -40,7 +40,7 @@ def because(shop, user, text, number):
     if number == 33:
         return no_permit(shop, user, text)
     if number in (30, 31):
-        return too_large(shop, text)
+        return too_large(shop, text, number)
     if number == 41:
         return f"the answer has more rows than the {ROOM} cells that this shell lends; these are the first"
     return shop.engine.library.waldumre_refusal_text(number).decode()
@@ -64,12 +64,14 @@ def no_permit(shop, user, text):
     return shop.engine.library.waldumre_refusal_text(33).decode()
 
 
-def too_large(shop, text):
-    """What there is too much of."""
+def too_large(shop, text, number):
+    """What there is too much of: at 30 bytes, at 31 something else. A text that was read is well formed."""
     _, records = shop.engine.read(text.encode(), shop.names)
+    if number == 30:
+        return f"the question is {len(records)} bytes of records; 1024 are the most"
     parts = question(records)
     levels = max(node.level for tree in trees(parts) for node in tree.all())
     for (what, most), have in zip(LIMITS, (len(parts[0]), len(parts[1]), len(variables(parts)), levels)):
         if have > most:
             return f"the question has {have} {what}s; {most} are the most"
-    return f"the question is {len(records)} bytes of records; 1024 are the most"
+    return shop.engine.library.waldumre_refusal_text(number).decode()

@@ -1,0 +1,149 @@
+"""The shell at a terminal of its own: typing, completion, history, Ctrl-C, leaving."""
+import os
+import pty
+import re
+import select
+import signal
+import sys
+import time
+
+from common import Copy, HARBOUR, SHELL, fail
+
+ENTER, TAB, UP, DELETE, CTRL_A, CTRL_C, CTRL_D, CTRL_E = "\r", "\t", "\033[A", "\177", "\001", "\003", "\004", "\005"
+PATIENCE = 20
+
+
+class Terminal:
+    def __init__(self, folder, *words):
+        self.child, self.line = pty.fork()
+        if self.child == 0:
+            os.environ.update(TERM="xterm", COLUMNS="200", LINES="50", INPUTRC="/dev/null")
+            os.environ.pop("NO_COLOR", None)
+            os.execv(sys.executable, [sys.executable, "-B", str(SHELL), str(folder), *words])
+        self.seen = ""
+
+    def type(self, text):
+        os.write(self.line, text.encode())
+
+    def until(self, wanted):
+        """Waits for a text; gives what came up to it, and forgets it."""
+        end = time.monotonic() + PATIENCE
+        while wanted not in self.seen:
+            if not select.select([self.line], [], [], max(0, end - time.monotonic()))[0]:
+                fail(f"no {wanted!r} came, but\n{self.seen}")
+            try:
+                self.seen += os.read(self.line, 65536).decode()
+            except OSError:
+                fail(f"it ended before {wanted!r} came, after\n{self.seen}")
+        before, _, self.seen = self.seen.partition(wanted)
+        return before
+
+    def asks(self, text, *wanted):
+        """Types a line; what is wanted must come before the next prompt."""
+        self.type(text + ENTER)
+        for each in wanted:
+            self.until(each)
+        self.until("=> ")
+
+    def status(self):
+        end = time.monotonic() + PATIENCE
+        while time.monotonic() < end:
+            done, status = os.waitpid(self.child, os.WNOHANG)
+            if done:
+                return os.waitstatus_to_exitcode(status)
+            if select.select([self.line], [], [], 0.1)[0]:
+                try:
+                    os.read(self.line, 65536)
+                except OSError:
+                    pass
+        os.kill(self.child, signal.SIGKILL)
+        return fail("it did not leave")
+
+
+def typing():
+    shell = Terminal(HARBOUR)
+    shell.until("Users: brand, manager, label and trainer.")
+    shell.until("brand=> ")
+    shell.type("RANGE OFFER(X)" + ENTER)
+    shell.until("brand-> ")
+    shell.type("RETRIEVE W: X.ARTICLE, X.PRICE: X.PRICE < 50" + ENTER)
+    shell.until("brand-> ")
+    shell.asks("", "ROLLS   |    45", "(1 row)")
+    # what the permits added is coloured, and braces are for elsewhere
+    shell.type("\\explain" + ENTER)
+    said = shell.until("brand=> ")
+    if "{" in said or not re.search("\033\\[1;32m\\^ .*BRAND = ALPEN", said):
+        fail(f"no colour in\n{said}")
+    # Ctrl-C drops what was typed
+    shell.type("RANGE NONSENSE" + ENTER)
+    shell.until("brand-> ")
+    shell.type(CTRL_C)
+    shell.until("dropped")
+    shell.until("brand=> ")
+    # history: a whole question is one entry; the command before it is another
+    shell.type(UP + UP + ENTER)
+    shell.until("RANGE OFFER(X) RETRIEVE W: X.ARTICLE, X.PRICE: X.PRICE < 50;")
+    shell.until("ROLLS   |    45")
+    shell.until("brand=> ")
+    # line editing: back to the start of the line, and the last letter taken away
+    shell.type("ser managerX" + CTRL_A + "\\u" + CTRL_E + DELETE + ENTER)
+    shell.until("manager=> ")
+    return shell
+
+
+def completion(shell):
+    shell.type("\\us" + TAB)
+    shell.until("\\user ")
+    shell.type("tra" + TAB + ENTER)
+    shell.until("trainer=> ")
+    shell.type("RANGE OFF" + TAB)
+    shell.until("OFFER")
+    shell.type("(X) RET" + TAB)
+    shell.until("RETRIEVE")
+    shell.type(" W: X.PRI" + TAB)
+    shell.until("PRICE")
+    shell.type(": X.BRAND = MILL" + TAB + ";" + ENTER)
+    shell.until("289")
+    shell.until("(2 rows)")
+    shell.until("trainer=> ")
+    shell.asks("\\timing", "Timing is on.")
+    shell.asks("RANGE OFFER(X) RETRIEVE W: COUNT(X.RANK);", "10", "Time: ", " ms")
+    shell.asks("RANGE OFFER(X) RETRIEVE W: COUNT(X.RANKE);", "refused 51", "did you mean RANK?")
+    shell.type("\\quit" + ENTER)
+    if shell.status() != 0:
+        fail("\\quit did not leave with 0")
+
+
+def interrupted():
+    """Ctrl-C during a long question: no answer, and the shell goes on."""
+    with Copy() as copy:
+        copy.write("basket.csv", "ARTICLE,PIECES\n" + "".join(f"MILK,{number}\n" for number in range(1024)))
+        shell = Terminal(copy.folder)
+        shell.until("brand=> ")
+        shell.type("RANGE BASKET(A, B, C, D) RETRIEVE W: A.PIECES: A.PIECES < B.PIECES ^ B.PIECES < C.PIECES ^ C.PIECES < D.PIECES"
+                   " ^ D.PIECES < A.PIECES;" + ENTER)
+        shell.until(";")
+        time.sleep(1)
+        begun = time.monotonic()
+        shell.type(CTRL_C)
+        shell.until("stopped; there is no answer")
+        shell.until("brand=> ")
+        if time.monotonic() - begun > 5:
+            fail("the question went on for more than 5 seconds")
+        shell.asks("RANGE BASKET(A) RETRIEVE W: SUM(A.PIECES);", "523776", "(1 row)")
+        shell.type(UP + UP)
+        shell.until("D.PIECES < A.PIECES;")
+        shell.type(CTRL_C)
+        shell.until("=> ")
+        shell.type(CTRL_D)
+        if shell.status() != 0:
+            fail("Ctrl-D did not leave with 0")
+
+
+def main():
+    completion(typing())
+    interrupted()
+    print("terminal: all passed")
+
+
+main()
