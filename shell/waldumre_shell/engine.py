@@ -3,6 +3,7 @@
 Every decision on a question is taken in here, that is, in the library: what it means, what is permitted, what the answer is."""
 import ctypes
 import os
+import re
 import time
 from pathlib import Path
 from typing import List, NamedTuple, Tuple
@@ -41,10 +42,15 @@ def places(name):
     if named:
         yield named if name == "waldumre" else str(Path(named).with_name(Path(named).name.replace("libwaldumre", "lib" + name)))
         return
-    here = Path(__file__).resolve().parent
-    yield from sorted(map(str, here.parents[1].glob(f"lib{name}.so.*")))            # PREFIX/lib/waldumre/waldumre_shell
-    yield from sorted(map(str, here.parents[1].glob(f"target/package/lib{name}.so.*")))
+    above = Path(__file__).resolve().parents[2]  # PREFIX/lib as installed, or the repository
+    for pattern in (f"lib{name}.so.*", f"target/package/lib{name}.so.*"):
+        yield from map(str, sorted(above.glob(pattern), key=version_of, reverse=True))
     yield f"lib{name}.so"
+
+
+def version_of(path):
+    """libwaldumre.so.0.2.0 is older than libwaldumre.so.0.10."""
+    return [int(part) for part in re.findall("[0-9]+", path.name.partition(".so.")[2])]
 
 
 def load(name):

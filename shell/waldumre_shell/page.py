@@ -108,8 +108,7 @@ class Side:
             self.stopped = str(why)
 
     def section(self, other):
-        about = f": {self.user.about}" if self.user.about else ""
-        parts = [f"<section><h2>{escape(self.name + about)}</h2>"]
+        parts = [f"<section><h2>{escape(self.name)}</h2><p class=about>{escape(self.user.about) or '&nbsp;'}</p>"]
         if self.shelf:
             parts.append(self.labels(other.shelf))
         if self.stopped:

@@ -3,6 +3,7 @@ import csv
 import difflib
 import io
 import json
+from itertools import zip_longest
 
 ALIGNED = 2000  # rows; longer answers are set side by side as they come
 
@@ -66,14 +67,14 @@ def aligned(left, right):
         if step == "equal":
             pairs += [(row, row, True) for row in left[a:b]]
         else:
-            pairs += [(row, None, False) for row in left[a:b]] + [(None, row, False) for row in right[c:d]]
+            pairs += [(one, other, False) for one, other in zip_longest(left[a:b], right[c:d])]
     return pairs
 
 
 def beside(sides, colour):
     """Two answers, each (title, heads, rows): rows that only one side has are set apart, by colour or by a star."""
     shapes = [columns_of(heads, rows) for _, heads, rows in sides]
-    wide = [max(len(title), sum(widths) + 3 * len(widths) - 1) for (title, _, _), (widths, _) in zip(sides, shapes)]
+    wide = [max(len(title), len(count(rows)), sum(widths) + 3 * len(widths) - 1) for (title, _, rows), (widths, _) in zip(sides, shapes)]
     star = "" if colour else "  "
 
     def across(left, right):
