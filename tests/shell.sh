@@ -10,6 +10,7 @@ if [[ -z ${WALDUMRE_LIBRARY:-} ]]; then
   need make gcc
   make --silent all
 fi
+examples/shop.sh | diff - examples/shop.expected
 for test in folders script terminal readback class page; do
   python3 -B "tests/shell/$test.py"
 done

@@ -68,7 +68,9 @@ def run(given):
         return serve(shop, open_shop(given.beside) if given.beside else None, given.port, given.seconds)
     session = Session(shop, user, Screen(), given.format, given.seconds)
     if given.c:
-        script(session, [line for text in given.c for line in [*text.split("\n"), ""]], given.echo)
+        for text in given.c:
+            if not script(session, text.split("\n"), given.echo):
+                break
     elif sys.stdin.isatty():
         keyboard.run(session, banner(shop))
         return 0
@@ -88,5 +90,6 @@ def script(session, lines, echo):
         if echo:
             session.screen.say([f"{session.user.name}{'->' if session.pending() else '=>'} {line}".rstrip()])
         if not session.feed(line):
-            return
+            return False
     session.finish()
+    return True

@@ -1,4 +1,6 @@
 """Damaged folders: each kind of damage gets its sentence, with file, line and column; never a traceback."""
+import random
+
 from common import Copy, HARBOUR, fail, run, same
 
 from waldumre_shell.bad import Bad
@@ -140,6 +142,21 @@ def complaint(copy):
     return "opened"
 
 
+def drawn(count):
+    """Bytes gone, doubled or changed anywhere in the folder: a sentence, or a folder that opens."""
+    luck, opened = random.Random(23), 0
+    with Copy() as copy:
+        files = sorted(copy.folder.iterdir())
+        for _ in range(count):
+            path = files[luck.randrange(len(files))] if luck.random() < 0.5 else copy.folder / TOML
+            data = path.read_bytes()
+            here, piece = luck.randrange(len(data)), luck.choice([b"", b"\0", b"\xff", b'"', b"[", b"=", b"\n", b",", b"7", b"A", b"'", b"}", b"\r", b"9999999999"])
+            path.write_bytes(data[:here] + piece + data[here + luck.choice((0, 1, 1, 2, 40)):])
+            opened += complaint(copy) == "opened"
+            path.write_bytes(data)
+    return opened
+
+
 def main():
     with Copy() as good:
         same("the practice shop", complaint(good), "opened")
@@ -153,6 +170,8 @@ def main():
                 print(f"{name}\n  found:  {found}\n  wanted: {wanted}")
     if wrong:
         fail(f"{wrong} sentences are others")
+    count = 400
+    opened = drawn(count)
     # the command says the same, with status 2, and changes nothing
     with Copy() as copy:
         copy.change(OFFER, FIRST, "1001,MILK,ALPEN,1.09,1")
@@ -162,7 +181,7 @@ def main():
         same("the folder afterwards", sorted((path.name, path.read_bytes()) for path in copy.folder.iterdir()), before)
     same("no folder", run("nowhere", "-c", r"\permits"), (2, "", "waldumre: nowhere: there is no such folder\n"))
     same("a file for a folder", run(HARBOUR / TOML, "-c", r"\permits")[0], 2)
-    print(f"folders: {len(DAMAGE)} kinds of damage, each with its sentence")
+    print(f"folders: {len(DAMAGE)} kinds of damage, each with its sentence; of {count} drawn ones {opened} still open, the others get one too")
 
 
 main()

@@ -1,9 +1,13 @@
 """Questions from a file or the command line: what is printed, in which form, and the exit status."""
 import json
+import random
 import resource
+import subprocess
+import sys
 
-from common import Copy, HARBOUR, fail, run, same
+from common import Copy, HARBOUR, SHELL, fail, run, same
 
+SEED = 23
 CHEAP = "RANGE OFFER(X) RETRIEVE W: X.ARTICLE, X.PRICE: X.PRICE < 90"
 ROWS = [["YOGURT", 79], ["YOGURT", 89], ["ROLLS", 45]]
 TABLE = " ARTICLE | PRICE\n---------+-------\n YOGURT  |    79\n YOGURT  |    89\n ROLLS   |    45\n(3 rows)\n"
@@ -50,6 +54,7 @@ def statuses():
 
 def refusals():
     """Each number that an asker can cause, with place or name."""
+    found = []
     for text, wanted in (
             ("RANGE OFFER(X) RETRIEVE W: X.PRICE:", "refused 50: line 1, column 36: the name of a column, a value or an aggregate is expected, but the text ends"),
             ("RANGE OFFER(X)\n  RETRIEVE W: X.PRICE\n  X.RANK = 1", "refused 50: line 3, column 3: ',' or ':' or the end is expected, but here stands X"),
@@ -73,8 +78,24 @@ def refusals():
             ("RANGE PARTNER(X) RETRIEVE W: X.BRAND", "refused 33: the question uses BRAND of X, a row of PARTNER, and brand has no permit over PARTNER"),
             ("RANGE BASKET(X) RETRIEVE W: X.ARTICLE: SOME S IN STAFF (1 = 1)",
              "refused 33: the question uses no column of S in SOME S IN STAFF, a row of STAFF, and brand has no permit over STAFF")):
-        status, out, err = run(HARBOUR, given=text)
-        same(text, (status, out, err.split("\n")[0]), (1, "", wanted))
+        found.append((text, wanted))
+    status, out, err = run(HARBOUR, given="\n\n".join(text for text, _ in found))
+    same("the status after refusals", (status, out), (1, ""))
+    said = [line for line in err.split("\n") if line.startswith("refused")]
+    for (text, wanted), line in zip(found, said, strict=True):
+        same(text, line, wanted)
+
+
+def nonsense():
+    """Whatever is typed: an answer, a refusal or a complaint, and the session goes on."""
+    luck = random.Random(SEED)
+    signs = "RANGEOFX().:;,^=#<>-19 \\\t\0\x7f\u00e4\u2028\u1f4a\r"
+    lines = ["".join(luck.choice(signs) for _ in range(luck.randint(0, 30))) for _ in range(400)]
+    lines += [f"\\{name} {''.join(luck.choice(signs) for _ in range(5))}" for name in ("user", "as", "explain", "permits", "bytes", "as brand trainer") * 5]
+    status, out, err = run(HARBOUR, given="\n".join(lines) + "\n\n" + CHEAP)
+    same("nonsense", (status, out[-len(TABLE):]), (2, TABLE))
+    ran = subprocess.run([sys.executable, "-B", str(SHELL), str(HARBOUR)], input=bytes(range(256)) * 3, capture_output=True, timeout=60)
+    same("bytes that are no text", (ran.returncode, b"Traceback" in ran.stderr), (1, False))
 
 
 def large():
@@ -93,6 +114,7 @@ def main():
     forms()
     statuses()
     refusals()
+    nonsense()
     large()
     script = f"\\relations\n\\permits\n{CHEAP};\n\\explain\n\\bytes\n\\as brand ../hill:brand\n\\user manager\n{REFUSED};\n\\help\n"
     same("the same input", run(HARBOUR, given=script), run(HARBOUR, given=script))
