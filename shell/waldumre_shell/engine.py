@@ -114,17 +114,21 @@ class Engine(Collection):
         rows = [tuple(cells[at:at + width]) for at in range(0, len(cells), width)] if width else []
         return Reply(outcome.number, rows, bytes(rewritten[:outcome.length]), seconds)
 
-    def label_book(self, permits, question, cells=ROOM):
+    def label_book(self, library, permits, question, cells=ROOM):
         """What 500 labels show, by the library above the engine."""
-        _, library = load("waldumre_book")
-        library.waldumre_label_book.argtypes = lent(BYTE, VALUE, BYTE, BYTE, BYTE, CELL, CELL, BYTE)
-        library.waldumre_label_book.restype = Outcome
         rewritten, answer = (BYTE * REWRITTEN_BYTES)(), (CELL * cells)()
         offers, display = (CELL * LABELS)(), (BYTE * (LABELS * DISPLAY))()
         outcome = library.waldumre_label_book(*self._collection(), *_bytes(permits), *_bytes(question), rewritten, REWRITTEN_BYTES,
                                               answer, cells, offers, LABELS, display, LABELS * DISPLAY)
         text = bytes(display).decode("ascii")
         return Book(outcome.number, list(offers), [text[at:at + DISPLAY] for at in range(0, len(text), DISPLAY)])
+
+
+def book_library():
+    _, library = load("waldumre_book")
+    library.waldumre_label_book.argtypes = lent(BYTE, VALUE, BYTE, BYTE, BYTE, CELL, CELL, BYTE)
+    library.waldumre_label_book.restype = Outcome
+    return library
 
 
 def probe(stored_attributes):

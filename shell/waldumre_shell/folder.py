@@ -5,7 +5,7 @@ from typing import Dict, List, NamedTuple
 
 from waldumre import STORED, WORKSPACE
 
-from .bad import Bad, listed, shown
+from .bad import Bad, at, listed, shown
 from .engine import Engine
 from .names import ROW, fault, name_list, numbered
 from .permits import User, read_user
@@ -137,12 +137,17 @@ def vocabulary(tree, relations, places):
             raise Bad(f"{here}: {shown(word)} {fault(word)}")
         if word in words[:number]:
             raise Bad(f"{here}: {word} is listed twice in names")
-    for each in relations:
-        for row in each.rows:
-            for column, cell in enumerate(row):
-                if isinstance(cell, str) and cell not in words:
-                    raise Bad(f"{each.file} ({each.columns[column]}): {cell} is not among the names of {FILE}; add it there")
+    unlisted(relations, set(words))
     return numbered(words)
+
+
+def unlisted(relations, words):
+    for each in relations:
+        for line, row in zip(each.lines, each.rows):
+            for number, cell in enumerate(row):
+                if isinstance(cell, str) and cell not in words:
+                    place = at(each.file, line, number + 1, each.columns[number])
+                    raise Bad(f"{place}: {cell} is not among the names of {FILE}; add it there")
 
 
 def hold(engine, relations, names):

@@ -16,7 +16,7 @@ section { min-width: 0; border-top: 6px solid #333; padding-top: 16px; }
 .label { border: 3px solid #333; padding: 6px 10px; background: #fff; }
 .label b { display: block; font-size: 26px; } .label i { display: block; font: bold 38px "DejaVu Sans Mono", monospace; text-align: right; min-height: 53px; }
 .label small { font-size: 24px; color: #444; display: block; min-height: 34px; }
-.differs { background: #fe6; }
+.differs { background: #fe6; } tr.differs { font-weight: bold; } .label.differs { border-width: 6px; padding: 3px 7px; }
 table { border-collapse: collapse; font-size: 28px; } th, td { border: 2px solid #999; padding: 4px 14px; text-align: left; }
 td.number { text-align: right; font-family: "DejaVu Sans Mono", monospace; }
 pre { font: 24px/1.5 "DejaVu Sans Mono", monospace; white-space: pre-wrap; margin: 0; }

@@ -3,7 +3,6 @@ import argparse
 import os
 import sys
 
-from . import keyboard
 from .bad import Bad, listed
 from .folder import open_shop
 from .screen import Screen
@@ -72,11 +71,19 @@ def run(given):
             if not script(session, text.split("\n"), given.echo):
                 break
     elif sys.stdin.isatty():
-        keyboard.run(session, banner(shop))
+        typing(session, shop)
         return 0
     else:
         script(session, sys.stdin, given.echo)
     return session.status
+
+
+def typing(session, shop):
+    try:
+        from . import keyboard  # only here: readline is not needed for scripts
+    except ImportError:
+        raise Bad("this Python has no readline; put questions with -c or on standard input")
+    keyboard.run(session, banner(shop))
 
 
 def banner(shop):

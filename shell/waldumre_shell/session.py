@@ -250,7 +250,7 @@ def facts(variable):
 
 def reasons(shop, user, variable):
     """A variable of an explanation, in lines."""
-    uses = f"uses {listed(variable.uses)}" if variable.uses else "uses no column"
+    uses = f"uses {listed(variable.uses)} (its S)" if variable.uses else "uses no column (its S is empty)"
     lines = [f"{variable.said} over {variable.relation.name} {uses}."]
     if variable.relation.workspace:
         return lines + ["  It is a workspace, so no permit is needed and nothing is added."]

@@ -17,6 +17,7 @@ class Relation(NamedTuple):
     workspace: bool
     columns: List[str]
     rows: list          # of cells: numbers and names
+    lines: List[int]    # where each row stands in the file
     text: List[bool]    # for each column: does it hold names?
 
 
@@ -76,7 +77,7 @@ def cell_value(place, cell):
 
 def relation(path, file, name, workspace):
     """The relation of a file, or Bad with file, line and column."""
-    rows, columns, first = [], None, {}
+    rows, places, columns, first = [], [], None, {}
     for line, cells in lines(path, file):
         if columns is None:
             columns = header(file, line, cells)
@@ -94,6 +95,7 @@ def relation(path, file, name, workspace):
                           f"holds {'names' if kind else 'numbers'} (line {before}); a column holds the one or the other")
             row.append(value)
         rows.append(row)
+        places.append(line)
     if columns is None:
         raise Bad(f"{at(file, 1)}: the file is empty; its first line names the columns")
-    return Relation(name, file, workspace, columns, rows, [first.get(number, (False, 0))[0] for number in range(len(columns))])
+    return Relation(name, file, workspace, columns, rows, places, [first.get(number, (False, 0))[0] for number in range(len(columns))])

@@ -3,7 +3,7 @@ from typing import List, NamedTuple
 
 from .aside import aside
 from .ask import put
-from .engine import LABELS
+from .engine import LABELS, book_library
 from .refusals import refusal
 
 
@@ -26,9 +26,9 @@ def draw(shop, user, seconds):
         return Shelf([], hanging.refusal()[0])
     if len(hanging.heads) != 2:
         return Shelf([], "the question for labels in shop.toml needs two targets, label and article")
-    text = shop.shelf["offers"]
+    text, library = shop.shelf["offers"], book_library()
     number, records = shop.engine.read(text.encode(), shop.names)
-    book = None if number else aside(lambda: shop.engine.label_book(user.bytes(), records), seconds)
+    book = None if number else aside(lambda: shop.engine.label_book(library, user.bytes(), records), seconds)
     number = number or book.number
     labels = [(label, article) for label, article in hanging.rows if isinstance(label, int) and 0 <= label < LABELS]
     if number:

@@ -96,7 +96,7 @@ DAMAGE = [
     ("an open quotation mark", swap(OFFER, "1001,MILK", '1001,"MILK'), "offer.csv, line 11: unexpected end of data; a cell with a quotation mark is written in quotation marks, the mark twice"),
     ("1,025 rows", write("partner.csv", "BRAND\n" + "RIO\n" * 1025), "partner.csv, line 1026: row 1025; a relation has at most 1024 rows"),
     ("bytes that are no text", write(OFFER, b"NUMBER,ARTICLE\n1,\xff\n"), "offer.csv, line 2, column 3: byte 255 is not UTF-8; save the file as UTF-8 text"),
-    ("a name that is not listed", swap(OFFER, FIRST, "1001,PEAR,ALPEN,109,1"), "offer.csv (ARTICLE): PEAR is not among the names of shop.toml; add it there"),
+    ("a name that is not listed", swap(OFFER, FIRST, "1001,PEAR,ALPEN,109,1"), "offer.csv, line 2, column 2 (ARTICLE): PEAR is not among the names of shop.toml; add it there"),
     # names
     ("names that are no list", swap(TOML, 'names = ["ALPEN"', 'names = [7'), 'shop.toml, line 6, column 1: names is no list of names, as names = ["MILK", "TEA"]'),
     ("a listed name in small letters", swap(TOML, '"ANNA"', '"Anna"'), f"shop.toml, line 6, column 20: 'Anna' {NAMES}; write ANNA"),

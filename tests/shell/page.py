@@ -123,4 +123,5 @@ def main():
     print(said)
 
 
-main()
+if __name__ == "__main__":
+    main()

@@ -146,4 +146,5 @@ def main():
     print("terminal: all passed")
 
 
-main()
+if __name__ == "__main__":
+    main()
