@@ -15,9 +15,14 @@ def at(file, line=None, column=None, name=None):
     return place + (f" ({name})" if name else "")
 
 
+def printable(text):
+    """On one line, and with no sign that would steer a terminal."""
+    return "".join(sign if sign.isprintable() else "?" for sign in text)
+
+
 def shown(text, most=40):
-    """Any text from a file, safe to print on one line."""
-    plain = "".join(sign if sign.isprintable() else "?" for sign in str(text))
+    """A word from a file, in quotation marks."""
+    plain = printable(str(text))
     return f"'{plain}'" if len(plain) <= most else f"'{plain[:most]}..'"
 
 

@@ -8,7 +8,7 @@ import time
 from pathlib import Path
 from typing import List, NamedTuple, Tuple
 
-from waldumre import Collection, Outcome, REWRITTEN_BYTES, _bytes
+from waldumre import Collection, Outcome, REWRITTEN_BYTES
 
 from .bad import Bad
 
@@ -68,6 +68,11 @@ def lent(*kinds):
     return [part for kind in kinds for part in (ctypes.POINTER(kind), ctypes.c_size_t)]
 
 
+def given(data):
+    """Bytes as a slice."""
+    return (BYTE * len(data)).from_buffer_copy(data), len(data)
+
+
 BYTE, VALUE, CELL = ctypes.c_uint8, ctypes.c_int32, ctypes.c_int64
 
 
@@ -91,21 +96,21 @@ class Engine(Collection):
     def read(self, text, names):
         """The records of a text: the number of the refusal or 0, and the bytes."""
         records = (BYTE * RECORDS_BYTES)()
-        reading = self.library.waldumre_read_query(*_bytes(text), *_bytes(names), records, RECORDS_BYTES)
+        reading = self.library.waldumre_read_query(*given(text), *given(names), records, RECORDS_BYTES)
         return reading.number, bytes(records[:reading.length])
 
     def ask_text(self, permits, text, names, cells=ROOM):
         """Reads, guards and answers, in one call."""
         records, rewritten, answer = (BYTE * RECORDS_BYTES)(), (BYTE * REWRITTEN_BYTES)(), (CELL * cells)()
-        given = (*self._collection(), *_bytes(permits), *_bytes(text), *_bytes(names))
+        inputs = (*self._collection(), *given(permits), *given(text), *given(names))
         begun = time.perf_counter()
-        outcome = self.library.waldumre_ask_text(*given, records, RECORDS_BYTES, rewritten, REWRITTEN_BYTES, answer, cells)
+        outcome = self.library.waldumre_ask_text(*inputs, records, RECORDS_BYTES, rewritten, REWRITTEN_BYTES, answer, cells)
         return self._reply(outcome, answer, rewritten, time.perf_counter() - begun)
 
     def number_of(self, permits, question):
         """The number that ask gives, and nothing else."""
         rewritten, answer = (BYTE * REWRITTEN_BYTES)(), (CELL * 0)()
-        return self.library.waldumre_ask(*self._collection(), *_bytes(permits), *_bytes(question),
+        return self.library.waldumre_ask(*self._collection(), *given(permits), *given(question),
                                          rewritten, REWRITTEN_BYTES, answer, 0).number
 
     def _reply(self, outcome, answer, rewritten, seconds):
@@ -118,7 +123,7 @@ class Engine(Collection):
         """What 500 labels show, by the library above the engine."""
         rewritten, answer = (BYTE * REWRITTEN_BYTES)(), (CELL * cells)()
         offers, display = (CELL * LABELS)(), (BYTE * (LABELS * DISPLAY))()
-        outcome = library.waldumre_label_book(*self._collection(), *_bytes(permits), *_bytes(question), rewritten, REWRITTEN_BYTES,
+        outcome = library.waldumre_label_book(*self._collection(), *given(permits), *given(question), rewritten, REWRITTEN_BYTES,
                                               answer, cells, offers, LABELS, display, LABELS * DISPLAY)
         text = bytes(display).decode("ascii")
         return Book(outcome.number, list(offers), [text[at:at + DISPLAY] for at in range(0, len(text), DISPLAY)])

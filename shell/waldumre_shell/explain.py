@@ -10,8 +10,8 @@ from .bad import listed
 from .engine import probe
 from .guards import Mismatch, find, is_stored, name_copies
 from .quel import Printer
-from .records import RANGE, SOME, marks, question, used, variables
-from .words import symbols
+from .records import RANGE, SOME, marks, question, trees, used, variables, write_constants
+from .words import constants, symbols
 
 
 class Verdict(NamedTuple):
@@ -43,6 +43,7 @@ class Explanation(NamedTuple):
 def asked(shop, text, records):
     """The question's parts and a printer for them."""
     parts = question(records)
+    write_constants([node for tree in trees(parts) for node in tree.all()], constants(text))
     return parts, Printer(shop, parts, marks(symbols(text), records))
 
 

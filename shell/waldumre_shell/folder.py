@@ -5,7 +5,7 @@ from typing import Dict, List, NamedTuple
 
 from waldumre import STORED, WORKSPACE
 
-from .bad import Bad, at, listed, shown
+from .bad import Bad, at, listed, printable, shown
 from .engine import Engine
 from .names import ROW, fault, name_list, numbered
 from .permits import User, read_user
@@ -56,7 +56,7 @@ def build(folder, tree, places):
     title = tree.get("title", folder.resolve().name)
     if not isinstance(title, str):
         raise Bad(f"{places.sentence(places.key('title'))}: the title is no text in quotation marks")
-    relations = alike(read_relations(folder, tree, places))
+    relations = read_relations(folder, tree, places)
     values = vocabulary(tree, relations, places)
     engine = Engine()
     for each in relations:
@@ -64,7 +64,7 @@ def build(folder, tree, places):
         engine.relation(WORKSPACE if each.workspace else STORED, len(each.columns), rows)
     names = name_list(relations, values)
     hold(engine, relations, names)
-    shop = Shop(folder, title, relations, {}, values, {value: word for word, value in values.items()}, names, {}, engine)
+    shop = Shop(folder, printable(title), relations, {}, values, {value: word for word, value in values.items()}, names, {}, engine)
     read_users(shop, tree, places)
     shop.shelf.update(read_shelf(tree, places))
     return shop
@@ -105,12 +105,6 @@ def read_relations(folder, tree, places):
             raise Bad(f"{here}: workspace is true or false, without quotation marks")
         found.append(relation(inside(folder, entry["file"], here), entry["file"], name, workspace))
     return found
-
-
-def alike(relations):
-    """A column without rows holds names if one of the same name in another relation does."""
-    named = {column for each in relations for column, text in zip(each.columns, each.text) if text}
-    return [each if each.rows else each._replace(text=[column in named for column in each.columns]) for each in relations]
 
 
 def inside(folder, file, here):

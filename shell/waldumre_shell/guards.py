@@ -3,7 +3,7 @@ from typing import Dict, NamedTuple
 
 from .names import ROW
 from .quel import free_symbol
-from .records import AGGREGATE, AND, OR, SOME, condition, question
+from .records import AGGREGATE, AND, OR, SOME, condition, question, write_constants
 
 
 class Mismatch(Exception):
@@ -32,6 +32,7 @@ def find(shop, asked, rewritten):
     def walk(before, after):
         if (before.kind, bytes(before.body), len(before.children)) != (after.kind, bytes(after.body), len(after.children)):
             raise Mismatch()
+        after.word = getattr(before, "word", None)
         if before.binds() and is_stored(shop, before.binds()[1]):
             walk(before.children[0], wrapped(after.children[0], before.binds()[0]))
             return
@@ -69,8 +70,8 @@ def name_copies(guards, applying, marks):
 
 
 def name_copy(permit, copy, variable, marks, taken):
-    own = list(condition(permit.condition).all())
-    copied = list(copy.all())
+    own, copied = list(condition(permit.condition).all()), list(copy.all())
+    write_constants(copied, permit.constants)
     if [node.kind for node in own] != [node.kind for node in copied]:
         raise Mismatch()
     given = {ROW: marks[variable]}

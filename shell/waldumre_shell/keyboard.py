@@ -25,7 +25,8 @@ def run(session, banner):
             session.screen.say([""])
             return
         except KeyboardInterrupt:
-            session.screen.say(["", "stopped; there is no answer" if not session.pending() and session.ended else "dropped"])
+            session.screen.say(["", "stopped; there is no answer" if session.busy else "dropped"])
+            session.busy = False
             remember(session, "")
             session.drop()
 

@@ -2,11 +2,11 @@
 import struct
 from typing import Dict, List, NamedTuple
 
-from .bad import Bad, listed, shown
+from .bad import Bad, listed, printable, shown
 from .names import ROW
 from .pointer import point
 from .records import marks
-from .words import symbols
+from .words import constants, symbols
 
 ALL, NO_ACCESS = "ALL", "NO ACCESS"
 PERMITS, EVERY = 8, 65535
@@ -22,6 +22,7 @@ class Permit(NamedTuple):
     rows: str                  # as written
     condition: bytes
     symbols: Dict[int, str]    # of its variables; 0 is ROW
+    constants: List[str]       # as written, in their order
 
     def bytes(self):
         return struct.pack("<BBH", 64, self.relation, self.mask) + self.condition
@@ -49,7 +50,7 @@ def read_user(shop, name, entry, places):
     if len(given) > PERMITS:
         raise Bad(f"{places.sentence(places.permit(name, PERMITS))}: permit {PERMITS + 1} of {name}; a user has at most {PERMITS}")
     permits = [read_permit(shop, each, number, places, places.permit(name, number - 1)) for number, each in enumerate(given, 1)]
-    user = User(name, about, permits)
+    user = User(name, printable(about), permits)
     refused = shop.engine.number_of(user.bytes(), b"")
     if refused != 30:  # the empty question: the list has passed
         raise Bad(f"{places.sentence(start)}: the library refuses the permits of {name} with {refused}")
@@ -68,8 +69,9 @@ def read_permit(shop, entry, number, places, start):
     rows = entry["rows"]
     if not isinstance(rows, str) or not rows.strip():
         raise Bad(f"{places.sentence(places.value(start, 'rows'))}: rows is a condition in quotation marks, or \"{ALL}\", or \"{NO_ACCESS}\"")
-    condition, marks = condition_of(shop, relation, " ".join(rows.split()), rows, places, start)
-    permit = Permit(number, relation, mask, columns, " ".join(rows.split()), condition, marks)
+    plain = " ".join(rows.split())
+    condition, symbols_of, written = condition_of(shop, relation, plain, rows, places, start)
+    permit = Permit(number, relation, mask, columns, plain, condition, symbols_of, written)
     refused = shop.engine.number_of(permit.bytes(), b"")
     if refused in WHO:
         raise Bad(f"{places.sentence(start)}: the permit is refused with {refused}: {WHO[refused]}")
@@ -112,9 +114,9 @@ def wrapping(shop, relation):
 
 
 def condition_of(shop, relation, plain, rows, places, start):
-    """The records of a condition, as the library reads them in a question of its own, and the symbols of its variables."""
+    """The records of a condition, as the library reads them in a question of its own, its symbols, and its constants as written."""
     if plain in (ALL, NO_ACCESS):
-        return bytes([16 if plain == ALL else 17]), {0: ROW}
+        return bytes([16 if plain == ALL else 17]), {0: ROW}, []
     head = wrapping(shop, relation)
     number, records = shop.engine.read((head + rows).encode("utf-8", "replace"), shop.names)
     if number:
@@ -124,4 +126,4 @@ def condition_of(shop, relation, plain, rows, places, start):
     if records[6:7] == b"" or records[:6] != bytes([1, 0, relation, 33, 0, 0]):
         raise Bad(f"{places.sentence(places.value(start, 'rows'))}: the name of a relation stands for it in aggregates only; "
                   f"for another row write SOME X IN {shop.relations[relation].name} (..)")
-    return records[6:], marks(symbols(head + rows), records)
+    return records[6:], marks(symbols(head + rows), records), constants(head + rows)

@@ -34,9 +34,6 @@ class Printer:
             return self.shop.relations[node.body[2]].text[node.body[3]]
         return False
 
-    def word(self, value, is_name):
-        return self.shop.words.get(value, str(value)) if is_name else str(value)
-
     def head(self, node):
         """A target or term without the condition of an aggregate: X.PRICE, AVE(X.PRICE)."""
         if node.kind == ATTRIBUTE:
@@ -44,11 +41,9 @@ class Printer:
         function, variable, _, attribute = node.body
         return f"{FUNCTIONS[function]}({self.marks[variable]}.{self.column(variable, attribute)})"
 
-    def term(self, node, beside=None):
-        """`beside`: the other side of a comparison; a number beside a column of names is shown as a name."""
+    def term(self, node):
         if node.kind == CONSTANT:
-            value = int.from_bytes(node.body, "little", signed=True)
-            return [Piece(self.word(value, beside is not None and self.holds_names(beside)))]
+            return [Piece(node.word)]
         inner = node.children[0] if node.kind == AGGREGATE else None
         if inner is None or inner.kind == TRUE:
             return [Piece(self.head(node))]
@@ -60,7 +55,7 @@ class Printer:
             return [Piece("TRUE" if node.kind == TRUE else "FALSE")]
         if node.kind == COMPARE:
             left, right = node.children
-            return [*self.term(left, right), Piece(f" {OPERATORS[node.body[0]]} "), *self.term(right, left)]
+            return [*self.term(left), Piece(f" {OPERATORS[node.body[0]]} "), *self.term(right)]
         if node.kind == SOME:
             head = f"SOME {self.marks[node.body[0]]} IN {self.shop.relations[node.body[1]].name} ("
             return [Piece(head), *self.condition(node.children[0]), Piece(")")]

@@ -37,6 +37,12 @@ def used(parts, variable):
     return sorted(found)
 
 
+def write_constants(nodes, words):
+    """Each constant is shown as it was written: as a name, or as a number."""
+    for node, word in zip((node for node in nodes if node.kind == CONSTANT), words):
+        node.word = word
+
+
 def marks(symbols, data):
     """The symbol of each variable: attributes, aggregates and SOMEs stand in the records in the order of the text."""
     nodes = [node for tree in trees(question(data)) for node in tree.all() if node.kind in (ATTRIBUTE, AGGREGATE, SOME)]

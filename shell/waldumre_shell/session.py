@@ -30,7 +30,8 @@ class Session:
     def __init__(self, shop, user, screen, form="table", seconds=None):
         self.shop, self.user, self.screen, self.form, self.seconds = shop, user, screen, form, seconds
         self.timing, self.status, self.last, self.others = False, 0, None, {}
-        self.ended = []  # questions of this session, for the history
+        self.ended = []     # questions of this session, for the history
+        self.busy = False   # is the library being asked?
         self.drop()
 
     def drop(self):
@@ -78,6 +79,7 @@ class Session:
 
     def guarded(self, work):
         """Bad input is a sentence, and the session goes on."""
+        self.busy = False
         try:
             work()
         except Bad as why:
@@ -117,7 +119,10 @@ class Session:
     # questions
 
     def put(self, text, shop=None, user=None):
-        return put(shop or self.shop, user or self.user, text, self.seconds)
+        self.busy = True
+        found = put(shop or self.shop, user or self.user, text, self.seconds)
+        self.busy = False
+        return found
 
     def answer(self, text):
         self.last = text
@@ -215,9 +220,9 @@ class Session:
         self.screen.say(said or [f"{user.name} has no permits: only workspaces can be asked"])
 
     def relations(self, rest):
-        """Names and columns only: how many rows there are is not for every user."""
+        """Names and columns only: how many rows there are, and what they hold, is not for every user."""
         width = max(len(each.name) for each in self.shop.relations)
-        self.screen.say([f"  {each.name.ljust(width)}  {listed_columns(each)}{'  (workspace: needs no permit)' if each.workspace else ''}"
+        self.screen.say([f"  {each.name.ljust(width)}  {', '.join(each.columns)}{'  (workspace: needs no permit)' if each.workspace else ''}"
                          for each in self.shop.relations])
 
     def bytes(self, rest):
@@ -235,10 +240,6 @@ class Session:
 
     def help(self, rest):
         self.screen.say(HELP.split("\n"))
-
-
-def listed_columns(relation):
-    return ", ".join(name + (" (names)" if text else "") for name, text in zip(relation.columns, relation.text))
 
 
 def facts(variable):

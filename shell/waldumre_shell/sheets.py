@@ -5,10 +5,11 @@ import re
 from typing import List, NamedTuple
 
 from .bad import Bad, at, shown
-from .names import fault
+from .names import RESERVED, fault
 
 COLUMNS, ROWS = 16, 1024
 LEAST, MOST = -2**31, 2**31 - 1
+NUMBER, FRACTION, NAME = re.compile("[+-]?[0-9]+"), re.compile("[+-]?[0-9][0-9.,]*"), re.compile("[A-Z]{1,12}")
 
 
 class Relation(NamedTuple):
@@ -60,19 +61,36 @@ def header(name, line, cells):
     return cells
 
 
-def cell_value(place, cell):
-    """A number of 32 bits, or a name."""
+def value(cell):
+    """A number of 32 bits, or a name, or None."""
+    if NUMBER.fullmatch(cell):
+        return int(cell) if len(cell) <= 40 and LEAST <= int(cell) <= MOST else None
+    return cell if NAME.fullmatch(cell) and cell not in RESERVED else None
+
+
+def why_not(cell):
     if not cell:
-        raise Bad(f"{place}: the cell is empty; every cell holds a whole number or a name")
-    if re.fullmatch("[+-]?[0-9]+", cell, re.A):
-        if len(cell) > 40 or not LEAST <= int(cell) <= MOST:
-            raise Bad(f"{place}: {shown(cell)} does not fit 32 bits; numbers go from {LEAST} to {MOST}")
-        return int(cell)
-    if re.fullmatch("[+-]?[0-9][0-9.,]*", cell, re.A):
-        raise Bad(f"{place}: {shown(cell)} is no whole number; write prices in cents, as 1250 for 12.50")
-    if fault(cell):
-        raise Bad(f"{place}: {shown(cell)} {fault(cell)}")
-    return cell
+        return "the cell is empty; every cell holds a whole number or a name"
+    if NUMBER.fullmatch(cell):
+        return f"{shown(cell)} does not fit 32 bits; numbers go from {LEAST} to {MOST}"
+    if FRACTION.fullmatch(cell):
+        return f"{shown(cell)} is no whole number; write prices in cents, as 1250 for 12.50"
+    return f"{shown(cell)} {fault(cell)}"
+
+
+def row_of(place, columns, cells, first):
+    """The values of a row. `first`: for each column whether it holds names, and the line that said so."""
+    row, line = [], place[1]
+    for number, cell in enumerate(cells):
+        found = value(cell)
+        if found is None:
+            raise Bad(f"{at(*place, number + 1, columns[number])}: {why_not(cell)}")
+        kind, before = first.setdefault(number, (isinstance(found, str), line))
+        if kind != isinstance(found, str):
+            raise Bad(f"{at(*place, number + 1, columns[number])}: {shown(cell)} is a {'number' if kind else 'name'}, but the column "
+                      f"holds {'names' if kind else 'numbers'} (line {before}); a column holds the one or the other")
+        row.append(found)
+    return row
 
 
 def relation(path, file, name, workspace):
@@ -86,15 +104,7 @@ def relation(path, file, name, workspace):
             raise Bad(f"{at(file, line, min(len(cells), len(columns)) + 1)}: the row has {len(cells)} cells, the header {len(columns)}")
         if len(rows) == ROWS:
             raise Bad(f"{at(file, line)}: row {ROWS + 1}; a relation has at most {ROWS} rows")
-        row = []
-        for number, cell in enumerate(cells):
-            value = cell_value(at(file, line, number + 1, columns[number]), cell)
-            kind, before = first.setdefault(number, (isinstance(value, str), line))
-            if kind != isinstance(value, str):
-                raise Bad(f"{at(file, line, number + 1, columns[number])}: {shown(cell)} is a {'number' if kind else 'name'}, but the column "
-                          f"holds {'names' if kind else 'numbers'} (line {before}); a column holds the one or the other")
-            row.append(value)
-        rows.append(row)
+        rows.append(row_of((file, line), columns, cells, first))
         places.append(line)
     if columns is None:
         raise Bad(f"{at(file, 1)}: the file is empty; its first line names the columns")

@@ -2,6 +2,8 @@
 import re
 from typing import NamedTuple
 
+from .names import RESERVED
+
 PIECE = re.compile(r"(?P<blank>[ \n\r]+)|(?P<word>[A-Z]+)|(?P<number>-?[0-9]+)|(?P<sign><=|>=|[(),:;.^=#<>])|(?P<other>.)", re.S)
 FUNCTIONS = ("COUNT", "SUM", "AVE", "MAX", "MIN")
 
@@ -29,6 +31,20 @@ def ends_at(text, depth=0):
         if sign == ";" and depth == 0:
             return at, 0
     return None, depth
+
+
+def constants(text):
+    """In the order of the text, its numbers and value names as they are written."""
+    cut = pieces(text)
+    begins = next((here for here, piece in enumerate(cut) if piece.text == "RETRIEVE"), 0) + 3
+    found = []
+    for here in range(begins, len(cut)):
+        before, piece = cut[here - 1].text, cut[here]
+        after = cut[here + 1].text if here + 1 < len(cut) else ""
+        is_value = piece.sort == "word" and after != "." and before not in (".", "SOME", "IN") and piece.text not in RESERVED
+        if piece.sort == "number" or is_value:
+            found.append(piece.text)
+    return found
 
 
 def symbols(text):

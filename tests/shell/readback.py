@@ -3,7 +3,7 @@ faults agrees with the library's refusals."""
 import random
 import re
 
-from common import Copy, HARBOUR, HILL, fail, same
+from common import Copy, HARBOUR, HILL, ROOT, fail, same
 
 from waldumre_shell.explain import asked, explain
 from waldumre_shell.folder import open_shop
@@ -152,6 +152,18 @@ def pointing(shop, luck):
     return counts
 
 
+def kit(shop):
+    """The kit's texts, where they are there: a fault exactly at those with 50. Names are another shop's, so 51 is not looked at."""
+    count = 0
+    for path in sorted((ROOT / "conformance" / "texts").glob("*")):
+        lines = path.read_text().split("\n")
+        text = next((line for line in lines if line.startswith("text ")), "text ")[5:]
+        wanted = "refused 50" in lines
+        same(f"the fault of {path.name}", point(bytes(map(int, text.split())).decode("latin-1"), 50, shop) is not None, wanted)
+        count += 1
+    return count
+
+
 def permits_of_all_kinds(copy):
     """Users whose permits have aggregates and SOMEs of every kind, so that explanations have to print them."""
     more = '''
@@ -200,8 +212,10 @@ def main():
         if counts["rewritten"] < 80 or counts["refused"] < 50:
             fail(f"too few of a kind: {counts}")
         wrong = pointing(shops[2], luck)
+        texts = kit(shops[2])
     print(f"readback: {counts['asked']} questions and {counts['rewritten']} rewritten ones read back; faults in {wrong[50]} texts with 50 and "
-          f"{wrong[51]} with 51 found, in {wrong[0]} good ones none")
+          f"{wrong[51]} with 51 found, in {wrong[0]} good ones none"
+          + (f"; so for {texts} texts of the kit" if texts else ""))
 
 
 main()

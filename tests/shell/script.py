@@ -1,6 +1,7 @@
 """Questions from a file or the command line: what is printed, in which form, and the exit status."""
 import json
 import random
+import re
 import resource
 import subprocess
 import sys
@@ -98,6 +99,41 @@ def nonsense():
     same("bytes that are no text", (ran.returncode, b"Traceback" in ran.stderr), (1, False))
 
 
+def without_list():
+    """Without the list `names` the words of all cells are known; a word that no cell has is refused."""
+    with Copy() as copy:
+        text = (copy.folder / "shop.toml").read_text()
+        copy.write("shop.toml", re.sub(r"names = \[.*?\]\n", "", text, flags=re.S))
+        same("no list of names", run(copy.folder, "-c", CHEAP), (0, TABLE, ""))
+        rio = "RANGE OFFER(X) RETRIEVE W: X.PRICE: X.BRAND = MILLER"
+        same("a word of a cell", run(copy.folder, "-c", rio)[0], 0)
+        same("a word of no cell", run(copy.folder, "-c", rio.replace("MILLER", "MULLER"))[0], 1)
+
+
+def hidden():
+    """Two folders that differ only in what the brand may not see: all that the shell shows the brand is the same, byte for byte."""
+    asked = r"""
+        \relations
+        \permits
+        RANGE BUYING(B) RETRIEVE W: AVE(B.CENTS), COUNT(B.CENTS), SUM(B.ARTICLE), MIN(B.BRAND);
+        \explain
+        \bytes
+        RANGE BUYING(B, C) RETRIEVE W: B.ARTICLE, C.CENTS: B.CENTS < AVE(C.CENTS) ^ NOT SOME D IN BUYING (D.CENTS > B.CENTS);
+        \explain
+        RANGE BUYING(B) RETRIEVE W: B.CENTS: B.ARTICLE = COFFEE V B.BRAND = RIO;
+        RANGE BUYING(B) RETRIEVE W: B.CENTS: B.ARTICLE = GIN;
+        RANGE OFFER(X) RETRIEVE W: X.NUMBER, X.RANK: X.RANK = MAX(X.RANK);
+        RANGE STAFF(X) RETRIEVE W: COUNT(X.NAME);
+        \as brand brand RANGE BUYING(B) RETRIEVE W: B.CENTS;"""
+    with Copy() as copy:
+        copy.write("buying.csv", "ARTICLE,BRAND,CENTS\nCOFFEE,RIO,999\nMILK,ALPEN,62\nTEA,NORDIC,-5\nTEA,NORDIC,1\nBUTTER,ALPEN,171\nYOGURT,ALPEN,52\n")
+        copy.write("staff.csv", "NAME,ROLE,AISLE,WAGE\n")
+        copy.write("recall.csv", "ARTICLE\nMILK\nTEA\n")
+        copy.change("offer.csv", "1010,TEA,RIO,199,1", "1999,TEA,MILLER,199,7")
+        for form in ("table", "csv", "json"):
+            same(f"hidden rows, {form}", run(copy.folder, "--format", form, given=asked), run(HARBOUR, "--format", form, given=asked))
+
+
 def large():
     """More rows than the shell lends room for: the first are shown, and 41 says so. And a question that takes too long is left."""
     with Copy() as copy:
@@ -115,6 +151,8 @@ def main():
     statuses()
     refusals()
     nonsense()
+    without_list()
+    hidden()
     large()
     script = f"\\relations\n\\permits\n{CHEAP};\n\\explain\n\\bytes\n\\as brand ../hill:brand\n\\user manager\n{REFUSED};\n\\help\n"
     same("the same input", run(HARBOUR, given=script), run(HARBOUR, given=script))
