@@ -1,4 +1,5 @@
 """A call into the library cannot be left from the thread that makes it, so it is made in a child process, which can be ended."""
+import ctypes
 import os
 import pickle
 import select
@@ -9,6 +10,7 @@ import time
 from .bad import Bad
 
 FORKING = threading.Lock()
+END_WITH_PARENT = 1  # PR_SET_PDEATHSIG of Linux
 
 
 class TooLong(Exception):
@@ -51,6 +53,10 @@ def _all(reading, seconds):
 def _child(work, writing):
     """Never returns: whatever happens, the child must not go on as a second shell."""
     status = 1
+    try:
+        ctypes.CDLL(None).prctl(END_WITH_PARENT, signal.SIGKILL)  # a shell that is killed leaves no question running
+    except (AttributeError, OSError):
+        pass  # not Linux
     try:
         signal.signal(signal.SIGINT, signal.SIG_DFL)
     except ValueError:

@@ -11,6 +11,9 @@ from common import Copy, HARBOUR, SHELL, fail
 
 ENTER, TAB, UP, DELETE, CTRL_A, CTRL_C, CTRL_D, CTRL_E = "\r", "\t", "\033[A", "\177", "\001", "\003", "\004", "\005"
 PATIENCE = 20
+# 2 to the 40 assignments, and none of them meets it
+LONG = ("RANGE BASKET(A, B, C, D) RETRIEVE W: A.PIECES: A.PIECES < B.PIECES ^ B.PIECES < C.PIECES ^ C.PIECES < D.PIECES"
+        " ^ D.PIECES < A.PIECES;")
 
 
 class Terminal:
@@ -120,8 +123,7 @@ def interrupted():
         copy.write("basket.csv", "ARTICLE,PIECES\n" + "".join(f"MILK,{number}\n" for number in range(1024)))
         shell = Terminal(copy.folder)
         shell.until("brand=> ")
-        shell.type("RANGE BASKET(A, B, C, D) RETRIEVE W: A.PIECES: A.PIECES < B.PIECES ^ B.PIECES < C.PIECES ^ C.PIECES < D.PIECES"
-                   " ^ D.PIECES < A.PIECES;" + ENTER)
+        shell.type(LONG + ENTER)
         shell.until(";")
         time.sleep(1)
         begun = time.monotonic()
@@ -140,9 +142,37 @@ def interrupted():
             fail("Ctrl-D did not leave with 0")
 
 
+def killed():
+    """A shell that is killed during a question leaves no process behind."""
+    with Copy() as copy:
+        copy.write("basket.csv", "ARTICLE,PIECES\n" + "".join(f"MILK,{number}\n" for number in range(1024)))
+        shell = Terminal(copy.folder)
+        shell.until("brand=> ")
+        shell.type(LONG + ENTER)
+        children = []
+        end = time.monotonic() + PATIENCE
+        while not children and time.monotonic() < end:
+            time.sleep(0.1)
+            children = open(f"/proc/{shell.child}/task/{shell.child}/children").read().split()
+        os.kill(shell.child, signal.SIGKILL)
+        os.waitpid(shell.child, 0)
+        while any(running(child) for child in children):
+            if time.monotonic() > end:
+                fail("the question runs on")
+            time.sleep(0.1)
+
+
+def running(child):
+    try:
+        return open(f"/proc/{child}/stat").read().rsplit(")", 1)[1].split()[0] not in "ZX"
+    except OSError:
+        return False
+
+
 def main():
     completion(typing())
     interrupted()
+    killed()
     print("terminal: all passed")
 
 
