@@ -21,7 +21,12 @@ def aside(work, seconds=None):
     """What work() returns. Ctrl-C, or more than so many seconds, ends the child and leaves the shell as it was."""
     with FORKING:
         reading, writing = os.pipe()
-        child = os.fork()
+        try:
+            child = os.fork()
+        except OSError as why:
+            os.close(reading)
+            os.close(writing)
+            raise Bad(f"no process can be started to ask the library: {(why.strerror or str(why)).lower()}")
         if child == 0:
             _child(work, writing)
         os.close(writing)

@@ -2,6 +2,7 @@
 
 Every decision on a question is taken in here, that is, in the library: what it means, what is permitted, what the answer is."""
 import ctypes
+import functools
 import os
 import re
 import time
@@ -136,6 +137,7 @@ def book_library():
     return library
 
 
+@functools.cache
 def probe(stored_attributes):
     """An engine over one stored relation and one workspace, both without rows: to ask which permits apply."""
     engine = Engine()

@@ -2,6 +2,7 @@
 import argparse
 import os
 import sys
+import traceback
 
 from .bad import Bad, listed
 from .folder import open_shop
@@ -57,6 +58,14 @@ def main(words):
     except BrokenPipeError:
         os.dup2(os.open(os.devnull, os.O_WRONLY), sys.stdout.fileno())  # whoever read has gone; nothing is left to say
         return 0
+    except OSError as why:
+        print(f"waldumre: {why}", file=sys.stderr)
+        return 2
+    except Exception as why:  # a fault of ours is a sentence too, with what a report needs
+        last = traceback.extract_tb(why.__traceback__)[-1]
+        print(f"waldumre: a fault of this shell, not of what was given: {type(why).__name__}: {why} "
+              f"({os.path.basename(last.filename)}, line {last.lineno})", file=sys.stderr)
+        return 2
 
 
 def run(given):

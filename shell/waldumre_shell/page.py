@@ -31,7 +31,7 @@ def serve(shop, other, port, seconds):
         def page(self, asked):
             return whole(shop, users, asked, seconds or SECONDS)
     try:
-        server = http.server.ThreadingHTTPServer(("127.0.0.1", port), Handler)
+        server = PageServer(("127.0.0.1", port), Handler)
     except OSError as why:
         raise Bad(f"port {port} cannot be had: {(why.strerror or str(why)).lower()}")
     print(f"{shop.title}: http://127.0.0.1:{server.server_port}/ (Ctrl-C ends it)", flush=True)
@@ -42,6 +42,16 @@ def serve(shop, other, port, seconds):
     finally:
         server.server_close()
     return 0
+
+
+class PageServer(http.server.ThreadingHTTPServer):
+    daemon_threads = True
+
+    def handle_error(self, request, client_address):
+        """A browser that has gone away is nothing to speak of; anything else is one line."""
+        why = sys.exc_info()[1]
+        if not isinstance(why, OSError):
+            print(f"waldumre: the page was not made: {type(why).__name__}: {why}", file=sys.stderr)
 
 
 class PageHandler(http.server.BaseHTTPRequestHandler):

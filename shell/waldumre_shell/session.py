@@ -168,6 +168,8 @@ class Session:
             self.screen.say(["The question that reaches the relations" + ("" if self.screen.colour else
                              "; what the permits added stands in braces") + ":", ""])
             self.screen.say(["  " + line for line in self.screen.pieces(said.question).split("\n")] + [""])
+        elif found.rewritten:
+            self.screen.say(["The permits' parts were not found again in the rewritten question: a fault of this shell. \\bytes shows it as it is."])
         for each in said.variables:
             self.screen.say(reasons(self.shop, found.user, each))
 

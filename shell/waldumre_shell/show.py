@@ -72,24 +72,20 @@ def aligned(left, right):
 
 
 def beside(sides, colour):
-    """Two answers, each (title, heads, rows): rows that only one side has are set apart, by colour or by a star."""
+    """Two answers, each (title, heads, rows): rows that only one side has are set apart by a star, and by colour where there is one."""
     shapes = [columns_of(heads, rows) for _, heads, rows in sides]
-    wide = [max(len(title), len(count(rows)), sum(widths) + 3 * len(widths) - 1) for (title, _, rows), (widths, _) in zip(sides, shapes)]
-    star = "" if colour else "  "
+    wide = max(len(sides[0][0]), len(count(sides[0][2])), sum(shapes[0][0]) + 3 * len(shapes[0][0]) - 1)
 
-    def across(left, right):
-        return f"{star}{left.ljust(wide[0])} || {star}{right}".rstrip()
+    def across(left, right, marks=("  ", "  "), paint=None):
+        parts = [marks[0] + left.ljust(wide), marks[1] + right]
+        if paint:
+            parts = [paint(part) if part.strip() else part for part in parts]
+        return " || ".join(parts).rstrip()
     lines = [across(*(title for title, _, _ in sides))]
     lines.append(across(*(" " + " | ".join(head.center(width) for head, width in zip(heads, widths))
                           for (_, heads, _), (widths, _) in zip(sides, shapes))))
-    lines.append(across(*("-" * width for width in wide)).replace("||", "++"))
+    lines.append(across("-" * wide, "-" * (sum(shapes[1][0]) + 3 * len(shapes[1][0]) - 1)).replace("||", "++"))
     for left, right, equal in aligned(sides[0][2], sides[1][2]):
         said = ["" if row is None else one_line(row, *shape) for row, shape in zip((left, right), shapes)]
-        marks = ["  " if equal or row is None else "* " for row in (left, right)]
-        first, second = said[0].ljust(wide[0]), said[1]
-        if colour:
-            first, second = (colour(text) if text.strip() and not equal else text for text in (first, second))
-            lines.append(f"{first} || {second}".rstrip())
-        else:
-            lines.append(f"{marks[0]}{first} || {marks[1]}{second}".rstrip())
+        lines.append(across(*said, ["  " if equal or row is None else "* " for row in (left, right)], None if equal else colour))
     return lines + [across(*(count(rows) for _, _, rows in sides))]

@@ -18,8 +18,8 @@ sys.setrecursionlimit(20000)
 def run(*words, given=""):
     """Status, standard output and standard error of the shell."""
     ran = subprocess.run([sys.executable, "-B", str(SHELL), *map(str, words)], input=given, capture_output=True, text=True, timeout=60)
-    if "Traceback" in ran.stderr:
-        fail(f"a traceback, for {words}:\n{ran.stderr}")
+    if "Traceback" in ran.stderr or "a fault of this shell" in ran.stderr + ran.stdout:
+        fail(f"a fault of the shell, for {words}:\n{ran.stderr}")
     return ran.returncode, ran.stdout, ran.stderr
 
 
