@@ -16,10 +16,10 @@ FUNCTIONS, SIGNS = ("COUNT", "SUM", "AVE", "MAX", "MIN"), ("=", "#", "<", "<=", 
 
 
 class Draw:
-    """A text of the grammar, with its names in reach."""
+    """A text of the grammar, with its names in reach; `stray`: how often a variable is taken that may be out of reach."""
 
-    def __init__(self, shop, luck):
-        self.shop, self.luck, self.symbols, self.left = shop, luck, [], 5
+    def __init__(self, shop, luck, stray=0):
+        self.shop, self.luck, self.stray, self.left = shop, luck, stray, 5
         self.free = list("ABCDEFGHIJKLMNOPQRSTUWXYZ")
         luck.shuffle(self.free)
 
@@ -36,8 +36,9 @@ class Draw:
         return f"RANGE {':'.join(groups)} RETRIEVE W: {targets}{final}"
 
     def attribute(self, reach):
-        symbol = self.luck.choice(sorted(reach))
-        return f"{symbol}.{self.luck.choice(reach[symbol].columns)}"
+        known = self.heads if self.stray and self.luck.random() < self.stray else reach
+        symbol = self.luck.choice(sorted(known))
+        return f"{symbol}.{self.luck.choice(known[symbol].columns)}"
 
     def aggregate(self, depth):
         symbol = self.luck.choice(sorted(self.heads))
@@ -141,7 +142,8 @@ def pointing(shop, luck):
     """A fault is found exactly where the library refuses with 50 or 51."""
     counts = {0: 0, 50: 0, 51: 0}
     for _ in range(WRONG):
-        text = damaged(Draw(shop, luck).text(), luck)
+        text = Draw(shop, luck, 0.1).text()
+        text = damaged(text, luck) if luck.random() < 0.8 else text
         number, _ = shop.engine.read(text.encode(), shop.names)
         counts[number] += 1
         first, second = point(text, 50, shop), point(text, 51, shop)

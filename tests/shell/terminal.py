@@ -4,8 +4,10 @@ import pty
 import re
 import select
 import signal
+import subprocess
 import sys
 import time
+from pathlib import Path
 
 from common import Copy, HARBOUR, SHELL, fail
 
@@ -143,28 +145,28 @@ def interrupted():
 
 
 def killed():
-    """A shell that is killed during a question leaves no process behind."""
+    """A shell that is killed during a question leaves no process behind. Not at a terminal: its end would end the question too."""
     with Copy() as copy:
         copy.write("basket.csv", "ARTICLE,PIECES\n" + "".join(f"MILK,{number}\n" for number in range(1024)))
-        shell = Terminal(copy.folder)
-        shell.until("brand=> ")
-        shell.type(LONG + ENTER)
-        children = []
-        end = time.monotonic() + PATIENCE
+        shell = subprocess.Popen([sys.executable, "-B", str(SHELL), str(copy.folder), "-c", LONG], stdout=subprocess.DEVNULL)
+        children, end = [], time.monotonic() + PATIENCE
         while not children and time.monotonic() < end:
             time.sleep(0.1)
-            children = open(f"/proc/{shell.child}/task/{shell.child}/children").read().split()
-        os.kill(shell.child, signal.SIGKILL)
-        os.waitpid(shell.child, 0)
+            children = Path(f"/proc/{shell.pid}/task/{shell.pid}/children").read_text().split()
+        time.sleep(0.3)
+        shell.kill()
+        shell.wait()
         while any(running(child) for child in children):
             if time.monotonic() > end:
+                for child in children:
+                    os.kill(int(child), signal.SIGKILL)
                 fail("the question runs on")
             time.sleep(0.1)
 
 
 def running(child):
     try:
-        return open(f"/proc/{child}/stat").read().rsplit(")", 1)[1].split()[0] not in "ZX"
+        return Path(f"/proc/{child}/stat").read_text().rsplit(")", 1)[1].split()[0] not in "ZX"
     except OSError:
         return False
 
