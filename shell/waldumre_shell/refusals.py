@@ -1,5 +1,5 @@
 """A refusal as a sentence: its number, who can cause it, why, and where."""
-from .bad import listed
+from .bad import listed, printable
 from .engine import ROOM
 from .explain import explain
 from .pointer import point
@@ -21,7 +21,7 @@ def refusal(shop, user, text, number):
     fault = point(text, number, shop) if number in (50, 51) else None
     if fault:
         line, column = line_and_column(text, fault.at)
-        lines += ["  " + text.split("\n")[line - 1].replace("\t", " "), "  " + " " * (column - 1) + "^"]
+        lines += ["  " + printable(text.split("\n")[line - 1]), "  " + " " * (column - 1) + "^"]
     return lines + [f"{who(number)[:1].upper() + who(number)[1:]} can cause this{remedy(number)}."]
 
 

@@ -1,7 +1,7 @@
 """What has been typed so far, who asks, and what the commands do."""
 from .ask import put
 from .aside import TooLong
-from .bad import Bad, listed
+from .bad import Bad, listed, printable
 from .explain import permit_text
 from .folder import open_shop
 from .quel import plain
@@ -102,7 +102,7 @@ class Session:
         return True
 
     def no_command(self, name):
-        raise Bad(f"there is no command \\{name}; \\help lists them")
+        raise Bad(f"there is no command \\{printable(name)}; \\help lists them")
 
     def with_text(self, rest, then):
         """A command that takes a question: what follows it, or else the last one."""
