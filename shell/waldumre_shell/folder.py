@@ -3,7 +3,7 @@ import tomllib
 from pathlib import Path
 from typing import Dict, List, NamedTuple
 
-from waldumre import STORED, WORKSPACE
+from waldumre import LATEST, STORED, WORKSPACE
 
 from .bad import Bad, at, listed, printable, shown
 from .engine import Engine
@@ -61,7 +61,7 @@ def build(folder, tree, places):
     engine = Engine()
     for each in relations:
         rows = [[values.get(cell, cell) for cell in row] for row in each.rows]
-        engine.relation(WORKSPACE if each.workspace else STORED, len(each.columns), rows)
+        engine.relation(each.kind, len(each.columns), rows)
     names = name_list(relations, values)
     hold(engine, relations, names)
     shop = Shop(folder, printable(title), relations, {}, values, {value: word for word, value in values.items()}, names, {}, engine)
@@ -99,12 +99,18 @@ def read_relations(folder, tree, places):
             entry = {"file": entry}
         if not isinstance(entry, dict) or not isinstance(entry.get("file"), str):
             raise Bad(f'{here}: {name} names no file, as {name} = "{name.lower()}.csv"')
-        known(entry, ("file", "workspace"), places, places.key(name, start), f"relation {name}")
-        workspace = entry.get("workspace", False)
-        if not isinstance(workspace, bool):
-            raise Bad(f"{here}: workspace is true or false, without quotation marks")
-        found.append(relation(inside(folder, entry["file"], here), entry["file"], name, workspace))
+        known(entry, ("file", "workspace", "latest"), places, places.key(name, start), f"relation {name}")
+        found.append(relation(inside(folder, entry["file"], here), entry["file"], name, kind_of(entry, here)))
     return found
+
+
+def kind_of(entry, here):
+    for key in ("workspace", "latest"):
+        if not isinstance(entry.get(key, False), bool):
+            raise Bad(f"{here}: {key} is true or false, without quotation marks")
+    if entry.get("workspace") and entry.get("latest"):
+        raise Bad(f"{here}: a workspace is walked as it stands; latest is for stored relations")
+    return WORKSPACE if entry.get("workspace") else LATEST if entry.get("latest") else STORED
 
 
 def inside(folder, file, here):

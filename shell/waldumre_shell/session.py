@@ -1,4 +1,6 @@
 """What has been typed so far, who asks, and what the commands do."""
+from waldumre import LATEST, WORKSPACE
+
 from .ask import put
 from .aside import TooLong
 from .bad import Bad, listed, printable
@@ -8,6 +10,7 @@ from .quel import plain
 from .show import as_csv, as_json, beside, table
 from .words import ends_at
 
+KINDS = {WORKSPACE: "  (workspace: needs no permit)", LATEST: "  (last row first)"}
 HELP = """\
 A question is QUEL, over one line or several, and ends with an empty line, or with a ';' outside all parentheses:
   RANGE OFFER(X)                    X runs over the rows of OFFER; RANGE OFFER(X, Y): SHELF(S) has three variables
@@ -224,7 +227,7 @@ class Session:
     def relations(self, rest):
         """Names and columns only: how many rows there are, and what they hold, is not for every user."""
         width = max(len(each.name) for each in self.shop.relations)
-        self.screen.say([f"  {each.name.ljust(width)}  {', '.join(each.columns)}{'  (workspace: needs no permit)' if each.workspace else ''}"
+        self.screen.say([f"  {each.name.ljust(width)}  {', '.join(each.columns)}{KINDS.get(each.kind, '')}"
                          for each in self.shop.relations])
 
     def bytes(self, rest):

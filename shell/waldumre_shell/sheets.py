@@ -4,6 +4,8 @@ import io
 import re
 from typing import List, NamedTuple
 
+from waldumre import WORKSPACE
+
 from .bad import Bad, at, shown
 from .names import RESERVED, fault
 
@@ -15,11 +17,15 @@ NUMBER, FRACTION, NAME = re.compile("[+-]?[0-9]+"), re.compile("[+-]?[0-9][0-9.,
 class Relation(NamedTuple):
     name: str
     file: str
-    workspace: bool
+    kind: int           # stored, workspace, or stored and walked from the last row
     columns: List[str]
     rows: list          # of cells: numbers and names
     lines: List[int]    # where each row stands in the file
     text: List[bool]    # for each column: does it hold names?
+
+    @property
+    def workspace(self):
+        return self.kind == WORKSPACE
 
 
 def decoded(path, name):
@@ -93,7 +99,7 @@ def row_of(place, columns, cells, first):
     return row
 
 
-def relation(path, file, name, workspace):
+def relation(path, file, name, kind):
     """The relation of a file, or Bad with file, line and column."""
     rows, places, columns, first = [], [], None, {}
     for line, cells in lines(path, file):
@@ -108,4 +114,4 @@ def relation(path, file, name, workspace):
         places.append(line)
     if columns is None:
         raise Bad(f"{at(file, 1)}: the file is empty; its first line names the columns")
-    return Relation(name, file, workspace, columns, rows, places, [first.get(number, (False, 0))[0] for number in range(len(columns))])
+    return Relation(name, file, kind, columns, rows, places, [first.get(number, (False, 0))[0] for number in range(len(columns))])

@@ -73,7 +73,8 @@ DAMAGE = [
     ("a file that is a folder", replace_with_folder(OFFER), "shop.toml, line 12, column 1: 'offer.csv' is no file"),
     ("a file outside", swap(TOML, '"offer.csv"', '"../offer.csv"'), "shop.toml, line 12, column 1: '../offer.csv' lies outside the folder"),
     ("a workspace in quotation marks", swap(TOML, "workspace = true", 'workspace = "yes"'), "shop.toml, line 18, column 1: workspace is true or false, without quotation marks"),
-    ("an unknown key of a relation", swap(TOML, "workspace = true", "public = true"), "shop.toml, line 18, column 1: 'public' is no key of relation BASKET; known are file and workspace"),
+    ("an unknown key of a relation", swap(TOML, "workspace = true", "public = true"), "shop.toml, line 18, column 1: 'public' is no key of relation BASKET; known are file, workspace and latest"),
+    ("a workspace walked from its end", swap(TOML, "workspace = true", "workspace = true, latest = true"), "shop.toml, line 18, column 1: a workspace is walked as it stands; latest is for stored relations"),
     ("seventeen relations", many_relations, "shop.toml, line 27, column 1: relation 17; a folder has at most 16"),
     # cells
     ("an empty CSV file", write(OFFER, ""), "offer.csv, line 1: the file is empty; its first line names the columns"),

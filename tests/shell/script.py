@@ -110,6 +110,14 @@ def without_list():
         same("a word of no cell", run(copy.folder, "-c", rio.replace("MILLER", "MULLER"))[0], 1)
 
 
+def latest():
+    """A relation whose last row comes first."""
+    with Copy() as copy:
+        copy.change("shop.toml", 'OFFER = "offer.csv"', 'OFFER = { file = "offer.csv", latest = true }')
+        rows = TABLE.split("\n")
+        same("last row first", run(copy.folder, "-c", CHEAP), (0, "\n".join(rows[:2] + rows[4:1:-1] + rows[5:]), ""))
+
+
 def hidden():
     """Two folders that differ only in what the brand may not see: all that the shell shows the brand is the same, byte for byte."""
     asked = r"""
@@ -152,6 +160,7 @@ def main():
     refusals()
     nonsense()
     without_list()
+    latest()
     hidden()
     large()
     script = f"\\relations\n\\permits\n{CHEAP};\n\\explain\n\\bytes\n\\as brand ../hill:brand\n\\user manager\n{REFUSED};\n\\help\n"
