@@ -1,4 +1,5 @@
 """The page: by plain HTTP, and in a headless browser where one is installed."""
+import atexit
 import http.client
 import re
 import shutil
@@ -19,6 +20,7 @@ ASKED = {"left": "brand", "right": "trainer", "q": QUESTION}
 class Server:
     def __init__(self, *words):
         self.child = subprocess.Popen([sys.executable, "-B", str(SHELL), *map(str, words), "--page"], stdout=subprocess.PIPE, stderr=subprocess.PIPE, text=True)
+        atexit.register(self.child.kill)  # a test that fails leaves no server behind
         line = self.child.stdout.readline()
         found = re.search(r"http://127\.0\.0\.1:(\d+)/", line)
         if not found:
