@@ -121,6 +121,7 @@ def held(shop, user, text, counts):
         return
     if said.question is None:
         fail(f"the guards were not found again in the question of {user.name}:\n{text}")
+    counts["accepted"] += 1
     stripped = plain(said.question).replace("{", "").replace("}", "")
     if in_grammar(stripped):
         read = reads_back(shop, stripped, reply.rewritten)
@@ -203,7 +204,7 @@ rows = "SOME A IN OFFER (A.BRAND = ROW.BRAND ^ SOME B IN OFFER (B.BRAND = ROW.BR
 
 
 def main():
-    luck, counts = random.Random(SEED), {"asked": 0, "refused": 0, "rewritten": 0}
+    luck, counts = random.Random(SEED), {"asked": 0, "refused": 0, "accepted": 0, "rewritten": 0}
     with Copy() as copy:
         permits_of_all_kinds(copy)
         shops = [open_shop(copy.folder), open_shop(HILL), open_shop(HARBOUR)]
@@ -215,7 +216,8 @@ def main():
             fail(f"too few of a kind: {counts}")
         wrong = pointing(shops[2], luck)
         texts = kit(shops[2])
-    print(f"readback: {counts['asked']} questions and {counts['rewritten']} rewritten ones read back; faults in {wrong[50]} texts with 50 and "
+    print(f"readback: {counts['asked']} questions read back, and of {counts['accepted']} rewritten ones {counts['rewritten']} (the others have TRUE, "
+          f"FALSE or over 2,000 bytes, outside the grammar); faults in {wrong[50]} texts with 50 and "
           f"{wrong[51]} with 51 found, in {wrong[0]} good ones none"
           + (f"; so for {texts} texts of the kit" if texts else ""))
 
