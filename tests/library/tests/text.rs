@@ -99,7 +99,24 @@ fn stack_of_the_reader() {
         let used = stack.used(&mut || {
             (number, length) = read_text(text.as_bytes(), &names, &mut buffer);
         });
-        println!("{number}, {length} bytes of records, {used} bytes of stack");
+        let mut rewritten = vec![FILLED; 17_216];
+        let mut answer = [0; 8];
+        let mut again = buffer.clone();
+        let asked = stack.used(&mut || {
+            let text = text.as_bytes();
+            ask_text(
+                &[48, 1, 1, 0],
+                &[5],
+                &[64, 0, 255, 255, 16],
+                text,
+                &names,
+                &mut again,
+                &mut rewritten,
+                &mut answer,
+            );
+        });
+        println!("{number}, {length} bytes of records, {used} bytes of stack, asked {asked}");
+        assert!(asked < 900_000);
         let mut expected = vec![FILLED; 6_427];
         let by_judge = judge::read_text(text.as_bytes(), &names, &mut expected);
         assert_eq!((number, length), by_judge);
