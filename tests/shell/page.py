@@ -19,7 +19,10 @@ ASKED = {"left": "brand", "right": "trainer", "q": QUESTION}
 
 class Server:
     def __init__(self, *words):
-        self.child = subprocess.Popen([sys.executable, "-B", str(SHELL), *map(str, words), "--page"], stdout=subprocess.PIPE, stderr=subprocess.PIPE, text=True)
+        # tests that run in the background ignore Ctrl-C, and so would what they start
+        heed = lambda: signal.signal(signal.SIGINT, signal.SIG_DFL)
+        command = [sys.executable, "-B", str(SHELL), *map(str, words), "--page"]
+        self.child = subprocess.Popen(command, stdout=subprocess.PIPE, stderr=subprocess.PIPE, text=True, preexec_fn=heed)
         atexit.register(self.child.kill)  # a test that fails leaves no server behind
         line = self.child.stdout.readline()
         found = re.search(r"http://127\.0\.0\.1:(\d+)/", line)

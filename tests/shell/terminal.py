@@ -24,6 +24,8 @@ class Terminal:
         if self.child == 0:
             os.environ.update(TERM="xterm", COLUMNS="200", LINES="50", INPUTRC="/dev/null")
             os.environ.pop("NO_COLOR", None)
+            # tests that run in the background ignore Ctrl-C, and so would what they start
+            signal.signal(signal.SIGINT, signal.SIG_DFL)
             os.execv(sys.executable, [sys.executable, "-B", str(SHELL), str(folder), *words])
         self.seen = ""
 
