@@ -49,7 +49,11 @@ pub fn put(walks: &mut [u16], variable: u8, walk: Walk)
 fn start_of(catalogue: &[u8], relation: u8) -> usize
     ensures { λ r. ⌜ (r ≡ cond (latestOf (now (catalogue .entry)) relation) 1 0) × (r ≤ 1) ⌝ }
 {
-    if catalogue::latest(catalogue, relation) { 1 } else { 0 }
+    if catalogue::latest(catalogue, relation) {
+        1
+    } else {
+        0
+    }
 }
 
 // All rows of a relation.

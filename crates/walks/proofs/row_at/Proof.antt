@@ -1,4 +1,4 @@
-use Rattle.walks.proofs.Table.{row-plain, row-last, row-listed}
+use Rattle.walks.proofs.Table.{row-last, row-listed}
 use denote.Ref.{now}
 use borrow.Author.Needs.{needs}
 use Rattle.walks.proofs.row_at.Statement.{statement}
@@ -8,16 +8,13 @@ use Rattle.walks.proofs.row_at.Lts as lts
 use Rattle.kinds.proofs.size_at.Reads as size-at-reads
 use Rattle.walks.proofs.from_last.Reads as from-last-reads
 
-returns : tie.Need-returns
-returns c = (row-plain (now (c .before .before .args .walks)) (c .before .before .args .walk) (c .before .before .args .i) (c .if1 .taken), c .before .before .pre .1)
-
 from-last-requires : tie.Need-from-last-requires
 from-last-requires c κs = search needs
 
-returns-2 : tie.Need-returns-2
-returns-2 c =
-    let args = c .before .before .before .before .args in
-    (row-last (now (args .walks)) (args .walk) (args .i) (c .from-last .result) (c .before .before .if1 .left) (c .before .if2 .taken) (c .from-last .ensures .0), c .from-last .ensures .1)
+returns : tie.Need-returns
+returns c =
+    let args = c .before .before .before .args in
+    (row-last (now (args .walks)) (args .start) (args .count) (args .i) (c .from-last .result) (c .before .if1 .taken) (c .from-last .ensures .0), c .from-last .ensures .1)
 
 add-size-at : tie.Need-add-size-at
 add-size-at c = search needs
@@ -25,12 +22,10 @@ add-size-at c = search needs
 size-at-requires : tie.Need-size-at-requires
 size-at-requires c κs = search needs
 
-returns-3 : tie.Need-returns-3
-returns-3 c =
-    let args = c .before .before .before .before .args in
-    (row-listed (now (args .walks)) (args .walk) (args .i) (c .size-at .result) (c .before .before .if1 .left) (c .before .if2 .left) (c .size-at .ensures .0), c .size-at .ensures .1)
+returns-2 : tie.Need-returns-2
+returns-2 c =
+    let args = c .before .before .before .args in
+    (row-listed (now (args .walks)) (args .start) (args .count) (args .i) (c .size-at .result) (c .before .if1 .left) (c .size-at .ensures .0), c .size-at .ensures .1)
 
 pub row-at-spec : {M : Type 1} → statement M
-row-at-spec =
-    tie.close
-    (tie.spec returns from-last-requires returns-2 add-size-at size-at-requires returns-3)
+row-at-spec = tie.close (tie.spec from-last-requires returns add-size-at size-at-requires returns-2)
