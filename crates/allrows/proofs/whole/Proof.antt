@@ -24,7 +24,11 @@ attributes-requires c κs = search needs
 
 -- src/lib.rt:47:1
 returns : tie.Need-returns
-returns c = (whole-is (now (c .before .before .before .before .args .catalogue)) (c .before .before .before .before .args .relation) _ _ _ (c .before .before .rows .ensures .0) (c .before .base .ensures .0) (c .attributes .ensures .0), record { start = omega arith; count = c .before .before .rows .ensures .1; base = omega (arith, c .before .base .ensures .1, c .before .before .before .before .good); width = omega (arith, c .attributes .ensures .1) })
+returns c =
+    let c₁ = c .before in let base′ = c₁ .base in
+    let c₂ = c₁ .before in let rows = c₂ .rows in
+    let c₄ = c₂ .before .before in let args = c₄ .args in let good = c₄ .good in
+    (whole-is (now (args .catalogue)) (args .relation) _ _ _ (rows .ensures .0) (base′ .ensures .0) (c .attributes .ensures .0), record { start = omega arith; count = rows .ensures .1; base = omega (arith, base′ .ensures .1, good); width = omega (arith, c .attributes .ensures .1) })
 
 pub whole-spec : {M : Type 1} → statement M
 whole-spec = tie.close (tie.spec rows-requires base-requires attributes-requires returns)
