@@ -4,10 +4,11 @@ use mathlib.Core.Bool.{Bool, true, false, cond}
 use mathlib.Core.List.{List, [], _++_}
 use Prim.Native.Nat.{ℕ, _+_, _*_, _≤_, _<_}
 use native.Mathlib.Omega.{arith}
+use borrow.Author.Tests.{leb-true}
 use lib.IntN.{ℤ}
-use lib.ListN.{length, getD, drop, replicate, length-replicate}
+use lib.ListN.{length, getD, drop}
 use lib.Seq.{sets, sets-eq}
-use Rattle.model.specs.Lists.{any, unique, Every, concatMap}
+use Rattle.model.specs.Lists.{any, all, unique, Every, concatMap}
 use Rattle.model.specs.Syntax.{Query, Binding, Permit, TRUE, variables, bindings, bindingsT, bindingsQ}
 use Rattle.model.specs.Encoding.{queryOf, permitsOf, encodeQuery}
 use Rattle.model.specs.Meaning.{answers}
@@ -23,10 +24,11 @@ use Rattle.model.proofs.Grounds.{refusal-passes}
 use Rattle.model.proofs.Lists.{every-join, every-map, every-both}
 use Rattle.model.proofs.NonInterference.{Agree}
 use Rattle.model.proofs.Sizes.{size-query}
-use Rattle.model.proofs.Permitted.{Low}
-use Rattle.model.proofs.Passed.{Passed, Scoped, refusal-cons, within, sound, sane-guards, good-guards, permits-read, query-read, query-length}
+use Rattle.model.proofs.Permitted as P
+use Rattle.model.proofs.Passed.{all-every, Passed, Scoped, refusal-cons, within, sound, sane-guards, good-guards, permits-read, query-read, query-length}
 use Rattle.model.proofs.Limits.{ranges-put}
 use Rattle.model.proofs.Accepted.{checks, scope, bounds}
+use Rattle.catalogue.specs.Layout.{rowsOf}
 use Rattle.catalogue.proofs.Reading.{rows-few}
 use Rattle.scans.specs.Flat.{flatBindings}
 use Rattle.scans.proofs.Whole.{bindings-query}
@@ -42,14 +44,13 @@ use Rattle.guards.specs.Filled.{placedFrom, maskFor, masked}
 use Rattle.guards.proofs.Stands.{stands, masks-of, mask-is, few-permits}
 use Rattle.walks.specs.Walks.{walked, rowsBy}
 use Rattle.allrows.proofs.All.{answers-agree}
-use Rattle.permitted.specs.Judged.{givenAll}
+use Rattle.permitted.specs.Given.{Low, tiny}
 use Rattle.permitted.proofs.Marks.{Enough, enough-itself, enough-bits}
-use Rattle.permitted.proofs.Table as T
 use Rattle.permitted.proofs.Rows.{permitted-rows}
 use Rattle.plain.specs.declared.Reply as plain
 use Rattle.plain.specs.Reply.{answerOf, Answerable}
 use Rattle.guarded.specs.declared.Reply.{Reply}
-use Rattle.guarded.specs.Outcome.{bytesOf, outcomeOf, walksOf}
+use Rattle.guarded.specs.Outcome.{bytesOf, outcomeOf, givenRows, Bound}
 
 -- a call that passed 10 to 40, with the query's layout and table
 pub record Writable (y : Layout) (cb pb qb z : List ℕ) (room : ℕ) : Type 0 where
@@ -62,7 +63,7 @@ pub few-variables : (sh : Shape) (q : Query) → Scoped sh 8 q → (n : ℕ) →
 unfolding bindingsQ
 few-variables sh q c n h =
     let s = sound sh q c in
-    every-map Low (λ (b : Binding). b .variable < n) (λ b l. omega (arith, l, h)) (bindingsQ q) (every-join Low (q .ranges) _ (s .low-ranges) (every-join Low (concatMap bindingsT (q .targets)) (bindings (q .condition)) (s .low-targets) (s .low-condition)))
+    every-map P.Low (λ (b : Binding). b .variable < n) (λ b l. omega (arith, l, h)) (bindingsQ q) (every-join P.Low (q .ranges) _ (s .low-ranges) (every-join P.Low (concatMap bindingsT (q .targets)) (bindings (q .condition)) (s .low-targets) (s .low-condition)))
 
 module _ (y : Layout) (cb pb qb z : List ℕ) (room : ℕ) (w : Writable y cb pb qb z room) (places₀ masks₀ : List ℕ) (enough : 16 ≤ length places₀) (wide : 256 ≤ length masks₀) where
   abbrev sh : Shape
@@ -112,7 +113,7 @@ module _ (y : Layout) (cb pb qb z : List ℕ) (room : ℕ) (w : Writable y cb pb
 
   low : Every (λ (b : Binding). b .variable < 8) (bindingsQ q)
   unfolding bindingsQ
-  low = let s = sound sh q (scope sh pb qb room (w .passed)) in every-join Low (q .ranges) _ (s .low-ranges) (every-join Low (concatMap bindingsT (q .targets)) (bindings (q .condition)) (s .low-targets) (s .low-condition))
+  low = let s = sound sh q (scope sh pb qb room (w .passed)) in every-join P.Low (q .ranges) _ (s .low-ranges) (every-join P.Low (concatMap bindingsT (q .targets)) (bindings (q .condition)) (s .low-targets) (s .low-condition))
 
   -- the bits of each mask
   enough-each : Every (λ (b : Binding). Enough 8 (getD M (b .variable) 0)) (bindingsQ q)
@@ -132,23 +133,41 @@ module _ (y : Layout) (cb pb qb z : List ℕ) (room : ℕ) (w : Writable y cb pb
       either true false t ps h = enough-bits t ps 8 h
       either false x t ps h = none
 
-  -- over the walks of the permitted rows the query's answer is that over the permitted rows
-  pub permitted-answers : (places masks : List ℕ) → places ≡ placedFrom 8 pb 0 0 places₀ → masks ≡ M → (vs : List ℤ) → answers q (rowsBy (walksOf cb vs pb places masks qb) vs) ≡ answers q (permitted (tuplesAt (catalogueOf cb) vs) G)
+  -- what the query binds
+  pub binds : Bound cb qb
+  binds =
+      let e : flatBindings qb ≡ bindingsQ q = ap flatBindings (query-read guardedLimits qb (pass .p30) .bytes) ∙ bindings-query q in
+      record {
+        bindings = e;
+        once = ap (λ (l : List Binding). unique (variables l)) e ∙ once;
+        low = subst (Every (λ (b : Binding). b .variable < 8)) (sym e) low;
+        count = omega (arith, ap length e, within guardedLimits q (pass .p31) .bound);
+        rows = rows-few cb (w .catalogue);
+      }
+
+  -- over the rows that are given the query's answer is that over the permitted rows
+  pub permitted-answers : (places masks : List ℕ) → places ≡ placedFrom 8 pb 0 0 places₀ → masks ≡ M → (vs : List ℤ) → answers q (givenRows cb vs pb places masks) ≡ answers q (permitted (tuplesAt (catalogueOf cb) vs) G)
   unfolding permitted Stands
   permitted-answers places masks ep em vs =
       let D = tuplesAt (catalogueOf cb) vs in
       let bs = bindingsQ q in
-      let ws₀ : List ℕ = replicate 8256 0 in
-      let ws = givenAll cb vs F 1024 M bs ws₀ in
-      let hc = w .catalogue in
-      let e : walksOf cb vs pb places masks qb ≡ ws = ap₂ (λ (p m : List ℕ). givenAll cb vs (part pb p) 1024 m (flatBindings qb) ws₀) ep em ∙ ap (λ (l : List Binding). givenAll cb vs F 1024 M l ws₀) (ap flatBindings (query-read guardedLimits qb (pass .p30) .bytes) ∙ bindings-query q) in
-      let lows : Every (T.Low 1024 cb vs F M ws₀) bs = every-map (λ (b : Binding). b .variable < 8) (T.Low 1024 cb vs F M ws₀) (λ b h. record { variable = h; rows = rows-few cb hc (b .relation); room = omega (arith, length-replicate {A = ℕ} 8256 0) }) bs low in
-      let says = T.all-say 1024 cb vs F M ws₀ bs once lows in
-      let both = every-both (T.Says 1024 cb vs F M ws) (λ (b : Binding). StandsFor (G (b .variable) (b .relation)) (getD M (b .variable) 0) F × Enough 8 (getD M (b .variable) 0)) bs says (every-both (λ (b : Binding). StandsFor (G (b .variable) (b .relation)) (getD M (b .variable) 0) F) (λ (b : Binding). Enough 8 (getD M (b .variable) 0)) bs stand enough-each) in
-      answers-agree (rowsBy (walksOf cb vs pb places masks qb) vs) (permitted D G) q
-      (every-map (λ (b : Binding). T.Says 1024 cb vs F M ws b × (StandsFor (G (b .variable) (b .relation)) (getD M (b .variable) 0) F × Enough 8 (getD M (b .variable) 0))) (Agree (rowsBy (walksOf cb vs pb places masks qb) vs) (permitted D G))
-      (λ b h. ap (λ (x : List ℕ). walked x vs (b .variable)) e ∙ permitted-rows cb hc vs (b .relation) 1024 F M ws (b .variable) (G (b .variable) (b .relation)) (h .1 .1) (rows-few cb hc (b .relation)) (h .1 .0) (good-guards sh (permitsOf pb) q (permits-read pb (pass .p20)) (pass .p21) (b .variable) (b .relation)) (sane-guards sh (permitsOf pb) q (pass .p22) (b .variable) (b .relation)) (h .0))
+      let both = every-both (λ (b : Binding). StandsFor (G (b .variable) (b .relation)) (getD M (b .variable) 0) F) (λ (b : Binding). Enough 8 (getD M (b .variable) 0)) bs stand enough-each in
+      answers-agree (givenRows cb vs pb places masks) (permitted D G) q
+      (every-map (λ (b : Binding). StandsFor (G (b .variable) (b .relation)) (getD M (b .variable) 0) F × Enough 8 (getD M (b .variable) 0)) (Agree (givenRows cb vs pb places masks) (permitted D G))
+      (λ b h. ap₂ (λ (p m : List ℕ). givenRows cb vs pb p m (b .variable) (b .relation)) ep em ∙ permitted-rows cb (w .catalogue) vs (b .relation) F (getD M (b .variable) 0) (G (b .variable) (b .relation)) (h .1) (h .0) (good-guards sh (permitsOf pb) q (permits-read pb (pass .p20)) (pass .p21) (b .variable) (b .relation)) (sane-guards sh (permitsOf pb) q (pass .p22) (b .variable) (b .relation)))
       bs both)
+
+-- over a table with the rows that are given
+pub table-answers : (cb : List ℕ) (vs : List ℤ) (pb places masks qb ws : List ℕ) → flatBindings qb ≡ bindingsQ (queryOf qb) → Every (λ (b : Binding). walked ws vs (b .variable) ≡ givenRows cb vs pb places masks (b .variable) (b .relation)) (flatBindings qb) → answers (queryOf qb) (rowsBy ws vs) ≡ answers (queryOf qb) (givenRows cb vs pb places masks)
+table-answers cb vs pb places masks qb ws e h = answers-agree (rowsBy ws vs) (givenRows cb vs pb places masks) (queryOf qb) (subst (Every (λ (b : Binding). walked ws vs (b .variable) ≡ givenRows cb vs pb places masks (b .variable) (b .relation))) e h)
+
+pub low-many : (cb qb : List ℕ) → Bound cb qb → Every (Low cb 1024) (flatBindings qb)
+low-many cb qb b = every-map (λ (c : Binding). c .variable < 8) (Low cb 1024) (λ c h. record { variable = h; rows = b .rows (c .relation) }) (flatBindings qb) (b .low)
+
+pub low-few : (cb qb : List ℕ) → Bound cb qb → all (tiny cb) (flatBindings qb) ≡ true → Every (Low cb 16) (flatBindings qb)
+low-few cb qb b h =
+    every-map (λ (c : Binding). (c .variable < 8) × (tiny cb c ≡ true)) (Low cb 16) (λ c k. record { variable = k .0; rows = leb-true (rowsOf cb (c .relation)) 16 (k .1) }) (flatBindings qb)
+    (every-both (λ (c : Binding). c .variable < 8) (λ (c : Binding). tiny cb c ≡ true) (flatBindings qb) (b .low) (all-every (tiny cb) (flatBindings qb) h))
 
 front : (l bs : List ℕ) → length bs ≤ length l → sets l 0 bs ≡ bs ++ drop (length bs) l
 front l bs h = let e : 0 + length bs ≡ length bs = omega arith in sets-eq bs l 0 (omega arith) ∙ ap (λ (k : ℕ). bs ++ drop k l) e

@@ -3,7 +3,7 @@ use grammar::Layout;
 use queries::Checked;
 use queries::Limits;
 ghost use mathlib.Core.Path.{_≡_};
-ghost use mathlib.Core.Bool.{false};
+ghost use mathlib.Core.Bool.{true, false};
 ghost use Prim.Native.Nat.{_≤_};
 ghost use lib.ListN.{length};
 ghost use Rattle.model.specs.Catalogue.{catalogueOf, shapeOf};
@@ -11,9 +11,11 @@ ghost use Rattle.model.specs.Checks.{fails10, permitChecks, refusal};
 ghost use Rattle.model.specs.Encoding.{queryOf};
 ghost use Rattle.model.specs.Meaning.{answers};
 ghost use Rattle.model.specs.Calls.{give, ask};
-ghost use Rattle.walks.specs.Walks.{rowsBy};
+ghost use Rattle.model.specs.Lists.{all};
+ghost use Rattle.scans.specs.Flat.{flatBindings};
 ghost use Rattle.plain.specs.Reply.{answerOf, Answerable};
-ghost use Rattle.guarded.specs.Outcome.{outcomeOf, walksOf, Checks32};
+ghost use Rattle.permitted.specs.Given.{tiny};
+ghost use Rattle.guarded.specs.Outcome.{outcomeOf, givenRows, Bound, Checks32};
 
 // The number of a refusal, 0 where there is none, and the counts of rows, columns and rewritten bytes.
 pub struct Reply {
@@ -50,6 +52,45 @@ fn check_permits(list: &[u8], catalogue: &[u8]) -> u8
 }
 
 // The asker's own query over the permitted rows of its variables, which are found first: nothing of it runs on another row.
+fn answer_many(
+    query: &[u8],
+    z: &[u16],
+    layout: Layout,
+    catalogue: &[u8],
+    values: &[i32],
+    list: &[u8],
+    places: &[usize],
+    masks: &[u8],
+    answer: &mut [i64],
+) -> plain::Reply
+    requires { ⌜ Answerable layout 32 (now query) (now z) (now catalogue) × Bound (now catalogue) (now query) ⌝ }
+    ensures { λ r. ⌜ answerOf r (now (answer .exit)) ≡ give (length (queryOf (now (query .entry)) .targets)) (answers (queryOf (now (query .entry))) (givenRows (now (catalogue .entry)) (now (values .entry)) (now (list .entry)) (now (places .entry)) (now (masks .entry)))) (now (answer .entry)) ⌝ }
+{
+    let mut walks = [0u16; 8256];
+    permitted::fill(query, list, places, masks, catalogue, values, &mut walks);
+    plain::answer_query(query, z, layout, 32, catalogue, &walks, values, answer)
+}
+
+// The same where each bound relation has at most 16 rows: a large table is not cleared for it.
+fn answer_few(
+    query: &[u8],
+    z: &[u16],
+    layout: Layout,
+    catalogue: &[u8],
+    values: &[i32],
+    list: &[u8],
+    places: &[usize],
+    masks: &[u8],
+    answer: &mut [i64],
+) -> plain::Reply
+    requires { ⌜ Answerable layout 32 (now query) (now z) (now catalogue) × Bound (now catalogue) (now query) × (all (tiny (now catalogue)) (flatBindings (now query)) ≡ true) ⌝ }
+    ensures { λ r. ⌜ answerOf r (now (answer .exit)) ≡ give (length (queryOf (now (query .entry)) .targets)) (answers (queryOf (now (query .entry))) (givenRows (now (catalogue .entry)) (now (values .entry)) (now (list .entry)) (now (places .entry)) (now (masks .entry)))) (now (answer .entry)) ⌝ }
+{
+    let mut walks = [0u16; 192];
+    permitted::fill(query, list, places, masks, catalogue, values, &mut walks);
+    plain::answer_query(query, z, layout, 32, catalogue, &walks, values, answer)
+}
+
 fn answer_permitted(
     query: &[u8],
     z: &[u16],
@@ -61,21 +102,33 @@ fn answer_permitted(
     masks: &[u8],
     answer: &mut [i64],
 ) -> plain::Reply
-    requires { ⌜ Answerable layout 32 (now query) (now z) (now catalogue) ⌝ }
-    ensures { λ r. ⌜ answerOf r (now (answer .exit)) ≡ give (length (queryOf (now (query .entry)) .targets)) (answers (queryOf (now (query .entry))) (rowsBy (walksOf (now (catalogue .entry)) (now (values .entry)) (now (list .entry)) (now (places .entry)) (now (masks .entry)) (now (query .entry))) (now (values .entry)))) (now (answer .entry)) ⌝ }
+    requires { ⌜ Answerable layout 32 (now query) (now z) (now catalogue) × Bound (now catalogue) (now query) ⌝ }
+    ensures { λ r. ⌜ answerOf r (now (answer .exit)) ≡ give (length (queryOf (now (query .entry)) .targets)) (answers (queryOf (now (query .entry))) (givenRows (now (catalogue .entry)) (now (values .entry)) (now (list .entry)) (now (places .entry)) (now (masks .entry)))) (now (answer .entry)) ⌝ }
 {
-    let mut walks = [0u16; 8256];
-    permitted::fill(
+    if permitted::few(query, catalogue) {
+        return answer_few(
+            query,
+            z,
+            layout,
+            catalogue,
+            values,
+            list,
+            places,
+            masks,
+            answer,
+        );
+    }
+    answer_many(
         query,
+        z,
+        layout,
+        catalogue,
+        values,
         list,
         places,
         masks,
-        catalogue,
-        values,
-        1024,
-        &mut walks,
-    );
-    plain::answer_query(query, z, layout, 32, catalogue, &walks, values, answer)
+        answer,
+    )
 }
 
 // 33 and 40, then the rewritten query, byte by byte, and the answer: the query over the permitted rows gives what the rewritten one gives (demand 2).

@@ -1,5 +1,5 @@
-pub mod Steps
 pub mod Marks
-pub mod Table
 pub mod Meets
+pub mod Lists
+pub mod Table
 pub mod Rows

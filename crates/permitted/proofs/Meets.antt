@@ -39,7 +39,7 @@ use Rattle.aggregates.proofs.Taking.{getD-same}
 use Rattle.aggregates.specs.Filled.{filledC}
 use Rattle.aggregates.proofs.Faithful.{faithful-holds, filled-faithful, empty-unknown}
 use Rattle.plain.proofs.Memo.{none-bound}
-use Rattle.permitted.specs.Judged.{noPlaces, ownMemo, meetsBytes}
+use Rattle.judges.specs.Meets.{noPlaces, ownMemo, meetsBytes}
 
 module _ (cb : List ℕ) (hc : fails10 cb ≡ false) (vs : List ℤ) (r : ℕ) (c : Condition) (fine : Fine c) (sane : Sane (shapeOf (catalogueOf cb)) r c) where
   abbrev q : List ℕ

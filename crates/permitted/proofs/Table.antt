@@ -1,181 +1,326 @@
--- Lists in the table: each variable's own walk and list stay while those of the others are written.
+-- The table: a step gives one variable its rows, and what the others have stays theirs.
 use mathlib.Core.Path.{_≡_, refl, sym, ap, ap₂, _∙_, subst}
-use mathlib.Core.Bool.{Bool, true, false, not, cond}
-use mathlib.Core.List.{List, [], _∷_}
-use Prim.Native.Nat.{ℕ, zero, suc, _+_, _*_, _%_, _≤_, _<_}
+use mathlib.Core.Bool.{Bool, true, false, not, cond, _&&_}
+use mathlib.Core.List.{List, [], _∷_, _++_, map, map-map, map-append}
+use Prim.Native.Nat.{ℕ, zero, suc, _+_, _-_, _*_, _/_, _≤_, _<_}
 use native.Mathlib.Nat.{mul-le-mul, le-refl}
 use native.Mathlib.Omega.{arith}
-use lib.Dec.{eqb, ltb}
+use lib.Dec.{eqb, leb}
 use lib.IntN.{ℤ}
-use lib.ListN.{length, getD, set, replicate, length-set}
-use lib.Seq.{sets, length-sets, getD-set-same, getD-set-other}
-use borrow.Author.Tests.{eqb-true, eqb-false, ltb-true, ltb-false, eq-eqb, ne-eqb}
-use Rattle.model.specs.Lists.{contains, any, unique, Every}
+use lib.ListN.{length, getD, set, length-set, length-append}
+use lib.Seq.{getD-set-same, getD-set-other}
+use borrow.Author.Tests.{eqb-true, eqb-false, eq-eqb, ne-eqb, leb-true}
+use Rattle.model.specs.Lists.{all, contains, any, filter, below, unique, Every}
 use Rattle.model.specs.Syntax.{Binding, variables}
-use Rattle.model.proofs.Tests.{and-inv, or-no, not-yes}
-use Rattle.model.proofs.Lists.{every-map}
-use Rattle.catalogue.specs.Layout.{rowsOf}
+use Rattle.model.specs.Meaning.{Tuple}
+use Rattle.model.proofs.Tests.{and-inv, or-no, not-yes, clash}
+use Rattle.model.proofs.Lists.{every-map, every-both, every-append, every-join, filter-map}
+use Rattle.catalogue.specs.Layout.{tupleAt, tuplesIn, offsets, attributesOf, rowsOf, baseOf}
+use Rattle.catalogue.proofs.Loops.{offsets-to}
+use Rattle.scans.specs.Flat.{boundBy}
+use Rattle.scans.specs.declared.Bound.{Bound}
+use Rattle.scans.specs.declared.Bound.the-variants.{To, Nothing}
 use Rattle.walks.specs.declared.Walk.{Walk}
-use Rattle.walks.specs.Walks.{walkOf}
+use Rattle.walks.specs.Walks.{walkOf, placeAt, places, walked}
 use Rattle.allrows.specs.Filled.{written, wholeOf}
 use Rattle.allrows.proofs.Table.{written-length, written-outside, written-other, written-here}
-use Rattle.permitted.specs.Judged.{judgedAll, numbersTo, startFor, listFor, listedWalk, listed, given, givenAll}
-use Rattle.permitted.proofs.Marks.{numbers-few}
+use Rattle.allrows.proofs.All.{walked-whole}
+use Rattle.judges.specs.Meets.{rowOf}
+use Rattle.permitted.specs.Given.{meetsAny, rowsFor, numbersFor, Listed, keyOf, entered, Has, Keyed, Given, Low, Stepped, tiny}
 
-sets-before : (l xs : List ℕ) (s i : ℕ) → i < s → getD (sets l s xs) i 0 ≡ getD l i 0
-sets-before l [] s i h = refl
-sets-before l (x ∷ xs) s i h = sets-before (set l s x) xs (suc s) i (omega arith) ∙ getD-set-other l s i x 0 (λ e. omega arith)
+-- walks that lead to the same rows
+places-same : (P Q : ℕ → ℕ) (k n : ℕ) → ((j : ℕ) → j < k + n → P j ≡ Q j) → places P k n ≡ places Q k n
+unfolding places
+places-same P Q k zero h = refl
+places-same P Q k (suc n) h = ap₂ _∷_ (h k (omega arith)) (places-same P Q (suc k) n (λ j l. h j (omega arith)))
 
-sets-after : (l xs : List ℕ) (s i : ℕ) → s + length xs ≤ i → getD (sets l s xs) i 0 ≡ getD l i 0
-sets-after l [] s i h = refl
-sets-after l (x ∷ xs) s i h = sets-after (set l s x) xs (suc s) i (omega arith) ∙ getD-set-other l s i x 0 (λ e. omega arith)
+walked-same : (ws ws′ : List ℕ) (vs : List ℤ) (u v : ℕ) → walkOf ws′ v ≡ walkOf ws u → ((walkOf ws u .start ≡ 0 → ⊥) → (j : ℕ) → j < walkOf ws u .count → getD ws′ (walkOf ws u .start + j) 0 ≡ getD ws (walkOf ws u .start + j) 0) → walked ws′ vs v ≡ walked ws vs u
+unfolding walked placeAt
+walked-same ws ws′ vs u v e h =
+    let x = walkOf ws u in
+    ap (λ (y : Walk). map (tupleAt vs) (places (placeAt ws′ y) 0 (y .count))) e
+    ∙ ap (map (tupleAt vs)) (places-same (placeAt ws′ x) (placeAt ws x) 0 (x .count) (λ j l. go j (omega arith) (eqb (x .start) 0) refl))
+  where
+    go : (j : ℕ) → j < walkOf ws u .count → (b : Bool) → eqb (walkOf ws u .start) 0 ≡ b → placeAt ws′ (walkOf ws u) j ≡ placeAt ws (walkOf ws u) j
+    go j l true k = rw k
+    go j l false k = rw k (ap (λ n. walkOf ws u .base + n * walkOf ws u .width) (h (eqb-false (walkOf ws u .start) 0 k) j l))
 
-sets-there : (l xs : List ℕ) (s j : ℕ) → j < length xs → s + length xs ≤ length l → getD (sets l s xs) (s + j) 0 ≡ getD xs j 0
-sets-there l [] s j h k = absurd (omega arith)
-sets-there l (x ∷ xs) s zero h k = let e : s + 0 ≡ s = omega arith in ap (λ i. getD (sets (set l s x) (suc s) xs) i 0) e ∙ sets-before (set l s x) xs (suc s) s (omega arith) ∙ getD-set-same l s x 0 (omega arith)
-sets-there l (x ∷ xs) s (suc j) h k = let e : s + suc j ≡ suc s + j = omega arith in ap (λ i. getD (sets (set l s x) (suc s) xs) i 0) e ∙ sets-there (set l s x) xs (suc s) j (omega arith) (omega (arith, k, length-set l s x))
+pub has-moved : (ws ws′ : List ℕ) (vs : List ℤ) (next next′ u v : ℕ) (xs : List Tuple) → Has ws vs next u xs → walkOf ws′ v ≡ walkOf ws u → ((i : ℕ) → 64 ≤ i → i < next → getD ws′ i 0 ≡ getD ws i 0) → next ≤ next′ → Has ws′ vs next′ v xs
+has-moved ws ws′ vs next next′ u v xs h e k l = record {
+  rows = walked-same ws ws′ vs u v e (λ d j g. let b = h .low d in k (walkOf ws u .start + j) (omega (arith, b .0)) (omega (arith, b .1, g))) ∙ h .rows;
+  low = λ d. let b = h .low (λ z. d (ap (λ (x : Walk). x .start) e ∙ z)) in (omega (arith, ap (λ (x : Walk). x .start) e, b .0), omega (arith, ap (λ (x : Walk). x .start) e, ap (λ (x : Walk). x .count) e, b .1, l));
+}
 
-rows-apart : (s u v : ℕ) → u < v → s * u + s ≤ s * v
-rows-apart s u v h = let e : s * suc u ≡ s * u + s = omega arith in omega (arith, e, mul-le-mul (le-refl s) h)
+-- an entry for variable v
+module _ (ws : List ℕ) (v : ℕ) (x : Walk) (key : ℕ) (low : v < 8) (room : 64 ≤ length ws) where
+  entry-size : length (entered ws v x key) ≡ length ws
+  entry-size = length-set (written ws v x) (8 * v + 5) key ∙ written-length ws v x
 
-module _ (stride : ℕ) where
-  -- the regions of two variables are apart
-  regions : (u v j n : ℕ) → u < 8 → v < 8 → (u ≡ v → ⊥) → j < stride → n ≤ stride → (startFor stride v + n ≤ startFor stride u + j → ⊥) → startFor stride u + j < startFor stride v
-  regions u v j n hu hv d hj hn k = go (ltb u v) refl
+  entry-far : (i : ℕ) → 64 ≤ i → getD (entered ws v x key) i 0 ≡ getD ws i 0
+  entry-far i h = getD-set-other (written ws v x) (8 * v + 5) i key 0 (λ e. omega (arith, e, h, low)) ∙ written-outside ws v x i (λ k l e. omega (arith, e, h, low, l))
+
+  entry-other : (u : ℕ) → (u ≡ v → ⊥) → walkOf (entered ws v x key) u ≡ walkOf ws u
+  entry-other u d =
+      let o : (j : ℕ) → j ≤ 4 → getD (entered ws v x key) (8 * u + j) 0 ≡ getD (written ws v x) (8 * u + j) 0 = λ j l. getD-set-other (written ws v x) (8 * v + 5) (8 * u + j) key 0 (λ e. omega (arith, e, l)) in
+      let z : 8 * u + 0 ≡ 8 * u = omega arith in
+      let o₀ : getD (entered ws v x key) (8 * u) 0 ≡ getD (written ws v x) (8 * u) 0 = subst (λ n. getD (entered ws v x key) n 0 ≡ getD (written ws v x) n 0) z (o 0 (omega arith)) in
+      rw (o₀, o 1 (omega arith), o 2 (omega arith), o 3 (omega arith), o 4 (omega arith)) (written-other ws v x u d)
+
+  entry-here : walkOf (entered ws v x key) v ≡ x
+  entry-here =
+      let o : (j : ℕ) → j ≤ 4 → getD (entered ws v x key) (8 * v + j) 0 ≡ getD (written ws v x) (8 * v + j) 0 = λ j l. getD-set-other (written ws v x) (8 * v + 5) (8 * v + j) key 0 (λ e. omega (arith, e, l)) in
+      let z : 8 * v + 0 ≡ 8 * v = omega arith in
+      let o₀ : getD (entered ws v x key) (8 * v) 0 ≡ getD (written ws v x) (8 * v) 0 = subst (λ n. getD (entered ws v x key) n 0 ≡ getD (written ws v x) n 0) z (o 0 (omega arith)) in
+      rw (o₀, o 1 (omega arith), o 2 (omega arith), o 3 (omega arith), o 4 (omega arith)) (written-here ws v x (omega (arith, low, room)))
+
+  entry-key : getD (entered ws v x key) (8 * v + 5) 0 ≡ key
+  entry-key = getD-set-same (written ws v x) (8 * v + 5) key 0 (omega (arith, low, room, written-length ws v x))
+
+  entry-keys : (u : ℕ) → (u ≡ v → ⊥) → getD (entered ws v x key) (8 * u + 5) 0 ≡ getD ws (8 * u + 5) 0
+  entry-keys u d = getD-set-other (written ws v x) (8 * v + 5) (8 * u + 5) key 0 (λ e. d (omega (arith, e))) ∙ written-outside ws v x (8 * u + 5) (λ k l e. omega (arith, e, l))
+
+-- a step that enters variable v, after its list was written
+module _ (cb : List ℕ) (vs : List ℤ) (f : ℕ → List ℕ) (r m v next next′ : ℕ) (ws y : List ℕ) (x : Walk) (key : ℕ) (low : v < 8) (hm : m < 256) (k₀ : Keyed cb vs f ws next) (size : length y ≡ length ws) (room : 64 ≤ length ws)
+    (before : (i : ℕ) → i < next → getD y i 0 ≡ getD ws i 0) (up : next ≤ next′) (high : next′ ≤ next + rowsOf cb r) (ek : key ≡ cond (eqb m 0) 0 (keyOf r m)) (own : Has (entered y v x key) vs next′ v (rowsFor cb vs f m r)) where
+  abbrev z : List ℕ
+  z = entered y v x key
+
+  room′ : 64 ≤ length y
+  room′ = omega (arith, room, size)
+
+  early : (u j : ℕ) → u < 8 → j ≤ 7 → getD y (8 * u + j) 0 ≡ getD ws (8 * u + j) 0
+  early u j hu hj = before (8 * u + j) (omega (arith, hu, hj, k₀ .least))
+
+  walk-early : (u : ℕ) → u < 8 → walkOf y u ≡ walkOf ws u
+  walk-early u hu =
+      let e : 8 * u + 0 ≡ 8 * u = omega arith in
+      let o₀ : getD y (8 * u) 0 ≡ getD ws (8 * u) 0 = subst (λ n. getD y n 0 ≡ getD ws n 0) e (early u 0 hu (omega arith)) in
+      rw (o₀, early u 1 hu (omega arith), early u 2 hu (omega arith), early u 3 hu (omega arith), early u 4 hu (omega arith))
+
+  kept : (u : ℕ) (xs : List Tuple) → u < 8 → (u ≡ v → ⊥) → Has ws vs next u xs → Has z vs next′ u xs
+  kept u xs hu d h = has-moved ws z vs next next′ u u xs h (entry-other y v x key low room′ u d ∙ walk-early u hu) (λ i a b. entry-far y v x key low room′ i a ∙ before i b) up
+
+  keyed : Keyed cb vs f z next′
+  keyed = record { keys = λ u s n hu hn hn′ e. go u s n hu hn hn′ e (eqb u v) refl; least = omega (arith, k₀ .least, up) }
     where
-      eu : u % 8 ≡ u
-      eu = omega arith
+      same : (b : Bool) → eqb m 0 ≡ b → (s n : ℕ) → (n ≡ 0 → ⊥) → n < 256 → key ≡ keyOf s n → Has z vs next′ v (rowsFor cb vs f n s)
+      same true h s n hn hn′ e = let q : key ≡ 0 = ek ∙ ap (λ b. cond b 0 (keyOf r m)) h in absurd (hn (omega (arith, e, q)))
+      same false h s n hn hn′ e =
+          let q : keyOf r m ≡ keyOf s n = sym (ap (λ b. cond b 0 (keyOf r m)) h) ∙ sym ek ∙ e in
+          let em : m ≡ n = omega (arith, q, hm, hn′) in
+          let er : r ≡ s = omega (arith, q, hm, hn′) in
+          subst (λ k. Has z vs next′ v (rowsFor cb vs f k s)) em (subst (λ k. Has z vs next′ v (rowsFor cb vs f m k)) er own)
 
-      ev : v % 8 ≡ v
-      ev = omega arith
+      go : (u s n : ℕ) → u < 8 → (n ≡ 0 → ⊥) → n < 256 → getD z (8 * u + 5) 0 ≡ keyOf s n → (b : Bool) → eqb u v ≡ b → Has z vs next′ u (rowsFor cb vs f n s)
+      go u s n hu hn hn′ e true h =
+          let w = eqb-true u v h in
+          subst (λ k. Has z vs next′ k (rowsFor cb vs f n s)) (sym w) (same (eqb m 0) refl s n hn hn′ (sym (entry-key y v x key low room′) ∙ ap (λ k. getD z (8 * k + 5) 0) (sym w) ∙ e))
+      go u s n hu hn hn′ e false h =
+          let d = eqb-false u v h in
+          kept u (rowsFor cb vs f n s) hu d (k₀ .keys u s n hu hn hn′ (sym (early u 5 hu (omega arith)) ∙ sym (entry-keys y v x key low room′ u d) ∙ e))
 
-      go : (b : Bool) → ltb u v ≡ b → startFor stride u + j < startFor stride v
-      go true p = omega (arith, rows-apart stride u v (ltb-true u v p), ap (λ i. stride * i) eu, ap (λ i. stride * i) ev, hj)
-      go false p = absurd (k (omega (arith, rows-apart stride v u (other u v (ltb-false u v p) d), ap (λ i. stride * i) eu, ap (λ i. stride * i) ev, hn)))
-        where
-          other : (u v : ℕ) → v ≤ u → (u ≡ v → ⊥) → v < u
-          other u v h d = omega (arith, h, d)
+  pub stepped : Stepped cb vs f v (rowsFor cb vs f m r) (rowsOf cb r) next next′ ws z
+  stepped = record { keyed = keyed; given = own; kept = kept; size = entry-size y v x key low room′ ∙ size; high = high }
 
-  -- variable u has its walk and its list
-  pub record Kept (ws ws′ : List ℕ) (u : ℕ) : Type 0 where
-    pub walk : walkOf ws′ u ≡ walkOf ws u
-    pub list : (j : ℕ) → j < stride → getD ws′ (startFor stride u + j) 0 ≡ getD ws (startFor stride u + j) 0
-    pub size : length ws′ ≡ length ws
+-- all rows
+pub given-whole : (cb : List ℕ) (vs : List ℤ) (f : ℕ → List ℕ) (r m v next : ℕ) (ws w : List ℕ) (x : Walk) → v < 8 → m ≡ 0 → Keyed cb vs f ws next → 64 ≤ length ws → x ≡ wholeOf cb r → w ≡ entered ws v x 0 → Stepped cb vs f v (rowsFor cb vs f m r) (rowsOf cb r) next next ws w
+unfolding rowsFor
+given-whole cb vs f r m v next ws w x low em k room ex ew =
+    let here : walkOf (entered ws v x 0) v ≡ wholeOf cb r = entry-here ws v x 0 low room ∙ ex in
+    subst (Stepped cb vs f v (rowsFor cb vs f m r) (rowsOf cb r) next next ws) (sym ew)
+    (stepped cb vs f r m v next next ws ws x 0 low (omega (arith, em)) k refl room (λ i h. refl) (omega arith) (omega arith) (sym (rw (eq-eqb m 0 em))) (record {
+      rows = walked-whole cb (entered ws v x 0) vs v r here ∙ sym (rw (eq-eqb m 0 em));
+      low = λ d. absurd (d (ap (λ (y : Walk). y .start) here));
+    }))
 
-  kept-trans : (a b c : List ℕ) (u : ℕ) → Kept a b u → Kept b c u → Kept a c u
-  kept-trans a b c u h k = record { walk = k .walk ∙ h .walk; list = λ j l. k .list j l ∙ h .list j l; size = k .size ∙ h .size }
+-- another variable's list
+pub given-shared : (cb : List ℕ) (vs : List ℤ) (f : ℕ → List ℕ) (r m u v next key : ℕ) (ws w : List ℕ) (x : Walk) → u < 8 → v < 8 → (m ≡ 0 → ⊥) → m < 256 → key ≡ keyOf r m → Keyed cb vs f ws next → 64 ≤ length ws → getD ws (8 * u + 5) 0 ≡ key → x ≡ walkOf ws u → w ≡ entered ws v x key → Stepped cb vs f v (rowsFor cb vs f m r) (rowsOf cb r) next next ws w
+given-shared cb vs f r m u v next key ws w x hu hv hm hm′ ekey k room es ex ew =
+    let own = has-moved ws (entered ws v x key) vs next next u v (rowsFor cb vs f m r) (k .keys u r m hu hm hm′ (es ∙ ekey)) (entry-here ws v x key hv room ∙ ex) (λ i a b. entry-far ws v x key hv room i a) (omega arith) in
+    subst (Stepped cb vs f v (rowsFor cb vs f m r) (rowsOf cb r) next next ws) (sym ew)
+    (stepped cb vs f r m v next next ws ws x key hv hm′ k refl room (λ i h. refl) (omega arith) (omega arith) (ekey ∙ sym (rw (ne-eqb m 0 hm))) own)
 
-  kept-written : (ws : List ℕ) (u v : ℕ) (x : Walk) → u < 8 → v < 8 → (u ≡ v → ⊥) → Kept ws (written ws v x) u
-  kept-written ws u v x hu hv d = record {
-    walk = written-other ws v x u d;
-    list = λ j l. written-outside ws v x (startFor stride u + j) (λ k m e. omega arith);
-    size = written-length ws v x;
-  }
+-- a relation's rows by their numbers
+offsets-below : (b w n : ℕ) → offsets b w n ≡ map (λ i. b + i * w) (below n)
+unfolding below offsets
+offsets-below b w zero = refl
+offsets-below b w (suc n) = let e : suc n ≡ n + 1 = omega arith in ap (offsets b w) e ∙ offsets-to b w n ∙ ap (λ (l : List ℕ). l ++ ((b + n * w) ∷ [])) (offsets-below b w n) ∙ sym (map-append (λ i. b + i * w) (below n) (n ∷ []))
 
-  kept-sets : (ws xs : List ℕ) (u v : ℕ) → u < 8 → v < 8 → (u ≡ v → ⊥) → length xs ≤ stride → Kept ws (sets ws (startFor stride v) xs) u
-  kept-sets ws xs u v hu hv d h =
-      let o : (i : ℕ) → i < 64 → getD (sets ws (startFor stride v) xs) i 0 ≡ getD ws i 0 = λ i l. sets-before ws xs (startFor stride v) i (omega arith) in
+tuples-below : (cb : List ℕ) (vs : List ℤ) (r : ℕ) → tuplesIn cb vs r ≡ map (rowOf cb vs r) (below (rowsOf cb r))
+unfolding tuplesIn
+tuples-below cb vs r = ap (map (tupleAt vs)) (offsets-below (baseOf cb r) (attributesOf cb r) (rowsOf cb r)) ∙ map-map (tupleAt vs) (λ i. baseOf cb r + i * attributesOf cb r) (below (rowsOf cb r))
+
+places-listed : (P g : ℕ → ℕ) (k : ℕ) (xs : List ℕ) → ((j : ℕ) → j < length xs → P (k + j) ≡ g (getD xs j 0)) → places P k (length xs) ≡ map g xs
+unfolding places
+places-listed P g k [] h = refl
+places-listed P g k (x ∷ xs) h =
+    let z : k + 0 ≡ k = omega arith in
+    ap₂ _∷_ (ap P (sym z) ∙ h 0 (omega arith)) (places-listed P g (suc k) xs (λ j l. let e : suc k + j ≡ k + suc j = omega arith in ap P e ∙ h (suc j) (omega arith)))
+
+-- a list of its own
+module _ (cb : List ℕ) (vs : List ℤ) (f : ℕ → List ℕ) (r m : ℕ) where
+  abbrev xs : List ℕ
+  xs = numbersFor cb vs f m r
+
+  abbrev own : ℕ → Walk
+  own s = record { start = s; count = length xs; base = baseOf cb r; width = attributesOf cb r }
+
+  walked-listed : (ws : List ℕ) (v s : ℕ) → (m ≡ 0 → ⊥) → walkOf ws v ≡ own s → (s ≡ 0 → ⊥) → ((j : ℕ) → j < length xs → getD ws (s + j) 0 ≡ getD xs j 0) → walked ws vs v ≡ rowsFor cb vs f m r
+  unfolding walked placeAt rowsFor
+  walked-listed ws v s hm h d e =
+      let g : ℕ → ℕ = λ n. baseOf cb r + n * attributesOf cb r in
+      ap (λ (x : Walk). map (tupleAt vs) (places (placeAt ws x) 0 (x .count))) h
+      ∙ ap (map (tupleAt vs)) (places-listed (placeAt ws (own s)) g 0 xs (λ j l. let z : 0 + j ≡ j = omega arith in ap (placeAt ws (own s)) z ∙ ap g (rw (ne-eqb s 0 d) (e j l))))
+      ∙ map-map (tupleAt vs) g xs
+      ∙ sym (filter-map (rowOf cb vs r) (meetsAny cb vs f m) (below (rowsOf cb r)))
+      ∙ ap (filter (meetsAny cb vs f m)) (sym (tuples-below cb vs r))
+      ∙ sym (rw (ne-eqb m 0 hm))
+
+  pub given-listed : (v next next′ key : ℕ) (ws y w : List ℕ) (x : Walk) → v < 8 → (m ≡ 0 → ⊥) → m < 256 → key ≡ keyOf r m → Keyed cb vs f ws next → 64 ≤ length ws → Listed xs next next′ ws y → next ≤ next′ → next′ ≤ next + rowsOf cb r → x ≡ wholeOf cb r
+      → w ≡ entered y v (record { start = next; count = next′ - next; base = x .base; width = x .width }) key → Stepped cb vs f v (rowsFor cb vs f m r) (rowsOf cb r) next next′ ws w
+  given-listed v next next′ key ws y w x hv hm hm′ ekey k room l up high ex ew =
+      let n : next′ - next ≡ length xs = omega (arith, l .ends) in
+      let ew′ : w ≡ entered y v (own next) key = ew ∙ ap₂ (λ (c : ℕ) (u : Walk). entered y v (record { start = next; count = c; base = u .base; width = u .width }) key) n ex in
+      let room′ : 64 ≤ length y = omega (arith, room, l .size) in
+      let here = entry-here y v (own next) key hv room′ in
+      let has : Has (entered y v (own next) key) vs next′ v (rowsFor cb vs f m r) = record {
+        rows = walked-listed (entered y v (own next) key) v next hm here (λ e. omega (arith, e, k .least)) (λ j h. entry-far y v (own next) key hv room′ (next + j) (omega (arith, k .least)) ∙ l .list j h);
+        low = λ d. (omega (arith, ap (λ (u : Walk). u .start) here, k .least), omega (arith, ap (λ (u : Walk). u .start) here, ap (λ (u : Walk). u .count) here, l .ends));
+      } in
+      subst (Stepped cb vs f v (rowsFor cb vs f m r) (rowsOf cb r) next next′ ws) (sym ew′)
+      (stepped cb vs f r m v next next′ ws y (own next) key hv hm′ k (l .size) room (l .before) up high (ekey ∙ sym (rw (ne-eqb m 0 hm))) has)
+
+-- the bindings so far
+module _ (cb : List ℕ) (vs : List ℤ) (f : ℕ → List ℕ) (masks : List ℕ) (most : ℕ) (bs : List Binding) where
+  pub record Filling (left : List Binding) (next : ℕ) (ws : List ℕ) : Type 0 where
+    pub done : List Binding
+    pub split : done ++ left ≡ bs
+    pub given : Every (Given cb vs f masks ws next) done
+    pub keyed : Keyed cb vs f ws next
+    pub room : next + most * length left ≤ length ws
+
+  apart : (ds es : List Binding) (b : Binding) → unique (variables (ds ++ (b ∷ es))) ≡ true → Every (λ (d : Binding). d .variable ≡ b .variable → ⊥) ds
+  unfolding unique Every contains any
+  apart [] es b h = tt
+  apart (d ∷ ds) es b h =
+      let i = and-inv (not (contains (d .variable) (variables (ds ++ (b ∷ es))))) (unique (variables (ds ++ (b ∷ es)))) h in
+      (found ds (not-yes (contains (d .variable) (variables (ds ++ (b ∷ es)))) (i .0)), apart ds es b (i .1))
+    where
+      found : (ds : List Binding) → contains (d .variable) (variables (ds ++ (b ∷ es))) ≡ false → d .variable ≡ b .variable → ⊥
+      found [] h e = eqb-false (d .variable) (b .variable) (or-no (eqb (d .variable) (b .variable)) (contains (d .variable) (variables es)) h .0) e
+      found (c ∷ ds) h e = found ds (or-no (eqb (d .variable) (c .variable)) (contains (d .variable) (variables (ds ++ (b ∷ es)))) h .1) e
+
+  snoc : (ds es : List Binding) (b : Binding) → (ds ++ (b ∷ [])) ++ es ≡ ds ++ (b ∷ es)
+  snoc [] es b = refl
+  snoc (d ∷ ds) es b = ap (λ (l : List Binding). d ∷ l) (snoc ds es b)
+
+  pub filling-none : (left rest : List Binding) (b : Bound) (next next′ : ℕ) (ws ws′ : List ℕ) → b ≡ Nothing → left ≡ boundBy b ++ rest → next′ ≡ next → ws′ ≡ ws → Filling left next ws → Filling rest next′ ws′
+  filling-none left rest b next next′ ws ws′ eb el en ew h =
+      let e : left ≡ rest = el ∙ ap (λ (x : Bound). boundBy x ++ rest) eb in
+      subst (λ (k : ℕ). Filling rest k ws′) (sym en) (subst (λ (u : List ℕ). Filling rest next u) (sym ew) (subst (λ (l : List Binding). Filling l next ws) e h))
+
+  -- what a step may ask of a bound variable
+  pub asked : (left rest : List Binding) (b : Bound) (v r next : ℕ) (ws : List ℕ) → Every (Low cb most) bs → b ≡ To v r → left ≡ boundBy b ++ rest → Filling left next ws → ((v < 8) × (rowsOf cb r ≤ most)) × ((next + most ≤ length ws) × Keyed cb vs f ws next)
+  unfolding Every
+  asked left rest b v r next ws lows eb el h =
+      let c : Binding = record { variable = v; relation = r } in
+      let e : left ≡ c ∷ rest = el ∙ ap (λ (x : Bound). boundBy x ++ rest) eb in
+      let l = every-append (Low cb most) (h .done) left (subst (Every (Low cb most)) (sym (h .split)) lows) .1 in
+      let i = subst (Every (Low cb most)) e l .0 in
+      let n : length left ≡ suc (length rest) = ap length e in
+      let p : most * length left ≡ most * length rest + most = ap (λ k. most * k) n ∙ times most (length rest) in
+      ((i .variable, i .rows), (omega (arith, h .room, p), h .keyed))
+    where
+      times : (a n : ℕ) → a * suc n ≡ a * n + a
+      times a n = omega arith
+
+  pub filling-on : (left rest : List Binding) (b : Bound) (v r next next′ : ℕ) (ws ws′ : List ℕ) → unique (variables bs) ≡ true → Every (Low cb most) bs → b ≡ To v r → left ≡ boundBy b ++ rest → Filling left next ws
+      → Stepped cb vs f v (rowsFor cb vs f (getD masks v 0) r) (rowsOf cb r) next next′ ws ws′ → Filling rest next′ ws′
+  unfolding Every
+  filling-on left rest b v r next next′ ws ws′ once lows eb el h s =
+      let c : Binding = record { variable = v; relation = r } in
+      let ds = h .done in
+      let e : left ≡ c ∷ rest = el ∙ ap (λ (x : Bound). boundBy x ++ rest) eb in
+      let whole : ds ++ (c ∷ rest) ≡ bs = ap (λ (l : List Binding). ds ++ l) (sym e) ∙ h .split in
+      let a = asked left rest b v r next ws lows eb el h in
+      let d = apart ds rest c (subst (λ (l : List Binding). unique (variables l) ≡ true) (sym whole) once) in
+      let l = every-append (Low cb most) ds (c ∷ rest) (subst (Every (Low cb most)) (sym whole) lows) .0 in
+      let all = every-both (Given cb vs f masks ws next) (λ (x : Binding). (x .variable ≡ v → ⊥) × Low cb most x) ds (h .given) (every-both (λ (x : Binding). x .variable ≡ v → ⊥) (Low cb most) ds d l) in
+      let n : most * length left ≡ most * length rest + most = ap (λ k. most * k) (ap length e) ∙ times most (length rest) in
       record {
-        walk = rw (o (8 * u) (omega arith), o (8 * u + 1) (omega arith), o (8 * u + 2) (omega arith), o (8 * u + 3) (omega arith), o (8 * u + 4) (omega arith));
-        list = λ j l. go j l (ltb (startFor stride u + j) (startFor stride v)) refl;
-        size = length-sets ws (startFor stride v) xs;
+        done = ds ++ (c ∷ []);
+        split = snoc ds rest c ∙ whole;
+        given = every-join (Given cb vs f masks ws′ next′) ds (c ∷ []) (every-map (λ (x : Binding). Given cb vs f masks ws next x × ((x .variable ≡ v → ⊥) × Low cb most x)) (Given cb vs f masks ws′ next′) (λ x g. s .kept (x .variable) _ (g .1 .1 .variable) (g .1 .0) (g .0)) ds all) (s .given, tt);
+        keyed = s .keyed;
+        room = omega (arith, h .room, n, s .high, a .0 .1, s .size);
       }
     where
-      go : (j : ℕ) → j < stride → (b : Bool) → ltb (startFor stride u + j) (startFor stride v) ≡ b → getD (sets ws (startFor stride v) xs) (startFor stride u + j) 0 ≡ getD ws (startFor stride u + j) 0
-      go j l true p = sets-before ws xs (startFor stride v) (startFor stride u + j) (ltb-true _ _ p)
-      go j l false p = sets-after ws xs (startFor stride v) (startFor stride u + j) (behind (ltb (startFor stride u + j) (startFor stride v + length xs)) refl)
-        where
-          behind : (b : Bool) → ltb (startFor stride u + j) (startFor stride v + length xs) ≡ b → startFor stride v + length xs ≤ startFor stride u + j
-          behind true q = absurd (omega (arith, regions u v j (length xs) hu hv d l h (λ k. omega (arith, k, ltb-true (startFor stride u + j) (startFor stride v + length xs) q)), ltb-false (startFor stride u + j) (startFor stride v) p))
-          behind false q = ltb-false _ _ q
+      times : (a n : ℕ) → a * suc n ≡ a * n + a
+      times a n = omega arith
 
-  module _ (cb : List ℕ) (vs : List ℤ) (f : ℕ → List ℕ) (masks : List ℕ) where
-    abbrev listOf : Binding → List ℕ
-    listOf b = listFor cb vs f (getD masks (b .variable) 0) (b .relation)
+  -- one record of the query
+  pub filling-step : (left rest : List Binding) (b : Bound) (next next′ : ℕ) (ws ws′ : List ℕ) → unique (variables bs) ≡ true → Every (Low cb most) bs → left ≡ boundBy b ++ rest → (b ≡ Nothing → (next′ ≡ next) × (ws′ ≡ ws))
+      → ((v r : ℕ) → b ≡ To v r → Stepped cb vs f v (rowsFor cb vs f (getD masks v 0) r) (rowsOf cb r) next next′ ws ws′) → Filling left next ws → Filling rest next′ ws′
+  filling-step left rest Nothing next next′ ws ws′ once lows el en es h = let e = en refl in filling-none left rest Nothing next next′ ws ws′ refl el (e .0) (e .1) h
+  filling-step left rest (To v r) next next′ ws ws′ once lows el en es h = filling-on left rest (To v r) v r next next′ ws ws′ once lows refl el h (es v r refl)
 
-    -- what the table says of a binding
-    pub record Says (ws : List ℕ) (b : Binding) : Type 0 where
-      pub whole : getD masks (b .variable) 0 ≡ 0 → walkOf ws (b .variable) ≡ wholeOf cb (b .relation)
-      pub listed : (getD masks (b .variable) 0 ≡ 0 → ⊥) → walkOf ws (b .variable) ≡ listedWalk cb (startFor stride (b .variable)) (listOf b) (b .relation)
-      pub numbers : (getD masks (b .variable) 0 ≡ 0 → ⊥) → (j : ℕ) → j < length (listOf b) → getD ws (startFor stride (b .variable) + j) 0 ≡ getD (listOf b) j 0
+  pub filling-end : (next : ℕ) (ws : List ℕ) → Filling [] next ws → Every (λ (b : Binding). walked ws vs (b .variable) ≡ rowsFor cb vs f (getD masks (b .variable) 0) (b .relation)) bs
+  filling-end next ws h =
+      every-map (Given cb vs f masks ws next) (λ (b : Binding). walked ws vs (b .variable) ≡ rowsFor cb vs f (getD masks (b .variable) 0) (b .relation)) (λ b g. g .rows) bs
+      (subst (Every (Given cb vs f masks ws next)) (sym (nil (h .done)) ∙ h .split) (h .given))
+    where
+      nil : (l : List Binding) → l ++ [] ≡ l
+      nil [] = refl
+      nil (x ∷ l) = ap (λ (m : List Binding). x ∷ m) (nil l)
 
-    -- a low variable over a relation whose rows have room
-    pub record Low (ws : List ℕ) (b : Binding) : Type 0 where
-      pub variable : b .variable < 8
-      pub rows : rowsOf cb (b .relation) ≤ stride
-      pub room : 64 + 8 * stride ≤ length ws
+  pub filling-start : (ws : List ℕ) → ((i : ℕ) → getD ws i 0 ≡ 0) → 64 + most * length bs ≤ length ws → Filling bs 64 ws
+  unfolding Every
+  filling-start ws z h = record {
+    done = [];
+    split = refl;
+    given = tt;
+    keyed = record { keys = λ v r m hv hm hm′ e. absurd (hm (omega (arith, e, z (8 * v + 5)))); least = omega arith };
+    room = h;
+  }
 
-    few : (ws : List ℕ) (b : Binding) → Low ws b → length (listOf b) ≤ stride
-    few ws b l = omega (arith, numbers-few (judgedAll cb vs (b .relation) f 8 (getD masks (b .variable) 0) 0 (replicate 1024 0)) (rowsOf cb (b .relation)), l .rows)
+pub room-enough : (l n : ℕ) → n ≤ 8 → 64 ≤ l → 64 + ((l - 64) / 8) * n ≤ l
+room-enough l n h k = let e : ((l - 64) / 8) * 8 ≤ l - 64 = omega arith in omega (arith, k, e, mul-le-mul (le-refl ((l - 64) / 8)) h)
 
-    says-kept : (ws ws′ : List ℕ) (b : Binding) → Low ws b → Kept ws ws′ (b .variable) → Says ws b → Says ws′ b
-    says-kept ws ws′ b l k s = record {
-      whole = λ e. k .walk ∙ s .whole e;
-      listed = λ e. k .walk ∙ s .listed e;
-      numbers = λ e j h. k .list j (omega (arith, h, few ws b l)) ∙ s .numbers e j h;
-    }
+pub most-low : (r l : ℕ) → r ≤ (l - 64) / 8 → l ≤ 8256 → r ≤ 1024
+most-low r l h k = omega (arith, h, k)
 
-    abbrev step : List ℕ → Binding → List ℕ
-    step ws b = given cb vs f stride (getD masks (b .variable) 0) (b .variable) (b .relation) ws
+-- what a record binds
+abbrev variableOf : Bound → ℕ
+variableOf (To v r) = v
+variableOf Nothing = 0
 
-    kept-given : (ws : List ℕ) (b : Binding) (u : ℕ) → Low ws b → u < 8 → (u ≡ b .variable → ⊥) → Kept ws (step ws b) u
-    unfolding given listed
-    kept-given ws b u l hu d = go (eqb (getD masks (b .variable) 0) 0)
-      where
-        go : (x : Bool) → Kept ws (cond x (written ws (b .variable) (wholeOf cb (b .relation))) (listed cb vs f stride (getD masks (b .variable) 0) (b .variable) (b .relation) ws)) u
-        go true = kept-written ws u (b .variable) (wholeOf cb (b .relation)) hu (l .variable) d
-        go false = kept-trans ws (sets ws (startFor stride (b .variable)) (listOf b)) _ u (kept-sets ws (listOf b) u (b .variable) hu (l .variable) d (few ws b l)) (kept-written _ u (b .variable) (listedWalk cb (startFor stride (b .variable)) (listOf b) (b .relation)) hu (l .variable) d)
+abbrev relationOf : Bound → ℕ
+relationOf (To v r) = r
+relationOf Nothing = 0
 
-    given-length : (ws : List ℕ) (b : Binding) → length (step ws b) ≡ length ws
-    unfolding given listed
-    given-length ws b = go (eqb (getD masks (b .variable) 0) 0)
-      where
-        go : (x : Bool) → length (cond x (written ws (b .variable) (wholeOf cb (b .relation))) (listed cb vs f stride (getD masks (b .variable) 0) (b .variable) (b .relation) ws)) ≡ length ws
-        go true = written-length ws (b .variable) (wholeOf cb (b .relation))
-        go false = written-length (sets ws (startFor stride (b .variable)) (listOf b)) (b .variable) (listedWalk cb (startFor stride (b .variable)) (listOf b) (b .relation)) ∙ length-sets ws (startFor stride (b .variable)) (listOf b)
+abbrev binds : Bound → Bool
+binds (To v r) = true
+binds Nothing = false
 
-    region-room : (ws : List ℕ) (b : Binding) → Low ws b → startFor stride (b .variable) + length (listOf b) ≤ length ws
-    region-room ws b l =
-        let v = b .variable in
-        let e : v % 8 ≡ v = omega (arith, l .variable) in
-        omega (arith, ap (λ i. stride * i) e, rows-apart stride v 8 (l .variable), few ws b l, l .room, eight stride)
-      where
-        eight : (s : ℕ) → s * 8 ≡ 8 * s
-        eight s = omega arith
+pub binds-nothing : {A : Type 0} (b : Bound) (v r : ℕ) → b ≡ Nothing → b ≡ To v r → A
+binds-nothing b v r e h = clash (sym (ap binds (sym h ∙ e)))
 
-    says-given : (ws : List ℕ) (b : Binding) → Low ws b → Says (step ws b) b
-    unfolding given listed
-    says-given ws b l =
-        let v = b .variable in
-        let x = listedWalk cb (startFor stride v) (listOf b) (b .relation) in
-        let y = sets ws (startFor stride v) (listOf b) in
-        let inside : 8 * v + 4 < length ws = omega (arith, l .variable, l .room) in
-        record {
-          whole = λ e. ap (λ (t : List ℕ). walkOf t v) (ap (λ i. cond i (written ws v (wholeOf cb (b .relation))) (listed cb vs f stride (getD masks v 0) v (b .relation) ws)) (eq-eqb (getD masks v 0) 0 e)) ∙ written-here ws v (wholeOf cb (b .relation)) inside;
-          listed = λ e. ap (λ (t : List ℕ). walkOf t v) (ap (λ i. cond i (written ws v (wholeOf cb (b .relation))) (listed cb vs f stride (getD masks v 0) v (b .relation) ws)) (ne-eqb (getD masks v 0) 0 e)) ∙ written-here y v x (omega (arith, inside, length-sets ws (startFor stride v) (listOf b)));
-          numbers = λ e j h.
-              ap (λ (t : List ℕ). getD t (startFor stride v + j) 0) (ap (λ i. cond i (written ws v (wholeOf cb (b .relation))) (listed cb vs f stride (getD masks v 0) v (b .relation) ws)) (ne-eqb (getD masks v 0) 0 e))
-              ∙ written-outside y v x (startFor stride v + j) (λ k m q. omega (arith, l .variable, q, m)) ∙ sets-there ws (listOf b) (startFor stride v) j h (region-room ws b l);
-        }
+pub binds-this : (P : ℕ → ℕ → Type 0) (b : Bound) (v r : ℕ) → b ≡ To v r → P v r → (u s : ℕ) → b ≡ To u s → P u s
+binds-this P b v r e p u s h = let k = sym e ∙ h in subst (λ x. P x s) (ap variableOf k) (subst (λ x. P v x) (ap relationOf k) p)
 
-    low-on : (ws ws′ : List ℕ) (b : Binding) → length ws′ ≡ length ws → Low ws b → Low ws′ b
-    low-on ws ws′ b e l = record { variable = l .variable; rows = l .rows; room = omega (arith, e, l .room) }
+pub tiny-none : (cb : List ℕ) (b : Bound) → b ≡ Nothing → true ≡ all (tiny cb) (boundBy b)
+unfolding all
+tiny-none cb b e = sym (ap (λ (x : Bound). all (tiny cb) (boundBy x)) e)
 
-    kept-all : (ws : List ℕ) (u : ℕ) (bs : List Binding) → u < 8 → contains u (variables bs) ≡ false → Every (Low ws) bs → Kept ws (givenAll cb vs f stride masks bs ws) u
-    unfolding givenAll contains any Every
-    kept-all ws u [] hu n l = record { walk = refl; list = λ j h. refl; size = refl }
-    kept-all ws u (b ∷ bs) hu n l =
-        let i = or-no (eqb u (b .variable)) (contains u (variables bs)) n in
-        let m = every-map (Low ws) (Low (step ws b)) (λ c h. low-on ws (step ws b) c (given-length ws b) h) bs (l .1) in
-        kept-trans ws (step ws b) (givenAll cb vs f stride masks bs (step ws b)) u (kept-given ws b u (l .0) hu (eqb-false u (b .variable) (i .0))) (kept-all (step ws b) u bs hu (i .1) m)
+pub tiny-one : (cb : List ℕ) (b : Bound) (v r n : ℕ) → b ≡ To v r → n ≡ rowsOf cb r → leb n 16 ≡ all (tiny cb) (boundBy b)
+unfolding all
+tiny-one cb b v r n e en = ap (λ k. leb k 16) en ∙ sym (ap (λ (x : Bound). all (tiny cb) (boundBy x)) e ∙ and-yes (leb (rowsOf cb r) 16))
+  where
+    and-yes : (a : Bool) → a && true ≡ a
+    and-yes true = refl
+    and-yes false = refl
 
-    -- the table says what it should of each binding
-    pub all-say : (ws : List ℕ) (bs : List Binding) → unique (variables bs) ≡ true → Every (Low ws) bs → Every (Says (givenAll cb vs f stride masks bs ws)) bs
-    unfolding givenAll unique Every
-    all-say ws [] u l = tt
-    all-say ws (b ∷ bs) u l =
-        let i = and-inv (not (contains (b .variable) (variables bs))) (unique (variables bs)) u in
-        let m = every-map (Low ws) (Low (step ws b)) (λ c h. low-on ws (step ws b) c (given-length ws b) h) bs (l .1) in (
-          says-kept (step ws b) (givenAll cb vs f stride masks bs (step ws b)) b (low-on ws (step ws b) b (given-length ws b) (l .0)) (kept-all (step ws b) (b .variable) bs (l .0 .variable) (not-yes (contains (b .variable) (variables bs)) (i .0)) m) (says-given ws b (l .0)),
-          all-say (step ws b) bs (i .1) m,
-        )
+pub bound-stepped : (cb : List ℕ) (vs : List ℤ) (f : ℕ → List ℕ) (masks : List ℕ) (b : Bound) (v r k m next next′ : ℕ) (ws w : List ℕ) → b ≡ To v r → k ≡ v → m ≡ getD masks k 0 → Stepped cb vs f v (rowsFor cb vs f m r) (rowsOf cb r) next next′ ws w
+    → (u s : ℕ) → b ≡ To u s → Stepped cb vs f u (rowsFor cb vs f (getD masks u 0) s) (rowsOf cb s) next next′ ws w
+bound-stepped cb vs f masks b v r k m next next′ ws w e ek em h =
+    binds-this (λ u s. Stepped cb vs f u (rowsFor cb vs f (getD masks u 0) s) (rowsOf cb s) next next′ ws w) b v r e (subst (λ n. Stepped cb vs f v (rowsFor cb vs f n r) (rowsOf cb r) next next′ ws w) (em ∙ ap (λ n. getD masks n 0) ek) h)

@@ -1,81 +1,22 @@
 // The permitted rows of each variable of a query, as lists of row numbers in its table of walks. Only permits' conditions are computed on a row that
-// is not permitted.
+// is not permitted, before anything of the query runs. Variables over one relation with the same permits share a list.
 use scans::Bound;
 use walks::Walk;
 ghost use mathlib.Core.Path.{_≡_};
-ghost use mathlib.Core.Bool.{cond};
+ghost use mathlib.Core.Bool.{true, _&&_};
 ghost use Prim.Native.Nat.{ℕ, _+_, _*_, _%_, _≤_, _<_};
 ghost use lib.Dec.{eqb};
-ghost use lib.ListN.{length, getD, set};
-ghost use lib.Seq.{sets};
-ghost use Rattle.catalogue.specs.Layout.{tupleAt, rowsOf};
+ghost use lib.ListN.{length, getD};
+ghost use Rattle.model.specs.Lists.{all, unique, filter, below, Every};
+ghost use Rattle.model.specs.Syntax.{Binding, variables};
+ghost use Rattle.catalogue.specs.Layout.{rowsOf};
 ghost use Rattle.scans.specs.Flat.{boundBy, flatBindings};
+ghost use Rattle.scans.specs.declared.Bound.the-variants.{To, Nothing};
 ghost use Rattle.copier.specs.Guard.{part};
-ghost use Rattle.walks.specs.Walks.{placeAt, Fits};
-ghost use Rattle.model.specs.Lists.{update};
-ghost use Rattle.evaluator.specs.Evaluation.{assigned};
-ghost use Rattle.aggregates.specs.Taken.{bothHold};
-ghost use Rattle.permitted.specs.Judged as J;
-
-fn mark(marks: &mut [u8], i: usize, met: bool)
-    ensures { λ _. ⌜ now (marks .exit) ≡ cond met (set (now (marks .entry)) i 1) (now (marks .entry)) ⌝ }
-{
-    if !met {
-        return;
-    }
-    if i < marks.len() {
-        marks[i] = 1;
-    }
-}
-
-// Marks the rows of a walk for which the conjuncts of a table hold, with variable 0 on them.
-fn mark_rows(
-    t: &[u16],
-    xs: &[i32],
-    q: &[u8],
-    z: &[u16],
-    walks: &[u16],
-    walk: Walk,
-    values: &[i32],
-    memo: &[i64],
-    env: &mut [usize],
-    marks: &mut [u8],
-)
-    requires { ⌜ (256 ≤ length (now env)) × Fits walk ⌝ }
-    ensures { λ _. ⌜ now (marks .exit) ≡ J.markedTo (λ i. bothHold (now (t .entry)) (now (xs .entry)) (now (q .entry)) (now (z .entry)) (now (walks .entry)) (now (values .entry)) (now (memo .entry)) (update (assigned (now (values .entry)) (now (env .entry))) 0 (tupleAt (now (values .entry)) (placeAt (now (walks .entry)) walk i)))) (walk .count) (now (marks .entry)) ⌝ }
-{
-    let n = walk.count;
-    let old = evaluator::place(env, 0);
-    let mut i = probes::ahead(t, xs, 0, 0, walks, walk, values, memo, env, 0);
-    while i < n {
-        evaluator::set_place(env, 0, walks::place(walks, walk, i));
-        mark(
-            marks,
-            i,
-            aggregates::both(t, xs, q, z, walks, values, memo, env),
-        );
-        i = probes::ahead(t, xs, 0, 0, walks, walk, values, memo, env, i + 1);
-    }
-    evaluator::set_place(env, 0, old);
-}
-
-// Marks the rows of a relation that meet a permit's condition. Its aggregates are evaluated once; it has at most three variables, below 4.
-fn judge(q: &[u8], catalogue: &[u8], values: &[i32], relation: u8, marks: &mut [u8])
-    ensures { λ _. ⌜ now (marks .exit) ≡ J.judged (now (catalogue .entry)) (now (values .entry)) relation (now (q .entry)) (now (marks .entry)) ⌝ }
-{
-    let mut z = [0u16; 256];
-    sizes::condition(q, &mut z, 0, 16);
-    let mut walks = [0u16; 32];
-    allrows::fill(q, catalogue, &mut walks);
-    let mut env = [values.len(); 256];
-    let mut memo = [0i64; 8];
-    aggregates::condition(q, &z, 16, &walks, values, &mut env, &mut memo);
-    let mut t = [0u16; 512];
-    let mut xs = [0i32; 128];
-    conjuncts::plan(q, &z, 0, 0, 16, catalogue, 200, &memo, &mut t, &mut xs);
-    let walk = allrows::whole(catalogue, relation);
-    mark_rows(&t, &xs, q, &z, &walks, walk, values, &memo, &mut env, marks);
-}
+ghost use Rattle.walks.specs.Walks.{walked, Fits};
+ghost use Rattle.judges.specs.Marked.{Bits, Marked};
+ghost use Rattle.judges.specs.Meets.{meetsBytes, rowOf};
+ghost use Rattle.permitted.specs.Given as G;
 
 fn place(places: &[usize], i: usize) -> usize
     ensures { λ r. ⌜ r ≡ getD (now (places .entry)) i 0 ⌝ }
@@ -103,13 +44,14 @@ fn turn(
     relation: u8,
     marks: &mut [u8],
 )
-    requires { ⌜ k < 8 ⌝ }
-    ensures { λ _. ⌜ now (marks .exit) ≡ cond (eqb (mask % 2) 1) (J.judged (now (catalogue .entry)) (now (values .entry)) relation (part (now (list .entry)) (now (places .entry)) k) (now (marks .entry))) (now (marks .entry)) ⌝ }
+    requires { ⌜ (k < 8) × (rowsOf (now catalogue) relation ≤ 1024) × (rowsOf (now catalogue) relation ≤ length (now marks)) × Bits (now marks) ⌝ }
+    ensures { λ _. ⌜ Marked (λ i. eqb (mask % 2) 1 && meetsBytes (now (catalogue .entry)) (now (values .entry)) (part (now (list .entry)) (now (places .entry)) k) (rowOf (now (catalogue .entry)) (now (values .entry)) relation i)) (rowsOf (now (catalogue .entry)) relation) (now (marks .entry)) (now (marks .exit)) ⌝ }
 {
     if mask % 2 != 1 {
         return;
     }
-    judge(part_at(list, places, k), catalogue, values, relation, marks);
+    let q = part_at(list, places, k);
+    judges::judge(q, catalogue, values, relation, marks);
 }
 
 // Marks the rows of a relation that meet the condition of a permit in the mask.
@@ -122,7 +64,8 @@ fn judge_all(
     relation: u8,
     marks: &mut [u8],
 )
-    ensures { λ _. ⌜ now (marks .exit) ≡ J.judgedAll (now (catalogue .entry)) (now (values .entry)) relation (part (now (list .entry)) (now (places .entry))) 8 mask 0 (now (marks .entry)) ⌝ }
+    requires { ⌜ (rowsOf (now catalogue) relation ≤ 1024) × (rowsOf (now catalogue) relation ≤ length (now marks)) × Bits (now marks) ⌝ }
+    ensures { λ _. ⌜ Marked (λ i. G.meetsAny (now (catalogue .entry)) (now (values .entry)) (part (now (list .entry)) (now (places .entry))) mask (rowOf (now (catalogue .entry)) (now (values .entry)) relation i)) (rowsOf (now (catalogue .entry)) relation) (now (marks .entry)) (now (marks .exit)) ⌝ }
 {
     let mut m = mask;
     let mut k: usize = 0;
@@ -133,32 +76,11 @@ fn judge_all(
     }
 }
 
-// Row i, if it is marked: its number at a place of the table, and 1.
-fn list_one(marks: &[u8], i: usize, walks: &mut [u16], at: usize) -> usize
-    requires { ⌜ i ≤ 65535 ⌝ }
-    ensures { λ r. ⌜ (r ≡ cond (eqb (getD (now (marks .entry)) i 0) 1) 1 0) × (r ≤ 1) ⌝ }
-    ensures { λ _. ⌜ now (walks .exit) ≡ cond (eqb (getD (now (marks .entry)) i 0) 1) (set (now (walks .entry)) at i) (now (walks .entry)) ⌝ }
+fn narrow(x: usize) -> u16
+    requires { ⌜ x ≤ 65535 ⌝ }
+    ensures { λ r. ⌜ r ≡ x ⌝ }
 {
-    if kinds::byte(marks, i) != 1 {
-        return 0;
-    }
-    allrows::store(walks, at, i);
-    1
-}
-
-// The numbers of the marked rows, from a place of the table on; how many they are.
-fn collect(marks: &[u8], n: usize, walks: &mut [u16], start: usize) -> usize
-    requires { ⌜ (n ≤ 65535) × (start ≤ 65535) ⌝ }
-    ensures { λ r. ⌜ (r ≡ length (J.numbersTo (now (marks .entry)) n)) × (r ≤ n) ⌝ }
-    ensures { λ _. ⌜ now (walks .exit) ≡ sets (now (walks .entry)) start (J.numbersTo (now (marks .entry)) n) ⌝ }
-{
-    let mut count = 0;
-    let mut i = 0;
-    while i < n {
-        count += list_one(marks, i, walks, start + count);
-        i += 1;
-    }
-    count
+    x as u16
 }
 
 fn wide(x: u8) -> usize
@@ -167,40 +89,132 @@ fn wide(x: u8) -> usize
     x as usize
 }
 
-// The list of a variable whose mask has a permit.
-fn put_listed(
+// The numbers of the marked rows, from a place of the table on; where they end. Each number is written and the next one goes over it unless its row is
+// marked: the way is the same for every row.
+fn collect(marks: &[u8], n: usize, walks: &mut [u16], start: usize) -> usize
+    requires { ⌜ (n ≤ length (now marks)) × (n ≤ 65535) × (start + n ≤ length (now walks)) × (length (now walks) ≤ 65535) × Bits (now marks) ⌝ }
+    ensures { λ r. ⌜ G.Listed (filter (λ i. eqb (getD (now (marks .entry)) i 0) 1) (below n)) start r (now (walks .entry)) (now (walks .exit)) ⌝ }
+    ensures { λ r. ⌜ (start ≤ r) × (r ≤ start + n) ⌝ }
+{
+    let mut at = start;
+    let mut i = 0;
+    while i < n {
+        walks[at] = narrow(i);
+        at += wide(marks[i]);
+        i += 1;
+    }
+    at
+}
+
+// The rows of a relation that meet a permit in the mask, with marks that are lent, cleared.
+fn list_by(
     list: &[u8],
     places: &[usize],
     mask: u8,
     catalogue: &[u8],
     values: &[i32],
-    variable: u8,
     relation: u8,
-    stride: usize,
+    marks: &mut [u8],
     walks: &mut [u16],
-)
-    requires { ⌜ stride ≤ 1024 ⌝ }
-    ensures { λ _. ⌜ now (walks .exit) ≡ J.listed (now (catalogue .entry)) (now (values .entry)) (part (now (list .entry)) (now (places .entry))) stride mask variable relation (now (walks .entry)) ⌝ }
+    start: usize,
+) -> usize
+    requires { ⌜ (rowsOf (now catalogue) relation ≤ 1024) × (rowsOf (now catalogue) relation ≤ length (now marks)) × ((i : ℕ) → getD (now marks) i 0 ≡ 0) × (start + rowsOf (now catalogue) relation ≤ length (now walks)) × (length (now walks) ≤ 65535) ⌝ }
+    ensures { λ r. ⌜ G.Listed (G.numbersFor (now (catalogue .entry)) (now (values .entry)) (part (now (list .entry)) (now (places .entry))) mask relation) start r (now (walks .entry)) (now (walks .exit)) ⌝ }
+    ensures { λ r. ⌜ (start ≤ r) × (r ≤ start + rowsOf (now (catalogue .entry)) relation) ⌝ }
+{
+    judge_all(list, places, mask, catalogue, values, relation, marks);
+    let n = catalogue::rows(catalogue, relation);
+    collect(marks, n, walks, start)
+}
+
+fn list_few(
+    list: &[u8],
+    places: &[usize],
+    mask: u8,
+    catalogue: &[u8],
+    values: &[i32],
+    relation: u8,
+    walks: &mut [u16],
+    start: usize,
+) -> usize
+    requires { ⌜ (rowsOf (now catalogue) relation ≤ 16) × (start + rowsOf (now catalogue) relation ≤ length (now walks)) × (length (now walks) ≤ 65535) ⌝ }
+    ensures { λ r. ⌜ G.Listed (G.numbersFor (now (catalogue .entry)) (now (values .entry)) (part (now (list .entry)) (now (places .entry))) mask relation) start r (now (walks .entry)) (now (walks .exit)) ⌝ }
+    ensures { λ r. ⌜ (start ≤ r) × (r ≤ start + rowsOf (now (catalogue .entry)) relation) ⌝ }
+{
+    let mut marks = [0u8; 16];
+    list_by(list, places, mask, catalogue, values, relation, &mut marks, walks, start)
+}
+
+fn list_many(
+    list: &[u8],
+    places: &[usize],
+    mask: u8,
+    catalogue: &[u8],
+    values: &[i32],
+    relation: u8,
+    walks: &mut [u16],
+    start: usize,
+) -> usize
+    requires { ⌜ (rowsOf (now catalogue) relation ≤ 1024) × (start + rowsOf (now catalogue) relation ≤ length (now walks)) × (length (now walks) ≤ 65535) ⌝ }
+    ensures { λ r. ⌜ G.Listed (G.numbersFor (now (catalogue .entry)) (now (values .entry)) (part (now (list .entry)) (now (places .entry))) mask relation) start r (now (walks .entry)) (now (walks .exit)) ⌝ }
+    ensures { λ r. ⌜ (start ≤ r) × (r ≤ start + rowsOf (now (catalogue .entry)) relation) ⌝ }
 {
     let mut marks = [0u8; 1024];
-    judge_all(list, places, mask, catalogue, values, relation, &mut marks);
-    let all = allrows::whole(catalogue, relation);
-    let start = 64 + stride * (wide(variable) % 8);
-    let count = collect(&marks, all.count, walks, start);
-    allrows::put(
-        walks,
-        variable,
-        Walk {
-            start,
-            count,
-            base: all.base,
-            width: all.width,
-        },
-    );
+    list_by(list, places, mask, catalogue, values, relation, &mut marks, walks, start)
 }
 
-// The walk of a variable: where 33 has passed, a mask of 0 is a workspace's, of which all rows are permitted.
-fn put_given(
+// A large array is not cleared for few rows.
+fn list_rows(
+    list: &[u8],
+    places: &[usize],
+    mask: u8,
+    catalogue: &[u8],
+    values: &[i32],
+    relation: u8,
+    walks: &mut [u16],
+    start: usize,
+) -> usize
+    requires { ⌜ (rowsOf (now catalogue) relation ≤ 1024) × (start + rowsOf (now catalogue) relation ≤ length (now walks)) × (length (now walks) ≤ 65535) ⌝ }
+    ensures { λ r. ⌜ G.Listed (G.numbersFor (now (catalogue .entry)) (now (values .entry)) (part (now (list .entry)) (now (places .entry))) mask relation) start r (now (walks .entry)) (now (walks .exit)) ⌝ }
+    ensures { λ r. ⌜ (start ≤ r) × (r ≤ start + rowsOf (now (catalogue .entry)) relation) ⌝ }
+{
+    if catalogue::rows(catalogue, relation) <= 16 {
+        return list_few(list, places, mask, catalogue, values, relation, walks, start);
+    }
+    list_many(list, places, mask, catalogue, values, relation, walks, start)
+}
+
+// A variable's walk and key.
+fn enter(walks: &mut [u16], variable: u8, walk: Walk, key: usize)
+    requires { ⌜ Fits walk × (key ≤ 65535) ⌝ }
+    ensures { λ _. ⌜ now (walks .exit) ≡ G.entered (now (walks .entry)) variable walk key ⌝ }
+{
+    allrows::put(walks, variable, walk);
+    allrows::store(walks, 8 * wide(variable) + 5, key);
+}
+
+fn key_of(relation: u8, mask: u8) -> usize
+    ensures { λ r. ⌜ (r ≡ G.keyOf relation mask) × (r ≤ 65535) ⌝ }
+{
+    256 * wide(relation) + wide(mask)
+}
+
+// A variable with the key, 8 where there is none.
+fn with_key(walks: &[u16], key: usize) -> usize
+    ensures { λ r. ⌜ (r ≤ 8) × (r < 8 → getD (now (walks .entry)) (8 * r + 5) 0 ≡ key) ⌝ }
+{
+    let mut v = 0;
+    while v < 8 {
+        if kinds::size_at(walks, 8 * v + 5) == key {
+            return v;
+        }
+        v += 1;
+    }
+    8
+}
+
+// A list of its own for a variable; where the next one can start.
+fn give_new(
     list: &[u8],
     places: &[usize],
     mask: u8,
@@ -208,29 +222,79 @@ fn put_given(
     values: &[i32],
     variable: u8,
     relation: u8,
-    stride: usize,
+    next: usize,
     walks: &mut [u16],
-)
-    requires { ⌜ stride ≤ 1024 ⌝ }
-    ensures { λ _. ⌜ now (walks .exit) ≡ J.given (now (catalogue .entry)) (now (values .entry)) (part (now (list .entry)) (now (places .entry))) stride mask variable relation (now (walks .entry)) ⌝ }
+) -> usize
+    requires { ⌜ ((mask ≡ 0 → ⊥) × (variable < 8) × (rowsOf (now catalogue) relation ≤ 1024)) × ((next + rowsOf (now catalogue) relation ≤ length (now walks)) × (length (now walks) ≤ 65535)) × G.Keyed (now catalogue) (now values) (part (now list) (now places)) (now walks) next ⌝ }
+    ensures { λ r. ⌜ G.Stepped (now (catalogue .entry)) (now (values .entry)) (part (now (list .entry)) (now (places .entry))) variable (G.rowsFor (now (catalogue .entry)) (now (values .entry)) (part (now (list .entry)) (now (places .entry))) mask relation) (rowsOf (now (catalogue .entry)) relation) next r (now (walks .entry)) (now (walks .exit)) ⌝ }
 {
-    if mask == 0 {
-        allrows::put(walks, variable, allrows::whole(catalogue, relation));
-        return;
-    }
-    put_listed(
-        list,
-        places,
-        mask,
-        catalogue,
-        values,
-        variable,
-        relation,
-        stride,
-        walks,
-    );
+    let end = list_rows(list, places, mask, catalogue, values, relation, walks, next);
+    let all = allrows::whole(catalogue, relation);
+    let walk = Walk {
+        start: next,
+        count: end - next,
+        base: all.base,
+        width: all.width,
+    };
+    enter(walks, variable, walk, key_of(relation, mask));
+    end
 }
 
+fn byte_of(x: usize) -> u8
+    requires { ⌜ x < 256 ⌝ }
+    ensures { λ r. ⌜ r ≡ x ⌝ }
+{
+    x as u8
+}
+
+// The list of another variable with the same key, or one of its own.
+fn give_listed(
+    list: &[u8],
+    places: &[usize],
+    mask: u8,
+    catalogue: &[u8],
+    values: &[i32],
+    variable: u8,
+    relation: u8,
+    next: usize,
+    walks: &mut [u16],
+) -> usize
+    requires { ⌜ ((mask ≡ 0 → ⊥) × (variable < 8) × (rowsOf (now catalogue) relation ≤ 1024)) × ((next + rowsOf (now catalogue) relation ≤ length (now walks)) × (length (now walks) ≤ 65535)) × G.Keyed (now catalogue) (now values) (part (now list) (now places)) (now walks) next ⌝ }
+    ensures { λ r. ⌜ G.Stepped (now (catalogue .entry)) (now (values .entry)) (part (now (list .entry)) (now (places .entry))) variable (G.rowsFor (now (catalogue .entry)) (now (values .entry)) (part (now (list .entry)) (now (places .entry))) mask relation) (rowsOf (now (catalogue .entry)) relation) next r (now (walks .entry)) (now (walks .exit)) ⌝ }
+{
+    let key = key_of(relation, mask);
+    let other = with_key(walks, key);
+    if other < 8 {
+        let walk = walks::walk_of(walks, byte_of(other));
+        enter(walks, variable, walk, key);
+        return next;
+    }
+    give_new(list, places, mask, catalogue, values, variable, relation, next, walks)
+}
+
+// Where 33 has passed, a mask of 0 is a workspace's, of which all rows are permitted.
+fn give(
+    list: &[u8],
+    places: &[usize],
+    mask: u8,
+    catalogue: &[u8],
+    values: &[i32],
+    variable: u8,
+    relation: u8,
+    next: usize,
+    walks: &mut [u16],
+) -> usize
+    requires { ⌜ ((variable < 8) × (rowsOf (now catalogue) relation ≤ 1024)) × ((next + rowsOf (now catalogue) relation ≤ length (now walks)) × (length (now walks) ≤ 65535)) × G.Keyed (now catalogue) (now values) (part (now list) (now places)) (now walks) next ⌝ }
+    ensures { λ r. ⌜ G.Stepped (now (catalogue .entry)) (now (values .entry)) (part (now (list .entry)) (now (places .entry))) variable (G.rowsFor (now (catalogue .entry)) (now (values .entry)) (part (now (list .entry)) (now (places .entry))) mask relation) (rowsOf (now (catalogue .entry)) relation) next r (now (walks .entry)) (now (walks .exit)) ⌝ }
+{
+    if mask == 0 {
+        enter(walks, variable, allrows::whole(catalogue, relation), 0);
+        return next;
+    }
+    give_listed(list, places, mask, catalogue, values, variable, relation, next, walks)
+}
+
+// One record of the query: what it binds is given its rows.
 fn fill_one(
     list: &[u8],
     places: &[usize],
@@ -238,30 +302,21 @@ fn fill_one(
     catalogue: &[u8],
     values: &[i32],
     b: Bound,
-    stride: usize,
+    next: usize,
     walks: &mut [u16],
-)
-    requires { ⌜ stride ≤ 1024 ⌝ }
-    ensures { λ _. ⌜ now (walks .exit) ≡ J.givenAll (now (catalogue .entry)) (now (values .entry)) (part (now (list .entry)) (now (places .entry))) stride (now (masks .entry)) (boundBy b) (now (walks .entry)) ⌝ }
+) -> usize
+    requires { ⌜ ((v r : ℕ) → b ≡ To v r → ((v < 8) × (rowsOf (now catalogue) r ≤ 1024)) × ((next + rowsOf (now catalogue) r ≤ length (now walks)) × (length (now walks) ≤ 65535)) × G.Keyed (now catalogue) (now values) (part (now list) (now places)) (now walks) next) ⌝ }
+    ensures { λ r. ⌜ (b ≡ Nothing → (r ≡ next) × (now (walks .exit) ≡ now (walks .entry))) ⌝ }
+    ensures { λ n. ⌜ ((v r : ℕ) → b ≡ To v r → G.Stepped (now (catalogue .entry)) (now (values .entry)) (part (now (list .entry)) (now (places .entry))) v (G.rowsFor (now (catalogue .entry)) (now (values .entry)) (part (now (list .entry)) (now (places .entry))) (getD (now (masks .entry)) v 0) r) (rowsOf (now (catalogue .entry)) r) next n (now (walks .entry)) (now (walks .exit))) ⌝ }
 {
     let Bound::To(variable, relation) = b else {
-        return;
+        return next;
     };
     let mask = kinds::byte(masks, wide(variable));
-    put_given(
-        list,
-        places,
-        mask,
-        catalogue,
-        values,
-        variable,
-        relation,
-        stride,
-        walks,
-    );
+    give(list, places, mask, catalogue, values, variable, relation, next, walks)
 }
 
-// The walks of all variables that the query binds; lists stand `stride` apart.
+// The walks of all variables that the query binds, in a cleared table with 64 numbers and room for eight lists.
 pub fn fill(
     query: &[u8],
     list: &[u8],
@@ -269,24 +324,39 @@ pub fn fill(
     masks: &[u8],
     catalogue: &[u8],
     values: &[i32],
-    stride: usize,
     walks: &mut [u16],
 )
-    requires { ⌜ stride ≤ 1024 ⌝ }
-    ensures { λ _. ⌜ now (walks .exit) ≡ J.givenAll (now (catalogue .entry)) (now (values .entry)) (part (now (list .entry)) (now (places .entry))) stride (now (masks .entry)) (flatBindings (now (query .entry))) (now (walks .entry)) ⌝ }
+    requires { ⌜ (unique (variables (flatBindings (now query))) ≡ true) × Every (G.Low (now catalogue) (G.mostIn (now walks))) (flatBindings (now query)) × (length (flatBindings (now query)) ≤ 8) × ((64 ≤ length (now walks)) × (length (now walks) ≤ 8256)) × ((i : ℕ) → getD (now walks) i 0 ≡ 0) ⌝ }
+    ensures { λ _. ⌜ Every (λ (b : Binding). walked (now (walks .exit)) (now (values .entry)) (b .variable) ≡ G.rowsFor (now (catalogue .entry)) (now (values .entry)) (part (now (list .entry)) (now (places .entry))) (getD (now (masks .entry)) (b .variable) 0) (b .relation)) (flatBindings (now (query .entry))) ⌝ }
+{
+    let mut next = 64;
+    let mut at = 0;
+    while at < query.len() {
+        let b = scans::binding(query, at);
+        next = fill_one(list, places, masks, catalogue, values, b, next, walks);
+        at += scans::step(query, at);
+    }
+}
+
+fn fits(catalogue: &[u8], b: Bound) -> bool
+    ensures { λ r. ⌜ r ≡ all (G.tiny (now (catalogue .entry))) (boundBy b) ⌝ }
+{
+    let Bound::To(_, relation) = b else {
+        return true;
+    };
+    catalogue::rows(catalogue, relation) <= 16
+}
+
+// Whether each bound relation has at most 16 rows.
+pub fn few(query: &[u8], catalogue: &[u8]) -> bool
+    ensures { λ r. ⌜ r ≡ all (G.tiny (now (catalogue .entry))) (flatBindings (now (query .entry))) ⌝ }
 {
     let mut at = 0;
     while at < query.len() {
-        fill_one(
-            list,
-            places,
-            masks,
-            catalogue,
-            values,
-            scans::binding(query, at),
-            stride,
-            walks,
-        );
+        if !fits(catalogue, scans::binding(query, at)) {
+            return false;
+        }
         at += scans::step(query, at);
     }
+    true
 }

@@ -1,60 +1,69 @@
-use mathlib.Core.Path.{ap}
-use Rattle.permitted.specs.Judged.{numbersTo}
-use lib.Seq.{sets}
-use lib.ListN.{length}
-use Prim.Native.Nat.{_-_, _≤_}
-use mathlib.Core.Path.{_≡_, refl, _∙_}
-use Rattle.permitted.proofs.Steps.{numbers-start, numbers-next}
-use native.Mathlib.Omega.{arith}
 use denote.Ref.{now}
+use native.Mathlib.Omega.{arith}
 use borrow.Author.Needs.{needs}
+use Prim.Native.Nat.{_+_, _-_, _≤_}
+use Rattle.permitted.specs.Given.{Listed}
+use Rattle.permitted.proofs.Lists.{marked, listed-none, listed-next, listed-end}
 use Rattle.permitted.proofs.collect.Statement.{statement}
 use Rattle.permitted.proofs.collect.Tie as tie
 use Rattle.permitted.proofs.collect.Reads as reads
 use Rattle.permitted.proofs.collect.Lts as lts
-use Rattle.permitted.proofs.list_one.Reads as list-one-reads
+use Rattle.permitted.proofs.narrow.Reads as narrow-reads
+use Rattle.permitted.proofs.wide.Reads as wide-reads
 
 abbrev Inv-loop : tie.InvT-loop
-Inv-loop marks n walks₀ start count₀ i₀ walks count i = (count ≡ length (numbersTo marks i)) × (walks ≡ sets walks₀ start (numbersTo marks i)) × (count ≤ i) × (i ≤ n) × (length walks ≡ length walks₀)
+Inv-loop marks n walks₀ start at₀ i₀ walks at i = (i ≤ n) × (start ≤ at) × (at ≤ start + i) × Listed (marked marks i) start at walks₀ walks
 
 abbrev μ-loop : tie.MeasureT-loop
-μ-loop marks n walks₀ start count₀ i₀ walks count i = n - i
+μ-loop marks n walks₀ start at₀ i₀ walks at i = n - i
 
+-- src/lib.rt:100:5
 loop-holds : tie.Need-loop-holds Inv-loop μ-loop
-loop-holds c = let h = numbers-start (now (c .before .before .args .marks)) (now (c .before .before .args .walks)) (c .before .before .args .start) in (h .0, h .1, omega arith, omega arith, refl)
+loop-holds c = (omega arith, omega arith, omega arith, listed-none (now (c .before .before .args .marks)) (c .before .before .args .start) (now (c .before .before .args .walks)))
 
-add-list-one : tie.Need-add-list-one Inv-loop μ-loop
-add-list-one c = search needs
+-- src/lib.rt:101:21
+narrow-requires : tie.Need-narrow-requires Inv-loop μ-loop
+narrow-requires c κs = search needs
 
-list-one-requires : tie.Need-list-one-requires Inv-loop μ-loop
-list-one-requires c κs = search needs
+-- src/lib.rt:101:9
+mul-walks : tie.Need-mul-walks Inv-loop μ-loop
+mul-walks c = search needs
 
-add-count : tie.Need-add-count Inv-loop μ-loop
-add-count c = search needs
+-- src/lib.rt:101:9
+slice-write-walks : tie.Need-slice-write-walks Inv-loop μ-loop
+slice-write-walks c = omega (arith, c .before .before .loop .inv .2, c .before .before .loop .inv .3 .size, c .before .loop-test .taken, c .before .before .before .before .before .pre .2)
 
+-- src/lib.rt:102:20
+shared-slice-read-wide : tie.Need-shared-slice-read-wide Inv-loop μ-loop
+shared-slice-read-wide c = search needs
+
+-- src/lib.rt:102:15
+wide-requires : tie.Need-wide-requires Inv-loop μ-loop
+wide-requires c κs = search needs
+
+-- src/lib.rt:102:9
+add-at : tie.Need-add-at Inv-loop μ-loop
+add-at c = omega (arith, c .wide .ensures, c .before .before .before .before .before .before .before .pre .4 (c .before .before .before .before .loop .i), c .before .before .before .before .loop .inv .2, c .before .before .before .loop-test .taken, c .before .before .before .before .before .before .before .pre .2, c .before .before .before .before .before .before .before .pre .3)
+
+-- src/lib.rt:103:9
 add-i : tie.Need-add-i Inv-loop μ-loop
 add-i c = search needs
 
+-- src/lib.rt:100:5
 loop-less : tie.Need-loop-less Inv-loop μ-loop
 loop-less c = search needs
 
+-- src/lib.rt:100:5
 loop-again : tie.Need-loop-again Inv-loop μ-loop
-loop-again c =
-    let c₂ = c .before .before in let list-one = c₂ .list-one in
-    let c₄ = c₂ .before .before in let loop-test = c₄ .loop-test in
-    let c₅ = c₄ .before in let loop = c₅ .loop in
-    let c₈ = c₅ .before .before .before in let args = c₈ .args in
-    let h = numbers-next (now (args .marks)) (now (args .walks)) (args .start) (loop .i) (loop .count) (list-one .result) (loop .walks) _ (loop .inv .0) (loop .inv .1) (list-one .ensures .0 .0) (list-one .ensures .1) in (h .0, h .1, omega (arith, loop .inv .2, list-one .ensures .0 .1), omega (arith, loop-test .taken), list-one .kept .1 .1 .0 ∙ loop .inv .4)
+loop-again c = (omega (arith, c .before .before .before .loop-test .taken), omega (arith, c .before .before .before .before .loop .inv .1), omega (arith, c .before .before .before .before .loop .inv .2, c .wide .ensures, c .before .before .before .before .before .before .before .pre .4 (c .before .before .before .before .loop .i)), listed-next (now (c .before .before .before .before .before .before .before .args .marks)) (c .before .before .before .before .before .before .before .args .start) (c .before .before .before .before .loop .at) (c .before .before .before .before .loop .i) (c .before .before .narrow .result) (c .wide .result) (now (c .before .before .before .before .before .before .before .args .walks)) (c .before .before .before .before .loop .walks) (c .before .before .before .before .before .before .before .pre .4) (c .before .before .before .before .loop .inv .3) (omega (arith, c .before .before .before .before .loop .inv .2, c .before .before .before .loop-test .taken, c .before .before .before .before .before .before .before .pre .2)) (c .before .before .narrow .ensures) (c .wide .ensures))
 
+-- src/lib.rt:93:1
 same-length : tie.Need-same-length Inv-loop μ-loop
 same-length c = search needs
 
+-- src/lib.rt:93:1
 returns : tie.Need-returns Inv-loop μ-loop
-returns c =
-    let c₁ = c .before in let loop = c₁ .loop in
-    let c₄ = c₁ .before .before .before in let args = c₄ .args in
-    let marks = now (args .marks) in
-    let e : loop .i ≡ (args .n) = omega (arith, c .loop-test .left, loop .inv .3) in ((loop .inv .0 ∙ ap (λ k. length (numbersTo marks k)) e, omega (arith, loop .inv .2, e)), loop .inv .1 ∙ ap (λ k. sets (now (args .walks)) (args .start) (numbersTo marks k)) e)
+returns c = (listed-end (now (c .before .before .before .before .args .marks)) (c .before .before .before .before .args .start) (c .before .loop .at) (c .before .loop .i) (c .before .before .before .before .args .n) (now (c .before .before .before .before .args .walks)) (c .before .loop .walks) (omega (arith, c .before .loop .inv .0, c .loop-test .left)) (c .before .loop .inv .3), (c .before .loop .inv .1, omega (arith, c .before .loop .inv .2, c .before .loop .inv .0)))
 
 pub collect-spec : {M : Type 1} → statement M
 collect-spec =
@@ -63,9 +72,12 @@ collect-spec =
     Inv-loop
     μ-loop
     loop-holds
-    add-list-one
-    list-one-requires
-    add-count
+    narrow-requires
+    mul-walks
+    slice-write-walks
+    shared-slice-read-wide
+    wide-requires
+    add-at
     add-i
     loop-less
     loop-again

@@ -1,12 +1,14 @@
-use Rattle.copier.specs.Guard.{part}
-use Rattle.permitted.specs.Judged.{judgedAll}
-use lib.ListN.{length}
+use denote.Ref.{now}
+use native.Mathlib.Omega.{arith}
+use borrow.Author.Needs.{needs}
 use Prim.Native.Nat.{_-_, _≤_}
 use mathlib.Core.Path.{_≡_, refl, _∙_}
-use Rattle.permitted.proofs.Steps.{all-next, all-end}
-use native.Mathlib.Omega.{arith}
-use denote.Ref.{now}
-use borrow.Author.Needs.{needs}
+use lib.ListN.{length}
+use Rattle.catalogue.specs.Layout.{rowsOf}
+use Rattle.copier.specs.Guard.{part}
+use Rattle.judges.specs.Marked.{Bits}
+use Rattle.judges.proofs.Steps.{bits-on}
+use Rattle.permitted.proofs.Lists.{Decides, decides-on, decides-end}
 use Rattle.permitted.proofs.judge_all.Statement.{statement}
 use Rattle.permitted.proofs.judge_all.Tie as tie
 use Rattle.permitted.proofs.judge_all.Reads as reads
@@ -14,39 +16,38 @@ use Rattle.permitted.proofs.judge_all.Lts as lts
 use Rattle.permitted.proofs.turn.Reads as turn-reads
 
 abbrev Inv-loop : tie.InvT-loop
-Inv-loop list places mask catalogue values relation marks₀ m₀ k₀ marks m k = (judgedAll catalogue values relation (part list places) (8 - k) m k marks ≡ judgedAll catalogue values relation (part list places) 8 mask 0 marks₀) × (length marks ≡ length marks₀)
+Inv-loop list places mask catalogue values relation marks₀ m₀ k₀ marks m k = (k ≤ 8) × (length marks ≡ length marks₀) × Bits marks × Decides catalogue values (part list places) relation mask (rowsOf catalogue relation) m k marks₀ marks
 
 abbrev μ-loop : tie.MeasureT-loop
 μ-loop list places mask catalogue values relation marks₀ m₀ k₀ marks m k = 8 - k
 
+-- src/lib.rt:71:5
 loop-holds : tie.Need-loop-holds Inv-loop μ-loop
-loop-holds c = (refl, refl)
+loop-holds c = (omega arith, refl, c .before .before .before .before .pre .2, λ y h. h)
 
+-- src/lib.rt:72:9
 turn-requires : tie.Need-turn-requires Inv-loop μ-loop
-turn-requires c κs = search needs
+turn-requires c κs = (c .before .loop-test .taken, c .before .before .before .before .before .before .before .pre .0, omega (arith, c .before .before .before .before .before .before .before .pre .1, c .before .before .loop .inv .1), c .before .before .loop .inv .2)
 
+-- src/lib.rt:74:9
 add-k : tie.Need-add-k Inv-loop μ-loop
 add-k c = search needs
 
+-- src/lib.rt:71:5
 loop-less : tie.Need-loop-less Inv-loop μ-loop
 loop-less c = search needs
 
+-- src/lib.rt:71:5
 loop-again : tie.Need-loop-again Inv-loop μ-loop
-loop-again c =
-    let c₂ = c .before .before in let turn = c₂ .turn in
-    let c₄ = c₂ .before .before in let loop-test = c₄ .loop-test in
-    let c₅ = c₄ .before in let loop = c₅ .loop in
-    let c₁₀ = c₅ .before .before .before .before .before in let args = c₁₀ .args in
-    (all-next (now (args .catalogue)) (now (args .values)) (args .relation) (part (now (args .list)) (now (args .places))) (loop .m) (loop .k) (loop .marks) _ _ (loop-test .taken) (turn .ensures) (loop .inv .0), turn .kept .1 .1 .1 .1 .1 .1 .1 .0 ∙ loop .inv .1)
+loop-again c = (omega (arith, c .before .before .before .before .loop-test .taken), c .before .before .turn .ensures .size ∙ c .before .before .before .before .before .loop .inv .1, bits-on (c .before .before .before .before .before .loop .inv .2) (c .before .before .turn .ensures), decides-on (now (c .before .before .before .before .before .before .before .before .before .before .args .catalogue)) (now (c .before .before .before .before .before .before .before .before .before .before .args .values)) (part (now (c .before .before .before .before .before .before .before .before .before .before .args .list)) (now (c .before .before .before .before .before .before .before .before .before .before .args .places))) (c .before .before .before .before .before .before .before .before .before .before .args .relation) (c .before .before .before .before .before .before .before .before .before .before .args .mask) _ (c .before .before .before .before .before .loop .m) (c .before .before .before .before .before .loop .k) (now (c .before .before .before .before .before .before .before .before .before .before .args .marks)) (c .before .before .before .before .before .loop .marks) _ (c .before .before .before .before .loop-test .taken) (c .before .before .before .before .before .loop .inv .3) (c .before .before .turn .ensures))
 
+-- src/lib.rt:57:1
 same-length : tie.Need-same-length Inv-loop μ-loop
 same-length c = search needs
 
+-- src/lib.rt:57:1
 returns : tie.Need-returns Inv-loop μ-loop
-returns c =
-    let c₁ = c .before in let loop = c₁ .loop in
-    let c₆ = c₁ .before .before .before .before .before in let args = c₆ .args in
-    all-end (now (args .catalogue)) (now (args .values)) (args .relation) (part (now (args .list)) (now (args .places))) (loop .m) (loop .k) _ _ (c .loop-test .left) (loop .inv .0)
+returns c = decides-end (now (c .before .before .before .before .before .before .args .catalogue)) (now (c .before .before .before .before .before .before .args .values)) (part (now (c .before .before .before .before .before .before .args .list)) (now (c .before .before .before .before .before .before .args .places))) (c .before .before .before .before .before .before .args .relation) (c .before .before .before .before .before .before .args .mask) _ (c .before .loop .m) (c .before .loop .k) (now (c .before .before .before .before .before .before .args .marks)) (c .before .loop .marks) (c .loop-test .left) (omega (arith, c .before .before .before .before .before .before .pre .1, c .before .loop .inv .1)) (c .before .loop .inv .3)
 
 pub judge-all-spec : {M : Type 1} → statement M
 judge-all-spec =

@@ -1,4 +1,4 @@
-use Rattle.permitted.proofs.Steps.{part-is}
+use Rattle.permitted.proofs.Lists.{part-is}
 use native.Mathlib.Omega.{arith}
 use denote.Ref.{now}
 use borrow.Author.Needs.{needs}
