@@ -28,7 +28,7 @@ use Rattle.model.proofs.Permitted as P
 use Rattle.model.proofs.Passed.{all-every, Passed, Scoped, refusal-cons, within, sound, sane-guards, good-guards, permits-read, query-read, query-length}
 use Rattle.model.proofs.Limits.{ranges-put}
 use Rattle.model.proofs.Accepted.{checks, scope, bounds}
-use Rattle.catalogue.specs.Layout.{rowsOf}
+use Rattle.catalogue.specs.Layout as L
 use Rattle.catalogue.proofs.Reading.{rows-few}
 use Rattle.scans.specs.Flat.{flatBindings}
 use Rattle.scans.proofs.Whole.{bindings-query}
@@ -166,7 +166,7 @@ low-many cb qb b = every-map (λ (c : Binding). c .variable < 8) (Low cb 1024) (
 
 pub low-few : (cb qb : List ℕ) → Bound cb qb → all (tiny cb) (flatBindings qb) ≡ true → Every (Low cb 16) (flatBindings qb)
 low-few cb qb b h =
-    every-map (λ (c : Binding). (c .variable < 8) × (tiny cb c ≡ true)) (Low cb 16) (λ c k. record { variable = k .0; rows = leb-true (rowsOf cb (c .relation)) 16 (k .1) }) (flatBindings qb)
+    every-map (λ (c : Binding). (c .variable < 8) × (tiny cb c ≡ true)) (Low cb 16) (λ c k. record { variable = k .0; rows = leb-true (L.rowsOf cb (c .relation)) 16 (k .1) }) (flatBindings qb)
     (every-both (λ (c : Binding). c .variable < 8) (λ (c : Binding). tiny cb c ≡ true) (flatBindings qb) (b .low) (all-every (tiny cb) (flatBindings qb) h))
 
 front : (l bs : List ℕ) → length bs ≤ length l → sets l 0 bs ≡ bs ++ drop (length bs) l

@@ -7,7 +7,7 @@ use native.Mathlib.Nat.{mul-le-mul, le-refl}
 use native.Mathlib.Omega.{arith}
 use lib.Dec.{eqb, leb}
 use lib.IntN.{ℤ}
-use lib.ListN.{length, getD, set, length-set, length-append}
+use lib.ListN.{length, getD, set, replicate, length-set, length-append}
 use lib.Seq.{getD-set-same, getD-set-other}
 use borrow.Author.Tests.{eqb-true, eqb-false, eq-eqb, ne-eqb, leb-true}
 use Rattle.model.specs.Lists.{all, contains, any, filter, below, unique, Every}
@@ -25,6 +25,7 @@ use Rattle.walks.specs.Walks.{walkOf, placeAt, places, walked}
 use Rattle.allrows.specs.Filled.{written, wholeOf}
 use Rattle.allrows.proofs.Table.{written-length, written-outside, written-other, written-here}
 use Rattle.allrows.proofs.All.{walked-whole}
+use Rattle.aggregates.proofs.Taking.{getD-same}
 use Rattle.judges.specs.Meets.{rowOf}
 use Rattle.permitted.specs.Given.{meetsAny, rowsFor, numbersFor, Listed, keyOf, entered, Has, Keyed, Given, Low, Stepped, tiny}
 
@@ -324,3 +325,7 @@ pub bound-stepped : (cb : List ℕ) (vs : List ℤ) (f : ℕ → List ℕ) (mask
     → (u s : ℕ) → b ≡ To u s → Stepped cb vs f u (rowsFor cb vs f (getD masks u 0) s) (rowsOf cb s) next next′ ws w
 bound-stepped cb vs f masks b v r k m next next′ ws w e ek em h =
     binds-this (λ u s. Stepped cb vs f u (rowsFor cb vs f (getD masks u 0) s) (rowsOf cb s) next next′ ws w) b v r e (subst (λ n. Stepped cb vs f v (rowsFor cb vs f n r) (rowsOf cb r) next next′ ws w) (em ∙ ap (λ n. getD masks n 0) ek) h)
+
+-- a cleared table
+pub cleared : (n i : ℕ) → getD (replicate {A = ℕ} n 0) i 0 ≡ 0
+cleared n i = getD-same {A = ℕ} n 0 i

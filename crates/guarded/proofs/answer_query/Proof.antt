@@ -6,7 +6,7 @@ use mathlib.Core.Path.{ap, _∙_}
 use denote.Ref.{now}
 use native.Mathlib.Omega.{arith}
 use Rattle.guarded.proofs.Numbers.{refused-33, refused-40, short-query, short-list, short-places, ask-passes, writable, length-is}
-use Rattle.guarded.proofs.Outcomes.{written-all, roomy, answered, answerable, permitted-answers}
+use Rattle.guarded.proofs.Outcomes.{written-all, roomy, answered, answerable, permitted-answers, binds}
 use borrow.Author.Needs.{needs}
 use Rattle.guarded.proofs.answer_query.Statement.{statement}
 use Rattle.guarded.proofs.answer_query.Tie as tie
@@ -110,8 +110,9 @@ answer-permitted-requires c κs =
     let c₁₇ = c₁₄ .before .before .before in let fill-masks = c₁₇ .fill-masks in
     let c₂₀ = c₁₇ .before .before .before in let fill-places = c₂₀ .fill-places in
     let c₂₇ = c₂₀ .before .before .before .before .before .before .before in let args = c₂₇ .args in let pre = c₂₇ .pre in
-    let catalogue = now (args .catalogue) in let query = now (args .query) in let z = now (args .z) in let layout = args .layout in
-    answerable layout catalogue query z ((writable catalogue (now (args .values)) (now (args .list)) query (now (args .rewritten)) (now (args .answer)) (pre .kept) (pre .permits) (pre .query) _ _ (fill-places .ensures) (fill-masks .ensures) (all-served .result) (all-served .ensures) (if1 .left) _ (rewritten-length .ensures) (if2 .left) layout z (pre .ready)) .catalogue) (pre .query) (pre .laid) (pre .ready)
+    let catalogue = now (args .catalogue) in let list = now (args .list) in let query = now (args .query) in let z = now (args .z) in let layout = args .layout in
+    let able = writable catalogue (now (args .values)) (now (args .list)) query (now (args .rewritten)) (now (args .answer)) (pre .kept) (pre .permits) (pre .query) _ _ (fill-places .ensures) (fill-masks .ensures) (all-served .result) (all-served .ensures) (if1 .left) _ (rewritten-length .ensures) (if2 .left) layout z (pre .ready) in
+    (answerable layout catalogue query z (able .catalogue) (pre .query) (pre .laid) (pre .ready), binds layout catalogue list query z _ able _ _ (omega arith) (omega arith))
 
 same-length : tie.Need-same-length
 same-length c = search needs
