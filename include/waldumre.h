@@ -133,6 +133,7 @@ typedef struct {
 #define WALDUMRE_KIND_AGGREGATE 34 /* function, variable, relation, attribute / condition */
 #define WALDUMRE_KIND_STORED 48    /* attributes, rows (2 bytes) */
 #define WALDUMRE_KIND_WORKSPACE 49 /* attributes, rows (2 bytes) */
+#define WALDUMRE_KIND_LATEST 50    /* attributes, rows (2 bytes); stored, last row first */
 #define WALDUMRE_KIND_PERMIT 64    /* relation, mask (2 bytes) / condition */
 
 /* Operators of a comparison: = <> < <= > >= */
@@ -175,13 +176,15 @@ typedef struct {
  * The plain evaluator.
  *
  *   catalogue  The relations: 1 to 16 records of 4 bytes, numbered from 0. A record is its kind
- *              (48 stored, 49 workspace), attributes (1 to 16), rows (2 bytes, 0 to 1,024).
+ *              (48 stored, 49 workspace, 50 stored and walked from the last row to the first),
+ *              attributes (1 to 16), rows (2 bytes, 0 to 1,024).
  *   values     The rows: row after row, relation after relation. Their number must be the sum of
  *              attributes times rows over all records.
  *   query      0 to 4 RANGE records, 1 to 8 targets, one condition, and no byte more.
  *   answer     Gets the rows, one after the other: cell c of row r is answer[r * columns + c].
- *              Rows come in the order of the RANGE records, the last one fastest; a row equal to
- *              an earlier one is left out. answer_length counts cells, not bytes.
+ *              Rows come in the order of the RANGE records, the last one fastest, each variable
+ *              from the first row of its relation on, under kind 50 from the last row back; a row
+ *              equal to an earlier one is left out. answer_length counts cells, not bytes.
  *
  * Afterwards: accepted (0) or 41, the first rows * columns cells of answer are the answer and the
  * others keep their contents. At any other number all cells keep theirs.

@@ -70,10 +70,13 @@ def in_header(what, names, values):
     same(f"{what}, header", dict(zip(names, values)), {name: int(HEADER.get(name, -1)) for name in names})
 
 
-def kinds():
+def kinds(print_of):
     rows = table("table: kinds")
     for column, name in ((0, "code"), (2, "bodyLength"), (4, "childConditions"), (5, "childTerms")):
-        same(f"kinds, {name}", {row[1]: int(row[column]) for row in rows}, by_kind(name))
+        model = by_kind(name)
+        # kind 50 need not be in that table of the model: of catalogues the program is asked, below
+        page = {row[1]: int(row[column]) for row in rows if row[1] in model or row[1] != "latest"}
+        same(f"kinds, {name}", page, model)
     for row in rows:
         in_header(f"kind {row[1]}", constants(row[6]), [int(row[0])])
     # which kinds are conditions and which are terms
@@ -82,6 +85,11 @@ def kinds():
         page = {alternative.split()[0] for alternative in text.split("|")}
         read_so = re.findall(rf"^\s*{name} k-(\w+) r = (\w+)", SPECS, re.M)
         same(f"grammar, {name}", page, {kind for kind, how in read_so if how != "fail"})
+    # which kinds a catalogue has
+    relation = re.search(r"relation +=(.*)\n", PAGE).group(1)
+    page = {int(row[0]) for row in rows if row[1] in relation.split()}
+    printed = {kind: print_of({"catalogue": [kind, 1, 0, 0]}) for kind in range(256)}
+    same("kinds of a catalogue", page, {kind for kind in printed if printed[kind] != "refused 10\n"})
 
 
 def operators(print_of):
@@ -253,7 +261,7 @@ def main():
                     os.remove(path)
             return subprocess.run([program], cwd=room, stdout=subprocess.PIPE, check=True).stdout.decode()
 
-        kinds()
+        kinds(print_of)
         operators(print_of)
         functions(print_of)
         refusals()

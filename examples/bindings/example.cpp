@@ -41,6 +41,10 @@ int main()
     waldumre::result some = shop.ask(permits, {1, 0, 0, 33, 0, 2, 16}, 1);
     show("room for one row", some);
     std::cout << (some.complete ? " complete\n" : " and more\n");
+    waldumre::collection board;
+    board.latest(2, {{7, 11}, {7, 12}}); // article, offer: the last row is met first
+    show("latest first", board.ask({64, 0, 255, 255, 16}, {1, 0, 0, 33, 0, 1, 16}));
+    std::cout << '\n';
     try {
         shop.ask({}, question);
     } catch (const waldumre::refused &refusal) {

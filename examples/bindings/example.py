@@ -21,6 +21,9 @@ print("over all rows:", *shop.evaluate(question).rows)
 print("no row:", *shop.ask(permits, each(0, 0) + attribute(0, 2) + compare(attribute(0, 2), LT, constant(0))).rows)
 short = shop.ask(permits, each(0, 0) + attribute(0, 2) + TRUE, cells=1)
 print("room for one row:", *short.rows, "complete" if short.complete else "and more")
+board = Collection(sys.argv[1])
+board.latest(2, [(7, 11), (7, 12)])                                   # article, offer: the last row is met first
+print("latest first:", *board.ask(permit(0, 0xFFFF, TRUE), each(0, 0) + attribute(0, 1) + TRUE).rows)
 try:
     shop.ask(b"", question)
 except Refused as refused:

@@ -38,6 +38,7 @@ public:
 
     // Adds a relation; its number is how many there were before.
     void stored(std::uint8_t columns, const std::vector<row> &rows) { add(WALDUMRE_KIND_STORED, columns, rows); }
+    void latest(std::uint8_t columns, const std::vector<row> &rows) { add(WALDUMRE_KIND_LATEST, columns, rows); } // last row first
     void workspace(std::uint8_t columns, const std::vector<row> &rows) { add(WALDUMRE_KIND_WORKSPACE, columns, rows); }
 
     // The guarded call, for questions from outside. The permits are the host's choice, never the asker's.

@@ -12,7 +12,7 @@ import ctypes
 import struct
 from typing import List, NamedTuple, Tuple
 
-STORED, WORKSPACE, ANSWER_BUFFER, REWRITTEN_BYTES = 48, 49, 41, 17216
+STORED, WORKSPACE, LATEST, ANSWER_BUFFER, REWRITTEN_BYTES = 48, 49, 50, 41, 17216
 
 
 class Outcome(ctypes.Structure):
@@ -56,6 +56,10 @@ class Collection:
 
     def stored(self, columns, rows):
         self.relation(STORED, columns, rows)
+
+    def latest(self, columns, rows):
+        """Stored, and its last row is met first."""
+        self.relation(LATEST, columns, rows)
 
     def workspace(self, columns, rows):
         self.relation(WORKSPACE, columns, rows)

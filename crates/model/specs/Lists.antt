@@ -28,6 +28,11 @@ unfoldable pub concatMap : {A B : Type 0} → (A → List B) → List A → List
 concatMap f [] = []
 concatMap f (x ∷ xs) = f x ++ concatMap f xs
 
+-- from the last to the first
+unfoldable pub backwards : {A : Type 0} → List A → List A
+backwards [] = []
+backwards (x ∷ xs) = backwards xs ++ (x ∷ [])
+
 -- the sum of f over a list
 unfoldable pub total : {A : Type 0} → (A → ℕ) → List A → ℕ
 total f [] = 0

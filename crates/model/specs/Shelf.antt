@@ -81,6 +81,14 @@ pair = record { catalogue = 48 ∷ 1 ∷ 2 ∷ 0 ∷ []; values = negsuc 2 ∷ n
 abbrev pub offers : Collection
 offers = record { catalogue = 48 ∷ 3 ∷ 2 ∷ 0 ∷ []; values = pos 7 ∷ pos 1 ∷ pos 11 ∷ pos 7 ∷ pos 1 ∷ pos 12 ∷ [] }
 
+-- the same, the latest first
+abbrev pub latestOffers : Collection
+latestOffers = record { catalogue = 50 ∷ 3 ∷ 2 ∷ 0 ∷ []; values = offers .values }
+
+-- a relation of kind 50 with 1 and 2, and a workspace with 2 and 3
+abbrev pub latestDesk : Collection
+latestDesk = record { catalogue = 50 ∷ 1 ∷ 2 ∷ 0 ∷ 49 ∷ 1 ∷ 2 ∷ 0 ∷ []; values = pos 1 ∷ pos 2 ∷ pos 2 ∷ pos 3 ∷ [] }
+
 -- a stored relation with 1 and 2, and a workspace with 2 and 3
 abbrev pub desk : Collection
 desk = record { catalogue = 48 ∷ 1 ∷ 2 ∷ 0 ∷ 49 ∷ 1 ∷ 2 ∷ 0 ∷ []; values = pos 1 ∷ pos 2 ∷ pos 2 ∷ pos 3 ∷ [] }
@@ -275,6 +283,19 @@ further =
     } ∷
     -- two masks are not added up
     record { over = offers; call = asks (64 ∷ 0 ∷ 1 ∷ 0 ∷ 16 ∷ 64 ∷ 0 ∷ 2 ∷ 0 ∷ 16 ∷ []) (1 ∷ 0 ∷ 0 ∷ 33 ∷ 0 ∷ 0 ∷ 33 ∷ 0 ∷ 1 ∷ 16 ∷ []) 80 8; comes = refused 33 } ∷
+    -- under kind 50 number where rank equals MIN of rank: 12, then 11
+    record {
+      over = latestOffers;
+      call = evaluates (1 ∷ 0 ∷ 0 ∷ 33 ∷ 0 ∷ 2 ∷ 21 ∷ 1 ∷ 33 ∷ 0 ∷ 1 ∷ 34 ∷ 5 ∷ 1 ∷ 0 ∷ 1 ∷ 16 ∷ []) 8;
+      comes = gives 0 [] 1 ((pos 12 ∷ []) ∷ (pos 11 ∷ []) ∷ []);
+    } ∷
+    -- kind 50 is guarded, and its permitted rows are met from the last on; the workspace beside it is met from its first row on
+    record {
+      over = latestDesk;
+      call = asks wide (1 ∷ 0 ∷ 0 ∷ 1 ∷ 1 ∷ 1 ∷ 33 ∷ 0 ∷ 0 ∷ 33 ∷ 1 ∷ 0 ∷ 16 ∷ []) 80 8;
+      comes = gives 0 (1 ∷ 0 ∷ 0 ∷ 1 ∷ 1 ∷ 1 ∷ 33 ∷ 0 ∷ 0 ∷ 33 ∷ 1 ∷ 0 ∷ 19 ∷ 16 ∷ 16 ∷ []) 2 ((pos 2 ∷ pos 2 ∷ []) ∷ (pos 2 ∷ pos 3 ∷ []) ∷ (pos 1 ∷ pos 2 ∷ []) ∷ (pos 1 ∷ pos 3 ∷ []) ∷ []);
+    } ∷
+    record { over = latestDesk; call = asks [] (1 ∷ 0 ∷ 0 ∷ 33 ∷ 0 ∷ 0 ∷ 16 ∷ []) 80 8; comes = refused 33 } ∷
     -- the rewritten question is just as long as its buffer
     record {
       over = pair;

@@ -1,7 +1,7 @@
 -- The numbers of a table as the code reads them.
 use mathlib.Core.Path.{_≡_, sym, ap, _∙_}
 use mathlib.Core.List.{List}
-use Prim.Native.Nat.{ℕ, _+_, _*_}
+use Prim.Native.Nat.{ℕ, suc, _+_, _-_, _*_}
 use lib.ListN.{getD}
 use borrow.Author.Tests.{eq-eqb, ne-eqb}
 use Rattle.walks.specs.declared.Walk.{Walk}
@@ -11,14 +11,17 @@ pub walk-is : (ws : List ℕ) (v k i s n l h w : ℕ) → k ≡ v → i ≡ 8 * 
     → record { start = s; count = n; base = l + 65536 * h; width = w } ≡ walkOf ws v
 walk-is ws v k i s n l h w ek ei es en el eh ew = rw (es, en, el, eh, ew, ei, ek)
 
--- the number of a row, without a list and with one
-module _ (ws : List ℕ) (s i : ℕ) where
-  pub row-plain : s ≡ 0 → i ≡ rowAt ws s i
-  row-plain h = sym (rw (eq-eqb s 0 h))
+-- the number of a row: in order, from the last one on, and by a list
+module _ (ws : List ℕ) (x : Walk) (i : ℕ) where
+  pub row-plain : x .start ≡ 0 → i ≡ rowAt ws x i
+  row-plain h = sym (rw (eq-eqb (x .start) 0 h))
 
-  pub row-listed : (r : ℕ) → (s ≡ 0 → ⊥) → r ≡ getD ws (s + i) 0 → r ≡ rowAt ws s i
-  row-listed r h e = e ∙ sym (rw (ne-eqb s 0 h))
+  pub row-last : (r : ℕ) → (x .start ≡ 0 → ⊥) → x .start ≡ 1 → r ≡ x .count - suc i → r ≡ rowAt ws x i
+  row-last r h e er = er ∙ sym (rw (ne-eqb (x .start) 0 h, eq-eqb (x .start) 1 e))
 
-pub place-is : (ws : List ℕ) (x : Walk) (i r : ℕ) → r ≡ rowAt ws (x .start) i → x .base + r * x .width ≡ placeAt ws x i
-unfolding placeAt
-place-is ws x i r e = ap (λ n. x .base + n * x .width) e
+  pub row-listed : (r : ℕ) → (x .start ≡ 0 → ⊥) → (x .start ≡ 1 → ⊥) → r ≡ getD ws (x .start + i) 0 → r ≡ rowAt ws x i
+  row-listed r h k e = e ∙ sym (rw (ne-eqb (x .start) 0 h, ne-eqb (x .start) 1 k))
+
+  pub place-is : (r : ℕ) → r ≡ rowAt ws x i → x .base + r * x .width ≡ placeAt ws x i
+  unfolding placeAt
+  place-is r e = ap (λ n. x .base + n * x .width) e

@@ -2,6 +2,7 @@
 //! What a case should come to is said by hand where it can be, and held to the judge.
 
 mod faults;
+mod latest;
 mod limits;
 mod meaning;
 mod no_access;
@@ -218,6 +219,7 @@ pub fn cases() -> Vec<(String, Case)> {
         ("rewriting", rewriting::fill),
         ("meaning", meaning::fill),
         ("rounding", rounding::fill),
+        ("latest", latest::fill),
         (DRAWN, random::fill),
     ] {
         let mut group = Group::new(group_name);

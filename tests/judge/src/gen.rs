@@ -11,6 +11,7 @@ pub mod pairs;
 pub mod rng;
 pub mod sizes;
 pub mod tables;
+pub mod turned;
 
 use crate::checks::EVALUATE;
 use crate::{calls, meaning, refusal};

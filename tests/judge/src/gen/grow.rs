@@ -1,8 +1,7 @@
 //! Grows random conditions, queries and permits whose names are all good.
 
 use super::rng::Rng;
-use super::tables::{numbers_of_kind, Table};
-use crate::catalogue::Kind;
+use super::tables::{self, Table};
 use crate::checks::ASK;
 use crate::permits::{Permit, ALL, MOST_BYTES, MOST_PERMITS};
 use crate::query::{Aggregate, Binding, Condition, Operator, Query, Term, FUNCTIONS, OPERATORS};
@@ -186,7 +185,7 @@ pub fn query(rng: &mut Rng, tables: &[Table], pool: &[i32]) -> Query {
 
 /// Permits that mostly let the query through.
 pub fn permits(rng: &mut Rng, tables: &[Table], pool: &[i32], query: &Query) -> Vec<Permit> {
-    let stored = numbers_of_kind(tables, Kind::Stored);
+    let stored = tables::stored(tables);
     let mut permits: Vec<Permit> = Vec::new();
     for binding in query.bindings() {
         let used = rewrite::used_attributes(query, binding.variable);
@@ -250,7 +249,7 @@ pub fn permit(rng: &mut Rng, tables: &[Table], pool: &[i32], relation: u8, used:
     let mask = mask(rng, tables, relation, used);
     loop {
         let free = shuffled(rng, 1..4);
-        let bindable = numbers_of_kind(tables, Kind::Stored);
+        let bindable = tables::stored(tables);
         let depth = rng.pick(&[0, 0, 1, 1, 2, 2, 3, 4]);
         let condition = Grower {
             rng,
