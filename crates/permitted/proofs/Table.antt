@@ -1,5 +1,5 @@
 -- The table: a step gives one variable its rows, and what the others have stays theirs.
-use mathlib.Core.Path.{_≡_, refl, sym, ap, ap₂, _∙_, subst}
+use mathlib.Core.Path.{_≡_, refl, sym, ap, ap₂, _∙_, subst, fun-ext}
 use mathlib.Core.Bool.{Bool, true, false, not, cond, _&&_}
 use mathlib.Core.List.{List, [], _∷_, _++_, map, map-map, map-append}
 use Prim.Native.Nat.{ℕ, zero, suc, _+_, _-_, _*_, _/_, _≤_, _<_}
@@ -7,7 +7,7 @@ use native.Mathlib.Nat.{mul-le-mul, le-refl}
 use native.Mathlib.Omega.{arith}
 use lib.Dec.{eqb, leb}
 use lib.IntN.{ℤ}
-use lib.ListN.{length, getD, set, replicate, length-set, length-append}
+use lib.ListN.{length, getD, set, replicate, length-replicate, length-set, length-append}
 use lib.Seq.{getD-set-same, getD-set-other}
 use borrow.Author.Tests.{eqb-true, eqb-false, eq-eqb, ne-eqb, leb-true}
 use Rattle.model.specs.Lists.{all, contains, any, filter, below, unique, Every}
@@ -15,8 +15,7 @@ use Rattle.model.specs.Syntax.{Binding, variables}
 use Rattle.model.specs.Meaning.{Tuple}
 use Rattle.model.proofs.Tests.{and-inv, or-no, not-yes, clash}
 use Rattle.model.proofs.Lists.{every-map, every-both, every-append, every-join, filter-map}
-use Rattle.catalogue.specs.Layout.{tupleAt, tuplesIn, offsets, attributesOf, rowsOf, baseOf}
-use Rattle.catalogue.proofs.Loops.{offsets-to}
+use Rattle.catalogue.specs.Layout.{tupleAt, tuplesIn, attributesOf, rowsOf, latestOf, baseOf}
 use Rattle.scans.specs.Flat.{boundBy}
 use Rattle.scans.specs.declared.Bound.{Bound}
 use Rattle.scans.specs.declared.Bound.the-variants.{To, Nothing}
@@ -27,7 +26,7 @@ use Rattle.allrows.proofs.Table.{written-length, written-outside, written-other
 use Rattle.allrows.proofs.All.{walked-whole}
 use Rattle.aggregates.proofs.Taking.{getD-same}
 use Rattle.judges.specs.Meets.{rowOf}
-use Rattle.permitted.specs.Given.{meetsAny, rowsFor, numbersFor, Listed, keyOf, entered, Has, Keyed, Given, Low, Stepped, tiny}
+use Rattle.permitted.specs.Given.{meetsAny, rowsFor, numberAt, numbersFor, Listed, keyOf, entered, Has, Keyed, Given, Low, Stepped, tiny}
 
 -- walks that lead to the same rows
 places-same : (P Q : ℕ → ℕ) (k n : ℕ) → ((j : ℕ) → j < k + n → P j ≡ Q j) → places P k n ≡ places Q k n
@@ -35,21 +34,22 @@ unfolding places
 places-same P Q k zero h = refl
 places-same P Q k (suc n) h = ap₂ _∷_ (h k (omega arith)) (places-same P Q (suc k) n (λ j l. h j (omega arith)))
 
-walked-same : (ws ws′ : List ℕ) (vs : List ℤ) (u v : ℕ) → walkOf ws′ v ≡ walkOf ws u → ((walkOf ws u .start ≡ 0 → ⊥) → (j : ℕ) → j < walkOf ws u .count → getD ws′ (walkOf ws u .start + j) 0 ≡ getD ws (walkOf ws u .start + j) 0) → walked ws′ vs v ≡ walked ws vs u
+walked-same : (ws ws′ : List ℕ) (vs : List ℤ) (u v : ℕ) → walkOf ws′ v ≡ walkOf ws u → (2 ≤ walkOf ws u .start → (j : ℕ) → j < walkOf ws u .count → getD ws′ (walkOf ws u .start + j) 0 ≡ getD ws (walkOf ws u .start + j) 0) → walked ws′ vs v ≡ walked ws vs u
 unfolding walked placeAt
 walked-same ws ws′ vs u v e h =
     let x = walkOf ws u in
     ap (λ (y : Walk). map (tupleAt vs) (places (placeAt ws′ y) 0 (y .count))) e
-    ∙ ap (map (tupleAt vs)) (places-same (placeAt ws′ x) (placeAt ws x) 0 (x .count) (λ j l. go j (omega arith) (eqb (x .start) 0) refl))
+    ∙ ap (map (tupleAt vs)) (places-same (placeAt ws′ x) (placeAt ws x) 0 (x .count) (λ j l. go j (omega arith) (eqb (x .start) 0) refl (eqb (x .start) 1) refl))
   where
-    go : (j : ℕ) → j < walkOf ws u .count → (b : Bool) → eqb (walkOf ws u .start) 0 ≡ b → placeAt ws′ (walkOf ws u) j ≡ placeAt ws (walkOf ws u) j
-    go j l true k = rw k
-    go j l false k = rw k (ap (λ n. walkOf ws u .base + n * walkOf ws u .width) (h (eqb-false (walkOf ws u .start) 0 k) j l))
+    go : (j : ℕ) → j < walkOf ws u .count → (b : Bool) → eqb (walkOf ws u .start) 0 ≡ b → (c : Bool) → eqb (walkOf ws u .start) 1 ≡ c → placeAt ws′ (walkOf ws u) j ≡ placeAt ws (walkOf ws u) j
+    go j l true k c m = rw k
+    go j l false k true m = rw (k, m)
+    go j l false k false m = rw (k, m) (ap (λ n. walkOf ws u .base + n * walkOf ws u .width) (h (omega (arith, eqb-false (walkOf ws u .start) 0 k, eqb-false (walkOf ws u .start) 1 m)) j l))
 
 pub has-moved : (ws ws′ : List ℕ) (vs : List ℤ) (next next′ u v : ℕ) (xs : List Tuple) → Has ws vs next u xs → walkOf ws′ v ≡ walkOf ws u → ((i : ℕ) → 64 ≤ i → i < next → getD ws′ i 0 ≡ getD ws i 0) → next ≤ next′ → Has ws′ vs next′ v xs
 has-moved ws ws′ vs next next′ u v xs h e k l = record {
   rows = walked-same ws ws′ vs u v e (λ d j g. let b = h .low d in k (walkOf ws u .start + j) (omega (arith, b .0)) (omega (arith, b .1, g))) ∙ h .rows;
-  low = λ d. let b = h .low (λ z. d (ap (λ (x : Walk). x .start) e ∙ z)) in (omega (arith, ap (λ (x : Walk). x .start) e, b .0), omega (arith, ap (λ (x : Walk). x .start) e, ap (λ (x : Walk). x .count) e, b .1, l));
+  low = λ d. let b = h .low (omega (arith, d, ap (λ (x : Walk). x .start) e)) in (omega (arith, ap (λ (x : Walk). x .start) e, b .0), omega (arith, ap (λ (x : Walk). x .start) e, ap (λ (x : Walk). x .count) e, b .1, l));
 }
 
 -- an entry for variable v
@@ -131,8 +131,13 @@ given-whole cb vs f r m v next ws w x low em k room ex ew =
     subst (Stepped cb vs f v (rowsFor cb vs f m r) (rowsOf cb r) next next ws) (sym ew)
     (stepped cb vs f r m v next next ws ws x 0 low (omega (arith, em)) k refl room (λ i h. refl) (omega arith) (omega arith) (sym (rw (eq-eqb m 0 em))) (record {
       rows = walked-whole cb (entered ws v x 0) vs v r here ∙ sym (rw (eq-eqb m 0 em));
-      low = λ d. absurd (d (ap (λ (y : Walk). y .start) here));
+      low = λ d. absurd (omega (arith, d, ap (λ (y : Walk). y .start) here, bit (latestOf cb r)));
     }))
+
+  where
+    bit : (b : Bool) → cond b 1 0 ≤ 1
+    bit true = omega arith
+    bit false = omega arith
 
 -- another variable's list
 pub given-shared : (cb : List ℕ) (vs : List ℤ) (f : ℕ → List ℕ) (r m u v next key : ℕ) (ws w : List ℕ) (x : Walk) → u < 8 → v < 8 → (m ≡ 0 → ⊥) → m < 256 → key ≡ keyOf r m → Keyed cb vs f ws next → 64 ≤ length ws → getD ws (8 * u + 5) 0 ≡ key → x ≡ walkOf ws u → w ≡ entered ws v x key → Stepped cb vs f v (rowsFor cb vs f m r) (rowsOf cb r) next next ws w
@@ -141,15 +146,32 @@ given-shared cb vs f r m u v next key ws w x hu hv hm hm′ ekey k room es ex ew
     subst (Stepped cb vs f v (rowsFor cb vs f m r) (rowsOf cb r) next next ws) (sym ew)
     (stepped cb vs f r m v next next ws ws x key hv hm′ k refl room (λ i h. refl) (omega arith) (omega arith) (ekey ∙ sym (rw (ne-eqb m 0 hm))) own)
 
--- a relation's rows by their numbers
-offsets-below : (b w n : ℕ) → offsets b w n ≡ map (λ i. b + i * w) (below n)
-unfolding below offsets
-offsets-below b w zero = refl
-offsets-below b w (suc n) = let e : suc n ≡ n + 1 = omega arith in ap (offsets b w) e ∙ offsets-to b w n ∙ ap (λ (l : List ℕ). l ++ ((b + n * w) ∷ [])) (offsets-below b w n) ∙ sym (map-append (λ i. b + i * w) (below n) (n ∷ []))
+-- a relation's rows by their numbers, as they are met
+places-below : (P : ℕ → ℕ) (n : ℕ) → places P 0 n ≡ map P (below n)
+unfolding below
+places-below P zero = refl
+places-below P (suc n) = last 0 n ∙ ap (λ (l : List ℕ). l ++ (P n ∷ [])) (places-below P n) ∙ sym (map-append P (below n) (n ∷ []))
+  where
+    last : (k n : ℕ) → places P k (suc n) ≡ places P k n ++ (P (k + n) ∷ [])
+    unfolding places
+    last k zero = let z : k + 0 ≡ k = omega arith in ap (λ i. P i ∷ []) (sym z)
+    last k (suc n) = let z : suc k + n ≡ k + suc n = omega arith in ap (λ (l : List ℕ). P k ∷ l) (last (suc k) n ∙ ap (λ i. places P (suc k) n ++ (P i ∷ [])) z)
 
-tuples-below : (cb : List ℕ) (vs : List ℤ) (r : ℕ) → tuplesIn cb vs r ≡ map (rowOf cb vs r) (below (rowsOf cb r))
-unfolding tuplesIn
-tuples-below cb vs r = ap (map (tupleAt vs)) (offsets-below (baseOf cb r) (attributesOf cb r) (rowsOf cb r)) ∙ map-map (tupleAt vs) (λ i. baseOf cb r + i * attributesOf cb r) (below (rowsOf cb r))
+tuples-below : (cb : List ℕ) (vs : List ℤ) (r : ℕ) → tuplesIn cb vs r ≡ map (rowOf cb vs r) (map (numberAt (latestOf cb r) (rowsOf cb r)) (below (rowsOf cb r)))
+unfolding walked placeAt
+tuples-below cb vs r =
+    let n = rowsOf cb r in
+    let ws = written (replicate 8 0) 0 (wholeOf cb r) in
+    let e : walkOf ws 0 ≡ wholeOf cb r = written-here (replicate 8 0) 0 (wholeOf cb r) (omega (arith, length-replicate {A = ℕ} 8 0)) in
+    sym (walked-whole cb ws vs 0 r e)
+    ∙ ap (λ (x : Walk). map (tupleAt vs) (places (placeAt ws x) 0 (x .count))) e
+    ∙ ap (map (tupleAt vs)) (places-below (placeAt ws (wholeOf cb r)) n ∙ ap (λ (P : ℕ → ℕ). map P (below n)) (fun-ext λ j. ap (λ k. baseOf cb r + k * attributesOf cb r) (met (latestOf cb r) j)))
+    ∙ map-map (tupleAt vs) (λ j. baseOf cb r + numberAt (latestOf cb r) n j * attributesOf cb r) (below n)
+    ∙ sym (map-map (rowOf cb vs r) (numberAt (latestOf cb r) n) (below n))
+  where
+    met : (b : Bool) (j : ℕ) → cond (eqb (cond b 1 0) 0) j (cond (eqb (cond b 1 0) 1) (rowsOf cb r - suc j) (getD (written (replicate 8 0) 0 (wholeOf cb r)) (cond b 1 0 + j) 0)) ≡ numberAt b (rowsOf cb r) j
+    met true j = refl
+    met false j = refl
 
 places-listed : (P g : ℕ → ℕ) (k : ℕ) (xs : List ℕ) → ((j : ℕ) → j < length xs → P (k + j) ≡ g (getD xs j 0)) → places P k (length xs) ≡ map g xs
 unfolding places
@@ -166,14 +188,14 @@ module _ (cb : List ℕ) (vs : List ℤ) (f : ℕ → List ℕ) (r m : ℕ) wher
   abbrev own : ℕ → Walk
   own s = record { start = s; count = length xs; base = baseOf cb r; width = attributesOf cb r }
 
-  walked-listed : (ws : List ℕ) (v s : ℕ) → (m ≡ 0 → ⊥) → walkOf ws v ≡ own s → (s ≡ 0 → ⊥) → ((j : ℕ) → j < length xs → getD ws (s + j) 0 ≡ getD xs j 0) → walked ws vs v ≡ rowsFor cb vs f m r
+  walked-listed : (ws : List ℕ) (v s : ℕ) → (m ≡ 0 → ⊥) → walkOf ws v ≡ own s → 2 ≤ s → ((j : ℕ) → j < length xs → getD ws (s + j) 0 ≡ getD xs j 0) → walked ws vs v ≡ rowsFor cb vs f m r
   unfolding walked placeAt rowsFor
   walked-listed ws v s hm h d e =
       let g : ℕ → ℕ = λ n. baseOf cb r + n * attributesOf cb r in
       ap (λ (x : Walk). map (tupleAt vs) (places (placeAt ws x) 0 (x .count))) h
-      ∙ ap (map (tupleAt vs)) (places-listed (placeAt ws (own s)) g 0 xs (λ j l. let z : 0 + j ≡ j = omega arith in ap (placeAt ws (own s)) z ∙ ap g (rw (ne-eqb s 0 d) (e j l))))
+      ∙ ap (map (tupleAt vs)) (places-listed (placeAt ws (own s)) g 0 xs (λ j l. let z : 0 + j ≡ j = omega arith in ap (placeAt ws (own s)) z ∙ ap g (rw (ne-eqb s 0 (λ k. omega (arith, k, d)), ne-eqb s 1 (λ k. omega (arith, k, d))) (e j l))))
       ∙ map-map (tupleAt vs) g xs
-      ∙ sym (filter-map (rowOf cb vs r) (meetsAny cb vs f m) (below (rowsOf cb r)))
+      ∙ sym (filter-map (rowOf cb vs r) (meetsAny cb vs f m) (map (numberAt (latestOf cb r) (rowsOf cb r)) (below (rowsOf cb r))))
       ∙ ap (filter (meetsAny cb vs f m)) (sym (tuples-below cb vs r))
       ∙ sym (rw (ne-eqb m 0 hm))
 
@@ -185,7 +207,7 @@ module _ (cb : List ℕ) (vs : List ℤ) (f : ℕ → List ℕ) (r m : ℕ) wher
       let room′ : 64 ≤ length y = omega (arith, room, l .size) in
       let here = entry-here y v (own next) key hv room′ in
       let has : Has (entered y v (own next) key) vs next′ v (rowsFor cb vs f m r) = record {
-        rows = walked-listed (entered y v (own next) key) v next hm here (λ e. omega (arith, e, k .least)) (λ j h. entry-far y v (own next) key hv room′ (next + j) (omega (arith, k .least)) ∙ l .list j h);
+        rows = walked-listed (entered y v (own next) key) v next hm here (omega (arith, k .least)) (λ j h. entry-far y v (own next) key hv room′ (next + j) (omega (arith, k .least)) ∙ l .list j h);
         low = λ d. (omega (arith, ap (λ (u : Walk). u .start) here, k .least), omega (arith, ap (λ (u : Walk). u .start) here, ap (λ (u : Walk). u .count) here, l .ends));
       } in
       subst (Stepped cb vs f v (rowsFor cb vs f m r) (rowsOf cb r) next next′ ws) (sym ew′)

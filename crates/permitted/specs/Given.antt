@@ -1,17 +1,17 @@
 -- The rows that each variable is given: those that meet the condition of a permit in its mask, by the permits' bytes. With no permit in it all rows.
 -- Lists stand in the table of walks one after the other. A variable with a list has a key in the table, from its relation and mask, so that another
 -- one with the same key can be given the same list.
-use Prim.Native.Nat.{ℕ, _+_, _-_, _*_, _/_, _≤_, _<_}
+use Prim.Native.Nat.{ℕ, suc, _+_, _-_, _*_, _/_, _≤_, _<_}
 use mathlib.Core.Path.{_≡_}
 use mathlib.Core.Bool.{Bool, cond}
-use mathlib.Core.List.{List}
+use mathlib.Core.List.{List, map}
 use lib.Dec.{eqb, leb}
 use lib.IntN.{ℤ}
 use lib.ListN.{length, getD, set}
 use Rattle.model.specs.Lists.{any, filter, below}
 use Rattle.model.specs.Syntax.{Binding}
 use Rattle.model.specs.Meaning.{Tuple}
-use Rattle.catalogue.specs.Layout.{tuplesIn, rowsOf}
+use Rattle.catalogue.specs.Layout.{tuplesIn, rowsOf, latestOf}
 use Rattle.copier.specs.Guard.{picked}
 use Rattle.walks.specs.declared.Walk.{Walk}
 use Rattle.walks.specs.Walks.{walkOf, walked}
@@ -25,9 +25,12 @@ meetsAny cb vs f m x = any (λ q. meetsBytes cb vs q x) (picked 8 m 0 f)
 unfoldable pub rowsFor : List ℕ → List ℤ → (ℕ → List ℕ) → ℕ → ℕ → List Tuple
 rowsFor cb vs f m r = cond (eqb m 0) (tuplesIn cb vs r) (filter (meetsAny cb vs f m) (tuplesIn cb vs r))
 
--- their numbers
+-- the number of the row that is met as the i-th of n; those of a relation's rows that are given, as they are met
+abbrev pub numberAt : Bool → ℕ → ℕ → ℕ
+numberAt latest n i = cond latest (n - suc i) i
+
 abbrev pub numbersFor : List ℕ → List ℤ → (ℕ → List ℕ) → ℕ → ℕ → List ℕ
-numbersFor cb vs f m r = filter (λ i. meetsAny cb vs f m (rowOf cb vs r i)) (below (rowsOf cb r))
+numbersFor cb vs f m r = filter (λ i. meetsAny cb vs f m (rowOf cb vs r i)) (map (numberAt (latestOf cb r) (rowsOf cb r)) (below (rowsOf cb r)))
 
 -- numbers at a place of the table, up to `end`; what stood before them stays
 pub record Listed (xs : List ℕ) (start end : ℕ) (ws ws′ : List ℕ) : Type 0 where
@@ -46,7 +49,7 @@ entered ws v x key = set (written ws v x) (8 * v + 5) key
 -- variable v has these rows; its list, if it has one, stands below `next`
 pub record Has (ws : List ℕ) (vs : List ℤ) (next v : ℕ) (xs : List Tuple) : Type 0 where
   pub rows : walked ws vs v ≡ xs
-  pub low : (walkOf ws v .start ≡ 0 → ⊥) → (64 ≤ walkOf ws v .start) × (walkOf ws v .start + walkOf ws v .count ≤ next)
+  pub low : 2 ≤ walkOf ws v .start → (64 ≤ walkOf ws v .start) × (walkOf ws v .start + walkOf ws v .count ≤ next)
 
 -- a key tells the rows
 pub record Keyed (cb : List ℕ) (vs : List ℤ) (f : ℕ → List ℕ) (ws : List ℕ) (next : ℕ) : Type 0 where

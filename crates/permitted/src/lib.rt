@@ -4,6 +4,7 @@ use scans::Bound;
 use walks::Walk;
 ghost use mathlib.Core.Path.{_≡_};
 ghost use mathlib.Core.Bool.{true, _&&_};
+ghost use mathlib.Core.List.{map};
 ghost use Prim.Native.Nat.{ℕ, _+_, _*_, _%_, _≤_, _<_};
 ghost use lib.Dec.{eqb};
 ghost use lib.ListN.{length, getD};
@@ -89,18 +90,27 @@ fn wide(x: u8) -> usize
     x as usize
 }
 
-// The numbers of the marked rows, from a place of the table on; where they end. Each number is written and the next one goes over it unless its row is
-// marked: the way is the same for every row.
-fn collect(marks: &[u8], n: usize, walks: &mut [u16], start: usize) -> usize
+// The number of the row that is met as the i-th of n.
+fn number(latest: bool, n: usize, i: usize) -> usize
+    requires { ⌜ (i < n) × (n ≤ 65535) ⌝ }
+    ensures { λ r. ⌜ (r ≡ G.numberAt latest n i) × (r < n) ⌝ }
+{
+    if latest { n - 1 - i } else { i }
+}
+
+// The numbers of the marked rows, as they are met, from a place of the table on; where they end. Each number is written, and the next one goes over it
+// unless its row is marked: the way is the same for every row.
+fn collect(marks: &[u8], latest: bool, n: usize, walks: &mut [u16], start: usize) -> usize
     requires { ⌜ (n ≤ length (now marks)) × (n ≤ 65535) × (start + n ≤ length (now walks)) × (length (now walks) ≤ 65535) × Bits (now marks) ⌝ }
-    ensures { λ r. ⌜ G.Listed (filter (λ i. eqb (getD (now (marks .entry)) i 0) 1) (below n)) start r (now (walks .entry)) (now (walks .exit)) ⌝ }
+    ensures { λ r. ⌜ G.Listed (filter (λ i. eqb (getD (now (marks .entry)) i 0) 1) (map (G.numberAt latest n) (below n))) start r (now (walks .entry)) (now (walks .exit)) ⌝ }
     ensures { λ r. ⌜ (start ≤ r) × (r ≤ start + n) ⌝ }
 {
     let mut at = start;
     let mut i = 0;
     while i < n {
-        walks[at] = narrow(i);
-        at += wide(marks[i]);
+        let row = number(latest, n, i);
+        walks[at] = narrow(row);
+        at += wide(marks[row]);
         i += 1;
     }
     at
@@ -124,7 +134,8 @@ fn list_by(
 {
     judge_all(list, places, mask, catalogue, values, relation, marks);
     let n = catalogue::rows(catalogue, relation);
-    collect(marks, n, walks, start)
+    let latest = catalogue::latest(catalogue, relation);
+    collect(marks, latest, n, walks, start)
 }
 
 fn list_few(
