@@ -238,3 +238,23 @@ fn the_latest_offer_is_shown() {
         10
     );
 }
+
+/// Change 2: a target without value leaves no row, so no label is named.
+#[test]
+fn an_offer_without_value_is_no_row() {
+    let rows = [[3, 11, 249], [4, 12, 5]];
+    let with_price = |aggregate: &[u8]| {
+        let query = [&QUERY[..9], aggregate, &[16]].concat();
+        book_of(&rows, &query, 64, [500, 3_500])
+    };
+    for function in 3..=5 {
+        let book = with_price(&[34, function, 1, 0, 2, 17]);
+        assert_eq!((book.outcome.number, book.outcome.rows), (0, 0));
+        assert!((0..500).all(|label| book.entry(label) == (-1, "       ")));
+    }
+    let book = with_price(&[34, 2, 1, 0, 2, 17]);
+    assert_eq!(book.entry(3), (11, "   0.00"));
+    // with another number of targets it is 53, rows or none
+    let query = [&QUERY[..6], &[34, 4, 1, 0, 2, 17, 16]].concat();
+    assert!(book_of(&rows, &query, 64, [500, 3_500]).is_refused_53(&[]));
+}

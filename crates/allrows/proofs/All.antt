@@ -2,13 +2,14 @@
 use mathlib.Core.Path.{_≡_, refl, sym, ap, ap₂, _∙_, fun-ext}
 use mathlib.Core.Bool.{Bool, true, false, cond}
 use mathlib.Core.List.{List, [], _∷_, _++_, map}
+use mathlib.Core.Option.{Option}
 use Prim.Native.Nat.{ℕ, zero, suc, _+_, _-_, _*_, _<_}
 use native.Mathlib.Omega.{arith}
 use lib.IntN.{ℤ}
 use lib.ListN.{length}
-use Rattle.model.specs.Lists.{filter, unique, concatMap, backwards, Every}
+use Rattle.model.specs.Lists.{filter, unique, concatMap, backwards, Every, present}
 use Rattle.model.specs.Syntax.{Binding, Query, variables, bindings, bindingsT, bindingsQ}
-use Rattle.model.specs.Meaning.{Tuple, Assignment, Rows, holds, assignments, unbound, targetRow, addRows, qualifying, answers}
+use Rattle.model.specs.Meaning.{Tuple, Assignment, Rows, holds, assignments, unbound, targetRow, addRows, qualifying, rowsMet, answers}
 use Rattle.model.specs.Catalogue.{walk}
 use Rattle.model.proofs.Lists.{every-map, every-append, backwards-last, map-backwards}
 use Rattle.model.proofs.NonInterference.{Agree, same-holds, same-row, same-assign}
@@ -60,12 +61,12 @@ walked-whole cb ws vs v r h = ap (λ (x : Walk). map (tupleAt vs) (places (place
 
 -- an answer depends on the rows of the bound variables alone
 pub answers-agree : (R R′ : Rows) (u : Query) → Every (Agree R R′) (bindingsQ u) → answers u R ≡ answers u R′
-unfolding answers qualifying bindingsQ
+unfolding answers rowsMet qualifying bindingsQ
 answers-agree R R′ u h =
     let i = every-append (Agree R R′) (u .ranges) (concatMap bindingsT (u .targets) ++ bindings (u .condition)) h in
     let j = every-append (Agree R R′) (concatMap bindingsT (u .targets)) (bindings (u .condition)) (i .1) in
-    ap (addRows []) (
-    ap₂ (λ (f : Assignment → List ℤ) (p : Assignment → Bool). map f (filter p (assignments (u .ranges) R unbound))) (fun-ext λ e. same-row R R′ (u .targets) e (j .0)) (fun-ext λ e. same-holds R R′ (u .condition) e (j .1))
+    ap (λ (rows : List (Option (List ℤ))). addRows [] (present rows)) (
+    ap₂ (λ (f : Assignment → Option (List ℤ)) (p : Assignment → Bool). map f (filter p (assignments (u .ranges) R unbound))) (fun-ext λ e. same-row R R′ (u .targets) e (j .0)) (fun-ext λ e. same-holds R R′ (u .condition) e (j .1))
     ∙ ap (λ (l : List Assignment). map (targetRow (u .targets) R′) (filter (holds (u .condition) R′) l)) (same-assign R R′ (u .ranges) unbound (i .0)))
 
 -- bindings whose walks were filled

@@ -2,6 +2,7 @@
 use Prim.Native.Nat.{ℕ, zero, suc, _+_}
 use mathlib.Core.Bool.{Bool, true, false, not, cond, _&&_, _||_}
 use mathlib.Core.List.{List, [], _∷_, _++_}
+use mathlib.Core.Option.{Option, none, some}
 use lib.Dec.{eqb}
 
 -- the map e, with x at v
@@ -15,6 +16,12 @@ consIf false x xs = xs
 unfoldable pub filter : {A : Type 0} → (A → Bool) → List A → List A
 filter p [] = []
 filter p (x ∷ xs) = consIf (p x) x (filter p xs)
+
+-- what there is
+unfoldable pub present : {A : Type 0} → List (Option A) → List A
+present [] = []
+present (none ∷ xs) = present xs
+present (some x ∷ xs) = x ∷ present xs
 
 unfoldable pub any : {A : Type 0} → (A → Bool) → List A → Bool
 any p [] = false

@@ -1,17 +1,32 @@
 // The odometer: range variables run over their rows, the last RANGE fastest. Each conjunct is tried as soon as the variables that it needs
-// are bound; an assignment that meets all of them gives a row.
+// are bound; an assignment that meets all of them gives a row, if each target has a value.
 use rows::Filled;
 ghost use mathlib.Core.Path.{_≡_};
-ghost use Prim.Native.Nat.{_≤_, _<_, _+_, _-_};
-ghost use lib.ListN.{length};
-ghost use lib.Seq.{sets};
+ghost use Prim.Native.Nat.{ℕ, _≤_, _<_, _+_, _-_};
+ghost use lib.ListN.{length, getD};
 ghost use Rattle.sizes.specs.Parts.{targetsAt};
-ghost use Rattle.rows.specs.Buffer.{added, addedAll};
+ghost use Rattle.rows.specs.Buffer.{addedAll};
 ghost use Rattle.rows.specs.Chains.{Linked};
 ghost use Rattle.walks.specs.Walks.{rowsBy};
+ghost use Rattle.seeks.specs.Keys.{Faithful};
 ghost use Rattle.evaluator.specs.Evaluation.{assigned};
 ghost use Rattle.odometer.specs.Staged.{depthHolds};
-ghost use Rattle.odometer.specs.Plan.{Bounds, cellsBy, rowBy, rowsFrom, rowsBelow};
+ghost use Rattle.odometer.specs.Plan.{Bounds, cellsBy, Written, addedRow, rowBy, rowsFrom, rowsBelow};
+
+// Chains for the ranges after the first: those are walked again and again.
+pub fn link(q: &[u8], ranges: usize, t: &[u16], walks: &[u16], values: &[i32], chains: &mut [u16])
+    requires { ⌜ (ranges ≤ 7) × ((i : ℕ) → getD (now chains) i 0 ≡ 0) ⌝ }
+    ensures { λ _. ⌜ Faithful (now (t .entry)) (now (walks .entry)) (now (values .entry)) (now (chains .exit)) ⌝ }
+{
+    let mut free = 64;
+    let mut d = 1;
+    while d < ranges {
+        let start = kinds::size_at(t, 2 * d + 2);
+        let variable = kinds::byte(q, 3 * d + 1);
+        free = seeks::add(t, start, variable, walks, values, chains, free);
+        d += 1;
+    }
+}
 
 // Where a query's targets start, how many they are and how deep; how many ranges are left, and are bound.
 pub struct Plan {
@@ -22,7 +37,7 @@ pub struct Plan {
     pub depth: usize,
 }
 
-// The cells of the targets, from cell `at` of the row on.
+// The cells of the targets, from cell `at` of the row on; whether each target has a value, for without one there is no row.
 fn targets(
     q: &[u8],
     z: &[u16],
@@ -34,23 +49,28 @@ fn targets(
     env: &mut [usize],
     row: &mut [i64],
     at: usize,
-)
+) -> bool
     requires { ⌜ (256 ≤ length (now env)) × (at + left ≤ length (now row)) ⌝ }
-    ensures { λ _. ⌜ now (row .exit) ≡ sets (now (row .entry)) at (cellsBy (now (memo .entry)) (targetsAt left level (now (q .entry)) (now (z .entry))) (rowsBy (now (walks .entry)) (now (vs .entry))) (assigned (now (vs .entry)) (now (env .entry)))) ⌝ }
+    ensures { λ r. ⌜ Written r (now (row .entry)) at (now (row .exit)) (cellsBy (now (memo .entry)) (targetsAt left level (now (q .entry)) (now (z .entry))) (rowsBy (now (walks .entry)) (now (vs .entry))) (assigned (now (vs .entry)) (now (env .entry)))) ⌝ }
     ensures { λ _. ⌜ now (env .exit) ≡ now (env .entry) ⌝ }
 {
     if left == 0 {
-        return;
+        return true;
     }
-    let x = numbers::cell(evaluator::term(q, z, level, walks, vs, memo, env));
-    row[at] = x;
+    let x = evaluator::term(q, z, level, walks, vs, memo, env);
+    let d = x.denominator;
+    if d <= 0 {
+        return false;
+    }
+    let cell = numbers::cell(x);
+    row[at] = cell;
     let n = kinds::size_at(z, 0);
     let u = kinds::tail(q, n);
     let v = kinds::tail_sizes(z, n);
-    targets(u, v, left - 1, level, walks, vs, memo, env, row, at + 1);
+    targets(u, v, left - 1, level, walks, vs, memo, env, row, at + 1)
 }
 
-// The row of one assignment.
+// The row of one assignment, if each of its targets has a value.
 fn write(
     q: &[u8],
     z: &[u16],
@@ -64,7 +84,7 @@ fn write(
     state: Filled,
 ) -> Filled
     requires { ⌜ (256 ≤ length (now env)) × (plan .columns ≤ 8) × Linked (plan .columns) (state .rows) (now answer) (now table) ⌝ }
-    ensures { λ r. ⌜ record { rows = r .rows; full = r .full; cells = now (answer .exit) } ≡ added (record { rows = state .rows; full = state .full; cells = now (answer .entry) }) (rowBy plan (now (q .entry)) (now (z .entry)) (now (walks .entry)) (now (vs .entry)) (now (memo .entry)) (assigned (now (vs .entry)) (now (env .entry)))) ⌝ }
+    ensures { λ r. ⌜ record { rows = r .rows; full = r .full; cells = now (answer .exit) } ≡ addedRow (record { rows = state .rows; full = state .full; cells = now (answer .entry) }) (rowBy plan (now (q .entry)) (now (z .entry)) (now (walks .entry)) (now (vs .entry)) (now (memo .entry)) (assigned (now (vs .entry)) (now (env .entry)))) ⌝ }
     ensures { λ _. ⌜ now (env .exit) ≡ now (env .entry) ⌝ }
     ensures { λ r. ⌜ Linked (plan .columns) (r .rows) (now (answer .exit)) (now (table .exit)) ⌝ }
 {
@@ -74,7 +94,9 @@ fn write(
     let x = kinds::tail(q, t);
     let y = kinds::tail_sizes(z, t);
     let mut row = [0i64; 8];
-    targets(x, y, n, level, walks, vs, memo, env, &mut row, 0);
+    if !targets(x, y, n, level, walks, vs, memo, env, &mut row, 0) {
+        return state;
+    }
     rows::add_row(answer, table, state, &row[..n])
 }
 
@@ -125,6 +147,7 @@ pub fn run(
     xs: &[i32],
     plan: Plan,
     walks: &[u16],
+    chains: &[u16],
     vs: &[i32],
     memo: &[i64],
     env: &mut [usize],
@@ -132,7 +155,7 @@ pub fn run(
     table: &mut [u16],
     state: Filled,
 ) -> Filled
-    requires { ⌜ (256 ≤ length (now env)) × Bounds plan × Linked (plan .columns) (state .rows) (now answer) (now table) ⌝ }
+    requires { ⌜ (256 ≤ length (now env)) × Bounds plan × Linked (plan .columns) (state .rows) (now answer) (now table) × Faithful (now t) (now walks) (now vs) (now chains) ⌝ }
     ensures { λ r. ⌜ record { rows = r .rows; full = r .full; cells = now (answer .exit) } ≡ addedAll (record { rows = state .rows; full = state .full; cells = now (answer .entry) }) (rowsFrom plan (now (t .entry)) (now (xs .entry)) (now (q .entry)) (now (z .entry)) (now (walks .entry)) (now (vs .entry)) (now (memo .entry)) (now (ranges .entry)) (assigned (now (vs .entry)) (now (env .entry)))) ⌝ }
     ensures { λ _. ⌜ now (env .exit) ≡ now (env .entry) ⌝ }
     ensures { λ r. ⌜ Linked (plan .columns) (r .rows) (now (answer .exit)) (now (table .exit)) ⌝ }
@@ -156,6 +179,7 @@ pub fn run(
         xs,
         plan,
         walks,
+        chains,
         vs,
         memo,
         env,
@@ -174,6 +198,7 @@ fn each_row(
     xs: &[i32],
     plan: Plan,
     walks: &[u16],
+    chains: &[u16],
     vs: &[i32],
     memo: &[i64],
     env: &mut [usize],
@@ -181,7 +206,7 @@ fn each_row(
     table: &mut [u16],
     state: Filled,
 ) -> Filled
-    requires { ⌜ (256 ≤ length (now env)) × Bounds plan × (1 ≤ plan .left) × Linked (plan .columns) (state .rows) (now answer) (now table) ⌝ }
+    requires { ⌜ (256 ≤ length (now env)) × Bounds plan × (1 ≤ plan .left) × Linked (plan .columns) (state .rows) (now answer) (now table) × Faithful (now t) (now walks) (now vs) (now chains) ⌝ }
     ensures { λ r. ⌜ record { rows = r .rows; full = r .full; cells = now (answer .exit) } ≡ addedAll (record { rows = state .rows; full = state .full; cells = now (answer .entry) }) (rowsBelow plan (now (t .entry)) (now (xs .entry)) (now (q .entry)) (now (z .entry)) (now (walks .entry)) (now (vs .entry)) (now (memo .entry)) (now (ranges .entry)) (assigned (now (vs .entry)) (now (env .entry)))) ⌝ }
     ensures { λ _. ⌜ now (env .exit) ≡ now (env .entry) ⌝ }
     ensures { λ r. ⌜ Linked (plan .columns) (r .rows) (now (answer .exit)) (now (table .exit)) ⌝ }
@@ -194,7 +219,19 @@ fn each_row(
     let old = evaluator::place(env, variable);
     let stage = 2 * inner.depth;
     let mut filled = state;
-    let mut i = probes::ahead(t, xs, stage, variable, walks, walk, vs, memo, env, 0);
+    let mut i = probes::along(
+        t,
+        xs,
+        stage,
+        variable,
+        walks,
+        walk,
+        chains,
+        vs,
+        memo,
+        env,
+        0,
+    );
     while i < n {
         evaluator::set_place(env, variable, walks::place(walks, walk, i));
         filled = run(
@@ -205,6 +242,7 @@ fn each_row(
             xs,
             inner,
             walks,
+            chains,
             vs,
             memo,
             env,
@@ -212,7 +250,19 @@ fn each_row(
             table,
             filled,
         );
-        i = probes::ahead(t, xs, stage, variable, walks, walk, vs, memo, env, i + 1);
+        i = probes::along(
+            t,
+            xs,
+            stage,
+            variable,
+            walks,
+            walk,
+            chains,
+            vs,
+            memo,
+            env,
+            i + 1,
+        );
     }
     evaluator::set_place(env, variable, old);
     filled

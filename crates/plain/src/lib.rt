@@ -103,9 +103,52 @@ fn no_rows() -> Filled
     }
 }
 
-// A query that passed its checks, over the rows of its walks, by a memo that says nothing false of it; no variable is bound yet. The table for the
-// answer's rows is lent, cleared.
+// A query that passed its checks, over the rows of its walks, by a memo that says nothing false of it; no variable is bound yet. The tables for the
+// answer's rows and for chains are lent, cleared.
 fn answer_in(
+    q: &[u8],
+    z: &[u16],
+    layout: Layout,
+    level: usize,
+    catalogue: &[u8],
+    walks: &[u16],
+    values: &[i32],
+    memo: &[i64],
+    env: &mut [usize],
+    answer: &mut [i64],
+    table: &mut [u16],
+    chains: &mut [u16],
+) -> Reply
+    requires { ⌜ Answerable layout level (now q) (now z) (now catalogue) × Trusted (now memo) (rowsBy (now walks) (now values)) (queryAt layout level (now q) (now z)) × Unbound (now values) (now env) × (length (now table) ≤ 65535) × ((i : ℕ) → getD (now table) i 0 ≡ 0) × ((i : ℕ) → getD (now chains) i 0 ≡ 0) ⌝ }
+    ensures { λ r. ⌜ answerOf r (now (answer .exit)) ≡ give (length (queryOf (now (q .entry)) .targets)) (answers (queryOf (now (q .entry))) (rowsBy (now (walks .entry)) (now (values .entry)))) (now (answer .entry)) ⌝ }
+{
+    let mut t = [0u16; 512];
+    let mut xs = [0i32; 128];
+    let n = layout.ranges;
+    let c = layout.condition;
+    conjuncts::plan(q, z, n, c, level, catalogue, 200, memo, &mut t, &mut xs);
+    odometer::link(q, n, &t, walks, values, chains);
+    let state = odometer::run(
+        q,
+        q,
+        z,
+        &t,
+        &xs,
+        plan_of(layout, level),
+        walks,
+        chains,
+        values,
+        memo,
+        env,
+        answer,
+        table,
+        no_rows(),
+    );
+    filled(state, layout.targets)
+}
+
+// The same with no room for chains.
+fn answer_unlinked(
     q: &[u8],
     z: &[u16],
     layout: Layout,
@@ -121,27 +164,173 @@ fn answer_in(
     requires { ⌜ Answerable layout level (now q) (now z) (now catalogue) × Trusted (now memo) (rowsBy (now walks) (now values)) (queryAt layout level (now q) (now z)) × Unbound (now values) (now env) × (length (now table) ≤ 65535) × ((i : ℕ) → getD (now table) i 0 ≡ 0) ⌝ }
     ensures { λ r. ⌜ answerOf r (now (answer .exit)) ≡ give (length (queryOf (now (q .entry)) .targets)) (answers (queryOf (now (q .entry))) (rowsBy (now (walks .entry)) (now (values .entry)))) (now (answer .entry)) ⌝ }
 {
-    let mut t = [0u16; 512];
-    let mut xs = [0i32; 128];
-    let n = layout.ranges;
-    let c = layout.condition;
-    conjuncts::plan(q, z, n, c, level, catalogue, 200, memo, &mut t, &mut xs);
-    let state = odometer::run(
-        q,
+    let mut chains = [0u16; 1];
+    answer_in(
         q,
         z,
-        &t,
-        &xs,
-        plan_of(layout, level),
+        layout,
+        level,
+        catalogue,
         walks,
         values,
         memo,
         env,
         answer,
         table,
-        no_rows(),
-    );
-    filled(state, layout.targets)
+        &mut chains,
+    )
+}
+
+// The same with room for two chains of 1,024 rows.
+fn answer_linked(
+    q: &[u8],
+    z: &[u16],
+    layout: Layout,
+    level: usize,
+    catalogue: &[u8],
+    walks: &[u16],
+    values: &[i32],
+    memo: &[i64],
+    env: &mut [usize],
+    answer: &mut [i64],
+    table: &mut [u16],
+) -> Reply
+    requires { ⌜ Answerable layout level (now q) (now z) (now catalogue) × Trusted (now memo) (rowsBy (now walks) (now values)) (queryAt layout level (now q) (now z)) × Unbound (now values) (now env) × (length (now table) ≤ 65535) × ((i : ℕ) → getD (now table) i 0 ≡ 0) ⌝ }
+    ensures { λ r. ⌜ answerOf r (now (answer .exit)) ≡ give (length (queryOf (now (q .entry)) .targets)) (answers (queryOf (now (q .entry))) (rowsBy (now (walks .entry)) (now (values .entry)))) (now (answer .entry)) ⌝ }
+{
+    let mut chains = [0u16; 4168];
+    answer_in(
+        q,
+        z,
+        layout,
+        level,
+        catalogue,
+        walks,
+        values,
+        memo,
+        env,
+        answer,
+        table,
+        &mut chains,
+    )
+}
+
+// The same with room for eight.
+fn answer_chained(
+    q: &[u8],
+    z: &[u16],
+    layout: Layout,
+    level: usize,
+    catalogue: &[u8],
+    walks: &[u16],
+    values: &[i32],
+    memo: &[i64],
+    env: &mut [usize],
+    answer: &mut [i64],
+    table: &mut [u16],
+) -> Reply
+    requires { ⌜ Answerable layout level (now q) (now z) (now catalogue) × Trusted (now memo) (rowsBy (now walks) (now values)) (queryAt layout level (now q) (now z)) × Unbound (now values) (now env) × (length (now table) ≤ 65535) × ((i : ℕ) → getD (now table) i 0 ≡ 0) ⌝ }
+    ensures { λ r. ⌜ answerOf r (now (answer .exit)) ≡ give (length (queryOf (now (q .entry)) .targets)) (answers (queryOf (now (q .entry))) (rowsBy (now (walks .entry)) (now (values .entry)))) (now (answer .entry)) ⌝ }
+{
+    let mut chains = [0u16; 16480];
+    answer_in(
+        q,
+        z,
+        layout,
+        level,
+        catalogue,
+        walks,
+        values,
+        memo,
+        env,
+        answer,
+        table,
+        &mut chains,
+    )
+}
+
+// 1 where a chain may pay for so many rows.
+fn pays(rows: usize) -> usize
+    ensures { λ r. ⌜ r ≤ 1 ⌝ }
+{
+    if rows < 8 { 0 } else { 1 }
+}
+
+// How many ranges after the first have so many rows that a chain may pay. It promises nothing, since any room will do: it only saves time.
+fn chained(q: &[u8], ranges: usize, walks: &[u16]) -> usize
+    requires { ⌜ ranges ≤ 4 ⌝ }
+{
+    let mut n = 0;
+    let mut i = 1;
+    while i < ranges {
+        let walk = walks::walk_of(walks, kinds::byte(q, 3 * i + 1));
+        n += pays(walk.count);
+        i += 1;
+    }
+    n
+}
+
+// The same with room for the chains that may pay.
+fn answer_walked(
+    q: &[u8],
+    z: &[u16],
+    layout: Layout,
+    level: usize,
+    catalogue: &[u8],
+    walks: &[u16],
+    values: &[i32],
+    memo: &[i64],
+    env: &mut [usize],
+    answer: &mut [i64],
+    table: &mut [u16],
+) -> Reply
+    requires { ⌜ Answerable layout level (now q) (now z) (now catalogue) × Trusted (now memo) (rowsBy (now walks) (now values)) (queryAt layout level (now q) (now z)) × Unbound (now values) (now env) × (length (now table) ≤ 65535) × ((i : ℕ) → getD (now table) i 0 ≡ 0) ⌝ }
+    ensures { λ r. ⌜ answerOf r (now (answer .exit)) ≡ give (length (queryOf (now (q .entry)) .targets)) (answers (queryOf (now (q .entry))) (rowsBy (now (walks .entry)) (now (values .entry)))) (now (answer .entry)) ⌝ }
+{
+    let n = chained(q, layout.ranges, walks);
+    if n == 0 {
+        return answer_unlinked(
+            q,
+            z,
+            layout,
+            level,
+            catalogue,
+            walks,
+            values,
+            memo,
+            env,
+            answer,
+            table,
+        );
+    }
+    if n < 3 {
+        return answer_linked(
+            q,
+            z,
+            layout,
+            level,
+            catalogue,
+            walks,
+            values,
+            memo,
+            env,
+            answer,
+            table,
+        );
+    }
+    answer_chained(
+        q,
+        z,
+        layout,
+        level,
+        catalogue,
+        walks,
+        values,
+        memo,
+        env,
+        answer,
+        table,
+    )
 }
 
 // The same where the answer has at most 1,024 rows: 512 heads.
@@ -161,7 +350,7 @@ fn answer_few(
     ensures { λ r. ⌜ answerOf r (now (answer .exit)) ≡ give (length (queryOf (now (q .entry)) .targets)) (answers (queryOf (now (q .entry))) (rowsBy (now (walks .entry)) (now (values .entry)))) (now (answer .entry)) ⌝ }
 {
     let mut table = [0u16; 1536];
-    answer_in(
+    answer_walked(
         q,
         z,
         layout,
@@ -193,7 +382,7 @@ fn answer_many(
     ensures { λ r. ⌜ answerOf r (now (answer .exit)) ≡ give (length (queryOf (now (q .entry)) .targets)) (answers (queryOf (now (q .entry))) (rowsBy (now (walks .entry)) (now (values .entry)))) (now (answer .entry)) ⌝ }
 {
     let mut table = [0u16; 20480];
-    answer_in(
+    answer_walked(
         q,
         z,
         layout,
@@ -360,7 +549,7 @@ pub fn answer_query(
         );
     }
     let mut table = [0u16; 1];
-    answer_in(
+    answer_unlinked(
         q,
         z,
         layout,

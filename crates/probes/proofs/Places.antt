@@ -10,9 +10,11 @@ use lib.IntN.{ℤ}
 use lib.ListN.{length, getD, set}
 use lib.Seq.{getD-set-other}
 use Rattle.model.specs.Lists.{update}
-use Rattle.model.specs.Meaning.{Tuple}
+use Rattle.model.specs.Meaning.{Tuple, Assignment}
 use Rattle.catalogue.specs.Layout.{tupleAt}
 use Rattle.evaluator.specs.Evaluation.{assigned}
+use Rattle.branches.specs.Branches.{runs}
+use Rattle.conjuncts.specs.Stages.{stageHolds}
 
 -- the variable's own place does not matter where it gets a tuple
 pub places-alike : (vs : List ℤ) (d e : List ℕ) (v old : ℕ) (x : Tuple) → set d v old ≡ e → update (assigned vs d) v x ≡ update (assigned vs e) v x
@@ -30,3 +32,8 @@ passed-over g i (suc s) h f = go (eqb i (suc s)) refl (λ l. passed-over g i s l
     go : (b : Bool) → eqb i (suc s) ≡ b → (i ≤ s → g s ≡ g i) → g (suc s) ≡ g i
     go true k r = ap g (sym (eqb-true i (suc s) k))
     go false k r = let l : i ≤ s = omega (arith, eqb-false i (suc s) k) in let e : suc s ≡ s + 1 = omega arith in ap g e ∙ f s l (omega arith) ∙ r l
+
+-- a stage is what its start leads to
+pub stage-fails : (t : List ℕ) (xs : List ℤ) (q z ws : List ℕ) (vs m : List ℤ) (s i : ℕ) (e : Assignment) → i ≡ getD t s 0 → runs t xs q z ws vs m i e ≡ false → stageHolds t xs q z ws vs m s e ≡ false
+unfolding stageHolds
+stage-fails t xs q z ws vs m s i e ei h = ap (λ (k : ℕ). runs t xs q z ws vs m k e) (sym ei) ∙ h

@@ -1,3 +1,5 @@
-pub mod Steps
 pub mod Numbers
-pub mod Admission
+pub mod Steps
+pub mod Targeting
+pub mod Remainder
+pub mod Telling

@@ -1,62 +1,25 @@
 -- Of a well-formed query: the table is filled exactly if its levels are within the bound, and then the parts read with the table are the query's.
 use mathlib.Core.Path.{_≡_, refl, sym, ap, ap₂, _∙_, subst}
-use mathlib.Core.Bool.{Bool, true, false, _&&_}
-use mathlib.Core.List.{List, [], _∷_, _++_}
-use Prim.Native.Nat.{ℕ, zero, suc, _+_, _-_, _*_, _≤_, _<_, max}
+use mathlib.Core.List.{List, [], _∷_}
+use Prim.Native.Nat.{ℕ, suc, _+_, _-_, _*_, _≤_, _<_}
 use native.Mathlib.Omega.{arith}
-use lib.Dec.{leb}
 use lib.ListN.{length, getD, drop}
 use lib.Seq.{drop-drop}
-use borrow.Author.Tests.{leb-true, leb-false, le-leb, lt-leb}
-use Rattle.model.specs.Syntax.{Condition, Term, CONSTANT, ATTRIBUTE, AGGREGATE, Binding, Query, WellFormed, WellFormedT, Targets, WellFormedQ, levels, levelsT, levelsTs, levelsQ}
-use Rattle.model.specs.Encoding.{encode, encodeT, encodeTargets, encodeRanges, encodeQuery, Read, fail, ok, readCondition, readTerm}
-use Rattle.model.proofs.Reading.{IsC, IsT, read-encode, read-encodeT, read-inverse, read-inverseT}
-use Rattle.model.proofs.Sizes.{size, sizeT, sizeTs, sizeQ, size-encode, size-targets, size-ranges, size-query}
+use Rattle.model.specs.Syntax.{Term, CONSTANT, ATTRIBUTE, AGGREGATE, Binding, Query, WellFormed, WellFormedT, Targets, WellFormedQ, levels, levelsTs, levelsQ}
+use Rattle.model.specs.Encoding.{encode, encodeT, encodeTargets, encodeRanges, encodeQuery, ok, readCondition, readTerm}
+use Rattle.model.proofs.Reading.{read-encode, read-encodeT}
+use Rattle.model.proofs.Sizes.{size, sizeT, sizeTs}
 use Rattle.sizes.specs.declared.Size.{Size}
-use Rattle.sizes.specs.declared.Size.the-variants.{Bytes, Refused}
-use Rattle.sizes.specs.Decode.{decode, decodeT}
-use Rattle.sizes.specs.Measured.{Measured, leaves, onward, sizeOr0, sizeRead, conditionSize, conditionTable, termSize, termTable}
-use Rattle.sizes.proofs.Sized.{Sized, SizedT, sized-headT, Agree}
+use Rattle.sizes.specs.declared.Size.the-variants.{Bytes}
+use Rattle.sizes.specs.Decode.{decode}
+use Rattle.sizes.specs.Measured.{Measured, leaves, onward, sizeOr0, conditionTable, termSize, termTable}
+use Rattle.sizes.proofs.Sized.{SizedT, sized-headT, Agree}
 use Rattle.sizes.proofs.Reader.{drop-encodeT}
-use Rattle.sizes.proofs.Decoding.{decode-encode, decode-encodeT, condition-size, condition-length, condition-before, condition-sized, term-size, term-rest, term-length, term-before, term-sized, sized-keptT}
+use Rattle.sizes.proofs.Decoding.{decode-encode, decode-encodeT, condition-before, condition-sized, term-size, term-rest, term-length, term-before, term-sized, sized-keptT}
 use Rattle.sizes.specs.Parts.{targetsAt, rangesAt}
 use Rattle.model.specs.Kinds.{find, kindOf}
 use Rattle.kinds.specs.Tables.{recordLength, ofKind}
-use Rattle.tables.specs.Tables.{targetsMeasured, conditionMeasured, queryMeasured, succeeded}
-
--- nested deeper than the bound, bytes are not read
-same-read : {A : Type 0} (a b : A) (r s : List ℕ) → ok a r ≡ ok b s → a ≡ b
-same-read a b r s h = cc
-
-deep-condition : (l : ℕ) (c : Condition) (r : List ℕ) → WellFormed c → l < levels c → readCondition l (encode c r) ≡ fail
-deep-condition l c r w h = go (readCondition l (encode c r)) refl
-  where
-    go : (g : Read Condition) → readCondition l (encode c r) ≡ g → g ≡ fail
-    go fail e = refl
-    go (ok d s) e =
-        let i = read-inverse l (encode c r) d s e in
-        let m = levels c + levels d in
-        let z : ok c r ≡ ok d s = sym (read-encode c m r w (omega arith)) ∙ ap (readCondition m) (i .bytes) ∙ read-encode d m s (i .well) (omega arith) in
-        absurd (omega (arith, i .deep, ap levels (same-read c d r s z)))
-
-deep-term : (l : ℕ) (t : Term) (r : List ℕ) → WellFormedT t → l < levelsT t → readTerm l (encodeT t r) ≡ fail
-deep-term l t r w h = go (readTerm l (encodeT t r)) refl
-  where
-    go : (g : Read Term) → readTerm l (encodeT t r) ≡ g → g ≡ fail
-    go fail e = refl
-    go (ok u s) e =
-        let i = read-inverseT l (encodeT t r) u s e in
-        let m = levelsT t + levelsT u in
-        let z : ok t r ≡ ok u s = sym (read-encodeT t m r w (omega arith)) ∙ ap (readTerm m) (i .bytes) ∙ read-encodeT u m s (i .well) (omega arith) in
-        absurd (omega (arith, i .deep, ap levelsT (same-read t u r s z)))
-
-term-refused : (l : ℕ) (q : List ℕ) → readTerm l q ≡ fail → termSize l q ≡ Refused
-unfolding termSize
-term-refused l q h = ap (sizeRead q) h
-
-condition-refused : (l : ℕ) (q : List ℕ) → readCondition l q ≡ fail → conditionSize l q ≡ Refused
-unfolding conditionSize
-condition-refused l q h = ap (sizeRead q) h
+use Rattle.tables.specs.Tables.{targetsMeasured, conditionMeasured, queryMeasured}
 
 target-well : (t : Term) (ts : List Term) → Targets (t ∷ ts) → WellFormedT t × Targets ts
 unfolding Targets WellFormed
@@ -106,24 +69,6 @@ module _ (l : ℕ) (q : List ℕ) (short : length q < 65536) where
         );
       })
 
-  targets-deep : (ts : List Term) (p : ℕ) (r z : List ℕ) → drop p q ≡ encodeTargets ts r → Targets ts → l < levelsTs ts → targetsMeasured (length ts) l q p z .size ≡ Refused
-  unfolding targetsMeasured encodeTargets levelsTs
-  targets-deep [] p r z e w h = absurd (omega arith)
-  targets-deep (t ∷ ts) p r z e w h = go (leb (levelsT t) l) refl (λ e′ f. targets-deep ts (p + sizeT t) r (termTable l q p z) e′ (target-well t ts w .1) f)
-    where
-      rest : List ℕ
-      rest = encodeTargets ts r
-
-      go : (b : Bool) → leb (levelsT t) l ≡ b → (drop (p + sizeT t) q ≡ rest → l < levelsTs ts → targetsMeasured (length ts) l q (p + sizeT t) (termTable l q p z) .size ≡ Refused)
-          → onward (termSize l (drop p q)) (termTable l q p z) (λ m u. targetsMeasured (length ts) l q (p + m) u) .size ≡ Refused
-      go true f k =
-          let a = leb-true (levelsT t) l f in
-          let rd : readTerm l (drop p q) ≡ ok t rest = ap (readTerm l) e ∙ read-encodeT t l rest (target-well t ts w .0) a in
-          ap (λ (x : Size). onward x (termTable l q p z) (λ m u. targetsMeasured (length ts) l q (p + m) u) .size) (term-size l q p z t rest rd) ∙ k (term-rest l q p z t rest rd) (omega arith)
-      go false f k =
-          let a = leb-false (levelsT t) l f in
-          ap (λ (x : Size). onward x (termTable l q p z) (λ m u. targetsMeasured (length ts) l q (p + m) u) .size) (term-refused l (drop p q) (ap (readTerm l) e ∙ deep-term l t rest (target-well t ts w .0) a))
-
 drop-ranges : (bs : List Binding) (r : List ℕ) → drop (3 * length bs) (encodeRanges bs r) ≡ r
 unfolding encodeRanges
 drop-ranges [] r = refl
@@ -163,22 +108,20 @@ module _ (l : ℕ) (u : Query) (w : WellFormedQ u) (q : List ℕ) (e : q ≡ enc
   abbrev m : Measured
   m = targetsMeasured (length (u .targets)) l q p z
 
-  whole-fine : levelsQ u ≤ l → (succeeded (queryMeasured (length (u .targets)) l q p z .size) ≡ true) × Prepared l u q (queryMeasured (length (u .targets)) l q p z .table)
+  pub measured-prepared : levelsQ u ≤ l → Prepared l u q (queryMeasured (length (u .targets)) l q p z .table)
   unfolding queryMeasured levelsQ encodeQuery TermsSized sizeTs
-  whole-fine h =
+  measured-prepared h =
       let f = targets-fine l q short (u .targets) p (encode (u .condition) []) z at-targets (w .targets) (omega arith) room in
       let c = p + sizeTs (u .targets) in
       let rd : readCondition l (drop c q) ≡ ok (u .condition) [] = ap (readCondition l) at-condition ∙ read-encode (u .condition) l [] (w .condition) (omega arith) in
       let y = m .table in
       let x = conditionTable l q c y in
-      let s : onward (m .size) y (λ c y. conditionMeasured l q c y) ≡ conditionMeasured l q c y = ap (λ (t : Size). onward t y (λ c y. conditionMeasured l q c y)) (f .place) in (
-        ap (λ (n : Measured). succeeded (n .size)) s ∙ ap succeeded (condition-size l q c y (u .condition) [] rd),
-        subst (λ (n : Measured). Prepared l u q (n .table)) (sym s) (record {
-          ranges = ap (rangesAt (length (u .ranges))) e ∙ ranges-decoded (u .ranges) _;
-          targets = ap (λ (t : List ℕ). targetsAt (length (u .targets)) l t (drop p x)) at-targets ∙ targets-decoded l (u .targets) (encode (u .condition) []) (drop p x) (omega arith) (terms-kept (u .targets) p c x y (omega arith) (condition-before l q c y (u .condition) [] rd) (f .sized));
-          condition = ap (λ (t : List ℕ). decode l t (drop c x)) at-condition ∙ decode-encode (u .condition) l [] (drop c x) (omega arith) (condition-sized l q c y (u .condition) [] rd (omega (arith, f .same-length)) short);
-        }),
-      )
+      let s : onward (m .size) y (λ c y. conditionMeasured l q c y) ≡ conditionMeasured l q c y = ap (λ (t : Size). onward t y (λ c y. conditionMeasured l q c y)) (f .place) in
+      subst (λ (n : Measured). Prepared l u q (n .table)) (sym s) (record {
+        ranges = ap (rangesAt (length (u .ranges))) e ∙ ranges-decoded (u .ranges) _;
+        targets = ap (λ (t : List ℕ). targetsAt (length (u .targets)) l t (drop p x)) at-targets ∙ targets-decoded l (u .targets) (encode (u .condition) []) (drop p x) (omega arith) (terms-kept (u .targets) p c x y (omega arith) (condition-before l q c y (u .condition) [] rd) (f .sized));
+        condition = ap (λ (t : List ℕ). decode l t (drop c x)) at-condition ∙ decode-encode (u .condition) l [] (drop c x) (omega arith) (condition-sized l q c y (u .condition) [] rd (omega (arith, f .same-length)) short);
+      })
     where
       terms-kept : (ts : List Term) (p c : ℕ) (x y : List ℕ) → p + sizeTs ts ≤ c → Agree c x y → TermsSized ts (drop p y) → TermsSized ts (drop p x)
       terms-kept [] p c x y h a s = tt
@@ -186,29 +129,6 @@ module _ (l : ℕ) (u : Query) (w : WellFormedQ u) (q : List ℕ) (e : q ≡ enc
         sized-keptT t p c x y (omega arith) a (s .0),
         subst (TermsSized ts) (sym (drop-drop (sizeT t) p x)) (terms-kept ts (p + sizeT t) c x y (omega arith) a (subst (TermsSized ts) (drop-drop (sizeT t) p y) (s .1))),
       )
-
-  whole-deep : l < levelsQ u → succeeded (queryMeasured (length (u .targets)) l q p z .size) ≡ false
-  unfolding queryMeasured levelsQ
-  whole-deep h = go (leb (levelsTs (u .targets)) l) refl
-    where
-      go : (b : Bool) → leb (levelsTs (u .targets)) l ≡ b → succeeded (onward (m .size) (m .table) (λ c y. conditionMeasured l q c y) .size) ≡ false
-      go true f =
-          let a = leb-true (levelsTs (u .targets)) l f in
-          let k = targets-fine l q short (u .targets) p (encode (u .condition) []) z at-targets (w .targets) a room in
-          let c = p + sizeTs (u .targets) in
-          ap (λ (t : Size). succeeded (onward t (m .table) (λ c y. conditionMeasured l q c y) .size)) (k .place)
-          ∙ ap succeeded (condition-refused l (drop c q) (ap (readCondition l) at-condition ∙ deep-condition l (u .condition) [] (w .condition) (omega arith)))
-      go false f = ap (λ (t : Size). succeeded (onward t (m .table) (λ c y. conditionMeasured l q c y) .size)) (targets-deep l q short (u .targets) p (encode (u .condition) []) z at-targets (w .targets) (leb-false (levelsTs (u .targets)) l f))
-
-  pub measured-levels : succeeded (queryMeasured (length (u .targets)) l q (3 * length (u .ranges)) z .size) ≡ leb (levelsQ u) l
-  measured-levels = go (leb (levelsQ u) l) refl
-    where
-      go : (b : Bool) → leb (levelsQ u) l ≡ b → succeeded (queryMeasured (length (u .targets)) l q p z .size) ≡ b
-      go true f = whole-fine (leb-true (levelsQ u) l f) .0
-      go false f = whole-deep (leb-false (levelsQ u) l f)
-
-  pub measured-prepared : levelsQ u ≤ l → Prepared l u q (queryMeasured (length (u .targets)) l q (3 * length (u .ranges)) z .table)
-  measured-prepared h = whole-fine h .1
 
   pub measured-place : levelsQ u ≤ l → sizeOr0 (targetsMeasured (length (u .targets)) l q (3 * length (u .ranges)) z .size) ≡ conditionPlace u
   unfolding levelsQ

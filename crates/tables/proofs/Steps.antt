@@ -1,6 +1,5 @@
 -- One step of each function as an equation over plain variables.
 use mathlib.Core.Path.{_≡_, refl, sym, ap, ap₂, _∙_}
-use mathlib.Core.Bool.{Bool, true, false}
 use mathlib.Core.List.{List}
 use Prim.Native.Nat.{ℕ, zero, suc, _+_, _-_, _≤_}
 use native.Mathlib.Numerals.{sub-one}
@@ -9,7 +8,7 @@ use Rattle.sizes.specs.declared.Size.{Size}
 use Rattle.sizes.specs.declared.Size.the-variants.{Bytes, Refused}
 use Rattle.sizes.specs.Measured.{Measured, leaves, sizeOr0, onward, conditionSize, conditionTable, termSize, termTable}
 use Rattle.sizes.proofs.Decoding.{term-within}
-use Rattle.tables.specs.Tables.{targetsMeasured, conditionMeasured, queryMeasured, succeeded}
+use Rattle.tables.specs.Tables.{targetsMeasured, conditionMeasured, queryMeasured}
 
 module _ (left l : ℕ) (q : List ℕ) (p : ℕ) (z : List ℕ) where
   pub targets-none : left ≡ 0 → leaves (Bytes p) z ≡ targetsMeasured left l q p z
@@ -43,13 +42,12 @@ module _ (n l : ℕ) (q : List ℕ) (p : ℕ) (z : List ℕ) (s : Size) (y : Lis
   pub query-place : sizeOr0 s ≡ sizeOr0 (targetsMeasured n l q p z .size)
   query-place = ap (λ (m : Measured). sizeOr0 (m .size)) e
 
-  pub query-refused : s ≡ Refused → (false ≡ succeeded (queryMeasured n l q p z .size)) × (y ≡ queryMeasured n l q p z .table)
+  pub query-refused : s ≡ Refused → y ≡ queryMeasured n l q p z .table
   query-refused h =
       let f : leaves Refused y ≡ queryMeasured n l q p z = ap (λ (t : Size). onward t y (λ c y. conditionMeasured l q c y)) (sym h) ∙ whole in
-      (ap (λ (m : Measured). succeeded (m .size)) f, ap (λ (m : Measured). m .table) f)
+      ap (λ (m : Measured). m .table) f
 
-  pub query-measured : (c : ℕ) (t : Size) (w : List ℕ) → s ≡ Bytes c → t ≡ conditionSize l (drop c q) → w ≡ conditionTable l q c y
-      → (succeeded t ≡ succeeded (queryMeasured n l q p z .size)) × (w ≡ queryMeasured n l q p z .table)
+  pub query-measured : (c : ℕ) (t : Size) (w : List ℕ) → s ≡ Bytes c → t ≡ conditionSize l (drop c q) → w ≡ conditionTable l q c y → w ≡ queryMeasured n l q p z .table
   query-measured c t w h et ew =
       let f : leaves t w ≡ queryMeasured n l q p z = ap₂ leaves et ew ∙ ap (λ (u : Size). onward u y (λ c y. conditionMeasured l q c y)) (sym h) ∙ whole in
-      (ap (λ (m : Measured). succeeded (m .size)) f, ap (λ (m : Measured). m .table) f)
+      ap (λ (m : Measured). m .table) f

@@ -1,6 +1,5 @@
 -- The table of sizes of a whole query: its targets one after the other, then its condition.
 use Prim.Native.Nat.{ℕ, zero, suc, _+_}
-use mathlib.Core.Bool.{Bool, true, false}
 use mathlib.Core.List.{List}
 use lib.ListN.{drop}
 use Rattle.sizes.specs.declared.Size.{Size}
@@ -17,7 +16,3 @@ conditionMeasured l q p z = leaves (conditionSize l (drop p q)) (conditionTable 
 
 unfoldable pub queryMeasured : ℕ → ℕ → List ℕ → ℕ → List ℕ → Measured
 queryMeasured n l q p z = onward (targetsMeasured n l q p z .size) (targetsMeasured n l q p z .table) (λ c y. conditionMeasured l q c y)
-
-abbrev pub succeeded : Size → Bool
-succeeded (Bytes n) = true
-succeeded Refused = false

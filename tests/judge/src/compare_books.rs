@@ -26,11 +26,11 @@ pub struct BookRun {
     display: Vec<u8>,
 }
 
-fn with_margins<T: Copy>(before: &[T], margin: T) -> Vec<T> {
+pub(crate) fn with_margins<T: Copy>(before: &[T], margin: T) -> Vec<T> {
     [&[margin; MARGIN][..], before, &[margin; MARGIN]].concat()
 }
 
-fn lent<T>(buffer: &mut [T]) -> &mut [T] {
+pub(crate) fn lent<T>(buffer: &mut [T]) -> &mut [T] {
     let end = buffer.len() - MARGIN;
     &mut buffer[MARGIN..end]
 }

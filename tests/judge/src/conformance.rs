@@ -6,10 +6,12 @@ mod latest;
 mod limits;
 mod meaning;
 mod no_access;
+mod no_value;
 mod random;
 mod refusals;
 mod rewriting;
 mod rounding;
+pub mod texts;
 mod write;
 
 use crate::program::{output, Files};
@@ -220,6 +222,7 @@ pub fn cases() -> Vec<(String, Case)> {
         ("meaning", meaning::fill),
         ("rounding", rounding::fill),
         ("latest", latest::fill),
+        ("no-value", no_value::fill),
         (DRAWN, random::fill),
     ] {
         let mut group = Group::new(group_name);

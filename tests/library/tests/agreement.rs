@@ -58,7 +58,7 @@ fn the_library_agrees_with_the_judge() {
     }
     assert!(report.ask_calls >= 100_000);
     assert!(2 * report.ask_numbers[&0] > report.ask_calls);
-    assert!(report.latest >= 20_000 && report.mixed >= 3_000);
+    assert!(report.latest >= 15_000 && report.mixed >= 3_000);
     for number in refusal::ALL {
         assert!(report.ask_numbers[&number] >= 1_000, "ask {number}");
     }

@@ -10,7 +10,7 @@ use Rattle.plain.proofs.answer_query.Lts as lts
 use Rattle.plain.proofs.aggregated.Reads as aggregated-reads
 use Rattle.plain.proofs.answer_by.Reads as answer-by-reads
 use Rattle.plain.proofs.answer_filled.Reads as answer-filled-reads
-use Rattle.plain.proofs.answer_in.Reads as answer-in-reads
+use Rattle.plain.proofs.answer_unlinked.Reads as answer-unlinked-reads
 use Rattle.plain.proofs.most_rows.Reads as most-rows-reads
 
 -- src/lib.rt:291:8
@@ -58,20 +58,20 @@ returns-2 : tie.Need-returns-2
 returns-2 c = search needs
 
 -- src/lib.rt:316:9
-slice-aggregate-answer-in : tie.Need-slice-aggregate-answer-in
-slice-aggregate-answer-in c = search needs
+slice-aggregate-answer-unlinked : tie.Need-slice-aggregate-answer-unlinked
+slice-aggregate-answer-unlinked c = search needs
 
 -- src/lib.rt:317:9
-slice-aggregate-answer-in-2 : tie.Need-slice-aggregate-answer-in-2
-slice-aggregate-answer-in-2 c = search needs
+slice-aggregate-answer-unlinked-2 : tie.Need-slice-aggregate-answer-unlinked-2
+slice-aggregate-answer-unlinked-2 c = search needs
 
 -- src/lib.rt:319:9
-slice-aggregate-answer-in-3 : tie.Need-slice-aggregate-answer-in-3
-slice-aggregate-answer-in-3 c = search needs
+slice-aggregate-answer-unlinked-3 : tie.Need-slice-aggregate-answer-unlinked-3
+slice-aggregate-answer-unlinked-3 c = search needs
 
 -- src/lib.rt:309:5
-answer-in-requires : tie.Need-answer-in-requires
-answer-in-requires c κs = (search needs, blank-trusted _ _ (getD-same 2 (pos 0)) _, none-bound _, omega arith, getD-same 1 0)
+answer-unlinked-requires : tie.Need-answer-unlinked-requires
+answer-unlinked-requires c κs = (search needs, blank-trusted _ _ (getD-same 2 (pos 0)) _, none-bound _, omega arith, getD-same 1 0)
 
 -- src/lib.rt:278:1
 same-length-3 : tie.Need-same-length-3
@@ -96,9 +96,9 @@ answer-query-spec =
     answer-by-requires
     same-length-2
     returns-2
-    slice-aggregate-answer-in
-    slice-aggregate-answer-in-2
-    slice-aggregate-answer-in-3
-    answer-in-requires
+    slice-aggregate-answer-unlinked
+    slice-aggregate-answer-unlinked-2
+    slice-aggregate-answer-unlinked-3
+    answer-unlinked-requires
     same-length-3
     returns-3)

@@ -10,39 +10,31 @@ use denote.Ref.{now}
 use Rattle.sizes.specs.Measured.{sizeOr0}
 use Rattle.tables.proofs.Steps.{query-place, query-refused, query-measured}
 
--- src/lib.rt:44:26
 targets-requires : tie.Need-targets-requires
 targets-requires c κs = search needs
 
--- src/lib.rt:44:21
 enum-known-place : tie.Need-enum-known-place
 enum-known-place c = search needs
 
--- src/lib.rt:45:9
 enum-told : tie.Need-enum-told
 enum-told c = search needs
 
--- src/lib.rt:45:9
 same-length : tie.Need-same-length
 same-length c = search needs
 
--- src/lib.rt:45:9
 returns : tie.Need-returns
 returns c =
     let c₄ = c .before .before .before .before in let targets = c₄ .targets in
     let c₈ = c₄ .before .before .before .before in let args = c₈ .args in
     let q = now (args .q) in let z = now (args .z) in let count = args .count in let first = args .first in let level = args .level in
-    (ap sizeOr0 (sym (c .enum-told .given .1)) ∙ query-place count level q first z _ _ (targets .ensures), query-refused count level q first z _ _ (targets .ensures) (c .enum-told .given .1) .1)
+    (ap sizeOr0 (sym (c .enum-told .given .1)) ∙ query-place count level q first z _ _ (targets .ensures), query-refused count level q first z _ _ (targets .ensures) (c .enum-told .given .1))
 
--- src/lib.rt:47:5
 condition-requires : tie.Need-condition-requires
 condition-requires c κs = search needs
 
--- src/lib.rt:39:1
 same-length-2 : tie.Need-same-length-2
 same-length-2 c = search needs
 
--- src/lib.rt:39:1
 returns-2 : tie.Need-returns-2
 returns-2 c =
     let c₂ = c .before .before in let condition = c₂ .condition in
@@ -50,7 +42,7 @@ returns-2 c =
     let c₉ = c₅ .before .before .before .before in let targets = c₉ .targets in
     let c₁₃ = c₉ .before .before .before .before in let args = c₁₃ .args in
     let q = now (args .q) in let z = now (args .z) in let count = args .count in let first = args .first in let level = args .level in
-    (ap sizeOr0 (sym (place .given .1)) ∙ query-place count level q first z _ _ (targets .ensures), query-measured count level q first z _ _ (targets .ensures) _ _ _ (place .given .1) (condition .ensures .0) (condition .ensures .1) .1)
+    (ap sizeOr0 (sym (place .given .1)) ∙ query-place count level q first z _ _ (targets .ensures), query-measured count level q first z _ _ (targets .ensures) _ _ _ (place .given .1) (condition .ensures .0) (condition .ensures .1))
 
 pub fill-spec : {M : Type 1} → statement M
 fill-spec =

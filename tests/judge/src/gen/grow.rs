@@ -67,6 +67,11 @@ impl Grower<'_> {
     }
 
     fn comparison(&mut self, scope: &[Binding], depth: usize) -> Condition {
+        if self.rng.percent(10) {
+            if let Some(condition) = self.comparison_with_none(scope) {
+                return condition;
+            }
+        }
         let operator = match self.rng.below(10) {
             // The operators that more often hold: answers should not be mostly empty.
             0..=3 => self
@@ -77,6 +82,47 @@ impl Grower<'_> {
         let left = self.term(scope, depth, 75);
         let right = self.term(scope, depth, 35);
         Condition::Compare(operator, left, right)
+    }
+
+    /// One side or both mostly have no value (Change 2), under NOT or not.
+    fn comparison_with_none(&mut self, scope: &[Binding]) -> Option<Condition> {
+        let operator = self.rng.pick(&OPERATORS);
+        let mut sides = [self.seldom_taken()?, self.term(scope, 0, 60)];
+        if self.rng.percent(40) {
+            sides[1] = self.seldom_taken().unwrap_or(sides[1].clone());
+        }
+        if self.rng.percent(50) {
+            sides.reverse();
+        }
+        let [left, right] = sides;
+        let condition = Condition::Compare(operator, left, right);
+        Some(if self.rng.percent(40) {
+            Condition::negated(condition)
+        } else {
+            condition
+        })
+    }
+
+    /// An aggregate that mostly takes no row.
+    fn seldom_taken(&mut self) -> Option<Term> {
+        let binding = self.binding()?;
+        let attribute = self.attribute_of(binding.relation);
+        let own = self.attribute(&[binding]);
+        let (operator, limit) = self.rng.pick(&[
+            (Operator::Less, i32::MIN),
+            (Operator::Greater, i32::MAX),
+            (Operator::Less, self.pool[0]),
+        ]);
+        let condition = match self.rng.below(4) {
+            0 => Condition::False,
+            _ => Condition::Compare(operator, own, Term::Constant(limit)),
+        };
+        Some(Term::Aggregate(Box::new(Aggregate {
+            function: self.rng.pick(&FUNCTIONS),
+            binding,
+            attribute,
+            condition,
+        })))
     }
 
     fn term(&mut self, scope: &[Binding], depth: usize, attribute_chance: usize) -> Term {

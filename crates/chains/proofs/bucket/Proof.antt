@@ -1,0 +1,23 @@
+use mathlib.Core.Path.{ap, _∙_}
+use lib.IntN.{ℤ}
+use mir.Syntax.{w64}
+use mir.Facts.{toZ-ofZ}
+use Rattle.rows.specs.Chains.{mixed}
+use Rattle.chains.proofs.Steps.{is-bucket}
+use borrow.Author.Needs.{needs}
+use Rattle.chains.proofs.bucket.Statement.{statement}
+use Rattle.chains.proofs.bucket.Tie as tie
+use Rattle.chains.proofs.bucket.Reads as reads
+use Rattle.chains.proofs.bucket.Lts as lts
+use Rattle.rows.proofs.mix.Reads as mix-reads
+
+-- src/lib.rt:15:5
+mix-requires : tie.Need-mix-requires
+mix-requires c κs = search needs
+
+-- src/lib.rt:11:1
+returns : tie.Need-returns
+returns c = is-bucket (c .before .args .x) _ (c .mix .ensures .0 ∙ ap (λ (z : ℤ). mixed 0 z) (toZ-ofZ {w = w64} (c .before .fits .x)))
+
+pub bucket-spec : {M : Type 1} → statement M
+bucket-spec = tie.close (tie.spec mix-requires returns)

@@ -1,0 +1,132 @@
+use borrow.Author.Needs.{needs}
+use mathlib.Core.Path.{_≡_, refl, sym, ap, _∙_}
+use native.Mathlib.Omega.{arith}
+use Prim.Native.Nat.{ℕ, _+_, _-_, _≤_, _<_}
+use lib.IntN.{ℤ}
+use lib.ListN.{length, getD, length-set}
+use denote.Ref.{now}
+use mir.Syntax.{w64}
+use mir.Val.{toZ}
+use mir.Facts.{toZ-ofZ}
+use Rattle.chains.specs.Chains as C
+use Rattle.chains.proofs.Steps.{Linked, linked-none, linked-turn, linked-all, outside-turn, bucket-low, lengths}
+use Rattle.chains.proofs.build.Statement.{statement}
+use Rattle.chains.proofs.build.Tie as tie
+use Rattle.chains.proofs.build.Reads as reads
+use Rattle.chains.proofs.build.Lts as lts
+use Rattle.chains.proofs.bucket.Reads as bucket-reads
+use Rattle.chains.proofs.key.Reads as key-reads
+use Rattle.chains.proofs.narrow.Reads as narrow-reads
+
+abbrev Inv-loop : tie.InvT-loop
+Inv-loop values walks walk attribute chains₀ at nexts i₀ chains i = (i ≤ walk .count) × (length chains ≡ length chains₀) × Linked (C.bucketAt values walks walk attribute) i (walk .count) at chains × C.Outside at (at + 1024 + walk .count) chains₀ chains
+
+abbrev μ-loop : tie.MeasureT-loop
+μ-loop values walks walk attribute chains₀ at nexts i₀ chains i = i
+
+-- src/lib.rt:52:17
+add-nexts : tie.Need-add-nexts Inv-loop μ-loop
+add-nexts c = search needs
+
+-- src/lib.rt:54:5
+loop-holds : tie.Need-loop-holds Inv-loop μ-loop
+loop-holds c = (omega arith, refl, linked-none _ _ _ _ (c .before .before .pre .2), λ j o. refl)
+
+-- src/lib.rt:55:65
+sub-key : tie.Need-sub-key Inv-loop μ-loop
+sub-key c = search needs
+
+-- src/lib.rt:55:29
+key-requires : tie.Need-key-requires Inv-loop μ-loop
+key-requires c κs = search needs
+
+-- src/lib.rt:55:22
+bucket-requires : tie.Need-bucket-requires Inv-loop μ-loop
+bucket-requires c κs = search needs
+
+-- src/lib.rt:55:17
+add-h : tie.Need-add-h Inv-loop μ-loop
+add-h c = search needs
+
+-- src/lib.rt:56:20
+mul-link : tie.Need-mul-link Inv-loop μ-loop
+mul-link c = search needs
+
+-- src/lib.rt:56:20
+slice-read-link : tie.Need-slice-read-link Inv-loop μ-loop
+slice-read-link c = search needs
+
+-- src/lib.rt:57:25
+sub-chains : tie.Need-sub-chains Inv-loop μ-loop
+sub-chains c = search needs
+
+-- src/lib.rt:57:16
+add-chains : tie.Need-add-chains Inv-loop μ-loop
+add-chains c = search needs
+
+-- src/lib.rt:57:9
+mul-chains : tie.Need-mul-chains Inv-loop μ-loop
+mul-chains c = search needs
+
+-- src/lib.rt:57:9
+slice-write-chains : tie.Need-slice-write-chains Inv-loop μ-loop
+slice-write-chains c = search needs
+
+-- src/lib.rt:58:21
+narrow-requires : tie.Need-narrow-requires Inv-loop μ-loop
+narrow-requires c κs = search needs
+
+-- src/lib.rt:58:9
+mul-chains-2 : tie.Need-mul-chains-2 Inv-loop μ-loop
+mul-chains-2 c = search needs
+
+-- src/lib.rt:58:9
+slice-write-chains-2 : tie.Need-slice-write-chains-2 Inv-loop μ-loop
+slice-write-chains-2 c = omega (arith, c .before .before .bucket .ensures .1, c .before .before .before .before .before .loop .inv .1, c .before .before .before .before .before .before .before .before .pre .1, c .before .before .before .before .before .loop .inv .0, length-set (c .before .before .before .before .before .loop .chains) ((c .before .before .before .before .before .before .before .before .args .at) + 1024 + (c .before .before .before .before .before .loop .i - 1)) (getD (c .before .before .before .before .before .loop .chains) ((c .before .before .before .before .before .before .before .before .args .at) + c .before .before .bucket .result) 0))
+
+-- src/lib.rt:59:9
+sub-i : tie.Need-sub-i Inv-loop μ-loop
+sub-i c = search needs
+
+-- src/lib.rt:54:5
+loop-less : tie.Need-loop-less Inv-loop μ-loop
+loop-less c = search needs
+
+-- src/lib.rt:54:5
+loop-again : tie.Need-loop-again Inv-loop μ-loop
+loop-again c = (omega arith, lengths ((c .before .before .before .before .before .before .before .before .args .at) + 1024 + (c .before .before .before .before .before .loop .i - 1)) ((c .before .before .before .before .before .before .before .before .args .at) + c .before .before .bucket .result) (getD (c .before .before .before .before .before .loop .chains) ((c .before .before .before .before .before .before .before .before .args .at) + c .before .before .bucket .result) 0) (c .narrow .result) _ (c .before .before .before .before .before .loop .chains) (c .before .before .before .before .before .loop .inv .1), linked-turn (C.bucketAt (now (c .before .before .before .before .before .before .before .before .args .values)) (now (c .before .before .before .before .before .before .before .before .args .walks)) (c .before .before .before .before .before .before .before .before .args .walk) (c .before .before .before .before .before .before .before .before .args .attribute)) (c .before .before .before .before .before .loop .i) _ (c .before .before .before .before .before .before .before .before .args .at) _ _ _ _ (c .before .before .before .before .loop-test .taken) (c .before .before .before .before .before .loop .inv .0) (ap (λ (m : ℕ). (c .before .before .before .before .before .before .before .before .args .at) + m) (c .before .before .bucket .ensures .0 ∙ ap C.bucketOf (toZ-ofZ {w = w64} (record { sfits = c .before .before .before .key .ok }) ∙ c .before .before .before .key .ensures))) (bucket-low (C.keyAt (now (c .before .before .before .before .before .before .before .before .args .values)) (now (c .before .before .before .before .before .before .before .before .args .walks)) (c .before .before .before .before .before .before .before .before .args .walk) (c .before .before .before .before .before .before .before .before .args .attribute) (c .before .before .before .before .before .loop .i - 1))) refl (c .narrow .ensures) (omega (arith, c .before .before .before .before .before .loop .inv .1, c .before .before .before .before .before .before .before .before .pre .1)) (c .before .before .before .before .before .loop .inv .2), λ j o. outside-turn (c .before .before .before .before .before .loop .i) _ (c .before .before .before .before .before .before .before .before .args .at) ((c .before .before .before .before .before .before .before .before .args .at) + c .before .before .bucket .result) (getD (c .before .before .before .before .before .loop .chains) ((c .before .before .before .before .before .before .before .before .args .at) + c .before .before .bucket .result) 0) (c .narrow .result) (c .before .before .before .before .before .loop .chains) (c .before .before .before .before .loop-test .taken) (c .before .before .before .before .before .loop .inv .0) (omega arith) (omega (arith, c .before .before .bucket .ensures .1)) j o ∙ c .before .before .before .before .before .loop .inv .3 j o)
+
+-- src/lib.rt:40:1
+same-length : tie.Need-same-length Inv-loop μ-loop
+same-length c = search needs
+
+-- src/lib.rt:40:1
+returns : tie.Need-returns Inv-loop μ-loop
+returns c = (linked-all _ _ _ _ _ (omega arith) (c .before .loop .inv .2), c .before .loop .inv .3)
+
+pub build-spec : {M : Type 1} → statement M
+build-spec =
+    tie.close
+    (tie.spec
+    Inv-loop
+    μ-loop
+    add-nexts
+    loop-holds
+    sub-key
+    key-requires
+    bucket-requires
+    add-h
+    mul-link
+    slice-read-link
+    sub-chains
+    add-chains
+    mul-chains
+    slice-write-chains
+    narrow-requires
+    mul-chains-2
+    slice-write-chains-2
+    sub-i
+    loop-less
+    loop-again
+    same-length
+    returns)

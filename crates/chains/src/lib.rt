@@ -1,0 +1,122 @@
+// The rows of a walk by the bucket of one of their values: for each bucket its first row, for each row the next of its bucket (specs/Chains).
+use walks::Walk;
+ghost use mathlib.Core.Path.{_≡_};
+ghost use mathlib.Core.Bool.{true};
+ghost use Prim.Native.Nat.{ℕ, _+_, _-_, _≤_, _<_};
+ghost use lib.ListN.{length, getD};
+ghost use Rattle.walks.specs.Walks.{Fits};
+ghost use Rattle.chains.specs.Chains as C;
+
+// Any function of the value will do.
+fn bucket(x: i64) -> usize
+    ensures { λ r. ⌜ r ≡ C.bucketOf x ⌝ }
+    ensures { λ r. ⌜ r < 1024 ⌝ }
+{
+    rows::mix(0, x) / 1024 % 1024
+}
+
+fn equal(x: i64, y: i64) -> bool
+    ensures { λ r. ⌜ r ≡ C.same x y ⌝ }
+{
+    if x <= y { y <= x } else { false }
+}
+
+// The value of an attribute in row i of a walk.
+fn key(values: &[i32], walks: &[u16], walk: Walk, attribute: usize, i: usize) -> i64
+    requires { ⌜ Fits walk × (i ≤ 65535) ⌝ }
+    ensures { λ r. ⌜ r ≡ C.keyAt (now (values .entry)) (now (walks .entry)) walk attribute i ⌝ }
+{
+    numbers::wide(catalogue::value(values, walks::place(walks, walk, i), attribute))
+}
+
+fn narrow(x: usize) -> u16
+    requires { ⌜ x ≤ 65535 ⌝ }
+    ensures { λ r. ⌜ r ≡ x ⌝ }
+{
+    x as u16
+}
+
+// Chains the rows, from place `at` of the table on: from the last row down, so that each bucket keeps their order.
+pub fn build(
+    values: &[i32],
+    walks: &[u16],
+    walk: Walk,
+    attribute: usize,
+    chains: &mut [u16],
+    at: usize,
+)
+    requires { ⌜ Fits walk × (at + 1024 + walk .count ≤ length (now chains)) × ((h : ℕ) → h < 1024 → getD (now chains) (at + h) 0 ≡ 0) ⌝ }
+    ensures { λ _. ⌜ C.Built (C.bucketAt (now (values .entry)) (now (walks .entry)) walk attribute) (walk .count) at (now (chains .exit)) ⌝ }
+    ensures { λ _. ⌜ C.Outside at (at + 1024 + walk .count) (now (chains .entry)) (now (chains .exit)) ⌝ }
+{
+    let nexts = at + 1024;
+    let mut i = walk.count;
+    while 0 < i {
+        let h = at + bucket(key(values, walks, walk, attribute, i - 1));
+        let link = chains[h];
+        chains[nexts + (i - 1)] = link;
+        chains[h] = narrow(i);
+        i -= 1;
+    }
+}
+
+// From a link on, the first of the bucket's rows with the value itself, as a link.
+fn next_equal(
+    values: &[i32],
+    walks: &[u16],
+    walk: Walk,
+    attribute: usize,
+    x: i64,
+    chains: &[u16],
+    nexts: usize,
+    link: usize,
+) -> usize
+    requires { ⌜ Fits walk × (nexts ≤ 131072) × (link ≤ walk .count) × C.Nexts (C.bucketAt (now values) (now walks) walk attribute) (walk .count) nexts (now chains) ⌝ }
+    ensures { λ r. ⌜ ((from : ℕ) → C.First (λ (j : ℕ). C.bucketAt (now (values .entry)) (now (walks .entry)) walk attribute j ≡ C.bucketOf x) from (walk .count) link → C.First (λ (j : ℕ). C.same (C.keyAt (now (values .entry)) (now (walks .entry)) walk attribute j) x ≡ true) from (walk .count) r) ⌝ }
+{
+    let mut at = link;
+    while 0 < at {
+        if equal(key(values, walks, walk, attribute, at - 1), x) {
+            return at;
+        }
+        at = kinds::size_at(chains, nexts + (at - 1));
+    }
+    0
+}
+
+// The first row from `from` on with the value x; where there is none, the count of rows. The chain is entered at its head, or behind a row with that value.
+pub fn find(
+    values: &[i32],
+    walks: &[u16],
+    walk: Walk,
+    attribute: usize,
+    x: i64,
+    chains: &[u16],
+    at: usize,
+    from: usize,
+) -> usize
+    requires { ⌜ Fits walk × (at ≤ 65539) × (from ≤ walk .count) × C.Built (C.bucketAt (now values) (now walks) walk attribute) (walk .count) at (now chains) ⌝ }
+    ensures { λ r. ⌜ (from ≤ r) × (r ≤ walk .count) ⌝ }
+    ensures { λ r. ⌜ ((j : ℕ) → from ≤ j → j < r → C.same (C.keyAt (now (values .entry)) (now (walks .entry)) walk attribute j) x ≡ true → ⊥) ⌝ }
+{
+    let nexts = at + 1024;
+    if from == 0 {
+        let link = kinds::size_at(chains, at + bucket(x));
+        let r = next_equal(values, walks, walk, attribute, x, chains, nexts, link);
+        return row_of(r, walk.count);
+    }
+    if !equal(key(values, walks, walk, attribute, from - 1), x) {
+        return from;
+    }
+    let link = kinds::size_at(chains, nexts + (from - 1));
+    let r = next_equal(values, walks, walk, attribute, x, chains, nexts, link);
+    row_of(r, walk.count)
+}
+
+// The row of a link.
+fn row_of(link: usize, rows: usize) -> usize
+    requires { ⌜ link ≤ rows ⌝ }
+    ensures { λ r. ⌜ (r ≤ rows) × ((link ≡ 0 → r ≡ rows) × (0 < link → r + 1 ≡ link)) ⌝ }
+{
+    if link == 0 { rows } else { link - 1 }
+}

@@ -1,0 +1,103 @@
+-- The equality that a chain serves: found on the way, and tried by the chain.
+use mathlib.Core.Path.{_≡_, refl, sym, ap, ap₂, _∙_, subst}
+use mathlib.Core.Bool.{Bool, true, false, _&&_}
+use mathlib.Core.List.{List}
+use mathlib.Core.Option.{none, some}
+use Prim.Native.Nat.{ℕ, _+_, _*_, _≤_, _<_}
+use native.Mathlib.Omega.{arith}
+use lib.IntN.{ℤ, pos, _*ℤ_, natAbs, one, *ℤ-one}
+use lib.Signed.{leZ}
+use lib.ListN.{getD}
+use Rattle.model.specs.Meaning as M
+use Rattle.model.specs.Meaning.{Assignment, Tuple, whole, compare}
+use Rattle.model.proofs.Tests.{clash}
+use Rattle.numbers.specs.Numbers.{fraction, valueOf}
+use Rattle.numbers.specs.declared.Ratio.{Ratio}
+use Rattle.walks.specs.declared.Walk.{Walk}
+use Rattle.walks.specs.Walks.{walkOf}
+use Rattle.branches.specs.Branches.{field, operand, branchHolds, next, runs}
+use Rattle.branches.proofs.Running.{runs-1, runs-step}
+use Rattle.chains.specs.Chains.{same, bucketAt, Built}
+use Rattle.seeks.specs.declared.Key.{Key}
+use Rattle.seeks.specs.Keys.{Tells, Decides, Chain, Faithful}
+use Rattle.seeks.proofs.Steps.{left-fails, right-fails, start-fails}
+
+abbrev pub Bounded : Key → Type 0
+Bounded k = (k .place ≤ 65535) × (k .number ≤ 65535) × (k .attribute ≤ 65535)
+
+pub no-key : {P : Type 0} (k : Key) → k ≡ record { place = 0; number = 0; attribute = 0 } → ((k .place ≡ 0 → ⊥) → P) × Bounded k
+no-key k e =
+    let a : k .place ≡ 0 = ap (λ (x : Key). x .place) e in
+    let b : k .number ≡ 0 = ap (λ (x : Key). x .number) e in
+    let c : k .attribute ≡ 0 = ap (λ (x : Key). x .attribute) e in
+    (λ h. absurd (h a), (omega arith, omega arith, omega arith))
+
+and-turn : (a b : Bool) → a && b ≡ b && a
+and-turn true true = refl
+and-turn true false = refl
+and-turn false true = refl
+and-turn false false = refl
+
+equal-turn : (x y : M.Value) → compare 1 x y ≡ compare 1 y x
+unfolding M.ordered
+equal-turn none none = refl
+equal-turn none (some y) = refl
+equal-turn (some x) none = refl
+equal-turn (some x) (some y) = and-turn (leZ (x .numerator *ℤ pos (y .denominator)) (y .numerator *ℤ pos (x .denominator))) (leZ (y .numerator *ℤ pos (x .denominator)) (x .numerator *ℤ pos (y .denominator)))
+
+-- an equality with the variable on its left, and on its right
+module _ (t : List ℕ) (i v o a b c : ℕ) (eo : o ≡ getD t (8 * i) 0) (e1 : o ≡ 1) (ea : a ≡ field t i 1) (eb : b ≡ field t i 3) (l : v < 256) where
+  some-operator : o ≡ 0 → ⊥
+  some-operator h = omega arith
+
+  pub tells-left : a ≡ v → (b ≡ v → ⊥) → c ≡ field t i 2 → Tells t i v (8 * i + 3) (2 * i + 1) c
+  tells-left ha hb hc xs q z ws vs m e row h =
+      let y = operand m (getD t (8 * i + 3) 0) (getD t (8 * i + 3 + 1) 0) (getD xs (2 * i + 1) (pos 0)) e in
+      left-fails t xs q z ws vs m i v e row o a b y eo some-operator ea eb l (8 * i + 3) c ha hb refl hc refl (ap (λ (k : ℕ). compare k (some (whole (row c))) y) e1 ∙ h)
+
+  pub tells-right : (a ≡ v → ⊥) → b ≡ v → c ≡ field t i 4 → Tells t i v (8 * i + 1) (2 * i) c
+  tells-right ha hb hc xs q z ws vs m e row h =
+      let y = operand m (getD t (8 * i + 1) 0) (getD t (8 * i + 1 + 1) 0) (getD xs (2 * i) (pos 0)) e in
+      right-fails t xs q z ws vs m i v e row o a b y eo some-operator ea eb l (8 * i + 1) c ha hb refl hc refl (ap (λ (k : ℕ). compare k y (some (whole (row c)))) e1 ∙ equal-turn y (some (whole (row c))) ∙ h)
+
+-- what starts with branch s fails where it fails from branch i on
+abbrev pub Along : List ℕ → ℕ → ℕ → Type 0
+Along t s i = (xs : List ℤ) (q z ws : List ℕ) (vs m : List ℤ) (e : Assignment) → runs t xs q z ws vs m i e ≡ false → runs t xs q z ws vs m s e ≡ false
+
+module _ (t : List ℕ) (s i f : ℕ) (l : 2 ≤ i) (ef : f ≡ field t i 6) (e1 : f ≡ 1) (along : Along t s i) where
+  pub along-found : (v p n a : ℕ) → Tells t i v p n a → Decides t s v p n a
+  along-found v p n a tells xs q z ws vs m e row h = along xs q z ws vs m _ (start-fails t xs q z ws vs m i f _ l ef e1 (tells xs q z ws vs m e row h))
+
+  pub along-next : (to : ℕ) → to ≡ field t i 5 → to < i → Along t s to
+  along-next to et g xs q z ws vs m e h = along xs q z ws vs m e (go (branchHolds t xs q z ws vs m i e) refl)
+    where
+      go : (b : Bool) → branchHolds t xs q z ws vs m i e ≡ b → runs t xs q z ws vs m i e ≡ false
+      go true p =
+          let n : next t xs q z ws vs m i e ≡ to = rw p (sym et) in
+          runs-step t xs q z ws vs m i e l (subst (λ (k : ℕ). k < i) (sym n) g) ∙ ap (λ (k : ℕ). runs t xs q z ws vs m k e) n ∙ h
+      go false p = start-fails t xs q z ws vs m i f e l ef e1 p
+
+-- a value that is not the same as a whole number
+pub differs : (u : ℤ) (x : Ratio) (y : M.Value) → valueOf x ≡ y → x .denominator ≡ pos 1 → (same u (x .numerator) ≡ true → ⊥) → compare 1 (some (whole u)) y ≡ false
+unfolding M.ordered one
+differs u x y ex e1 h =
+    let n : y ≡ some (whole (x .numerator)) = sym ex ∙ ap (λ (d : ℤ). fraction (x .numerator) (natAbs d)) e1 in
+    ap (compare 1 (some (whole u))) n ∙ ap₂ (λ (a b : ℤ). leZ a b && leZ b a) (*ℤ-one u) (*ℤ-one (x .numerator)) ∙ no (same u (x .numerator)) h
+  where
+    no : (b : Bool) → (b ≡ true → ⊥) → b ≡ false
+    no true h = absurd (h refl)
+    no false h = refl
+
+-- the chain of a table
+module _ (t ws : List ℕ) (vs : List ℤ) (chains : List ℕ) where
+  pub chain-here : Faithful t ws vs chains → (s at v : ℕ) → (at ≡ 0 → ⊥) → ((at ≡ 0 → ⊥) → (s < 64) × ((at ≡ getD chains s 0) × (getD chains at 0 ≡ v))) → Chain t ws vs chains s at
+  chain-here f s at v nz h =
+      let w = h nz in
+      subst (Chain t ws vs chains s) (sym (w .1 .0)) (f s (w .0) (λ z. nz (w .1 .0 ∙ z)))
+
+  module _ (s at v a : ℕ) (chain : Chain t ws vs chains s at) (ev : getD chains at 0 ≡ v) (ea : a ≡ getD chains (at + 3) 0) where
+    pub chain-built : (walk : Walk) → walk ≡ walkOf ws v → Built (bucketAt vs ws walk a) (walk .count) (at + 4) chains
+    chain-built walk ew = rw (ew, ea, sym ev) (chain .built)
+
+    pub chain-decides : (p n : ℕ) → p ≡ getD chains (at + 1) 0 → n ≡ getD chains (at + 2) 0 → Decides t s v p n a
+    chain-decides p n ep en = rw (ep, en, ea, sym ev) (chain .decides)

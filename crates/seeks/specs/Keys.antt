@@ -1,0 +1,41 @@
+-- Chains for the conditions that branches of a table start with. A table of chains has, for each branch below 64, the place of its chain or 0; a chain
+-- has the variable whose rows it chains, the place and the number of the side that they are compared with, the attribute, heads and links.
+use Prim.Native.Nat.{ℕ, _+_, _≤_, _<_}
+use mathlib.Core.Path.{_≡_}
+use mathlib.Core.Bool.{false}
+use mathlib.Core.List.{List}
+use mathlib.Core.Option.{some}
+use lib.IntN.{ℤ, pos}
+use lib.ListN.{getD}
+use Rattle.model.specs.Lists.{update}
+use Rattle.model.specs.Meaning.{Tuple, Assignment, whole, compare}
+use Rattle.walks.specs.Walks.{walkOf}
+use Rattle.branches.specs.Branches.{operand, branchHolds, runs}
+use Rattle.chains.specs.Chains.{bucketAt, Built}
+
+-- a row of variable v whose attribute a is not equal to the side at place p, with number n, fails branch i
+abbrev pub Tells : List ℕ → ℕ → ℕ → ℕ → ℕ → ℕ → Type 0
+Tells t i v p n a = (xs : List ℤ) (q z ws : List ℕ) (vs m : List ℤ) (e : Assignment) (row : Tuple)
+    → compare 1 (some (whole (row a))) (operand m (getD t p 0) (getD t (p + 1) 0) (getD xs n (pos 0)) e) ≡ false → branchHolds t xs q z ws vs m i (update e v row) ≡ false
+
+-- and does not lead from branch s to 0
+abbrev pub Decides : List ℕ → ℕ → ℕ → ℕ → ℕ → ℕ → Type 0
+Decides t s v p n a = (xs : List ℤ) (q z ws : List ℕ) (vs m : List ℤ) (e : Assignment) (row : Tuple)
+    → compare 1 (some (whole (row a))) (operand m (getD t p 0) (getD t (p + 1) 0) (getD xs n (pos 0)) e) ≡ false → runs t xs q z ws vs m s (update e v row) ≡ false
+
+-- the chain at place r serves branch s
+pub record Chain (t ws : List ℕ) (vs : List ℤ) (chains : List ℕ) (s r : ℕ) : Type 0 where
+  pub decides : Decides t s (getD chains r 0) (getD chains (r + 1) 0) (getD chains (r + 2) 0) (getD chains (r + 3) 0)
+  pub built : Built (bucketAt vs ws (walkOf ws (getD chains r 0)) (getD chains (r + 3) 0)) (walkOf ws (getD chains r 0) .count) (r + 4) chains
+
+-- every chain of the table serves its branch; so does a table with none
+abbrev pub Faithful : List ℕ → List ℕ → List ℤ → List ℕ → Type 0
+Faithful t ws vs chains = (s : ℕ) → s < 64 → (getD chains s 0 ≡ 0 → ⊥) → Chain t ws vs chains s (getD chains s 0)
+
+-- a table that is being filled: its chains stand before `free`, behind it there is nothing
+pub record Filling (free : ℕ) (t ws : List ℕ) (vs : List ℤ) (chains : List ℕ) : Type 0 where
+  pub low : 64 ≤ free
+  pub high : free ≤ 65535
+  pub clear : (i : ℕ) → free ≤ i → getD chains i 0 ≡ 0
+  pub within : (s : ℕ) → s < 64 → (getD chains s 0 ≡ 0 → ⊥) → (64 ≤ getD chains s 0) × (getD chains s 0 + 1028 + walkOf ws (getD chains (getD chains s 0) 0) .count ≤ free)
+  pub faithful : Faithful t ws vs chains
