@@ -289,7 +289,7 @@ module _ (sh : Shape) (limit : ℕ) (R : Rows) (e : Assignment) where
       )
 
 -- a memo with nothing in it
-pub empty-unknown : (m : List ℤ) → ((i : ℕ) → getD m i (pos 0) ≡ pos 0) → (bs : List Binding) → Unknown m bs
+empty-unknown : (m : List ℤ) → ((i : ℕ) → getD m i (pos 0) ≡ pos 0) → (bs : List Binding) → Unknown m bs
 unfolding Every knows
 empty-unknown m h [] = tt
 empty-unknown m h (b ∷ bs) = (rw (h (2 * b .variable), h (2 * b .variable + 1)), empty-unknown m h bs)

@@ -46,7 +46,7 @@ module _ (t : List ℕ) (xs : List ℤ) (q z ws : List ℕ) (vs m : List ℤ) (e
   abbrev pub meets : ℕ → Tuple → Bool
   meets v x = bothHold t xs q z ws vs m (update (assigned vs e) v x)
 
-pub both-false : (t : List ℕ) (xs : List ℤ) (q z ws : List ℕ) (vs m : List ℤ) (u : Assignment) → stageHolds t xs q z ws vs m 0 u ≡ false → bothHold t xs q z ws vs m u ≡ false
+both-false : (t : List ℕ) (xs : List ℤ) (q z ws : List ℕ) (vs m : List ℤ) (u : Assignment) → stageHolds t xs q z ws vs m 0 u ≡ false → bothHold t xs q z ws vs m u ≡ false
 unfolding bothHold
 both-false t xs q z ws vs m u h = rw h
 
@@ -93,11 +93,6 @@ module _ (t : List ℕ) (xs : List ℤ) (q z ws : List ℕ) (vs m : List ℤ) (e
 pub take-all : (t : List ℕ) (xs : List ℤ) (q z ws : List ℕ) (vs m : List ℤ) (e : List ℕ) (v a i : ℕ) (x : Walk) (c : Accumulator) → x ≡ walkOf ws v → i ≡ x .count → Accumulates c (kept vs (meets t xs q z ws vs m e v) a (placeAt ws x) i) → Accumulates c (takenBy t xs q z ws vs m e v a)
 unfolding kept takenBy walked
 take-all t xs q z ws vs m e v a i x c ex ei h = subst (Accumulates c) (rw ei (rw ex)) h
-
--- a table planned with no ranges holds where the condition holds
-pub both-planned : (t : List ℕ) (xs : List ℤ) (q z ws : List ℕ) (vs m : List ℤ) (l : ℕ) (u : Assignment) → Planned t xs q z ws vs m (decode l (drop 0 q) (drop 0 z)) (rangesAt 0 q) → bothHold t xs q z ws vs m u ≡ holdsBy m (decode l q z) (rowsBy ws vs) u
-unfolding rangesAt
-both-planned t xs q z ws vs m l u p = both-stages t xs q z ws vs m u ∙ p .whole u
 
 -- a table planned with no ranges takes the rows that meet the condition
 pub taken-planned : (t : List ℕ) (xs : List ℤ) (q z ws : List ℕ) (vs m : List ℤ) (l : ℕ) (e : List ℕ) (v a : ℕ) (c : Accumulator) → Planned t xs q z ws vs m (decode l (drop 0 q) (drop 0 z)) (rangesAt 0 q) → Accumulates c (takenBy t xs q z ws vs m e v a) → Accumulates c (valuesOn l q z ws vs m e v a)

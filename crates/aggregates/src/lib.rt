@@ -29,7 +29,7 @@ fn compiled(level: usize) -> bool
 }
 
 // Whether the conjuncts hold of a table with no ranges, comparisons first.
-pub fn both(
+fn both(
     t: &[u16],
     xs: &[i32],
     q: &[u8],

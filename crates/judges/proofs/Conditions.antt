@@ -21,8 +21,7 @@ use Rattle.walks.specs.Walks.{rowsBy}
 use Rattle.evaluator.specs.Recalled.{holdsBy}
 use Rattle.evaluator.specs.Evaluation.{assigned}
 use Rattle.conjuncts.specs.Stages.{Planned}
-use Rattle.aggregates.specs.Taken.{bothHold}
-use Rattle.aggregates.proofs.Taking.{both-planned, getD-same}
+use Rattle.aggregates.proofs.Taking.{getD-same}
 use Rattle.judges.specs.Marked.{Marked, turned, tupleOf, judgedOn}
 use Rattle.judges.proofs.Steps.{rowTest, marked-same, marked-then}
 use Rattle.judges.proofs.Terms.{condition-is}
@@ -62,8 +61,8 @@ left-out false b m e = ap (λ n. eqb n 0) e
 
 -- a planned table marks as the condition does
 pub planned-marks : (t : List ℕ) (xs : List ℤ) (q z ws : List ℕ) (vs m : List ℤ) (e : List ℕ) (l : ℕ) (x : Walk) (w : Bool) (n : ℕ) (ms y : List ℕ) → Planned t xs q z ws vs m (decode l (drop 0 q) (drop 0 z)) (rangesAt 0 q) → Marked (rowTest t xs q z ws vs m e x w) n ms y → Marked (judgedOn l q z ws vs m e x w) n ms y
-unfolding judgedOn
-planned-marks t xs q z ws vs m e l x w n ms y p h = marked-same h refl (λ i k. ap (turned w) (both-planned t xs q z ws vs m l (update (assigned vs e) 0 (tupleOf vs x i)) p))
+unfolding judgedOn rangesAt
+planned-marks t xs q z ws vs m e l x w n ms y p h = marked-same h refl (λ i k. ap (turned w) (p .whole (update (assigned vs e) 0 (tupleOf vs x i))))
 
 module _ (q z ws : List ℕ) (vs m : List ℤ) (e : List ℕ) (x : Walk) where
   -- the two conditions under AND or OR

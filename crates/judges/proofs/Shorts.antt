@@ -2,6 +2,7 @@
 use Prim.Native.Nat.{ℕ, zero, suc, _+_, _*_, _≤_, _<_}
 use mathlib.Core.Bool.{Bool, true, false, cond}
 use mathlib.Core.List.{List, [], _∷_}
+use mathlib.Core.Option.{some}
 use mathlib.Core.Path.{_≡_, refl, sym, ap, ap₂, _∙_, subst}
 use native.Mathlib.Omega.{arith}
 use lib.IntN.{ℤ, pos}
@@ -13,7 +14,7 @@ use Rattle.model.proofs.Reading.{read-encode}
 use Rattle.model.specs.Meaning.{Tuple, whole, signed, compare}
 use Rattle.catalogue.specs.Layout.{attributesOf, rowsOf, baseOf}
 use Rattle.numbers.specs.declared.Ratio.{Ratio}
-use Rattle.numbers.specs.Numbers.{represent, ratioOf}
+use Rattle.numbers.specs.Numbers.{valueOf}
 use Rattle.sizes.specs.Decode.{decode}
 use Rattle.sizes.proofs.Decoding.{decode-is, condition-sized}
 use Rattle.walks.specs.declared.Walk.{Walk}
@@ -58,14 +59,14 @@ module _ (q : List ℕ) (s : Short q) where
       let n : length (replicate {A = ℕ} 256 0) ≡ 256 = length-replicate {A = ℕ} 256 0 in
       decode-is 16 q c [] (sizesOf q) read-short (condition-sized 16 q 0 (replicate 256 0) c [] read-short (omega (arith, n, s .size)) (omega (arith, s .size)))
 
-  meets-short : (cb : List ℕ) (vs : List ℤ) (x : Tuple) → meetsBytes cb vs q x ≡ compare (getD q 1 0) (whole (x (getD q 4 0))) (whole (signed (getD q 6 0) (getD q 7 0) (getD q 8 0) (getD q 9 0)))
+  meets-short : (cb : List ℕ) (vs : List ℤ) (x : Tuple) → meetsBytes cb vs q x ≡ compare (getD q 1 0) (some (whole (x (getD q 4 0)))) (some (whole (signed (getD q 6 0) (getD q 7 0) (getD q 8 0) (getD q 9 0))))
   unfolding meetsBytes holdsOn holdsBy
   meets-short cb vs x = ap (λ (d : Condition). holdsBy (ownMemo cb vs q) d (rowsBy (ownWalks cb q) vs) (update (assigned vs (noPlaces vs)) 0 x)) decoded
 
-  pub short-marks : (vs : List ℤ) (x : Walk) (n : ℕ) (ms y : List ℕ) (o a b₀ b₁ b₂ b₃ : ℕ) (v : ℤ) (r : Ratio) → o ≡ getD q 1 0 → a ≡ getD q 4 0 → b₀ ≡ getD q 6 0 → b₁ ≡ getD q 7 0 → b₂ ≡ getD q 8 0 → b₃ ≡ getD q 9 0 → v ≡ signed b₀ b₁ b₂ b₃ → r ≡ represent (whole v)
-      → Marked (λ i. turned true (compare o (whole (tupleOf vs x i a)) (ratioOf r))) n ms y → (cb : List ℕ) → Marked (λ i. meetsBytes cb vs q (tupleOf vs x i)) n ms y
+  pub short-marks : (vs : List ℤ) (x : Walk) (n : ℕ) (ms y : List ℕ) (o a b₀ b₁ b₂ b₃ : ℕ) (v : ℤ) (r : Ratio) → o ≡ getD q 1 0 → a ≡ getD q 4 0 → b₀ ≡ getD q 6 0 → b₁ ≡ getD q 7 0 → b₂ ≡ getD q 8 0 → b₃ ≡ getD q 9 0 → v ≡ signed b₀ b₁ b₂ b₃ → valueOf r ≡ some (whole v)
+      → Marked (λ i. turned true (compare o (some (whole (tupleOf vs x i a))) (valueOf r))) n ms y → (cb : List ℕ) → Marked (λ i. meetsBytes cb vs q (tupleOf vs x i)) n ms y
   short-marks vs x n ms y o a b₀ b₁ b₂ b₃ v r eo ea e₀ e₁ e₂ e₃ ev er h cb =
-      marked-same h refl (λ i k. ap (compare o (whole (tupleOf vs x i a))) (ap ratioOf er ∙ ap whole ev) ∙ rw (eo, ea, e₀, e₁, e₂, e₃) (sym (meets-short cb vs (tupleOf vs x i))))
+      marked-same h refl (λ i k. ap (compare o (some (whole (tupleOf vs x i a)))) (er ∙ ap (λ n. some (whole n)) ev) ∙ rw (eo, ea, e₀, e₁, e₂, e₃) (sym (meets-short cb vs (tupleOf vs x i))))
 
 -- by tables
 pub long-marks : (cb : List ℕ) (vs : List ℤ) (q z ws : List ℕ) (m : List ℤ) (e : List ℕ) (x : Walk) (n : ℕ) (ms y : List ℕ) → z ≡ sizesOf q → ws ≡ ownWalks cb q → e ≡ noPlaces vs → m ≡ filledC (decode 16 q z) (rowsBy ws vs) (assigned vs (noPlaces vs)) (replicate 8 (pos 0))

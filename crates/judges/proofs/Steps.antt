@@ -13,14 +13,15 @@ use lib.Signed.{leZ}
 use lib.ListN.{length, getD, set, replicate, length-set}
 use lib.Seq.{set-getD, getD-set-same, getD-set-other}
 use borrow.Author.Tests.{eqb-true, eqb-false, ltb-true, ltb-false}
-use Rattle.model.specs.Lists.{update}
+use Rattle.model.specs.Lists.{update, all, below}
+use Rattle.model.proofs.Tests.{not-yes, not-no}
 use Rattle.model.specs.Meaning.{Assignment}
 use Rattle.catalogue.specs.Layout.{tupleAt}
 use Rattle.walks.specs.declared.Walk.{Walk}
 use Rattle.evaluator.specs.Evaluation.{assigned}
 use Rattle.evaluator.proofs.Steps.{assigned-set}
 use Rattle.probes.proofs.Places.{places-alike}
-use Rattle.aggregates.specs.Taken.{bothHold}
+use Rattle.conjuncts.specs.Stages.{stageHolds, stagesHold}
 use Rattle.aggregates.proofs.Taking.{getD-same}
 use Rattle.judges.specs.Marked.{Bits, Marked, between, turned, tupleOf}
 
@@ -105,23 +106,42 @@ row-kept ms i b h d = sym (ap (set ms i) (same b) ∙ set-getD ms i 0)
     same false = refl
 
 module _ (t : List ℕ) (xs : List ℤ) (q z ws : List ℕ) (vs m : List ℤ) (e : List ℕ) where
-  pub row-tried : (y ms : List ℕ) (i p : ℕ) (b wanted c : Bool) (r : ℕ) → 256 ≤ length e → getD ms i 0 ≡ 0 → y ≡ set e 0 p → b ≡ bothHold t xs q z ws vs m (assigned vs y) → c ≡ turned wanted b → r ≡ cond c 1 0
-      → set ms i r ≡ set ms i (cond (turned wanted (bothHold t xs q z ws vs m (update (assigned vs e) 0 (tupleAt vs p)))) 1 (getD ms i 0))
+  pub row-tried : (y ms : List ℕ) (i p : ℕ) (b wanted c : Bool) (r : ℕ) → 256 ≤ length e → getD ms i 0 ≡ 0 → y ≡ set e 0 p → b ≡ stagesHold t xs q z ws vs m 0 (assigned vs y) → c ≡ turned wanted b → r ≡ cond c 1 0
+      → set ms i r ≡ set ms i (cond (turned wanted (stagesHold t xs q z ws vs m 0 (update (assigned vs e) 0 (tupleAt vs p)))) 1 (getD ms i 0))
   row-tried y ms i p b wanted c r l h ey eb ec er =
-      ap (set ms i) (er ∙ ap (λ x. cond x 1 0) (ec ∙ ap (turned wanted) (eb ∙ ap (bothHold t xs q z ws vs m) (ap (assigned vs) ey ∙ assigned-set vs e 0 p (omega arith)))) ∙ ap (cond (turned wanted (bothHold t xs q z ws vs m (update (assigned vs e) 0 (tupleAt vs p)))) 1) (sym h))
+      ap (set ms i) (er ∙ ap (λ x. cond x 1 0) (ec ∙ ap (turned wanted) (eb ∙ ap (stagesHold t xs q z ws vs m 0) (ap (assigned vs) ey ∙ assigned-set vs e 0 p (omega arith)))) ∙ ap (cond (turned wanted (stagesHold t xs q z ws vs m 0 (update (assigned vs e) 0 (tupleAt vs p)))) 1) (sym h))
 
   -- the test of a loop over rows
   abbrev pub rowTest : Walk → Bool → ℕ → Bool
-  rowTest x wanted i = turned wanted (bothHold t xs q z ws vs m (update (assigned vs e) 0 (tupleOf vs x i)))
+  rowTest x wanted i = turned wanted (stagesHold t xs q z ws vs m 0 (update (assigned vs e) 0 (tupleOf vs x i)))
 
   pub row-marked : (d : List ℕ) (x : Walk) (wanted : Bool) (ms y w : List ℕ) (i old p : ℕ) → i < length ms → set d 0 old ≡ e → p ≡ x .base + i * x .width → Marked (rowTest x wanted) i ms y
-      → w ≡ set y i (cond (turned wanted (bothHold t xs q z ws vs m (update (assigned vs d) 0 (tupleAt vs p)))) 1 (getD y i 0)) → Marked (rowTest x wanted) (i + 1) ms w
+      → w ≡ set y i (cond (turned wanted (stagesHold t xs q z ws vs m 0 (update (assigned vs d) 0 (tupleAt vs p)))) 1 (getD y i 0)) → Marked (rowTest x wanted) (i + 1) ms w
   row-marked d x wanted ms y w i old p l hd hp my ew =
       subst (Marked (rowTest x wanted) (i + 1) ms) (sym ew)
-      (marked-next (rowTest x wanted) i ms y _ l my (ap (λ (u : Assignment). cond (turned wanted (bothHold t xs q z ws vs m u)) 1 (getD y i 0)) (places-alike vs d e 0 old (tupleAt vs p) hd ∙ ap (λ n. update (assigned vs e) 0 (tupleAt vs n)) hp)))
+      (marked-next (rowTest x wanted) i ms y _ l my (ap (λ (u : Assignment). cond (turned wanted (stagesHold t xs q z ws vs m 0 u)) 1 (getD y i 0)) (places-alike vs d e 0 old (tupleAt vs p) hd ∙ ap (λ n. update (assigned vs e) 0 (tupleAt vs n)) hp)))
 
 pub marked-from : {f : ℕ → Bool} {n : ℕ} {a b c : List ℕ} → b ≡ a → Marked f n b c → Marked f n a c
 marked-from {f = f} {n = n} {a = a} {b = b} {c = c} e h = subst (λ (u : List ℕ). Marked f n u c) e h
 
 pub blank-bits : (n : ℕ) → Bits (replicate n 0)
 blank-bits n i = omega (arith, getD-same {A = ℕ} n 0 i)
+
+-- the two stages of a table with no ranges
+module _ (t : List ℕ) (xs : List ℤ) (q z ws : List ℕ) (vs m : List ℤ) (e : List ℕ) where
+  abbrev stage : ℕ → Bool
+  stage s = stageHolds t xs q z ws vs m s (assigned vs e)
+
+  both-are : stagesHold t xs q z ws vs m 0 (assigned vs e) ≡ stage 0 && (stage 1 && true)
+  unfolding stagesHold all below
+  both-are = refl
+
+  pub both-no : (b : Bool) → b ≡ stage 0 → not b ≡ true → false ≡ stagesHold t xs q z ws vs m 0 (assigned vs e)
+  both-no b eb h = sym (both-are ∙ ap (λ c. c && (stage 1 && true)) (sym eb ∙ not-yes b h))
+
+  pub both-yes : (b c : Bool) (d : List ℕ) → b ≡ stage 0 → not b ≡ false → d ≡ e → c ≡ stageHolds t xs q z ws vs m 1 (assigned vs d) → c ≡ stagesHold t xs q z ws vs m 0 (assigned vs e)
+  both-yes b c d eb h ed ec = ec ∙ ap (λ (u : List ℕ). stageHolds t xs q z ws vs m 1 (assigned vs u)) ed ∙ sym (both-are ∙ ap (λ k. k && (stage 1 && true)) (sym eb ∙ not-no b h) ∙ and-yes (stage 1))
+    where
+      and-yes : (a : Bool) → a && true ≡ a
+      and-yes true = refl
+      and-yes false = refl

@@ -6,6 +6,7 @@ use walks::Walk;
 ghost use mathlib.Core.Path.{_≡_};
 ghost use mathlib.Core.Bool.{true, false, cond, _&&_, _||_};
 ghost use mathlib.Core.List.{List};
+ghost use mathlib.Core.Option.{some};
 ghost use Prim.Native.Nat.{ℕ, _+_, _*_, _≤_, _<_};
 ghost use lib.Dec.{eqb};
 ghost use lib.IntN.{ℤ, pos, natAbs, _*ℤ_};
@@ -15,13 +16,13 @@ ghost use Rattle.model.specs.Lists.{update};
 ghost use Rattle.model.specs.Meaning.{Rows, Assignment, signed};
 ghost use Rattle.model.specs.Meaning as M;
 ghost use Rattle.catalogue.specs.Layout.{tupleAt, rowsOf};
-ghost use Rattle.numbers.specs.Numbers.{ratioOf, Small};
+ghost use Rattle.numbers.specs.Numbers.{valueOf, Number, Small};
 ghost use Rattle.numbers.specs.Memo as Memo;
 ghost use Rattle.sizes.specs.Decode.{first, second, decodeT};
 ghost use Rattle.walks.specs.Walks.{Fits};
 ghost use Rattle.evaluator.specs.Recalled.{valueBy};
 ghost use Rattle.evaluator.specs.Evaluation.{assigned};
-ghost use Rattle.aggregates.specs.Taken.{bothHold};
+ghost use Rattle.conjuncts.specs.Stages.{stagesHold};
 ghost use Rattle.judges.specs.Marked as J;
 ghost use Rattle.judges.specs.Meets.{meetsBytes, rowOf};
 
@@ -118,7 +119,7 @@ fn test_with(above: bool, below: bool, wanted: bool, x: Ratio) -> Test
 
 // A comparison with x on the right.
 fn test_of(operator: u8, x: Ratio, wanted: bool) -> Test
-    ensures { λ r. ⌜ (Small x → (a : ℤ) → J.passes r a ≡ J.turned wanted (M.compare operator (M.whole a) (ratioOf x))) ⌝ }
+    ensures { λ r. ⌜ (Small x → Number x → (a : ℤ) → J.passes r a ≡ J.turned wanted (M.compare operator (some (M.whole a)) (valueOf x))) ⌝ }
     ensures { λ r. ⌜ (r .number ≡ x .numerator) × (r .scale ≡ x .denominator) ⌝ }
 {
     match operator {
@@ -137,7 +138,28 @@ fn wide(x: u8) -> usize
     x as usize
 }
 
-// Marks by a comparison of an attribute with x; not where values are missing, and it says so.
+// Marks the first n rows.
+fn mark_all(n: usize, marks: &mut [u8])
+    requires { ⌜ n ≤ length (now marks) ⌝ }
+    ensures { λ _. ⌜ J.Marked (λ i. true) n (now (marks .entry)) (now (marks .exit)) ⌝ }
+{
+    let mut i = 0;
+    while i < n {
+        marks[i] = 1;
+        i += 1;
+    }
+}
+
+fn mark_if(b: bool, n: usize, marks: &mut [u8])
+    requires { ⌜ n ≤ length (now marks) ⌝ }
+    ensures { λ _. ⌜ J.Marked (λ i. b) n (now (marks .entry)) (now (marks .exit)) ⌝ }
+{
+    if b {
+        mark_all(n, marks);
+    }
+}
+
+// Marks by a comparison of an attribute with x; with nothing it is false. Not where values are missing, and it says so.
 fn mark_against(
     operator: u8,
     attribute: u8,
@@ -148,12 +170,17 @@ fn mark_against(
     marks: &mut [u8],
 ) -> bool
     requires { ⌜ (walk .count ≤ length (now marks)) × Fits walk × Small x × J.Bits (now marks) ⌝ }
-    ensures { λ r. ⌜ (r ≡ true → J.Marked (λ i. J.turned wanted (M.compare operator (M.whole (J.tupleOf (now (values .entry)) walk i attribute)) (ratioOf x))) (walk .count) (now (marks .entry)) (now (marks .exit))) ⌝ }
+    ensures { λ r. ⌜ (r ≡ true → J.Marked (λ i. J.turned wanted (M.compare operator (some (M.whole (J.tupleOf (now (values .entry)) walk i attribute))) (valueOf x))) (walk .count) (now (marks .entry)) (now (marks .exit))) ⌝ }
     ensures { λ r. ⌜ (r ≡ false → now (marks .exit) ≡ now (marks .entry)) ⌝ }
 {
     let base = walk.base;
     let width = walk.width;
     let n = walk.count;
+    let d = x.denominator;
+    if d <= 0 {
+        mark_if(!wanted, n, marks);
+        return true;
+    }
     let a = wide(attribute);
     if width <= a {
         return false;
@@ -190,7 +217,7 @@ fn unknown() -> Known
 
 // An aggregate, where the memo knows it.
 fn recalled(memo: &[i64], variable: u8) -> Known
-    ensures { λ k. ⌜ (k .known ≡ true → (Memo.knows (now (memo .entry)) variable ≡ true) × (ratioOf (k .value) ≡ Memo.recalled (now (memo .entry)) variable)) ⌝ }
+    ensures { λ k. ⌜ (k .known ≡ true → (Memo.knows (now (memo .entry)) variable ≡ true) × (valueOf (k .value) ≡ Memo.recalled (now (memo .entry)) variable)) ⌝ }
     ensures { λ k. ⌜ Small (k .value) ⌝ }
 {
     if !numbers::knows(memo, variable) {
@@ -201,7 +228,7 @@ fn recalled(memo: &[i64], variable: u8) -> Known
 
 // The term that q starts with: a number, or an aggregate.
 fn known_at(q: &[u8], level: usize, memo: &[i64]) -> Known
-    ensures { λ k. ⌜ (k .known ≡ true → (z : List ℕ) (R : Rows) (e : Assignment) → ratioOf (k .value) ≡ valueBy (now (memo .entry)) (decodeT level (now (q .entry)) z) R e) ⌝ }
+    ensures { λ k. ⌜ (k .known ≡ true → (z : List ℕ) (R : Rows) (e : Assignment) → valueOf (k .value) ≡ valueBy (now (memo .entry)) (decodeT level (now (q .entry)) z) R e) ⌝ }
     ensures { λ k. ⌜ Small (k .value) ⌝ }
 {
     if level == 0 {
@@ -252,27 +279,6 @@ fn mark_compared(
     mark_against(operator, attribute, x, walk, values, wanted, marks)
 }
 
-// Marks the first n rows.
-fn mark_all(n: usize, marks: &mut [u8])
-    requires { ⌜ n ≤ length (now marks) ⌝ }
-    ensures { λ _. ⌜ J.Marked (λ i. true) n (now (marks .entry)) (now (marks .exit)) ⌝ }
-{
-    let mut i = 0;
-    while i < n {
-        marks[i] = 1;
-        i += 1;
-    }
-}
-
-fn mark_if(b: bool, n: usize, marks: &mut [u8])
-    requires { ⌜ n ≤ length (now marks) ⌝ }
-    ensures { λ _. ⌜ J.Marked (λ i. b) n (now (marks .entry)) (now (marks .exit)) ⌝ }
-{
-    if b {
-        mark_all(n, marks);
-    }
-}
-
 // Marks the rows that other marks leave out.
 fn mark_others(others: &[u8], n: usize, marks: &mut [u8])
     requires { ⌜ (n ≤ length (now others)) × (n ≤ length (now marks)) × J.Bits (now marks) ⌝ }
@@ -283,6 +289,27 @@ fn mark_others(others: &[u8], n: usize, marks: &mut [u8])
         marks[i] = joined(marks[i], others[i] == 0);
         i += 1;
     }
+}
+
+// Whether the conjuncts of a table with no ranges hold, comparisons first.
+fn holds(
+    t: &[u16],
+    xs: &[i32],
+    q: &[u8],
+    z: &[u16],
+    walks: &[u16],
+    vs: &[i32],
+    memo: &[i64],
+    env: &mut [usize],
+) -> bool
+    requires { ⌜ 256 ≤ length (now env) ⌝ }
+    ensures { λ r. ⌜ r ≡ stagesHold (now (t .entry)) (now (xs .entry)) (now (q .entry)) (now (z .entry)) (now (walks .entry)) (now (vs .entry)) (now (memo .entry)) 0 (assigned (now (vs .entry)) (now (env .entry))) ⌝ }
+    ensures { λ _. ⌜ now (env .exit) ≡ now (env .entry) ⌝ }
+{
+    if !conjuncts::holds(t, xs, 0, q, z, walks, vs, memo, env) {
+        return false;
+    }
+    conjuncts::holds(t, xs, 1, q, z, walks, vs, memo, env)
 }
 
 // Marks row i, whose values begin at a place, where the conjuncts of a table are as wanted. A row that is marked is not tried.
@@ -301,14 +328,14 @@ fn try_row(
     i: usize,
 )
     requires { ⌜ (256 ≤ length (now env)) × (i < length (now marks)) × J.Bits (now marks) ⌝ }
-    ensures { λ _. ⌜ now (marks .exit) ≡ set (now (marks .entry)) i (cond (J.turned wanted (bothHold (now (t .entry)) (now (xs .entry)) (now (q .entry)) (now (z .entry)) (now (walks .entry)) (now (vs .entry)) (now (memo .entry)) (update (assigned (now (vs .entry)) (now (env .entry))) 0 (tupleAt (now (vs .entry)) place)))) 1 (getD (now (marks .entry)) i 0)) ⌝ }
+    ensures { λ _. ⌜ now (marks .exit) ≡ set (now (marks .entry)) i (cond (J.turned wanted (stagesHold (now (t .entry)) (now (xs .entry)) (now (q .entry)) (now (z .entry)) (now (walks .entry)) (now (vs .entry)) (now (memo .entry)) 0 (update (assigned (now (vs .entry)) (now (env .entry))) 0 (tupleAt (now (vs .entry)) place)))) 1 (getD (now (marks .entry)) i 0)) ⌝ }
     ensures { λ _. ⌜ ((k : ℕ) → set (now (env .exit)) 0 k ≡ set (now (env .entry)) 0 k) × (length (now (env .exit)) ≡ length (now (env .entry))) ⌝ }
 {
     if marks[i] != 0 {
         return;
     }
     evaluator::set_place(env, 0, place);
-    let met = aggregates::both(t, xs, q, z, walks, vs, memo, env);
+    let met = holds(t, xs, q, z, walks, vs, memo, env);
     marks[i] = flag(turned(wanted, met));
 }
 
@@ -334,7 +361,7 @@ fn mark_rows(
     marks: &mut [u8],
 )
     requires { ⌜ (256 ≤ length (now env)) × Fits walk × (walk .count ≤ length (now marks)) × J.Bits (now marks) ⌝ }
-    ensures { λ _. ⌜ J.Marked (λ i. J.turned wanted (bothHold (now (t .entry)) (now (xs .entry)) (now (q .entry)) (now (z .entry)) (now (walks .entry)) (now (vs .entry)) (now (memo .entry)) (update (assigned (now (vs .entry)) (now (env .entry))) 0 (J.tupleOf (now (vs .entry)) walk i)))) (walk .count) (now (marks .entry)) (now (marks .exit)) ⌝ }
+    ensures { λ _. ⌜ J.Marked (λ i. J.turned wanted (stagesHold (now (t .entry)) (now (xs .entry)) (now (q .entry)) (now (z .entry)) (now (walks .entry)) (now (vs .entry)) (now (memo .entry)) 0 (update (assigned (now (vs .entry)) (now (env .entry))) 0 (J.tupleOf (now (vs .entry)) walk i)))) (walk .count) (now (marks .entry)) (now (marks .exit)) ⌝ }
     ensures { λ _. ⌜ now (env .exit) ≡ now (env .entry) ⌝ }
 {
     let n = walk.count;

@@ -5,7 +5,7 @@ use mathlib.Core.List.{List, [], _∷_, append-nil}
 use Prim.Native.Nat.{ℕ, _+_, _*_, _≤_, _<_}
 use native.Mathlib.Omega.{arith}
 use lib.IntN.{ℤ, pos}
-use lib.ListN.{length, replicate, length-replicate}
+use lib.ListN.{length, getD, replicate, length-replicate}
 use mathlib.Core.Option.{some}
 use Rattle.model.specs.Lists.{update, contains, unique, Every}
 use Rattle.model.specs.Syntax.{Condition, Binding, variables, bindings}
@@ -35,11 +35,18 @@ use Rattle.allrows.specs.Filled.{filledBy}
 use Rattle.allrows.proofs.All.{filled-agree}
 use Rattle.evaluator.specs.Recalled.{holdsBy}
 use Rattle.evaluator.specs.Evaluation.{assigned, holdsOn}
+use Rattle.numbers.specs.Memo.{knows}
 use Rattle.aggregates.proofs.Taking.{getD-same}
 use Rattle.aggregates.specs.Filled.{filledC}
-use Rattle.aggregates.proofs.Faithful.{faithful-holds, filled-faithful, empty-unknown}
+use Rattle.aggregates.proofs.Faithful.{Unknown, faithful-holds, filled-faithful}
 use Rattle.plain.proofs.Memo.{none-bound}
 use Rattle.judges.specs.Meets.{noPlaces, ownMemo, meetsBytes}
+
+-- a memo with nothing in it
+empty-unknown : (m : List ℤ) → ((i : ℕ) → getD m i (pos 0) ≡ pos 0) → (bs : List Binding) → Unknown m bs
+unfolding Every knows
+empty-unknown m h [] = tt
+empty-unknown m h (b ∷ bs) = (rw (h (2 * b .variable), h (2 * b .variable + 1)), empty-unknown m h bs)
 
 module _ (cb : List ℕ) (hc : fails10 cb ≡ false) (vs : List ℤ) (r : ℕ) (c : Condition) (fine : Fine c) (sane : Sane (shapeOf (catalogueOf cb)) r c) where
   abbrev q : List ℕ

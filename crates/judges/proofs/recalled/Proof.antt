@@ -1,6 +1,6 @@
 use mathlib.Core.Path.{sym, ap, _∙_, subst}
 use Rattle.model.proofs.Tests.{not-no}
-use Rattle.numbers.specs.Numbers.{ratioOf, Small}
+use Rattle.numbers.specs.Numbers.{valueOf, Small}
 use Rattle.judges.specs.declared.Known.{Known}
 use Rattle.judges.proofs.Terms.{nothing-known}
 use borrow.Author.Needs.{needs}
@@ -35,7 +35,7 @@ found-requires c κs = search needs
 
 -- src/lib.rt:192:1
 returns-2 : tie.Need-returns-2
-returns-2 c = let c₁ = c .before in let c₃ = c₁ .before .before in (λ h. (sym (c₃ .knows .ensures) ∙ not-no (c₃ .knows .result) (c₁ .before .if1 .left), ap (λ (k : Known). ratioOf (k .value)) (c .found .ensures) ∙ ap ratioOf (c₁ .recall .ensures .0)), subst (λ (k : Known). Small (k .value)) (sym (c .found .ensures)) (c₁ .recall .ensures .1))
+returns-2 c = let c₁ = c .before in let c₃ = c₁ .before .before in (λ h. (sym (c₃ .knows .ensures) ∙ not-no (c₃ .knows .result) (c₁ .before .if1 .left), ap (λ (k : Known). valueOf (k .value)) (c .found .ensures) ∙ c₁ .recall .ensures .0), subst (λ (k : Known). Small (k .value)) (sym (c .found .ensures)) (c₁ .recall .ensures .1))
 
 pub recalled-spec : {M : Type 1} → statement M
 recalled-spec =
