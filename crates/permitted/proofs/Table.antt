@@ -148,12 +148,11 @@ given-shared cb vs f r m u v next key ws w x hu hv hm hm′ ekey k room es ex ew
 
 -- a relation's rows by their numbers, as they are met
 places-below : (P : ℕ → ℕ) (n : ℕ) → places P 0 n ≡ map P (below n)
-unfolding below
+unfolding below places
 places-below P zero = refl
-places-below P (suc n) = last 0 n ∙ ap (λ (l : List ℕ). l ++ (P n ∷ [])) (places-below P n) ∙ sym (map-append P (below n) (n ∷ []))
+places-below P (suc n) = let z : 0 + n ≡ n = omega arith in last 0 n ∙ ap₂ (λ (l : List ℕ) (i : ℕ). l ++ (P i ∷ [])) (places-below P n) z ∙ sym (map-append P (below n) (n ∷ []))
   where
     last : (k n : ℕ) → places P k (suc n) ≡ places P k n ++ (P (k + n) ∷ [])
-    unfolding places
     last k zero = let z : k + 0 ≡ k = omega arith in ap (λ i. P i ∷ []) (sym z)
     last k (suc n) = let z : suc k + n ≡ k + suc n = omega arith in ap (λ (l : List ℕ). P k ∷ l) (last (suc k) n ∙ ap (λ i. places P (suc k) n ++ (P i ∷ [])) z)
 

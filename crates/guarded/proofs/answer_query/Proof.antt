@@ -1,3 +1,5 @@
+use Prim.Native.Nat.{ℕ}
+use lib.ListN.{replicate, length-replicate}
 use Rattle.model.specs.Demands.{columnsOf}
 use Rattle.model.specs.Calls.{give}
 use lib.IntN.{ℤ}
@@ -112,7 +114,7 @@ answer-permitted-requires c κs =
     let c₂₇ = c₂₀ .before .before .before .before .before .before .before in let args = c₂₇ .args in let pre = c₂₇ .pre in
     let catalogue = now (args .catalogue) in let list = now (args .list) in let query = now (args .query) in let z = now (args .z) in let layout = args .layout in
     let able = writable catalogue (now (args .values)) (now (args .list)) query (now (args .rewritten)) (now (args .answer)) (pre .kept) (pre .permits) (pre .query) _ _ (fill-places .ensures) (fill-masks .ensures) (all-served .result) (all-served .ensures) (if1 .left) _ (rewritten-length .ensures) (if2 .left) layout z (pre .ready) in
-    (answerable layout catalogue query z (able .catalogue) (pre .query) (pre .laid) (pre .ready), binds layout catalogue list query z _ able _ _ (omega arith) (omega arith))
+    (answerable layout catalogue query z (able .catalogue) (pre .query) (pre .laid) (pre .ready), binds layout catalogue list query z _ able (replicate {A = ℕ} 16 0) (replicate {A = ℕ} 256 0) (omega (arith, length-replicate {A = ℕ} 16 0)) (omega (arith, length-replicate {A = ℕ} 256 0)))
 
 same-length : tie.Need-same-length
 same-length c = search needs
