@@ -88,12 +88,13 @@ pub test-is : (o : ℕ) (above below want w : Bool) (x : Ratio) (t : Test) → t
     → ((n v : ℤ) → between above below want n v ≡ turned w (ordered o v n))
     → (Small x → Number x → (a : ℤ) → passes t a ≡ turned w (compare o (some (whole a)) (valueOf x))) × ((t .number ≡ x .numerator) × (t .scale ≡ x .denominator))
 unfolding M.ordered one
-test-is o above below want w x t e h =
-    ((λ s k a.
-    let left : x .numerator *ℤ pos 1 ≡ x .numerator = *ℤ-one (x .numerator) in
-    let right : a *ℤ pos (natAbs (x .denominator)) ≡ a *ℤ x .denominator = ap (λ (y : ℤ). a *ℤ y) (sym (s .sign)) in
-    ap (λ (u : Test). passes u a) e ∙ h (x .numerator) (a *ℤ x .denominator) ∙ ap (turned w) (sym (ap (compare o (some (whole a))) (value-some x k) ∙ ap₂ (ordered o) right left))),
-    (ap (λ (u : Test). u .number) e, ap (λ (u : Test). u .scale) e))
+test-is o above below want w x t e h = (
+  (λ s k a.
+      let left : x .numerator *ℤ pos 1 ≡ x .numerator = *ℤ-one (x .numerator) in
+      let right : a *ℤ pos (natAbs (x .denominator)) ≡ a *ℤ x .denominator = ap (λ (y : ℤ). a *ℤ y) (sym (s .sign)) in
+      ap (λ (u : Test). passes u a) e ∙ h (x .numerator) (a *ℤ x .denominator) ∙ ap (turned w) (sym (ap (compare o (some (whole a))) (value-some x k) ∙ ap₂ (ordered o) right left))),
+  (ap (λ (u : Test). u .number) e, ap (λ (u : Test). u .scale) e),
+)
 
 -- with nothing a comparison is false
 pub against-nothing : (o : ℕ) (w : Bool) (a : ℤ) (x : Ratio) → valueOf x ≡ none → not w ≡ turned w (compare o (some (whole a)) (valueOf x))

@@ -439,7 +439,18 @@ fn judge_both(
     ensures { λ _. ⌜ now (env .exit) ≡ now (env .entry) ⌝ }
 {
     let mut others = [0u8; 1024];
-    judge_two(q, z, level, walks, walk, vs, memo, env, !wanted, &mut others);
+    judge_two(
+        q,
+        z,
+        level,
+        walks,
+        walk,
+        vs,
+        memo,
+        env,
+        !wanted,
+        &mut others,
+    );
     mark_others(&others, walk.count, marks);
 }
 
@@ -576,7 +587,18 @@ fn judge_long(q: &[u8], catalogue: &[u8], values: &[i32], walk: Walk, marks: &mu
     let mut env = [values.len(); 256];
     let mut memo = [0i64; 8];
     aggregates::condition(q, &z, 16, &walks, values, &mut env, &mut memo);
-    judge_at(q, &z, 16, &walks, walk, values, &memo, &mut env, true, marks);
+    judge_at(
+        q,
+        &z,
+        16,
+        &walks,
+        walk,
+        values,
+        &memo,
+        &mut env,
+        true,
+        marks,
+    );
 }
 
 // Marks the rows of a relation that meet the condition of a permit.

@@ -133,7 +133,6 @@ given-whole cb vs f r m v next ws w x low em k room ex ew =
       rows = walked-whole cb (entered ws v x 0) vs v r here ∙ sym (rw (eq-eqb m 0 em));
       low = λ d. absurd (omega (arith, d, ap (λ (y : Walk). y .start) here, bit (latestOf cb r)));
     }))
-
   where
     bit : (b : Bool) → cond b 1 0 ≤ 1
     bit true = omega arith

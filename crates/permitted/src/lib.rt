@@ -153,7 +153,17 @@ fn list_few(
     ensures { λ r. ⌜ (start ≤ r) × (r ≤ start + rowsOf (now (catalogue .entry)) relation) ⌝ }
 {
     let mut marks = [0u8; 16];
-    list_by(list, places, mask, catalogue, values, relation, &mut marks, walks, start)
+    list_by(
+        list,
+        places,
+        mask,
+        catalogue,
+        values,
+        relation,
+        &mut marks,
+        walks,
+        start,
+    )
 }
 
 fn list_many(
@@ -171,7 +181,17 @@ fn list_many(
     ensures { λ r. ⌜ (start ≤ r) × (r ≤ start + rowsOf (now (catalogue .entry)) relation) ⌝ }
 {
     let mut marks = [0u8; 1024];
-    list_by(list, places, mask, catalogue, values, relation, &mut marks, walks, start)
+    list_by(
+        list,
+        places,
+        mask,
+        catalogue,
+        values,
+        relation,
+        &mut marks,
+        walks,
+        start,
+    )
 }
 
 // A large array is not cleared for few rows.
@@ -190,9 +210,27 @@ fn list_rows(
     ensures { λ r. ⌜ (start ≤ r) × (r ≤ start + rowsOf (now (catalogue .entry)) relation) ⌝ }
 {
     if catalogue::rows(catalogue, relation) <= 16 {
-        return list_few(list, places, mask, catalogue, values, relation, walks, start);
+        return list_few(
+            list,
+            places,
+            mask,
+            catalogue,
+            values,
+            relation,
+            walks,
+            start,
+        );
     }
-    list_many(list, places, mask, catalogue, values, relation, walks, start)
+    list_many(
+        list,
+        places,
+        mask,
+        catalogue,
+        values,
+        relation,
+        walks,
+        start,
+    )
 }
 
 // A variable's walk and key.
@@ -280,7 +318,17 @@ fn give_listed(
         enter(walks, variable, walk, key);
         return next;
     }
-    give_new(list, places, mask, catalogue, values, variable, relation, next, walks)
+    give_new(
+        list,
+        places,
+        mask,
+        catalogue,
+        values,
+        variable,
+        relation,
+        next,
+        walks,
+    )
 }
 
 // Where 33 has passed, a mask of 0 is a workspace's, of which all rows are permitted.
@@ -302,7 +350,17 @@ fn give(
         enter(walks, variable, allrows::whole(catalogue, relation), 0);
         return next;
     }
-    give_listed(list, places, mask, catalogue, values, variable, relation, next, walks)
+    give_listed(
+        list,
+        places,
+        mask,
+        catalogue,
+        values,
+        variable,
+        relation,
+        next,
+        walks,
+    )
 }
 
 // One record of the query: what it binds is given its rows.
@@ -324,7 +382,17 @@ fn fill_one(
         return next;
     };
     let mask = kinds::byte(masks, wide(variable));
-    give(list, places, mask, catalogue, values, variable, relation, next, walks)
+    give(
+        list,
+        places,
+        mask,
+        catalogue,
+        values,
+        variable,
+        relation,
+        next,
+        walks,
+    )
 }
 
 // The walks of all variables that the query binds, in a cleared table with 64 numbers and room for eight lists.

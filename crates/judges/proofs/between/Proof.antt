@@ -35,8 +35,8 @@ returns c =
     let n = args .n in let v = args .v in
     c .turned .ensures
     ∙ ap (turned (args .wanted))
-      (c .before .both .ensures
-      ∙ ap₂ _&&_ (c .before .before .before .at-most .ensures ∙ ap (λ (b : Bool). args .above || b) (test-is leZ n v (fits .n) (fits .v))) (c .before .before .at-most2 .ensures ∙ ap (λ (b : Bool). args .below || b) (test-is leZ v n (fits .v) (fits .n))))
+    (c .before .both .ensures
+    ∙ ap₂ _&&_ (c .before .before .before .at-most .ensures ∙ ap (λ (b : Bool). args .above || b) (test-is leZ n v (fits .n) (fits .v))) (c .before .before .at-most2 .ensures ∙ ap (λ (b : Bool). args .below || b) (test-is leZ v n (fits .v) (fits .n))))
 
 pub between-spec : {M : Type 1} → statement M
 between-spec =

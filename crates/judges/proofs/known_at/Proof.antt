@@ -59,13 +59,13 @@ unknown-requires-2 c κs = search needs
 
 -- src/lib.rt:203:1
 returns-2 : tie.Need-returns-2
-returns-2 c = 
+returns-2 c =
     let c₁ = c .before in let c₂ = c₁ .before in let c₄ = c₂ .before .before in let c₆ = c₄ .before .before in let c₇ = c₆ .before in let args = c₇ .before .before .args in
     (λ h. constant-known (now (args .memo)) (now (args .q)) (args .level) _ (c₇ .if1 .left) (c₆ .read .ensures) (c .found .result) (c₁ .whole .result) _ _ _ _ _ (c₄ .a .given .1) (toZ-ofZ {w = w32} (record { sfits = c₂ .constant .ok }) ∙ c₂ .constant .ensures .0) (c₁ .whole .ensures .0) (c .found .ensures), subst (λ (k : Known). Small (k .value)) (sym (c .found .ensures)) (c₁ .whole .ensures .1))
 
 -- src/lib.rt:203:1
 returns-3 : tie.Need-returns-3
-returns-3 c = 
+returns-3 c =
     let c₂ = c .before .before in let c₄ = c₂ .before .before in let c₅ = c₄ .before in let args = c₅ .before .before .args in
     (λ h. let k = c .recalled .ensures .0 h in aggregate-known (now (args .memo)) (now (args .q)) (args .level) _ (c₅ .if1 .left) (c₄ .read .ensures) (c .recalled .result .value) _ _ _ _ (c₂ .variable .given .1) (k .0) (k .1), c .recalled .ensures .1)
 

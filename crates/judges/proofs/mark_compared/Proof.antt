@@ -86,7 +86,7 @@ returns-5 c = (λ h. clash h, λ h. refl)
 
 -- src/lib.rt:252:5
 mark-against-requires : tie.Need-mark-against-requires
-mark-against-requires c κs = 
+mark-against-requires c κs =
     let c₃ = c .before .before .before in let known-at = c₃ .known-at in
     let c₂₂ = c₃ .before .before .before .before .before .before .before .before .before .before .before .before .before .before .before .before .before .before .before in let pre = c₂₂ .pre in
     (pre .0, pre .1, known-at .ensures .1, pre .2)
@@ -97,7 +97,7 @@ same-length c = search needs
 
 -- src/lib.rt:218:1
 returns-6 : tie.Need-returns-6
-returns-6 c = 
+returns-6 c =
     let c₀ = c .before .before in let c₃ = c₀ .before .before .before in let if3 = c₃ .if3 in
     let c₄ = c₃ .before in let known-at = c₄ .known-at in
     let c₅ = c₄ .before in let tail2 = c₅ .tail2 in

@@ -50,7 +50,7 @@ loop-less c = search needs
 
 -- src/lib.rt:273:5
 loop-again : tie.Need-loop-again Inv-loop μ-loop
-loop-again c = 
+loop-again c =
     let c₃ = c .before .before .before in let c₄ = c₃ .before in let loop = c₄ .loop in
     let c₇ = c₄ .before .before .before in let args = c₇ .args in let pre = c₇ .pre in
     (omega (arith, c₃ .loop-test .taken), marked-next _ (loop .i) (now (args .marks)) (loop .marks) _ (omega (arith, c₃ .loop-test .taken, pre .1)) (loop .inv .1) (c .joined .ensures))
