@@ -37,8 +37,9 @@
  *   - answer, rewritten and records hold anything, for as many elements as were lent. Do not read
  *     them, and do not hand them on: there may be cells of an unfinished answer.
  *   - there is no outcome. Treat the query as refused, with a number of your own.
- *   - the moment of leaving depends on hidden rows too: see SECURITY.md before an asker can tell a
- *     query that was left from one that was answered.
+ *   - the moment of leaving depends on how many rows there are, hidden ones included, and on what
+ *     the permits' conditions do on them: see SECURITY.md before an asker can tell a query that was
+ *     left from one that was answered.
  * examples/budget.c has a timer for each thread.
  */
 #ifndef WALDUMRE_H
