@@ -4,7 +4,7 @@
 set -eu
 cd "$(dirname "$0")/.."
 bash tests/secrecy/run.sh
-if EACH=5 DRAWN=20 bash tests/secrecy/run.sh --guard-last >target/secrecy/guard-last.log 2>&1; then
+if EACH=2 DRAWN=5 bash tests/secrecy/run.sh --guard-last >target/secrecy/guard-last.log 2>&1; then
   echo "secrecy: a guard that is tried last was not found"
   exit 1
 fi
