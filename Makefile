@@ -12,10 +12,12 @@ ABI := $(basename $(VERSION))
 # the label book is a library of its own
 LIBRARIES := waldumre $(if $(wildcard crates/waldumre_book),waldumre_book)
 HEADERS := $(wildcard include/*.h)
+# the practice shops of the shell
+SHOPS := practice/harbour practice/hill
 out := target/package
 crates := crates.txt $(shell find crates -type f -not -path '*/must-fail/*')
 
-all: $(LIBRARIES:%=$(out)/lib%.a) $(LIBRARIES:%=$(out)/lib%.so.$(VERSION)) $(out)/waldumre
+all: $(LIBRARIES:%=$(out)/lib%.a) $(LIBRARIES:%=$(out)/lib%.so.$(VERSION)) $(out)/waldumre-bytes
 
 # before anything is proved: what will be needed is there
 needed:
@@ -29,7 +31,7 @@ target/bin/program: $(crates) | needed
 	@tools/prove.sh check program
 	@touch $@
 
-$(out)/waldumre: target/bin/program
+$(out)/waldumre-bytes: target/bin/program
 	@mkdir -p $(out)
 	cp $< $@
 
@@ -57,7 +59,12 @@ check: all
 to := $(DESTDIR)$(PREFIX)
 install: all
 	$(INSTALL) -d $(to)/bin $(to)/include $(to)/lib/pkgconfig $(to)/share/man/man1 $(to)/share/man/man3 $(to)/share/doc/waldumre
-	$(INSTALL) -m 755 $(out)/waldumre $(to)/bin/waldumre
+	$(INSTALL) -d $(to)/lib/waldumre/waldumre_shell $(SHOPS:%=$(to)/share/waldumre/%)
+	$(INSTALL) -m 755 $(out)/waldumre-bytes $(to)/bin/waldumre-bytes
+	$(INSTALL) -m 755 shell/waldumre $(to)/bin/waldumre
+	$(INSTALL) -m 644 shell/waldumre_shell/*.py $(to)/lib/waldumre/waldumre_shell
+	$(INSTALL) -m 644 examples/bindings/waldumre.py tools/decode.py $(to)/lib/waldumre
+	for shop in $(SHOPS); do $(INSTALL) -m 644 $$shop/* $(to)/share/waldumre/$$shop || exit 1; done
 	$(INSTALL) -m 644 $(HEADERS) $(to)/include
 	for name in $(LIBRARIES); do \
 	  $(INSTALL) -m 644 $(out)/lib$$name.a $(to)/lib && \
@@ -68,8 +75,8 @@ install: all
 	  $(INSTALL) -m 644 $(out)/$$name.pc $(to)/lib/pkgconfig && \
 	  $(INSTALL) -m 644 man/$$name.3 $(to)/share/man/man3 || exit 1; \
 	done
-	$(INSTALL) -m 644 man/waldumre.1 $(to)/share/man/man1
-	$(INSTALL) -m 644 README.md SECURITY.md CHANGELOG.md LICENSE docs/FORMAT.md $(to)/share/doc/waldumre
+	$(INSTALL) -m 644 man/waldumre.1 man/waldumre-bytes.1 $(to)/share/man/man1
+	$(INSTALL) -m 644 README.md SECURITY.md CHANGELOG.md LICENSE docs/FORMAT.md docs/CLASS.md $(to)/share/doc/waldumre
 
 clean:
 	rm -rf $(out)

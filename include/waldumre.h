@@ -5,23 +5,27 @@
  * convention; needs memcpy, memset and their like, nothing else). All numbers in the byte formats
  * are low byte first; docs/FORMAT.md is the whole format.
  *
- * Two calls:
+ * Four calls:
  *   waldumre_ask       asks a query under a list of permits: only permitted rows are seen.
  *                      This is the call for queries that come from outside.
  *   waldumre_evaluate  answers a query over all rows, permits or not. It guards nothing: give it
  *                      only queries of your own, or ones that waldumre_ask has rewritten for you. It
  *                      cannot tell whether bytes were rewritten: bytes from outside may only look so.
+ *   waldumre_read_query
+ *                      reads QUEL as text, with a list of names, into the bytes of a query. It sees no
+ *                      relation and no permit: what it reads is for waldumre_ask.
+ *   waldumre_ask_text  reads a text and asks it: the two in one call.
  *
  * Memory. The library allocates nothing, keeps no pointer after the call and has no global state.
  * All buffers are the caller's, before, during and after the call. Calls may run at once in several
- * threads, if nobody writes to an input and no two calls share an answer or rewritten buffer.
+ * threads, if nobody writes to an input and no two calls share an answer, rewritten or records buffer.
  *
  * What the caller owes (the library cannot check it; to break it is undefined behaviour):
  *   - Every pointer is valid for its length, counted in elements: bytes, int32_t, int64_t. With
  *     length 0 it may be NULL, as the data() of an empty C++ vector may be: it is not read.
  *   - values is aligned as an int32_t, answer as an int64_t. Plain C arrays and malloc see to that.
- *   - answer and rewritten overlap neither each other nor any input. Inputs may overlap.
- *   - All elements of answer and rewritten are initialised (to anything; zero will do).
+ *   - answer, rewritten and records overlap neither each other nor any input. Inputs may overlap.
+ *   - All elements of answer, rewritten and records are initialised (to anything; zero will do).
  *   - WALDUMRE_STACK_BYTES of free stack in the calling thread, see below.
  * The contents of the inputs are owed nothing: any bytes get an answer or a refusal.
  *
@@ -30,11 +34,12 @@
  * spent: by siglongjmp out of a signal handler, or by ending the thread (asynchronous cancelling) or
  * the process. The library may be left at any instruction: it holds no lock, no state and no memory
  * but the caller's, so nothing leaks and later calls are not affected. After leaving:
- *   - answer and rewritten hold anything, for as many elements as were lent. Do not read them, and
- *     do not hand them on: there may be cells of an unfinished answer.
+ *   - answer, rewritten and records hold anything, for as many elements as were lent. Do not read
+ *     them, and do not hand them on: there may be cells of an unfinished answer.
  *   - there is no outcome. Treat the query as refused, with a number of your own.
- *   - the moment of leaving depends on hidden rows too: see SECURITY.md before an asker can tell a
- *     query that was left from one that was answered.
+ *   - the moment of leaving depends on how many rows there are, hidden ones included, and on what
+ *     the permits' conditions do on them: see SECURITY.md before an asker can tell a query that was
+ *     left from one that was answered.
  * examples/budget.c has a timer for each thread.
  */
 #ifndef WALDUMRE_H
@@ -57,10 +62,12 @@ extern "C" {
 
 /*
  * Stack that a call may take, with margin. All memory beside the caller's buffers is there. Measured:
- * waldumre_ask takes at most 132,000 bytes, and waldumre_evaluate 193,000 for an accepted query, each
- * the sum of two measurements: the deepest query, and 43,000 for the table by which equal rows of a
- * large answer are found; to refuse 17,216 bytes of aggregates nested without end waldumre_evaluate
- * takes 430,000.
+ * waldumre_ask takes at most 178,000 bytes, and waldumre_evaluate 260,000 for an accepted query, each
+ * a sum: the deepest query as measured (67,000 and 184,000), and the tables for large relations
+ * (43,000 for equal rows of an answer, 33,000 for equal rows of a range; for waldumre_ask 17,000 for
+ * the permitted rows and as much for marks); to refuse 17,216 bytes of aggregates nested without end
+ * waldumre_evaluate takes 434,000. waldumre_read_query takes at most 72,000, and waldumre_ask_text no
+ * more than the larger of reader and ask.
  */
 #define WALDUMRE_STACK_BYTES 1048576
 
@@ -72,9 +79,16 @@ typedef struct {
     uint64_t length;  /* bytes written to rewritten; always 0 from waldumre_evaluate */
 } waldumre_outcome;
 
+/* What waldumre_read_query returns. */
+typedef struct {
+    uint64_t number; /* 0: read. Else the refusal: 50, 51 or 52. */
+    uint64_t length; /* bytes written to records, 0 if refused */
+} waldumre_reading;
+
 /*
  * Refusals. Checks run by rising number, each over its whole input, so the number is the lowest
- * that applies. All counts are then 0 and both buffers keep their contents, except at 41.
+ * that applies; 50, 51 and 52 of a text go before all others. All counts are then 0 and the buffers
+ * keep their contents, except at 41.
  *
  * Caused by the keeper of the relations:
  */
@@ -112,6 +126,15 @@ typedef struct {
  * that fit, rows is their number, columns and length are as if accepted, and the rewritten query
  * has been written. A label that shows the first row can go on. */
 #define WALDUMRE_ANSWER_BUFFER 41
+/* Of waldumre_read_query and waldumre_ask_text only, tried in this order and before 10: */
+/* caused by the asker: the text is over 2,000 bytes or outside the grammar */
+#define WALDUMRE_TEXT_FORM 50
+/* caused by the asker or by the keeper of the names: the list is broken or has a name twice, or the
+ * text has a name that is unknown, out of reach or bound twice */
+#define WALDUMRE_TEXT_NAMES 51
+/* caused by the host: the records are longer than records_length; never with
+ * WALDUMRE_RECORDS_BYTES */
+#define WALDUMRE_RECORDS_BUFFER 52
 
 /*
  * The bytes of a catalogue, a query and permits. docs/FORMAT.md says what they mean, with examples;
@@ -133,7 +156,14 @@ typedef struct {
 #define WALDUMRE_KIND_AGGREGATE 34 /* function, variable, relation, attribute / condition */
 #define WALDUMRE_KIND_STORED 48    /* attributes, rows (2 bytes) */
 #define WALDUMRE_KIND_WORKSPACE 49 /* attributes, rows (2 bytes) */
+#define WALDUMRE_KIND_LATEST 50    /* attributes, rows (2 bytes); stored, last row first */
 #define WALDUMRE_KIND_PERMIT 64    /* relation, mask (2 bytes) / condition */
+
+/* Records of a name list. The name is WALDUMRE_NAME_BYTES long: 1 to 12 capitals, then spaces. */
+#define WALDUMRE_KIND_NAME_RELATION 80  /* relation, name */
+#define WALDUMRE_KIND_NAME_ATTRIBUTE 81 /* relation, attribute, name */
+#define WALDUMRE_KIND_NAME_VALUE 82     /* value (4 bytes, two's complement), name */
+#define WALDUMRE_NAME_BYTES 12
 
 /* Operators of a comparison: = <> < <= > >= */
 #define WALDUMRE_OP_EQ 1
@@ -144,7 +174,8 @@ typedef struct {
 #define WALDUMRE_OP_GE 6
 
 /* Functions of an aggregate. AVE is exact in a comparison; as a target it is rounded to the nearer
- * whole number, and from halfway to the one further from zero. Over no rows each is 0. */
+ * whole number, and from halfway to the one further from zero. Over no rows COUNT and SUM are 0; the
+ * others have no value: a comparison with one is false, and with one as a target there is no row. */
 #define WALDUMRE_FN_COUNT 1
 #define WALDUMRE_FN_SUM 2
 #define WALDUMRE_FN_AVE 3
@@ -167,21 +198,28 @@ typedef struct {
 #define WALDUMRE_MAX_QUERY_VARIABLES 8
 #define WALDUMRE_MAX_PLAIN_LEVELS 64
 #define WALDUMRE_MAX_PLAIN_VARIABLES 200
+#define WALDUMRE_MAX_TEXT_BYTES 2000
 
 /* The longest query that waldumre_evaluate takes and that waldumre_ask can write. */
 #define WALDUMRE_REWRITTEN_BYTES 17216
+
+/* The longest query that a text can give. waldumre_ask takes WALDUMRE_MAX_QUERY_BYTES at most: a
+ * longer one gets 30. */
+#define WALDUMRE_RECORDS_BYTES 6427
 
 /*
  * The plain evaluator.
  *
  *   catalogue  The relations: 1 to 16 records of 4 bytes, numbered from 0. A record is its kind
- *              (48 stored, 49 workspace), attributes (1 to 16), rows (2 bytes, 0 to 1,024).
+ *              (48 stored, 49 workspace, 50 stored and walked from the last row to the first),
+ *              attributes (1 to 16), rows (2 bytes, 0 to 1,024).
  *   values     The rows: row after row, relation after relation. Their number must be the sum of
  *              attributes times rows over all records.
  *   query      0 to 4 RANGE records, 1 to 8 targets, one condition, and no byte more.
  *   answer     Gets the rows, one after the other: cell c of row r is answer[r * columns + c].
- *              Rows come in the order of the RANGE records, the last one fastest; a row equal to
- *              an earlier one is left out. answer_length counts cells, not bytes.
+ *              Rows come in the order of the RANGE records, the last one fastest, each variable
+ *              from the first row of its relation on, under kind 50 from the last row back; a row
+ *              equal to an earlier one is left out. answer_length counts cells, not bytes.
  *
  * Afterwards: accepted (0) or 41, the first rows * columns cells of answer are the answer and the
  * others keep their contents. At any other number all cells keep theirs.
@@ -215,12 +253,50 @@ waldumre_outcome waldumre_ask(const uint8_t *catalogue, size_t catalogue_length,
                               uint8_t *rewritten, size_t rewritten_length,
                               int64_t *answer, size_t answer_length);
 
+/*
+ * The reader: QUEL as text, as docs/FORMAT.md has its grammar, into the bytes of a query.
+ *
+ *   text       At most 2,000 bytes: RANGE EMPLOYEE(X) RETRIEVE W:X.SALARY:X.NAME=JONES
+ *   names      What the names in it mean: records of kind 80 (a relation's number), 81 (an
+ *              attribute's) and 82 (a value), in any order and number. NULL with length 0 is a good
+ *              list. It is looked at as a whole, whether its names are used or not.
+ *   records    Gets the query. WALDUMRE_RECORDS_BYTES are always enough.
+ *
+ * Whether the relations and attributes exist, and whether there are too many ranges, targets, levels
+ * or variables, is for waldumre_ask to say.
+ *
+ * Afterwards: read (0), the first length bytes of records are the query and the others keep their
+ * contents. Refused, all of records keeps its contents.
+ * Numbers: 0, 50, 51, 52.
+ */
+waldumre_reading waldumre_read_query(const uint8_t *text, size_t text_length,
+                                     const uint8_t *names, size_t names_length,
+                                     uint8_t *records, size_t records_length);
+
+/*
+ * The guarded call by text: waldumre_read_query, and if it reads the text, waldumre_ask of what it
+ * wrote. Arguments are those of the two.
+ *
+ * Afterwards: at 50, 51 and 52 all counts are 0 and all three buffers keep their contents. At any
+ * other number, accepted or refused, records holds the query as read, and the rest is as waldumre_ask
+ * leaves it.
+ * Numbers: 0, 50, 51, 52 and those of waldumre_ask.
+ */
+waldumre_outcome waldumre_ask_text(const uint8_t *catalogue, size_t catalogue_length,
+                                   const int32_t *values, size_t values_length,
+                                   const uint8_t *permits, size_t permits_length,
+                                   const uint8_t *text, size_t text_length,
+                                   const uint8_t *names, size_t names_length,
+                                   uint8_t *records, size_t records_length,
+                                   uint8_t *rewritten, size_t rewritten_length,
+                                   int64_t *answer, size_t answer_length);
+
 /* The version of the library, as WALDUMRE_VERSION is that of the header. */
 const char *waldumre_version(void);
 
 /*
  * A number in words, for logs: "accepted" for 0, and a text for each refusal, 53 of the label book
- * too; any other number gets a text that says so. Never NULL, never freed. Unlike the two calls
+ * too; any other number gets a text that says so. Never NULL, never freed. Unlike the four calls
  * above these two are plain C of the package, not proved; they are in an installed library, not in
  * target/staticlib.
  */

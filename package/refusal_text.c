@@ -30,6 +30,12 @@ const char *waldumre_refusal_text(uint64_t number)
         return "the buffer for the rewritten query is too short";
     case WALDUMRE_ANSWER_BUFFER:
         return "more rows than fit the answer buffer, which holds the first of them";
+    case WALDUMRE_TEXT_FORM:
+        return "the text is over 2,000 bytes or outside the grammar";
+    case WALDUMRE_TEXT_NAMES:
+        return "the name list is broken or has a name twice, or the text has a name that is unknown, out of reach or bound twice";
+    case WALDUMRE_RECORDS_BUFFER:
+        return "the buffer for the query that was read is too short";
     case 53: /* of the label book, the library above this one */
         return "the answer makes no label book: not three targets, a value out of range, or a book of another size";
     default:

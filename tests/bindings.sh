@@ -22,7 +22,8 @@ PYTHONPATH=$folder python3 -B - "$library" <<'END'
 import struct
 import sys
 import threading
-from waldumre import Collection, Refused, TRUE, attribute, constant, each, permit, compare, GT
+from waldumre import Collection, Refused, TRUE, attribute, constant, each, permit, compare, EQ, GT
+from waldumre import name_attribute, name_relation, name_value
 
 def fails(error, call):
     try:
@@ -39,6 +40,13 @@ assert (shop.catalogue, shop.values) == (b"", b"")
 shop.stored(1, [(number,) for number in range(1024)])
 assert fails(Refused, lambda: shop.ask(permit(0, 65535, TRUE), b"\x21")).number == 30
 assert fails(Refused, lambda: shop.ask(b"\x40", b"\x21")).number == 20
+names = name_relation(0, "R") + name_attribute(0, 0, "A") + name_value(-1, "LOW")
+for text, number in (("", 50), ("RANGE R(X) RETRIEVE W:X.B", 51), (b"RANGE R(X)\xffRETRIEVE W:X.A", 50)):
+    assert fails(Refused, lambda: shop.ask_text(b"", text, names)).number == number
+    assert fails(Refused, lambda: shop.read_query(text, names)).number == number
+assert shop.read_query("RANGE R(X) RETRIEVE W:X.A:X.A=LOW", names) == each(0, 0) + attribute(0, 0) + compare(attribute(0, 0), EQ, constant(-1))
+assert fails(Refused, lambda: shop.ask_text(b"", "RANGE R(X) RETRIEVE W:X.A", names)).number == 33
+fails(ValueError, lambda: name_relation(0, "ABCDEFGHIJKLM"))
 empty = shop.ask(permit(0, 65535, TRUE), each(0, 0) + attribute(0, 0) + TRUE, cells=0)
 assert (empty.rows, empty.complete) == ([], False)
 wrong = []

@@ -4,7 +4,7 @@
 set -eu
 cd "$(dirname "$0")/.."
 . tools/need.sh
-need rt cargo
+need rt cargo gcc
 ours=target/bin/program
 theirs=tests/target/release/program
 room=$(mktemp -d)
@@ -24,6 +24,18 @@ for program in "$theirs" "$ours"; do
   conformance/run.sh "$program" | tail -n 20 | tee "$room/said"
   [[ $(tail -n 1 "$room/said") == *' passed, 0 failed' ]]
 done
+
+echo "conformance: the texts"
+tests/target/release/texts "$room/texts"
+diff -r "$room/texts" conformance/texts
+gcc -std=c11 -O1 -Wall -Wextra -Werror -Iinclude tests/c/read_text.c "$(tools/library.sh)" -o "$room/read_text"
+for reader in tests/target/release/read_text "$room/read_text"; do
+  conformance/run-texts.sh "$reader" | tail -n 20 | tee "$room/said"
+  [[ $(tail -n 1 "$room/said") == *' passed, 0 failed' ]]
+done
+printf '#!/bin/sh\necho "refused 50"\n' >"$room/wrong"
+chmod +x "$room/wrong"
+if conformance/run-texts.sh "$room/wrong" >"$room/said"; then echo "conformance: a reader that refuses all passes"; exit 1; fi
 
 printf '#!/bin/sh\necho "refused 10"\n' >"$room/wrong"
 chmod +x "$room/wrong"

@@ -1,7 +1,7 @@
 #!/usr/bin/env python3
 """Holds docs/FORMAT.md to the model's definitions and to the header, and runs its examples.
 
-    format.py PROGRAM
+    format.py PROGRAM [READER]
 
 Definitions are found by name in crates/*/specs. Where one is no longer written as a pattern here expects, the test fails and says
 which: then the pattern is to be adapted, and the page read again."""
@@ -70,10 +70,13 @@ def in_header(what, names, values):
     same(f"{what}, header", dict(zip(names, values)), {name: int(HEADER.get(name, -1)) for name in names})
 
 
-def kinds():
+def kinds(print_of):
     rows = table("table: kinds")
     for column, name in ((0, "code"), (2, "bodyLength"), (4, "childConditions"), (5, "childTerms")):
-        same(f"kinds, {name}", {row[1]: int(row[column]) for row in rows}, by_kind(name))
+        model = by_kind(name)
+        # kind 50 need not be in that table of the model: of catalogues the program is asked, below
+        page = {row[1]: int(row[column]) for row in rows if row[1] in model or row[1] != "latest"}
+        same(f"kinds, {name}", page, model)
     for row in rows:
         in_header(f"kind {row[1]}", constants(row[6]), [int(row[0])])
     # which kinds are conditions and which are terms
@@ -82,6 +85,11 @@ def kinds():
         page = {alternative.split()[0] for alternative in text.split("|")}
         read_so = re.findall(rf"^\s*{name} k-(\w+) r = (\w+)", SPECS, re.M)
         same(f"grammar, {name}", page, {kind for kind, how in read_so if how != "fail"})
+    # which kinds a catalogue has
+    relation = re.search(r"relation +=(.*)\n", PAGE).group(1)
+    page = {int(row[0]) for row in rows if row[1] in relation.split()}
+    printed = {kind: print_of({"catalogue": [kind, 1, 0, 0]}) for kind in range(256)}
+    same("kinds of a catalogue", page, {kind for kind in printed if printed[kind] != "refused 10\n"})
 
 
 def operators(print_of):
@@ -102,7 +110,7 @@ def last_line(print_of, function, values):
     data = b"".join(value.to_bytes(4, "little", signed=True) for value in values)
     printed = print_of({"catalogue": [49, 1, len(values) % 256, len(values) // 256], "values": data,
                         "question": [34, function, 0, 0, 0, 16, 16]})
-    return printed.split("\n")[-2]
+    return printed.split("\n")[-2] if printed.startswith("rows 1\n") else "no value"
 
 
 def functions(print_of):
@@ -114,7 +122,8 @@ def functions(print_of):
     for row in rows:
         in_header(f"function {row[0]}", constants(row[4]), [int(row[0])])
         same(f"{row[1]} of {values}", str(means[row[1]]), last_line(print_of, int(row[0]), values))
-        same(f"{row[1]} over no rows", row[3], last_line(print_of, int(row[0]), []))
+        empty = print_of({"catalogue": [49, 1, 0, 0], "question": [34, int(row[0]), 0, 0, 0, 16, 16]})
+        same(f"{row[1]} over no rows", row[3], "no value" if empty.startswith("rows 0\n") else empty.split("\n")[-2])
     for total, count, cell in table("table: averages"):
         total, count = int(total), int(count)
         rounded = (2 * abs(total) + count) // (2 * count) * (-1 if total < 0 else 1)
@@ -196,6 +205,35 @@ def every_constant():
     same("constants of the page that no header has", set(constants(PAGE)) - set(HEADER), set())
 
 
+def texts(read_of):
+    """A question as text: the name list, the numbers, and the texts read with that list."""
+    names, lengths = [], {}
+    for start, some, _ in table("bytes: names"):
+        same(f"names, where '{some}' starts", int(start), len(names))
+        record = [int(word) for word in some.split()]
+        lengths.setdefault(record[0], len(record))
+        names += record
+    rows = table("table: names")
+    same("bytes of the kinds of names", {int(row[0]): int(row[3]) for row in rows}, lengths)
+    for row in rows + table("table: text refusals"):
+        in_header(f"number {row[0]}", constants(row[-1]), [int(row[0])])
+    for pattern in (r"at most ([\d,]+) bytes \(`(\w+)`\)", r"buffer of ([\d,]+) bytes\s+\(`(\w+)`\)", r"spaces to (\d+) bytes \(`(\w+)`\)"):
+        shown, name = re.search(pattern, PAGE).groups()
+        in_header(name, [name], [number(shown)])
+    plain = "RANGE EMPLOYEE(X) RETRIEVE W:X.NAME"
+    most = int(HEADER["WALDUMRE_MAX_TEXT_BYTES"])
+    lines = re.search(r"```texts\n(.*?)```", PAGE, re.S).group(1).splitlines()
+    pairs = list(zip(lines[::2], lines[1::2]))
+    pairs += [(plain.ljust(most), "1 0 0 33 0 0 16"), (plain.ljust(most + 1), "refused 50")]
+    reserved = re.search(r"reserved: `([A-Z ]+)`", PAGE).group(1).split()
+    pairs += [(plain.replace("X", word), "refused 50") for word in reserved]
+    for text, expected in pairs:
+        if not expected.startswith("refused"):
+            expected = f"records {len(expected.split())}\n{expected}"
+        same(f"text {text.strip()}", expected + "\n", read_of(text, names))
+    return len(lines) // 2
+
+
 def display():
     for cents, shown in table("table: display"):
         euros, rest = divmod(number(cents), 100)
@@ -242,6 +280,7 @@ def byte_by_byte():
 
 def main():
     program = os.path.abspath(sys.argv[1])
+    reader = os.path.abspath(sys.argv[2]) if len(sys.argv) > 2 and sys.argv[2] else None
     with tempfile.TemporaryDirectory() as room:
         def print_of(files):
             for name in ("catalogue", "values", "permits", "question"):
@@ -253,7 +292,13 @@ def main():
                     os.remove(path)
             return subprocess.run([program], cwd=room, stdout=subprocess.PIPE, check=True).stdout.decode()
 
-        kinds()
+        def read_of(text, names):
+            for name, data in (("text", text.encode()), ("names", bytes(names)), ("room", HEADER["WALDUMRE_RECORDS_BYTES"].encode())):
+                with open(os.path.join(room, name), "wb") as file:
+                    file.write(data)
+            return subprocess.run([reader], cwd=room, stdout=subprocess.PIPE, check=True).stdout.decode()
+
+        kinds(print_of)
         operators(print_of)
         functions(print_of)
         refusals()
@@ -266,11 +311,12 @@ def main():
         for files, printed in cases():
             count += 1
             same(f"example {count}", printed, print_of(files))
+        read = texts(read_of) if reader else 0
     for failure in failures:
         print("format:", failure)
     if count < 8 or failures:
         sys.exit(f"format: {len(failures)} failed")
-    print(f"format: the tables agree, {count} examples print what the page says")
+    print(f"format: the tables agree, {count} examples print what the page says, {read} texts are read as it says")
 
 
 main()

@@ -3,7 +3,7 @@
 set -eu
 cd "$(dirname "$0")/.."
 . tools/need.sh
-need make gcc pkg-config man
+need make gcc pkg-config man python3
 fail() { echo "install: $1"; exit 1; }
 room=$(mktemp -d)
 trap 'rm -rf "$room"' EXIT
@@ -47,16 +47,25 @@ for page in man/*; do
   said=$(man --warnings -l "$page" 2>&1 >/dev/null)
   [[ -z $said ]] || fail "$page: $said"
 done
-[[ -e $room/usr/share/man/man1/waldumre.1 && -e $room/usr/share/man/man3/waldumre.3 ]] || fail "the man pages are not there"
+[[ -e $room/usr/share/man/man1/waldumre.1 && -e $room/usr/share/man/man1/waldumre-bytes.1 && -e $room/usr/share/man/man3/waldumre.3 ]] || fail "the man pages are not there"
 for page in README.md examples/bindings/waldumre.py; do
   grep -q "libwaldumre\.so\.$abi\b" "$page" || fail "$page names another version"
 done
 
 # the program, on the example of its man page
 mkdir "$room/run"
-grep "printf '" man/waldumre.1 | sed 's/\\e/\\/g' >"$room/example"
-(cd "$room/run" && sh "$room/example" && "$room/usr/bin/waldumre") |
+grep "printf '" man/waldumre-bytes.1 | sed 's/\\e/\\/g' >"$room/example"
+(cd "$room/run" && sh "$room/example" && "$room/usr/bin/waldumre-bytes") |
   diff - <(printf 'rows 2\ncolumns 1\nquestion 9\n1 0 0 33 0 0 19 16 16\n5\n6\n') || fail "the man page's example"
+
+# the shell as installed finds its modules, the library and the practice shops; it leaves no file behind
+if [[ -n $(nm -D --defined-only "$room/usr/lib/libwaldumre.so" | grep waldumre_ask_text) ]]; then
+  (cd / && env -u WALDUMRE_LIBRARY "$room/usr/bin/waldumre" "$room/usr/share/waldumre/practice/harbour" --format csv \
+    -c 'RANGE OFFER(X) RETRIEVE W: X.ARTICLE, X.BRAND: X.PRICE < 100') | diff - <(printf 'ARTICLE,BRAND\nYOGURT,ALPEN\n') || fail "the shell"
+  [[ -z $(find "$room/usr" -name '__pycache__') ]] || fail "the shell wrote to its folder"
+else
+  echo "install: the library has no reader of QUEL yet, so the shell was NOT run"
+fi
 
 # below DESTDIR lie the same files, and nothing names the folder that they were built or staged in
 make --silent install PREFIX=/usr DESTDIR="$room/stage" >"$room/log" 2>&1 || { cat "$room/log"; exit 1; }

@@ -7,13 +7,16 @@ cd "$(dirname "$0")/.."
 need rt cargo gcc g++ valgrind
 nice=(nice -n 5)
 
-# The source decides: once it exports waldumre_ask, all that is said of ask is tested; likewise the label book.
+# The source decides: once it exports waldumre_ask, all that is said of ask is tested; likewise the reader of texts and the label book.
 features=()
 calls=(evaluate)
 crates=(waldumre)
 if grep -q 'fn waldumre_ask' crates/waldumre/src/lib.rt; then
   features+=(--features ask)
   calls=(evaluate ask)
+fi
+if grep -q 'fn waldumre_read_query' crates/waldumre/src/lib.rt; then
+  features+=(--features text)
 fi
 if [[ -e crates/waldumre_book/src/lib.rt ]] && grep -q 'fn waldumre_label_book' crates/waldumre_book/src/lib.rt; then
   features+=(--features book)

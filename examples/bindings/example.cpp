@@ -41,6 +41,24 @@ int main()
     waldumre::result some = shop.ask(permits, {1, 0, 0, 33, 0, 2, 16}, 1);
     show("room for one row", some);
     std::cout << (some.complete ? " complete\n" : " and more\n");
+    waldumre::collection board;
+    board.latest(2, {{7, 11}, {7, 12}}); // article, offer: the last row is met first
+    show("latest first", board.ask({64, 0, 255, 255, 16}, {1, 0, 0, 33, 0, 1, 16}));
+    std::cout << '\n';
+    bytes names;
+    for (const bytes &record : {waldumre::name_relation(0, "OFFER"), waldumre::name_attribute(0, 0, "ARTICLE"),
+                                waldumre::name_attribute(0, 2, "PRICE"), waldumre::name_value(0, "FREE")})
+        names.insert(names.end(), record.begin(), record.end());
+    const std::string text = "RANGE OFFER(X) RETRIEVE W:X.ARTICLE,X.PRICE:X.PRICE<=AVE(X.PRICE)";
+    show("typed", shop.ask_text(permits, text, names));
+    std::cout << "\nthe same bytes: " << (waldumre::read_query(text, names) == question ? "True" : "False") << '\n';
+    show("free", shop.ask_text(permits, "RANGE OFFER(X) RETRIEVE W:X.ARTICLE:X.PRICE=FREE", names));
+    std::cout << '\n';
+    try {
+        shop.ask_text(permits, "RANGE OFFER(X) RETRIEVE W:X.BRAND", names);
+    } catch (const waldumre::refused &refusal) {
+        std::cout << "a name that is not listed: refused " << refusal.number << '\n';
+    }
     try {
         shop.ask({}, question);
     } catch (const waldumre::refused &refusal) {

@@ -5,6 +5,7 @@
 import sys
 
 from waldumre import AVE, EQ, LE, LT, TRUE, Collection, Refused, aggregate, attribute, both, compare, constant, each, permit, some
+from waldumre import name_attribute, name_relation, name_value
 
 shop = Collection(sys.argv[1])
 shop.stored(3, [(7, 1, 250), (7, 2, 900), (8, 1, 120), (8, 2, 120)])  # OFFER: article, brand, price
@@ -21,6 +22,18 @@ print("over all rows:", *shop.evaluate(question).rows)
 print("no row:", *shop.ask(permits, each(0, 0) + attribute(0, 2) + compare(attribute(0, 2), LT, constant(0))).rows)
 short = shop.ask(permits, each(0, 0) + attribute(0, 2) + TRUE, cells=1)
 print("room for one row:", *short.rows, "complete" if short.complete else "and more")
+board = Collection(sys.argv[1])
+board.latest(2, [(7, 11), (7, 12)])                                   # article, offer: the last row is met first
+print("latest first:", *board.ask(permit(0, 0xFFFF, TRUE), each(0, 0) + attribute(0, 1) + TRUE).rows)
+names = name_relation(0, "OFFER") + name_attribute(0, 0, "ARTICLE") + name_attribute(0, 2, "PRICE") + name_value(0, "FREE")
+text = "RANGE OFFER(X) RETRIEVE W:X.ARTICLE,X.PRICE:X.PRICE<=AVE(X.PRICE)"
+print("typed:", *shop.ask_text(permits, text, names).rows)
+print("the same bytes:", shop.read_query(text, names) == question)
+print("free:", *shop.ask_text(permits, "RANGE OFFER(X) RETRIEVE W:X.ARTICLE:X.PRICE=FREE", names).rows)
+try:
+    shop.ask_text(permits, "RANGE OFFER(X) RETRIEVE W:X.BRAND", names)
+except Refused as refused:
+    print("a name that is not listed: refused", refused.number)
 try:
     shop.ask(b"", question)
 except Refused as refused:

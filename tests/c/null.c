@@ -49,10 +49,48 @@ static void all_arguments(uint8_t rows)
     }
 }
 
+/* The same by text: its buffer for the records is one argument more. */
+static void by_text(uint8_t rows)
+{
+    const uint8_t catalogue[] = {WALDUMRE_KIND_STORED, 1, rows, 0};
+    const int32_t values[] = {5, 6};
+    const uint8_t permits[] = {WALDUMRE_KIND_PERMIT, 0, 255, 255, WALDUMRE_KIND_TRUE};
+    static const uint8_t text[] = "RANGE R(X) RETRIEVE W:X.A";
+    static const uint8_t names[] = "P\0R           Q\0\0A           ";
+    enum { TEXT = sizeof text - 1, NAMES = sizeof names - 1, QUERY = 7 };
+    uint8_t records[QUERY] = {0}, rewritten[9] = {0};
+    int64_t answer[2] = {0};
+    for (unsigned nulls = 0; nulls < 256; nulls++) {
+        int c = nulls & 1, v = nulls >> 1 & 1, p = nulls >> 2 & 1, t = nulls >> 3 & 1, w = nulls >> 4 & 1,
+            a = nulls >> 5 & 1, n = nulls >> 6 & 1, r = nulls >> 7 & 1;
+        uint64_t given = v ? 0 : rows;
+        uint64_t reading = t ? WALDUMRE_TEXT_FORM : n ? WALDUMRE_TEXT_NAMES : r ? WALDUMRE_RECORDS_BUFFER : 0;
+        uint64_t number = reading                 ? reading
+                          : c                     ? WALDUMRE_CATALOGUE
+                          : given != rows         ? WALDUMRE_VALUES
+                          : p                     ? WALDUMRE_NO_PERMIT
+                          : w                     ? WALDUMRE_REWRITTEN_BUFFER
+                          : a && rows > 0         ? WALDUMRE_ANSWER_BUFFER
+                                                  : 0;
+        waldumre_outcome o = waldumre_ask_text(
+            c ? NULL : catalogue, c ? 0 : sizeof catalogue, v ? NULL : values, given, p ? NULL : permits,
+            p ? 0 : sizeof permits, t ? NULL : text, t ? 0 : TEXT, n ? NULL : names, n ? 0 : NAMES,
+            r ? NULL : records, r ? 0 : QUERY, w ? NULL : rewritten, w ? 0 : sizeof rewritten,
+            a ? NULL : answer, a ? 0 : 2);
+        held("ask_text", nulls, o, number, number == 0 ? rows : 0);
+        waldumre_reading got = waldumre_read_query(t ? NULL : text, t ? 0 : TEXT, n ? NULL : names,
+                                                   n ? 0 : NAMES, r ? NULL : records, r ? 0 : QUERY);
+        o.number = got.number, o.rows = got.length;
+        held("read_query", nulls, o, reading, reading == 0 ? QUERY : 0);
+    }
+}
+
 int main(void)
 {
     all_arguments(0);
     all_arguments(2);
+    by_text(0);
+    by_text(2);
     /* over a workspace no permit is needed: NULL is a good list */
     const uint8_t catalogue[] = {WALDUMRE_KIND_WORKSPACE, 1, 1, 0};
     const int32_t values[] = {-1};

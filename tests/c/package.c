@@ -20,6 +20,9 @@ int main(void)
         WALDUMRE_NO_PERMIT,
         WALDUMRE_REWRITTEN_BUFFER,
         WALDUMRE_ANSWER_BUFFER,
+        WALDUMRE_TEXT_FORM,
+        WALDUMRE_TEXT_NAMES,
+        WALDUMRE_RECORDS_BUFFER,
         53,
         54, /* the last: any number that there is not */
     };

@@ -16,6 +16,16 @@ const QUERY: [u8; 13] = [1, 0, 0, 33, 0, 0, 33, 0, 1, 33, 0, 2, 16];
 const OPEN: [u8; 5] = [64, 0, 255, 255, 16];
 
 fn book_of(rows: &[[i32; 3]], query: &[u8], cells: usize, lengths: [usize; 2]) -> Book {
+    book_of_kind(48, rows, query, cells, lengths)
+}
+
+fn book_of_kind(
+    kind: u8,
+    rows: &[[i32; 3]],
+    query: &[u8],
+    cells: usize,
+    lengths: [usize; 2],
+) -> Book {
     let mut book = Book {
         outcome: Outcome {
             number: 0,
@@ -29,7 +39,7 @@ fn book_of(rows: &[[i32; 3]], query: &[u8], cells: usize, lengths: [usize; 2]) -
         display: vec![EARLIER_BYTE; lengths[1]],
     };
     book.outcome = label_book(
-        &[48, 3, rows.len() as u8, 0],
+        &[kind, 3, rows.len() as u8, 0],
         &rows.concat(),
         &OPEN,
         query,
@@ -198,4 +208,53 @@ fn refusals_of_the_engine() {
         assert!(book.answer.iter().all(|cell| *cell == EARLIER));
         assert!(book.rewritten.iter().all(|byte| *byte == EARLIER_BYTE));
     }
+}
+
+/// Change 9: of the rows that name a label the last stored one is met first.
+#[test]
+fn the_latest_offer_is_shown() {
+    let rows = [[3, 11, 249], [4, 12, 5], [3, 13, 199], [3, 11, 249]];
+    let forward = book_of_kind(48, &rows, &QUERY, 64, [500, 3_500]);
+    let latest = book_of_kind(50, &rows[..3], &QUERY, 64, [500, 3_500]);
+    assert_eq!(forward.entry(3), (11, "   2.49"));
+    assert_eq!(latest.entry(3), (13, "   1.99"));
+    assert_eq!(latest.entry(4), (12, "   0.05"));
+    // a correction taken back: the row appended last counts, though an equal one was there
+    let back = book_of_kind(50, &rows, &QUERY, 64, [500, 3_500]);
+    assert_eq!((back.outcome.rows, back.entry(3)), (3, (11, "   2.49")));
+    // a row out of range is 53 wherever it stands
+    let rows = [[3, 11, -1], [3, 13, 199]];
+    let book = book_of_kind(50, &rows, &QUERY, 64, [500, 3_500]);
+    assert!(book.is_refused_53(&[3, 13, 199, 3, 11, -1]));
+    // 41 leaves the book, and the latest row stands in the answer
+    let book = book_of_kind(50, &rows, &QUERY, 5, [500, 3_500]);
+    assert_eq!((book.outcome.number, book.outcome.rows), (41, 1));
+    assert_eq!(book.answer[..3], [3, 13, 199]);
+    assert!(book.is_unchanged());
+    assert_eq!(
+        book_of_kind(51, &rows, &QUERY, 64, [500, 3_500])
+            .outcome
+            .number,
+        10
+    );
+}
+
+/// Change 2: a target without value leaves no row, so no label is named.
+#[test]
+fn an_offer_without_value_is_no_row() {
+    let rows = [[3, 11, 249], [4, 12, 5]];
+    let with_price = |aggregate: &[u8]| {
+        let query = [&QUERY[..9], aggregate, &[16]].concat();
+        book_of(&rows, &query, 64, [500, 3_500])
+    };
+    for function in 3..=5 {
+        let book = with_price(&[34, function, 1, 0, 2, 17]);
+        assert_eq!((book.outcome.number, book.outcome.rows), (0, 0));
+        assert!((0..500).all(|label| book.entry(label) == (-1, "       ")));
+    }
+    let book = with_price(&[34, 2, 1, 0, 2, 17]);
+    assert_eq!(book.entry(3), (11, "   0.00"));
+    // with another number of targets it is 53, rows or none
+    let query = [&QUERY[..6], &[34, 4, 1, 0, 2, 17, 16]].concat();
+    assert!(book_of(&rows, &query, 64, [500, 3_500]).is_refused_53(&[]));
 }

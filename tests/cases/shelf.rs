@@ -229,17 +229,43 @@ fn average_as_a_target_is_rounded_as_tills_do() {
     }
 }
 
+/// Change 2: COUNT and SUM stay 0; AVE, MAX and MIN have no value, and as a target give no row.
 #[test]
-fn aggregates_over_no_rows_are_0() {
+fn aggregates_over_no_rows() {
     for function in 1..=5 {
+        // Change 2: COUNT and SUM are 0, the others have no value.
+        let cells: &[i64] = if function <= 2 { &[0] } else { &[] };
         assert_eq!(
             evaluated(&[48, 1, 0, 0], &[], &[34, function, 0, 0, 0, 16, 16]),
-            [0]
+            cells
         );
         assert_eq!(
             evaluated(&[48, 1, 1, 0], &[9], &[34, function, 0, 0, 0, 17, 16]),
-            [0]
+            cells
         );
+    }
+}
+
+/// Change 2: with a term that has no value a comparison is false, whichever the operator, and its NOT is true.
+#[test]
+fn comparisons_with_no_value_are_false() {
+    let count = [34, 1, 7, 0, 0, 16];
+    for function in 3..=5 {
+        let nothing = [34, function, 1, 0, 0, 17];
+        let other = [34, function, 2, 0, 0, 17];
+        let zero = [32, 0, 0, 0, 0];
+        for operator in 1..=6 {
+            for terms in [
+                [&nothing[..], &zero].concat(),
+                [&zero[..], &nothing].concat(),
+                [&nothing[..], &other].concat(),
+            ] {
+                let query = [&count[..], &[21, operator], &terms].concat();
+                assert_eq!(evaluated(&[48, 1, 1, 0], &[9], &query), []);
+                let query = [&count[..], &[18, 21, operator], &terms].concat();
+                assert_eq!(evaluated(&[48, 1, 1, 0], &[9], &query), [1]);
+            }
+        }
     }
 }
 

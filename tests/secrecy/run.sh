@@ -1,5 +1,5 @@
 #!/usr/bin/env bash
-# Nothing of a hidden row is looked at, but what permits' conditions name: README.md. Not part of the gate yet.
+# Nothing of a hidden row is looked at, but what permits' conditions name: README.md.
 #     tests/secrecy/run.sh                the library
 #     tests/secrecy/run.sh --reference    a slow evaluator over permitted rows: passes
 #     tests/secrecy/run.sh --guard-last   a slow evaluator that tries the guard last: fails

@@ -3,7 +3,7 @@ use mathlib.Core.Path.{_≡_, refl, sym, ap, ap₂, _∙_, fun-ext, subst}
 use mathlib.Core.Bool.{Bool, true, false, not, cond, _&&_, _||_}
 use mathlib.Core.List.{List, [], _∷_, _++_, map, append-nil}
 use mathlib.Core.Option.{Option, none, some}
-use Prim.Native.Nat.{ℕ, zero, suc, _+_, _*_, _≤_, _<_}
+use Prim.Native.Nat.{ℕ, zero, suc, _+_, _-_, _*_, _≤_, _<_}
 use native.Mathlib.Omega.{arith}
 use lib.Dec.{eqb}
 use lib.IntN.{ℤ, pos, natAbs}
@@ -15,15 +15,15 @@ use Rattle.model.specs.Syntax.{Condition, Term, TRUE, FALSE, NOT, AND, OR, COMP
 use Rattle.model.specs.Meaning as M
 use Rattle.model.proofs.Lists.{every-append, every-join, every-map}
 use Rattle.model.proofs.Permitted.{Differ}
-use Rattle.numbers.specs.declared.Ratio.{Ratio}
-use Rattle.model.specs.Meaning.{Tuple, Assignment, Rows, aggregate, compare, holds, value}
+use Rattle.model.specs.Meaning.{Tuple, Assignment, Rows, Value, aggregate, compare, holds, value}
 use Rattle.model.specs.Scope.{Scope, nobody, rangeScope, boundOnce}
 use Rattle.model.proofs.Passed.{Scoped, ranges-differ}
 use Rattle.model.specs.Catalogue.{Shape}
 use Rattle.model.proofs.Scoping.{InScope, InScopeT, alike-nobody, alike-value}
 use Rattle.model.proofs.Tests.{and-inv, or-no, not-yes, clash}
-use Rattle.numbers.specs.Numbers.{represent}
-use Rattle.numbers.specs.Memo.{knows, recalled, remembered, numeratorAt, denominatorAt, within}
+use Rattle.numbers.specs.Numbers.{fraction}
+use Rattle.numbers.specs.Memo.{knows, recalled, remembered, numeratorAt, markAt, numeratorOf, markOf}
+use Rattle.numbers.proofs.Memo.{Keeps, keeps-aggregate}
 use Rattle.evaluator.specs.Recalled.{holdsBy, valueBy}
 use Rattle.aggregates.specs.Filled.{filledC, filledT, filledTs}
 
@@ -69,38 +69,43 @@ module _ (m : List ℤ) (R : Rows) where
 -- two memos that are alike at a variable
 pub record Same (m n : List ℤ) (v : ℕ) : Type 0 where
   pub numerator : numeratorAt n v ≡ numeratorAt m v
-  pub denominator : denominatorAt n v ≡ denominatorAt m v
+  pub mark : markAt n v ≡ markAt m v
 
 same : (m : List ℤ) (v : ℕ) → Same m m v
-same m v = record { numerator = refl; denominator = refl }
+same m v = record { numerator = refl; mark = refl }
 
 same-trans : (m n o : List ℤ) (v : ℕ) → Same m n v → Same n o v → Same m o v
-same-trans m n o v h k = record { numerator = k .numerator ∙ h .numerator; denominator = k .denominator ∙ h .denominator }
+same-trans m n o v h k = record { numerator = k .numerator ∙ h .numerator; mark = k .mark ∙ h .mark }
 
 same-knows : (m n : List ℤ) (v : ℕ) → Same m n v → knows n v ≡ knows m v
 unfolding knows
-same-knows m n v h = rw (h .numerator, h .denominator)
+same-knows m n v h = rw (h .numerator, h .mark)
 
 same-recalled : (m n : List ℤ) (v : ℕ) → Same m n v → recalled n v ≡ recalled m v
 unfolding recalled
-same-recalled m n v h = rw (h .numerator, h .denominator)
+same-recalled m n v h = rw (h .numerator, h .mark)
 
-other-same : (m : List ℤ) (v w : ℕ) (x : Ratio) → (v ≡ w → ⊥) → Same m (remembered m w x) v
+other-same : (m : List ℤ) (v w : ℕ) (x : Value) → (v ≡ w → ⊥) → Same m (remembered m w x) v
 unfolding remembered
 other-same m v w x h =
     record {
-      numerator = getD-set-other (set m (2 * w) (x .numerator)) (2 * w + 1) (2 * v) (x .denominator) (pos 0) (λ e. omega arith) ∙ getD-set-other m (2 * w) (2 * v) (x .numerator) (pos 0) (λ e. h (omega arith));
-      denominator = getD-set-other (set m (2 * w) (x .numerator)) (2 * w + 1) (2 * v + 1) (x .denominator) (pos 0) (λ e. h (omega arith)) ∙ getD-set-other m (2 * w) (2 * v + 1) (x .numerator) (pos 0) (λ e. omega arith);
+      numerator = getD-set-other (set m (2 * w) (numeratorOf x)) (2 * w + 1) (2 * v) (markOf x) (pos 0) (λ e. omega arith) ∙ getD-set-other m (2 * w) (2 * v) (numeratorOf x) (pos 0) (λ e. h (omega arith));
+      mark = getD-set-other (set m (2 * w) (numeratorOf x)) (2 * w + 1) (2 * v + 1) (markOf x) (pos 0) (λ e. h (omega arith)) ∙ getD-set-other m (2 * w) (2 * v + 1) (numeratorOf x) (pos 0) (λ e. omega arith);
     }
 
-recalled-same : (m : List ℤ) (v : ℕ) (x : M.Ratio) → 2 * v + 1 < length m → recalled (remembered m v (represent x)) v ≡ x
+recalled-same : (m : List ℤ) (v : ℕ) (x : Value) → 2 * v + 1 < length m → Keeps x → recalled (remembered m v x) v ≡ x
 unfolding recalled remembered
-recalled-same m v x h =
-    let n : List ℤ = set m (2 * v) (x .numerator) in
-    let l : 2 * v + 1 < length n = omega (arith, length-set m (2 * v) (x .numerator)) in
-    ap₂ (λ (i j : ℤ). record { numerator = i; denominator = natAbs j })
-    (getD-set-other n (2 * v + 1) (2 * v) (pos (x .denominator)) (pos 0) (λ e. omega arith) ∙ getD-set-same m (2 * v) (x .numerator) (pos 0) (omega arith))
-    (getD-set-same n (2 * v + 1) (pos (x .denominator)) (pos 0) l)
+recalled-same m v x h k =
+    let n : List ℤ = set m (2 * v) (numeratorOf x) in
+    let l : 2 * v + 1 < length n = omega (arith, length-set m (2 * v) (numeratorOf x)) in
+    ap₂ (λ (i j : ℤ). fraction i (natAbs j - 1))
+    (getD-set-other n (2 * v + 1) (2 * v) (markOf x) (pos 0) (λ e. omega arith) ∙ getD-set-same m (2 * v) (numeratorOf x) (pos 0) (omega arith))
+    (getD-set-same n (2 * v + 1) (markOf x) (pos 0) l)
+    ∙ k
+
+keeps-value : (f v r a : ℕ) (c : Condition) (R : Rows) (e : Assignment) → Keeps (value (AGGREGATE f v r a c) R e)
+unfolding holds
+keeps-value f v r a c R e = keeps-aggregate f _
 
 -- v is no variable of these bindings
 abbrev pub Other : ℕ → List Binding → Type 0
@@ -110,9 +115,9 @@ tail-of : (b : Binding) (bs : List Binding) (v : ℕ) → Other v (b ∷ bs) →
 unfolding Every
 tail-of b bs v h = h
 
-length-remembered : (m : List ℤ) (v : ℕ) (x : Ratio) → length (remembered m v x) ≡ length m
+length-remembered : (m : List ℤ) (v : ℕ) (x : Value) → length (remembered m v x) ≡ length m
 unfolding remembered
-length-remembered m v x = length-set (set m (2 * v) (x .numerator)) (2 * v + 1) (x .denominator) ∙ length-set m (2 * v) (x .numerator)
+length-remembered m v x = length-set (set m (2 * v) (numeratorOf x)) (2 * v + 1) (markOf x) ∙ length-set m (2 * v) (numeratorOf x)
 
 module _ (R : Rows) (e : Assignment) where
   mutual
@@ -210,10 +215,10 @@ halves m m₁ m₂ bs cs d u f g =
     let j = every-append _ bs cs u in
     record { differ₁ = i .0; unknown₁ = j .0; differ₂ = i .1; unknown₂ = still-unknown m m₁ cs (same-each m m₁ cs bs f (apart bs cs (i .2))) (j .1); left = same-each m₁ m₂ bs cs g (i .2) }
 
-others : (m : List ℤ) (v : ℕ) (x : M.Ratio) (bs : List Binding) → Other v bs → Every (λ (b : Binding). Same m (remembered m v (represent x)) (b .variable)) bs
+others : (m : List ℤ) (v : ℕ) (x : Value) (bs : List Binding) → Other v bs → Every (λ (b : Binding). Same m (remembered m v x) (b .variable)) bs
 unfolding Every
 others m v x [] h = tt
-others m v x (b ∷ bs) h = (other-same m (b .variable) v (represent x) (λ (q : b .variable ≡ v). h .0 (sym q)), others m v x bs (h .1))
+others m v x (b ∷ bs) h = (other-same m (b .variable) v x (λ (q : b .variable ≡ v). h .0 (sym q)), others m v x bs (h .1))
 
 module _ (sh : Shape) (limit : ℕ) (R : Rows) (e : Assignment) where
   mutual
@@ -244,12 +249,12 @@ module _ (sh : Shape) (limit : ℕ) (R : Rows) (e : Assignment) where
         let t = AGGREGATE f v r a c in
         let m₁ = filledC c R e m in
         let x = valueBy m₁ t R e in
-        let m₂ = remembered m₁ v (represent x) in
+        let m₂ = remembered m₁ v x in
         let inner = filled-faithful c (update nobody v (some r)) m (k .3) (d .1) (u .1) l in
         let fresh : knows m₁ v ≡ false = same-knows m m₁ v (same-filled R e c m v (d .0)) ∙ u .0 in
         let exact : x ≡ value t R e = faithful-value m₁ R t (inner, λ h. clash (sym fresh ∙ h)) e in (
           kept R m₁ m₂ c (others m₁ v x (bindings c) (d .0)) inner,
-          λ h e′. recalled-same m₁ v x (omega (arith, k .0, length-filled R e c m)) ∙ exact ∙ alike-value sh limit R t nobody e e′ k (alike-nobody e e′),
+          λ h e′. recalled-same m₁ v x (omega (arith, k .0, length-filled R e c m)) (subst Keeps (sym exact) (keeps-value f v r a c R e)) ∙ exact ∙ alike-value sh limit R t nobody e e′ k (alike-nobody e e′),
         )
 
 -- the targets of a query, one after the other

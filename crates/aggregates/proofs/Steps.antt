@@ -8,15 +8,13 @@ use lib.ListN.{getD, drop}
 use denote.Enum.Declared.{tagOf, declared}
 use types.Run.{OneOf, miss}
 use Rattle.model.specs.Syntax.{Condition, Term, TRUE, FALSE}
-use Rattle.model.specs.Meaning.{Assignment, Rows}
+use Rattle.model.specs.Meaning.{Assignment, Rows, Value}
 use Rattle.kinds.proofs.Record.{enum}
 use Rattle.kinds.specs.Tables.{recordLength}
 use Rattle.kinds.specs.Record.{recordAt}
 use Rattle.kinds.specs.declared.Record.{Record}
 use Rattle.kinds.specs.declared.Record.the-variants as R
-use Rattle.numbers.specs.Numbers.{represent}
 use Rattle.numbers.specs.Memo.{remembered}
-use Rattle.numbers.specs.declared.Ratio.{Ratio}
 use Rattle.sizes.specs.Decode.{first, second, conditionBy, termBy, nothing, decode, decodeT}
 use Rattle.sizes.specs.Parts.{targetsAt}
 use Rattle.evaluator.specs.Recalled.{valueBy}
@@ -68,14 +66,14 @@ module _ (S : Rows) (e : Assignment) (q z : List ℕ) (m : List ℤ) where
     some-is v s o h eo = eo ∙ child m ∙ filled-is l (R.Some v s) nz (sym h ∙ er)
 
     -- an aggregate: its condition, then itself
-    pub aggregate-is : (f v s t : ℕ) (n o : List ℤ) (u : Ratio) → r ≡ R.Aggregate f v s t → n ≡ filledC (decode (l - 1) x y) S e m → u ≡ represent (valueBy n (decodeT l q z) S e) → o ≡ remembered n v u
+    pub aggregate-is : (f v s t : ℕ) (n o : List ℤ) (u : Value) → r ≡ R.Aggregate f v s t → n ≡ filledC (decode (l - 1) x y) S e m → u ≡ valueBy n (decodeT l q z) S e → o ≡ remembered n v u
         → o ≡ filledT (decodeT l q z) S e m
     unfolding filledC
     aggregate-is f v s t n o u h en eu eo =
         let p : n ≡ filledC (decode (l - 1) (drop (first q) q) (drop (first q) z)) S e m = en ∙ child m in
         eo ∙ ap (remembered n v) eu
-        ∙ ap (λ (j : List ℤ). remembered j v (represent (valueBy j (decodeT l q z) S e))) p
-        ∙ ap (λ (i : Term). remembered (filledC (decode (l - 1) (drop (first q) q) (drop (first q) z)) S e m) v (represent (valueBy (filledC (decode (l - 1) (drop (first q) q) (drop (first q) z)) S e m) i S e))) (decoded l (R.Aggregate f v s t) nz (sym h ∙ er))
+        ∙ ap (λ (j : List ℤ). remembered j v (valueBy j (decodeT l q z) S e)) p
+        ∙ ap (λ (i : Term). remembered (filledC (decode (l - 1) (drop (first q) q) (drop (first q) z)) S e m) v (valueBy (filledC (decode (l - 1) (drop (first q) q) (drop (first q) z)) S e m) i S e)) (decoded l (R.Aggregate f v s t) nz (sym h ∙ er))
         ∙ filledT-is l (R.Aggregate f v s t) nz (sym h ∙ er)
 
     module _ (s b : ℕ) (u w : List ℕ) (es : s ≡ getD z a 0) (eb : b ≡ a + s) (eu : u ≡ drop b q) (ew : w ≡ drop b z) where
@@ -170,6 +168,6 @@ module _ (S : Rows) (e : Assignment) (q z : List ℕ) (m : List ℤ) (left l : �
       go (suc k) h f = f ∙ rw (sub-one, ee, eu, ev, en, ew)
 
 -- what the evaluator gives, where the places are as they were
-pub term-is : (l : ℕ) (q z ws : List ℕ) (vs n : List ℤ) (e e₁ : List ℕ) (u : Ratio) → e₁ ≡ e → u ≡ represent (valueAt l q z ws vs n e₁) → u ≡ represent (valueBy n (decodeT l q z) (rowsBy ws vs) (assigned vs e))
+pub term-is : (l : ℕ) (q z ws : List ℕ) (vs n : List ℤ) (e e₁ : List ℕ) (u : Value) → e₁ ≡ e → u ≡ valueAt l q z ws vs n e₁ → u ≡ valueBy n (decodeT l q z) (rowsBy ws vs) (assigned vs e)
 unfolding valueAt
-term-is l q z ws vs n e e₁ u ee eu = eu ∙ ap (λ (i : List ℕ). represent (valueBy n (decodeT l q z) (rowsBy ws vs) (assigned vs i))) ee
+term-is l q z ws vs n e e₁ u ee eu = eu ∙ ap (λ (i : List ℕ). valueBy n (decodeT l q z) (rowsBy ws vs) (assigned vs i)) ee

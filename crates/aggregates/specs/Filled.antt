@@ -3,7 +3,6 @@ use mathlib.Core.List.{List, [], _∷_}
 use lib.IntN.{ℤ}
 use Rattle.model.specs.Syntax.{Condition, Term, TRUE, FALSE, NOT, AND, OR, COMPARE, SOME, CONSTANT, ATTRIBUTE, AGGREGATE}
 use Rattle.model.specs.Meaning.{Assignment, Rows}
-use Rattle.numbers.specs.Numbers.{represent}
 use Rattle.numbers.specs.Memo.{remembered}
 use Rattle.evaluator.specs.Recalled.{valueBy}
 
@@ -20,7 +19,7 @@ unfoldable mutual
   pub filledT : Term → Rows → Assignment → List ℤ → List ℤ
   filledT (CONSTANT a b c d) R e m = m
   filledT (ATTRIBUTE v a) R e m = m
-  filledT (AGGREGATE f v r a c) R e m = remembered (filledC c R e m) v (represent (valueBy (filledC c R e m) (AGGREGATE f v r a c) R e))
+  filledT (AGGREGATE f v r a c) R e m = remembered (filledC c R e m) v (valueBy (filledC c R e m) (AGGREGATE f v r a c) R e)
 
 unfoldable pub filledTs : List Term → Rows → Assignment → List ℤ → List ℤ
 filledTs [] R e m = m

@@ -10,7 +10,7 @@ ghost use lib.ListN.{length, getD};
 ghost use Rattle.sizes.specs.Decode.{decode, decodeT};
 ghost use Rattle.sizes.specs.Parts.{targetsAt};
 ghost use Rattle.walks.specs.Walks.{rowsBy};
-ghost use Rattle.numbers.specs.Numbers.{represent, added, Small, Bounded, Accumulates};
+ghost use Rattle.numbers.specs.Numbers.{valueOf, added, Small, Bounded, Accumulates};
 ghost use Rattle.evaluator.specs.Evaluation.{assigned, valueAt, valuesOn};
 ghost use Rattle.seeks.specs.Keys.{Faithful};
 ghost use Rattle.aggregates.specs.Taken.{bothHold, takenBy};
@@ -179,7 +179,7 @@ fn gather(
     let mut t = [0u16; 512];
     let mut xs = [0i32; 128];
     conjuncts::plan(q, z, 0, 0, level, q, 200, memo, &mut t, &mut xs);
-    if seeks::searches(&t) {
+    if seeks::searches(&t, walks) {
         return take_linked(&t, &xs, q, z, walks, vs, memo, env, variable, attribute);
     }
     let chains = [0u16; 1];
@@ -209,7 +209,7 @@ fn value(
     env: &mut [usize],
 ) -> Ratio
     requires { ⌜ 256 ≤ length (now env) ⌝ }
-    ensures { λ r. ⌜ r ≡ represent (valueAt level (now (q .entry)) (now (z .entry)) (now (walks .entry)) (now (vs .entry)) (now (memo .entry)) (now (env .entry))) ⌝ }
+    ensures { λ r. ⌜ valueOf r ≡ valueAt level (now (q .entry)) (now (z .entry)) (now (walks .entry)) (now (vs .entry)) (now (memo .entry)) (now (env .entry)) ⌝ }
     ensures { λ r. ⌜ Small r ⌝ }
     ensures { λ _. ⌜ now (env .exit) ≡ now (env .entry) ⌝ }
 {

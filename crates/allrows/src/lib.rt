@@ -1,9 +1,11 @@
-// The walks of the variables that some bytes bind: all rows of their relations, in order.
+// The walks of the variables that some bytes bind: all rows of their relations.
 use scans::Bound;
 use walks::Walk;
 ghost use mathlib.Core.Path.{_≡_};
 ghost use Prim.Native.Nat.{_≤_};
 ghost use lib.ListN.{set};
+ghost use mathlib.Core.Bool.{cond};
+ghost use Rattle.catalogue.specs.Layout.{latestOf};
 ghost use Rattle.walks.specs.Walks.{Fits};
 ghost use Rattle.scans.specs.Flat.{boundBy, flatBindings};
 ghost use Rattle.allrows.specs.Filled.{written, wholeOf, filledBy};
@@ -43,6 +45,17 @@ pub fn put(walks: &mut [u16], variable: u8, walk: Walk)
     store(walks, i + 4, walk.width);
 }
 
+// Where the walk of all rows of a relation starts: 0 stands for the first row, 1 for the last.
+fn start_of(catalogue: &[u8], relation: u8) -> usize
+    ensures { λ r. ⌜ (r ≡ cond (latestOf (now (catalogue .entry)) relation) 1 0) × (r ≤ 1) ⌝ }
+{
+    if catalogue::latest(catalogue, relation) {
+        1
+    } else {
+        0
+    }
+}
+
 // All rows of a relation.
 pub fn whole(catalogue: &[u8], relation: u8) -> Walk
     ensures { λ r. ⌜ r ≡ wholeOf (now (catalogue .entry)) relation ⌝ }
@@ -51,8 +64,9 @@ pub fn whole(catalogue: &[u8], relation: u8) -> Walk
     let count = catalogue::rows(catalogue, relation);
     let base = catalogue::base(catalogue, relation);
     let width = catalogue::attributes(catalogue, relation);
+    let start = start_of(catalogue, relation);
     Walk {
-        start: 0,
+        start,
         count,
         base,
         width,

@@ -1,5 +1,5 @@
 -- What a token of the RANGE list leaves: its symbols so far, and a buffer and a place at which the rest is still to be written.
-use Prim.Native.Nat.{ℕ, _+_, _≤_}
+use Prim.Native.Nat.{ℕ, _+_, _*_, _≤_}
 use mathlib.Core.Bool.{Bool, cond}
 use mathlib.Core.List.{List, [], _∷_, _++_, map}
 use mathlib.Core.Option.{Option, none, some}
@@ -55,6 +55,7 @@ abbrev pub Counts : Tally → Ranges → Type 0
 Counts s R.Refused = Unit
 Counts s (R.Listed r) = (r .count ≤ s .count + 1) × (r .n ≤ s .n + 1) × (r .at ≤ s .at + 3)
 
-abbrev pub Most : Ranges → Type 0
-Most R.Refused = Unit
-Most (R.Listed r) = (r .count ≤ 3999) × (r .n ≤ 3999) × (r .at ≤ 11997)
+-- of k tokens
+abbrev pub Most : ℕ → Ranges → Type 0
+Most k R.Refused = Unit
+Most k (R.Listed r) = (r .count ≤ k) × (r .n ≤ k) × (r .at ≤ 3 * k)

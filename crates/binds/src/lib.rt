@@ -148,9 +148,9 @@ pub fn bind(
     symbols: &mut [u64],
     out: &mut [u8],
 ) -> Ranges
-    requires { ⌜ (length (now kinds) < 4000) × (4000 < length (now symbols)) ⌝ }
+    requires { ⌜ (length (now kinds) < 4000) × (length (now kinds) ≤ length (now symbols)) ⌝ }
     ensures { λ r. ⌜ ((ns : List ℕ) → Whole (now (text .entry)) (table (now (kinds .entry)) (now (starts .entry)) (now (lengths .entry)) ns) (entries (now (list .entry))) main (now (out .entry)) r (now (symbols .exit)) (now (out .exit))) ⌝ }
-    ensures { λ r. ⌜ Most r ⌝ }
+    ensures { λ r. ⌜ Most (length (now (kinds .entry))) r ⌝ }
 {
     let mut s = Tally {
         inside: false,

@@ -2,6 +2,7 @@
 use Prim.Native.Nat.{ℕ, zero, suc, _+_, _-_, _≤_, _<_}
 use mathlib.Core.Bool.{Bool, true, false, not}
 use mathlib.Core.List.{List}
+use mathlib.Core.Option.{some}
 use mathlib.Core.Path.{_≡_, refl, sym, ap, ap₂, _∙_, subst}
 use native.Mathlib.Omega.{arith}
 use native.Mathlib.Numerals.{sub-one}
@@ -57,7 +58,7 @@ module _ (m : List ℤ) (q : List ℕ) (l : ℕ) (r : Record) (nz : l ≡ 0 → 
     pub constant-means : (a b c d : ℕ) (x : ℤ) → r ≡ R.Constant a b c d → x ≡ signed a b c d → o ≡ record { known = true; variable = 512; attribute = 0; number = x } → (z : List ℕ) → Means o m (decodeT l q z)
     unfolding holdsBy
     constant-means a b c d x h ex eo z k R e =
-        ap (λ (t : Term). valueBy m t R e) (sym (term-is z) ∙ ap (λ (s : Record). termBy s (λ x y. decode (l - 1) x y) q z) h) ∙ ap whole (sym ex) ∙ ap (λ (w : Operand). sideOf m w e) (sym eo)
+        ap (λ (t : Term). valueBy m t R e) (sym (term-is z) ∙ ap (λ (s : Record). termBy s (λ x y. decode (l - 1) x y) q z) h) ∙ ap (λ (y : ℤ). some (whole y)) (sym ex) ∙ ap (λ (w : Operand). sideOf m w e) (sym eo)
 
     pub attribute-means : (v a : ℕ) → v < 256 → r ≡ R.Attribute v a → o ≡ record { known = true; variable = v; attribute = a; number = pos 0 } → (z : List ℕ) → Means o m (decodeT l q z)
     unfolding holdsBy

@@ -5,10 +5,11 @@
 use Prim.Native.Nat.{ℕ, zero, suc, _+_, _-_, _*_}
 use mathlib.Core.Bool.{Bool, false, cond}
 use mathlib.Core.List.{List}
+use mathlib.Core.Option.{some}
 use lib.Dec.{eqb, ltb}
 use lib.IntN.{ℤ, pos}
 use lib.ListN.{getD, drop}
-use Rattle.model.specs.Meaning.{Assignment, Ratio, whole, compare}
+use Rattle.model.specs.Meaning.{Assignment, Value, whole, compare}
 use Rattle.numbers.specs.Memo.{knows, recalled}
 use Rattle.sizes.specs.Decode.{decode}
 use Rattle.evaluator.specs.Recalled.{holdsBy}
@@ -19,13 +20,13 @@ use Rattle.model.specs.Lists.{update, any}
 abbrev pub field : List ℕ → ℕ → ℕ → ℕ
 field t i j = getD t (8 * i + j) 0
 
--- what the memo has for a variable, 0 where it has nothing
-abbrev pub recalledOr0 : List ℤ → ℕ → Ratio
-recalledOr0 m v = cond (knows m v) (recalled m v) (whole (pos 0))
+-- what the memo has for a variable, 0 where it does not know it: no branch asks for that
+abbrev pub recalledOr0 : List ℤ → ℕ → Value
+recalledOr0 m v = cond (knows m v) (recalled m v) (some (whole (pos 0)))
 
 -- a side of a comparison: an attribute of a variable's row; from 256 on what the memo has for the variable 256 below; from 512 on the number x
-abbrev pub operand : List ℤ → ℕ → ℕ → ℤ → Assignment → Ratio
-operand m v a x e = cond (ltb v 256) (whole (e v a)) (cond (ltb v 512) (recalledOr0 m (v - 256)) (whole x))
+abbrev pub operand : List ℤ → ℕ → ℕ → ℤ → Assignment → Value
+operand m v a x e = cond (ltb v 256) (some (whole (e v a))) (cond (ltb v 512) (recalledOr0 m (v - 256)) (some (whole x)))
 
 module _ (t : List ℕ) (xs : List ℤ) (q z ws : List ℕ) (vs m : List ℤ) where
   -- whether branch i holds, where `run` says which of the earlier ones lead to 0

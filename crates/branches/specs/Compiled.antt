@@ -7,7 +7,7 @@ use lib.Dec.{eqb}
 use lib.IntN.{ℤ, pos}
 use lib.ListN.{getD, drop}
 use Rattle.model.specs.Syntax.{Condition, Term, NOT, AND, OR, SOME}
-use Rattle.model.specs.Meaning.{Assignment, Rows, Ratio, compare}
+use Rattle.model.specs.Meaning.{Assignment, Rows, Value, compare}
 use Rattle.kinds.specs.declared.Record.{Record}
 use Rattle.kinds.specs.declared.Record.the-variants as R
 use Rattle.sizes.specs.Decode.{decode}
@@ -19,7 +19,7 @@ use Rattle.branches.specs.declared.Comparison.{Comparison}
 use Rattle.branches.specs.declared.Parts.{Parts}
 
 -- the value of an operand; where it is known, it is the value of the term
-abbrev pub sideOf : List ℤ → Operand → Assignment → Ratio
+abbrev pub sideOf : List ℤ → Operand → Assignment → Value
 sideOf m o e = operand m (o .variable) (o .attribute) (o .number) e
 
 abbrev pub Means : Operand → List ℤ → Term → Type 0

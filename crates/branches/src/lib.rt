@@ -10,7 +10,7 @@ ghost use lib.Seq.{sets};
 ghost use mathlib.Core.Bool.{true, false};
 ghost use mathlib.Core.List.{List, [], _∷_};
 ghost use Rattle.model.specs.Syntax.{Condition, AGGREGATE};
-ghost use Rattle.numbers.specs.Numbers.{represent, Small};
+ghost use Rattle.numbers.specs.Numbers.{valueOf, Small};
 ghost use Rattle.kinds.specs.Record.{recordAt};
 ghost use Rattle.sizes.specs.Decode.{decode, decodeT};
 ghost use Rattle.evaluator.specs.Evaluation.{assigned};
@@ -31,9 +31,9 @@ fn byte_of(x: usize) -> u8
     x as u8
 }
 
-// What the memo has for a variable, 0 where it has nothing.
+// What the memo has for a variable, 0 where it does not know it.
 fn recalled(memo: &[i64], variable: u8) -> Ratio
-    ensures { λ r. ⌜ r ≡ represent (B.recalledOr0 (now (memo .entry)) variable) ⌝ }
+    ensures { λ r. ⌜ valueOf r ≡ B.recalledOr0 (now (memo .entry)) variable ⌝ }
     ensures { λ r. ⌜ Small r ⌝ }
 {
     if !numbers::knows(memo, variable) {
@@ -53,7 +53,7 @@ pub fn side(
     env: &[usize],
 ) -> Ratio
     requires { ⌜ (256 ≤ length (now env)) × (i ≤ 1048576) ⌝ }
-    ensures { λ r. ⌜ r ≡ represent (B.operand (now (memo .entry)) (getD (now (t .entry)) i 0) (getD (now (t .entry)) (i + 1) 0) (getD (now (xs .entry)) j (pos 0)) (assigned (now (values .entry)) (now (env .entry)))) ⌝ }
+    ensures { λ r. ⌜ valueOf r ≡ B.operand (now (memo .entry)) (getD (now (t .entry)) i 0) (getD (now (t .entry)) (i + 1) 0) (getD (now (xs .entry)) j (pos 0)) (assigned (now (values .entry)) (now (env .entry))) ⌝ }
     ensures { λ r. ⌜ Small r ⌝ }
 {
     let v = kinds::size_at(t, i);

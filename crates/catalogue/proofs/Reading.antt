@@ -15,15 +15,15 @@ use Rattle.model.specs.Lists as S
 use Rattle.model.specs.Encoding.{Read, need, then, failed}
 use Rattle.model.specs.Encoding as E
 use Rattle.model.specs.Meaning.{Tuple}
-use Rattle.model.specs.Catalogue.{Relation, readCatalogue, catalogueRead, catalogueOf, valueCount, shapeOf, attributesAt, storedAt, tuplesOf, tuplesAt}
+use Rattle.model.specs.Catalogue.{Relation, readCatalogue, catalogueRead, catalogueOf, valueCount, shapeOf, attributesAt, storedAt, tuplesOf, walk, tuplesAt}
 use Rattle.model.specs.Checks.{fails10, fails11, refusal, keeperChecks}
-use Rattle.catalogue.specs.Layout.{kindOf, attributesOf, rowsOf, storedOf, countOf, baseOf, knownOf, tupleAt, offsets, tuplesIn}
+use Rattle.catalogue.specs.Layout.{kindOf, attributesOf, rowsOf, storedOf, latestOf, countOf, baseOf, knownOf, tupleAt, offsets, tuplesIn}
 
 -- the records from the front
-abbrev relationAt : List ℕ → ℕ → Relation
-relationAt c r = record { stored = storedOf c r; attributes = attributesOf c r; rows = rowsOf c r }
+abbrev pub relationAt : List ℕ → ℕ → Relation
+relationAt c r = record { stored = storedOf c r; latest = latestOf c r; attributes = attributesOf c r; rows = rowsOf c r }
 
-unfoldable relationsIn : ℕ → List ℕ → List Relation
+unfoldable pub relationsIn : ℕ → List ℕ → List Relation
 relationsIn zero c = []
 relationsIn (suc n) c = relationAt c 0 ∷ relationsIn n (drop 4 c)
 
@@ -54,18 +54,9 @@ need-true : {A : Type 0} (b : Bool) (g : Read A) (x : A) (r : List ℕ) → need
 need-true true g x r h = (refl, h)
 need-true false g x r h = let z : _≡_ {A = ℕ} 0 1 = cc in absurd (omega arith)
 
-kind-stored : (k : ℕ) → eqb k 48 || eqb k 49 ≡ true → eqb k 48 ≡ not (eqb k 49)
-kind-stored k h = go (eqb k 48) (eqb k 49) refl refl h
-  where
-    go : (a b : Bool) → eqb k 48 ≡ a → eqb k 49 ≡ b → a || b ≡ true → a ≡ not b
-    go true true p q h = let e : _≡_ {A = ℕ} 48 49 = sym (eqb-true k 48 p) ∙ eqb-true k 49 q in absurd (omega arith)
-    go true false p q h = refl
-    go false true p q h = refl
-    go false false p q h = h
-
-known-parts : (c : List ℕ) (r : ℕ) → knownOf c r ≡ true → ((eqb (kindOf c r) 48 || eqb (kindOf c r) 49) ≡ true) × ((leb 1 (attributesOf c r) && leb (attributesOf c r) 16) ≡ true) × (leb (rowsOf c r) 1024 ≡ true)
+known-parts : (c : List ℕ) (r : ℕ) → knownOf c r ≡ true → ((eqb (kindOf c r) 48 || eqb (kindOf c r) 49 || eqb (kindOf c r) 50) ≡ true) × ((leb 1 (attributesOf c r) && leb (attributesOf c r) 16) ≡ true) × (leb (rowsOf c r) 1024 ≡ true)
 known-parts c r h =
-    let p = and-inv (eqb (kindOf c r) 48 || eqb (kindOf c r) 49) ((leb 1 (attributesOf c r) && leb (attributesOf c r) 16) && leb (rowsOf c r) 1024) h in
+    let p = and-inv (eqb (kindOf c r) 48 || eqb (kindOf c r) 49 || eqb (kindOf c r) 50) ((leb 1 (attributesOf c r) && leb (attributesOf c r) 16) && leb (rowsOf c r) 1024) h in
     let q = and-inv (leb 1 (attributesOf c r) && leb (attributesOf c r) 16) (leb (rowsOf c r) 1024) (p .1) in
     (p .0, q .0, q .1)
 
@@ -75,7 +66,7 @@ module _ (k w a b : ℕ) (c : List ℕ) where
   unfolding readCatalogue kindOf attributesOf rowsOf
   read-known f xs h e =
       let p = known-parts (k ∷ w ∷ a ∷ b ∷ c) 0 h in
-      rw (p .0, p .1, p .2, e, kind-stored k (p .0))
+      rw (p .0, p .1, p .2, e)
 
 read-whole : (n f : ℕ) (c : List ℕ) → length c ≡ 4 * n → n < f → ((r : ℕ) → r < n → knownOf c r ≡ true) → readCatalogue f c ≡ E.ok (relationsIn n c) []
 unfolding readCatalogue relationsIn
@@ -106,7 +97,7 @@ whole-next x y z t c n k h = record { size = omega (arith, h .size); known = at 
     at zero l = k
     at (suc r) l = sym (known-next (x ∷ y ∷ z ∷ t ∷ c) r) ∙ h .known r (omega arith)
 
-known-front : (x y z t : ℕ) (c : List ℕ) → (eqb x 48 || eqb x 49) ≡ true → (leb 1 y && leb y 16) ≡ true → leb (z + 256 * t) 1024 ≡ true → knownOf (x ∷ y ∷ z ∷ t ∷ c) 0 ≡ true
+known-front : (x y z t : ℕ) (c : List ℕ) → (eqb x 48 || eqb x 49 || eqb x 50) ≡ true → (leb 1 y && leb y 16) ≡ true → leb (z + 256 * t) 1024 ≡ true → knownOf (x ∷ y ∷ z ∷ t ∷ c) 0 ≡ true
 unfolding kindOf attributesOf rowsOf
 known-front x y z t c p q g = rw (p, q, g)
 
@@ -114,21 +105,21 @@ read-is-whole : (f : ℕ) (c : List ℕ) (xs : List Relation) (s : List ℕ) →
 unfolding readCatalogue
 read-is-whole zero c xs s h = let z : _≡_ {A = ℕ} 0 1 = cc in absurd (omega arith)
 read-is-whole (suc f) [] xs s h = let e : [] ≡ xs = cc in rw (← e) (record { size = omega arith; known = λ r l. absurd (omega arith) })
-read-is-whole (suc f) (x ∷ []) xs s h = absurd (need-none (eqb x 48 || eqb x 49) xs s h)
+read-is-whole (suc f) (x ∷ []) xs s h = absurd (need-none (eqb x 48 || eqb x 49 || eqb x 50) xs s h)
 read-is-whole (suc f) (x ∷ y ∷ []) xs s h =
-    absurd (need-none (leb 1 y && leb y 16) xs s (need-true (eqb x 48 || eqb x 49) _ xs s h .1))
+    absurd (need-none (leb 1 y && leb y 16) xs s (need-true (eqb x 48 || eqb x 49 || eqb x 50) _ xs s h .1))
 read-is-whole (suc f) (x ∷ y ∷ z ∷ []) xs s h =
-    absurd (need-none (leb 1 y && leb y 16) xs s (need-true (eqb x 48 || eqb x 49) _ xs s h .1))
+    absurd (need-none (leb 1 y && leb y 16) xs s (need-true (eqb x 48 || eqb x 49 || eqb x 50) _ xs s h .1))
 read-is-whole (suc f) (x ∷ y ∷ z ∷ t ∷ c) xs s h =
-    let p = need-true (eqb x 48 || eqb x 49) _ xs s h in
+    let p = need-true (eqb x 48 || eqb x 49 || eqb x 50) _ xs s h in
     let q = need-true (leb 1 y && leb y 16) _ xs s (p .1) in
     let g = need-true (leb (z + 256 * t) 1024) _ xs s (q .1) in
     go (readCatalogue f c) (known-front x y z t c (p .0) (q .0) (g .0)) (λ ys r e. read-is-whole f c ys r e) (g .1)
   where
-    go : (m : Read (List Relation)) → knownOf (x ∷ y ∷ z ∷ t ∷ c) 0 ≡ true → ((ys : List Relation) (r : List ℕ) → m ≡ E.ok ys r → Whole c (length ys)) → then m (λ ys r. E.ok (record { stored = eqb x 48; attributes = y; rows = z + 256 * t } ∷ ys) r) ≡ E.ok xs s → Whole (x ∷ y ∷ z ∷ t ∷ c) (length xs)
+    go : (m : Read (List Relation)) → knownOf (x ∷ y ∷ z ∷ t ∷ c) 0 ≡ true → ((ys : List Relation) (r : List ℕ) → m ≡ E.ok ys r → Whole c (length ys)) → then m (λ ys r. E.ok (record { stored = not (eqb x 49); latest = eqb x 50; attributes = y; rows = z + 256 * t } ∷ ys) r) ≡ E.ok xs s → Whole (x ∷ y ∷ z ∷ t ∷ c) (length xs)
     go E.fail k i e = let z : _≡_ {A = ℕ} 0 1 = cc in absurd (omega arith)
     go (E.ok ys r) k i e =
-        let same : record { stored = eqb x 48; attributes = y; rows = z + 256 * t } ∷ ys ≡ xs = cc in
+        let same : record { stored = not (eqb x 49); latest = eqb x 50; attributes = y; rows = z + 256 * t } ∷ ys ≡ xs = cc in
         rw (← same) (whole-next x y z t c (length ys) k (i ys r refl))
 
 -- check 10 passes
@@ -261,13 +252,18 @@ total-in zero m c e h = sym (base-none c m (omega arith))
 total-in (suc n) zero c e h = absurd (omega arith)
 total-in (suc n) (suc m) c e h = ap (λ (k : ℕ). rowsOf c 0 * attributesOf c 0 + k) (total-in n m (drop 4 c) (drop-length n c e) (omega arith)) ∙ sym (base-next c m)
 
-tuples-in : (n : ℕ) (c : List ℕ) (vs : List ℤ) (r : ℕ) → length c ≡ 4 * n → tuplesAt (relationsIn n c) vs r ≡ tuplesOf (rowsOf c r) (attributesOf c r) (drop (baseOf c r) vs)
+walk-none : (b : Bool) → walk b [] ≡ []
+unfolding walk S.backwards
+walk-none true = refl
+walk-none false = refl
+
+tuples-in : (n : ℕ) (c : List ℕ) (vs : List ℤ) (r : ℕ) → length c ≡ 4 * n → tuplesAt (relationsIn n c) vs r ≡ walk (latestOf c r) (tuplesOf (rowsOf c r) (attributesOf c r) (drop (baseOf c r) vs))
 unfolding tuplesAt relationsIn tuplesOf baseOf
-tuples-in zero c vs r e = rw (rows-none c r (omega arith))
+tuples-in zero c vs r e = rw (rows-none c r (omega arith)) (sym (walk-none (latestOf c r)))
 tuples-in (suc n) c vs zero e = refl
 tuples-in (suc n) c vs (suc r) e =
     tuples-in n (drop 4 c) (drop (rowsOf c 0 * attributesOf c 0) vs) r (drop-length n c e)
-    ∙ rw (drop-drop, ← base-next c r, rows-next c r, attributes-next c r)
+    ∙ rw (drop-drop, ← base-next c r, rows-next c r, attributes-next c r, kind-next c r)
 
 -- rows by their offsets
 tuples-by-offset : (n w p : ℕ) (vs : List ℤ) → tuplesOf n w (drop p vs) ≡ map (tupleAt vs) (offsets p w n)
@@ -282,6 +278,9 @@ tuples-by-offset (suc n) w p vs =
 module _ (c : List ℕ) (h : fails10 c ≡ false) where
   valid : Valid c
   valid = passes-valid c h
+
+  pub relations-are : (catalogueOf c ≡ relationsIn (countOf c) c) × (length c ≡ 4 * countOf c)
+  relations-are = (catalogue-valid c valid, valid .size)
 
   pub count-is : length (catalogueOf c) ≡ countOf c
   count-is = ap length (catalogue-valid c valid) ∙ relations-length (countOf c) c
@@ -305,7 +304,7 @@ module _ (c : List ℕ) (h : fails10 c ≡ false) where
 
   pub tuples-are : (vs : List ℤ) (r : ℕ) → tuplesAt (catalogueOf c) vs r ≡ tuplesIn c vs r
   unfolding tuplesIn
-  tuples-are vs r = rw (catalogue-valid c valid) (tuples-in (countOf c) c vs r (valid .size) ∙ tuples-by-offset (rowsOf c r) (attributesOf c r) (baseOf c r) vs)
+  tuples-are vs r = rw (catalogue-valid c valid) (tuples-in (countOf c) c vs r (valid .size) ∙ ap (walk (latestOf c r)) (tuples-by-offset (rowsOf c r) (attributesOf c r) (baseOf c r) vs))
 
   pub attributes-some : (r : ℕ) → r < countOf c → 1 ≤ attributesOf c r
   attributes-some r l =

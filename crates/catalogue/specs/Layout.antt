@@ -8,6 +8,7 @@ use lib.IntN.{ℤ, pos}
 use lib.ListN.{length, getD}
 use Rattle.model.specs.Lists.{filter}
 use Rattle.model.specs.Meaning.{Tuple}
+use Rattle.model.specs.Catalogue.{walk}
 
 unfoldable pub kindOf : List ℕ → ℕ → ℕ
 kindOf c r = getD c (4 * r) 0
@@ -21,6 +22,10 @@ rowsOf c r = getD c (4 * r + 2) 0 + 256 * getD c (4 * r + 3) 0
 abbrev pub storedOf : List ℕ → ℕ → Bool
 storedOf c r = not (eqb (kindOf c r) 49)
 
+-- its latest row is met first
+abbrev pub latestOf : List ℕ → ℕ → Bool
+latestOf c r = eqb (kindOf c r) 50
+
 -- how many relations
 abbrev pub countOf : List ℕ → ℕ
 countOf c = length c / 4
@@ -30,9 +35,9 @@ unfoldable pub baseOf : List ℕ → ℕ → ℕ
 baseOf c zero = 0
 baseOf c (suc r) = baseOf c r + rowsOf c r * attributesOf c r
 
--- kind 48 or 49, attributes 1 to 16, rows 0 to 1,024
+-- kind 48, 49 or 50, attributes 1 to 16, rows 0 to 1,024
 abbrev pub knownOf : List ℕ → ℕ → Bool
-knownOf c r = (eqb (kindOf c r) 48 || eqb (kindOf c r) 49) && ((leb 1 (attributesOf c r) && leb (attributesOf c r) 16) && leb (rowsOf c r) 1024)
+knownOf c r = (eqb (kindOf c r) 48 || eqb (kindOf c r) 49 || eqb (kindOf c r) 50) && ((leb 1 (attributesOf c r) && leb (attributesOf c r) 16) && leb (rowsOf c r) 1024)
 
 -- the tuple whose values begin at p
 abbrev pub tupleAt : List ℤ → ℕ → Tuple
@@ -43,9 +48,9 @@ unfoldable pub offsets : ℕ → ℕ → ℕ → List ℕ
 offsets p w zero = []
 offsets p w (suc n) = p ∷ offsets (p + w) w n
 
--- the rows of a relation
+-- the rows of a relation, in the walk
 unfoldable pub tuplesIn : List ℕ → List ℤ → ℕ → List Tuple
-tuplesIn c vs r = map (tupleAt vs) (offsets (baseOf c r) (attributesOf c r) (rowsOf c r))
+tuplesIn c vs r = walk (latestOf c r) (map (tupleAt vs) (offsets (baseOf c r) (attributesOf c r) (rowsOf c r)))
 
 -- the values of attribute a in the first n rows that meet a condition
 unfoldable pub kept : List ℤ → (Tuple → Bool) → ℕ → ℕ → ℕ → ℕ → List ℤ

@@ -49,6 +49,13 @@ pub fn stored(catalogue: &[u8], relation: u8) -> bool
     kind(catalogue, relation) != 49
 }
 
+// Whether its latest row is met first.
+pub fn latest(catalogue: &[u8], relation: u8) -> bool
+    ensures { λ r. ⌜ r ≡ L.latestOf (now (catalogue .entry)) relation ⌝ }
+{
+    kind(catalogue, relation) == 50
+}
+
 // How many relations there are.
 pub fn count(catalogue: &[u8]) -> usize
     ensures { λ r. ⌜ r ≡ L.countOf (now (catalogue .entry)) ⌝ }
@@ -109,7 +116,7 @@ fn known(catalogue: &[u8], relation: u8) -> bool
     if k < 48 {
         return false;
     }
-    if 49 < k {
+    if 50 < k {
         return false;
     }
     let w = attributes(catalogue, relation);

@@ -2,6 +2,7 @@
 use Prim.Native.Nat.{ℕ, zero, suc, _+_, _-_, _*_, _≤_, _<_}
 use mathlib.Core.Bool.{Bool, true, false, not, cond}
 use mathlib.Core.List.{List}
+use mathlib.Core.Option.{some}
 use mathlib.Core.Path.{_≡_, sym, ap, ap₂, _∙_, subst}
 use native.Mathlib.Omega.{arith}
 use lib.Dec.{eqb}
@@ -11,7 +12,7 @@ use borrow.Author.Tests.{ne-eqb, lt-ltb, le-ltb}
 use Rattle.model.specs.Meaning as M
 use Rattle.model.specs.Meaning.{whole, compare}
 use Rattle.model.proofs.Tests.{not-yes, not-no}
-use Rattle.numbers.specs.Numbers.{represent, ratioOf}
+use Rattle.numbers.specs.Numbers.{valueOf}
 use Rattle.numbers.specs.Memo.{knows, recalled}
 use Rattle.numbers.specs.declared.Ratio.{Ratio}
 use Rattle.evaluator.specs.Evaluation.{assigned, holdsAt}
@@ -29,8 +30,8 @@ module _ (t : List ℕ) (xs : List ℤ) (q z ws : List ℕ) (vs m : List ℤ) (e
     unfolding branchHolds holdsIn holdsAt
     branch-condition p l c s b h ep el ec es eb = eb ∙ rw (ec, es, ep, el) (sym (rw (own ∙ h)))
 
-    pub branch-compared : (a b : Ratio) (r : Bool) → (o ≡ 0 → ⊥) → (o ≡ 256 → ⊥) → a ≡ represent (operand m (getD t (8 * i + 1) 0) (getD t (8 * i + 1 + 1) 0) (getD xs (2 * i) (pos 0)) (assigned vs e))
-        → b ≡ represent (operand m (getD t (8 * i + 3) 0) (getD t (8 * i + 3 + 1) 0) (getD xs (2 * i + 1) (pos 0)) (assigned vs e)) → r ≡ compare o (ratioOf a) (ratioOf b) → r ≡ branchHolds t xs q z ws vs m i (assigned vs e)
+    pub branch-compared : (a b : Ratio) (r : Bool) → (o ≡ 0 → ⊥) → (o ≡ 256 → ⊥) → valueOf a ≡ operand m (getD t (8 * i + 1) 0) (getD t (8 * i + 1 + 1) 0) (getD xs (2 * i) (pos 0)) (assigned vs e)
+        → valueOf b ≡ operand m (getD t (8 * i + 3) 0) (getD t (8 * i + 3 + 1) 0) (getD xs (2 * i + 1) (pos 0)) (assigned vs e) → r ≡ compare o (valueOf a) (valueOf b) → r ≡ branchHolds t xs q z ws vs m i (assigned vs e)
     unfolding branchHolds holdsIn
     branch-compared a b r h g ea eb er =
         let n = ap (λ (w : ℕ). eqb w 0) own ∙ ne-eqb o 0 h in

@@ -1,5 +1,5 @@
 -- The parts of flatText, one after the other.
-use Prim.Native.Nat.{ℕ, suc, _+_, _≤_, _<_}
+use Prim.Native.Nat.{ℕ, suc, _+_, _*_, _≤_, _<_}
 use mathlib.Core.Bool.{Bool, true, false, not, cond}
 use mathlib.Core.List.{List, [], _∷_}
 use mathlib.Core.Option.{none}
@@ -73,8 +73,8 @@ module _ (text : List ℕ) (t : Table) (es : List Entry) (d : List ℕ) (u : Boo
           pub with-true : q ≡ false → (p : ℕ) (v : List ℕ) → p ≡ at + 1 → v ≡ sets y at (16 ∷ []) → ended d 0 (flatText es (tokensFrom text t 0)) ≡ ok v p
           with-true h p v ep ev = placed ∙ ap (λ (b : Bool). ok (sets y at (cond b [] (16 ∷ []))) (at + length {A = ℕ} (cond b [] (16 ∷ [])))) h ∙ ap₂ (λ (z : List ℕ) (n : ℕ). ok z n) (sym ev) (sym ep)
 
-pub most : (r : Ranges) (s : Tally) → Most r → r ≡ R.Listed s → (s .count ≤ 3999) × (s .n ≤ 3999) × (s .at ≤ 11997)
-most r s m e = subst Most e m
+pub most : (k : ℕ) (r : Ranges) (s : Tally) → Most k r → r ≡ R.Listed s → (s .count ≤ k) × (s .n ≤ k) × (s .at ≤ 3 * k)
+most k r s m e = subst (Most k) e m
 
 pub place-most : (at p : ℕ) (l : End) → Last at l → l ≡ E.Place p → p ≤ at + 32812591
 place-most at p l m e = subst (Last at) e m

@@ -2,7 +2,7 @@
 use binds::Ranges;
 use loops::End;
 ghost use mathlib.Core.Path.{_≡_};
-ghost use Prim.Native.Nat.{_<_};
+ghost use Prim.Native.Nat.{_≤_, _<_};
 ghost use lib.ListN.{length};
 ghost use Rattle.flat.specs.Flat.{flatText};
 ghost use Rattle.names.specs.Entries.{entries};
@@ -23,7 +23,7 @@ pub fn elaborate(
     frames: &mut [u64],
     out: &mut [u8],
 ) -> End
-    requires { ⌜ (length (now kinds) < 4000) × (4000 < length (now counts)) × (4000 < length (now symbols)) × (4001 < length (now frames)) ⌝ }
+    requires { ⌜ (length (now kinds) < 4000) × (length (now kinds) < length (now counts)) × (length (now kinds) ≤ length (now symbols)) × (length (now kinds) < length (now frames)) ⌝ }
     ensures { λ r. ⌜ ended (now (out .entry)) 0 (flatText (entries (now (list .entry))) (tokensFrom (now (text .entry)) (table (now (kinds .entry)) (now (starts .entry)) (now (lengths .entry)) (now (numbers .entry))) 0)) ≡ outcome r (now (out .exit)) ⌝ }
 {
     if !marks::unique(text, kinds, starts, lengths) {

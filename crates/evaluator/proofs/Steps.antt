@@ -2,6 +2,7 @@
 use mathlib.Core.Path.{_≡_, refl, sym, ap, ap₂, _∙_, fun-ext, subst, subst₂}
 use mathlib.Core.Bool.{Bool, true, false, not, cond, _&&_, _||_}
 use mathlib.Core.List.{List, [], _∷_, _++_, map}
+use mathlib.Core.Option.{some}
 use Prim.Native.Nat.{ℕ, zero, suc, _+_, _-_, _*_, _≤_, _<_}
 use native.Mathlib.Omega.{arith}
 use native.Mathlib.Numerals.{sub-one}
@@ -15,7 +16,7 @@ use types.Run.{OneOf, miss}
 use Rattle.model.specs.Lists.{update, filter, any}
 use Rattle.model.proofs.Tests.{not-yes, not-no}
 use Rattle.model.specs.Syntax.{Condition, Term, TRUE, FALSE, NOT, AND, OR, COMPARE, SOME, CONSTANT, ATTRIBUTE, AGGREGATE}
-use Rattle.model.specs.Meaning.{Tuple, Assignment, Ratio, whole, signed, compare, aggregate}
+use Rattle.model.specs.Meaning.{Tuple, Assignment, Value, whole, signed, compare, aggregate}
 use Rattle.kinds.proofs.Record.{enum}
 use Rattle.kinds.specs.Tables.{recordLength}
 use Rattle.kinds.specs.Record.{recordAt}
@@ -52,7 +53,7 @@ module _ (ws : List ℕ) (vs m : List ℤ) (e q z : List ℕ) where
   unfolding holdsAt decode holdsBy
   holds-zero l h = rw h
 
-  pub value-zero : (l : ℕ) → l ≡ 0 → whole (pos 0) ≡ valueAt l q z ws vs m e
+  pub value-zero : (l : ℕ) → l ≡ 0 → some (whole (pos 0)) ≡ valueAt l q z ws vs m e
   unfolding valueAt decode holdsBy signed
   value-zero l h = rw h
 
@@ -79,7 +80,7 @@ module _ (ws : List ℕ) (vs m : List ℤ) (e q z : List ℕ) where
     true-is h = holds-is l R.True nz (sym h ∙ er)
 
     -- an aggregate that the memo knows
-    pub known-is : (f v r′ t : ℕ) (u : Ratio) (b : Bool) → r ≡ R.Aggregate f v r′ t → b ≡ knows m v → b ≡ true → u ≡ recalled m v → u ≡ valueAt l q z ws vs m e
+    pub known-is : (f v r′ t : ℕ) (u : Value) (b : Bool) → r ≡ R.Aggregate f v r′ t → b ≡ knows m v → b ≡ true → u ≡ recalled m v → u ≡ valueAt l q z ws vs m e
     unfolding holdsBy
     known-is f v r′ t u b h ek f′ eu = let g = sym ek ∙ f′ in eu ∙ sym (rw g) ∙ value-is l (R.Aggregate f v r′ t) nz (sym h ∙ er)
 
@@ -110,7 +111,7 @@ module _ (ws : List ℕ) (vs m : List ℤ) (e q z : List ℕ) where
           eb ∙ ap₂ (λ (u w : List ℕ). any (λ t. holdsBy m (decode (l - 1) u w) (rowsBy ws vs) (update (assigned vs e) v t)) (walked ws vs v)) (ex ∙ ap (λ n. drop n q) at-first) (ey ∙ ap (λ n. drop n z) at-first)
           ∙ holds-is l (R.Some v r′) nz (sym h ∙ er)
 
-      pub aggregate-is : (f v r′ t : ℕ) (u : Ratio) (b : Bool) → r ≡ R.Aggregate f v r′ t → b ≡ knows m v → b ≡ false → u ≡ aggregate f (valuesOn (l - 1) x y ws vs m e v t) → u ≡ valueAt l q z ws vs m e
+      pub aggregate-is : (f v r′ t : ℕ) (u : Value) (b : Bool) → r ≡ R.Aggregate f v r′ t → b ≡ knows m v → b ≡ false → u ≡ aggregate f (valuesOn (l - 1) x y ws vs m e v t) → u ≡ valueAt l q z ws vs m e
       unfolding holdsBy holdsOn valuesOn
       aggregate-is f v r′ t u b h ek f′ eu =
           let g = sym ek ∙ f′ in
@@ -142,18 +143,18 @@ module _ (ws : List ℕ) (vs m : List ℤ) (e q z : List ℕ) where
             let g = sym child ∙ sym ec ∙ f in
             ed ∙ ap (holdsAt (l - 1) u w ws vs m) ee ∙ next ∙ sym (rw g) ∙ holds-is l R.Or nz (sym h ∙ er)
 
-        pub compare-is : (o : ℕ) (c d : Ratio) (e₁ : List ℕ) (t : Bool) → r ≡ R.Compare o → c ≡ valueAt (l - 1) x y ws vs m e → e₁ ≡ e → d ≡ valueAt (l - 1) u w ws vs m e₁ → t ≡ compare o c d → t ≡ holdsAt l q z ws vs m e
+        pub compare-is : (o : ℕ) (c d : Value) (e₁ : List ℕ) (t : Bool) → r ≡ R.Compare o → c ≡ valueAt (l - 1) x y ws vs m e → e₁ ≡ e → d ≡ valueAt (l - 1) u w ws vs m e₁ → t ≡ compare o c d → t ≡ holdsAt l q z ws vs m e
         unfolding holdsBy
         compare-is o c d e₁ t h ec ee ed et =
             et ∙ ap₂ (compare o) (ec ∙ childT) (ed ∙ ap (valueAt (l - 1) u w ws vs m) ee ∙ nextT) ∙ holds-is l (R.Compare o) nz (sym h ∙ er)
 
-  pub constant-is : (l a b c d : ℕ) (r : Record) (t : ℤ) → (l ≡ 0 → ⊥) → r ≡ recordAt q → r ≡ R.Constant a b c d → t ≡ signed a b c d → whole t ≡ valueAt l q z ws vs m e
+  pub constant-is : (l a b c d : ℕ) (r : Record) (t : ℤ) → (l ≡ 0 → ⊥) → r ≡ recordAt q → r ≡ R.Constant a b c d → t ≡ signed a b c d → some (whole t) ≡ valueAt l q z ws vs m e
   unfolding holdsBy
-  constant-is l a b c d r t nz er h et = ap whole et ∙ value-is l (R.Constant a b c d) nz (sym h ∙ er)
+  constant-is l a b c d r t nz er h et = ap (λ (y : ℤ). some (whole y)) et ∙ value-is l (R.Constant a b c d) nz (sym h ∙ er)
 
-  pub attribute-is : (l v a p : ℕ) (r : Record) (t : ℤ) → (l ≡ 0 → ⊥) → r ≡ recordAt q → r ≡ R.Attribute v a → v < length e → p ≡ getD e v 0 → t ≡ getD vs (p + a) (pos 0) → whole t ≡ valueAt l q z ws vs m e
+  pub attribute-is : (l v a p : ℕ) (r : Record) (t : ℤ) → (l ≡ 0 → ⊥) → r ≡ recordAt q → r ≡ R.Attribute v a → v < length e → p ≡ getD e v 0 → t ≡ getD vs (p + a) (pos 0) → some (whole t) ≡ valueAt l q z ws vs m e
   unfolding holdsBy
-  attribute-is l v a p r t nz er h hv ep et = ap whole (et ∙ ap (λ n. getD vs (n + a) (pos 0)) (ep ∙ getD-inside e v 0 (length vs) hv)) ∙ value-is l (R.Attribute v a) nz (sym h ∙ er)
+  attribute-is l v a p r t nz er h hv ep et = ap (λ (y : ℤ). some (whole y)) (et ∙ ap (λ n. getD vs (n + a) (pos 0)) (ep ∙ getD-inside e v 0 (length vs) hv)) ∙ value-is l (R.Attribute v a) nz (sym h ∙ er)
 
 -- other records are no condition, and no term
 rest-condition : (f : List ℕ → List ℕ → Condition) (g : List ℕ → List ℕ → Term) (q z : List ℕ) (r : Record) → OneOf (0 ∷ 2 ∷ 8 ∷ 9 ∷ 10 ∷ 11 ∷ 12 ∷ 13 ∷ 14 ∷ 15 ∷ []) (tagOf (declared enum) r) → conditionBy r f g q z ≡ FALSE
@@ -197,7 +198,7 @@ module _ (ws : List ℕ) (vs m : List ℤ) (e q z : List ℕ) (l : ℕ) (r : Rec
   unfolding holdsBy
   no-condition h = sym (ap (λ (c : Condition). holdsBy m c (rowsBy ws vs) (assigned vs e)) (rest-condition (λ x y. decode (l - 1) x y) (λ x y. decodeT (l - 1) x y) q z r h)) ∙ holds-is ws vs m e q z l r nz er
 
-  pub no-term : OneOf (0 ∷ 1 ∷ 2 ∷ 3 ∷ 4 ∷ 5 ∷ 6 ∷ 7 ∷ 11 ∷ 12 ∷ 13 ∷ 14 ∷ 15 ∷ []) (tagOf (declared enum) r) → whole (pos 0) ≡ valueAt l q z ws vs m e
+  pub no-term : OneOf (0 ∷ 1 ∷ 2 ∷ 3 ∷ 4 ∷ 5 ∷ 6 ∷ 7 ∷ 11 ∷ 12 ∷ 13 ∷ 14 ∷ 15 ∷ []) (tagOf (declared enum) r) → some (whole (pos 0)) ≡ valueAt l q z ws vs m e
   unfolding holdsBy signed
   no-term h = sym (ap (λ (t : Term). valueBy m t (rowsBy ws vs) (assigned vs e)) (rest-term (λ x y. decode (l - 1) x y) q z r h)) ∙ value-is ws vs m e q z l r nz er
 

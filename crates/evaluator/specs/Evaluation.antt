@@ -5,7 +5,7 @@ use mathlib.Core.List.{List, map}
 use lib.IntN.{ℤ}
 use lib.ListN.{length, getD}
 use Rattle.model.specs.Lists.{update, filter}
-use Rattle.model.specs.Meaning.{Tuple, Assignment, Ratio}
+use Rattle.model.specs.Meaning.{Tuple, Assignment, Value}
 use Rattle.catalogue.specs.Layout.{tupleAt}
 use Rattle.walks.specs.Walks.{walked, rowsBy}
 use Rattle.sizes.specs.Decode.{decode, decodeT}
@@ -19,7 +19,7 @@ assigned vs e v = tupleAt vs (getD e v (length vs))
 unfoldable pub holdsAt : ℕ → List ℕ → List ℕ → List ℕ → List ℤ → List ℤ → List ℕ → Bool
 holdsAt l q z ws vs m e = holdsBy m (decode l q z) (rowsBy ws vs) (assigned vs e)
 
-unfoldable pub valueAt : ℕ → List ℕ → List ℕ → List ℕ → List ℤ → List ℤ → List ℕ → Ratio
+unfoldable pub valueAt : ℕ → List ℕ → List ℕ → List ℕ → List ℤ → List ℤ → List ℕ → Value
 valueAt l q z ws vs m e = valueBy m (decodeT l q z) (rowsBy ws vs) (assigned vs e)
 
 -- the condition with variable v on a row

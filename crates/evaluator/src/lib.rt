@@ -8,7 +8,7 @@ ghost use mathlib.Core.Path.{_≡_};
 ghost use Prim.Native.Nat.{_≤_, _<_};
 ghost use lib.ListN.{length, getD, set};
 ghost use Rattle.model.specs.Lists.{any};
-ghost use Rattle.numbers.specs.Numbers.{represent, Small, Accumulates};
+ghost use Rattle.numbers.specs.Numbers.{valueOf, Small, Accumulates};
 ghost use Rattle.walks.specs.Walks.{walked};
 ghost use Rattle.evaluator.specs.Evaluation.{holdsAt, valueAt, holdsOn, valuesOn};
 
@@ -84,7 +84,7 @@ pub fn condition(
     }
 }
 
-// The value of the term that q starts with.
+// The value of the term that q starts with: a number, or nothing.
 pub fn term(
     q: &[u8],
     z: &[u16],
@@ -95,7 +95,7 @@ pub fn term(
     env: &mut [usize],
 ) -> Ratio
     requires { ⌜ 256 ≤ length (now env) ⌝ }
-    ensures { λ r. ⌜ r ≡ represent (valueAt level (now (q .entry)) (now (z .entry)) (now (walks .entry)) (now (vs .entry)) (now (memo .entry)) (now (env .entry))) ⌝ }
+    ensures { λ r. ⌜ valueOf r ≡ valueAt level (now (q .entry)) (now (z .entry)) (now (walks .entry)) (now (vs .entry)) (now (memo .entry)) (now (env .entry)) ⌝ }
     ensures { λ r. ⌜ Small r ⌝ }
     ensures { λ _. ⌜ now (env .exit) ≡ now (env .entry) ⌝ }
 {

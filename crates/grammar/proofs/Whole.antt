@@ -209,3 +209,6 @@ number-is limit q = go (ltb limit (length q)) (readQuery q)
     go true x = refl
     go false fail = refl
     go false (ok a r) = refl
+
+pub numbered : (s : Shape) (limit : ℕ) (q : List ℕ) → s ≡ shapeWithin limit q → (s ≡ shapeWithin limit q) × (numberOf s ≡ cond (fails30At limit q) 30 0)
+numbered s limit q e = (e, ap numberOf e ∙ number-is limit q)

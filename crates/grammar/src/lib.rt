@@ -3,12 +3,12 @@
 use kinds::Record;
 ghost use mathlib.Core.Path.{_≡_};
 ghost use Prim.Native.Nat.{_≤_};
-ghost use mathlib.Core.Bool.{not};
+ghost use mathlib.Core.Bool.{cond, not};
 ghost use Rattle.model.specs.Encoding.{failed, permitsRead};
 ghost use Rattle.model.specs.Checks.{fails20};
 ghost use Rattle.kinds.specs.Tables.{conditionsOf};
 ghost use Rattle.grammar.specs.Sizes.{conditionSize, termSize, permitSize, many, headSize, isCondition, isTerm};
-ghost use Rattle.grammar.specs.Shapes.{isTarget, rangesPart, targetsPart, shapeOf, shapeWithin};
+ghost use Rattle.grammar.specs.Shapes.{isTarget, rangesPart, targetsPart, shapeOf, shapeWithin, fails30At, numberOf};
 
 pub enum Size {
     Bytes(usize),
@@ -235,9 +235,10 @@ fn query(q: &[u8]) -> Shape
     })
 }
 
-// The same, of at most so many bytes: a longer query is not looked at.
+// The same, of at most so many bytes: a longer query is not looked at. The number of each case is 30's.
 pub fn query_within(q: &[u8], limit: usize) -> Shape
     ensures { λ r. ⌜ r ≡ shapeWithin limit (now (q .entry)) ⌝ }
+    ensures { λ r. ⌜ numberOf r ≡ cond (fails30At limit (now (q .entry))) 30 0 ⌝ }
 {
     if limit < q.len() {
         Shape::NotWellFormed

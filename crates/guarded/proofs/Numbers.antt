@@ -17,8 +17,6 @@ use Rattle.model.specs.Calls.{ask, askUnless}
 use Rattle.model.proofs.Passed.{refusal-cons, query-read, query-length, Scoped, scoped}
 use Rattle.model.proofs.Grounds.{refusal-skip}
 use Rattle.scans.specs.Flat.{flatBindings}
-use Rattle.permits.specs.Limits.{listChecks}
-use Rattle.permits.proofs.Model.{check-is}
 use Rattle.permits.proofs.Reading.{listed}
 use Rattle.grammar.specs.declared.Layout.{Layout}
 use Rattle.queries.specs.Parts.{queryAt}
@@ -41,19 +39,6 @@ refusal-some (c ∷ xs) ys h = go (c .0) (λ k. refusal-some xs ys k) h
 positive : (n : ℕ) → (n ≡ 0 → ⊥) → 1 ≤ n
 positive zero h = absurd (h refl)
 positive (suc n) h = omega arith
-
--- 20 to 23
-module _ (cb pb : List ℕ) where
-  pub unread : (b : Bool) → b ≡ fails20 pb → b ≡ true → 20 ≡ refusal (permitChecks (shapeOf (catalogueOf cb)) pb)
-  unfolding permitChecks refusal
-  unread b eb h = sym (rw (sym eb ∙ h))
-
-  pub listed-is : fails10 cb ≡ false → (b : Bool) (n : ℕ) → b ≡ fails20 pb → b ≡ false → n ≡ refusal (listChecks cb pb) → n ≡ refusal (permitChecks (shapeOf (catalogueOf cb)) pb)
-  unfolding permitChecks refusal
-  listed-is hc b n eb h en = en ∙ check-is cb hc pb (sym eb ∙ h) ∙ sym (skip (sym eb ∙ h))
-    where
-      skip : fails20 pb ≡ false → refusal (permitChecks (shapeOf (catalogueOf cb)) pb) ≡ refusal ((fails21 (permitsOf pb), 21) ∷ (fails22 (shapeOf (catalogueOf cb)) (permitsOf pb), 22) ∷ (fails23 (shapeOf (catalogueOf cb)) (permitsOf pb), 23) ∷ [])
-      skip k = rw k
 
 module _ (cb : List ℕ) (vs : List ℤ) (pb qb rewritten : List ℕ) (cells : List ℤ) where
   abbrev sh : Shape

@@ -1,15 +1,21 @@
-// The guarded call: the permits written into the query, then the rewritten query evaluated.
+// The guarded call: the permits written into the query, and the query answered over the permitted rows.
 use grammar::Layout;
 use queries::Checked;
 use queries::Limits;
 ghost use mathlib.Core.Path.{_≡_};
-ghost use mathlib.Core.Bool.{false};
+ghost use mathlib.Core.Bool.{true, false};
 ghost use Prim.Native.Nat.{_≤_};
 ghost use lib.ListN.{length};
 ghost use Rattle.model.specs.Catalogue.{catalogueOf, shapeOf};
 ghost use Rattle.model.specs.Checks.{fails10, permitChecks, refusal};
-ghost use Rattle.model.specs.Calls.{ask};
-ghost use Rattle.guarded.specs.Outcome.{outcomeOf, Checks32};
+ghost use Rattle.model.specs.Encoding.{queryOf};
+ghost use Rattle.model.specs.Meaning.{answers};
+ghost use Rattle.model.specs.Calls.{give, ask};
+ghost use Rattle.model.specs.Lists.{all};
+ghost use Rattle.scans.specs.Flat.{flatBindings};
+ghost use Rattle.plain.specs.Reply.{answerOf, Answerable};
+ghost use Rattle.permitted.specs.Given.{tiny};
+ghost use Rattle.guarded.specs.Outcome.{outcomeOf, givenRows, Bound, Checks32};
 
 // The number of a refusal, 0 where there is none, and the counts of rows, columns and rewritten bytes.
 pub struct Reply {
@@ -31,21 +37,95 @@ fn refused(number: u8) -> Reply
     }
 }
 
-// 20 to 23, the list alone. A list that passes is read once; for one that does not the checks are made one by one.
+// 20 to 23, the list alone.
 fn check_permits(list: &[u8], catalogue: &[u8]) -> u8
     requires { ⌜ fails10 (now catalogue) ≡ false ⌝ }
     ensures { λ r. ⌜ r ≡ refusal (permitChecks (shapeOf (catalogueOf (now (catalogue .entry)))) (now (list .entry))) ⌝ }
 {
-    if lists::admitted(list, catalogue) {
-        return 0;
-    }
-    if grammar::permits_refused(list) {
-        return 20;
-    }
     permits::check(list, catalogue)
 }
 
-// 33 and 40, then the answer to the rewritten query. It passes its checks (demand 2), and they are not made again.
+// The asker's own query over the permitted rows of its variables, which are found first: nothing of it runs on another row.
+fn answer_many(
+    query: &[u8],
+    z: &[u16],
+    layout: Layout,
+    catalogue: &[u8],
+    values: &[i32],
+    list: &[u8],
+    places: &[usize],
+    masks: &[u8],
+    answer: &mut [i64],
+) -> plain::Reply
+    requires { ⌜ Answerable layout 32 (now query) (now z) (now catalogue) × Bound (now catalogue) (now query) ⌝ }
+    ensures { λ r. ⌜ answerOf r (now (answer .exit)) ≡ give (length (queryOf (now (query .entry)) .targets)) (answers (queryOf (now (query .entry))) (givenRows (now (catalogue .entry)) (now (values .entry)) (now (list .entry)) (now (places .entry)) (now (masks .entry)))) (now (answer .entry)) ⌝ }
+{
+    let mut walks = [0u16; 8256];
+    permitted::fill(query, list, places, masks, catalogue, values, &mut walks);
+    plain::answer_query(query, z, layout, 32, catalogue, &walks, values, answer)
+}
+
+// The same where each bound relation has at most 16 rows: a large table is not cleared for it.
+fn answer_few(
+    query: &[u8],
+    z: &[u16],
+    layout: Layout,
+    catalogue: &[u8],
+    values: &[i32],
+    list: &[u8],
+    places: &[usize],
+    masks: &[u8],
+    answer: &mut [i64],
+) -> plain::Reply
+    requires { ⌜ Answerable layout 32 (now query) (now z) (now catalogue) × Bound (now catalogue) (now query) × (all (tiny (now catalogue)) (flatBindings (now query)) ≡ true) ⌝ }
+    ensures { λ r. ⌜ answerOf r (now (answer .exit)) ≡ give (length (queryOf (now (query .entry)) .targets)) (answers (queryOf (now (query .entry))) (givenRows (now (catalogue .entry)) (now (values .entry)) (now (list .entry)) (now (places .entry)) (now (masks .entry)))) (now (answer .entry)) ⌝ }
+{
+    let mut walks = [0u16; 192];
+    permitted::fill(query, list, places, masks, catalogue, values, &mut walks);
+    plain::answer_query(query, z, layout, 32, catalogue, &walks, values, answer)
+}
+
+fn answer_permitted(
+    query: &[u8],
+    z: &[u16],
+    layout: Layout,
+    catalogue: &[u8],
+    values: &[i32],
+    list: &[u8],
+    places: &[usize],
+    masks: &[u8],
+    answer: &mut [i64],
+) -> plain::Reply
+    requires { ⌜ Answerable layout 32 (now query) (now z) (now catalogue) × Bound (now catalogue) (now query) ⌝ }
+    ensures { λ r. ⌜ answerOf r (now (answer .exit)) ≡ give (length (queryOf (now (query .entry)) .targets)) (answers (queryOf (now (query .entry))) (givenRows (now (catalogue .entry)) (now (values .entry)) (now (list .entry)) (now (places .entry)) (now (masks .entry)))) (now (answer .entry)) ⌝ }
+{
+    if permitted::few(query, catalogue) {
+        return answer_few(
+            query,
+            z,
+            layout,
+            catalogue,
+            values,
+            list,
+            places,
+            masks,
+            answer,
+        );
+    }
+    answer_many(
+        query,
+        z,
+        layout,
+        catalogue,
+        values,
+        list,
+        places,
+        masks,
+        answer,
+    )
+}
+
+// 33 and 40, then the rewritten query, byte by byte, and the answer: the query over the permitted rows gives what the rewritten one gives (demand 2).
 // Which permits apply is found once: 33, the length and the guards are read from the same tables.
 fn answer_query(
     query: &[u8],
@@ -72,7 +152,17 @@ fn answer_query(
         return refused(40);
     }
     rewriter::rewrite_query(query, z, layout, 32, list, &places, &masks, rewritten);
-    let r = plain::evaluate_accepted(catalogue, values, &rewritten[..n], layout, answer);
+    let r = answer_permitted(
+        query,
+        z,
+        layout,
+        catalogue,
+        values,
+        list,
+        &places,
+        &masks,
+        answer,
+    );
     Reply {
         number: r.number,
         rows: r.rows,

@@ -19,7 +19,7 @@ use Rattle.turns.specs.declared.Next.{Next}
 use Rattle.turns.specs.declared.Next.the-variants as N
 use Rattle.turns.specs.After.{ended, modeOf, left, afterTurn, Goes, Within}
 
-pub first-reach : (w : ℕ → Word) (ρ : List Symbol) (fs : List ℕ) (c : ℕ) → 4001 < length fs → modeIn c ≡ 3 → reaches w ρ (set fs 0 c) 1 ≡ ρ ∷ []
+pub first-reach : (w : ℕ → Word) (ρ : List Symbol) (fs : List ℕ) (c : ℕ) → 0 < length fs → modeIn c ≡ 3 → reaches w ρ (set fs 0 c) 1 ≡ ρ ∷ []
 unfolding reaches onto
 first-reach w ρ fs c h e = rw (getD-set-same fs 0 c 0 (omega arith), e)
 

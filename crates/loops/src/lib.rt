@@ -33,7 +33,7 @@ pub fn run(
     at: usize,
     n: usize,
 ) -> End
-    requires { ⌜ (length (now kinds) < 4000) × (4001 < length (now frames)) × (from < 4003) × (n < 4000) × (at < 4611686018427387904) × Counted (now kinds) (now counts) ⌝ }
+    requires { ⌜ (length (now kinds) < 4000) × (length (now kinds) < length (now frames)) × (from < 4003) × (n < 4000) × (at < 4611686018427387904) × Counted (now kinds) (now counts) ⌝ }
     ensures { λ r. ⌜ Ends (now (text .entry)) (table (now (kinds .entry)) (now (starts .entry)) (now (lengths .entry)) (now (numbers .entry))) (entries (now (list .entry))) (map (rangeSymbol (nameIn (now (text .entry)) (now (kinds .entry)) (now (starts .entry)) (now (lengths .entry)))) (now (symbols .entry))) from at n (now (out .entry)) r (now (out .exit)) ⌝ }
     ensures { λ r. ⌜ Last at r ⌝ }
 {

@@ -12,12 +12,13 @@ use lib.Seq.{take-at, take-length, getD-at, drop-at, drop-append-le, take-append
 use borrow.Author.Tests.{leb-true, ltb-true, ltb-false, eq-eqb, ne-eqb}
 use Rattle.model.specs.Lists.{any, concatMap, below, Every}
 use Rattle.model.specs.Syntax.{Query}
-use Rattle.model.specs.Meaning.{Tuple, Rows, targetRow, sameRow, addRow, addRows, qualifying, answers}
+use Rattle.model.specs.Meaning.{Tuple, Rows, answers}
 use Rattle.model.specs.Catalogue.{allRows}
 use Rattle.model.specs.Checks.{Check, askChecks, refusal}
 use Rattle.model.specs.Calls.{Outcome, refuse, give, evaluateUnless, askUnless, ask}
 use Rattle.model.specs.Book.{Row, rowCells, rowsIn, isLabel, displayOf, entryOf, entryFor, Book, bookOf, answerCells, fits, bookAfter, labelBook}
 use Rattle.model.specs.Demands.{BookGrounds, Demand1Book, BookRows, Laid, Demand3Book}
+use Rattle.model.proofs.Width.{answers-wide}
 use Rattle.model.proofs.Tests.{clash}
 use Rattle.model.proofs.Lists.{concatMap-append, every-join}
 use Rattle.model.proofs.Demands.{ask-below, demand-3}
@@ -107,25 +108,6 @@ pub rows-fit : (cb : List ℕ) (vs : List ℤ) (pb qb rewritten : List ℕ) (cel
 unfolding ask
 rows-fit cb vs pb qb rewritten cells = cells-fit _ _ _ rewritten cells
 
--- every row has a cell for each target
-added-rows : (P : List ℤ → Type 0) (rows xs : List (List ℤ)) → Every P rows → Every P xs → Every P (addRows rows xs)
-unfolding addRows addRow Every
-added-rows P rows [] h k = h
-added-rows P rows (x ∷ xs) h k = added-rows P (addRow rows x) xs (go (any (sameRow x) rows)) (k .1)
-  where
-    go : (t : Bool) → Every P (elim t [ true ↦ rows | false ↦ rows ++ (x ∷ []) ])
-    go true = h
-    go false = every-join P rows (x ∷ []) h (k .0, tt)
-
-mapped-rows : {A : Type 0} (P : List ℤ → Type 0) (f : A → List ℤ) → ((a : A) → P (f a)) → (xs : List A) → Every P (map f xs)
-unfolding Every
-mapped-rows P f h [] = tt
-mapped-rows P f h (x ∷ xs) = (h x, mapped-rows P f h xs)
-
-whole-rows : (q : Query) (R : Rows) → Every (λ (x : List ℤ). length x ≡ length (q .targets)) (answers q R)
-unfolding answers targetRow Every
-whole-rows q R = added-rows _ [] _ tt (mapped-rows (λ (x : List ℤ). length x ≡ length (q .targets)) (targetRow (q .targets) R) (λ e. length-map (q .targets) _) (qualifying q R))
-
 -- rows of three cells, one after the other, are read back
 read-row : (x ys : List ℤ) → length x ≡ 3 → map rowCells (rowsIn (x ++ ys)) ≡ x ∷ map rowCells (rowsIn ys)
 unfolding rowsIn
@@ -158,7 +140,7 @@ given-rows xs cells w e =
 
 rows-asked : (n : ℕ) (q : Query) (D : ℕ → List Tuple) (rewritten : List ℕ) (cells : List ℤ) → let o = askUnless n q D rewritten cells in o .answer .number ≡ 0 → o .answer .columns ≡ 3 → map rowCells (rowsIn (answerCells o)) ≡ answers q (allRows D)
 unfolding askUnless evaluateUnless give
-rows-asked zero q D rewritten cells e w = subst (ReadBack (answers q (allRows D)) cells) (sym w) (given-rows (answers q (allRows D)) cells) (whole-rows q (allRows D)) e
+rows-asked zero q D rewritten cells e w = subst (ReadBack (answers q (allRows D)) cells) (sym w) (given-rows (answers q (allRows D)) cells) (answers-wide q (allRows D)) e
 rows-asked (suc n) q D rewritten cells e w = absurd (omega arith)
 
 pub book-rows : BookRows

@@ -1,14 +1,15 @@
 -- A query sees of each variable's rows only the attributes that it uses.
 use Prim.Native.Nat.{ℕ}
 use mathlib.Core.Bool.{Bool, true, false, not, cond, _&&_, _||_}
+use mathlib.Core.Option.{Option, none, some}
 use mathlib.Core.List.{List, [], _∷_, _++_, map, map-map}
 use mathlib.Core.Path.{_≡_, refl, sym, _∙_, ap, ap₂, fun-ext}
 use lib.Dec.{eqb}
 use lib.IntN.{ℤ, pos}
 use borrow.Author.Tests.{eqb-true}
-use Rattle.model.specs.Lists.{update, filter, any, concatMap, Every}
+use Rattle.model.specs.Lists.{update, filter, any, concatMap, Every, present}
 use Rattle.model.specs.Syntax.{Condition, Term, TRUE, FALSE, NOT, AND, OR, COMPARE, SOME, CONSTANT, ATTRIBUTE, AGGREGATE, Binding, Use, Query, uses, usesT, usesQ}
-use Rattle.model.specs.Meaning.{Tuple, Assignment, Rows, Ratio, whole, compare, aggregate, holds, value, assignments, unbound, cell, targetRow, addRows, qualifying, answers}
+use Rattle.model.specs.Meaning.{Tuple, Assignment, Rows, whole, compare, aggregate, holds, value, assignments, unbound, withCell, targetRow, addRows, qualifying, rowsMet, answers}
 use Rattle.model.proofs.Lists.{any-map, filter-map, concatMap-map, map-concatMap, every-append}
 
 -- a use is in S
@@ -55,7 +56,7 @@ module _ (S : ℕ → ℕ → Bool) where
 
       pub cut-value : (t : Term) (e : Assignment) → Every (In S) (usesT t) → value t R e ≡ value t (cutRows R) (cutAssignment e)
       cut-value (CONSTANT a b c d) e u = refl
-      cut-value (ATTRIBUTE v a) e u = ap whole (sym (masked-in v a (e v) (u .0)))
+      cut-value (ATTRIBUTE v a) e u = ap (λ (z : ℤ). some (whole z)) (sym (masked-in v a (e v) (u .0)))
       cut-value (AGGREGATE f v r a c) e u =
           ap (aggregate f)
           (ap (λ (p : Tuple → Bool). map (λ (x : Tuple). x a) (filter p (R v r))) (fun-ext λ x. cut-holds c (update e v x) (u .1) ∙ ap (holds c (cutRows R)) (cut-update e v x))
@@ -68,7 +69,7 @@ module _ (S : ℕ → ℕ → Bool) where
     cut-row [] e u = refl
     cut-row (t ∷ ts) e u =
         let i = every-append (In S) (usesT t) (concatMap usesT ts) u in
-        ap₂ (λ (x : Ratio) (xs : List ℤ). cell x ∷ xs) (cut-value t e (i .0)) (cut-row ts e (i .1))
+        ap₂ withCell (cut-value t e (i .0)) (cut-row ts e (i .1))
 
     pub cut-assign : (bs : List Binding) (e : Assignment) → map cutAssignment (assignments bs R e) ≡ assignments bs (cutRows R) (cutAssignment e)
     unfolding assignments cutRows
@@ -78,10 +79,10 @@ module _ (S : ℕ → ℕ → Bool) where
         ∙ ap (λ (h : Tuple → List Assignment). concatMap h (R (b .variable) (b .relation))) (fun-ext λ x. cut-assign bs (update e (b .variable) x) ∙ ap (assignments bs (cutRows R)) (cut-update e (b .variable) x))
         ∙ sym (concatMap-map (masked (S (b .variable))) (λ _. true) (λ x. assignments bs (cutRows R) (update (cutAssignment e) (b .variable) x)) (R (b .variable) (b .relation)))
 
-    pub cut-answers : (q : Query) → Every (In S) (usesQ q) → answers q R ≡ addRows [] (map (targetRow (q .targets) (cutRows R)) (filter (holds (q .condition) (cutRows R)) (assignments (q .ranges) (cutRows R) (cutAssignment unbound))))
-    unfolding answers qualifying usesQ
-    cut-answers q u = let i = every-append (In S) (concatMap usesT (q .targets)) (uses (q .condition)) u in ap (addRows [])
-        (ap₂ (λ (h : Assignment → List ℤ) (p : Assignment → Bool). map h (filter p (assignments (q .ranges) R unbound)))
+    pub cut-answers : (q : Query) → Every (In S) (usesQ q) → answers q R ≡ addRows [] (present (map (targetRow (q .targets) (cutRows R)) (filter (holds (q .condition) (cutRows R)) (assignments (q .ranges) (cutRows R) (cutAssignment unbound)))))
+    unfolding answers rowsMet qualifying usesQ
+    cut-answers q u = let i = every-append (In S) (concatMap usesT (q .targets)) (uses (q .condition)) u in ap (λ (rows : List (Option (List ℤ))). addRows [] (present rows))
+        (ap₂ (λ (h : Assignment → Option (List ℤ)) (p : Assignment → Bool). map h (filter p (assignments (q .ranges) R unbound)))
         (fun-ext λ e. cut-row (q .targets) e (i .0))
         (fun-ext λ e. cut-holds (q .condition) e (i .1))
         ∙ sym (map-map (targetRow (q .targets) (cutRows R)) cutAssignment (filter (λ e. holds (q .condition) (cutRows R) (cutAssignment e)) (assignments (q .ranges) R unbound)))

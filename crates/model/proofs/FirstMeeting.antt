@@ -10,7 +10,7 @@ use lib.ListN.{length, getD, length-append, List·getD-append}
 use lib.Seq.{getD-at}
 use borrow.Author.Tests.{ltb-true, ltb-false}
 use Rattle.model.specs.Lists.{any}
-use Rattle.model.specs.Meaning.{Rows, targetRow, sameRow, addRow, addRows, qualifying, answers}
+use Rattle.model.specs.Meaning.{Rows, sameRow, addRow, addRows, rowsMet, answers}
 use Rattle.model.specs.Syntax.{Query}
 use Rattle.model.specs.Demands.{FirstAt, FirstMeeting, InOrder}
 use Rattle.model.proofs.Tests.{clash, or-inv, or-no}
@@ -147,7 +147,7 @@ first-meeting q R = record {
 }
   where
     met : List Row
-    met = map (targetRow (q .targets) R) (qualifying q R)
+    met = rowsMet q R
 
     k : Kept met (answers q R)
     k = kept-rows [] [] met (record { from = λ i l. absurd (omega arith); into = λ k l. absurd (omega arith); rising = λ i j k l a b f g. absurd (omega arith) })

@@ -12,7 +12,7 @@ use borrow.Author.Tests.{leb-true, le-leb, le-ltb}
 use Rattle.model.specs.Lists.{filter, any, concatMap, Every}
 use Rattle.model.specs.Syntax.{Binding, Query, Permit, bindingsQ}
 use Rattle.model.specs.Encoding.{encodeQuery, queryOf, permitsOf}
-use Rattle.model.specs.Meaning.{Tuple, Rows, targetRow, sameRow, addRow, addRows, qualifying, answers}
+use Rattle.model.specs.Meaning.{Tuple, Rows, answers}
 use Rattle.model.specs.Catalogue.{catalogueOf, Shape, shapeOf, storedAt, tuplesAt}
 use Rattle.model.specs.Permits.{usedOf, noAccess, applies, bars, guardOf, guardsOf, meets, allowed, permitted}
 use Rattle.model.specs.Checks.{served, fails33, rewrittenBytes, fails40, permitChecks, queryChecks, guardChecks, shapeChecks, askChecks, refusal}
@@ -22,6 +22,7 @@ use Rattle.model.proofs.Tests.{and-inv, and-intro, or-inv, or-left, or-
 use Rattle.model.proofs.Lists.{any-filter, any-map, any-weaken, all-weaken, any-skip, every-join, Within, within-insert}
 use Rattle.model.proofs.Passed.{Passed, passed}
 use Rattle.model.proofs.Grounds.{refusal-skip, passes-refusal}
+use Rattle.model.proofs.Width.{Wide, answers-wide}
 use Rattle.model.proofs.Monotone.{more-answers, within-included}
 use Rattle.model.proofs.Demands.{given, refused, kept-refusal, passes-kept, shape-passes, over-permitted}
 
@@ -71,9 +72,6 @@ module _ (sh : Shape) (q : Query) (xs : List Permit) (p : Permit) (ys : List Per
     still-33 h = ap not (all-weaken (served sh (xs ++ ys) q) (served sh (xs ++ (p ∷ ys)) q) still-served (bindingsQ q) (not-no _ h))
 
 -- the rows of an answer stand in its buffer
-abbrev Wide : ℕ → List ℤ → Type 0
-Wide k x = length x ≡ k
-
 read-back : (k : ℕ) (rows : List (List ℤ)) (rest : List ℤ) → Every (Wide k) rows → rowsFrom (length rows) k (concatMap (λ r. r) rows ++ rest) ≡ rows
 unfolding rowsFrom concatMap Every
 read-back k [] rest w = refl
@@ -101,25 +99,6 @@ module _ (k : ℕ) (rows : List (List ℤ)) (cells : List ℤ) where
   give-rows h w =
       let e : min (length rows) (length cells / k) ≡ length rows = omega arith in
       rw (e, take-length rows) (read-back k rows (drop (length rows * k) cells) w)
-
--- each row of an answer has a cell for each target
-module _ (P : List ℤ → Type 0) where
-  every-addRow : (rows : List (List ℤ)) (x : List ℤ) → Every P rows → P x → Every P (addRow rows x)
-  unfolding addRow Every
-  every-addRow rows x h k = go (any (sameRow x) rows)
-    where
-      go : (b : Bool) → Every P (elim b [ true ↦ rows | false ↦ rows ++ (x ∷ []) ])
-      go true = h
-      go false = every-join P rows (x ∷ []) h (k, tt)
-
-  every-addRows : {A : Type 0} (f : A → List ℤ) → ((a : A) → P (f a)) → (rows : List (List ℤ)) (es : List A) → Every P rows → Every P (addRows rows (map f es))
-  unfolding addRows
-  every-addRows f k rows [] h = h
-  every-addRows f k rows (a ∷ es) h = every-addRows f k (addRow rows (f a)) es (every-addRow rows (f a) h (k a))
-
-answers-wide : (q : Query) (R : Rows) → Every (Wide (length (q .targets))) (answers q R)
-unfolding answers targetRow Every
-answers-wide q R = every-addRows (Wide (length (q .targets))) (targetRow (q .targets) R) (λ e. length-map (q .targets) _) [] (qualifying q R) tt
 
 -- an accepted call: its checks passed, its rows fit and stand in the buffer
 module _ (cb : List ℕ) (vs : List ℤ) (pb qb rewritten : List ℕ) (cells : List ℤ) where

@@ -27,3 +27,4 @@ pub mod Book
 pub mod BookExamples
 pub mod Shelf
 pub mod Largest
+pub mod Width

@@ -5,7 +5,7 @@ use native.Mathlib.Omega.{arith}
 use mathlib.Core.Bool.{Bool, true, false, cond, _&&_, _||_}
 use mathlib.Core.List.{List, [], _∷_, _++_, map, map-append, append-assoc}
 use mathlib.Core.Path.{_≡_, refl, sym, _∙_, ap}
-use Rattle.model.specs.Lists.{consIf, filter, any, all, concatMap, total, Every}
+use Rattle.model.specs.Lists.{consIf, filter, any, all, concatMap, total, backwards, Every}
 use Rattle.model.proofs.Tests.{and-inv, and-intro, or-inv, or-left, or-right, any-append}
 
 module _ {A : Type 0} (f g : A → Bool) where
@@ -167,3 +167,14 @@ module _ {A : Type 0} where
   unfolding any
   within-insert [] y ys f h = or-right (f y) (any f ys) h
   within-insert (x ∷ xs) y ys f h = or-inv (f x) (any f (xs ++ ys)) h (λ e. or-left (f x) (any f (xs ++ (y ∷ ys))) e) (λ e. or-right (f x) (any f (xs ++ (y ∷ ys))) (within-insert xs y ys f e))
+
+-- from the last to the first
+pub backwards-last : {A : Type 0} (xs : List A) (y : A) → backwards (xs ++ (y ∷ [])) ≡ y ∷ backwards xs
+unfolding backwards
+backwards-last [] y = refl
+backwards-last (x ∷ xs) y = ap (λ l. l ++ (x ∷ [])) (backwards-last xs y)
+
+pub map-backwards : {A B : Type 0} (f : A → B) (xs : List A) → map f (backwards xs) ≡ backwards (map f xs)
+unfolding backwards
+map-backwards f [] = refl
+map-backwards f (x ∷ xs) = map-append f (backwards xs) (x ∷ []) ∙ ap (λ l. l ++ (f x ∷ [])) (map-backwards f xs)

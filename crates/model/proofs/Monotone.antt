@@ -1,6 +1,7 @@
 -- A query without NOT and aggregates is monotone: over more rows it has no fewer answers.
 use Prim.Native.Nat.{ℕ}
 use mathlib.Core.Bool.{Bool, true, false, _&&_, _||_}
+use mathlib.Core.Option.{Option, none, some}
 use mathlib.Core.List.{List, [], _∷_, _++_, map}
 use mathlib.Core.Path.{_≡_, refl, sym, _∙_, ap, ap₂, subst}
 use native.Mathlib.Omega.{arith}
@@ -8,9 +9,9 @@ use native.Mathlib.Nat.{le-antisymm}
 use lib.IntN.{ℤ, pos, negsuc}
 use lib.Signed.{leZ}
 use borrow.Author.Tests.{leb-true, le-leb}
-use Rattle.model.specs.Lists.{update, filter, any, all}
+use Rattle.model.specs.Lists.{update, filter, any, all, present}
 use Rattle.model.specs.Syntax.{Condition, Term, TRUE, FALSE, NOT, AND, OR, COMPARE, SOME, CONSTANT, ATTRIBUTE, AGGREGATE, Binding, Query}
-use Rattle.model.specs.Meaning.{Tuple, Assignment, Rows, Ratio, compare, holds, value, assignments, unbound, cell, targetRow, sameRow, addRow, addRows, qualifying, answers}
+use Rattle.model.specs.Meaning.{Tuple, Assignment, Rows, compare, holds, value, assignments, unbound, withCell, targetRow, sameRow, addRow, addRows, qualifying, rowsMet, answers}
 use Rattle.model.specs.Demands.{noAggregate, positive, positiveQ, included}
 use Rattle.model.proofs.Tests.{clash, and-inv, and-intro, or-inv, or-left, or-right, or-false, or-assoc, any-append}
 use Rattle.model.proofs.Lists.{any-filter, any-map, any-weaken, any-concatMap, Within}
@@ -41,6 +42,17 @@ unfolding sameRow
 same-refl [] = refl
 same-refl (a ∷ x) = rw (cell-same a) (same-refl x)
 
+-- of a row that is there
+abbrev there : (List ℤ → Bool) → Option (List ℤ) → Bool
+there f none = false
+there f (some x) = f x
+
+any-present : (f : List ℤ → Bool) (xs : List (Option (List ℤ))) → any f (present xs) ≡ any (there f) xs
+unfolding any present
+any-present f [] = refl
+any-present f (none ∷ xs) = any-present f xs
+any-present f (some x ∷ xs) = ap (λ b. f x || b) (any-present f xs)
+
 -- dropping equal rows drops no row of the set
 module _ (f : List ℤ → Bool) where
   any-same : (x : List ℤ) (rows : List (List ℤ)) → any (sameRow x) rows ≡ true → f x ≡ true → any f rows ≡ true
@@ -65,13 +77,14 @@ module _ (f : List ℤ → Bool) where
   any-addRows rows (x ∷ xs) = any-addRows (addRow rows x) xs ∙ ap (λ b. b || any f xs) (any-addRow x rows) ∙ or-assoc (any f rows) (f x) (any f xs)
 
   -- a row of the answer is that of a qualifying assignment, and the other way round
-  any-answers : (q : Query) (R : Rows) → any f (answers q R) ≡ any (λ e. f (targetRow (q .targets) R e) && holds (q .condition) R e) (assignments (q .ranges) R unbound)
-  unfolding answers qualifying any
+  any-answers : (q : Query) (R : Rows) → any f (answers q R) ≡ any (λ e. there f (targetRow (q .targets) R e) && holds (q .condition) R e) (assignments (q .ranges) R unbound)
+  unfolding answers rowsMet qualifying any
   any-answers q R =
       let h = targetRow (q .targets) R in
-      any-addRows [] (map h (filter (holds (q .condition) R) (assignments (q .ranges) R unbound)))
-      ∙ any-map h f (filter (holds (q .condition) R) (assignments (q .ranges) R unbound))
-      ∙ sym (any-filter (λ e. f (h e)) (holds (q .condition) R) (assignments (q .ranges) R unbound))
+      any-addRows [] (present (map h (filter (holds (q .condition) R) (assignments (q .ranges) R unbound))))
+      ∙ any-present f (map h (filter (holds (q .condition) R) (assignments (q .ranges) R unbound)))
+      ∙ any-map h (there f) (filter (holds (q .condition) R) (assignments (q .ranges) R unbound))
+      ∙ sym (any-filter (λ e. there f (h e)) (holds (q .condition) R) (assignments (q .ranges) R unbound))
 
 -- two families of rows, the second with more
 module _ (R R′ : Rows) (more : (v r : ℕ) → Within (R v r) (R′ v r)) where
@@ -86,7 +99,7 @@ module _ (R R′ : Rows) (more : (v r : ℕ) → Within (R v r) (R′ v r)) wher
   plain-row [] e n = refl
   plain-row (t ∷ ts) e n =
       let i = and-inv (noAggregate t) (all noAggregate ts) n in
-      ap₂ (λ (x : Ratio) (xs : List ℤ). cell x ∷ xs) (plain-value t e (i .0)) (plain-row ts e (i .1))
+      ap₂ withCell (plain-value t e (i .0)) (plain-row ts e (i .1))
 
   -- a condition that holds goes on holding
   more-holds : (c : Condition) (e : Assignment) → positive c ≡ true → holds c R e ≡ true → holds c R′ e ≡ true
@@ -121,11 +134,11 @@ module _ (R R′ : Rows) (more : (v r : ℕ) → Within (R v r) (R′ v r)) wher
   unfolding positiveQ
   more-answers q n f h =
       let i = and-inv (all noAggregate (q .targets)) (positive (q .condition)) n in
-      let t : Rows → Assignment → Bool = λ S e. f (targetRow (q .targets) S e) && holds (q .condition) S e in
+      let t : Rows → Assignment → Bool = λ S e. there f (targetRow (q .targets) S e) && holds (q .condition) S e in
       let step : (e : Assignment) → t R e ≡ true → t R′ e ≡ true =
       λ e k.
-      let j = and-inv (f (targetRow (q .targets) R e)) (holds (q .condition) R e) k in
-      and-intro (f (targetRow (q .targets) R′ e)) (holds (q .condition) R′ e) (ap f (sym (plain-row (q .targets) e (i .0))) ∙ j .0) (more-holds (q .condition) e (i .1) (j .1)) in
+      let j = and-inv (there f (targetRow (q .targets) R e)) (holds (q .condition) R e) k in
+      and-intro (there f (targetRow (q .targets) R′ e)) (holds (q .condition) R′ e) (ap (there f) (sym (plain-row (q .targets) e (i .0))) ∙ j .0) (more-holds (q .condition) e (i .1) (j .1)) in
       any-answers f q R′
       ∙ more-assignments (q .ranges) unbound (t R′) (any-weaken (t R) (t R′) step (assignments (q .ranges) R unbound) (sym (any-answers f q R) ∙ h))
 

@@ -1,15 +1,16 @@
 -- Non-interference: the answer over the permitted rows depends on their used attributes alone.
 use Prim.Native.Nat.{ℕ, zero, suc, _+_, _<_, _≤_}
 use mathlib.Core.Bool.{Bool, true, false, not, cond, _&&_, _||_}
+use mathlib.Core.Option.{Option, none, some}
 use mathlib.Core.List.{List, [], _∷_, _++_, map, map-map}
 use mathlib.Core.Path.{_≡_, refl, sym, _∙_, ap, ap₂, fun-ext}
 use native.Mathlib.Omega.{arith}
 use lib.Dec.{eqb}
 use lib.IntN.{ℤ, pos}
 use borrow.Author.Tests.{eq-eqb, eqb-true, eqb-false}
-use Rattle.model.specs.Lists.{update, consIf, filter, any, concatMap, contains, below, Every}
+use Rattle.model.specs.Lists.{update, consIf, filter, any, concatMap, contains, below, Every, present}
 use Rattle.model.specs.Syntax.{Condition, Term, TRUE, FALSE, NOT, AND, OR, COMPARE, SOME, CONSTANT, ATTRIBUTE, AGGREGATE, Binding, Use, Query, bindings, bindingsT, bindingsQ, usesQ}
-use Rattle.model.specs.Meaning.{Tuple, Assignment, Rows, Ratio, whole, compare, aggregate, holds, value, assignments, unbound, cell, targetRow, addRows, qualifying, answers}
+use Rattle.model.specs.Meaning.{Tuple, Assignment, Rows, whole, compare, aggregate, holds, value, assignments, unbound, withCell, targetRow, addRows, qualifying, rowsMet, answers}
 use Rattle.model.specs.Catalogue.{Shape, allRows}
 use Rattle.model.specs.Permits.{usedOf, Guards, permitted, cut}
 use Rattle.model.specs.Rewriting.{rewriteQuery}
@@ -44,7 +45,7 @@ module _ (R R′ : Rows) where
   same-row [] e h = refl
   same-row (t ∷ ts) e h =
       let i = every-append Agree (bindingsT t) (concatMap bindingsT ts) h in
-      ap₂ (λ (x : Ratio) (xs : List ℤ). cell x ∷ xs) (same-value t e (i .0)) (same-row ts e (i .1))
+      ap₂ withCell (same-value t e (i .0)) (same-row ts e (i .1))
 
   pub same-assign : (bs : List Binding) (e : Assignment) → Every Agree bs → assignments bs R e ≡ assignments bs R′ e
   unfolding assignments Every
@@ -159,8 +160,8 @@ non-interference sh D D′ G sane q s k h =
     let j = every-append (Agree R R′) (concatMap bindingsT (q .targets)) (bindings (q .condition)) (i .1) in
     rewritten-answers sh D G sane q s
     ∙ cut-answers S (permitted D G) q (query-uses q)
-    ∙ ap (addRows []) (
-    ap₂ (λ (f : Assignment → List ℤ) (p : Assignment → Bool). map f (filter p (assignments (q .ranges) R (cutAssignment S unbound)))) (fun-ext λ e. same-row R R′ (q .targets) e (j .0)) (fun-ext λ e. same-holds R R′ (q .condition) e (j .1))
+    ∙ ap (λ (rows : List (Option (List ℤ))). addRows [] (present rows)) (
+    ap₂ (λ (f : Assignment → Option (List ℤ)) (p : Assignment → Bool). map f (filter p (assignments (q .ranges) R (cutAssignment S unbound)))) (fun-ext λ e. same-row R R′ (q .targets) e (j .0)) (fun-ext λ e. same-holds R R′ (q .condition) e (j .1))
     ∙ ap (λ (l : List Assignment). map (targetRow (q .targets) R′) (filter (holds (q .condition) R′) l)) (same-assign R R′ (q .ranges) (cutAssignment S unbound) (i .0)))
     ∙ sym (cut-answers S (permitted D′ G) q (query-uses q))
     ∙ sym (rewritten-answers sh D′ G sane q s)

@@ -303,14 +303,14 @@ unfolding readCatalogue Narrows
 catalogue-narrow zero bs xs r h = never xs r h
 catalogue-narrow (suc n) [] xs r h = let e : [] ≡ xs = cc in subst Narrows e tt
 catalogue-narrow (suc n) (k ∷ bs) xs r h =
-    need-inv xs r (eqb k 48 || eqb k 49) _ h λ w h₁.
+    need-inv xs r (eqb k 48 || eqb k 49 || eqb k 50) _ h λ w h₁.
     byte-inv xs r bs _ h₁ λ c s e h₂.
     need-inv xs r (leb 1 c && leb c 16) _ h₂ λ w₁ h₃.
     byte-inv xs r s _ h₃ λ a s₁ e₁ h₄.
     byte-inv xs r s₁ _ h₄ λ b s₂ e₂ h₅.
     need-inv xs r (leb (a + 256 * b) 1024) _ h₅ λ w₂ h₆.
     then-inv xs r (readCatalogue n s₂) _ h₆ λ ys s₃ e₃ h₇.
-    let p : record { stored = eqb k 48; attributes = c; rows = a + 256 * b } ∷ ys ≡ xs = ok-inj h₇ in
+    let p : record { stored = not (eqb k 49); latest = eqb k 50; attributes = c; rows = a + 256 * b } ∷ ys ≡ xs = ok-inj h₇ in
     subst Narrows p (leb-true c 16 (and-inv (leb 1 c) (leb c 16) w₁ .1), catalogue-narrow n s₂ ys s₃ e₃)
   where
     ok-inj : {A : Type 0} {a b : A} {r s : List ℕ} → ok a r ≡ ok b s → a ≡ b

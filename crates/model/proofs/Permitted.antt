@@ -1,14 +1,15 @@
 -- The rewritten query over all rows means what the query means over the permitted rows.
 use Prim.Native.Nat.{ℕ, zero, suc, _+_, _<_, _≤_}
 use mathlib.Core.Bool.{Bool, true, false, not, cond, _&&_, _||_}
+use mathlib.Core.Option.{Option, none, some}
 use mathlib.Core.List.{List, [], _∷_, _++_, map}
 use mathlib.Core.Path.{_≡_, refl, sym, _∙_, ap, ap₂, fun-ext}
 use native.Mathlib.Omega.{arith}
 use lib.IntN.{ℤ}
 use lib.ListN.{length}
-use Rattle.model.specs.Lists.{update, filter, any, concatMap, total, Every}
+use Rattle.model.specs.Lists.{update, filter, any, concatMap, total, Every, present}
 use Rattle.model.specs.Syntax.{Condition, Term, TRUE, FALSE, NOT, AND, OR, COMPARE, SOME, CONSTANT, ATTRIBUTE, AGGREGATE, Binding, Query, bindings, bindingsT, bindingsQ}
-use Rattle.model.specs.Meaning.{Tuple, Assignment, Rows, Ratio, whole, compare, aggregate, holds, value, assignments, unbound, cell, targetRow, addRows, qualifying, answers}
+use Rattle.model.specs.Meaning.{Tuple, Assignment, Rows, whole, compare, aggregate, holds, value, assignments, unbound, withCell, targetRow, addRows, qualifying, rowsMet, answers}
 use Rattle.model.specs.Catalogue.{Shape, allRows}
 use Rattle.model.specs.Permits.{Guard, free, only, Guards, meets, allowed, permitted}
 use Rattle.model.specs.Rewriting.{copyFor, disjunction, newIn, guarded, newFor, rewrite, rewriteT, rewriteTargets, guardRanges, rewriteQuery}
@@ -82,7 +83,7 @@ module _ (sh : Shape) (D : ℕ → List Tuple) where
     rewrite-row [] n e s h = refl
     rewrite-row (t ∷ ts) n e s h =
         let i = every-append Low (bindingsT t) (concatMap bindingsT ts) s in
-        ap₂ (λ (x : Ratio) (xs : List ℤ). cell x ∷ xs) (rewrite-value t n e (i .0) h) (rewrite-row ts (n + newFor G (bindingsT t)) e (i .1) (omega arith))
+        ap₂ withCell (rewrite-value t n e (i .0) h) (rewrite-row ts (n + newFor G (bindingsT t)) e (i .1) (omega arith))
 
     -- the odometer leaves the other variables alone
     assignments-keep : (v : ℕ) (F : Tuple → Assignment → Bool) (R : Rows) (bs : List Binding) (e : Assignment) → Every (λ (b : Binding). v ≡ b .variable → ⊥) bs
@@ -117,10 +118,10 @@ module _ (sh : Shape) (D : ℕ → List Tuple) where
         ∙ sym (filter-concatMap f (λ x. assignments bs (permitted D G) (update e v x)) (filter (allowed D g) (D (b .relation))))
 
     pub rewritten-answers : (q : Query) → Sound q → answers (rewriteQuery G q) (allRows D) ≡ answers q (permitted D G)
-    unfolding answers qualifying rewriteQuery
+    unfolding answers rowsMet qualifying rewriteQuery
     rewritten-answers q s =
         let n = 8 + newFor G (concatMap bindingsT (q .targets)) in
-        ap₂ (λ (h : Assignment → List ℤ) (l : List Assignment). addRows [] (map h l))
+        ap₂ (λ (h : Assignment → Option (List ℤ)) (l : List Assignment). addRows [] (present (map h l)))
         (fun-ext λ e. rewrite-row (q .targets) 8 e (s .low-targets) (omega arith))
         (ranges-hold (q .ranges) (n + newFor G (bindings (q .condition))) (rewrite G (q .condition) n) (holds (q .condition) (permitted D G)) unbound (s .differ) (s .low-ranges) (omega arith)
         (λ e. rewrite-holds (q .condition) n e (s .low-condition) (omega arith)))

@@ -53,7 +53,7 @@ module _ (D : ℕ → List Tuple) (ρ : ℕ → ℕ) where
 
     pub rename-value : (t : Term) (e e′ : Assignment) → Every (Apart ρ) (bindingsT t) → ((w : ℕ) → e w ≡ e′ (ρ w)) → value (renameT ρ t) (allRows D) e′ ≡ value t (allRows D) e
     rename-value (CONSTANT a b c d) e e′ k h = refl
-    rename-value (ATTRIBUTE v a) e e′ k h = ap (λ (x : Tuple). whole (x a)) (sym (h v))
+    rename-value (ATTRIBUTE v a) e e′ k h = ap (λ (x : Tuple). some (whole (x a))) (sym (h v))
     rename-value (AGGREGATE f v r a c) e e′ k h =
         ap (λ (p : Tuple → Bool). aggregate f (map (λ (x : Tuple). x a) (filter p (D r))))
         (fun-ext λ x. rename-holds c (update e v x) (update e′ (ρ v) x) (k .1) (update-renamed ρ e e′ v x (k .0) h))

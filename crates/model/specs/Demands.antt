@@ -18,7 +18,7 @@ use lib.ListN.{length, take, drop, getD}
 use Rattle.model.specs.Lists.{any, all, concatMap, contains, Every}
 use Rattle.model.specs.Syntax.{Condition, Term, TRUE, FALSE, NOT, AND, OR, COMPARE, SOME, CONSTANT, ATTRIBUTE, AGGREGATE, Binding, Query, Permit, WellFormedQ, WellFormedPs, bindingsQ}
 use Rattle.model.specs.Encoding.{encodeQuery, encodePermits, ok, readQuery, queryOf, permitsOf, permitsRead}
-use Rattle.model.specs.Meaning.{Rows, targetRow, sameRow, qualifying, answers}
+use Rattle.model.specs.Meaning.{Rows, sameRow, rowsMet, answers}
 use Rattle.model.specs.Catalogue.{catalogueOf, shapeOf, tuplesAt, allRows}
 use Rattle.model.specs.Permits.{usedOf, noAccess, Guards, guardsOf, permitted, cut}
 use Rattle.model.specs.Rewriting.{rewriteQuery}
@@ -76,7 +76,7 @@ pub record FirstMeeting (met kept : List (List ℤ)) : Type 0 where
 
 -- the rows met are those of the assignments that meet the condition, in the odometer's order
 abbrev pub InOrder : Type 0
-InOrder = (q : Query) (R : Rows) → FirstMeeting (map (targetRow (q .targets) R) (qualifying q R)) (answers q R)
+InOrder = (q : Query) (R : Rows) → FirstMeeting (rowsMet q R) (answers q R)
 
 -- ONE CALL OF ASK: what the demands say of it
 module _ (cb : List ℕ) (vs : List ℤ) (pb qb rewritten : List ℕ) (cells : List ℤ) where

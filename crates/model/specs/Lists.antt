@@ -2,6 +2,7 @@
 use Prim.Native.Nat.{ℕ, zero, suc, _+_}
 use mathlib.Core.Bool.{Bool, true, false, not, cond, _&&_, _||_}
 use mathlib.Core.List.{List, [], _∷_, _++_}
+use mathlib.Core.Option.{Option, none, some}
 use lib.Dec.{eqb}
 
 -- the map e, with x at v
@@ -16,6 +17,12 @@ unfoldable pub filter : {A : Type 0} → (A → Bool) → List A → List A
 filter p [] = []
 filter p (x ∷ xs) = consIf (p x) x (filter p xs)
 
+-- what there is
+unfoldable pub present : {A : Type 0} → List (Option A) → List A
+present [] = []
+present (none ∷ xs) = present xs
+present (some x ∷ xs) = x ∷ present xs
+
 unfoldable pub any : {A : Type 0} → (A → Bool) → List A → Bool
 any p [] = false
 any p (x ∷ xs) = p x || any p xs
@@ -27,6 +34,11 @@ all p (x ∷ xs) = p x && all p xs
 unfoldable pub concatMap : {A B : Type 0} → (A → List B) → List A → List B
 concatMap f [] = []
 concatMap f (x ∷ xs) = f x ++ concatMap f xs
+
+-- from the last to the first
+unfoldable pub backwards : {A : Type 0} → List A → List A
+backwards [] = []
+backwards (x ∷ xs) = backwards xs ++ (x ∷ [])
 
 -- the sum of f over a list
 unfoldable pub total : {A : Type 0} → (A → ℕ) → List A → ℕ

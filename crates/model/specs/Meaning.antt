@@ -2,11 +2,12 @@
 use Prim.Native.Nat.{ℕ, zero, suc, _+_, _*_, _-_, _/_}
 use mathlib.Core.Bool.{Bool, true, false, not, cond, _&&_, _||_}
 use mathlib.Core.List.{List, [], _∷_, _++_, map}
+use mathlib.Core.Option.{Option, none, some}
 use lib.IntN.{ℤ, pos, negℤ, natAbs, _+ℤ_, _*ℤ_, _-ℤ_}
 use lib.Signed.{ltZ, leZ, nonNeg}
 use lib.ListN.{length}
 use lib.Dec.{ltb, eqb}
-use Rattle.model.specs.Lists.{update, filter, any, concatMap}
+use Rattle.model.specs.Lists.{update, filter, any, concatMap, present}
 use Rattle.model.specs.Syntax.{Condition, Term, TRUE, FALSE, NOT, AND, OR, COMPARE, SOME, CONSTANT, ATTRIBUTE, AGGREGATE, Binding, Query}
 
 -- a tuple: the value of each attribute
@@ -21,13 +22,17 @@ Assignment = ℕ → Tuple
 abbrev pub Rows : Type 0
 Rows = ℕ → ℕ → List Tuple
 
--- a value, exact: numerator over denominator
+-- a number, exact: numerator over denominator
 pub record Ratio : Type 0 where
   pub numerator : ℤ
   pub denominator : ℕ
 
 abbrev pub whole : ℤ → Ratio
 whole z = record { numerator = z; denominator = 1 }
+
+-- the value of a term: a number, or nothing (document 02, change 2)
+abbrev pub Value : Type 0
+Value = Option Ratio
 
 -- a target's cell, as tills round: the nearest whole number, halves away from zero (document 02, change 4)
 unfoldable pub cell : Ratio → ℤ
@@ -50,26 +55,28 @@ unfoldable pub bestFrom : (ℤ → ℤ → Bool) → ℤ → List ℤ → ℤ
 bestFrom beaten m [] = m
 bestFrom beaten m (x ∷ xs) = bestFrom beaten (cond (beaten m x) x m) xs
 
-unfoldable pub best : (ℤ → ℤ → Bool) → List ℤ → ℤ
-best beaten [] = pos 0
-best beaten (x ∷ xs) = bestFrom beaten x xs
+-- MAX and MIN; over no rows nothing
+unfoldable pub best : (ℤ → ℤ → Bool) → List ℤ → Value
+best beaten [] = none
+best beaten (x ∷ xs) = some (whole (bestFrom beaten x xs))
 
--- AVE, exact: sum over count
-unfoldable pub average : List ℤ → Ratio
-average [] = whole (pos 0)
-average (x ∷ xs) = record { numerator = sum (x ∷ xs); denominator = length (x ∷ xs) }
+-- AVE, exact: sum over count; over no rows nothing
+unfoldable pub average : List ℤ → Value
+average [] = none
+average (x ∷ xs) = some (record { numerator = sum (x ∷ xs); denominator = length (x ∷ xs) })
 
--- the aggregates: 1 COUNT, 2 SUM, 3 AVE, 4 MAX, 5 MIN; over no rows each is 0; other functions are 20 or 30 (`isFunction`), so the last case is 5 alone
-unfoldable pub aggregate : ℕ → List ℤ → Ratio
+-- the aggregates: 1 COUNT, 2 SUM, 3 AVE, 4 MAX, 5 MIN; over no rows COUNT and SUM are 0; other functions are 20 or 30 (`isFunction`), so the last
+-- case is 5 alone
+unfoldable pub aggregate : ℕ → List ℤ → Value
 aggregate f xs =
-    cond (eqb f 1) (whole (pos (length xs)))
-    (cond (eqb f 2) (whole (sum xs))
+    cond (eqb f 1) (some (whole (pos (length xs))))
+    (cond (eqb f 2) (some (whole (sum xs)))
     (cond (eqb f 3) (average xs)
-    (cond (eqb f 4) (whole (best ltZ xs)) (whole (best (λ a b. ltZ b a) xs)))))
+    (cond (eqb f 4) (best ltZ xs) (best (λ a b. ltZ b a) xs))))
 
 -- the operators: 1 =, 2 ≠, 3 <, 4 ≤, 5 >, 6 ≥; fractions are compared exactly; other operators are 20 or 30 (`isOperator`), so the last case is 6 alone
-unfoldable pub compare : ℕ → Ratio → Ratio → Bool
-compare o x y =
+unfoldable pub ordered : ℕ → Ratio → Ratio → Bool
+ordered o x y =
     let a = x .numerator *ℤ pos (y .denominator) in
     let b = y .numerator *ℤ pos (x .denominator) in
     cond (eqb o 1) (leZ a b && leZ b a)
@@ -77,6 +84,12 @@ compare o x y =
     (cond (eqb o 3) (ltZ a b)
     (cond (eqb o 4) (leZ a b)
     (cond (eqb o 5) (ltZ b a) (leZ b a)))))
+
+-- a comparison with nothing is false, whichever operator, so its NOT is true
+abbrev pub compare : ℕ → Value → Value → Bool
+compare o none y = false
+compare o (some x) none = false
+compare o (some x) (some y) = ordered o x y
 
 -- whether a condition holds, and the value of a term
 unfoldable mutual
@@ -89,9 +102,9 @@ unfoldable mutual
   holds (COMPARE o s t) R e = compare o (value s R e) (value t R e)
   holds (SOME v r c) R e = any (λ x. holds c R (update e v x)) (R v r)
 
-  pub value : Term → Rows → Assignment → Ratio
-  value (CONSTANT a b c d) R e = whole (signed a b c d)
-  value (ATTRIBUTE v a) R e = whole (e v a)
+  pub value : Term → Rows → Assignment → Value
+  value (CONSTANT a b c d) R e = some (whole (signed a b c d))
+  value (ATTRIBUTE v a) R e = some (whole (e v a))
   value (AGGREGATE f v r a c) R e = aggregate f (map (λ (x : Tuple). x a) (filter (λ x. holds c R (update e v x)) (R v r)))
 
 -- the odometer: first row first, the last RANGE fastest; with no RANGE, one assignment
@@ -103,8 +116,15 @@ assignments (b ∷ bs) R e = concatMap (λ x. assignments bs R (update e (b .var
 abbrev pub unbound : Assignment
 unbound v a = pos 0
 
-unfoldable pub targetRow : List Term → Rows → Assignment → List ℤ
-targetRow ts R e = map (λ t. cell (value t R e)) ts
+abbrev pub withCell : Value → Option (List ℤ) → Option (List ℤ)
+withCell none row = none
+withCell (some x) none = none
+withCell (some x) (some row) = some (cell x ∷ row)
+
+-- the cells of an assignment's targets; with a target that has no value it gives no row (document 02, change 2)
+unfoldable pub targetRow : List Term → Rows → Assignment → Option (List ℤ)
+targetRow [] R e = some []
+targetRow (t ∷ ts) R e = withCell (value t R e) (targetRow ts R e)
 
 unfoldable pub sameRow : List ℤ → List ℤ → Bool
 sameRow [] [] = true
@@ -124,6 +144,10 @@ addRows rows (x ∷ xs) = addRows (addRow rows x) xs
 unfoldable pub qualifying : Query → Rows → List Assignment
 qualifying q R = filter (holds (q .condition) R) (assignments (q .ranges) R unbound)
 
+-- the rows that they give, in their order
+unfoldable pub rowsMet : Query → Rows → List (List ℤ)
+rowsMet q R = present (map (targetRow (q .targets) R) (qualifying q R))
+
 -- the answer: distinct rows of target values, in order of first meeting
 unfoldable pub answers : Query → Rows → List (List ℤ)
-answers q R = addRows [] (map (targetRow (q .targets) R) (qualifying q R))
+answers q R = addRows [] (rowsMet q R)

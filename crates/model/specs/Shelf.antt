@@ -81,6 +81,14 @@ pair = record { catalogue = 48 ∷ 1 ∷ 2 ∷ 0 ∷ []; values = negsuc 2 ∷ n
 abbrev pub offers : Collection
 offers = record { catalogue = 48 ∷ 3 ∷ 2 ∷ 0 ∷ []; values = pos 7 ∷ pos 1 ∷ pos 11 ∷ pos 7 ∷ pos 1 ∷ pos 12 ∷ [] }
 
+-- the same, the latest first
+abbrev pub latestOffers : Collection
+latestOffers = record { catalogue = 50 ∷ 3 ∷ 2 ∷ 0 ∷ []; values = offers .values }
+
+-- a relation of kind 50 with 1 and 2, and a workspace with 2 and 3
+abbrev pub latestDesk : Collection
+latestDesk = record { catalogue = 50 ∷ 1 ∷ 2 ∷ 0 ∷ 49 ∷ 1 ∷ 2 ∷ 0 ∷ []; values = pos 1 ∷ pos 2 ∷ pos 2 ∷ pos 3 ∷ [] }
+
 -- a stored relation with 1 and 2, and a workspace with 2 and 3
 abbrev pub desk : Collection
 desk = record { catalogue = 48 ∷ 1 ∷ 2 ∷ 0 ∷ 49 ∷ 1 ∷ 2 ∷ 0 ∷ []; values = pos 1 ∷ pos 2 ∷ pos 2 ∷ pos 3 ∷ [] }
@@ -88,6 +96,10 @@ desk = record { catalogue = 48 ∷ 1 ∷ 2 ∷ 0 ∷ 49 ∷ 1 ∷ 2 ∷ 0 ∷ []
 -- a stored relation with 1 and 2, and one with no rows
 abbrev pub bare : Collection
 bare = record { catalogue = 48 ∷ 1 ∷ 2 ∷ 0 ∷ 48 ∷ 1 ∷ 0 ∷ 0 ∷ []; values = pos 1 ∷ pos 2 ∷ [] }
+
+-- the same, and a workspace with 3
+abbrev pub vacant : Collection
+vacant = record { catalogue = 48 ∷ 1 ∷ 2 ∷ 0 ∷ 48 ∷ 1 ∷ 0 ∷ 0 ∷ 49 ∷ 1 ∷ 1 ∷ 0 ∷ []; values = pos 1 ∷ pos 2 ∷ pos 3 ∷ [] }
 
 -- no catalogue, and a value too few
 abbrev pub nothing : Collection
@@ -154,8 +166,8 @@ starred =
       call = evaluates (34 ∷ 3 ∷ 0 ∷ 0 ∷ 0 ∷ 16 ∷ 21 ∷ 3 ∷ 34 ∷ 3 ∷ 1 ∷ 0 ∷ 0 ∷ 16 ∷ 32 ∷ 253 ∷ 255 ∷ 255 ∷ 255 ∷ []) 8;
       comes = gives 0 [] 1 ((negsuc 3 ∷ []) ∷ []);
     } ∷
-    -- MAX over no rows: 0
-    record { over = pair; call = evaluates (34 ∷ 4 ∷ 0 ∷ 0 ∷ 0 ∷ 17 ∷ 16 ∷ []) 8; comes = gives 0 [] 1 ((pos 0 ∷ []) ∷ []) } ∷
+    -- MAX over no rows: none
+    record { over = pair; call = evaluates (34 ∷ 4 ∷ 0 ∷ 0 ∷ 0 ∷ 17 ∷ 16 ∷ []) 8; comes = gives 0 [] 1 [] } ∷
     -- number where rank equals MIN of rank: 11, then 12
     record {
       over = offers;
@@ -275,6 +287,19 @@ further =
     } ∷
     -- two masks are not added up
     record { over = offers; call = asks (64 ∷ 0 ∷ 1 ∷ 0 ∷ 16 ∷ 64 ∷ 0 ∷ 2 ∷ 0 ∷ 16 ∷ []) (1 ∷ 0 ∷ 0 ∷ 33 ∷ 0 ∷ 0 ∷ 33 ∷ 0 ∷ 1 ∷ 16 ∷ []) 80 8; comes = refused 33 } ∷
+    -- under kind 50 number where rank equals MIN of rank: 12, then 11
+    record {
+      over = latestOffers;
+      call = evaluates (1 ∷ 0 ∷ 0 ∷ 33 ∷ 0 ∷ 2 ∷ 21 ∷ 1 ∷ 33 ∷ 0 ∷ 1 ∷ 34 ∷ 5 ∷ 1 ∷ 0 ∷ 1 ∷ 16 ∷ []) 8;
+      comes = gives 0 [] 1 ((pos 12 ∷ []) ∷ (pos 11 ∷ []) ∷ []);
+    } ∷
+    -- kind 50 is guarded, and its permitted rows are met from the last on; the workspace beside it is met from its first row on
+    record {
+      over = latestDesk;
+      call = asks wide (1 ∷ 0 ∷ 0 ∷ 1 ∷ 1 ∷ 1 ∷ 33 ∷ 0 ∷ 0 ∷ 33 ∷ 1 ∷ 0 ∷ 16 ∷ []) 80 8;
+      comes = gives 0 (1 ∷ 0 ∷ 0 ∷ 1 ∷ 1 ∷ 1 ∷ 33 ∷ 0 ∷ 0 ∷ 33 ∷ 1 ∷ 0 ∷ 19 ∷ 16 ∷ 16 ∷ []) 2 ((pos 2 ∷ pos 2 ∷ []) ∷ (pos 2 ∷ pos 3 ∷ []) ∷ (pos 1 ∷ pos 2 ∷ []) ∷ (pos 1 ∷ pos 3 ∷ []) ∷ []);
+    } ∷
+    record { over = latestDesk; call = asks [] (1 ∷ 0 ∷ 0 ∷ 33 ∷ 0 ∷ 0 ∷ 16 ∷ []) 80 8; comes = refused 33 } ∷
     -- the rewritten question is just as long as its buffer
     record {
       over = pair;
@@ -301,6 +326,47 @@ further =
     record { over = pair; call = evaluates (1 ∷ 0 ∷ 0 ∷ 33 ∷ 0 ∷ 0 ∷ 17 ∷ []) 0; comes = gives 0 [] 1 [] } ∷
     -- plain, one row fits
     record { over = pair; call = evaluates (1 ∷ 0 ∷ 0 ∷ 33 ∷ 0 ∷ 0 ∷ 33 ∷ 0 ∷ 0 ∷ 16 ∷ []) 3; comes = gives 41 [] 2 ((negsuc 2 ∷ negsuc 2 ∷ []) ∷ []) } ∷
+    []
+
+-- change 2 of document 02: AVE, MAX and MIN over no rows are nothing
+abbrev pub valueless : List Example
+valueless =
+    -- AVE = MAX, both over no rows: false
+    record { over = bare; call = evaluates (34 ∷ 1 ∷ 7 ∷ 0 ∷ 0 ∷ 16 ∷ 21 ∷ 1 ∷ 34 ∷ 3 ∷ 0 ∷ 1 ∷ 0 ∷ 16 ∷ 34 ∷ 4 ∷ 1 ∷ 1 ∷ 0 ∷ 16 ∷ []) 8; comes = gives 0 [] 1 [] } ∷
+    -- AVE ≠ MAX: false as well
+    record { over = bare; call = evaluates (34 ∷ 1 ∷ 7 ∷ 0 ∷ 0 ∷ 16 ∷ 21 ∷ 2 ∷ 34 ∷ 3 ∷ 0 ∷ 1 ∷ 0 ∷ 16 ∷ 34 ∷ 4 ∷ 1 ∷ 1 ∷ 0 ∷ 16 ∷ []) 8; comes = gives 0 [] 1 [] } ∷
+    -- NOT of either is true
+    record { over = bare; call = evaluates (34 ∷ 1 ∷ 7 ∷ 0 ∷ 0 ∷ 16 ∷ 19 ∷ 18 ∷ 21 ∷ 1 ∷ 34 ∷ 3 ∷ 0 ∷ 1 ∷ 0 ∷ 16 ∷ 34 ∷ 4 ∷ 1 ∷ 1 ∷ 0 ∷ 16 ∷ 18 ∷ 21 ∷ 2 ∷ 34 ∷ 3 ∷ 2 ∷ 1 ∷ 0 ∷ 16 ∷ 34 ∷ 4 ∷ 3 ∷ 1 ∷ 0 ∷ 16 ∷ []) 8; comes = gives 0 [] 1 ((pos 2 ∷ []) ∷ []) } ∷
+    -- MIN over no rows is not 0, and no operator holds of it and 0
+    record { over = bare; call = evaluates (34 ∷ 1 ∷ 7 ∷ 0 ∷ 0 ∷ 16 ∷ 20 ∷ 21 ∷ 1 ∷ 34 ∷ 5 ∷ 1 ∷ 1 ∷ 0 ∷ 16 ∷ 32 ∷ 0 ∷ 0 ∷ 0 ∷ 0 ∷ 20 ∷ 21 ∷ 2 ∷ 34 ∷ 5 ∷ 2 ∷ 1 ∷ 0 ∷ 16 ∷ 32 ∷ 0 ∷ 0 ∷ 0 ∷ 0 ∷ 20 ∷ 21 ∷ 3 ∷ 34 ∷ 5 ∷ 3 ∷ 1 ∷ 0 ∷ 16 ∷ 32 ∷ 0 ∷ 0 ∷ 0 ∷ 0 ∷ 20 ∷ 21 ∷ 4 ∷ 34 ∷ 5 ∷ 4 ∷ 1 ∷ 0 ∷ 16 ∷ 32 ∷ 0 ∷ 0 ∷ 0 ∷ 0 ∷ 20 ∷ 21 ∷ 5 ∷ 34 ∷ 5 ∷ 5 ∷ 1 ∷ 0 ∷ 16 ∷ 32 ∷ 0 ∷ 0 ∷ 0 ∷ 0 ∷ 21 ∷ 6 ∷ 34 ∷ 5 ∷ 6 ∷ 1 ∷ 0 ∷ 16 ∷ 32 ∷ 0 ∷ 0 ∷ 0 ∷ 0 ∷ []) 8; comes = gives 0 [] 1 [] } ∷
+    -- nor of 0 and it
+    record { over = bare; call = evaluates (34 ∷ 1 ∷ 7 ∷ 0 ∷ 0 ∷ 16 ∷ 20 ∷ 21 ∷ 1 ∷ 32 ∷ 0 ∷ 0 ∷ 0 ∷ 0 ∷ 34 ∷ 5 ∷ 1 ∷ 1 ∷ 0 ∷ 16 ∷ 20 ∷ 21 ∷ 2 ∷ 32 ∷ 0 ∷ 0 ∷ 0 ∷ 0 ∷ 34 ∷ 5 ∷ 2 ∷ 1 ∷ 0 ∷ 16 ∷ 20 ∷ 21 ∷ 3 ∷ 32 ∷ 0 ∷ 0 ∷ 0 ∷ 0 ∷ 34 ∷ 5 ∷ 3 ∷ 1 ∷ 0 ∷ 16 ∷ 20 ∷ 21 ∷ 4 ∷ 32 ∷ 0 ∷ 0 ∷ 0 ∷ 0 ∷ 34 ∷ 5 ∷ 4 ∷ 1 ∷ 0 ∷ 16 ∷ 20 ∷ 21 ∷ 5 ∷ 32 ∷ 0 ∷ 0 ∷ 0 ∷ 0 ∷ 34 ∷ 5 ∷ 5 ∷ 1 ∷ 0 ∷ 16 ∷ 21 ∷ 6 ∷ 32 ∷ 0 ∷ 0 ∷ 0 ∷ 0 ∷ 34 ∷ 5 ∷ 6 ∷ 1 ∷ 0 ∷ 16 ∷ []) 8; comes = gives 0 [] 1 [] } ∷
+    -- so NOT of all six is true
+    record { over = bare; call = evaluates (34 ∷ 1 ∷ 7 ∷ 0 ∷ 0 ∷ 16 ∷ 18 ∷ 20 ∷ 21 ∷ 1 ∷ 34 ∷ 5 ∷ 1 ∷ 1 ∷ 0 ∷ 16 ∷ 32 ∷ 0 ∷ 0 ∷ 0 ∷ 0 ∷ 20 ∷ 21 ∷ 2 ∷ 34 ∷ 5 ∷ 2 ∷ 1 ∷ 0 ∷ 16 ∷ 32 ∷ 0 ∷ 0 ∷ 0 ∷ 0 ∷ 20 ∷ 21 ∷ 3 ∷ 34 ∷ 5 ∷ 3 ∷ 1 ∷ 0 ∷ 16 ∷ 32 ∷ 0 ∷ 0 ∷ 0 ∷ 0 ∷ 20 ∷ 21 ∷ 4 ∷ 34 ∷ 5 ∷ 4 ∷ 1 ∷ 0 ∷ 16 ∷ 32 ∷ 0 ∷ 0 ∷ 0 ∷ 0 ∷ 20 ∷ 21 ∷ 5 ∷ 34 ∷ 5 ∷ 5 ∷ 1 ∷ 0 ∷ 16 ∷ 32 ∷ 0 ∷ 0 ∷ 0 ∷ 0 ∷ 21 ∷ 6 ∷ 34 ∷ 5 ∷ 6 ∷ 1 ∷ 0 ∷ 16 ∷ 32 ∷ 0 ∷ 0 ∷ 0 ∷ 0 ∷ []) 8; comes = gives 0 [] 1 ((pos 2 ∷ []) ∷ []) } ∷
+    -- COUNT and SUM over no rows are 0
+    record { over = bare; call = evaluates (34 ∷ 1 ∷ 0 ∷ 1 ∷ 0 ∷ 16 ∷ 34 ∷ 2 ∷ 1 ∷ 1 ∷ 0 ∷ 16 ∷ 16 ∷ []) 8; comes = gives 0 [] 2 ((pos 0 ∷ pos 0 ∷ []) ∷ []) } ∷
+    -- and equal 0
+    record { over = bare; call = evaluates (34 ∷ 1 ∷ 7 ∷ 0 ∷ 0 ∷ 16 ∷ 19 ∷ 21 ∷ 1 ∷ 34 ∷ 1 ∷ 0 ∷ 1 ∷ 0 ∷ 16 ∷ 32 ∷ 0 ∷ 0 ∷ 0 ∷ 0 ∷ 21 ∷ 1 ∷ 34 ∷ 2 ∷ 1 ∷ 1 ∷ 0 ∷ 16 ∷ 32 ∷ 0 ∷ 0 ∷ 0 ∷ 0 ∷ []) 8; comes = gives 0 [] 1 ((pos 2 ∷ []) ∷ []) } ∷
+    -- but with AVE beside them the assignment gives no row
+    record { over = bare; call = evaluates (34 ∷ 1 ∷ 0 ∷ 1 ∷ 0 ∷ 16 ∷ 34 ∷ 2 ∷ 1 ∷ 1 ∷ 0 ∷ 16 ∷ 34 ∷ 3 ∷ 2 ∷ 1 ∷ 0 ∷ 16 ∷ 16 ∷ []) 8; comes = gives 0 [] 3 [] } ∷
+    -- no row of either assignment: with no cell lent that is no 41
+    record { over = bare; call = evaluates (1 ∷ 0 ∷ 0 ∷ 33 ∷ 0 ∷ 0 ∷ 34 ∷ 5 ∷ 1 ∷ 1 ∷ 0 ∷ 16 ∷ 16 ∷ []) 0; comes = gives 0 [] 2 [] } ∷
+    -- rows above an average of no rows: COUNT is 0
+    record { over = bare; call = evaluates (34 ∷ 1 ∷ 0 ∷ 0 ∷ 0 ∷ 21 ∷ 5 ∷ 33 ∷ 0 ∷ 0 ∷ 34 ∷ 3 ∷ 1 ∷ 1 ∷ 0 ∷ 16 ∷ 16 ∷ []) 8; comes = gives 0 [] 1 ((pos 0 ∷ []) ∷ []) } ∷
+    -- and their MAX is nothing
+    record { over = bare; call = evaluates (34 ∷ 4 ∷ 0 ∷ 0 ∷ 0 ∷ 21 ∷ 5 ∷ 33 ∷ 0 ∷ 0 ∷ 34 ∷ 3 ∷ 1 ∷ 1 ∷ 0 ∷ 16 ∷ 16 ∷ []) 8; comes = gives 0 [] 1 [] } ∷
+    -- rows not above it: both
+    record { over = bare; call = evaluates (34 ∷ 1 ∷ 0 ∷ 0 ∷ 0 ∷ 18 ∷ 21 ∷ 5 ∷ 33 ∷ 0 ∷ 0 ∷ 34 ∷ 3 ∷ 1 ∷ 1 ∷ 0 ∷ 16 ∷ 16 ∷ []) 8; comes = gives 0 [] 1 ((pos 2 ∷ []) ∷ []) } ∷
+    -- a permit that compares with AVE over no rows lets no row through
+    record { over = bare; call = asks (64 ∷ 0 ∷ 255 ∷ 255 ∷ 21 ∷ 5 ∷ 33 ∷ 0 ∷ 0 ∷ 34 ∷ 3 ∷ 1 ∷ 1 ∷ 0 ∷ 16 ∷ []) (1 ∷ 0 ∷ 0 ∷ 33 ∷ 0 ∷ 0 ∷ 16 ∷ []) 80 8; comes = gives 0 (1 ∷ 0 ∷ 0 ∷ 33 ∷ 0 ∷ 0 ∷ 19 ∷ 16 ∷ 21 ∷ 5 ∷ 33 ∷ 0 ∷ 0 ∷ 34 ∷ 3 ∷ 8 ∷ 1 ∷ 0 ∷ 16 ∷ []) 1 [] } ∷
+    -- its NOT lets all rows through
+    record { over = bare; call = asks (64 ∷ 0 ∷ 255 ∷ 255 ∷ 18 ∷ 21 ∷ 5 ∷ 33 ∷ 0 ∷ 0 ∷ 34 ∷ 3 ∷ 1 ∷ 1 ∷ 0 ∷ 16 ∷ []) (1 ∷ 0 ∷ 0 ∷ 33 ∷ 0 ∷ 0 ∷ 16 ∷ []) 80 8; comes = gives 0 (1 ∷ 0 ∷ 0 ∷ 33 ∷ 0 ∷ 0 ∷ 19 ∷ 16 ∷ 18 ∷ 21 ∷ 5 ∷ 33 ∷ 0 ∷ 0 ∷ 34 ∷ 3 ∷ 8 ∷ 1 ∷ 0 ∷ 16 ∷ []) 1 ((pos 1 ∷ []) ∷ (pos 2 ∷ []) ∷ []) } ∷
+    -- as a guard inside SOME, which no row then meets
+    record { over = vacant; call = asks (64 ∷ 0 ∷ 255 ∷ 255 ∷ 21 ∷ 5 ∷ 33 ∷ 0 ∷ 0 ∷ 34 ∷ 3 ∷ 1 ∷ 1 ∷ 0 ∷ 16 ∷ []) (1 ∷ 0 ∷ 2 ∷ 33 ∷ 0 ∷ 0 ∷ 18 ∷ 22 ∷ 1 ∷ 0 ∷ 16 ∷ []) 80 8; comes = gives 0 (1 ∷ 0 ∷ 2 ∷ 33 ∷ 0 ∷ 0 ∷ 18 ∷ 22 ∷ 1 ∷ 0 ∷ 19 ∷ 16 ∷ 21 ∷ 5 ∷ 33 ∷ 1 ∷ 0 ∷ 34 ∷ 3 ∷ 8 ∷ 1 ∷ 0 ∷ 16 ∷ []) 1 ((pos 3 ∷ []) ∷ []) } ∷
+    -- an aggregate whose guard leaves no row has no value
+    record { over = bare; call = asks (64 ∷ 0 ∷ 255 ∷ 255 ∷ 18 ∷ 16 ∷ []) (34 ∷ 3 ∷ 0 ∷ 0 ∷ 0 ∷ 16 ∷ 16 ∷ []) 80 8; comes = gives 0 (34 ∷ 3 ∷ 0 ∷ 0 ∷ 0 ∷ 19 ∷ 16 ∷ 18 ∷ 16 ∷ 16 ∷ []) 1 [] } ∷
+    -- COUNT under the same guard is 0
+    record { over = bare; call = asks (64 ∷ 0 ∷ 255 ∷ 255 ∷ 18 ∷ 16 ∷ []) (34 ∷ 1 ∷ 0 ∷ 0 ∷ 0 ∷ 16 ∷ 16 ∷ []) 80 8; comes = gives 0 (34 ∷ 1 ∷ 0 ∷ 0 ∷ 0 ∷ 19 ∷ 16 ∷ 18 ∷ 16 ∷ 16 ∷ []) 1 ((pos 0 ∷ []) ∷ []) } ∷
     []
 
 -- each refusal once, with grounds of higher numbers beside it
@@ -336,4 +402,4 @@ refusals =
 
 -- the table
 abbrev pub examples : List Example
-examples = starred ++ (further ++ refusals)
+examples = starred ++ (further ++ (valueless ++ refusals))

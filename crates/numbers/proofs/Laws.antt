@@ -1,27 +1,52 @@
 -- The accumulator of a list of values, and how large an aggregate gets.
-use mathlib.Core.Path.{_≡_, refl, sym, ap, _∙_}
+use mathlib.Core.Path.{_≡_, refl, sym, ap, ap₂, _∙_}
 use mathlib.Core.Bool.{Bool, true, false, cond}
 use mathlib.Core.List.{List, [], _∷_, _++_}
+use mathlib.Core.Option.{none, some}
 use Prim.Native.Nat.{ℕ, zero, suc, _+_, _≤_}
 use native.Mathlib.Omega.{arith}
 use lib.Dec.{eqb}
-use borrow.Author.Tests.{ne-eqb}
+use borrow.Author.Tests.{ne-eqb, leb-true, leb-false}
 use lib.IntN.{ℤ, pos, natAbs, _+ℤ_, +ℤ-assoc, +ℤ-idl, +ℤ-idr}
-use lib.Signed.{ltZ}
+use lib.Signed.{ltZ, leZ}
 use lib.ListN.{length, length-append}
+use mir.Syntax.{w64}
+use mir.Val.{toZ, ofZ}
+use mir.Facts.{toZ-ofZ}
 use Rattle.model.specs.Meaning as M
-use Rattle.model.specs.Meaning.{sum, best, bestFrom, average, aggregate}
-use Rattle.numbers.specs.Numbers.{ratioOf, represent, Small, added, averageOf, finished, Bounded, accumulatorOf, Accumulates}
+use Rattle.model.specs.Meaning.{sum, bestFrom, average, aggregate, compare}
+use Rattle.numbers.specs.Numbers.{fraction, valueOf, Number, ratioOf, Small, added, best, bestOf, finished, Bounded, accumulatorOf, Accumulates}
 use Rattle.numbers.specs.declared.Ratio.{Ratio}
 use Rattle.numbers.specs.declared.Accumulator.{Accumulator}
-use Rattle.numbers.proofs.Signed.{abs-add, abs-cond}
+use Rattle.numbers.proofs.Signed.{fits64, abs-add, abs-cond}
 
 -- a struct and the value that it stands for
-pub ratio-of-represent : (x : M.Ratio) → ratioOf (represent x) ≡ x
-ratio-of-represent x = refl
+fraction-none : (n : ℤ) (d : ℕ) → d ≡ 0 → fraction n d ≡ none
+fraction-none n d e = ap (fraction n) e
 
-pub represent-ratio-of : (r : Ratio) → Small r → represent (ratioOf r) ≡ r
-represent-ratio-of r h = ap (λ (d : ℤ). record { numerator = r .numerator; denominator = d }) (sym (h .sign))
+fraction-some : (n : ℤ) (d : ℕ) → 1 ≤ d → fraction n d ≡ some (record { numerator = n; denominator = d })
+fraction-some n zero h = absurd (omega arith)
+fraction-some n (suc d) h = refl
+
+-- what the test of a denominator tells
+abs-most : (n : ℕ) → leZ (pos n) (pos 0) ≡ true → n ≡ 0
+abs-most n h = let k = leb-true n 0 h in omega arith
+
+abs-least : (n : ℕ) → leZ (pos n) (pos 0) ≡ false → 1 ≤ n
+abs-least n h = let k = leb-false n 0 h in omega arith
+
+-- the test as the code makes it, on bits
+test-bits : (r : Ratio) → Small r → leZ (toZ w64 (ofZ w64 (r .denominator))) (pos 0) ≡ leZ (pos (natAbs (r .denominator))) (pos 0)
+test-bits r s = ap (λ (z : ℤ). leZ z (pos 0)) (toZ-ofZ (fits64 (r .denominator) (omega (arith, s .denominator))) ∙ s .sign)
+
+pub value-none : (r : Ratio) → Small r → leZ (toZ w64 (ofZ w64 (r .denominator))) (pos 0) ≡ true → valueOf r ≡ none
+value-none r s h = fraction-none (r .numerator) (natAbs (r .denominator)) (abs-most (natAbs (r .denominator)) (sym (test-bits r s) ∙ h))
+
+pub is-number : (r : Ratio) → Small r → leZ (toZ w64 (ofZ w64 (r .denominator))) (pos 0) ≡ false → Number r
+is-number r s h = abs-least (natAbs (r .denominator)) (sym (test-bits r s) ∙ h)
+
+pub value-some : (r : Ratio) → Number r → valueOf r ≡ some (ratioOf r)
+value-some r h = fraction-some (r .numerator) (natAbs (r .denominator)) h
 
 some-not-none : (n : ℕ) → eqb (suc n) 0 ≡ false
 some-not-none n = ne-eqb (suc n) 0 (λ e. omega arith)
@@ -58,21 +83,26 @@ pub counts : (a : Accumulator) (xs : List ℤ) → Accumulates a xs → a .count
 unfolding accumulatorOf
 counts a xs h = ap (λ (y : Accumulator). y .count) (h .same)
 
-average-is : (xs : List ℤ) → averageOf (length xs) (sum xs) ≡ average xs
+average-is : (xs : List ℤ) → fraction (sum xs) (length xs) ≡ average xs
 unfolding average
 average-is [] = refl
-average-is (x ∷ xs) = rw (some-not-none (length xs))
+average-is (x ∷ xs) = refl
+
+best-is : (beaten : ℤ → ℤ → Bool) (xs : List ℤ) → bestOf (length xs) (best beaten xs) ≡ M.best beaten xs
+unfolding best M.best
+best-is beaten [] = refl
+best-is beaten (x ∷ xs) = refl
 
 finished-is : (f : ℕ) (xs : List ℤ) → finished f (accumulatorOf xs) ≡ aggregate f xs
 unfolding accumulatorOf aggregate
-finished-is f xs = rw (average-is xs)
+finished-is f xs = rw (average-is xs, best-is ltZ xs, best-is (λ a b. ltZ b a) xs)
 
-pub ends : (f : ℕ) (a : Accumulator) (r : Ratio) (xs : List ℤ) → Accumulates a xs → r ≡ represent (finished f a) → r ≡ represent (aggregate f xs)
-ends f a r xs h e = e ∙ ap (λ (y : Accumulator). represent (finished f y)) (h .same) ∙ ap represent (finished-is f xs)
+pub ends : (f : ℕ) (a : Accumulator) (r : Ratio) (xs : List ℤ) → Accumulates a xs → valueOf r ≡ finished f a → valueOf r ≡ aggregate f xs
+ends f a r xs h e = e ∙ ap (finished f) (h .same) ∙ finished-is f xs
 
 -- how large values get
-pub small-whole : (z : ℤ) → natAbs z ≤ 140735340871680 → Small (represent (M.whole z))
-small-whole z h = record { numerator = h; positive = omega arith; denominator = omega arith; sign = refl }
+pub small-over : (n : ℤ) (d : ℕ) → natAbs n ≤ 140735340871680 → d ≤ 65535 → Small (record { numerator = n; denominator = pos d })
+small-over n d h k = record { numerator = h; denominator = k; sign = refl }
 
 pub bounded-added : (a : Accumulator) (x : ℤ) → Bounded a → natAbs x ≤ 2147483648 → Bounded (added a x)
 bounded-added a x b h =
@@ -82,22 +112,25 @@ bounded-added a x b h =
       min = abs-cond (eqb (a .count) 0) x (cond (ltZ x (a .min)) x (a .min)) 2147483648 h (abs-cond (ltZ x (a .min)) x (a .min) 2147483648 h (b .min));
     }
 
-module _ (a : Accumulator) (b : Bounded a) (k : a .count ≤ 65535) where
-  pick : (t : Bool) (x y : M.Ratio) → Small (represent x) → Small (represent y) → Small (represent (cond t x y))
-  pick true x y h g = h
-  pick false x y h g = g
+-- the functions that are nothing of no values
+pub best-none : (n : ℕ) (x : ℤ) → n ≡ 0 → none ≡ bestOf n x
+best-none n x e = sym (ap (λ (k : ℕ). bestOf k x) e)
 
-  small-average : (n : ℕ) → n ≡ a .count → Small (represent (averageOf n (a .sum)))
-  small-average zero e = small-whole (pos 0) (omega arith)
-  small-average (suc n) e = rw (some-not-none n) (record { numerator = omega (arith, b .sum); positive = omega arith; denominator = omega arith; sign = refl })
+pub best-some : (n : ℕ) (x : ℤ) → (n ≡ 0 → ⊥) → some (M.whole x) ≡ bestOf n x
+best-some zero x h = absurd (h refl)
+best-some (suc n) x h = refl
 
-  pub small-finished : (f : ℕ) → Small (represent (finished f a))
-  small-finished f =
-      pick (eqb f 1) _ _ (small-whole (pos (a .count)) (omega arith))
-      (pick (eqb f 2) _ _ (small-whole (a .sum) (omega (arith, b .sum)))
-      (pick (eqb f 3) _ _ (small-average (a .count) refl)
-      (pick (eqb f 4) _ _ (small-whole (a .max) (omega (arith, b .max))) (small-whole (a .min) (omega (arith, b .min))))))
+-- comparisons, by the denominators
+module _ (o : ℕ) (x y : Ratio) where
+  pub compare-none : valueOf x ≡ none → false ≡ compare o (valueOf x) (valueOf y)
+  compare-none e = sym (ap (λ (v : M.Value). compare o v (valueOf y)) e)
 
--- an aggregate of at most 65,535 values that are 32-bit numbers
-pub small-aggregate : (f : ℕ) (a : Accumulator) (xs : List ℤ) → Accumulates a xs → length xs ≤ 65535 → Small (represent (aggregate f xs))
-small-aggregate f a xs h k = rw (← finished-is f xs, ← h .same) (small-finished a (h .bounded) (omega (arith, counts a xs h)) f)
+  right-none : (v : M.Value) → compare o v none ≡ false
+  right-none none = refl
+  right-none (some z) = refl
+
+  pub compare-right-none : valueOf y ≡ none → false ≡ compare o (valueOf x) (valueOf y)
+  compare-right-none e = sym (ap (λ (v : M.Value). compare o (valueOf x) v) e ∙ right-none (valueOf x))
+
+  pub compare-some : Number x → Number y → M.ordered o (ratioOf x) (ratioOf y) ≡ compare o (valueOf x) (valueOf y)
+  compare-some h k = sym (ap₂ (compare o) (value-some x h) (value-some y k))

@@ -13,7 +13,7 @@ use mir.Val.{SFits, toZ, ofZ}
 use mir.Facts.{toZ-ofZ}
 use Rattle.model.specs.Meaning as M
 use Rattle.model.specs.Meaning.{cell}
-use Rattle.numbers.specs.Numbers.{ratioOf, Small, toward}
+use Rattle.numbers.specs.Numbers.{ratioOf, Number, Small, toward}
 use Rattle.numbers.specs.declared.Ratio.{Ratio}
 use Rattle.numbers.proofs.Signed.{fits64, abs-add, abs-cond, abs-mul, test-is}
 
@@ -78,9 +78,9 @@ module _ (x : Ratio) (h : Small x) (t p : ℤ) (ft : SFits w64 t) (fp : SFits w6
       divisor-is : bits e ≡ pos 2 *ℤ x .denominator
       divisor-is = toZ-ofZ fe ∙ ee ∙ ap (λ (z : ℤ). pos 2 *ℤ z) (toZ-ofZ fits-d)
 
-      pub quotient-small : (natAbs (bits s) ≤ 281474976710656) × (0 < natAbs (bits e))
-      quotient-small =
-          (rw (sum-is) (omega (arith, abs-add (x .numerator *ℤ pos 2) (toward (x .numerator) (x .denominator)), abs-mul (x .numerator) (pos 2), abs-toward (x .numerator) (x .denominator), h .numerator, h .denominator)), rw (divisor-is) (omega (arith, abs-mul (pos 2) (x .denominator), h .positive)))
+      pub quotient-small : Number x → (natAbs (bits s) ≤ 281474976710656) × (0 < natAbs (bits e))
+      quotient-small k =
+          (rw (sum-is) (omega (arith, abs-add (x .numerator *ℤ pos 2) (toward (x .numerator) (x .denominator)), abs-mul (x .numerator) (pos 2), abs-toward (x .numerator) (x .denominator), h .numerator, h .denominator)), rw (divisor-is) (omega (arith, abs-mul (pos 2) (x .denominator), k)))
 
       pub rounded-is : (q : ℤ) → SFits w64 q → q ≡ quotZ (bits s) (bits e) → bits q ≡ cell (ratioOf x)
       rounded-is q fq eq =

@@ -1,8 +1,9 @@
 -- Values of terms and the values that an aggregate takes, as the code holds them (document 01, "Meaning").
-use Prim.Native.Nat.{ℕ, _+_, _*_, _≤_}
+use Prim.Native.Nat.{ℕ, zero, suc, _+_, _*_, _≤_}
 use mathlib.Core.Path.{_≡_}
 use mathlib.Core.Bool.{Bool, not, cond, _&&_}
-use mathlib.Core.List.{List}
+use mathlib.Core.List.{List, [], _∷_}
+use mathlib.Core.Option.{none, some}
 use lib.Dec.{eqb}
 use lib.IntN.{ℤ, pos, natAbs, _+ℤ_, _-ℤ_}
 use lib.Signed.{ltZ, leZ}
@@ -11,17 +12,25 @@ use Rattle.model.specs.Meaning as M
 use Rattle.numbers.specs.declared.Ratio.{Ratio}
 use Rattle.numbers.specs.declared.Accumulator.{Accumulator}
 
--- the value that a struct stands for, and the struct of a value
+-- n over d; over 0 there is nothing
+abbrev pub fraction : ℤ → ℕ → M.Value
+fraction n zero = none
+fraction n (suc d) = some (record { numerator = n; denominator = suc d })
+
+-- the value that a struct stands for
+abbrev pub valueOf : Ratio → M.Value
+valueOf r = fraction (r .numerator) (natAbs (r .denominator))
+
+-- a number, and which one
+abbrev pub Number : Ratio → Type 0
+Number r = 1 ≤ natAbs (r .denominator)
+
 abbrev pub ratioOf : Ratio → M.Ratio
 ratioOf r = record { numerator = r .numerator; denominator = natAbs (r .denominator) }
-
-abbrev pub represent : M.Ratio → Ratio
-represent x = record { numerator = x .numerator; denominator = pos (x .denominator) }
 
 -- what a query's values keep to: a sum of at most 65,535 values (a row count has two bytes) over a count of them
 pub record Small (r : Ratio) : Type 0 where
   pub numerator : natAbs (r .numerator) ≤ 140735340871680
-  pub positive : 1 ≤ natAbs (r .denominator)
   pub denominator : natAbs (r .denominator) ≤ 65535
   pub sign : r .denominator ≡ pos (natAbs (r .denominator))
 
@@ -55,17 +64,18 @@ added a x =
       min = smaller (a .count) (a .min) x;
     }
 
--- sum over count; 0 over no values
-abbrev pub averageOf : ℕ → ℤ → M.Ratio
-averageOf n s = cond (eqb n 0) (M.whole (pos 0)) (record { numerator = s; denominator = n })
+-- MAX and MIN of n values, of which x is the best
+abbrev pub bestOf : ℕ → ℤ → M.Value
+bestOf zero x = none
+bestOf (suc n) x = some (M.whole x)
 
--- the functions: 1 COUNT, 2 SUM, 3 AVE, 4 MAX, 5 MIN
-abbrev pub finished : ℕ → Accumulator → M.Ratio
+-- the functions: 1 COUNT, 2 SUM, 3 AVE, 4 MAX, 5 MIN; of no values the last three are nothing
+abbrev pub finished : ℕ → Accumulator → M.Value
 finished f a =
-    cond (eqb f 1) (M.whole (pos (a .count)))
-    (cond (eqb f 2) (M.whole (a .sum))
-    (cond (eqb f 3) (averageOf (a .count) (a .sum))
-    (cond (eqb f 4) (M.whole (a .max)) (M.whole (a .min)))))
+    cond (eqb f 1) (some (M.whole (pos (a .count))))
+    (cond (eqb f 2) (some (M.whole (a .sum)))
+    (cond (eqb f 3) (fraction (a .sum) (a .count))
+    (cond (eqb f 4) (bestOf (a .count) (a .max)) (bestOf (a .count) (a .min)))))
 
 -- an accumulator of 32-bit values
 pub record Bounded (a : Accumulator) : Type 0 where
@@ -73,14 +83,19 @@ pub record Bounded (a : Accumulator) : Type 0 where
   pub max : natAbs (a .max) ≤ 2147483648
   pub min : natAbs (a .min) ≤ 2147483648
 
+-- the best value; of none, 0, which is never read
+unfoldable pub best : (ℤ → ℤ → Bool) → List ℤ → ℤ
+best beaten [] = pos 0
+best beaten (x ∷ xs) = M.bestFrom beaten x xs
+
 -- the accumulator of a list of values
 unfoldable pub accumulatorOf : List ℤ → Accumulator
 accumulatorOf xs =
     record {
       count = length xs;
       sum = M.sum xs;
-      max = M.best ltZ xs;
-      min = M.best (λ a b. ltZ b a) xs;
+      max = best ltZ xs;
+      min = best (λ a b. ltZ b a) xs;
     }
 
 -- what a loop over rows keeps: the values taken so far are xs

@@ -1,6 +1,7 @@
 // Exact values of terms, their comparison, and what an aggregate takes.
 ghost use mathlib.Core.Path.{_≡_};
 ghost use mathlib.Core.List.{[]};
+ghost use mathlib.Core.Option.{some};
 ghost use Prim.Native.Nat.{ℕ, _+_, _*_, _≤_, _<_};
 ghost use lib.IntN.{pos, natAbs, _*ℤ_, _+ℤ_};
 ghost use lib.Signed.{quotZ, leZ};
@@ -10,7 +11,7 @@ ghost use mathlib.Core.Bool.{true, _&&_};
 ghost use Rattle.numbers.specs.Numbers as N;
 ghost use Rattle.numbers.specs.Memo as Memo;
 
-// A value: numerator over denominator, which is positive.
+// A value: numerator over denominator. Over 0 it is nothing: no number has that denominator.
 pub struct Ratio {
     pub numerator: i64,
     pub denominator: i64,
@@ -42,7 +43,7 @@ fn over(a: i64, b: i64) -> Ratio
 
 // A constant's or an attribute's value.
 pub fn whole(x: i32) -> Ratio
-    ensures { λ r. ⌜ r ≡ N.represent (M.whole x) ⌝ }
+    ensures { λ r. ⌜ N.valueOf r ≡ some (M.whole x) ⌝ }
     ensures { λ r. ⌜ N.Small r ⌝ }
 {
     over(wide(x), 1)
@@ -75,22 +76,26 @@ pub fn ordered(operator: usize, a: i64, b: i64) -> bool
     }
 }
 
-// Compares exactly, by cross products.
+// Compares exactly, by cross products. With nothing on a side every comparison is false.
 pub fn compared(operator: usize, x: Ratio, y: Ratio) -> bool
     requires { ⌜ N.Small x × N.Small y ⌝ }
-    ensures { λ r. ⌜ r ≡ M.compare operator (N.ratioOf x) (N.ratioOf y) ⌝ }
+    ensures { λ r. ⌜ r ≡ M.compare operator (N.valueOf x) (N.valueOf y) ⌝ }
 {
-    ordered(
-        operator,
-        product(x.numerator, y.denominator),
-        product(y.numerator, x.denominator),
-    )
+    let d = x.denominator;
+    let e = y.denominator;
+    if d <= 0 {
+        return false;
+    }
+    if e <= 0 {
+        return false;
+    }
+    ordered(operator, product(x.numerator, e), product(y.numerator, d))
 }
 
 // The same with the operator's byte.
 pub fn compare(operator: u8, x: Ratio, y: Ratio) -> bool
     requires { ⌜ N.Small x × N.Small y ⌝ }
-    ensures { λ r. ⌜ r ≡ M.compare operator (N.ratioOf x) (N.ratioOf y) ⌝ }
+    ensures { λ r. ⌜ r ≡ M.compare operator (N.valueOf x) (N.valueOf y) ⌝ }
 {
     compared(wide_byte(operator), x, y)
 }
@@ -119,7 +124,7 @@ fn toward(a: i64, b: i64) -> i64
 
 // The cell of a target: the nearest whole number, halves away from zero. Signed division cuts off, so a half is added first.
 pub fn cell(x: Ratio) -> i64
-    requires { ⌜ N.Small x ⌝ }
+    requires { ⌜ N.Small x × N.Number x ⌝ }
     ensures { λ r. ⌜ r ≡ M.cell (N.ratioOf x) ⌝ }
 {
     let n = x.numerator;
@@ -183,28 +188,34 @@ fn counted(n: u64) -> i64
     n as i64
 }
 
-fn average(count: u64, sum: i64) -> Ratio
-    requires { ⌜ count ≤ 65535 ⌝ }
-    ensures { λ r. ⌜ r ≡ N.represent (N.averageOf count sum) ⌝ }
-{
-    if count == 0 {
-        return over(0, 1);
-    }
-    over(sum, counted(count))
-}
-
-// The value of an aggregate over the values taken.
-pub fn finish(function: u8, a: Accumulator) -> Ratio
-    requires { ⌜ N.Bounded a × (a .count ≤ 65535) ⌝ }
-    ensures { λ r. ⌜ r ≡ N.represent (N.finished function a) ⌝ }
+// The best of so many values; of none, nothing.
+fn best(count: u64, x: i64) -> Ratio
+    requires { ⌜ natAbs x ≤ 2147483648 ⌝ }
+    ensures { λ r. ⌜ N.valueOf r ≡ N.bestOf count x ⌝ }
     ensures { λ r. ⌜ N.Small r ⌝ }
 {
+    if count == 0 {
+        return over(0, 0);
+    }
+    over(x, 1)
+}
+
+// The value of an aggregate over the values taken. AVE of none is 0 over 0, nothing.
+pub fn finish(function: u8, a: Accumulator) -> Ratio
+    requires { ⌜ N.Bounded a × (a .count ≤ 65535) ⌝ }
+    ensures { λ r. ⌜ N.valueOf r ≡ N.finished function a ⌝ }
+    ensures { λ r. ⌜ N.Small r ⌝ }
+{
+    let n = a.count;
+    let sum = a.sum;
+    let max = a.max;
+    let min = a.min;
     match function {
-        1 => over(counted(a.count), 1),
-        2 => over(a.sum, 1),
-        3 => average(a.count, a.sum),
-        4 => over(a.max, 1),
-        _ => over(a.min, 1),
+        1 => over(counted(n), 1),
+        2 => over(sum, 1),
+        3 => over(sum, counted(n)),
+        4 => best(n, max),
+        _ => best(n, min),
     }
 }
 
@@ -215,7 +226,7 @@ fn at(memo: &[i64], i: usize) -> i64
     if i < memo.len() { memo[i] } else { 0 }
 }
 
-// Where a variable's numerator stands; its denominator follows.
+// Where a variable's numerator stands; its denominator, raised by one, follows: 0 there says that nothing is kept, 1 that the value is nothing.
 fn place(variable: u8) -> usize
     ensures { λ r. ⌜ r ≡ 2 * variable ⌝ }
     ensures { λ r. ⌜ r ≤ 510 ⌝ }
@@ -238,17 +249,19 @@ pub fn knows(memo: &[i64], variable: u8) -> bool
     if !within(-140735340871680, at(memo, i), 140735340871680) {
         return false;
     }
-    within(1, at(memo, i + 1), 65535)
+    within(1, at(memo, i + 1), 65536)
 }
 
 // The value that the memo has.
 pub fn recall(memo: &[i64], variable: u8) -> Ratio
     requires { ⌜ Memo.knows (now memo) variable ≡ true ⌝ }
-    ensures { λ r. ⌜ r ≡ N.represent (Memo.recalled (now (memo .entry)) variable) ⌝ }
+    ensures { λ r. ⌜ N.valueOf r ≡ Memo.recalled (now (memo .entry)) variable ⌝ }
     ensures { λ r. ⌜ N.Small r ⌝ }
 {
     let i = place(variable);
-    over(at(memo, i), at(memo, i + 1))
+    let n = at(memo, i);
+    let mark = at(memo, i + 1);
+    over(n, mark - 1)
 }
 
 fn put(memo: &mut [i64], i: usize, x: i64)
@@ -259,12 +272,30 @@ fn put(memo: &mut [i64], i: usize, x: i64)
     }
 }
 
+// Nothing is kept with the numerator 0, so that a value is kept in one way.
+fn numerator(x: Ratio) -> i64
+    requires { ⌜ N.Small x ⌝ }
+    ensures { λ r. ⌜ r ≡ Memo.numeratorOf (N.valueOf x) ⌝ }
+{
+    let n = x.numerator;
+    let d = x.denominator;
+    if d <= 0 { 0 } else { n }
+}
+
+fn mark(x: Ratio) -> i64
+    requires { ⌜ N.Small x ⌝ }
+    ensures { λ r. ⌜ r ≡ Memo.markOf (N.valueOf x) ⌝ }
+{
+    let d = x.denominator;
+    d + 1
+}
+
 // Keeps a variable's value.
 pub fn remember(memo: &mut [i64], variable: u8, x: Ratio)
     requires { ⌜ N.Small x ⌝ }
-    ensures { λ _. ⌜ now (memo .exit) ≡ Memo.remembered (now (memo .entry)) variable x ⌝ }
+    ensures { λ _. ⌜ now (memo .exit) ≡ Memo.remembered (now (memo .entry)) variable (N.valueOf x) ⌝ }
 {
     let i = place(variable);
-    put(memo, i, x.numerator);
-    put(memo, i + 1, x.denominator);
+    put(memo, i, numerator(x));
+    put(memo, i + 1, mark(x));
 }

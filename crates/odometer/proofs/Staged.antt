@@ -22,7 +22,7 @@ use Rattle.conjuncts.proofs.Below.{and-and, all-last}
 use Rattle.conjuncts.specs.Stages.{stageHolds, stagesHold, Extends, Steady, Planned}
 use Rattle.odometer.specs.Staged.{stagedFrom, depthHolds}
 use Rattle.odometer.specs.declared.Plan.{Plan}
-use Rattle.odometer.specs.Plan.{rowBy, rowsFrom}
+use Rattle.odometer.specs.Plan.{rowsOf, rowsFrom}
 
 -- n + 1 tests, from test d on
 unfoldable pub depths : (ℕ → Bool) → ℕ → ℕ → Bool
@@ -151,8 +151,8 @@ planned-rows t xs q z ws vs m c bs p e =
 
 -- what the odometer finds for a planned condition, from its start
 pub rows-planned : (p : Plan) (t : List ℕ) (xs : List ℤ) (q z ws : List ℕ) (vs m : List ℤ) (c : Condition) (ranges : List ℕ) → p .depth ≡ 0 → Planned t xs q z ws vs m c (rangesAt (p .left) ranges) → (e : Assignment)
-    → rowsFrom p t xs q z ws vs m ranges e ≡ map (rowBy p q z ws vs m) (filter (holdsBy m c (rowsBy ws vs)) (assignments (rangesAt (p .left) ranges) (rowsBy ws vs) e))
+    → rowsFrom p t xs q z ws vs m ranges e ≡ rowsOf p q z ws vs m (filter (holdsBy m c (rowsBy ws vs)) (assignments (rangesAt (p .left) ranges) (rowsBy ws vs) e))
 unfolding rowsFrom
 rows-planned p t xs q z ws vs m c ranges h w e =
-    ap (λ (d : ℕ). map (rowBy p q z ws vs m) (stagedFrom (depthHolds t xs q z ws vs m) d (rangesAt (p .left) ranges) (rowsBy ws vs) e)) h
-    ∙ ap (map (rowBy p q z ws vs m)) (planned-rows t xs q z ws vs m c (rangesAt (p .left) ranges) w e)
+    ap (λ (d : ℕ). rowsOf p q z ws vs m (stagedFrom (depthHolds t xs q z ws vs m) d (rangesAt (p .left) ranges) (rowsBy ws vs) e)) h
+    ∙ ap (rowsOf p q z ws vs m) (planned-rows t xs q z ws vs m c (rangesAt (p .left) ranges) w e)

@@ -2,18 +2,17 @@
 use mathlib.Core.Path.{_≡_, refl, sym, ap, ap₂, _∙_, subst}
 use mathlib.Core.Bool.{Bool, true, false, not}
 use mathlib.Core.List.{List, [], _∷_, _++_, map, map-append, append-nil}
+use mathlib.Core.Option.{Option, none, some}
 use Prim.Native.Nat.{ℕ, zero, suc, _+_, _-_, _*_, _≤_, _<_}
 use native.Mathlib.Omega.{arith}
 use native.Mathlib.Numerals.{sub-one, add-one}
 use lib.IntN.{ℤ}
-use lib.ListN.{length, getD, set, drop, take, length-map}
+use lib.ListN.{length, getD, set, drop, take}
 use lib.Seq.{sets, sets-eq, take-at, length-take-le}
-use Rattle.model.specs.Lists.{update, concatMap}
-use Rattle.model.specs.Syntax.{Binding}
-use Rattle.model.specs.Meaning.{Tuple, Assignment, Rows, cell}
-use Rattle.model.proofs.Tests.{not-yes, not-no}
-use Rattle.numbers.specs.Numbers.{represent, ratioOf}
-use Rattle.numbers.specs.declared.Ratio.{Ratio}
+use Rattle.model.specs.Lists.{update, concatMap, present}
+use Rattle.model.specs.Syntax.{Term, Binding}
+use Rattle.model.specs.Meaning.{Tuple, Assignment, Rows, Ratio, Value, cell, withCell}
+use Rattle.model.proofs.Tests.{not-yes, not-no, clash}
 use Rattle.kinds.specs.Tables.{recordLength}
 use Rattle.evaluator.specs.Recalled.{valueBy}
 use Rattle.walks.specs.Walks.{walkOf, placeAt, places, walked, rowsBy}
@@ -30,41 +29,81 @@ use Rattle.conjuncts.specs.Stages.{stageHolds}
 use Rattle.probes.proofs.Places.{places-alike, passed-over}
 use Rattle.odometer.specs.declared.Plan.{Plan}
 use Rattle.odometer.specs.Staged.{stagedFrom, depthHolds}
-use Rattle.odometer.specs.Plan.{cellsBy, rowBy, rowsFrom, rowsBelow}
+use Rattle.odometer.specs.Plan.{cellsBy, Written, addedRow, rowBy, rowsOf, rowsFrom, rowsBelow}
+
+-- the cell of one target before those of the others
+one-cell : (b : Bool) (row y w : List ℤ) (at : ℕ) (x : Ratio) (cells : Option (List ℤ)) → y ≡ set row at (cell x) → Written b y (at + 1) w cells → Written b row at w (withCell (some x) cells)
+one-cell b row y w at x none ey h = h
+one-cell b row y w at x (some cells) ey h = (h .0, h .1 ∙ rw (add-one, ey))
 
 module _ (ws : List ℕ) (vs m : List ℤ) (e q z : List ℕ) (left l at : ℕ) (row : List ℤ) where
-  pub targets-none : left ≡ 0 → row ≡ sets row at (cellsBy m (targetsAt left l q z) (rowsBy ws vs) (assigned vs e))
+  pub targets-none : left ≡ 0 → Written true row at row (cellsBy m (targetsAt left l q z) (rowsBy ws vs) (assigned vs e))
   unfolding targetsAt cellsBy
-  targets-none h = rw h
+  targets-none h = rw h (refl, refl)
 
-  pub targets-more : (x : Ratio) (c : ℤ) (n : ℕ) (y w : List ℤ) (u v e₁ : List ℕ) → (left ≡ 0 → ⊥) → x ≡ represent (valueAt l q z ws vs m e) → c ≡ cell (ratioOf x) → y ≡ set row at c
-      → n ≡ getD z 0 0 → u ≡ drop n q → v ≡ drop n z → e₁ ≡ e → w ≡ sets y (at + 1) (cellsBy m (targetsAt (left - 1) l u v) (rowsBy ws vs) (assigned vs e₁))
-      → w ≡ sets row at (cellsBy m (targetsAt left l q z) (rowsBy ws vs) (assigned vs e))
+  -- one target without value
+  pub targets-nothing : (w : List ℤ) → (left ≡ 0 → ⊥) → valueAt l q z ws vs m e ≡ none → Written false row at w (cellsBy m (targetsAt left l q z) (rowsBy ws vs) (assigned vs e))
   unfolding targetsAt cellsBy valueAt
-  targets-more x c n y w u v e₁ nz ex ec ey en eu ev ee ew = go left nz ew
+  targets-nothing w nz h = go left nz
     where
-      go : (k : ℕ) → (k ≡ 0 → ⊥) → w ≡ sets y (at + 1) (cellsBy m (targetsAt (k - 1) l u v) (rowsBy ws vs) (assigned vs e₁)) → w ≡ sets row at (cellsBy m (targetsAt k l q z) (rowsBy ws vs) (assigned vs e))
+      go : (k : ℕ) → (k ≡ 0 → ⊥) → Written false row at w (cellsBy m (targetsAt k l q z) (rowsBy ws vs) (assigned vs e))
+      go zero k = absurd (k refl)
+      go (suc k) g = rw h refl
+
+  pub targets-more : (b : Bool) (x : Ratio) (c : ℤ) (n : ℕ) (y w : List ℤ) (u v e₁ : List ℕ) → (left ≡ 0 → ⊥) → valueAt l q z ws vs m e ≡ some x → c ≡ cell x → y ≡ set row at c
+      → n ≡ getD z 0 0 → u ≡ drop n q → v ≡ drop n z → e₁ ≡ e → Written b y (at + 1) w (cellsBy m (targetsAt (left - 1) l u v) (rowsBy ws vs) (assigned vs e₁))
+      → Written b row at w (cellsBy m (targetsAt left l q z) (rowsBy ws vs) (assigned vs e))
+  unfolding targetsAt cellsBy valueAt
+  targets-more b x c n y w u v e₁ nz ex ec ey en eu ev ee ew = go left nz ew
+    where
+      go : (k : ℕ) → (k ≡ 0 → ⊥) → Written b y (at + 1) w (cellsBy m (targetsAt (k - 1) l u v) (rowsBy ws vs) (assigned vs e₁)) → Written b row at w (cellsBy m (targetsAt k l q z) (rowsBy ws vs) (assigned vs e))
       go zero h f = absurd (h refl)
-      go (suc k) h f = f ∙ rw (sub-one, ee, eu, ev, en, add-one, ey, ec, ex)
+      go (suc k) h f =
+          let rest = cellsBy m (targetsAt k l (drop (getD z 0 0) q) (drop (getD z 0 0) z)) (rowsBy ws vs) (assigned vs e) in
+          let same : cellsBy m (targetsAt (suc k - 1) l u v) (rowsBy ws vs) (assigned vs e₁) ≡ rest = rw (sub-one, ee, eu, ev, en) in
+          rw ex (one-cell b row y w at x rest (ey ∙ ap (set row at) ec) (subst (Written b y (at + 1) w) same f))
 
 length-targets : (n l : ℕ) (q z : List ℕ) → length (targetsAt n l q z) ≡ n
 unfolding targetsAt
 length-targets zero l q z = refl
 length-targets (suc n) l q z = ap suc (length-targets n l _ _)
 
-length-row : (n l : ℕ) (q z : List ℕ) (m : List ℤ) (R : Rows) (e : Assignment) → length (cellsBy m (targetsAt n l q z) R e) ≡ n
+length-cells : (m : List ℤ) (ts : List Term) (R : Rows) (e : Assignment) (x : List ℤ) → cellsBy m ts R e ≡ some x → length x ≡ length ts
 unfolding cellsBy
-length-row n l q z m R e = length-map (targetsAt n l q z) (λ t. cell (valueBy m t R e)) ∙ length-targets n l q z
+length-cells m [] R e x h = let k : [] ≡ x = cc in sym (ap length k)
+length-cells m (t ∷ ts) R e x h = go (valueBy m t R e) (cellsBy m ts R e) (λ row g. length-cells m ts R e row g) h
+  where
+    go : (v : Value) (row : Option (List ℤ)) → ((xs : List ℤ) → row ≡ some xs → length xs ≡ length ts) → withCell v row ≡ some x → length x ≡ suc (length ts)
+    go none row g k = let z : _≡_ {A = ℕ} 0 1 = cc in absurd (omega arith)
+    go (some y) none g k = let z : _≡_ {A = ℕ} 0 1 = cc in absurd (omega arith)
+    go (some y) (some row) g k = let l : cell y ∷ row ≡ x = cc in sym (ap length l) ∙ ap suc (g row refl)
 
 -- the first cells of a row that was written from its start
 written : (n : ℕ) (row xs : List ℤ) → length xs ≡ n → n ≤ length row → take n (sets row 0 xs) ≡ xs
 written n row xs e h = let k : 0 + length xs ≤ length row = omega arith in ap (take n) (sets-eq xs row 0 k) ∙ take-at xs (drop (0 + length xs) row) n e
 
-pub write-row : (p : Plan) (ws : List ℕ) (vs m : List ℤ) (e q z : List ℕ) (s : Buffer) (u v : List ℕ) (row row₀ : List ℤ) (r : Buffer) → u ≡ drop (p .targets) q → v ≡ drop (p .targets) z
-    → row ≡ sets row₀ 0 (cellsBy m (targetsAt (p .columns) (p .level) u v) (rowsBy ws vs) (assigned vs e)) → p .columns ≤ length row₀ → r ≡ added s (take (p .columns) row)
-    → r ≡ added s (rowBy p q z ws vs m (assigned vs e))
-write-row p ws vs m e q z s u v row row₀ r eu ev er hl e′ =
-    e′ ∙ ap (added s) (ap (take (p .columns)) (er ∙ rw (eu, ev)) ∙ written (p .columns) row₀ (rowBy p q z ws vs m (assigned vs e)) (length-row (p .columns) (p .level) (drop (p .targets) q) (drop (p .targets) z) m (rowsBy ws vs) (assigned vs e)) hl)
+module _ (p : Plan) (ws : List ℕ) (vs m : List ℤ) (e q z : List ℕ) (s : Buffer) (u v : List ℕ) (row row₀ : List ℤ) (b : Bool) (eu : u ≡ drop (p .targets) q) (ev : v ≡ drop (p .targets) z)
+    (eb : Written b row₀ 0 row (cellsBy m (targetsAt (p .columns) (p .level) u v) (rowsBy ws vs) (assigned vs e))) where
+  here : Written b row₀ 0 row (rowBy p q z ws vs m (assigned vs e))
+  here =
+      let same : cellsBy m (targetsAt (p .columns) (p .level) u v) (rowsBy ws vs) (assigned vs e) ≡ rowBy p q z ws vs m (assigned vs e) = rw (eu, ev) in
+      subst (Written b row₀ 0 row) same eb
+
+  pub write-none : not b ≡ true → s ≡ addedRow s (rowBy p q z ws vs m (assigned vs e))
+  write-none h = go (rowBy p q z ws vs m (assigned vs e)) here
+    where
+      go : (cells : Option (List ℤ)) → Written b row₀ 0 row cells → s ≡ addedRow s cells
+      go none k = refl
+      go (some x) k = clash (sym (not-yes b h) ∙ k .0)
+
+  pub write-row : (r : Buffer) → not b ≡ false → p .columns ≤ length row₀ → r ≡ added s (take (p .columns) row) → r ≡ addedRow s (rowBy p q z ws vs m (assigned vs e))
+  write-row r h hl e′ = go (rowBy p q z ws vs m (assigned vs e)) refl here
+    where
+      go : (cells : Option (List ℤ)) → rowBy p q z ws vs m (assigned vs e) ≡ cells → Written b row₀ 0 row cells → r ≡ addedRow s cells
+      go none g k = clash (sym k ∙ not-no b h)
+      go (some x) g k =
+          let l = length-cells m (targetsAt (p .columns) (p .level) (drop (p .targets) q) (drop (p .targets) z)) (rowsBy ws vs) (assigned vs e) x g ∙ length-targets (p .columns) (p .level) (drop (p .targets) q) (drop (p .targets) z) in
+          e′ ∙ ap (added s) (ap (take (p .columns)) (k .1) ∙ written (p .columns) row₀ x l hl)
 
 -- the row handed on has as many cells as the plan says
 module _ (n : ℕ) (row : List ℤ) (k : ℕ) (cells : List ℤ) (t : List ℕ) (h : n ≤ length row) where
@@ -88,22 +127,37 @@ unfolding stagedFrom
 staged-no T d [] R e h = rw h
 staged-no T d (b ∷ bs) R e h = rw h
 
+-- the rows of several assignments, one after the other
+present-append : (xs ys : List (Option (List ℤ))) → present (xs ++ ys) ≡ present xs ++ present ys
+unfolding present
+present-append [] ys = refl
+present-append (none ∷ xs) ys = present-append xs ys
+present-append (some x ∷ xs) ys = ap (_∷_ x) (present-append xs ys)
+
+rows-append : (p : Plan) (q z ws : List ℕ) (vs m : List ℤ) (a b : List Assignment) → rowsOf p q z ws vs m (a ++ b) ≡ rowsOf p q z ws vs m a ++ rowsOf p q z ws vs m b
+rows-append p q z ws vs m a b = ap present (map-append (rowBy p q z ws vs m) a b) ∙ present-append (map (rowBy p q z ws vs m) a) (map (rowBy p q z ws vs m) b)
+
+one-row-added : (s : Buffer) (x : Option (List ℤ)) → addedRow s x ≡ addedAll s (present (x ∷ []))
+unfolding addedAll present
+one-row-added s none = refl
+one-row-added s (some x) = refl
+
 module _ (p : Plan) (t : List ℕ) (xs : List ℤ) (q z ws : List ℕ) (vs m : List ℤ) (ranges e : List ℕ) (s : Buffer) where
   pub run-full : s .full ≡ true → s ≡ addedAll s (rowsFrom p t xs q z ws vs m ranges (assigned vs e))
   run-full h = sym (full-stays s (rowsFrom p t xs q z ws vs m ranges (assigned vs e)) h)
 
   module _ (b : Bool) (eb : b ≡ depthHolds t xs q z ws vs m (p .depth) (assigned vs e)) where
     pub run-no : not b ≡ true → s ≡ addedAll s (rowsFrom p t xs q z ws vs m ranges (assigned vs e))
-    unfolding rowsFrom addedAll
-    run-no h = sym (ap (λ (l : List Assignment). addedAll s (map (rowBy p q z ws vs m) l)) (staged-no (depthHolds t xs q z ws vs m) (p .depth) (rangesAt (p .left) ranges) (rowsBy ws vs) (assigned vs e) (sym eb ∙ not-yes b h)))
+    unfolding rowsFrom addedAll present
+    run-no h = sym (ap (λ (l : List Assignment). addedAll s (rowsOf p q z ws vs m l)) (staged-no (depthHolds t xs q z ws vs m) (p .depth) (rangesAt (p .left) ranges) (rowsBy ws vs) (assigned vs e) (sym eb ∙ not-yes b h)))
 
-    pub run-row : (r : Buffer) (e₁ : List ℕ) → not b ≡ false → p .left ≡ 0 → e₁ ≡ e → r ≡ added s (rowBy p q z ws vs m (assigned vs e₁)) → r ≡ addedAll s (rowsFrom p t xs q z ws vs m ranges (assigned vs e))
-    unfolding rowsFrom addedAll stagedFrom rangesAt
-    run-row r e₁ h hl ee er = er ∙ ap (λ (x : List ℕ). added s (rowBy p q z ws vs m (assigned vs x))) ee ∙ sym (rw (hl, sym eb ∙ not-no b h))
+    pub run-row : (r : Buffer) (e₁ : List ℕ) → not b ≡ false → p .left ≡ 0 → e₁ ≡ e → r ≡ addedRow s (rowBy p q z ws vs m (assigned vs e₁)) → r ≡ addedAll s (rowsFrom p t xs q z ws vs m ranges (assigned vs e))
+    unfolding rowsFrom stagedFrom rangesAt
+    run-row r e₁ h hl ee er = er ∙ ap (λ (x : List ℕ). addedRow s (rowBy p q z ws vs m (assigned vs x))) ee ∙ one-row-added s (rowBy p q z ws vs m (assigned vs e)) ∙ sym (rw (hl, sym eb ∙ not-no b h))
 
     pub run-rows : (r : Buffer) (e₁ : List ℕ) → not b ≡ false → (p .left ≡ 0 → ⊥) → e₁ ≡ e → r ≡ addedAll s (rowsBelow p t xs q z ws vs m ranges (assigned vs e₁)) → r ≡ addedAll s (rowsFrom p t xs q z ws vs m ranges (assigned vs e))
     unfolding rowsFrom rowsBelow stagedFrom rangesAt
-    run-rows r e₁ h hl ee er = er ∙ ap (λ (x : List ℕ). addedAll s (rowsBelow p t xs q z ws vs m ranges (assigned vs x))) ee ∙ ap (λ (l : List Assignment). addedAll s (map (rowBy p q z ws vs m) l)) (go (p .left) hl)
+    run-rows r e₁ h hl ee er = er ∙ ap (λ (x : List ℕ). addedAll s (rowsBelow p t xs q z ws vs m ranges (assigned vs x))) ee ∙ ap (λ (l : List Assignment). addedAll s (rowsOf p q z ws vs m l)) (go (p .left) hl)
       where
         go : (k : ℕ) → (k ≡ 0 → ⊥) → concatMap (λ x. stagedFrom (depthHolds t xs q z ws vs m) (suc (p .depth)) (rangesAt (k - 1) (drop (recordLength 1) ranges)) (rowsBy ws vs) (update (assigned vs e) (getD ranges 1 0) x)) (walked ws vs (getD ranges 1 0))
             ≡ stagedFrom (depthHolds t xs q z ws vs m) (p .depth) (rangesAt k ranges) (rowsBy ws vs) (assigned vs e)
@@ -112,18 +166,18 @@ module _ (p : Plan) (t : List ℕ) (xs : List ℤ) (q z ws : List ℕ) (vs m : L
 
 -- the rows of the first i rows of a range variable, which stand at the places P 0, P 1 and so on
 abbrev pub passed : Plan → List ℕ → List ℤ → List ℕ → List ℕ → List ℕ → List ℤ → List ℤ → List ℕ → ℕ → List ℕ → (ℕ → ℕ) → ℕ → List (List ℤ)
-passed p t xs q z ws vs m e v rest P i = map (rowBy p q z ws vs m) (concatMap (λ x. stagedFrom (depthHolds t xs q z ws vs m) (p .depth) (rangesAt (p .left) rest) (rowsBy ws vs) (update (assigned vs e) v x)) (map (tupleAt vs) (places P 0 i)))
+passed p t xs q z ws vs m e v rest P i = rowsOf p q z ws vs m (concatMap (λ x. stagedFrom (depthHolds t xs q z ws vs m) (p .depth) (rangesAt (p .left) rest) (rowsBy ws vs) (update (assigned vs e) v x)) (map (tupleAt vs) (places P 0 i)))
 
 module _ (p : Plan) (t : List ℕ) (xs : List ℤ) (q z ws : List ℕ) (vs m : List ℤ) (e : List ℕ) (v : ℕ) (rest : List ℕ) (P : ℕ → ℕ) (u : Buffer) where
   each-start : u ≡ addedAll u (passed p t xs q z ws vs m e v rest P 0)
-  unfolding concatMap places addedAll
+  unfolding concatMap places addedAll present
   each-start = refl
 
   abbrev below : Tuple → List Assignment
   below x = stagedFrom (depthHolds t xs q z ws vs m) (p .depth) (rangesAt (p .left) rest) (rowsBy ws vs) (update (assigned vs e) v x)
 
-  one-row : (i : ℕ) → passed p t xs q z ws vs m e v rest P (i + 1) ≡ passed p t xs q z ws vs m e v rest P i ++ map (rowBy p q z ws vs m) (below (tupleAt vs (P i)))
-  one-row i = ap (map (rowBy p q z ws vs m)) (concat-to P below vs i) ∙ map-append (rowBy p q z ws vs m) (concatMap below (map (tupleAt vs) (places P 0 i))) (below (tupleAt vs (P i)))
+  one-row : (i : ℕ) → passed p t xs q z ws vs m e v rest P (i + 1) ≡ passed p t xs q z ws vs m e v rest P i ++ rowsOf p q z ws vs m (below (tupleAt vs (P i)))
+  one-row i = ap (rowsOf p q z ws vs m) (concat-to P below vs i) ∙ rows-append p q z ws vs m (concatMap below (map (tupleAt vs) (places P 0 i))) (below (tupleAt vs (P i)))
 
   -- row i
   each-row : (i row : ℕ) (c r : Buffer) (y : List ℕ) → c ≡ addedAll u (passed p t xs q z ws vs m e v rest P i) → row ≡ P i → v < length e → y ≡ set e v row
@@ -134,15 +188,15 @@ module _ (p : Plan) (t : List ℕ) (xs : List ℤ) (q z ws : List ℕ) (vs m : L
       let n = ap (λ (l : List ℕ). assigned vs l) ey ∙ assigned-set vs e v row hv ∙ ap (λ (k : ℕ). update (assigned vs e) v (tupleAt vs k)) ei in
       er
       ∙ ap₂ (λ (c : Buffer) (a : Assignment). addedAll c (rowsFrom p t xs q z ws vs m rest a)) ec n
-      ∙ sym (added-append u (passed p t xs q z ws vs m e v rest P i) (map (rowBy p q z ws vs m) (below (tupleAt vs (P i)))))
+      ∙ sym (added-append u (passed p t xs q z ws vs m e v rest P i) (rowsOf p q z ws vs m (below (tupleAt vs (P i)))))
       ∙ ap (addedAll u) (sym (one-row i))
 
   -- a row that fails a conjunct gives nothing
   none-here : (i : ℕ) → stageHolds t xs q z ws vs m (2 * p .depth) (update (assigned vs e) v (tupleAt vs (P i))) ≡ false → passed p t xs q z ws vs m e v rest P (i + 1) ≡ passed p t xs q z ws vs m e v rest P i
-  unfolding depthHolds
+  unfolding depthHolds present
   none-here i h =
       one-row i
-      ∙ ap (λ (l : List Assignment). passed p t xs q z ws vs m e v rest P i ++ map (rowBy p q z ws vs m) l) (staged-no (depthHolds t xs q z ws vs m) (p .depth) (rangesAt (p .left) rest) (rowsBy ws vs) (update (assigned vs e) v (tupleAt vs (P i))) (rw h))
+      ∙ ap (λ (l : List Assignment). passed p t xs q z ws vs m e v rest P i ++ rowsOf p q z ws vs m l) (staged-no (depthHolds t xs q z ws vs m) (p .depth) (rangesAt (p .left) rest) (rowsBy ws vs) (update (assigned vs e) v (tupleAt vs (P i))) (rw h))
       ∙ append-nil (passed p t xs q z ws vs m e v rest P i)
 
   -- the rows that were passed over

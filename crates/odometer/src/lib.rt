@@ -1,18 +1,17 @@
 // The odometer: range variables run over their rows, the last RANGE fastest. Each conjunct is tried as soon as the variables that it needs
-// are bound; an assignment that meets all of them gives a row.
+// are bound; an assignment that meets all of them gives a row, if each target has a value.
 use rows::Filled;
 ghost use mathlib.Core.Path.{_≡_};
 ghost use Prim.Native.Nat.{ℕ, _≤_, _<_, _+_, _-_};
 ghost use lib.ListN.{length, getD};
-ghost use lib.Seq.{sets};
 ghost use Rattle.sizes.specs.Parts.{targetsAt};
-ghost use Rattle.rows.specs.Buffer.{added, addedAll};
+ghost use Rattle.rows.specs.Buffer.{addedAll};
 ghost use Rattle.rows.specs.Chains.{Linked};
 ghost use Rattle.walks.specs.Walks.{rowsBy};
 ghost use Rattle.seeks.specs.Keys.{Faithful};
 ghost use Rattle.evaluator.specs.Evaluation.{assigned};
 ghost use Rattle.odometer.specs.Staged.{depthHolds};
-ghost use Rattle.odometer.specs.Plan.{Bounds, cellsBy, rowBy, rowsFrom, rowsBelow};
+ghost use Rattle.odometer.specs.Plan.{Bounds, cellsBy, Written, addedRow, rowBy, rowsFrom, rowsBelow};
 
 // Chains for what is walked again and again: the ranges after the first, and the rows that a branch asks for.
 pub fn link(q: &[u8], ranges: usize, t: &[u16], walks: &[u16], values: &[i32], chains: &mut [u16])
@@ -39,7 +38,7 @@ pub struct Plan {
     pub depth: usize,
 }
 
-// The cells of the targets, from cell `at` of the row on.
+// The cells of the targets, from cell `at` of the row on; whether each target has a value, for without one there is no row.
 fn targets(
     q: &[u8],
     z: &[u16],
@@ -51,23 +50,28 @@ fn targets(
     env: &mut [usize],
     row: &mut [i64],
     at: usize,
-)
+) -> bool
     requires { ⌜ (256 ≤ length (now env)) × (at + left ≤ length (now row)) ⌝ }
-    ensures { λ _. ⌜ now (row .exit) ≡ sets (now (row .entry)) at (cellsBy (now (memo .entry)) (targetsAt left level (now (q .entry)) (now (z .entry))) (rowsBy (now (walks .entry)) (now (vs .entry))) (assigned (now (vs .entry)) (now (env .entry)))) ⌝ }
+    ensures { λ r. ⌜ Written r (now (row .entry)) at (now (row .exit)) (cellsBy (now (memo .entry)) (targetsAt left level (now (q .entry)) (now (z .entry))) (rowsBy (now (walks .entry)) (now (vs .entry))) (assigned (now (vs .entry)) (now (env .entry)))) ⌝ }
     ensures { λ _. ⌜ now (env .exit) ≡ now (env .entry) ⌝ }
 {
     if left == 0 {
-        return;
+        return true;
     }
-    let x = numbers::cell(evaluator::term(q, z, level, walks, vs, memo, env));
-    row[at] = x;
+    let x = evaluator::term(q, z, level, walks, vs, memo, env);
+    let d = x.denominator;
+    if d <= 0 {
+        return false;
+    }
+    let cell = numbers::cell(x);
+    row[at] = cell;
     let n = kinds::size_at(z, 0);
     let u = kinds::tail(q, n);
     let v = kinds::tail_sizes(z, n);
-    targets(u, v, left - 1, level, walks, vs, memo, env, row, at + 1);
+    targets(u, v, left - 1, level, walks, vs, memo, env, row, at + 1)
 }
 
-// The row of one assignment.
+// The row of one assignment, if each of its targets has a value.
 fn write(
     q: &[u8],
     z: &[u16],
@@ -81,7 +85,7 @@ fn write(
     state: Filled,
 ) -> Filled
     requires { ⌜ (256 ≤ length (now env)) × (plan .columns ≤ 8) × Linked (plan .columns) (state .rows) (now answer) (now table) ⌝ }
-    ensures { λ r. ⌜ record { rows = r .rows; full = r .full; cells = now (answer .exit) } ≡ added (record { rows = state .rows; full = state .full; cells = now (answer .entry) }) (rowBy plan (now (q .entry)) (now (z .entry)) (now (walks .entry)) (now (vs .entry)) (now (memo .entry)) (assigned (now (vs .entry)) (now (env .entry)))) ⌝ }
+    ensures { λ r. ⌜ record { rows = r .rows; full = r .full; cells = now (answer .exit) } ≡ addedRow (record { rows = state .rows; full = state .full; cells = now (answer .entry) }) (rowBy plan (now (q .entry)) (now (z .entry)) (now (walks .entry)) (now (vs .entry)) (now (memo .entry)) (assigned (now (vs .entry)) (now (env .entry)))) ⌝ }
     ensures { λ _. ⌜ now (env .exit) ≡ now (env .entry) ⌝ }
     ensures { λ r. ⌜ Linked (plan .columns) (r .rows) (now (answer .exit)) (now (table .exit)) ⌝ }
 {
@@ -91,7 +95,9 @@ fn write(
     let x = kinds::tail(q, t);
     let y = kinds::tail_sizes(z, t);
     let mut row = [0i64; 8];
-    targets(x, y, n, level, walks, vs, memo, env, &mut row, 0);
+    if !targets(x, y, n, level, walks, vs, memo, env, &mut row, 0) {
+        return state;
+    }
     rows::add_row(answer, table, state, &row[..n])
 }
 

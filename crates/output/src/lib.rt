@@ -118,7 +118,7 @@ fn respond_with(
     accepted(r.rows, r.columns, r.length, rewritten, answer, out)
 }
 
-// The program as a function: the text that it prints of its files, at the start of the lent buffer, and its length.
+// The program as a function: the text that it prints of its files, at the start of the lent buffer, and its length. Past it the buffer is as it was.
 pub fn respond(
     catalogue: &[u8],
     file: &[u8],
@@ -129,6 +129,7 @@ pub fn respond(
     requires { ⌜ 470000 ≤ length (now out) ⌝ }
     ensures { λ r. ⌜ Counts r (now (out .exit)) ⌝ }
     ensures { λ r. ⌜ take r (now (out .exit)) ≡ O.output (now (catalogue .entry)) (now (file .entry)) (now (permits .entry)) (now (question .entry)) ⌝ }
+    ensures { λ _. ⌜ now (out .exit) ≡ sets (now (out .entry)) 0 (O.output (now (catalogue .entry)) (now (file .entry)) (now (permits .entry)) (now (question .entry))) ⌝ }
 {
     let mut values = [0i32; 8192];
     let mut rewritten = [0u8; 17216];

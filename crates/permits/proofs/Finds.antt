@@ -2,92 +2,19 @@
 use mathlib.Core.Path.{_≡_, refl, sym, ap, ap₂, _∙_}
 use mathlib.Core.Bool.{Bool, true, false, not, cond, _&&_, _||_}
 use mathlib.Core.List.{List, [], _∷_}
-use Prim.Native.Nat.{ℕ, zero, suc, _-_, _<_, _≤_}
+use Prim.Native.Nat.{ℕ, zero, suc, _-_, _<_}
 use native.Mathlib.Omega.{arith}
-use lib.Dec.{eqb, leb, ltb}
-use lib.ListN.{length, getD, take, drop}
+use lib.Dec.{eqb}
+use lib.ListN.{getD, take, drop}
 use lib.Seq.{getD-drop}
-use borrow.Author.Tests.{not-true, not-false, eqb-true, eq-eqb, ne-eqb, lt-leb, le-leb, lt-ltb, le-ltb}
-use Rattle.model.specs.Lists.{all, below, unique}
-use Rattle.model.specs.Syntax.{Condition, variables}
-use Rattle.model.specs.Encoding.{Read, fail, ok, failed, readCondition}
+use borrow.Author.Tests.{not-true, not-false, eqb-true, eq-eqb, ne-eqb}
+use Rattle.model.specs.Lists.{all, below}
 use Rattle.model.specs.Permits.{bit}
-use Rattle.model.specs.Checks.{refusal}
-use Rattle.model.proofs.Tests.{clash, or-false}
 use Rattle.kinds.specs.Tables.{recordLength}
-use Rattle.catalogue.specs.Layout.{storedOf, countOf, attributesOf}
-use Rattle.scans.specs.Flat.{flatBindings, storedIn}
 use Rattle.scans.proofs.Lists.{all-join}
-use Rattle.sizes.specs.declared.Size.{Size}
-use Rattle.sizes.specs.declared.Size.the-variants.{Bytes, Refused}
-use Rattle.sizes.specs.Measured.{sizeRead, conditionSize}
-use Rattle.permits.specs.Entries.{Entry, spanAfter, spanOf, conditionOf, maskOf, entryAt, entries}
+use Rattle.permits.specs.Entries.{Entry, spanAfter, spanOf, conditionOf, maskOf, entryAt}
 use Rattle.permits.specs.Applying.{agree, allUsed, noAccessAt, appliesTo, barsFrom}
-use Rattle.permits.specs.Limits.{fitsLimits, overLimits, attributesIn, maskIn, inReach, knownIn, overStored, listChecks}
-
-abbrev isBytes : Size → Bool
-isBytes (Bytes n) = true
-isBytes Refused = false
-
--- 21: levels
-pub shallow-yes : (q : List ℕ) (s : Size) (n : ℕ) → s ≡ conditionSize 16 q → s ≡ Bytes n → true ≡ not (failed (readCondition 16 q))
-unfolding conditionSize
-shallow-yes q s n e h = go (readCondition 16 q) (sym e ∙ h)
-  where
-    go : (x : Read Condition) → sizeRead q x ≡ Bytes n → true ≡ not (failed x)
-    go fail k = clash (ap isBytes k)
-    go (ok a r) k = refl
-
-pub shallow-no : (q : List ℕ) (s : Size) → s ≡ conditionSize 16 q → s ≡ Refused → false ≡ not (failed (readCondition 16 q))
-unfolding conditionSize
-shallow-no q s e h = go (readCondition 16 q) (sym e ∙ h)
-  where
-    go : (x : Read Condition) → sizeRead q x ≡ Refused → false ≡ not (failed x)
-    go fail k = refl
-    go (ok a r) k = clash (sym (ap isBytes k))
-
-module _ (list c : List ℕ) (ec : c ≡ conditionOf list) where
-  fits-of : (fitsLimits (entryAt list)) ≡ (leb (length c) 252 && (not (failed (readCondition 16 c)) && leb (length (flatBindings c)) 3))
-  unfolding fitsLimits
-  fits-of = ap (λ (x : List ℕ). leb (length x) 252 && (not (failed (readCondition 16 x)) && leb (length (flatBindings x)) 3)) (sym ec)
-
-  pub fits-long : 252 < length c → false ≡ fitsLimits (entryAt list)
-  fits-long h = sym (fits-of ∙ ap (λ (b : Bool). b && (not (failed (readCondition 16 c)) && leb (length (flatBindings c)) 3)) (lt-leb (length c) 252 h))
-
-  module _ (h : length c ≤ 252) (s : Bool) (es : s ≡ not (failed (readCondition 16 c))) where
-    fits-rest : fitsLimits (entryAt list) ≡ (s && leb (length (flatBindings c)) 3)
-    fits-rest = fits-of ∙ ap₂ (λ (b d : Bool). b && (d && leb (length (flatBindings c)) 3)) (le-leb (length c) 252 h) (sym es)
-
-    pub fits-deep : not s ≡ true → false ≡ fitsLimits (entryAt list)
-    fits-deep k = sym (fits-rest ∙ ap (λ (b : Bool). b && leb (length (flatBindings c)) 3) (not-true s k))
-
-    pub fits-is : (n : ℕ) → not s ≡ false → n ≡ length (flatBindings c) → leb n 3 ≡ fitsLimits (entryAt list)
-    fits-is n k en = ap (λ (m : ℕ). leb m 3) en ∙ sym (fits-rest ∙ ap (λ (b : Bool). b && leb (length (flatBindings c)) 3) (not-false s k))
-
-pub over-found : (es : List Entry) → false ≡ all fitsLimits es → true ≡ overLimits es
-unfolding overLimits
-over-found es h = sym (or-true (ltb 8 (length es))) ∙ ap (λ (b : Bool). ltb 8 (length es) || not b) h
-  where
-    or-true : (b : Bool) → (b || true) ≡ true
-    or-true true = refl
-    or-true false = refl
-
-pub over-count : (es : List Entry) (n : ℕ) → n ≡ length es → true ≡ all fitsLimits es → ltb 8 n ≡ overLimits es
-unfolding overLimits
-over-count es n en h = ap (ltb 8) en ∙ sym (or-false (ltb 8 (length es))) ∙ ap (λ (b : Bool). ltb 8 (length es) || not b) h
-
--- 23
-module _ (cb list : List ℕ) (k : ℕ) (s : Bool) (ek : k ≡ getD list 1 0) (es : s ≡ storedOf cb k) where
-  stored-of : overStored cb (entryAt list) ≡ (s && all (storedIn cb) (flatBindings (conditionOf list)))
-  unfolding overStored
-  stored-of = ap (λ (b : Bool). b && all (storedIn cb) (flatBindings (conditionOf list))) (sym (es ∙ ap (storedOf cb) ek))
-
-  pub stored-not : not s ≡ true → false ≡ overStored cb (entryAt list)
-  stored-not h = sym (stored-of ∙ ap (λ (b : Bool). b && all (storedIn cb) (flatBindings (conditionOf list))) (not-true s h))
-
-  pub stored-is : (c : List ℕ) (b : Bool) → not s ≡ false → c ≡ conditionOf list → b ≡ all (storedIn cb) (flatBindings c) → b ≡ overStored cb (entryAt list)
-  stored-is c b h ec eb =
-      eb ∙ ap (λ (x : List ℕ). all (storedIn cb) (flatBindings x)) ec ∙ sym (stored-of ∙ ap (λ (d : Bool). d && all (storedIn cb) (flatBindings (conditionOf list))) (not-false s h))
+use Rattle.permits.specs.Masks.{attributesIn, maskIn}
 
 -- NO ACCESS: the byte after the permit's head, unless it starts the next permit
 pub no-access-is : (list : List ℕ) (k : ℕ) → k ≡ getD list 4 0 → eqb k 17 ≡ noAccessAt (entryAt list)
@@ -177,61 +104,3 @@ module _ (n m : ℕ) where
 
   pub mask-is : (b : Bool) → (m ≡ 0 → ⊥) → (m ≡ 65535 → ⊥) → b ≡ attributesIn n m → b ≡ maskIn n m
   mask-is b h k eb = eb ∙ sym (mask-of h ∙ ap (λ (d : Bool). d || attributesIn n m) (ne-eqb m 65535 k))
-
--- 22: one permit
-module _ (cb list : List ℕ) (k : ℕ) (ek : k ≡ getD list 1 0) (n w : ℕ) (en : n ≡ countOf cb) (ew : w ≡ k) where
-  pub known-past : n ≤ w → false ≡ knownIn cb (entryAt list)
-  unfolding knownIn
-  known-past h = sym (ap (λ (b : Bool). (b && maskIn (attributesOf cb (getD list 1 0)) (maskOf list)) && rest) (le-ltb (getD list 1 0) (countOf cb) (omega (arith, ek, en, ew, h))))
-    where
-      rest : Bool
-      rest = inReach cb (getD list 1 0) (conditionOf list) && unique (0 ∷ variables (flatBindings (conditionOf list)))
-
-  module _ (h : w < n) (m a : ℕ) (em : m ≡ maskOf list) (ea : a ≡ attributesOf cb k) (x : Bool) (ex : x ≡ maskIn a m) where
-    known-of : knownIn cb (entryAt list) ≡ (x && (inReach cb (getD list 1 0) (conditionOf list) && unique (0 ∷ variables (flatBindings (conditionOf list)))))
-    unfolding knownIn
-    known-of =
-        ap₂ (λ (b d : Bool). (b && d) && (inReach cb (getD list 1 0) (conditionOf list) && unique (0 ∷ variables (flatBindings (conditionOf list)))))
-        (lt-ltb (getD list 1 0) (countOf cb) (omega (arith, ek, en, ew, h)))
-        (sym (ex ∙ ap₂ maskIn (ea ∙ ap (attributesOf cb) ek) em))
-
-    pub known-mask : not x ≡ true → false ≡ knownIn cb (entryAt list)
-    known-mask f = sym (known-of ∙ ap (λ (b : Bool). b && (inReach cb (getD list 1 0) (conditionOf list) && unique (0 ∷ variables (flatBindings (conditionOf list))))) (not-true x f))
-
-    module _ (f : not x ≡ false) (c : List ℕ) (ec : c ≡ conditionOf list) (y : Bool) (ey : y ≡ inReach cb k c) where
-      known-rest : knownIn cb (entryAt list) ≡ (y && unique (0 ∷ variables (flatBindings c)))
-      known-rest =
-          known-of
-          ∙ ap (λ (b : Bool). b && (inReach cb (getD list 1 0) (conditionOf list) && unique (0 ∷ variables (flatBindings (conditionOf list))))) (not-false x f)
-          ∙ ap₂ (λ (i : ℕ) (z : List ℕ). inReach cb i z && unique (0 ∷ variables (flatBindings z))) (sym ek) (sym ec)
-          ∙ ap (λ (b : Bool). b && unique (0 ∷ variables (flatBindings c))) (sym ey)
-
-      pub known-reach : not y ≡ true → false ≡ knownIn cb (entryAt list)
-      known-reach g = sym (known-rest ∙ ap (λ (b : Bool). b && unique (0 ∷ variables (flatBindings c))) (not-true y g))
-
-      pub known-is : (v : Bool) → not y ≡ false → v ≡ unique (0 ∷ variables (flatBindings c)) → v ≡ knownIn cb (entryAt list)
-      known-is v g ev = ev ∙ sym (known-rest ∙ ap (λ (b : Bool). b && unique (0 ∷ variables (flatBindings c))) (not-false y g))
-
--- the first check that fails
-module _ (cb pb : List ℕ) (o : Bool) (eo : o ≡ overLimits (entries pb)) where
-  pub check-21 : o ≡ true → 21 ≡ refusal (listChecks cb pb)
-  unfolding refusal listChecks
-  check-21 h = sym (ap (λ (b : Bool). cond b 21 (refusal ((not (all (knownIn cb) (entries pb)), 22) ∷ (not (all (overStored cb) (entries pb)), 23) ∷ []))) (sym eo ∙ h))
-
-  module _ (h : o ≡ false) (k : Bool) (ek : k ≡ all (knownIn cb) (entries pb)) where
-    check-of : refusal (listChecks cb pb) ≡ cond (not k) 22 (cond (not (all (overStored cb) (entries pb))) 23 0)
-    unfolding refusal listChecks
-    check-of = ap₂ (λ (b d : Bool). cond b 21 (cond (not d) 22 (cond (not (all (overStored cb) (entries pb))) 23 0))) (sym eo ∙ h) (sym ek)
-
-    pub check-22 : not k ≡ true → 22 ≡ refusal (listChecks cb pb)
-    check-22 f = sym (check-of ∙ ap (λ (b : Bool). cond b 22 (cond (not (all (overStored cb) (entries pb))) 23 0)) f)
-
-    module _ (f : not k ≡ false) (d : Bool) (ed : d ≡ all (overStored cb) (entries pb)) where
-      check-rest : refusal (listChecks cb pb) ≡ cond (not d) 23 0
-      check-rest = check-of ∙ ap₂ (λ (b y : Bool). cond b 22 (cond (not y) 23 0)) f (sym ed)
-
-      pub check-23 : not d ≡ true → 23 ≡ refusal (listChecks cb pb)
-      check-23 g = sym (check-rest ∙ ap (λ (b : Bool). cond b 23 0) g)
-
-      pub check-none : not d ≡ false → 0 ≡ refusal (listChecks cb pb)
-      check-none g = sym (check-rest ∙ ap (λ (b : Bool). cond b 23 0) g)

@@ -3,3 +3,4 @@ pub mod Loops
 pub mod Finds
 pub mod Reading
 pub mod Model
+pub mod Grants

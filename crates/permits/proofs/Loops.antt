@@ -1,41 +1,15 @@
--- One turn of a loop over the permits or over the attributes.
+-- One turn of a loop over the attributes.
 use mathlib.Core.Path.{_≡_, refl, sym, ap, _∙_}
 use mathlib.Core.Bool.{Bool, true, false, not, _&&_}
-use mathlib.Core.List.{List, [], _∷_}
-use Prim.Native.Nat.{ℕ, zero, suc, _+_, _<_, _≤_}
+use mathlib.Core.List.{[], _∷_}
+use Prim.Native.Nat.{ℕ, zero, suc, _+_, _<_}
 use native.Mathlib.Numerals.{add-one}
 use native.Mathlib.Omega.{arith}
 use borrow.Author.Tests.{not-true, not-false, eqb-true, eqb-false}
 use lib.Dec.{eqb}
-use lib.ListN.{length, drop}
 use Rattle.model.specs.Lists.{all, below}
 use Rattle.model.proofs.Tests.{and-true}
 use Rattle.scans.proofs.Lists.{all-join}
-use Rattle.permits.specs.Entries.{Entry, sizeOf, entryAt, entries}
-use Rattle.permits.proofs.Walk.{entries-on, entries-end}
-
--- a loop over the permits of x, at the permit that `rest` starts with
-module _ (x rest : List ℕ) (at : ℕ) (h : at < length x) (er : rest ≡ drop at x) where
-  module _ (t : Entry → Bool) (w b : Bool) (eb : b ≡ t (entryAt rest)) where
-    pub all-stopped : all t (entries (drop at x)) ≡ w → not b ≡ true → false ≡ w
-    unfolding all
-    all-stopped e hb = sym (ap (λ (y : Bool). y && all t (entries (drop (at + sizeOf rest) x))) (sym eb ∙ not-true b hb)) ∙ sym (ap (all t) (entries-on x rest at (sizeOf rest) h er refl)) ∙ e
-
-    pub all-on : (n : ℕ) → n ≡ sizeOf rest → all t (entries (drop at x)) ≡ w → not b ≡ false → all t (entries (drop (at + n) x)) ≡ w
-    unfolding all
-    all-on n en e hb = sym (ap (λ (y : Bool). y && all t (entries (drop (at + n) x))) (sym eb ∙ not-false b hb)) ∙ sym (ap (all t) (entries-on x rest at n h er en)) ∙ e
-
-  pub count-on : (n m w : ℕ) → n ≡ sizeOf rest → m + length (entries (drop at x)) ≡ w → m + 1 + length (entries (drop (at + n) x)) ≡ w
-  count-on n m w en e = omega (arith, e, ap length (entries-on x rest at n h er en))
-
--- nothing is left at the end
-module _ (x : List ℕ) (at : ℕ) (h : length x ≤ at) where
-  pub all-end : (t : Entry → Bool) (w : Bool) → all t (entries (drop at x)) ≡ w → true ≡ w
-  unfolding all
-  all-end t w e = sym (ap (all t) (entries-end x at h)) ∙ e
-
-  pub count-end : (m w : ℕ) → m + length (entries (drop at x)) ≡ w → m ≡ w
-  count-end m w e = omega (arith, e, ap length (entries-end x at h))
 
 and-false : (b : Bool) → (b && false) ≡ false
 and-false true = refl

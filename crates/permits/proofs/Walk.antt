@@ -88,21 +88,6 @@ pub entries-none : entries [] ≡ []
 unfolding entries entriesAfter
 entries-none = refl
 
-pub entries-end : (x : List ℕ) (at : ℕ) → length x ≤ at → entries (drop at x) ≡ []
-entries-end x at h = ap entries (drop-of-length-le x h) ∙ entries-none
-
-pub entries-on : (x rest : List ℕ) (at n : ℕ) → at < length x → rest ≡ drop at x → n ≡ sizeOf rest → entries (drop at x) ≡ entryAt rest ∷ entries (drop (at + n) x)
-entries-on x rest at n h er en =
-    let l : 0 < length (drop at x) = simp length-drop (omega arith) in
-    entries-cons (drop at x) l
-    ∙ ap (λ (y : List ℕ). entryAt y ∷ entries (drop (sizeOf (drop at x)) (drop at x))) (sym er)
-    ∙ ap (λ (y : List ℕ). entryAt rest ∷ entries y) (drop-drop (sizeOf (drop at x)) at x ∙ ap (λ (m : ℕ). drop (at + m) x) (ap sizeOf (sym er) ∙ sym en))
-
-pub size-room : (x rest : List ℕ) (at n : ℕ) → at < length x → rest ≡ drop at x → n ≤ length rest + 8 → at + n ≤ length x + 8
-size-room x rest at n h er en =
-    let l : length rest ≡ length x - at = ap length er ∙ length-drop at x in
-    omega (arith, l, h, en)
-
 -- a permit ends at most a record past the end
 span-most : (n : ℕ) (q : List ℕ) → spanAfter n q ≤ max n (length q + 4)
 unfolding spanAfter

@@ -1,3 +1,4 @@
 pub mod Entries
 pub mod Applying
-pub mod Limits
+pub mod Masks
+pub mod Granted

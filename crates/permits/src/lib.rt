@@ -1,18 +1,26 @@
-// The permit list: its permits one after the other, checks 21 to 23, and which of them apply.
-// Permits are found by a flat walk: inside a condition no record has their kind.
-use sizes::Size;
+// The permit list: its checks 20 to 23 from one reading, and which of its permits apply.
+// To find which apply permits are found by a flat walk: inside a condition no record has their kind.
+use conditions::Reading;
+use kinds::Record;
 ghost use mathlib.Core.Path.{_≡_};
-ghost use mathlib.Core.Bool.{not, _||_};
+ghost use mathlib.Core.Bool.{false, cond, not, _&&_, _||_};
+ghost use mathlib.Core.List.{_∷_};
 ghost use Prim.Native.Nat.{_+_, _≤_, _<_};
 ghost use lib.ListN.{length, take};
 ghost use lib.Dec.{ltb};
-ghost use Rattle.model.specs.Lists.{all};
-ghost use Rattle.model.specs.Encoding.{failed, readCondition};
+ghost use Rattle.model.specs.Lists.{all, unique};
+ghost use Rattle.model.specs.Syntax.{variables};
 ghost use Rattle.model.specs.Permits.{bit};
-ghost use Rattle.model.specs.Checks.{refusal};
-ghost use Rattle.permits.specs.Entries.{spanOf, conditionOf, sizeOf, maskOf, entryAt, entries};
+ghost use Rattle.model.specs.Catalogue.{catalogueOf, shapeOf};
+ghost use Rattle.model.specs.Checks.{fails10, fails20, permitChecks, refusal};
+ghost use Rattle.catalogue.specs.Layout.{countOf, storedOf, attributesOf};
+ghost use Rattle.scans.specs.Flat.{flatBindings, storedIn};
+ghost use Rattle.scope.specs.Reach.{shapeIn, permitScope};
+ghost use Rattle.conditions.specs.Answers.{conditionReading};
+ghost use Rattle.permits.specs.Entries.{spanOf, sizeOf, maskOf, entryAt};
 ghost use Rattle.permits.specs.Applying as App;
-ghost use Rattle.permits.specs.Limits as Lim;
+ghost use Rattle.permits.specs.Masks as Lim;
+ghost use Rattle.permits.specs.Granted.{Granted, Listed};
 
 // How many bytes come before the next permit.
 fn span(q: &[u8]) -> usize
@@ -35,14 +43,6 @@ pub fn part(q: &[u8], n: usize) -> &[u8]
     if n <= q.len() { &q[..n] } else { q }
 }
 
-// The condition of the permit that a list starts with.
-fn condition(list: &[u8]) -> &[u8]
-    ensures { λ r. ⌜ now r ≡ conditionOf (now (list .entry)) ⌝ }
-{
-    let rest = kinds::tail(list, 4);
-    part(rest, span(rest))
-}
-
 // How many bytes the permit takes that a list starts with.
 pub fn size(list: &[u8]) -> usize
     ensures { λ r. ⌜ r ≡ sizeOf (now (list .entry)) ⌝ }
@@ -59,7 +59,7 @@ fn wide(x: u8) -> u16
 }
 
 // The mask of the permit that a list starts with, low byte first.
-pub fn mask(list: &[u8]) -> u16
+fn mask(list: &[u8]) -> u16
     ensures { λ r. ⌜ r ≡ maskOf (now (list .entry)) ⌝ }
 {
     wide(kinds::byte(list, 2)) + 256 * wide(kinds::byte(list, 3))
@@ -134,47 +134,6 @@ pub fn bars(list: &[u8], relation: u8, used: u16) -> bool
     !all_used(used, mask(list), false)
 }
 
-// Whether a condition has at most 16 levels.
-fn shallow(condition: &[u8]) -> bool
-    ensures { λ r. ⌜ r ≡ not (failed (readCondition 16 (now (condition .entry)))) ⌝ }
-{
-    let mut z = [0u16; 256];
-    match sizes::condition(condition, &mut z, 0, 16) {
-        Size::Bytes(_) => true,
-        Size::Refused => false,
-    }
-}
-
-fn in_limits(list: &[u8]) -> bool
-    ensures { λ r. ⌜ r ≡ Lim.fitsLimits (entryAt (now (list .entry))) ⌝ }
-{
-    let c = condition(list);
-    if 252 < c.len() {
-        return false;
-    }
-    if !shallow(c) {
-        return false;
-    }
-    scans::count_bindings(c) <= 3
-}
-
-// Check 21: too many permits, or one that is too long, too deep or binds too much.
-fn over_limits(list: &[u8]) -> bool
-    ensures { λ r. ⌜ r ≡ Lim.overLimits (entries (now (list .entry))) ⌝ }
-{
-    let mut n: usize = 0;
-    let mut at = 0;
-    while at < list.len() {
-        let rest = kinds::tail(list, at);
-        if !in_limits(rest) {
-            return true;
-        }
-        n += 1;
-        at += size(rest);
-    }
-    8 < n
-}
-
 fn has_if_known(mask: u16, attribute: u16, attributes: usize) -> bool
     requires { ⌜ attribute < 16 ⌝ }
     ensures { λ r. ⌜ r ≡ (not (bit mask attribute) || ltb attribute attributes) ⌝ }
@@ -201,7 +160,7 @@ fn attributes_in(mask: u16, attributes: usize) -> bool
 }
 
 // A mask is not 0, and names attributes of the relation, or is ALL.
-pub fn mask_in(mask: u16, attributes: usize) -> bool
+fn mask_in(mask: u16, attributes: usize) -> bool
     ensures { λ r. ⌜ r ≡ Lim.maskIn attributes mask ⌝ }
 {
     if mask == 0 {
@@ -213,88 +172,156 @@ pub fn mask_in(mask: u16, attributes: usize) -> bool
     attributes_in(mask, attributes)
 }
 
-fn over_stored(list: &[u8], catalogue: &[u8]) -> bool
-    ensures { λ r. ⌜ r ≡ Lim.overStored (now (catalogue .entry)) (entryAt (now (list .entry))) ⌝ }
-{
-    if !catalogue::stored(catalogue, kinds::byte(list, 1)) {
-        return false;
-    }
-    scans::all_stored(condition(list), catalogue)
-}
-
-// Check 23 passes: permits speak of stored relations only.
-fn all_over_stored(list: &[u8], catalogue: &[u8]) -> bool
-    ensures { λ r. ⌜ r ≡ all (Lim.overStored (now (catalogue .entry))) (entries (now (list .entry))) ⌝ }
-{
-    let mut at = 0;
-    while at < list.len() {
-        let rest = kinds::tail(list, at);
-        if !over_stored(rest, catalogue) {
-            return false;
-        }
-        at += size(rest);
-    }
-    true
-}
-
-// Whether a condition's relations, attributes and variables are known and in reach, variable 0 being a row of the relation.
-fn in_reach(condition: &[u8], catalogue: &[u8], relation: u8) -> bool
-    ensures { λ r. ⌜ r ≡ Lim.inReach (now (catalogue .entry)) relation (now (condition .entry)) ⌝ }
-{
-    let mut z = [0u16; 256];
-    sizes::condition(condition, &mut z, 0, 16);
-    scope::permit(condition, &z, catalogue, relation, 16)
-}
-
 fn wide_size(x: u8) -> usize
     ensures { λ r. ⌜ r ≡ x ⌝ }
 {
     x as usize
 }
 
-fn known(list: &[u8], catalogue: &[u8]) -> bool
-    ensures { λ r. ⌜ r ≡ Lim.knownIn (now (catalogue .entry)) (entryAt (now (list .entry))) ⌝ }
+// What stands at a place of a list.
+enum Grant {
+    // a permit within the limits (21): its bytes, whether all that it names is known (22), and stored (23)
+    Whole(usize, bool, bool),
+    Refused,
+}
+
+// What a list is.
+enum Listing {
+    // permits within the limits, and whether all pass 22, and 23
+    Whole(bool, bool),
+    Refused,
+}
+
+// Whether a relation is known and a mask names attributes of it.
+fn named(catalogue: &[u8], relation: u8, mask: u16) -> bool
+    ensures { λ r. ⌜ r ≡ (ltb relation (countOf (now (catalogue .entry))) && Lim.maskIn (attributesOf (now (catalogue .entry)) relation) mask) ⌝ }
 {
-    let relation = kinds::byte(list, 1);
     if catalogue::count(catalogue) <= wide_size(relation) {
         return false;
     }
-    if !mask_in(mask(list), catalogue::attributes(catalogue, relation)) {
-        return false;
-    }
-    let c = condition(list);
-    if !in_reach(c, catalogue, relation) {
-        return false;
-    }
-    scans::bound_once(c, true)
+    mask_in(mask, catalogue::attributes(catalogue, relation))
 }
 
-// Check 22 passes: permits speak of what is known and in reach.
-fn all_known(list: &[u8], catalogue: &[u8]) -> bool
-    ensures { λ r. ⌜ r ≡ all (Lim.knownIn (now (catalogue .entry))) (entries (now (list .entry))) ⌝ }
+// Whether no number is bound twice by a condition, 0 being bound; so many are bound.
+fn bound_once(condition: &[u8], bound: usize) -> bool
+    requires { ⌜ bound ≡ length (flatBindings (now condition)) ⌝ }
+    ensures { λ r. ⌜ r ≡ unique (0 ∷ variables (flatBindings (now (condition .entry)))) ⌝ }
 {
-    let mut at = 0;
-    while at < list.len() {
-        let rest = kinds::tail(list, at);
-        if !known(rest, catalogue) {
-            return false;
-        }
-        at += size(rest);
+    if bound == 0 {
+        return true;
     }
-    true
+    scans::bound_once(condition, true)
 }
 
-// Checks 21 to 23 of a list that passed 20: the number of the first that fails, or 0.
+// Whether a relation, and those that a condition binds, are stored; so many are bound.
+fn stored(catalogue: &[u8], relation: u8, condition: &[u8], bound: usize) -> bool
+    requires { ⌜ bound ≡ length (flatBindings (now condition)) ⌝ }
+    ensures { λ r. ⌜ r ≡ (storedOf (now (catalogue .entry)) relation && all (storedIn (now (catalogue .entry))) (flatBindings (now (condition .entry)))) ⌝ }
+{
+    if !catalogue::stored(catalogue, relation) {
+        return false;
+    }
+    if bound == 0 {
+        return true;
+    }
+    scans::all_stored(condition, catalogue)
+}
+
+// The condition that bytes start with, variable 0 being a row of the relation.
+fn condition(bytes: &[u8], z: &mut [u16], catalogue: &[u8], relation: u8) -> Reading
+    ensures { λ r. ⌜ r ≡ conditionReading (shapeIn (now (catalogue .entry))) 4 16 (permitScope relation) (now (bytes .entry)) ⌝ }
+{
+    let mut reach = [0u16; 256];
+    scope::bind(&mut reach, 0, relation);
+    conditions::condition(bytes, z, 0, 16, catalogue, 4, &mut reach)
+}
+
+// The permit at a place.
+fn permit(list: &[u8], at: usize, catalogue: &[u8], z: &mut [u16]) -> Grant
+    requires { ⌜ (fails10 (now catalogue) ≡ false) × (at ≤ length (now list)) ⌝ }
+    ensures { λ r. ⌜ Granted r (shapeOf (catalogueOf (now (catalogue .entry)))) (now (list .entry)) at ⌝ }
+{
+    let here = kinds::tail(list, at);
+    let Record::Permit(relation, _, _) = kinds::read(here) else {
+        return Grant::Refused;
+    };
+    let own = kinds::record_length(64);
+    let bytes = kinds::tail(here, own);
+    let Reading::Whole(n, inside) = condition(bytes, z, catalogue, relation) else {
+        return Grant::Refused;
+    };
+    if 252 < n {
+        return Grant::Refused;
+    }
+    let c = part(bytes, n);
+    let bound = scans::count_bindings(c);
+    if 3 < bound {
+        return Grant::Refused;
+    }
+    let over = stored(catalogue, relation, c, bound);
+    if !named(catalogue, relation, mask(here)) {
+        return Grant::Whole(own + n, false, over);
+    }
+    if !inside {
+        return Grant::Whole(own + n, false, over);
+    }
+    Grant::Whole(own + n, bound_once(c, bound), over)
+}
+
+// The permits from a place on, at most so many.
+fn rest(list: &[u8], at: usize, left: usize, catalogue: &[u8], z: &mut [u16]) -> Listing
+    requires { ⌜ (fails10 (now catalogue) ≡ false) × (at ≤ length (now list)) ⌝ }
+    ensures { λ r. ⌜ Listed r (shapeOf (catalogueOf (now (catalogue .entry)))) (now (list .entry)) at left ⌝ }
+{
+    if list.len() <= at {
+        return Listing::Whole(true, true);
+    }
+    if left == 0 {
+        return Listing::Refused;
+    }
+    let Grant::Whole(n, known, over) = permit(list, at, catalogue, z) else {
+        return Listing::Refused;
+    };
+    let Listing::Whole(others_known, others_over) = rest(list, at + n, left - 1, catalogue, z)
+    else {
+        return Listing::Refused;
+    };
+    Listing::Whole(both(known, others_known), both(over, others_over))
+}
+
+fn both(a: bool, b: bool) -> bool
+    ensures { λ r. ⌜ r ≡ (a && b) ⌝ }
+{
+    if a { b } else { false }
+}
+
+// The number of a list that was not read: 20 where it is not well formed at any depth, else 21.
+fn number(list: &[u8]) -> u8
+    ensures { λ r. ⌜ r ≡ cond (fails20 (now (list .entry))) 20 21 ⌝ }
+{
+    if grammar::permits_refused(list) {
+        20
+    } else {
+        21
+    }
+}
+
+// Checks 20 to 23 of a list, from one reading: the number of the first that fails, or 0.
 pub fn check(list: &[u8], catalogue: &[u8]) -> u8
-    ensures { λ r. ⌜ r ≡ refusal (Lim.listChecks (now (catalogue .entry)) (now (list .entry))) ⌝ }
+    requires { ⌜ fails10 (now catalogue) ≡ false ⌝ }
+    ensures { λ r. ⌜ r ≡ refusal (permitChecks (shapeOf (catalogueOf (now (catalogue .entry)))) (now (list .entry))) ⌝ }
 {
-    if over_limits(list) {
-        return 21;
+    if 2048 < list.len() {
+        return 20;
     }
-    if !all_known(list, catalogue) {
+    let mut z = [0u16; 256];
+    let Listing::Whole(known, over) = rest(list, 0, 8, catalogue, &mut z) else {
+        return number(list);
+    };
+    if !known {
         return 22;
     }
-    if !all_over_stored(list, catalogue) {
+    if !over {
         return 23;
     }
     0

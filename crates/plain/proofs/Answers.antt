@@ -2,22 +2,24 @@
 use mathlib.Core.Path.{_≡_, refl, sym, ap, ap₂, _∙_, subst, fun-ext}
 use mathlib.Core.Bool.{Bool, true, false, cond}
 use mathlib.Core.List.{List, [], _++_, map}
+use mathlib.Core.Option.{Option}
 use Prim.Native.Nat.{ℕ, zero, suc, _+_, _*_, _≤_, _<_}
 use native.Mathlib.Omega.{arith}
 use lib.Dec.{ltb}
 use lib.IntN.{ℤ}
-use lib.ListN.{length, getD, drop, length-map}
+use lib.ListN.{length, getD, drop}
 use borrow.Author.Tests.{ltb-false}
-use Rattle.model.specs.Lists.{filter, concatMap, Every}
+use Rattle.model.specs.Lists.{filter, concatMap, Every, present}
 use Rattle.model.specs.Syntax.{Binding, Query, bindings, bindingsT, bindingsQ}
 use Rattle.model.specs.Scope.{boundOnce, rangeScope}
 use Rattle.model.specs.Encoding.{failed, readQuery, queryOf}
-use Rattle.model.specs.Meaning.{Assignment, Rows, holds, assignments, unbound, targetRow, addRows, qualifying, answers}
+use Rattle.model.specs.Meaning.{Assignment, Rows, holds, assignments, unbound, targetRow, addRows, qualifying, rowsMet, answers}
 use Rattle.model.specs.Catalogue.{Shape, catalogueOf, shapeOf, tuplesAt, allRows}
 use Rattle.model.specs.Checks.{plainLimits, fails10, fails11, fails30, keeperChecks, queryChecks, evaluateChecks, refusal}
 use Rattle.model.specs.Calls.{refuse, give, evaluateUnless, evaluate}
 use Rattle.model.proofs.Passed.{refusal-cons, within, Scoped, scoped, Below, known, scope-low, scope-lowTs}
 use Rattle.model.proofs.Lists.{every-map, every-join}
+use Rattle.model.proofs.Width.{rows-wide}
 use Rattle.model.proofs.Grounds.{refusal-skip}
 use Rattle.model.proofs.ReadingQueries.{query-inverse}
 use Rattle.model.proofs.NonInterference.{Agree}
@@ -26,7 +28,7 @@ use Rattle.catalogue.proofs.Reading.{tuples-are}
 use Rattle.rows.specs.declared.Filled.{Filled}
 use Rattle.rows.specs.Buffer.{Buffer, addedAll, start}
 use Rattle.rows.specs.Chains.{Linked}
-use Rattle.rows.proofs.Laws.{given, whole-rows}
+use Rattle.rows.proofs.Laws.{given}
 use Rattle.rows.proofs.Links.{linked-none}
 use Rattle.scans.specs.Flat.{flatBindings}
 use Rattle.scans.proofs.Whole.{bindings-query}
@@ -50,15 +52,15 @@ use Rattle.plain.specs.Reply.{answerOf, replyOf, planOf, Answerable, Tru
 
 -- the rows of a query before equal ones are dropped
 abbrev rowsBefore : Query → Rows → List (List ℤ)
-rowsBefore u R = map (targetRow (u .targets) R) (filter (holds (u .condition) R) (assignments (u .ranges) R unbound))
+rowsBefore u R = present (map (targetRow (u .targets) R) (filter (holds (u .condition) R) (assignments (u .ranges) R unbound)))
 
 answers-are : (u : Query) (R : Rows) → answers u R ≡ addRows [] (rowsBefore u R)
-unfolding answers qualifying
+unfolding answers rowsMet qualifying
 answers-are u R = refl
 
 wide-rows : (u : Query) (R : Rows) → Every (λ x. length x ≡ length (u .targets)) (rowsBefore u R)
-unfolding targetRow
-wide-rows u R = whole-rows (length (u .targets)) (targetRow (u .targets) R) (λ e. length-map (u .targets) _) (filter (holds (u .condition) R) (assignments (u .ranges) R unbound))
+unfolding rowsMet qualifying
+wide-rows u R = rows-wide u R
 
 -- its plan is in bounds
 pub bounded : (y : Layout) (l : ℕ) (q z cb : List ℕ) (p : Plan) → Answerable y l q z cb → p ≡ planOf y l → Bounds p
@@ -75,8 +77,8 @@ module _ (y : Layout) (l : ℕ) (q z cb ws : List ℕ) (vs m : List ℤ) (e : Li
         let u = queryAt y l q z in
         let R = rowsBy ws vs in
         rows-planned (planOf y l) t xs q z ws vs m (u .condition) q refl w (assigned vs e)
-        ∙ ap₂ (λ (f : Assignment → List ℤ) (g : Assignment → Bool). map f (filter g (assignments (u .ranges) R (assigned vs e)))) (fun-ext (h .targets)) (fun-ext (h .condition))
-        ∙ ap (λ (e : Assignment). map (targetRow (u .targets) R) (filter (holds (u .condition) R) (assignments (u .ranges) R e))) (b .none)
+        ∙ ap₂ (λ (f : Assignment → Option (List ℤ)) (g : Assignment → Bool). present (map f (filter g (assignments (u .ranges) R (assigned vs e))))) (fun-ext (h .targets)) (fun-ext (h .condition))
+        ∙ ap (λ (e : Assignment). present (map (targetRow (u .targets) R) (filter (holds (u .condition) R) (assignments (u .ranges) R e)))) (b .none)
         ∙ ap (λ (u : Query). rowsBefore u R) (ok .ready)
 
     columns-are : y .targets ≡ length (queryOf q .targets)

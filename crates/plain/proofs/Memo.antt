@@ -9,7 +9,7 @@ use lib.ListN.{length, getD, drop, replicate, length-replicate, List·getD-eq-de
 use Rattle.model.specs.Lists.{Every}
 use Rattle.model.specs.Syntax.{Condition, Term, TRUE, FALSE, NOT, AND, OR, COMPARE, SOME, CONSTANT, ATTRIBUTE, AGGREGATE, Query}
 use Rattle.model.specs.Encoding.{queryOf}
-use Rattle.model.specs.Meaning.{Assignment, Rows, cell, targetRow}
+use Rattle.model.specs.Meaning.{Assignment, Rows, withCell, targetRow}
 use Rattle.model.specs.Catalogue.{catalogueOf, shapeOf}
 use Rattle.model.proofs.Passed.{Scoped, scoped}
 use Rattle.model.proofs.Tests.{clash}
@@ -29,7 +29,7 @@ use Rattle.plain.specs.Reply.{memoOf, Answerable, Trusted, Unbound}
 cells-are : (m : List ℤ) (R : Rows) (ts : List Term) → Every (FaithfulT m R) ts → (e : Assignment) → cellsBy m ts R e ≡ targetRow ts R e
 unfolding cellsBy targetRow Every
 cells-are m R [] h e = refl
-cells-are m R (t ∷ ts) h e = ap₂ _∷_ (ap cell (faithful-value m R t (h .0) e)) (cells-are m R ts (h .1) e)
+cells-are m R (t ∷ ts) h e = ap₂ withCell (faithful-value m R t (h .0) e) (cells-are m R ts (h .1) e)
 
 trusted : (m : List ℤ) (R : Rows) (u : Query) → FaithfulQ m R u → Trusted m R u
 trusted m R u h = record { targets = cells-are m R (u .targets) (h .targets); condition = faithful-holds m R (u .condition) (h .condition) }

@@ -10,7 +10,7 @@ use Rattle.model.specs.Encoding.{queryOf}
 use Rattle.model.specs.Syntax.{Query}
 use Rattle.model.specs.Meaning.{Assignment, Rows, holds, targetRow, unbound}
 use Rattle.model.specs.Catalogue.{catalogueOf, shapeOf}
-use Rattle.model.specs.Checks.{Limits, fails10, fails32, plainLimits, keeperChecks, queryChecks, refusal}
+use Rattle.model.specs.Checks.{Limits, fails10, fails32}
 use Rattle.evaluator.specs.Evaluation.{assigned}
 use Rattle.evaluator.specs.Recalled.{holdsBy}
 use Rattle.odometer.specs.declared.Plan.{Plan}
@@ -18,7 +18,7 @@ use Rattle.odometer.specs.Plan.{cellsBy}
 use Rattle.aggregates.specs.Filled.{filledC, filledTs}
 use Rattle.grammar.specs.declared.Layout.{Layout}
 use Rattle.rows.specs.declared.Filled.{Filled}
-use Rattle.queries.specs.Parts.{queryAt, Laid, Alike}
+use Rattle.queries.specs.Parts.{queryAt, Laid}
 use Rattle.plain.specs.declared.Reply.{Reply}
 
 abbrev pub answerOf : Reply → List ℤ → Answer
@@ -58,9 +58,3 @@ pub record Answerable (y : Layout) (l : ℕ) (q z cb : List ℕ) : Type 0 where
   pub limits : Limits
   pub bound : limits .bound ≤ 200
   pub known : fails32 limits (shapeOf (catalogueOf cb)) (queryOf q) ≡ false
-
--- a call whose checks pass, and a layout with the query's counts of RANGEs and targets
-pub record Accepted (y : Layout) (cb : List ℕ) (vs : List ℤ) (q : List ℕ) : Type 0 where
-  pub kept : refusal (keeperChecks cb vs) ≡ 0
-  pub passes : refusal (queryChecks plainLimits (shapeOf (catalogueOf cb)) q) ≡ 0
-  pub alike : Alike y 64 q

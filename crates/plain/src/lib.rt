@@ -15,7 +15,7 @@ ghost use Rattle.model.specs.Calls.{give, evaluate};
 ghost use Rattle.walks.specs.Walks.{rowsBy};
 ghost use Rattle.evaluator.specs.Evaluation.{assigned};
 ghost use Rattle.queries.specs.Parts.{queryAt};
-ghost use Rattle.plain.specs.Reply.{answerOf, replyOf, planOf, memoOf, Answerable, Accepted, Trusted, Unbound};
+ghost use Rattle.plain.specs.Reply.{answerOf, replyOf, planOf, memoOf, Answerable, Trusted, Unbound};
 
 // The number of a refusal, 0 where there is none, and the counts of rows and columns.
 pub struct Reply {
@@ -655,65 +655,4 @@ pub fn evaluate(catalogue: &[u8], values: &[i32], query: &[u8], answer: &mut [i6
         return evaluate_short(catalogue, values, query, answer);
     }
     evaluate_long(catalogue, values, query, answer)
-}
-
-// A query that is known to pass its checks, with RANGEs and targets as many as in another; the table of sizes is lent.
-fn answer_with(
-    z: &mut [u16],
-    catalogue: &[u8],
-    values: &[i32],
-    query: &[u8],
-    like: Layout,
-    answer: &mut [i64],
-) -> Reply
-    requires { ⌜ Accepted like (now catalogue) (now values) (now query) × (length (now query) ≤ length (now z)) ⌝ }
-    ensures { λ r. ⌜ answerOf r (now (answer .exit)) ≡ evaluate (now (catalogue .entry)) (now (values .entry)) (now (query .entry)) (now (answer .entry)) ⌝ }
-{
-    let layout = queries::prepare(query, like, 64, z);
-    answer_all(query, z, layout, 64, catalogue, values, answer)
-}
-
-fn answer_short(
-    catalogue: &[u8],
-    values: &[i32],
-    query: &[u8],
-    like: Layout,
-    answer: &mut [i64],
-) -> Reply
-    requires { ⌜ Accepted like (now catalogue) (now values) (now query) × (length (now query) ≤ 256) ⌝ }
-    ensures { λ r. ⌜ answerOf r (now (answer .exit)) ≡ evaluate (now (catalogue .entry)) (now (values .entry)) (now (query .entry)) (now (answer .entry)) ⌝ }
-{
-    let mut z = [0u16; 256];
-    answer_with(&mut z, catalogue, values, query, like, answer)
-}
-
-fn answer_long(
-    catalogue: &[u8],
-    values: &[i32],
-    query: &[u8],
-    like: Layout,
-    answer: &mut [i64],
-) -> Reply
-    requires { ⌜ Accepted like (now catalogue) (now values) (now query) ⌝ }
-    ensures { λ r. ⌜ answerOf r (now (answer .exit)) ≡ evaluate (now (catalogue .entry)) (now (values .entry)) (now (query .entry)) (now (answer .entry)) ⌝ }
-{
-    let mut z = [0u16; 17216];
-    answer_with(&mut z, catalogue, values, query, like, answer)
-}
-
-// evaluate of a query that is known to pass its checks: they are not made again.
-pub fn evaluate_accepted(
-    catalogue: &[u8],
-    values: &[i32],
-    query: &[u8],
-    like: Layout,
-    answer: &mut [i64],
-) -> Reply
-    requires { ⌜ Accepted like (now catalogue) (now values) (now query) ⌝ }
-    ensures { λ r. ⌜ answerOf r (now (answer .exit)) ≡ evaluate (now (catalogue .entry)) (now (values .entry)) (now (query .entry)) (now (answer .entry)) ⌝ }
-{
-    if 256 < query.len() {
-        return answer_long(catalogue, values, query, like, answer);
-    }
-    answer_short(catalogue, values, query, like, answer)
 }

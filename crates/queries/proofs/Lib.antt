@@ -1,3 +1,6 @@
-pub mod Steps
+pub mod Prepared
 pub mod Numbers
-pub mod Admission
+pub mod Steps
+pub mod Targeting
+pub mod Remainder
+pub mod Telling

@@ -1,11 +1,11 @@
 -- The query that bytes and their table of sizes stand for, total for any bytes.
-use Prim.Native.Nat.{ℕ, _*_, _<_, _≤_}
+use Prim.Native.Nat.{ℕ, _<_, _≤_}
 use mathlib.Core.Path.{_≡_}
 use mathlib.Core.List.{List, [], _∷_}
 use mathlib.Core.Option.{some}
 use lib.ListN.{length, drop}
 use Rattle.model.specs.Lists.{update}
-use Rattle.model.specs.Syntax.{Binding, Query, levelsQ}
+use Rattle.model.specs.Syntax.{Binding, Query}
 use Rattle.model.specs.Encoding.{ok, readQuery, queryOf}
 use Rattle.model.specs.Scope.{Scope}
 use Rattle.model.specs.Checks as M
@@ -53,11 +53,3 @@ numberOf (Passed y) = 0
 abbrev pub Ready : Checked → ℕ → List ℕ → List ℕ → Type 0
 Ready (Refused n) l q z = 1 ≤ n
 Ready (Passed y) l q z = Laid y q × (queryAt y l q z ≡ queryOf q)
-
--- a query that was read, of at most l levels, and a layout with its counts of RANGEs and targets
-pub record Alike (y : Layout) (l : ℕ) (q : List ℕ) : Type 0 where
-  pub read : readQuery q ≡ ok (queryOf q) []
-  pub nesting : levelsQ (queryOf q) ≤ l
-  pub ranges : y .ranges ≡ length (queryOf q .ranges)
-  pub targets : y .targets ≡ length (queryOf q .targets)
-  pub first : y .first ≡ 3 * length (queryOf q .ranges)

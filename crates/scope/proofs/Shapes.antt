@@ -7,10 +7,10 @@ use native.Mathlib.Omega.{arith}
 use lib.Dec.{eqb, ltb}
 use lib.ListN.{length, getD}
 use borrow.Author.Tests.{le-ltb}
-use Rattle.model.specs.Catalogue.{Form, Shape, shapeOf, catalogueOf, attributesAt, storedAt}
+use Rattle.model.specs.Catalogue.{Shape, shapeOf, catalogueOf, attributesAt}
 use Rattle.model.specs.Checks.{fails10}
-use Rattle.catalogue.specs.Layout.{kindOf, attributesOf, storedOf, countOf}
-use Rattle.catalogue.proofs.Reading.{shape-count, attributes-is, stored-is}
+use Rattle.catalogue.specs.Layout.{kindOf, attributesOf, countOf}
+use Rattle.catalogue.proofs.Reading.{relationsIn, relations-are}
 use Rattle.scope.specs.Reach.{shapeIn}
 
 pub shape-length : (c : List ℕ) → length (shapeIn c) ≡ countOf c
@@ -39,33 +39,18 @@ attributes-past [] r h = refl
 attributes-past (x ∷ xs) zero h = absurd (omega arith)
 attributes-past (x ∷ xs) (suc r) h = attributes-past xs r (omega arith)
 
-stored-in : (c : List ℕ) (r : ℕ) → r < countOf c → storedAt (shapeIn c) r ≡ storedOf c r
-unfolding shapeIn storedAt kindOf
-stored-in (k ∷ w ∷ a ∷ b ∷ c) zero h = refl
-stored-in (k ∷ w ∷ a ∷ b ∷ c) (suc r) h =
-    stored-in c r (omega arith) ∙ ap (λ (n : ℕ). not (eqb n 49)) (sym (four k w a b c (4 * suc r) (4 * r) (4 * r) (omega arith) refl))
-stored-in (k ∷ w ∷ a ∷ []) r h = absurd (omega arith)
-stored-in (k ∷ w ∷ []) r h = absurd (omega arith)
-stored-in (k ∷ []) r h = absurd (omega arith)
-stored-in [] r h = absurd (omega arith)
-
--- two shapes with the same numbers are the same
-same-shape : (x y : Shape) → length x ≡ length y → ((r : ℕ) → r < length x → attributesAt x r ≡ attributesAt y r) → ((r : ℕ) → r < length x → storedAt x r ≡ storedAt y r) → x ≡ y
-unfolding attributesAt storedAt
-same-shape [] [] e f g = refl
-same-shape [] (y ∷ ys) e f g = absurd (omega arith)
-same-shape (x ∷ xs) [] e f g = absurd (omega arith)
-same-shape (x ∷ xs) (y ∷ ys) e f g =
-    let h : x .attributes ≡ y .attributes = f 0 (omega arith) in
-    let s : x .stored ≡ y .stored = g 0 (omega arith) in
-    let t : xs ≡ ys = same-shape xs ys (omega arith) (λ r l. f (suc r) (omega arith)) (λ r l. g (suc r) (omega arith)) in
-    ap₂ (λ (z : Form) (zs : Shape). z ∷ zs) (ap₂ (λ (b : Bool) (n : ℕ). record { stored = b; attributes = n }) s h) t
+relations-shape : (n : ℕ) (c : List ℕ) → length c ≡ 4 * n → shapeIn c ≡ shapeOf (relationsIn n c)
+unfolding shapeIn shapeOf relationsIn kindOf attributesOf
+relations-shape zero [] e = refl
+relations-shape zero (k ∷ c) e = absurd (omega arith)
+relations-shape (suc n) (k ∷ w ∷ a ∷ b ∷ c) e = ap (λ (sh : Shape). record { stored = not (eqb k 49); latest = eqb k 50; attributes = w } ∷ sh) (relations-shape n c (omega arith))
+relations-shape (suc n) (k ∷ w ∷ a ∷ []) e = absurd (omega arith)
+relations-shape (suc n) (k ∷ w ∷ []) e = absurd (omega arith)
+relations-shape (suc n) (k ∷ []) e = absurd (omega arith)
+relations-shape (suc n) [] e = absurd (omega arith)
 
 pub shape-is : (c : List ℕ) → fails10 c ≡ false → shapeIn c ≡ shapeOf (catalogueOf c)
-shape-is c h =
-    same-shape (shapeIn c) (shapeOf (catalogueOf c)) (shape-length c ∙ sym (shape-count c h))
-    (λ r l. attributes-in c r (omega (arith, shape-length c)) ∙ sym (attributes-is c h r))
-    (λ r l. stored-in c r (omega (arith, shape-length c)) ∙ sym (stored-is c h r))
+shape-is c h = let r = relations-are c h in relations-shape (countOf c) c (r .1) ∙ ap shapeOf (sym (r .0))
 
 -- a relation's attribute, as the code tests it
 module _ (c : List ℕ) (r a n : ℕ) (en : n ≡ countOf c) where

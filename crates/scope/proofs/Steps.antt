@@ -21,7 +21,7 @@ use Rattle.kinds.specs.declared.Record.the-variants as R
 use Rattle.kinds.proofs.Record.{enum}
 use Rattle.sizes.specs.Decode.{decode, decodeT, conditionBy, termBy, first, second}
 use Rattle.sizes.proofs.Decoding.{decode-zero, decode-step, decodeT-zero, decodeT-step}
-use Rattle.scope.specs.Reach.{scopeOf, someInScope, aggregateInScope, permitScope}
+use Rattle.scope.specs.Reach.{scopeOf, someInScope, aggregateInScope}
 use Rattle.scope.proofs.Tables.{scope-set, scope-one}
 
 -- a test that fails, and one that leaves the outcome to what follows
@@ -206,7 +206,3 @@ module _ (sh : Shape) (limit v w : ℕ) (s : List ℕ) (c : Condition) (x : Bool
 -- the old entry put back
 pub put-back : (s t u : List ℕ) (v x y : ℕ) → t ≡ set s v x → y ≡ getD s v 0 → u ≡ set t v y → u ≡ s
 put-back s t u v x y et ey eu = eu ∙ ap₂ (λ (l : List ℕ) (i : ℕ). set l v i) et ey ∙ set-set s v x (getD s v 0) ∙ set-getD s v 0
-
--- a permit's condition
-pub permit-is : (sh : Shape) (w : ℕ) (c : Condition) (t : List ℕ) → t ≡ set (replicate 256 0) 0 (w + 1) → (b : Bool) → b ≡ inScope sh 4 c (scopeOf t) → b ≡ inScope sh 4 c (permitScope w)
-permit-is sh w c t et b eb = eb ∙ ap (λ (σ : Scope). inScope sh 4 c σ) (ap scopeOf et ∙ scope-one 0 w (omega arith))

@@ -20,7 +20,7 @@ scopeOf s v = reached (getD s v 0)
 
 -- four bytes a relation; for a catalogue that passes check 10 this is the model's shape (proofs/Shapes)
 unfoldable pub shapeIn : List ℕ → Shape
-shapeIn (k ∷ w ∷ a ∷ b ∷ r) = record { stored = not (eqb k 49); attributes = w } ∷ shapeIn r
+shapeIn (k ∷ w ∷ a ∷ b ∷ r) = record { stored = not (eqb k 49); latest = eqb k 50; attributes = w } ∷ shapeIn r
 shapeIn (k ∷ w ∷ a ∷ []) = []
 shapeIn (k ∷ w ∷ []) = []
 shapeIn (k ∷ []) = []

@@ -8,7 +8,7 @@ ghost use lib.ListN.{length, getD, set};
 ghost use Rattle.model.specs.Catalogue.{attributesAt};
 ghost use Rattle.model.specs.Scope.{knownBinding, knownAttribute, inScope, inScopeT};
 ghost use Rattle.sizes.specs.Decode.{decode, decodeT};
-ghost use Rattle.scope.specs.Reach.{scopeOf, shapeIn, someInScope, aggregateInScope, permitScope};
+ghost use Rattle.scope.specs.Reach.{scopeOf, shapeIn, someInScope, aggregateInScope};
 
 fn wide(x: u8) -> usize
     ensures { λ r. ⌜ r ≡ x ⌝ }
@@ -143,7 +143,7 @@ fn aggregate(
 }
 
 // A term, of at most so many levels.
-pub fn term(q: &[u8], z: &[u16], catalogue: &[u8], limit: u8, reach: &[u16], level: usize) -> bool
+fn term(q: &[u8], z: &[u16], catalogue: &[u8], limit: u8, reach: &[u16], level: usize) -> bool
     ensures { λ r. ⌜ r ≡ inScopeT (shapeIn (now (catalogue .entry))) limit (decodeT level (now (q .entry)) (now (z .entry))) (scopeOf (now (reach .entry))) ⌝ }
 {
     if level == 0 {
@@ -201,13 +201,4 @@ pub fn condition(
         Record::Some(v, r) => some(first, first_sizes, catalogue, limit, reach, v, r, below),
         _ => true,
     }
-}
-
-// A permit's condition: variable 0 is a row of its relation, and others have numbers below 4 (22).
-pub fn permit(q: &[u8], z: &[u16], catalogue: &[u8], relation: u8, level: usize) -> bool
-    ensures { λ r. ⌜ r ≡ inScope (shapeIn (now (catalogue .entry))) 4 (decode level (now (q .entry)) (now (z .entry))) (permitScope relation) ⌝ }
-{
-    let mut reach = [0u16; 256];
-    bind(&mut reach, 0, relation);
-    condition(q, z, catalogue, 4, &mut reach, level)
 }

@@ -2,6 +2,7 @@
 use mathlib.Core.Path.{_≡_, refl, sym, ap, ap₂, _∙_, subst}
 use mathlib.Core.Bool.{Bool, true, false, _&&_}
 use mathlib.Core.List.{List}
+use mathlib.Core.Option.{none, some}
 use Prim.Native.Nat.{ℕ, _+_, _*_, _≤_, _<_}
 use native.Mathlib.Omega.{arith}
 use lib.IntN.{ℤ, pos, _*ℤ_, natAbs, one, *ℤ-one}
@@ -10,7 +11,7 @@ use lib.ListN.{getD}
 use Rattle.model.specs.Meaning as M
 use Rattle.model.specs.Meaning.{Assignment, Tuple, whole, compare}
 use Rattle.model.proofs.Tests.{clash}
-use Rattle.numbers.specs.Numbers.{represent, ratioOf}
+use Rattle.numbers.specs.Numbers.{fraction, valueOf}
 use Rattle.numbers.specs.declared.Ratio.{Ratio}
 use Rattle.walks.specs.declared.Walk.{Walk}
 use Rattle.walks.specs.Walks.{walkOf}
@@ -37,9 +38,12 @@ and-turn true false = refl
 and-turn false true = refl
 and-turn false false = refl
 
-equal-turn : (x y : M.Ratio) → compare 1 x y ≡ compare 1 y x
-unfolding compare
-equal-turn x y = and-turn (leZ (x .numerator *ℤ pos (y .denominator)) (y .numerator *ℤ pos (x .denominator))) (leZ (y .numerator *ℤ pos (x .denominator)) (x .numerator *ℤ pos (y .denominator)))
+equal-turn : (x y : M.Value) → compare 1 x y ≡ compare 1 y x
+unfolding M.ordered
+equal-turn none none = refl
+equal-turn none (some y) = refl
+equal-turn (some x) none = refl
+equal-turn (some x) (some y) = and-turn (leZ (x .numerator *ℤ pos (y .denominator)) (y .numerator *ℤ pos (x .denominator))) (leZ (y .numerator *ℤ pos (x .denominator)) (x .numerator *ℤ pos (y .denominator)))
 
 -- an equality with the variable on its left, and on its right
 module _ (t : List ℕ) (i v o a b c : ℕ) (eo : o ≡ getD t (8 * i) 0) (e1 : o ≡ 1) (ea : a ≡ field t i 1) (eb : b ≡ field t i 3) (l : v < 256) where
@@ -52,12 +56,12 @@ module _ (t : List ℕ) (i v o a b c : ℕ) (eo : o ≡ getD t (8 * i) 0) (e1 : 
   pub tells-left : a ≡ v → (b ≡ v → ⊥) → c ≡ field t i 2 → Tells t i v (8 * i + 3) (2 * i + 1) c
   tells-left ha hb hc xs q z ws vs m e row h =
       let y = operand m (getD t (8 * i + 3) 0) (getD t (8 * i + 3 + 1) 0) (getD xs (2 * i + 1) (pos 0)) e in
-      left-fails t xs q z ws vs m i v e row o a b (represent y) eo some-operator no-search ea eb l (8 * i + 3) c ha hb refl hc refl (ap (λ (k : ℕ). compare k (whole (row c)) y) e1 ∙ h)
+      left-fails t xs q z ws vs m i v e row o a b y eo some-operator no-search ea eb l (8 * i + 3) c ha hb refl hc refl (ap (λ (k : ℕ). compare k (some (whole (row c))) y) e1 ∙ h)
 
   pub tells-right : (a ≡ v → ⊥) → b ≡ v → c ≡ field t i 4 → Tells t i v (8 * i + 1) (2 * i) c
   tells-right ha hb hc xs q z ws vs m e row h =
       let y = operand m (getD t (8 * i + 1) 0) (getD t (8 * i + 1 + 1) 0) (getD xs (2 * i) (pos 0)) e in
-      right-fails t xs q z ws vs m i v e row o a b (represent y) eo some-operator no-search ea eb l (8 * i + 1) c ha hb refl hc refl (ap (λ (k : ℕ). compare k y (whole (row c))) e1 ∙ equal-turn y (whole (row c)) ∙ h)
+      right-fails t xs q z ws vs m i v e row o a b y eo some-operator no-search ea eb l (8 * i + 1) c ha hb refl hc refl (ap (λ (k : ℕ). compare k y (some (whole (row c)))) e1 ∙ equal-turn y (some (whole (row c))) ∙ h)
 
 -- what starts with branch s fails where it fails from branch i on
 abbrev pub Along : List ℕ → ℕ → ℕ → Type 0
@@ -77,12 +81,11 @@ module _ (t : List ℕ) (s i f : ℕ) (l : 2 ≤ i) (ef : f ≡ field t i 6) (e1
       go false p = start-fails t xs q z ws vs m i f e l ef e1 p
 
 -- a value that is not the same as a whole number
-pub differs : (u : ℤ) (x : Ratio) (y : M.Ratio) → x ≡ represent y → x .denominator ≡ pos 1 → (same u (x .numerator) ≡ true → ⊥) → compare 1 (whole u) y ≡ false
-unfolding compare one
+pub differs : (u : ℤ) (x : Ratio) (y : M.Value) → valueOf x ≡ y → x .denominator ≡ pos 1 → (same u (x .numerator) ≡ true → ⊥) → compare 1 (some (whole u)) y ≡ false
+unfolding M.ordered one
 differs u x y ex e1 h =
-    let d : y .denominator ≡ 1 = ap natAbs (sym (ap (λ (r : Ratio). r .denominator) ex) ∙ e1) in
-    let n : y .numerator ≡ x .numerator = sym (ap (λ (r : Ratio). r .numerator) ex) in
-    ap₂ (λ (a b : ℤ). leZ a b && leZ b a) (ap (λ (k : ℕ). u *ℤ pos k) d ∙ *ℤ-one u) (*ℤ-one (y .numerator) ∙ n) ∙ no (same u (x .numerator)) h
+    let n : y ≡ some (whole (x .numerator)) = sym ex ∙ ap (λ (d : ℤ). fraction (x .numerator) (natAbs d)) e1 in
+    ap (compare 1 (some (whole u))) n ∙ ap₂ (λ (a b : ℤ). leZ a b && leZ b a) (*ℤ-one u) (*ℤ-one (x .numerator)) ∙ no (same u (x .numerator)) h
   where
     no : (b : Bool) → (b ≡ true → ⊥) → b ≡ false
     no true h = absurd (h refl)

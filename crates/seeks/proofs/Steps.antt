@@ -2,6 +2,7 @@
 use mathlib.Core.Path.{_≡_, refl, sym, ap, ap₂, _∙_}
 use mathlib.Core.Bool.{Bool, true, false}
 use mathlib.Core.List.{List}
+use mathlib.Core.Option.{none, some}
 use Prim.Native.Nat.{ℕ, _+_, _*_, _≤_, _<_}
 use native.Mathlib.Nat.{add-zero}
 use native.Mathlib.Omega.{arith}
@@ -12,7 +13,8 @@ use borrow.Author.Tests.{eqb-true, eqb-false, ne-eqb, eq-eqb, lt-ltb}
 use Rattle.model.specs.Lists.{update}
 use Rattle.model.specs.Meaning as M
 use Rattle.model.specs.Meaning.{Assignment, Tuple, compare}
-use Rattle.numbers.specs.Numbers.{represent, ratioOf, Small}
+use Rattle.numbers.specs.Numbers.{valueOf, Number, Small}
+use Rattle.numbers.proofs.Laws.{value-some}
 use Rattle.numbers.specs.declared.Ratio.{Ratio}
 use Rattle.catalogue.specs.Layout.{tupleAt}
 use Rattle.branches.specs.Branches.{field, operand, holdsIn, branchHolds, next, runs}
@@ -32,44 +34,49 @@ pub row-fails : (o : ℕ) (mirrored : Bool) (vs : List ℤ) (p a at : ℕ) (v u 
 row-fails o mirrored vs p a at v u n d b ea ev eu eb h = ap (λ (y : ℤ). placed o mirrored (y *ℤ d) n) (ap (λ (p : ℕ). getD vs (p + a) (pos 0)) (sym ea) ∙ sym ev) ∙ ap (λ (y : ℤ). placed o mirrored y n) (sym eu) ∙ sym eb ∙ h
 
 -- a whole number is compared by one cross product
-pub whole-fails : (o : ℕ) (mirrored : Bool) (a n d : ℤ) (x : Ratio) → Small x → n ≡ x .numerator → d ≡ x .denominator → placed o mirrored (a *ℤ d) n ≡ false → sided o mirrored (M.whole a) (ratioOf x) ≡ false
-unfolding compare one
-whole-fails o mirrored a n d x s en ed h =
+pub whole-fails : (o : ℕ) (mirrored : Bool) (a n d : ℤ) (x : Ratio) → Small x → Number x → n ≡ x .numerator → d ≡ x .denominator → placed o mirrored (a *ℤ d) n ≡ false → sided o mirrored (some (M.whole a)) (valueOf x) ≡ false
+unfolding M.ordered one
+whole-fails o mirrored a n d x s k en ed h =
     let left : x .numerator *ℤ pos 1 ≡ n = *ℤ-one (x .numerator) ∙ sym en in
     let right : a *ℤ pos (natAbs (x .denominator)) ≡ a *ℤ d = ap (λ (y : ℤ). a *ℤ y) (sym (ed ∙ s .sign)) in
-    ap₂ (placed o mirrored) right left ∙ h
+    ap (sided o mirrored (some (M.whole a))) (value-some x k) ∙ ap₂ (placed o mirrored) right left ∙ h
+
+-- with nothing on a side every comparison fails
+pub nothing-fails : (o : ℕ) (mirrored : Bool) (a : ℤ) (v : M.Value) → v ≡ none → sided o mirrored (some (M.whole a)) v ≡ false
+nothing-fails o true a v e = ap (λ (u : M.Value). compare o u (some (M.whole a))) e
+nothing-fails o false a v e = ap (compare o (some (M.whole a))) e
 
 module _ (t : List ℕ) (xs : List ℤ) (q z ws : List ℕ) (vs m : List ℤ) (i v : ℕ) (e : Assignment) (row : Tuple) where
   -- an operand of the variable, and one of no or another variable
-  own : (w a : ℕ) (x : ℤ) → w ≡ v → v < 256 → operand m w a x (update e v row) ≡ M.whole (row a)
+  own : (w a : ℕ) (x : ℤ) → w ≡ v → v < 256 → operand m w a x (update e v row) ≡ some (M.whole (row a))
   own w a x h l = rw (lt-ltb w 256 (omega (arith, h, l)), eq-eqb w v h)
 
   other : (w a : ℕ) (x : ℤ) → (w ≡ v → ⊥) → operand m w a x (update e v row) ≡ operand m w a x e
   other w a x h = rw (ne-eqb w v h)
 
   -- an operand as the table has it
-  fixed : (p j w : ℕ) (x : ℤ) (y : Ratio) → p ≡ 8 * i + j → w ≡ field t i j → y ≡ represent (operand m (getD t p 0) (getD t (p + 1) 0) x e) → ratioOf y ≡ operand m w (field t i (j + 1)) x e
+  fixed : (p j w : ℕ) (x : ℤ) (y : M.Value) → p ≡ 8 * i + j → w ≡ field t i j → y ≡ operand m (getD t p 0) (getD t (p + 1) 0) x e → y ≡ operand m w (field t i (j + 1)) x e
   fixed p j w x y hp hw hy =
       let k : 8 * i + j + 1 ≡ 8 * i + (j + 1) = omega arith in
-      ap ratioOf hy ∙ ap (λ (n : ℕ). operand m (getD t n 0) (getD t (n + 1) 0) x e) hp ∙ ap₂ (λ (u n : ℕ). operand m u (getD t n 0) x e) (sym hw) k
+      hy ∙ ap (λ (n : ℕ). operand m (getD t n 0) (getD t (n + 1) 0) x e) hp ∙ ap₂ (λ (u n : ℕ). operand m u (getD t n 0) x e) (sym hw) k
 
-  module _ (o a b : ℕ) (y : Ratio) (eo : o ≡ getD t (8 * i) 0) (nz : o ≡ 0 → ⊥) (nb : o ≡ 256 → ⊥) (ea : a ≡ field t i 1) (eb : b ≡ field t i 3) (l : v < 256) where
+  module _ (o a b : ℕ) (y : M.Value) (eo : o ≡ getD t (8 * i) 0) (nz : o ≡ 0 → ⊥) (nb : o ≡ 256 → ⊥) (ea : a ≡ field t i 1) (eb : b ≡ field t i 3) (l : v < 256) where
     branch-is : branchHolds t xs q z ws vs m i (update e v row) ≡ compare o (operand m a (field t i 2) (getD xs (2 * i) (pos 0)) (update e v row)) (operand m b (field t i 4) (getD xs (2 * i + 1) (pos 0)) (update e v row))
     unfolding branchHolds holdsIn
     branch-is = rw (add-zero (8 * i), sym eo, sym ea, sym eb, ne-eqb o 0 nz, ne-eqb o 256 nb)
 
-    pub left-fails : (p c : ℕ) → a ≡ v → (b ≡ v → ⊥) → p ≡ 8 * i + 3 → c ≡ field t i 2 → y ≡ represent (operand m (getD t p 0) (getD t (p + 1) 0) (getD xs (2 * i + 1) (pos 0)) e) → sided o false (M.whole (row c)) (ratioOf y) ≡ false
+    pub left-fails : (p c : ℕ) → a ≡ v → (b ≡ v → ⊥) → p ≡ 8 * i + 3 → c ≡ field t i 2 → y ≡ operand m (getD t p 0) (getD t (p + 1) 0) (getD xs (2 * i + 1) (pos 0)) e → sided o false (some (M.whole (row c))) y ≡ false
         → branchHolds t xs q z ws vs m i (update e v row) ≡ false
     left-fails p c ha hb hp hc hy h =
         branch-is
-        ∙ ap₂ (compare o) (own a (field t i 2) (getD xs (2 * i) (pos 0)) ha l ∙ ap (λ (n : ℕ). M.whole (row n)) (sym hc)) (other b (field t i 4) (getD xs (2 * i + 1) (pos 0)) hb ∙ sym (fixed p 3 b (getD xs (2 * i + 1) (pos 0)) y hp eb hy))
+        ∙ ap₂ (compare o) (own a (field t i 2) (getD xs (2 * i) (pos 0)) ha l ∙ ap (λ (n : ℕ). some (M.whole (row n))) (sym hc)) (other b (field t i 4) (getD xs (2 * i + 1) (pos 0)) hb ∙ sym (fixed p 3 b (getD xs (2 * i + 1) (pos 0)) y hp eb hy))
         ∙ h
 
-    pub right-fails : (p c : ℕ) → (a ≡ v → ⊥) → b ≡ v → p ≡ 8 * i + 1 → c ≡ field t i 4 → y ≡ represent (operand m (getD t p 0) (getD t (p + 1) 0) (getD xs (2 * i) (pos 0)) e) → sided o true (M.whole (row c)) (ratioOf y) ≡ false
+    pub right-fails : (p c : ℕ) → (a ≡ v → ⊥) → b ≡ v → p ≡ 8 * i + 1 → c ≡ field t i 4 → y ≡ operand m (getD t p 0) (getD t (p + 1) 0) (getD xs (2 * i) (pos 0)) e → sided o true (some (M.whole (row c))) y ≡ false
         → branchHolds t xs q z ws vs m i (update e v row) ≡ false
     right-fails p c ha hb hp hc hy h =
         branch-is
-        ∙ ap₂ (compare o) (other a (field t i 2) (getD xs (2 * i) (pos 0)) ha ∙ sym (fixed p 1 a (getD xs (2 * i) (pos 0)) y hp ea hy)) (own b (field t i 4) (getD xs (2 * i + 1) (pos 0)) hb l ∙ ap (λ (n : ℕ). M.whole (row n)) (sym hc))
+        ∙ ap₂ (compare o) (other a (field t i 2) (getD xs (2 * i) (pos 0)) ha ∙ sym (fixed p 1 a (getD xs (2 * i) (pos 0)) y hp ea hy)) (own b (field t i 4) (getD xs (2 * i + 1) (pos 0)) hb l ∙ ap (λ (n : ℕ). some (M.whole (row n))) (sym hc))
         ∙ h
 
 -- what starts with a branch that fails, and leads to 1 where it fails

@@ -4,6 +4,7 @@ use Prim.Native.Nat.{ℕ, _+_, _≤_, _<_}
 use mathlib.Core.Path.{_≡_}
 use mathlib.Core.Bool.{false}
 use mathlib.Core.List.{List}
+use mathlib.Core.Option.{some}
 use lib.IntN.{ℤ, pos}
 use lib.ListN.{getD}
 use Rattle.model.specs.Lists.{update}
@@ -15,12 +16,12 @@ use Rattle.chains.specs.Chains.{bucketAt, Built}
 -- a row of variable v whose attribute a is not equal to the side at place p, with number n, fails branch i
 abbrev pub Tells : List ℕ → ℕ → ℕ → ℕ → ℕ → ℕ → Type 0
 Tells t i v p n a = (xs : List ℤ) (q z ws : List ℕ) (vs m : List ℤ) (e : Assignment) (row : Tuple)
-    → compare 1 (whole (row a)) (operand m (getD t p 0) (getD t (p + 1) 0) (getD xs n (pos 0)) e) ≡ false → branchHolds t xs q z ws vs m i (update e v row) ≡ false
+    → compare 1 (some (whole (row a))) (operand m (getD t p 0) (getD t (p + 1) 0) (getD xs n (pos 0)) e) ≡ false → branchHolds t xs q z ws vs m i (update e v row) ≡ false
 
 -- and does not lead from branch s to 0
 abbrev pub Decides : List ℕ → ℕ → ℕ → ℕ → ℕ → ℕ → Type 0
 Decides t s v p n a = (xs : List ℤ) (q z ws : List ℕ) (vs m : List ℤ) (e : Assignment) (row : Tuple)
-    → compare 1 (whole (row a)) (operand m (getD t p 0) (getD t (p + 1) 0) (getD xs n (pos 0)) e) ≡ false → runs t xs q z ws vs m s (update e v row) ≡ false
+    → compare 1 (some (whole (row a))) (operand m (getD t p 0) (getD t (p + 1) 0) (getD xs n (pos 0)) e) ≡ false → runs t xs q z ws vs m s (update e v row) ≡ false
 
 -- the chain at place r serves branch s
 pub record Chain (t ws : List ℕ) (vs : List ℤ) (chains : List ℕ) (s r : ℕ) : Type 0 where

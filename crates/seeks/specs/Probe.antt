@@ -2,10 +2,10 @@
 use Prim.Native.Nat.{ℕ}
 use mathlib.Core.Bool.{Bool, cond}
 use lib.IntN.{ℤ}
-use Rattle.model.specs.Meaning.{Ratio, compare}
+use Rattle.model.specs.Meaning.{Value, compare}
 use Rattle.numbers.specs.Numbers.{ordered}
 
-abbrev pub sided : ℕ → Bool → Ratio → Ratio → Bool
+abbrev pub sided : ℕ → Bool → Value → Value → Bool
 sided o mirrored a x = cond mirrored (compare o x a) (compare o a x)
 
 abbrev pub placed : ℕ → Bool → ℤ → ℤ → Bool

@@ -5,13 +5,14 @@ use walks::Walk;
 ghost use mathlib.Core.Path.{_≡_};
 ghost use mathlib.Core.Bool.{true, false};
 ghost use mathlib.Core.List.{List, [], _∷_};
+ghost use mathlib.Core.Option.{some};
 ghost use Prim.Native.Nat.{ℕ, _+_, _*_, _≤_, _<_};
 ghost use lib.IntN.{pos, natAbs, _*ℤ_};
 ghost use lib.ListN.{length, getD};
 ghost use lib.Seq.{sets};
 ghost use Rattle.model.specs.Lists.{update};
 ghost use Rattle.model.specs.Meaning as M;
-ghost use Rattle.numbers.specs.Numbers.{ratioOf, Small};
+ghost use Rattle.numbers.specs.Numbers.{valueOf, Small};
 ghost use Rattle.catalogue.specs.Layout.{tupleAt};
 ghost use Rattle.walks.specs.Walks.{walkOf, placeAt, Fits};
 ghost use Rattle.evaluator.specs.Evaluation.{assigned};
@@ -38,7 +39,8 @@ fn holds(operator: usize, mirrored: bool, a: i64, x: i64) -> bool
     }
 }
 
-// The first row of a walk, from one on, that meets the comparison of an attribute with x; where none does, the count of rows.
+// The first row of a walk, from one on, that meets the comparison of an attribute with x; where none does, the count of rows. With nothing
+// none does.
 fn failing(
     values: &[i32],
     walks: &[u16],
@@ -51,11 +53,14 @@ fn failing(
 ) -> usize
     requires { ⌜ Fits walk × (from ≤ walk .count) × Small x ⌝ }
     ensures { λ r. ⌜ (from ≤ r) × (r ≤ walk .count) ⌝ }
-    ensures { λ r. ⌜ ((j : ℕ) → from ≤ j → j < r → sided operator mirrored (M.whole (tupleAt (now (values .entry)) (placeAt (now (walks .entry)) walk j) attribute)) (ratioOf x) ≡ false) ⌝ }
+    ensures { λ r. ⌜ ((j : ℕ) → from ≤ j → j < r → sided operator mirrored (some (M.whole (tupleAt (now (values .entry)) (placeAt (now (walks .entry)) walk j) attribute))) (valueOf x) ≡ false) ⌝ }
 {
     let n = x.numerator;
     let d = x.denominator;
     let rows = walk.count;
+    if d <= 0 {
+        return rows;
+    }
     let mut j = from;
     while j < rows {
         let at = walks::place(walks, walk, j);
@@ -331,11 +336,26 @@ pub fn add_searches(
     next
 }
 
-// Whether a branch of a table asks for a row. It promises nothing: it only tells whether chains can be of use.
-pub fn searches(t: &[u16]) -> bool {
+// Whether branch i asks for a row of so many that a chain may pay.
+fn asks(t: &[u16], walks: &[u16], i: usize) -> bool
+    requires { ⌜ i < 64 ⌝ }
+{
+    if kinds::size_at(t, 8 * i) != 256 {
+        return false;
+    }
+    let v = kinds::size_at(t, 8 * i + 1);
+    if 255 < v {
+        return false;
+    }
+    let walk = walks::walk_of(walks, byte_of(v));
+    8 <= walk.count
+}
+
+// Whether a branch of a table does. It promises nothing: it only tells whether chains can be of use.
+pub fn searches(t: &[u16], walks: &[u16]) -> bool {
     let mut i = 2;
     while i < 64 {
-        if kinds::size_at(t, 8 * i) == 256 {
+        if asks(t, walks, i) {
             return true;
         }
         i += 1;

@@ -243,12 +243,9 @@ pub fn cut(
     lengths: &mut [u16],
     numbers: &mut [u32],
 ) -> Outcome
-    requires { ⌜ 2000 ≤ length (now kinds) ⌝ }
-    requires { ⌜ 2000 ≤ length (now starts) ⌝ }
-    requires { ⌜ 2000 ≤ length (now lengths) ⌝ }
-    requires { ⌜ 2000 ≤ length (now numbers) ⌝ }
+    requires { ⌜ (length (now text) ≤ 2000 → (length (now text) ≤ length (now kinds)) × (length (now text) ≤ length (now starts)) × (length (now text) ≤ length (now lengths)) × (length (now text) ≤ length (now numbers))) ⌝ }
     ensures { λ r. ⌜ readOf r (now (text .entry)) (record { kinds = now (kinds .exit); starts = now (starts .exit); lengths = now (lengths .exit); numbers = now (numbers .exit) }) ≡ tokens (now (text .entry)) ⌝ }
-    ensures { λ r. ⌜ counted r ≤ 2000 ⌝ }
+    ensures { λ r. ⌜ (counted r ≤ 2000) × (counted r ≤ length (now (text .entry))) ⌝ }
 {
     if 2000 < text.len() {
         return Outcome::Refused;

@@ -1,1 +1,2 @@
+pub mod AskText
 pub mod Outcome

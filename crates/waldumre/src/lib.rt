@@ -1,7 +1,9 @@
 // What C calls: the exported functions. Each only hands on, so that its contract is the model's.
 ghost use mathlib.Core.Path.{_≡_};
 ghost use Rattle.model.specs.Calls.{evaluate, ask};
-ghost use Rattle.waldumre.specs.Outcome.{answerOf, outcomeOf};
+ghost use Rattle.quel.specs.ReadText.{readText};
+ghost use Rattle.waldumre.specs.Outcome.{answerOf, outcomeOf, readingOf, textOutcomeOf};
+ghost use Rattle.waldumre.specs.AskText.{askText};
 
 // The number of a refusal, 0 where there is none, and the counts of rows, columns and rewritten bytes.
 #[repr(C)]
@@ -57,4 +59,52 @@ pub extern "C" fn waldumre_ask(
         columns: r.columns as u64,
         length: r.length as u64,
     }
+}
+
+// The number of a refusal of the reader, 0 where there is none, and the length of the records.
+#[repr(C)]
+pub struct Reading {
+    pub number: u64,
+    pub length: u64,
+}
+
+// A text of QUEL to a question's records, which waldumre_evaluate and waldumre_ask take.
+#[no_mangle]
+pub extern "C" fn waldumre_read_query(text: &[u8], names: &[u8], records: &mut [u8]) -> Reading
+    ensures { λ r. ⌜ readingOf r (now (records .exit)) ≡ readText (now (names .entry)) (now (text .entry)) (now (records .entry)) ⌝ }
+{
+    let reading = reader::read(text, names, records);
+    Reading {
+        number: wide(reading.number),
+        length: reading.length as u64,
+    }
+}
+
+// The guarded call by text: 50, 51, 52 before all of ask's numbers.
+#[no_mangle]
+pub extern "C" fn waldumre_ask_text(
+    catalogue: &[u8],
+    values: &[i32],
+    permits: &[u8],
+    text: &[u8],
+    names: &[u8],
+    records: &mut [u8],
+    rewritten: &mut [u8],
+    answer: &mut [i64],
+) -> Outcome
+    ensures { λ r. ⌜ textOutcomeOf r (now (answer .exit)) (now (rewritten .exit)) (now (records .exit)) ≡ askText (now (catalogue .entry)) (now (values .entry)) (now (permits .entry)) (now (text .entry)) (now (names .entry)) (now (records .entry)) (now (rewritten .entry)) (now (answer .entry)) ⌝ }
+{
+    let read = reader::read(text, names, records);
+    let number = read.number;
+    let n = read.length;
+    if number != 0 {
+        let none = 0;
+        return Outcome {
+            number: wide(number),
+            rows: none,
+            columns: none,
+            length: none,
+        };
+    }
+    waldumre_ask(catalogue, values, permits, &records[..n], rewritten, answer)
 }

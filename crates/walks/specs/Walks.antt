@@ -1,7 +1,8 @@
 -- The rows of each variable, as a table of numbers. Eight numbers a variable: where its list starts in the table, how many rows it has, where the
 -- values of its relation begin (low and high part), how many values a row has, and three that are not used. A list is the numbers of the rows in
--- the relation, in the order in which they are walked; 0 for its start is no list: all rows in order. One list can serve several variables.
-use Prim.Native.Nat.{ℕ, zero, suc, _+_, _*_, _≤_}
+-- the relation, in the order in which they are walked. 0 for its start is no list: all rows in order; 1 the same from the last row on. One list can
+-- serve several variables.
+use Prim.Native.Nat.{ℕ, zero, suc, _+_, _-_, _*_, _≤_}
 use mathlib.Core.List.{List, [], _∷_, map}
 use lib.IntN.{ℤ}
 use lib.ListN.{getD}
@@ -16,13 +17,13 @@ use Rattle.walks.specs.declared.Walk.{Walk}
 abbrev pub walkOf : List ℕ → ℕ → Walk
 walkOf ws v = record { start = getD ws (8 * v) 0; count = getD ws (8 * v + 1) 0; base = getD ws (8 * v + 2) 0 + 65536 * getD ws (8 * v + 3) 0; width = getD ws (8 * v + 4) 0 }
 
--- the number of row i of a walk in its relation: with no list all rows are walked in order
-abbrev pub rowAt : List ℕ → ℕ → ℕ → ℕ
-rowAt ws start i = cond (eqb start 0) i (getD ws (start + i) 0)
+-- the number of row i of a walk in its relation
+abbrev pub rowAt : List ℕ → Walk → ℕ → ℕ
+rowAt ws x i = cond (eqb (x .start) 0) i (cond (eqb (x .start) 1) (x .count - suc i) (getD ws (x .start + i) 0))
 
 -- its place
 unfoldable pub placeAt : List ℕ → Walk → ℕ → ℕ
-placeAt ws x i = x .base + rowAt ws (x .start) i * x .width
+placeAt ws x i = x .base + rowAt ws x i * x .width
 
 -- n places from place i on
 unfoldable pub places : (ℕ → ℕ) → ℕ → ℕ → List ℕ

@@ -113,7 +113,7 @@ fn deliver(collection: &Collection, query: &Query, answer: &mut [i64]) -> Outcom
 #[derive(Clone, PartialEq, Eq, Debug)]
 pub struct PermittedRows {
     pub variable: u8,
-    /// In relation order, with repeats, each cut to S.
+    /// In the order of the walk, with repeats, each cut to S.
     pub rows: Vec<Vec<i32>>,
 }
 

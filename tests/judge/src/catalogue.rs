@@ -4,6 +4,7 @@ use crate::refusal;
 
 pub const STORED: u8 = 48;
 pub const WORKSPACE: u8 = 49;
+pub const LATEST: u8 = 50;
 pub const MOST_RELATIONS: usize = 16;
 pub const MOST_ATTRIBUTES: usize = 16;
 pub const MOST_ROWS: usize = 1024;
@@ -12,6 +13,15 @@ pub const MOST_ROWS: usize = 1024;
 pub enum Kind {
     Stored,
     Workspace,
+    /// Stored, and walked from the last row to the first (Change 9).
+    Latest,
+}
+
+impl Kind {
+    /// Needs permits.
+    pub fn is_stored(self) -> bool {
+        self != Kind::Workspace
+    }
 }
 
 #[derive(Clone, Copy, PartialEq, Eq, Debug)]
@@ -24,6 +34,14 @@ pub struct Relation {
 impl Relation {
     fn cells(&self) -> usize {
         self.attributes * self.rows
+    }
+
+    /// The stored number of the row that the walk meets after this many others.
+    pub fn place(&self, step: usize) -> usize {
+        match self.kind {
+            Kind::Latest => self.rows - 1 - step,
+            Kind::Stored | Kind::Workspace => step,
+        }
     }
 }
 
@@ -43,6 +61,7 @@ fn read_record(record: &[u8]) -> Option<Relation> {
     let kind = match kind {
         STORED => Kind::Stored,
         WORKSPACE => Kind::Workspace,
+        LATEST => Kind::Latest,
         _ => return None,
     };
     let attributes = usize::from(attributes);
@@ -71,11 +90,15 @@ impl<'a> Collection<'a> {
         Ok(Collection { relations, values })
     }
 
-    /// The rows of a relation, first row first.
-    pub fn rows(&self, relation: u8) -> std::slice::Chunks<'a, i32> {
+    /// The rows of a relation, in the order of its walk.
+    pub fn rows(&self, relation: u8) -> impl Iterator<Item = &'a [i32]> {
         let number = usize::from(relation);
         let start: usize = self.relations[..number].iter().map(Relation::cells).sum();
         let here = self.relations[number];
-        self.values[start..start + here.cells()].chunks(here.attributes)
+        let values = &self.values[start..start + here.cells()];
+        (0..here.rows).map(move |step| {
+            let first = here.place(step) * here.attributes;
+            &values[first..first + here.attributes]
+        })
     }
 }

@@ -1,5 +1,6 @@
 //! Runs another implementation against this one over seeded cases.
 
+use crate::catalogue::{LATEST, STORED, WORKSPACE};
 use crate::gen::limits::{evaluate_case, EvaluateCase};
 use crate::gen::pairs::pair;
 use crate::gen::rng::case_seed;
@@ -70,6 +71,9 @@ pub struct Report {
     /// Calls by the judge's number, 0 for accepted.
     pub ask_numbers: BTreeMap<u64, u64>,
     pub evaluate_numbers: BTreeMap<u64, u64>,
+    /// Answered calls of ask with a relation of kind 50, and those with all three kinds.
+    pub latest: u64,
+    pub mixed: u64,
     pub differences: u64,
     /// The first differences.
     pub first: Vec<Difference>,
@@ -129,6 +133,11 @@ impl Report {
         let judge = run_ask(crate::ask, case).expect("the judge does not panic");
         self.ask_calls += 1;
         *self.ask_numbers.entry(judge.outcome.number).or_default() += 1;
+        let has = |kind| case.catalogue.chunks(4).any(|record| record[0] == kind);
+        if judge.outcome.rows > 0 && has(LATEST) {
+            self.latest += 1;
+            self.mixed += u64::from(has(STORED) && has(WORKSPACE));
+        }
         self.note(seed, &judge, run_ask(other, case), || describe_ask(case));
         judge
     }
@@ -225,6 +234,11 @@ impl fmt::Display for Report {
             f,
             "evaluate calls {}, by number {:?}",
             self.evaluate_calls, self.evaluate_numbers
+        )?;
+        writeln!(
+            f,
+            "answered with rows over kind 50 {}, over all three kinds {}",
+            self.latest, self.mixed
         )?;
         writeln!(f, "differences {}", self.differences)?;
         for difference in &self.first {

@@ -1,8 +1,11 @@
 //! Runs another label book against the judge's over seeded cases.
 
 use crate::book::{grounds, Ground, LABELS};
+use crate::catalogue::{LATEST, STORED};
 use crate::gen::books::{book_case, BookCase};
 use crate::gen::rng::case_seed;
+use crate::gen::turned::with_kind;
+use crate::gen::Case;
 use crate::{refusal, Outcome};
 use std::collections::{BTreeMap, BTreeSet};
 use std::panic::{catch_unwind, AssertUnwindSafe};
@@ -23,11 +26,11 @@ pub struct BookRun {
     display: Vec<u8>,
 }
 
-fn with_margins<T: Copy>(before: &[T], margin: T) -> Vec<T> {
+pub(crate) fn with_margins<T: Copy>(before: &[T], margin: T) -> Vec<T> {
     [&[margin; MARGIN][..], before, &[margin; MARGIN]].concat()
 }
 
-fn lent<T>(buffer: &mut [T]) -> &mut [T] {
+pub(crate) fn lent<T>(buffer: &mut [T]) -> &mut [T] {
     let end = buffer.len() - MARGIN;
     &mut buffer[MARGIN..end]
 }
@@ -123,11 +126,8 @@ fn kinds(case: &BookCase, run: &BookRun) -> Vec<String> {
     if columns != 3 {
         return kinds;
     }
-    let mut labels = BTreeSet::new();
-    let winning: Vec<&[i64]> = cells
-        .chunks(3)
-        .filter(|row| labels.insert(row[0]))
-        .collect();
+    let winning = firsts(cells);
+    let labels: BTreeSet<i64> = winning.iter().map(|row| row[0]).collect();
     let rows = cells.len() / 3;
     let are_winning_good =
         crate::book::grounds(3, &winning.concat(), lengths.0, lengths.1).is_empty();
@@ -152,8 +152,29 @@ fn kinds(case: &BookCase, run: &BookRun) -> Vec<String> {
         );
         let is_wide = |row: &&[i64]| row[1] > i64::from(i32::MAX);
         note("an offer over 32 bits", winning.iter().any(is_wide));
+        note("the walk decides", winning != firsts(&forward(case)));
     }
     kinds
+}
+
+/// The first row of each label.
+fn firsts(cells: &[i64]) -> Vec<&[i64]> {
+    let mut labels = BTreeSet::new();
+    let rows = cells.chunks(3);
+    rows.filter(|row| labels.insert(row[0])).collect()
+}
+
+/// The answer if kind 50 were walked as 48 is.
+fn forward(case: &BookCase) -> Vec<i64> {
+    let catalogue = with_kind(&case.case.catalogue, LATEST, STORED);
+    let case = Case {
+        catalogue,
+        ..case.case.clone()
+    };
+    let mut asked = crate::compare::run_ask(crate::ask, &case).expect("no panic");
+    let cells = asked.outcome.rows * asked.outcome.columns;
+    asked.answer.truncate(cells as usize);
+    asked.answer
 }
 
 impl BookReport {
@@ -171,6 +192,7 @@ impl BookReport {
             ("53 by DisplayLength alone", 2),
             ("53 by later rows alone", 1),
             ("accepted, labels repeat", 15),
+            ("accepted, the walk decides", 5),
         ] {
             let count = self.kinds.get(kind).copied().unwrap_or(0);
             assert!(100 * count >= most * self.calls, "{kind}: {count}");

@@ -2,13 +2,16 @@
 //! What a case should come to is said by hand where it can be, and held to the judge.
 
 mod faults;
+mod latest;
 mod limits;
 mod meaning;
 mod no_access;
+mod no_value;
 mod random;
 mod refusals;
 mod rewriting;
 mod rounding;
+pub mod texts;
 mod write;
 
 use crate::program::{output, Files};
@@ -218,6 +221,8 @@ pub fn cases() -> Vec<(String, Case)> {
         ("rewriting", rewriting::fill),
         ("meaning", meaning::fill),
         ("rounding", rounding::fill),
+        ("latest", latest::fill),
+        ("no-value", no_value::fill),
         (DRAWN, random::fill),
     ] {
         let mut group = Group::new(group_name);

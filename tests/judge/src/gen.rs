@@ -9,8 +9,11 @@ pub mod grow;
 pub mod limits;
 pub mod pairs;
 pub mod rng;
+pub mod say;
 pub mod sizes;
 pub mod tables;
+pub mod texts;
+pub mod turned;
 
 use crate::checks::EVALUATE;
 use crate::{calls, meaning, refusal};

@@ -7,6 +7,7 @@ pub mod catalogue;
 pub mod checks;
 pub mod compare;
 pub mod compare_books;
+pub mod compare_texts;
 pub mod conformance;
 pub mod gen;
 pub mod meaning;
@@ -14,10 +15,13 @@ pub mod permits;
 pub mod program;
 pub mod query;
 pub mod rewrite;
+pub mod text;
+pub mod text_program;
 
 pub use book::label_book;
 pub use calls::{ask, evaluate, permitted_rows};
 pub use compare::compare;
+pub use text::{ask_text, read_text};
 
 /// What a call returns. Number 0 is an accepted call.
 #[derive(Clone, Copy, PartialEq, Eq, Debug)]
@@ -42,6 +46,9 @@ pub mod refusal {
     pub const NO_PERMIT: u64 = 33;
     pub const REWRITTEN_BUFFER: u64 = 40;
     pub const ANSWER_BUFFER: u64 = 41;
+    pub const TEXT_FORM: u64 = 50;
+    pub const TEXT_NAMES: u64 = 51;
+    pub const RECORDS_BUFFER: u64 = 52;
     pub const LABEL_BOOK: u64 = 53;
 
     /// Those of ask.

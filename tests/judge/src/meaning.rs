@@ -60,11 +60,10 @@ fn collect<'a>(
             collect(collection, query, faster, &rows, answer);
         }
     } else if holds(collection, &query.condition, rows) {
-        let cells = |target| value(collection, target, rows).cell();
-        let row = query.targets.iter().map(cells).collect();
-        if !answer.contains(&row) {
-            answer.push(row);
-        }
+        // A target without value leaves no row (Change 2).
+        let cell = |target| value(collection, target, rows).map(Value::cell);
+        let row: Option<Vec<i64>> = query.targets.iter().map(cell).collect();
+        answer.extend(row.filter(|row| !answer.contains(row)));
     }
 }
 
@@ -84,8 +83,13 @@ pub fn holds<'a>(
             holds(collection, left, rows) || holds(collection, right, rows)
         }
         Condition::Compare(operator, left, right) => {
+            // With a term that has no value it is false, whichever operator (Change 2).
             let left = value(collection, left, rows);
-            operator.holds(left.compare(value(collection, right, rows)))
+            let right = value(collection, right, rows);
+            match (left, right) {
+                (Some(left), Some(right)) => operator.holds(left.compare(right)),
+                _ => false,
+            }
         }
         Condition::Exists(binding, inner) => collection
             .rows(binding.relation)
@@ -93,9 +97,10 @@ pub fn holds<'a>(
     }
 }
 
-fn value<'a>(collection: &Collection<'a>, term: &Term, rows: &Assignment<'a>) -> Value {
+/// None: an aggregate that has no value.
+fn value<'a>(collection: &Collection<'a>, term: &Term, rows: &Assignment<'a>) -> Option<Value> {
     match term {
-        Term::Constant(number) => Value::whole(i128::from(*number)),
+        Term::Constant(number) => Some(Value::whole(i128::from(*number))),
         Term::Attribute {
             variable,
             attribute,
@@ -104,14 +109,15 @@ fn value<'a>(collection: &Collection<'a>, term: &Term, rows: &Assignment<'a>) ->
                 .iter()
                 .find(|(number, _)| number == variable)
                 .expect("the variable is in reach");
-            Value::whole(i128::from(row[usize::from(*attribute)]))
+            Some(Value::whole(i128::from(row[usize::from(*attribute)])))
         }
         Term::Aggregate(aggregate) => aggregate_value(collection, aggregate),
     }
 }
 
 /// No assignment is handed in: an aggregate uses only variables bound by it or within it.
-fn aggregate_value(collection: &Collection, aggregate: &Aggregate) -> Value {
+/// Over no rows AVE, MAX and MIN have no value, COUNT and SUM are 0 (Change 2).
+fn aggregate_value(collection: &Collection, aggregate: &Aggregate) -> Option<Value> {
     let Aggregate {
         function,
         binding,
@@ -123,16 +129,13 @@ fn aggregate_value(collection: &Collection, aggregate: &Aggregate) -> Value {
         .filter(|row| holds(collection, condition, &vec![(binding.variable, *row)]))
         .map(|row| i128::from(row[usize::from(*attribute)]))
         .collect();
-    let (Some(least), Some(greatest)) = (taken.iter().min(), taken.iter().max()) else {
-        return Value::whole(0);
-    };
     let count = taken.len() as i128;
     let sum = taken.iter().sum();
     match function {
-        Function::Count => Value::whole(count),
-        Function::Sum => Value::whole(sum),
-        Function::Average => Value { sum, count },
-        Function::Maximum => Value::whole(*greatest),
-        Function::Minimum => Value::whole(*least),
+        Function::Count => Some(Value::whole(count)),
+        Function::Sum => Some(Value::whole(sum)),
+        Function::Average => (count > 0).then_some(Value { sum, count }),
+        Function::Maximum => taken.into_iter().max().map(Value::whole),
+        Function::Minimum => taken.into_iter().min().map(Value::whole),
     }
 }

@@ -1,6 +1,6 @@
 //! The list of permits and its checks, 20 to 23.
 
-use crate::catalogue::{Kind, Relation};
+use crate::catalogue::Relation;
 use crate::checks::{binding_records, deepest_level, Names};
 use crate::query::{bytes_of, records_of, Binding, Condition, Entry, Part, Reader, Record};
 use crate::refusal;
@@ -153,5 +153,5 @@ fn names_workspace(permit: &Permit, relations: &[Relation]) -> bool {
         .map(|binding| binding.relation);
     std::iter::once(permit.relation)
         .chain(bound)
-        .any(|relation| relations[usize::from(relation)].kind == Kind::Workspace)
+        .any(|relation| !relations[usize::from(relation)].kind.is_stored())
 }

@@ -1,6 +1,6 @@
 //! The rewriting: which permits apply to a variable, and where its guard goes.
 
-use crate::catalogue::{Kind, Relation};
+use crate::catalogue::Relation;
 use crate::permits::Permit;
 use crate::query::{Aggregate, Binding, Condition, Query, Record, Term};
 
@@ -33,7 +33,7 @@ pub fn is_barred(permits: &[Permit], query: &Query, binding: Binding) -> bool {
 }
 
 pub fn is_stored(relations: &[Relation], relation: u8) -> bool {
-    relations[usize::from(relation)].kind == Kind::Stored
+    relations[usize::from(relation)].kind.is_stored()
 }
 
 /// The grounds of refusal 33: a variable over a stored relation is barred, or no permit applies to it.

@@ -1,6 +1,8 @@
 //! compare finds nothing between the judge and itself, and finds each faulty copy.
 
+use judge::catalogue::{LATEST, STORED, WORKSPACE};
 use judge::compare::{compare_seed, Ask, Evaluate, Report};
+use judge::gen::turned::{turned, with_kind};
 use judge::permits::{read_flat, HEADER};
 use judge::{ask, compare, evaluate, refusal, Outcome};
 
@@ -153,4 +155,78 @@ fn a_bar_for_every_condition_that_fails_is_found() {
         ask(c, v, &short, q, r, a)
     }
     assert_found(barring, evaluate);
+}
+
+/// A copy of both calls that reads another collection in place of the one it is given.
+macro_rules! over_another_collection {
+    ($ask:ident, $evaluate:ident, $other:expr) => {
+        fn $ask(c: &[u8], v: &[i32], p: &[u8], q: &[u8], r: &mut [u8], a: &mut [i64]) -> Outcome {
+            let (catalogue, values) = $other(c, v);
+            ask(&catalogue, &values, p, q, r, a)
+        }
+        fn $evaluate(c: &[u8], v: &[i32], q: &[u8], a: &mut [i64]) -> Outcome {
+            let (catalogue, values) = $other(c, v);
+            evaluate(&catalogue, &values, q, a)
+        }
+    };
+}
+
+/// Kind 50 in the stored order: found in each call by itself.
+#[test]
+fn kind_50_in_the_stored_order_is_found() {
+    over_another_collection!(forward_ask, forward_evaluate, |c: &[u8], v: &[i32]| (
+        with_kind(c, LATEST, STORED),
+        v.to_vec()
+    ));
+    assert_found(forward_ask, evaluate);
+    assert_found(ask, forward_evaluate);
+}
+
+/// A workspace beside it stays forward.
+#[test]
+fn a_workspace_from_its_last_row_is_found() {
+    fn backward(catalogue: &[u8], values: &[i32]) -> (Vec<u8>, Vec<i32>) {
+        // what is 49 is turned round, and what is 50 stays
+        let marked = with_kind(&with_kind(catalogue, LATEST, 0), WORKSPACE, LATEST);
+        let shown = with_kind(&marked, 0, STORED);
+        match turned(&shown, values) {
+            Some((_, values)) => (catalogue.to_vec(), values),
+            None => (catalogue.to_vec(), values.to_vec()),
+        }
+    }
+    over_another_collection!(backward_ask, backward_evaluate, backward);
+    assert_found(backward_ask, evaluate);
+    assert_found(ask, backward_evaluate);
+}
+
+/// Every relation turned round as soon as one is of kind 50.
+#[test]
+fn one_walk_for_all_relations_is_found() {
+    fn all_backward(catalogue: &[u8], values: &[i32]) -> (Vec<u8>, Vec<i32>) {
+        let is_latest = catalogue.chunks(4).any(|record| record[0] == LATEST);
+        let other = with_kind(catalogue, STORED, LATEST);
+        (
+            if is_latest { other } else { catalogue.to_vec() },
+            values.to_vec(),
+        )
+    }
+    over_another_collection!(all_ask, all_evaluate, all_backward);
+    assert_found(all_ask, evaluate);
+    assert_found(ask, all_evaluate);
+}
+
+#[test]
+fn kind_50_without_permits_is_found() {
+    over_another_collection!(open_ask, open_evaluate, |c: &[u8], v: &[i32]| {
+        let (catalogue, values) = turned(c, v).unwrap_or((c.to_vec(), v.to_vec()));
+        let kinds = c.chunks(4).map(|record| record[0] == LATEST);
+        let mut open = catalogue;
+        for (record, _) in open.chunks_mut(4).zip(kinds).filter(|(_, latest)| *latest) {
+            record[0] = WORKSPACE;
+        }
+        (open, values)
+    });
+    assert_found(open_ask, evaluate);
+    // evaluate asks for none
+    assert_eq!(compare(200, 7, ask, open_evaluate).differences, 0);
 }

@@ -260,7 +260,7 @@ fn evaluate_cases() {
 #[test]
 fn pairs() {
     const SEEDS: u64 = 20_000;
-    let (mut found, mut answered, mut telling) = (0, 0, 0);
+    let (mut found, mut answered, mut telling, mut latest) = (0, 0, 0, 0);
     for index in 0..SEEDS {
         let seed = case_seed(RUN_SEED, index);
         let Some(pair) = pair(seed) else {
@@ -269,12 +269,39 @@ fn pairs() {
         let other = pair.other();
         let run = asked(&pair.case);
         assert_eq!(run, asked(&other), "pair seed {seed}");
+        assert_eq!(
+            form(&pair.case),
+            form(&other),
+            "48, 49 and 50 are told apart"
+        );
         found += 1;
         answered += u64::from(is_answered(&run.outcome));
         let plain = evaluated(&pair.case, &pair.case.query);
-        telling += u64::from(plain != evaluated(&other, &other.query));
+        let is_telling = plain != evaluated(&other, &other.query);
+        telling += u64::from(is_telling);
+        latest += u64::from(is_telling && pair.case.catalogue.chunks(4).any(|of| of[0] == 50));
     }
-    println!("pairs {found} of {SEEDS} seeds, answered {answered}, unlike when plain {telling}");
+    println!("pairs {found} of {SEEDS} seeds, answered {answered}, unlike when plain {telling}, of these with kind 50 {latest}");
     assert!(2 * found > SEEDS);
-    assert!(10 * telling > SEEDS);
+    assert!(10 * telling > SEEDS && 20 * latest > SEEDS);
+}
+
+/// Kind and attributes of each relation.
+fn form(case: &Case) -> Vec<&[u8]> {
+    case.catalogue
+        .chunks(4)
+        .map(|record| &record[..2])
+        .collect()
+}
+
+/// The same rows under 48 and under 50 are not alike: nothing is hidden, and the answers differ.
+#[test]
+fn kinds_48_and_50_are_not_alike() {
+    let query = [1, 0, 0, 33, 0, 0, 16];
+    let permits = [64, 0, 255, 255, 16];
+    let of = |kind| permitted_rows(&[kind, 1, 2, 0], &[1, 2], &permits, &query).unwrap();
+    assert_eq!(of(48)[0].rows, [[1], [2]]);
+    assert_eq!(of(50)[0].rows, [[2], [1]]);
+    let open = permitted_rows(&[49, 1, 2, 0], &[1, 2], &[], &query).unwrap();
+    assert_eq!(open[0].rows, [[1], [2]]);
 }

@@ -27,6 +27,14 @@ impl From<Returned> for Outcome {
     }
 }
 
+/// What the reader of texts returns.
+#[cfg(feature = "text")]
+#[repr(C)]
+struct Reading {
+    number: u64,
+    length: u64,
+}
+
 extern "C" {
     fn waldumre_evaluate(
         catalogue: *const u8,
@@ -73,6 +81,36 @@ extern "C" {
         offers_length: usize,
         display: *mut u8,
         display_length: usize,
+    ) -> Returned;
+
+    #[cfg(feature = "text")]
+    fn waldumre_read_query(
+        text: *const u8,
+        text_length: usize,
+        names: *const u8,
+        names_length: usize,
+        records: *mut u8,
+        records_length: usize,
+    ) -> Reading;
+
+    #[cfg(feature = "text")]
+    fn waldumre_ask_text(
+        catalogue: *const u8,
+        catalogue_length: usize,
+        values: *const i32,
+        values_length: usize,
+        permits: *const u8,
+        permits_length: usize,
+        text: *const u8,
+        text_length: usize,
+        names: *const u8,
+        names_length: usize,
+        records: *mut u8,
+        records_length: usize,
+        rewritten: *mut u8,
+        rewritten_length: usize,
+        answer: *mut i64,
+        answer_length: usize,
     ) -> Returned;
 }
 
@@ -154,6 +192,57 @@ pub fn label_book(
             offers.len(),
             display.as_mut_ptr(),
             display.len(),
+        )
+    }
+    .into()
+}
+
+/// The number of the refusal, or 0, and how many bytes were written.
+#[cfg(feature = "text")]
+pub fn read_text(text: &[u8], names: &[u8], records: &mut [u8]) -> (u64, u64) {
+    let Reading { number, length } = unsafe {
+        waldumre_read_query(
+            text.as_ptr(),
+            text.len(),
+            names.as_ptr(),
+            names.len(),
+            records.as_mut_ptr(),
+            records.len(),
+        )
+    };
+    (number, length)
+}
+
+#[cfg(feature = "text")]
+#[allow(clippy::too_many_arguments)]
+pub fn ask_text(
+    catalogue: &[u8],
+    values: &[i32],
+    permits: &[u8],
+    text: &[u8],
+    names: &[u8],
+    records: &mut [u8],
+    rewritten: &mut [u8],
+    answer: &mut [i64],
+) -> Outcome {
+    unsafe {
+        waldumre_ask_text(
+            catalogue.as_ptr(),
+            catalogue.len(),
+            values.as_ptr(),
+            values.len(),
+            permits.as_ptr(),
+            permits.len(),
+            text.as_ptr(),
+            text.len(),
+            names.as_ptr(),
+            names.len(),
+            records.as_mut_ptr(),
+            records.len(),
+            rewritten.as_mut_ptr(),
+            rewritten.len(),
+            answer.as_mut_ptr(),
+            answer.len(),
         )
     }
     .into()

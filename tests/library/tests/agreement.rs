@@ -32,6 +32,8 @@ fn merged(mut report: Report, other: Report) -> Report {
     report.evaluate_calls += other.evaluate_calls;
     add(&mut report.ask_numbers, other.ask_numbers);
     add(&mut report.evaluate_numbers, other.evaluate_numbers);
+    report.latest += other.latest;
+    report.mixed += other.mixed;
     report.differences += other.differences;
     report.first.extend(other.first);
     report
@@ -56,6 +58,7 @@ fn the_library_agrees_with_the_judge() {
     }
     assert!(report.ask_calls >= 100_000);
     assert!(2 * report.ask_numbers[&0] > report.ask_calls);
+    assert!(report.latest >= 15_000 && report.mixed >= 3_000);
     for number in refusal::ALL {
         assert!(report.ask_numbers[&number] >= 1_000, "ask {number}");
     }

@@ -2,7 +2,6 @@ use mathlib.Core.List.{List}
 use Prim.Native.Nat.{_+_}
 use lib.ListN.{length}
 use Rattle.sizes.specs.Decode.{decodeT}
-use Rattle.numbers.specs.Numbers.{represent}
 use Rattle.evaluator.specs.Recalled.{valueBy}
 use Rattle.walks.specs.Walks.{rowsBy}
 use Rattle.evaluator.specs.Evaluation.{assigned, valueAt}

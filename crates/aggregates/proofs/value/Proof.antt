@@ -3,7 +3,6 @@ use Rattle.aggregates.proofs.Taking.{nonzero}
 use Rattle.model.proofs.Tests.{not-no}
 use native.Mathlib.Omega.{arith}
 use mathlib.Core.Path.{_≡_, refl, sym, ap, _∙_}
-use Rattle.numbers.specs.Numbers.{represent}
 use Rattle.numbers.proofs.Laws.{ends}
 use Rattle.evaluator.proofs.Steps.{known-is, aggregate-is}
 use borrow.Author.Needs.{needs}
@@ -75,7 +74,7 @@ returns-3 c =
     let c₇ = c₆ .before in let if1 = c₇ .if1 in
     let c₈ = c₇ .before in let compiled = c₈ .compiled in
     let c₁₃ = c₈ .before .before .before .before .before in let args = c₁₃ .args in
-    (c .recall .ensures .0 ∙ ap represent (known-is (now (args .walks)) (now (args .vs)) (now (args .memo)) (now (args .env)) (now (args .q)) (now (args .z)) (args .level) _ _ _ (nonzero _ (compiled .ensures (not-no _ (if1 .left)) .0)) refl refl (read .ensures) _ _ _ _ _ _ (function .given .1) (c .before .before .knows .ensures) (c .before .if2 .taken) refl), (c .recall .ensures .1, refl))
+    (c .recall .ensures .0 ∙ (known-is (now (args .walks)) (now (args .vs)) (now (args .memo)) (now (args .env)) (now (args .q)) (now (args .z)) (args .level) _ _ _ (nonzero _ (compiled .ensures (not-no _ (if1 .left)) .0)) refl refl (read .ensures) _ _ _ _ _ _ (function .given .1) (c .before .before .knows .ensures) (c .before .if2 .taken) refl), (c .recall .ensures .1, refl))
 
 -- src/lib.rt:159:34
 byte-requires : tie.Need-byte-requires
@@ -131,7 +130,7 @@ returns-4 c =
     let c₁₅ = c₁₄ .before in let if1 = c₁₅ .if1 in
     let c₁₆ = c₁₅ .before in let compiled = c₁₆ .compiled in
     let c₂₁ = c₁₆ .before .before .before .before .before in let args = c₂₁ .args in
-    (ends _ _ _ _ (gather .ensures .0) (c .finish .ensures .0) ∙ ap represent (aggregate-is (now (args .walks)) (now (args .vs)) (now (args .memo)) (now (args .env)) (now (args .q)) (now (args .z)) (args .level) _ _ _ (nonzero _ (compiled .ensures (not-no _ (if1 .left)) .0)) (byte .ensures) (record-length .ensures .0) (read .ensures) _ _ (tail .ensures) (tail-sizes .ensures) _ _ _ _ _ _ (function .given .1) (knows .ensures) (if2 .left) refl), (c .finish .ensures .1, gather .ensures .1 .1))
+    (ends _ _ (c .finish .result) _ (gather .ensures .0) (c .finish .ensures .0) ∙ (aggregate-is (now (args .walks)) (now (args .vs)) (now (args .memo)) (now (args .env)) (now (args .q)) (now (args .z)) (args .level) _ _ _ (nonzero _ (compiled .ensures (not-no _ (if1 .left)) .0)) (byte .ensures) (record-length .ensures .0) (read .ensures) _ _ (tail .ensures) (tail-sizes .ensures) _ _ _ _ _ _ (function .given .1) (knows .ensures) (if2 .left) refl), (c .finish .ensures .1, gather .ensures .1 .1))
 
 pub value-spec : {M : Type 1} → statement M
 value-spec =

@@ -9,6 +9,7 @@ use Rattle.allrows.proofs.whole.Lts as lts
 use Rattle.catalogue.proofs.attributes.Reads as attributes-reads
 use Rattle.catalogue.proofs.base.Reads as base-reads
 use Rattle.catalogue.proofs.rows.Reads as rows-reads
+use Rattle.allrows.proofs.start_of.Reads as start-of-reads
 
 -- src/lib.rt:51:9
 rows-requires : tie.Need-rows-requires
@@ -22,9 +23,16 @@ base-requires c κs = search needs
 attributes-requires : tie.Need-attributes-requires
 attributes-requires c κs = search needs
 
--- src/lib.rt:47:1
+start-of-requires : tie.Need-start-of-requires
+start-of-requires c κs = search needs
+
 returns : tie.Need-returns
-returns c = (whole-is (now (c .before .before .before .before .args .catalogue)) (c .before .before .before .before .args .relation) _ _ _ (c .before .before .rows .ensures .0) (c .before .base .ensures .0) (c .attributes .ensures .0), record { start = omega arith; count = c .before .before .rows .ensures .1; base = omega (arith, c .before .base .ensures .1, c .before .before .before .before .good); width = omega (arith, c .attributes .ensures .1) })
+returns c =
+    let c₁ = c .before in let c₂ = c₁ .before in let c₃ = c₂ .before in let top = c₃ .before .before in
+    let rows = c₃ .rows in let base = c₂ .base in let attributes = c₁ .attributes in let start-of = c .start-of in (
+      whole-is (now (top .args .catalogue)) (top .args .relation) _ _ _ _ (rows .ensures .0) (base .ensures .0) (attributes .ensures .0) (start-of .ensures .0),
+      record { start = omega (arith, start-of .ensures .1); count = rows .ensures .1; base = omega (arith, base .ensures .1, top .good); width = omega (arith, attributes .ensures .1) },
+    )
 
 pub whole-spec : {M : Type 1} → statement M
-whole-spec = tie.close (tie.spec rows-requires base-requires attributes-requires returns)
+whole-spec = tie.close (tie.spec rows-requires base-requires attributes-requires start-of-requires returns)

@@ -23,7 +23,7 @@ use Rattle.binds.proofs.step.Reads as step-reads
 abbrev Inv-loop : tie.InvT-loop
 Inv-loop text kinds starts lengths list main symbols₀ out₀ s₀ i₀ symbols out s i =
     ((ns : List ℕ) (F : List Symbol → ℕ → Written) → ended out₀ 0 (listing (entries list) [] F (boundFrom text (table kinds starts lengths ns) (entries list) main none 0 0)) ≡ ended out (s .at) (toDo text (table kinds starts lengths ns) (entries list) main F i s symbols))
-    × (length symbols ≡ length symbols₀) × (length out ≡ length out₀) × (s .count ≤ i) × (s .n ≤ i) × (s .at ≤ 3 * i) × (i ≤ 3999)
+    × (length symbols ≡ length symbols₀) × (length out ≡ length out₀) × (s .count ≤ i) × (s .n ≤ i) × (s .at ≤ 3 * i) × (i ≤ length kinds)
 
 abbrev μ-loop : tie.MeasureT-loop
 μ-loop text kinds starts lengths list main symbols₀ out₀ s₀ i₀ symbols out s i =
@@ -51,7 +51,7 @@ returns c = (λ ns. record { ends = λ F. c .before .before .before .loop .inv .
 
 -- src/lib.rt:187:33
 step-requires : tie.Need-step-requires Inv-loop μ-loop
-step-requires c κs = (c .before .before .before .before .loop-test .taken, c .before .before .before .before .before .before .before .before .before .before .before .before .before .pre .0, omega (arith, c .before .before .before .before .before .loop .inv .1, c .before .before .before .before .before .loop .inv .3, c .before .before .before .before .before .loop .inv .6, c .before .before .before .before .before .before .before .before .before .before .before .before .before .pre .1), omega (arith, c .before .before .before .before .before .loop .inv .4, c .before .before .before .before .before .loop .inv .6), omega (arith, c .before .before .before .before .before .loop .inv .5, c .before .before .before .before .before .loop .inv .6), c .before .before .if1 .left)
+step-requires c κs = (c .before .before .before .before .loop-test .taken, c .before .before .before .before .before .before .before .before .before .before .before .before .before .pre .0, omega (arith, c .before .before .before .before .before .loop .inv .1, c .before .before .before .before .before .loop .inv .3, c .before .before .before .before .loop-test .taken, c .before .before .before .before .before .before .before .before .before .before .before .before .before .pre .1), omega (arith, c .before .before .before .before .before .loop .inv .4, c .before .before .before .before .before .loop .inv .6, c .before .before .before .before .before .before .before .before .before .before .before .before .before .pre .0), omega (arith, c .before .before .before .before .before .loop .inv .5, c .before .before .before .before .before .loop .inv .6, c .before .before .before .before .before .before .before .before .before .before .before .before .before .pre .0), c .before .before .if1 .left)
 
 -- src/lib.rt:187:28
 enum-known-t : tie.Need-enum-known-t Inv-loop μ-loop

@@ -13,25 +13,26 @@ use Rattle.catalogue.proofs.known.Tie as tie
 
 module _ (c : List ℕ) (r : ℕ) where
   below-kinds : kindOf c r < 48 → false ≡ knownOf c r
-  below-kinds h = sym (rw (ne-eqb (kindOf c r) 48 (λ e. omega arith), ne-eqb (kindOf c r) 49 (λ e. omega arith)))
+  below-kinds h = sym (rw (ne-eqb (kindOf c r) 48 (λ e. omega arith), ne-eqb (kindOf c r) 49 (λ e. omega arith), ne-eqb (kindOf c r) 50 (λ e. omega arith)))
 
-  above-kinds : 49 < kindOf c r → false ≡ knownOf c r
-  above-kinds h = sym (rw (ne-eqb (kindOf c r) 48 (λ e. omega arith), ne-eqb (kindOf c r) 49 (λ e. omega arith)))
+  above-kinds : 50 < kindOf c r → false ≡ knownOf c r
+  above-kinds h = sym (rw (ne-eqb (kindOf c r) 48 (λ e. omega arith), ne-eqb (kindOf c r) 49 (λ e. omega arith), ne-eqb (kindOf c r) 50 (λ e. omega arith)))
 
-  kinds : 48 ≤ kindOf c r → kindOf c r ≤ 49 → eqb (kindOf c r) 48 || eqb (kindOf c r) 49 ≡ true
-  kinds l h = go (eqb (kindOf c r) 48) refl
+  kinds : 48 ≤ kindOf c r → kindOf c r ≤ 50 → (eqb (kindOf c r) 48 || eqb (kindOf c r) 49 || eqb (kindOf c r) 50) ≡ true
+  kinds l h = go (eqb (kindOf c r) 48) (eqb (kindOf c r) 49) refl refl
     where
-      go : (b : Bool) → eqb (kindOf c r) 48 ≡ b → b || eqb (kindOf c r) 49 ≡ true
-      go true e = refl
-      go false e = eq-eqb (kindOf c r) 49 (omega (arith, eqb-false (kindOf c r) 48 e))
+      go : (a b : Bool) → eqb (kindOf c r) 48 ≡ a → eqb (kindOf c r) 49 ≡ b → (a || b || eqb (kindOf c r) 50) ≡ true
+      go true b e f = refl
+      go false true e f = refl
+      go false false e f = eq-eqb (kindOf c r) 50 (omega (arith, eqb-false (kindOf c r) 48 e, eqb-false (kindOf c r) 49 f))
 
-  no-attributes : 48 ≤ kindOf c r → kindOf c r ≤ 49 → attributesOf c r < 1 → false ≡ knownOf c r
+  no-attributes : 48 ≤ kindOf c r → kindOf c r ≤ 50 → attributesOf c r < 1 → false ≡ knownOf c r
   no-attributes l h k = sym (rw (kinds l h, lt-leb 1 (attributesOf c r) k))
 
-  many-attributes : 48 ≤ kindOf c r → kindOf c r ≤ 49 → 1 ≤ attributesOf c r → 16 < attributesOf c r → false ≡ knownOf c r
+  many-attributes : 48 ≤ kindOf c r → kindOf c r ≤ 50 → 1 ≤ attributesOf c r → 16 < attributesOf c r → false ≡ knownOf c r
   many-attributes l h k m = sym (rw (kinds l h, le-leb 1 (attributesOf c r) k, lt-leb (attributesOf c r) 16 m))
 
-  rows-decide : 48 ≤ kindOf c r → kindOf c r ≤ 49 → 1 ≤ attributesOf c r → attributesOf c r ≤ 16 → leb (rowsOf c r) 1024 ≡ knownOf c r
+  rows-decide : 48 ≤ kindOf c r → kindOf c r ≤ 50 → 1 ≤ attributesOf c r → attributesOf c r ≤ 16 → leb (rowsOf c r) 1024 ≡ knownOf c r
   rows-decide l h k m = sym (rw (kinds l h, le-leb 1 (attributesOf c r) k, le-leb (attributesOf c r) 16 m))
 
 kind-requires : tie.Need-kind-requires

@@ -2,7 +2,6 @@ use mathlib.Core.Path.{_∙_}
 use denote.Ref.{now}
 use Rattle.evaluator.specs.Evaluation.{assigned}
 use Rattle.conjuncts.proofs.Joining.{from-start}
-
 use borrow.Author.Needs.{needs}
 use Rattle.conjuncts.proofs.holds.Statement.{statement}
 use Rattle.conjuncts.proofs.holds.Tie as tie

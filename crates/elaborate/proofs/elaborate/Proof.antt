@@ -64,15 +64,15 @@ returns-2 c = no-relation (now (c .before .before .before .before .before .befor
 
 -- src/lib.rt:46:9
 slice-reshare-prefix-run : tie.Need-slice-reshare-prefix-run
-slice-reshare-prefix-run c = omega (arith, most _ _ (c .before .before .before .before .before .before .before .before .bind .ensures .1) (c .before .before .s .given .1) .0, c .before .before .before .before .before .before .before .before .bind .kept .1 .1 .1 .1 .1 .1 .0, c .before .before .before .before .before .before .before .before .before .before .before .before .before .before .before .before .before .before .before .before .before .before .before .before .before .before .before .before .pre .2)
+slice-reshare-prefix-run c = omega (arith, most _ _ _ (c .before .before .before .before .before .before .before .before .bind .ensures .1) (c .before .before .s .given .1) .0, c .before .before .before .before .before .before .before .before .bind .kept .1 .1 .1 .1 .1 .1 .0, c .before .before .before .before .before .before .before .before .before .before .before .before .before .before .before .before .before .before .before .before .before .before .before .before .before .before .before .before .pre .2)
 
 -- src/lib.rt:46:9
 slice-aggregate-run : tie.Need-slice-aggregate-run
-slice-aggregate-run c = sym (length-take-le _ (c .before .before .before .before .before .before .before .before .before .bind .last .1 .1 .1 .1 .1 .1 .0) (omega (arith, most _ _ (c .before .before .before .before .before .before .before .before .before .bind .ensures .1) (c .before .before .before .s .given .1) .0, c .before .before .before .before .before .before .before .before .before .bind .kept .1 .1 .1 .1 .1 .1 .0, c .before .before .before .before .before .before .before .before .before .before .before .before .before .before .before .before .before .before .before .before .before .before .before .before .before .before .before .before .before .pre .2)))
+slice-aggregate-run c = sym (length-take-le _ (c .before .before .before .before .before .before .before .before .before .bind .last .1 .1 .1 .1 .1 .1 .0) (omega (arith, most _ _ _ (c .before .before .before .before .before .before .before .before .before .bind .ensures .1) (c .before .before .before .s .given .1) .0, c .before .before .before .before .before .before .before .before .before .bind .kept .1 .1 .1 .1 .1 .1 .0, c .before .before .before .before .before .before .before .before .before .before .before .before .before .before .before .before .before .before .before .before .before .before .before .before .before .before .before .before .before .pre .2)))
 
 -- src/lib.rt:38:26
 run-requires : tie.Need-run-requires
-run-requires c κs = (c .before .before .before .before .before .before .before .before .before .before .before .before .before .before .before .before .before .before .before .before .before .before .before .before .before .before .before .before .before .before .before .pre .0, c .before .before .before .before .before .before .before .before .before .before .before .before .before .before .before .before .before .before .before .before .before .before .before .before .before .before .before .before .before .before .before .pre .3, c .before .before .before .before .before .before .before .before .before .before .before .before .before .before .main-place .ensures .1, omega (arith, most _ _ (c .before .before .before .before .before .before .before .before .before .before .before .bind .ensures .1) (c .before .before .before .before .before .s .given .1) .1), omega (arith, most _ _ (c .before .before .before .before .before .before .before .before .before .before .before .bind .ensures .1) (c .before .before .before .before .before .s .given .1) .2), c .before .before .before .before .before .before .before .before .before .before .before .before .before .before .before .before .before .count .ensures)
+run-requires c κs = (c .before .before .before .before .before .before .before .before .before .before .before .before .before .before .before .before .before .before .before .before .before .before .before .before .before .before .before .before .before .before .before .pre .0, c .before .before .before .before .before .before .before .before .before .before .before .before .before .before .before .before .before .before .before .before .before .before .before .before .before .before .before .before .before .before .before .pre .3, c .before .before .before .before .before .before .before .before .before .before .before .before .before .before .main-place .ensures .1, omega (arith, most _ _ _ (c .before .before .before .before .before .before .before .before .before .before .before .bind .ensures .1) (c .before .before .before .before .before .s .given .1) .1, c .before .before .before .before .before .before .before .before .before .before .before .before .before .before .before .before .before .before .before .before .before .before .before .before .before .before .before .before .before .before .before .pre .0), omega (arith, most _ _ _ (c .before .before .before .before .before .before .before .before .before .before .before .bind .ensures .1) (c .before .before .before .before .before .s .given .1) .2, c .before .before .before .before .before .before .before .before .before .before .before .before .before .before .before .before .before .before .before .before .before .before .before .before .before .before .before .before .before .before .before .pre .0), c .before .before .before .before .before .before .before .before .before .before .before .before .before .before .before .before .before .count .ensures)
 
 -- src/lib.rt:38:20
 enum-known-at : tie.Need-enum-known-at
@@ -128,7 +128,7 @@ returns-4 c = with-condition (now (c .before .before .before .before .before .be
 
 -- src/lib.rt:58:16
 put-requires : tie.Need-put-requires
-put-requires c κs = omega (arith, place-most _ _ _ (c .before .before .before .before .before .before .before .before .before .before .run .ensures .1) (c .before .before .before .before .at .given .1), most _ _ (c .before .before .before .before .before .before .before .before .before .before .before .before .before .before .before .before .before .before .before .before .before .before .bind .ensures .1) (c .before .before .before .before .before .before .before .before .before .before .before .before .before .before .before .before .s .given .1) .2)
+put-requires c κs = omega (arith, place-most _ _ _ (c .before .before .before .before .before .before .before .before .before .before .run .ensures .1) (c .before .before .before .before .at .given .1), most _ _ _ (c .before .before .before .before .before .before .before .before .before .before .before .before .before .before .before .before .before .before .before .before .before .before .bind .ensures .1) (c .before .before .before .before .before .before .before .before .before .before .before .before .before .before .before .before .s .given .1) .2, c .before .before .before .before .before .before .before .before .before .before .before .before .before .before .before .before .before .before .before .before .before .before .before .before .before .before .before .before .before .before .before .before .before .before .before .before .before .before .before .before .before .before .pre .0)
 
 -- src/lib.rt:14:1
 same-length-12 : tie.Need-same-length-12

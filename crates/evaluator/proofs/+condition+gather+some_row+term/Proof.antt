@@ -11,7 +11,7 @@ use mir.Facts.{toZ-ofZ}
 use lib.ListN.{length, getD, set, length-set}
 use Rattle.model.specs.Lists.{any}
 use Rattle.numbers.specs.declared.Accumulator.{Accumulator}
-use Rattle.numbers.specs.Numbers.{represent, ratioOf, Small, Accumulates}
+use Rattle.numbers.specs.Numbers.{Small, Accumulates}
 use Rattle.catalogue.specs.Layout.{tupleAt}
 use Rattle.walks.specs.Walks.{placeAt, places, walked, kept}
 use Rattle.evaluator.specs.Evaluation.{holdsAt, valueAt, holdsOn, valuesOn}
@@ -331,7 +331,7 @@ condition-returns-8 t c =
     let c₁₉ = c₁₈ .before in let byte = c₁₉ .byte in
     let c₂₀ = c₁₉ .before in let if1 = c₂₀ .if1 in
     let c₂₅ = c₂₀ .before .before .before .before .before in let args = c₂₅ .args in
-    (compare-is (now (args .walks)) (now (args .vs)) (now (args .memo)) (now (args .env)) (now (args .q)) (now (args .z)) (args .level) _ _ _ (if1 .left) (byte .ensures) (record-length .ensures .0) (read .ensures) _ _ (tail .ensures) (tail-sizes .ensures) _ _ _ _ (size-at3 .ensures .0) refl (tail4 .ensures) (tail-sizes4 .ensures) _ _ _ _ _ (operator .given .1) (ap ratioOf (term .ensures .0)) (term .ensures .1 .1) (ap ratioOf (term2 .ensures .0)) (c .compare .ensures), term2 .ensures .1 .1 ∙ term .ensures .1 .1)
+    (compare-is (now (args .walks)) (now (args .vs)) (now (args .memo)) (now (args .env)) (now (args .q)) (now (args .z)) (args .level) _ _ _ (if1 .left) (byte .ensures) (record-length .ensures .0) (read .ensures) _ _ (tail .ensures) (tail-sizes .ensures) _ _ _ _ (size-at3 .ensures .0) refl (tail4 .ensures) (tail-sizes4 .ensures) _ _ _ _ _ (operator .given .1) (term .ensures .0) (term .ensures .1 .1) (term2 .ensures .0) (c .compare .ensures), term2 .ensures .1 .1 ∙ term .ensures .1 .1)
 
 condition-same-length-7 : (t : ℕ) → condition-lts.Need-same-length-7 (condition-claims t) (condition-at t) condition.Post
 condition-same-length-7 t c = search needs
@@ -527,7 +527,7 @@ term-whole-requires t c κs = search needs
 term-returns : (t : ℕ) → term-lts.Need-returns (term-claims t) (term-at t) term.Post
 term-returns t c =
     let c₆ = c .before .before .before .before .before .before in let args = c₆ .args in
-    ((c .whole .ensures .0) ∙ ap represent (value-zero (now (args .walks)) (now (args .vs)) (now (args .memo)) (now (args .env)) (now (args .q)) (now (args .z)) (args .level) (c .before .if1 .taken)), (c .whole .ensures .1, search needs))
+    ((c .whole .ensures .0) ∙ (value-zero (now (args .walks)) (now (args .vs)) (now (args .memo)) (now (args .env)) (now (args .q)) (now (args .z)) (args .level) (c .before .if1 .taken)), (c .whole .ensures .1, search needs))
 
 term-sub-l : (t : ℕ) → term-lts.Need-sub-l (term-claims t) (term-at t) term.Post
 term-sub-l t c = search needs
@@ -579,7 +579,7 @@ term-returns-2 t c =
     let c₈ = c₇ .before in let byte = c₈ .byte in
     let c₉ = c₈ .before in let if1 = c₉ .if1 in
     let c₁₄ = c₉ .before .before .before .before .before in let args = c₁₄ .args in
-    (c .recall .ensures .0 ∙ ap represent (known-is (now (args .walks)) (now (args .vs)) (now (args .memo)) (now (args .env)) (now (args .q)) (now (args .z)) (args .level) _ _ _ (if1 .left) (byte .ensures) (record-length .ensures .0) (read .ensures) _ _ _ _ _ _ (function .given .1) (c .before .before .knows .ensures) (c .before .if2 .taken) refl), (c .recall .ensures .1, search needs))
+    (c .recall .ensures .0 ∙ (known-is (now (args .walks)) (now (args .vs)) (now (args .memo)) (now (args .env)) (now (args .q)) (now (args .z)) (args .level) _ _ _ (if1 .left) (byte .ensures) (record-length .ensures .0) (read .ensures) _ _ _ _ _ _ (function .given .1) (c .before .before .knows .ensures) (c .before .if2 .taken) refl), (c .recall .ensures .1, search needs))
 
 term-tail-requires : (t : ℕ) → term-lts.Need-tail-requires (term-claims t) (term-at t) term.Post
 term-tail-requires t c κs = search needs
@@ -603,7 +603,7 @@ term-returns-3 t c =
     let c₅ = c₃ .before .before in let read = c₅ .read in
     let c₈ = c₅ .before .before .before in let if1 = c₈ .if1 in
     let c₁₃ = c₈ .before .before .before .before .before in let args = c₁₃ .args in
-    ((c .whole2 .ensures .0) ∙ ap represent (constant-is (now (args .walks)) (now (args .vs)) (now (args .memo)) (now (args .env)) (now (args .q)) (now (args .z)) (args .level) _ _ _ _ _ _ (if1 .left) (read .ensures) (a .given .1) (toZ-ofZ {w = w32} (record { sfits = constant .ok }) ∙ constant .ensures .0)), (c .whole2 .ensures .1, search needs))
+    ((c .whole2 .ensures .0) ∙ (constant-is (now (args .walks)) (now (args .vs)) (now (args .memo)) (now (args .env)) (now (args .q)) (now (args .z)) (args .level) _ _ _ _ _ _ (if1 .left) (read .ensures) (a .given .1) (toZ-ofZ {w = w32} (record { sfits = constant .ok }) ∙ constant .ensures .0)), (c .whole2 .ensures .1, search needs))
 
 term-same-length : (t : ℕ) → term-lts.Need-same-length (term-claims t) (term-at t) term.Post
 term-same-length t c = search needs
@@ -616,7 +616,7 @@ term-returns-4 t c =
     let c₇ = c₅ .before .before in let read = c₇ .read in
     let c₁₀ = c₇ .before .before .before in let if1 = c₁₀ .if1 in
     let c₁₅ = c₁₀ .before .before .before .before .before in let args = c₁₅ .args in let pre = c₁₅ .pre in
-    ((c .whole3 .ensures .0) ∙ ap represent (attribute-is (now (args .walks)) (now (args .vs)) (now (args .memo)) (now (args .env)) (now (args .q)) (now (args .z)) (args .level) _ _ _ _ _ (if1 .left) (read .ensures) (variable .given .1) (omega (arith, pre .1, known-told2 .given)) (c .before .before .place .ensures) (toZ-ofZ {w = w32} (record { sfits = cell .ok }) ∙ cell .ensures)), (c .whole3 .ensures .1, search needs))
+    ((c .whole3 .ensures .0) ∙ (attribute-is (now (args .walks)) (now (args .vs)) (now (args .memo)) (now (args .env)) (now (args .q)) (now (args .z)) (args .level) _ _ _ _ _ (if1 .left) (read .ensures) (variable .given .1) (omega (arith, pre .1, known-told2 .given)) (c .before .before .place .ensures) (toZ-ofZ {w = w32} (record { sfits = cell .ok }) ∙ cell .ensures)), (c .whole3 .ensures .1, search needs))
 
 term-same-length-2 : (t : ℕ) → term-lts.Need-same-length-2 (term-claims t) (term-at t) term.Post
 term-same-length-2 t c = search needs
@@ -634,13 +634,13 @@ term-returns-5 t c =
     let c₁₄ = c₁₃ .before in let byte = c₁₄ .byte in
     let c₁₅ = c₁₄ .before in let if1 = c₁₅ .if1 in
     let c₂₀ = c₁₅ .before .before .before .before .before in let args = c₂₀ .args in
-    (ends _ _ _ _ (gather .ensures .0) (c .finish .ensures .0) ∙ ap represent (aggregate-is (now (args .walks)) (now (args .vs)) (now (args .memo)) (now (args .env)) (now (args .q)) (now (args .z)) (args .level) _ _ _ (if1 .left) (byte .ensures) (record-length .ensures .0) (read .ensures) _ _ (tail .ensures) (tail-sizes .ensures) _ _ _ _ _ _ (function .given .1) (knows .ensures) (if2 .left) refl), (c .finish .ensures .1, gather .ensures .1 .1))
+    (ends _ _ (c .finish .result) _ (gather .ensures .0) (c .finish .ensures .0) ∙ (aggregate-is (now (args .walks)) (now (args .vs)) (now (args .memo)) (now (args .env)) (now (args .q)) (now (args .z)) (args .level) _ _ _ (if1 .left) (byte .ensures) (record-length .ensures .0) (read .ensures) _ _ (tail .ensures) (tail-sizes .ensures) _ _ _ _ _ _ (function .given .1) (knows .ensures) (if2 .left) refl), (c .finish .ensures .1, gather .ensures .1 .1))
 
 term-returns-6 : (t : ℕ) → term-lts.Need-returns-6 (term-claims t) (term-at t) term.Post
 term-returns-6 t c =
     let c₅ = c .before .before .before .before .before in let if1 = c₅ .if1 in
     let c₁₀ = c₅ .before .before .before .before .before in let args = c₁₀ .args in
-    ((c .whole4 .ensures .0) ∙ ap represent (no-term (now (args .walks)) (now (args .vs)) (now (args .memo)) (now (args .env)) (now (args .q)) (now (args .z)) (args .level) _ (if1 .left) (c .before .before .read .ensures) (c .before .match .keys4)), (c .whole4 .ensures .1, search needs))
+    ((c .whole4 .ensures .0) ∙ (no-term (now (args .walks)) (now (args .vs)) (now (args .memo)) (now (args .env)) (now (args .q)) (now (args .z)) (args .level) _ (if1 .left) (c .before .before .read .ensures) (c .before .match .keys4)), (c .whole4 .ensures .1, search needs))
 
 pub +condition+gather+some-row+term-spec : {M : Type 1} → statement M
 +condition+gather+some-row+term-spec =

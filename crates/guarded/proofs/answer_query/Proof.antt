@@ -1,19 +1,25 @@
-use lib.ListN.{length-take}
+use Prim.Native.Nat.{ℕ}
+use lib.ListN.{replicate, length-replicate}
+use Rattle.model.specs.Demands.{columnsOf}
+use Rattle.model.specs.Calls.{give}
+use lib.IntN.{ℤ}
+use mathlib.Core.List.{List}
+use mathlib.Core.Path.{ap, _∙_}
 use denote.Ref.{now}
 use native.Mathlib.Omega.{arith}
-use Rattle.guarded.proofs.Numbers.{refused-33, refused-40, short-query, short-list, short-places, all-pass, ask-passes, writable, length-is}
-use Rattle.guarded.proofs.Outcomes.{written-all, roomy, answered, passes-again}
+use Rattle.guarded.proofs.Numbers.{refused-33, refused-40, short-query, short-list, short-places, ask-passes, writable, length-is}
+use Rattle.guarded.proofs.Outcomes.{written-all, roomy, answered, answerable, permitted-answers, binds}
 use borrow.Author.Needs.{needs}
 use Rattle.guarded.proofs.answer_query.Statement.{statement}
 use Rattle.guarded.proofs.answer_query.Tie as tie
 use Rattle.guarded.proofs.answer_query.Reads as reads
 use Rattle.guarded.proofs.answer_query.Lts as lts
+use Rattle.guarded.proofs.answer_permitted.Reads as answer-permitted-reads
 use Rattle.guarded.proofs.refused.Reads as refused-reads
 use Rattle.guards.proofs.all_served.Reads as all-served-reads
 use Rattle.guards.proofs.fill_masks.Reads as fill-masks-reads
 use Rattle.guards.proofs.fill_places.Reads as fill-places-reads
 use Rattle.guards.proofs.rewritten_length.Reads as rewritten-length-reads
-use Rattle.plain.proofs.evaluate_accepted.Reads as evaluate-accepted-reads
 use Rattle.rewriter.proofs.rewrite_query.Reads as rewrite-query-reads
 
 slice-aggregate-fill-places : tie.Need-slice-aggregate-fill-places
@@ -91,28 +97,24 @@ rewrite-query-requires c κs =
     let catalogue = now (args .catalogue) in let list = now (args .list) in let query = now (args .query) in let z = now (args .z) in let layout = args .layout in
     roomy layout catalogue list query z _ (writable catalogue (now (args .values)) list query (now (args .rewritten)) (now (args .answer)) (pre .kept) (pre .permits) (pre .query) _ _ (fill-places .ensures) (fill-masks .ensures) (all-served .result) (all-served .ensures) (if1 .left) _ (rewritten-length .ensures) (if2 .left) layout z (pre .ready)) _ _ (omega arith) (omega arith) _ _ (fill-places .ensures) (fill-masks .ensures)
 
-slice-reshare-prefix-evaluate-accepted : tie.Need-slice-reshare-prefix-evaluate-accepted
-slice-reshare-prefix-evaluate-accepted c = search needs
+slice-aggregate-answer-permitted : tie.Need-slice-aggregate-answer-permitted
+slice-aggregate-answer-permitted c = search needs
 
-slice-aggregate-evaluate-accepted : tie.Need-slice-aggregate-evaluate-accepted
-slice-aggregate-evaluate-accepted c =
-    let c₃ = c .before .before .before in let rewrite-query = c₃ .rewrite-query in
-    let c₇ = c₃ .before .before .before .before in let if2 = c₇ .if2 in
-    let c₈ = c₇ .before in let rewritten-length = c₈ .rewritten-length in
-    omega (arith, length-take (rewritten-length .result) (rewrite-query .last .1 .1 .1 .1 .1 .1 .1 .0), rewrite-query .kept .1 .1 .1 .1 .1 .1 .1 .0, if2 .left)
+slice-aggregate-answer-permitted-2 : tie.Need-slice-aggregate-answer-permitted-2
+slice-aggregate-answer-permitted-2 c = search needs
 
-evaluate-accepted-requires : tie.Need-evaluate-accepted-requires
-evaluate-accepted-requires c κs =
-    let c₄ = c .before .before .before .before in let rewrite-query = c₄ .rewrite-query in
-    let c₈ = c₄ .before .before .before .before in let if2 = c₈ .if2 in
-    let c₉ = c₈ .before in let rewritten-length = c₉ .rewritten-length in
-    let c₁₂ = c₉ .before .before .before in let if1 = c₁₂ .if1 in
-    let c₁₃ = c₁₂ .before in let all-served = c₁₃ .all-served in
-    let c₁₆ = c₁₃ .before .before .before in let fill-masks = c₁₆ .fill-masks in
-    let c₁₉ = c₁₆ .before .before .before in let fill-places = c₁₉ .fill-places in
-    let c₂₆ = c₁₉ .before .before .before .before .before .before .before in let args = c₂₆ .args in let pre = c₂₆ .pre in
-    let answer = now (args .answer) in let catalogue = now (args .catalogue) in let list = now (args .list) in let query = now (args .query) in let rewritten = now (args .rewritten) in let values = now (args .values) in let z = now (args .z) in let layout = args .layout in
-    passes-again catalogue values list query rewritten (pre .kept) (all-pass catalogue values list query rewritten answer (pre .kept) (pre .permits) (pre .query) _ _ (fill-places .ensures) (fill-masks .ensures) (all-served .result) (all-served .ensures) (if1 .left) _ (rewritten-length .ensures) (if2 .left)) layout (pre .laid) _ _ (length-is catalogue values list query rewritten answer (pre .kept) (pre .permits) (pre .query) _ _ (fill-places .ensures) (fill-masks .ensures) (all-served .result) (all-served .ensures) (if1 .left) _ (rewritten-length .ensures)) (if2 .left) (written-all layout catalogue list query z _ (writable catalogue values list query rewritten answer (pre .kept) (pre .permits) (pre .query) _ _ (fill-places .ensures) (fill-masks .ensures) (all-served .result) (all-served .ensures) (if1 .left) _ (rewritten-length .ensures) (if2 .left) layout z (pre .ready)) _ _ (omega arith) (omega arith) _ _ (fill-places .ensures) (fill-masks .ensures) _ _ (rewrite-query .ensures .1))
+answer-permitted-requires : tie.Need-answer-permitted-requires
+answer-permitted-requires c κs =
+    let c₉ = c .before .before .before .before .before .before .before .before .before in let if2 = c₉ .if2 in
+    let c₁₀ = c₉ .before in let rewritten-length = c₁₀ .rewritten-length in
+    let c₁₃ = c₁₀ .before .before .before in let if1 = c₁₃ .if1 in
+    let c₁₄ = c₁₃ .before in let all-served = c₁₄ .all-served in
+    let c₁₇ = c₁₄ .before .before .before in let fill-masks = c₁₇ .fill-masks in
+    let c₂₀ = c₁₇ .before .before .before in let fill-places = c₂₀ .fill-places in
+    let c₂₇ = c₂₀ .before .before .before .before .before .before .before in let args = c₂₇ .args in let pre = c₂₇ .pre in
+    let catalogue = now (args .catalogue) in let list = now (args .list) in let query = now (args .query) in let z = now (args .z) in let layout = args .layout in
+    let able = writable catalogue (now (args .values)) (now (args .list)) query (now (args .rewritten)) (now (args .answer)) (pre .kept) (pre .permits) (pre .query) _ _ (fill-places .ensures) (fill-masks .ensures) (all-served .result) (all-served .ensures) (if1 .left) _ (rewritten-length .ensures) (if2 .left) layout z (pre .ready) in
+    (answerable layout catalogue query z (able .catalogue) (pre .query) (pre .laid) (pre .ready), binds layout catalogue list query z _ able (replicate {A = ℕ} 16 0) (replicate {A = ℕ} 256 0) (omega (arith, length-replicate {A = ℕ} 16 0)) (omega (arith, length-replicate {A = ℕ} 256 0)))
 
 same-length : tie.Need-same-length
 same-length c = search needs
@@ -122,16 +124,16 @@ same-length-2 c = search needs
 
 returns-3 : tie.Need-returns-3
 returns-3 c =
-    let c₆ = c .before .before .before .before .before .before in let rewrite-query = c₆ .rewrite-query in
-    let c₁₀ = c₆ .before .before .before .before in let if2 = c₁₀ .if2 in
-    let c₁₁ = c₁₀ .before in let rewritten-length = c₁₁ .rewritten-length in
-    let c₁₄ = c₁₁ .before .before .before in let if1 = c₁₄ .if1 in
-    let c₁₅ = c₁₄ .before in let all-served = c₁₅ .all-served in
-    let c₁₈ = c₁₅ .before .before .before in let fill-masks = c₁₈ .fill-masks in
-    let c₂₁ = c₁₈ .before .before .before in let fill-places = c₂₁ .fill-places in
-    let c₂₈ = c₂₁ .before .before .before .before .before .before .before in let args = c₂₈ .args in let pre = c₂₈ .pre in
+    let c₇ = c .before .before .before .before .before .before .before in let rewrite-query = c₇ .rewrite-query in
+    let c₁₁ = c₇ .before .before .before .before in let if2 = c₁₁ .if2 in
+    let c₁₂ = c₁₁ .before in let rewritten-length = c₁₂ .rewritten-length in
+    let c₁₅ = c₁₂ .before .before .before in let if1 = c₁₅ .if1 in
+    let c₁₆ = c₁₅ .before in let all-served = c₁₆ .all-served in
+    let c₁₉ = c₁₆ .before .before .before in let fill-masks = c₁₉ .fill-masks in
+    let c₂₂ = c₁₉ .before .before .before in let fill-places = c₂₂ .fill-places in
+    let c₂₉ = c₂₂ .before .before .before .before .before .before .before in let args = c₂₉ .args in let pre = c₂₉ .pre in
     let answer = now (args .answer) in let catalogue = now (args .catalogue) in let list = now (args .list) in let query = now (args .query) in let rewritten = now (args .rewritten) in let values = now (args .values) in let z = now (args .z) in let layout = args .layout in
-    answered catalogue values list query rewritten answer (ask-passes catalogue values list query rewritten answer (pre .kept) (pre .permits) (pre .query) _ _ (fill-places .ensures) (fill-masks .ensures) (all-served .result) (all-served .ensures) (if1 .left) _ (rewritten-length .ensures) (if2 .left)) _ _ _ _ (length-is catalogue values list query rewritten answer (pre .kept) (pre .permits) (pre .query) _ _ (fill-places .ensures) (fill-masks .ensures) (all-served .result) (all-served .ensures) (if1 .left) _ (rewritten-length .ensures)) (if2 .left) (written-all layout catalogue list query z _ (writable catalogue values list query rewritten answer (pre .kept) (pre .permits) (pre .query) _ _ (fill-places .ensures) (fill-masks .ensures) (all-served .result) (all-served .ensures) (if1 .left) _ (rewritten-length .ensures) (if2 .left) layout z (pre .ready)) _ _ (omega arith) (omega arith) _ _ (fill-places .ensures) (fill-masks .ensures) _ _ (rewrite-query .ensures .1)) (c .before .evaluate-accepted .ensures)
+    answered catalogue values list query rewritten answer (ask-passes catalogue values list query rewritten answer (pre .kept) (pre .permits) (pre .query) _ _ (fill-places .ensures) (fill-masks .ensures) (all-served .result) (all-served .ensures) (if1 .left) _ (rewritten-length .ensures) (if2 .left)) _ _ _ _ (length-is catalogue values list query rewritten answer (pre .kept) (pre .permits) (pre .query) _ _ (fill-places .ensures) (fill-masks .ensures) (all-served .result) (all-served .ensures) (if1 .left) _ (rewritten-length .ensures)) (if2 .left) (written-all layout catalogue list query z _ (writable catalogue values list query rewritten answer (pre .kept) (pre .permits) (pre .query) _ _ (fill-places .ensures) (fill-masks .ensures) (all-served .result) (all-served .ensures) (if1 .left) _ (rewritten-length .ensures) (if2 .left) layout z (pre .ready)) _ _ (omega arith) (omega arith) _ _ (fill-places .ensures) (fill-masks .ensures) _ _ (rewrite-query .ensures .1)) (c .before .answer-permitted .ensures ∙ ap (λ (rows : List (List ℤ)). give (columnsOf query) rows answer) (permitted-answers layout catalogue list query z _ (writable catalogue values list query rewritten answer (pre .kept) (pre .permits) (pre .query) _ _ (fill-places .ensures) (fill-masks .ensures) (all-served .result) (all-served .ensures) (if1 .left) _ (rewritten-length .ensures) (if2 .left) layout z (pre .ready)) _ _ (omega arith) (omega arith) _ _ (fill-places .ensures) (fill-masks .ensures) values))
 
 pub answer-query-spec : {M : Type 1} → statement M
 answer-query-spec =
@@ -153,9 +155,9 @@ answer-query-spec =
     slice-aggregate-rewrite-query
     slice-aggregate-rewrite-query-2
     rewrite-query-requires
-    slice-reshare-prefix-evaluate-accepted
-    slice-aggregate-evaluate-accepted
-    evaluate-accepted-requires
+    slice-aggregate-answer-permitted
+    slice-aggregate-answer-permitted-2
+    answer-permitted-requires
     same-length
     same-length-2
     returns-3)

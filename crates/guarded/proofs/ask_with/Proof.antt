@@ -67,7 +67,7 @@ answer-query-requires c κs =
     let c₁₂ = c₁₁ .before in let if1 = c₁₂ .if1 in
     let c₁₃ = c₁₂ .before in let check = c₁₃ .check in
     let c₁₉ = c₁₃ .before .before .before .before .before .before in let args = c₁₉ .args in
-    record { kept = (sym (check .ensures) ∙ if1 .left); permits = (sym (check-permits .ensures) ∙ if2 .left); query = sym (sym (ap numberOf (layout .given .1)) ∙ check2 .ensures .0); ready = (subst (λ (r : Checked). Ready r 32 (now (args .query)) (check2 .last .1 .1 .1 .0)) (layout .given .1) (check2 .ensures .1)) .1; laid = (subst (λ (r : Checked). Ready r 32 (now (args .query)) (check2 .last .1 .1 .1 .0)) (layout .given .1) (check2 .ensures .1)) .0 }
+    record { kept = (sym (check .ensures) ∙ if1 .left); permits = (sym (check-permits .ensures) ∙ if2 .left); query = sym (sym (ap numberOf (layout .given .1)) ∙ check2 .ensures .0); ready = (subst (λ (r : Checked). Ready r 32 (now (args .query)) (check2 .last .1 .1 .1 .0)) (layout .given .1) (check2 .ensures .1 .0)) .1; laid = (subst (λ (r : Checked). Ready r 32 (now (args .query)) (check2 .last .1 .1 .1 .0)) (layout .given .1) (check2 .ensures .1 .0)) .0 }
 
 same-length : tie.Need-same-length
 same-length c = search needs
@@ -82,7 +82,7 @@ returns-3 c =
     let c₁₁ = c₁₀ .before in let check = c₁₁ .check in
     let c₁₇ = c₁₁ .before .before .before .before .before .before in let args = c₁₇ .args in
     let query = now (args .query) in
-    refused-query (now (args .catalogue)) (now (args .values)) (now (args .list)) query (now (args .rewritten)) (now (args .answer)) (sym (check .ensures) ∙ if1 .left) (sym (check-permits .ensures) ∙ if2 .left) _ _ (sym (ap numberOf (n .given .1)) ∙ check2 .ensures .0) (subst (λ (r : Checked). Ready r 32 query (check2 .last .1 .1 .1 .0)) (n .given .1) (check2 .ensures .1)) (c .refused3 .ensures)
+    refused-query (now (args .catalogue)) (now (args .values)) (now (args .list)) query (now (args .rewritten)) (now (args .answer)) (sym (check .ensures) ∙ if1 .left) (sym (check-permits .ensures) ∙ if2 .left) _ _ (sym (ap numberOf (n .given .1)) ∙ check2 .ensures .0) (subst (λ (r : Checked). Ready r 32 query (check2 .last .1 .1 .1 .0)) (n .given .1) (check2 .ensures .1 .0)) (c .refused3 .ensures)
 
 same-length-2 : tie.Need-same-length-2
 same-length-2 c = search needs

@@ -43,7 +43,7 @@ loop-holds : tie.Need-loop-holds Inv-loop μ-loop
 loop-holds c =
     let c₁₁ = c .before .before .before .before .before .before .before .before .before .before .before in let args = c₁₁ .args in let pre = c₁₁ .pre in
     let kinds = now (args .kinds) in let lengths = now (args .lengths) in let starts = now (args .starts) in let symbols = now (args .symbols) in let text = now (args .text) in
-    (λ z. first text (table kinds starts lengths (now (args .numbers))) (entries (now (args .list))) (args .«from») (args .at) (args .n) (now (args .out)) (map (rangeSymbol (nameIn text kinds starts lengths)) symbols) z _ (first-reach (nameIn text kinds starts lengths) (map (rangeSymbol (nameIn text kinds starts lengths)) symbols) (now (args .frames)) _ (pre .1) (c .pack .ensures .0)), refl, refl, omega arith, omega arith, omega arith, omega arith, omega arith)
+    (λ z. first text (table kinds starts lengths (now (args .numbers))) (entries (now (args .list))) (args .«from») (args .at) (args .n) (now (args .out)) (map (rangeSymbol (nameIn text kinds starts lengths)) symbols) z _ (first-reach (nameIn text kinds starts lengths) (map (rangeSymbol (nameIn text kinds starts lengths)) symbols) (now (args .frames)) _ (omega (arith, pre .1)) (c .pack .ensures .0)), refl, refl, omega arith, omega arith, omega arith, omega arith, omega arith)
 
 -- src/lib.rt:49:27
 turn-requires : tie.Need-turn-requires Inv-loop μ-loop

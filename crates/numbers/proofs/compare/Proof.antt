@@ -15,7 +15,7 @@ compared-requires c κs = search needs
 returns : tie.Need-returns
 returns c =
     let args = c .before .before .args in
-    c .compared .ensures ∙ ap (λ (o : ℕ). compare o (N.ratioOf (args .x)) (N.ratioOf (args .y))) (c .before .wide-byte .ensures)
+    c .compared .ensures ∙ ap (λ (o : ℕ). compare o (N.valueOf (args .x)) (N.valueOf (args .y))) (c .before .wide-byte .ensures)
 
 pub compare-spec : {M : Type 1} → statement M
 compare-spec = tie.close (tie.spec wide-byte-requires compared-requires returns)

@@ -1,10 +1,9 @@
-use Rattle.model.specs.Meaning as M
 use Rattle.numbers.specs.Numbers as N
-use Rattle.numbers.proofs.Laws.{small-whole}
+use Rattle.numbers.proofs.Laws.{small-over}
 use native.Mathlib.Omega.{arith}
 use mir.Facts.{toZ-ofZ}
 use mir.Syntax.{w64}
-use lib.IntN.{ℤ}
+use lib.IntN.{ℤ, pos}
 use Rattle.numbers.proofs.Signed.{abs32}
 use mathlib.Core.Path.{_≡_, ap, _∙_}
 use borrow.Author.Needs.{needs}
@@ -22,8 +21,8 @@ returns c =
     let args = c .before .before .args in
     let fits = c .before .before .fits in
     let wide = c .before .wide in
-    let e : c .over .result ≡ N.represent (M.whole (args .x)) = c .over .ensures ∙ ap (λ (y : ℤ). N.represent (M.whole y)) (toZ-ofZ {w = w64} (record { sfits = wide .ok }) ∙ wide .ensures .0 ∙ toZ-ofZ (fits .x)) in
-    (e, rw e (small-whole (args .x) (omega (arith, abs32 (args .x) (fits .x .sfits)))))
+    let e : c .over .result ≡ record { numerator = args .x; denominator = pos 1 } = c .over .ensures ∙ ap (λ (y : ℤ). record { numerator = y; denominator = pos 1 }) (toZ-ofZ {w = w64} (record { sfits = wide .ok }) ∙ wide .ensures .0 ∙ toZ-ofZ (fits .x)) in
+    (ap N.valueOf e, rw e (small-over (args .x) 1 (omega (arith, abs32 (args .x) (fits .x .sfits))) (omega arith)))
 
 pub whole-spec : {M : Type 1} → statement M
 whole-spec = tie.close (tie.spec wide-requires over-requires returns)

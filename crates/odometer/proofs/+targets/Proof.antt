@@ -1,13 +1,14 @@
 use borrow.Author.Needs.{needs}
 use native.Mathlib.Omega.{arith}
-use Prim.Native.Nat.{ℕ, _<_}
-use mathlib.Core.Path.{refl, ap, _∙_}
+use mathlib.Core.Path.{refl, sym, ap, _∙_}
 use denote.Ref.{now}
 use mir.Syntax.{w64}
 use mir.Val.{toZ, ofZ}
 use mir.Facts.{toZ-ofZ}
 use lib.ListN.{length, length-set}
-use Rattle.odometer.proofs.Steps.{targets-none, targets-more}
+use Rattle.numbers.proofs.Laws.{value-none, is-number, value-some}
+use Rattle.odometer.proofs.Steps.{targets-none, targets-nothing, targets-more}
+use Prim.Native.Nat.{ℕ, _<_}
 use borrow.Fn.Kinds.{In}
 use borrow.Fn.PlainCycle.{Measures, is, falls, and}
 use Rattle.odometer.proofs.targets.Reads as targets
@@ -41,14 +42,24 @@ targets-returns t c =
 targets-term-requires : (t : ℕ) → targets-lts.Need-term-requires (targets-claims t) (targets-at t) targets.Post
 targets-term-requires t c κs = search needs
 
+targets-same-length : (t : ℕ) → targets-lts.Need-same-length (targets-claims t) (targets-at t) targets.Post
+targets-same-length t c = search needs
+
+targets-returns-2 : (t : ℕ) → targets-lts.Need-returns-2 (targets-claims t) (targets-at t) targets.Post
+targets-returns-2 t c =
+    let c₄ = c .before .before .before .before in let term = c₄ .term in
+    let c₆ = c₄ .before .before in let if1 = c₆ .if1 in
+    let c₁₁ = c₆ .before .before .before .before .before in let args = c₁₁ .args in
+    (targets-nothing (now (args .walks)) (now (args .vs)) (now (args .memo)) (now (args .env)) (now (args .q)) (now (args .z)) (args .left) (args .level) (args .at) (now (args .row)) _ (if1 .left) (sym (term .ensures .0) ∙ value-none (term .result) (term .ensures .1 .0) (c .if2 .taken)), term .ensures .1 .1)
+
 targets-cell-requires : (t : ℕ) → targets-lts.Need-cell-requires (targets-claims t) (targets-at t) targets.Post
-targets-cell-requires t c κs = search needs
+targets-cell-requires t c κs = (c .before .before .before .before .term .ensures .1 .0, is-number (c .before .before .before .before .term .result) (c .before .before .before .before .term .ensures .1 .0) (c .if2 .left))
 
-targets-mul-x : (t : ℕ) → targets-lts.Need-mul-x (targets-claims t) (targets-at t) targets.Post
-targets-mul-x t c = search needs
+targets-mul-cell : (t : ℕ) → targets-lts.Need-mul-cell (targets-claims t) (targets-at t) targets.Post
+targets-mul-cell t c = search needs
 
-targets-slice-set-from-x : (t : ℕ) → targets-lts.Need-slice-set-from-x (targets-claims t) (targets-at t) targets.Post
-targets-slice-set-from-x t c = search needs
+targets-slice-set-from-cell : (t : ℕ) → targets-lts.Need-slice-set-from-cell (targets-claims t) (targets-at t) targets.Post
+targets-slice-set-from-cell t c = search needs
 
 targets-size-at-requires : (t : ℕ) → targets-lts.Need-size-at-requires (targets-claims t) (targets-at t) targets.Post
 targets-size-at-requires t c κs = search needs
@@ -64,39 +75,40 @@ targets-sub-targets t c = search needs
 
 targets-add-targets : (t : ℕ) → targets-lts.Need-add-targets (targets-claims t) (targets-at t) targets.Post
 targets-add-targets t c =
-    let c₁₀ = c .before .before .before .before .before .before .before .before .before .before in let if1 = c₁₀ .if1 in
-    let c₁₅ = c₁₀ .before .before .before .before .before in let good = c₁₅ .good in let pre = c₁₅ .pre in
+    let c₁₂ = c .before .before .before .before .before .before .before .before .before .before .before .before in let if1 = c₁₂ .if1 in
+    let c₁₇ = c₁₂ .before .before .before .before .before in let good = c₁₇ .good in let pre = c₁₇ .pre in
     omega (arith, pre .1 .1, if1 .left, good .1 .1 .1 .1 .1 .1 .1 .1 .0)
 
 targets-targets-requires : (t : ℕ) → targets-lts.Need-targets-requires (targets-claims t) (targets-at t) targets.Post
 targets-targets-requires t c κs =
     let c₅ = c .before .before .before .before .before in let cell = c₅ .cell in
-    let c₈ = c₅ .before .before .before in let term = c₈ .term in
-    let c₁₀ = c₈ .before .before in let if1 = c₁₀ .if1 in
-    let c₁₅ = c₁₀ .before .before .before .before .before in let args = c₁₅ .args in let pre = c₁₅ .pre in
+    let c₁₀ = c₅ .before .before .before .before .before in let term = c₁₀ .term in
+    let c₁₂ = c₁₀ .before .before in let if1 = c₁₂ .if1 in
+    let c₁₇ = c₁₂ .before .before .before .before .before in let args = c₁₇ .args in let pre = c₁₇ .pre in
     (omega (arith, pre .0, if1 .left), (omega (arith, pre .1 .0, ap length (term .ensures .1 .1)), omega (arith, pre .1 .1, if1 .left, length-set (now (args .row)) (args .at) (toZ w64 (ofZ w64 (cell .result))))))
 
-targets-same-length : (t : ℕ) → targets-lts.Need-same-length (targets-claims t) (targets-at t) targets.Post
-targets-same-length t c = search needs
-
 targets-same-length-2 : (t : ℕ) → targets-lts.Need-same-length-2 (targets-claims t) (targets-at t) targets.Post
-targets-same-length-2 t c =
+targets-same-length-2 t c = search needs
+
+targets-same-length-3 : (t : ℕ) → targets-lts.Need-same-length-3 (targets-claims t) (targets-at t) targets.Post
+targets-same-length-3 t c =
     let c₃ = c .before .before .before in let targets = c₃ .targets in
     let c₉ = c₃ .before .before .before .before .before .before in let cell = c₉ .cell in
-    let c₁₉ = c₉ .before .before .before .before .before .before .before .before .before .before in let args = c₁₉ .args in
+    let c₂₁ = c₉ .before .before .before .before .before .before .before .before .before .before .before .before in let args = c₂₁ .args in
     targets .kept .1 .1 .1 .1 .1 .1 .1 .1 .0 ∙ length-set (now (args .row)) (args .at) (toZ w64 (ofZ w64 (cell .result)))
 
-targets-returns-2 : (t : ℕ) → targets-lts.Need-returns-2 (targets-claims t) (targets-at t) targets.Post
-targets-returns-2 t c =
+targets-returns-3 : (t : ℕ) → targets-lts.Need-returns-3 (targets-claims t) (targets-at t) targets.Post
+targets-returns-3 t c =
     let c₃ = c .before .before .before in let targets = c₃ .targets in
     let c₆ = c₃ .before .before .before in let tail-sizes = c₆ .tail-sizes in
     let c₇ = c₆ .before in let tail = c₇ .tail in
     let c₈ = c₇ .before in let size-at = c₈ .size-at in
     let c₉ = c₈ .before in let cell = c₉ .cell in
-    let c₁₂ = c₉ .before .before .before in let term = c₁₂ .term in
-    let c₁₄ = c₁₂ .before .before in let if1 = c₁₄ .if1 in
-    let c₁₉ = c₁₄ .before .before .before .before .before in let args = c₁₉ .args in
-    (targets-more (now (args .walks)) (now (args .vs)) (now (args .memo)) (now (args .env)) (now (args .q)) (now (args .z)) (args .left) (args .level) (args .at) (now (args .row)) _ _ _ _ _ _ _ _ (if1 .left) (term .ensures .0) (toZ-ofZ {w = w64} (record { sfits = cell .ok }) ∙ cell .ensures) refl (size-at .ensures .0) (tail .ensures) (tail-sizes .ensures) (term .ensures .1 .1) (targets .ensures .0), targets .ensures .1 ∙ term .ensures .1 .1)
+    let c₁₀ = c₉ .before in let if2 = c₁₀ .if2 in
+    let c₁₄ = c₁₀ .before .before .before .before in let term = c₁₄ .term in
+    let c₁₆ = c₁₄ .before .before in let if1 = c₁₆ .if1 in
+    let c₂₁ = c₁₆ .before .before .before .before .before in let args = c₂₁ .args in
+    (targets-more (now (args .walks)) (now (args .vs)) (now (args .memo)) (now (args .env)) (now (args .q)) (now (args .z)) (args .left) (args .level) (args .at) (now (args .row)) _ _ _ _ _ _ _ _ _ (if1 .left) (sym (term .ensures .0) ∙ value-some (term .result) (is-number (term .result) (term .ensures .1 .0) (if2 .left))) (toZ-ofZ {w = w64} (record { sfits = cell .ok }) ∙ cell .ensures) refl (size-at .ensures .0) (tail .ensures) (tail-sizes .ensures) (term .ensures .1 .1) (targets .ensures .0), targets .ensures .1 ∙ term .ensures .1 .1)
 
 pub +targets-spec : {M : Type 1} → statement M
 +targets-spec = close μ-targets λ t. targets-lts.spec (targets-claims t)
@@ -104,15 +116,17 @@ pub +targets-spec : {M : Type 1} → statement M
     targets.Post
     (targets-returns t)
     (targets-term-requires t)
+    (targets-same-length t)
+    (targets-returns-2 t)
     (targets-cell-requires t)
-    (targets-mul-x t)
-    (targets-slice-set-from-x t)
+    (targets-mul-cell t)
+    (targets-slice-set-from-cell t)
     (targets-size-at-requires t)
     (targets-tail-requires t)
     (targets-tail-sizes-requires t)
     (targets-sub-targets t)
     (targets-add-targets t)
     (targets-targets-requires t)
-    (targets-same-length t)
     (targets-same-length-2 t)
-    (targets-returns-2 t)
+    (targets-same-length-3 t)
+    (targets-returns-3 t)

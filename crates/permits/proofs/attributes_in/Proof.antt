@@ -11,7 +11,7 @@ use mathlib.Core.Bool.{true, not, _||_}
 use Rattle.model.specs.Lists.{all, below}
 use Rattle.model.specs.Permits.{bit}
 use Rattle.permits.proofs.Loops as loops
-use Rattle.permits.specs.Limits as spec
+use Rattle.permits.specs.Masks as spec
 use lib.Dec.{ltb}
 
 the-end : (a : ℕ) → a ≤ 16 → 16 ≤ a → 16 ≡ a

@@ -1,60 +1,55 @@
+use denote.Ref.{now}
+use Rattle.model.specs.Catalogue.{catalogueOf, shapeOf}
+use Rattle.permits.proofs.Grants.{number-long, number-unread, number-22, number-23, number-none}
 use borrow.Author.Needs.{needs}
 use Rattle.permits.proofs.check.Statement.{statement}
 use Rattle.permits.proofs.check.Tie as tie
 use Rattle.permits.proofs.check.Reads as reads
 use Rattle.permits.proofs.check.Lts as lts
-use Rattle.permits.proofs.all_known.Reads as all-known-reads
-use Rattle.permits.proofs.all_over_stored.Reads as all-over-stored-reads
-use Rattle.permits.proofs.over_limits.Reads as over-limits-reads
-use denote.Ref.{now}
-use Prim.Native.Nat.{_-_}
-use Rattle.permits.proofs.Finds as finds
-
-over-limits-requires : tie.Need-over-limits-requires
-over-limits-requires c κs = search needs
+use Rattle.permits.proofs.number.Reads as number-reads
+use Rattle.permits.proofs.rest.Reads as rest-reads
 
 returns : tie.Need-returns
-returns c = finds.check-21 (now (c .before .before .before .before .args .catalogue)) (now (c .before .before .before .before .args .list)) (c .before .over-limits .result) (c .before .over-limits .ensures) (c .if1 .taken)
+returns c = number-long (shapeOf (catalogueOf (now (c .before .before .before .args .catalogue)))) (now (c .before .before .before .args .list)) (c .if1 .taken)
 
-all-known-requires : tie.Need-all-known-requires
-all-known-requires c κs = search needs
+slice-aggregate-rest : tie.Need-slice-aggregate-rest
+slice-aggregate-rest c = search needs
+
+rest-requires : tie.Need-rest-requires
+rest-requires c κs = search needs
+
+enum-known-known : tie.Need-enum-known-known
+enum-known-known c = search needs
+
+enum-told : tie.Need-enum-told
+enum-told c = search needs
+
+number-requires : tie.Need-number-requires
+number-requires c κs = search needs
 
 returns-2 : tie.Need-returns-2
-returns-2 c =
-    let c₁ = c .before in let all-known = c₁ .all-known in
-    let c₃ = c₁ .before .before in let over-limits = c₃ .over-limits in
-    let c₆ = c₃ .before .before .before in let args = c₆ .args in
-    finds.check-22 (now (args .catalogue)) (now (args .list)) (over-limits .result) (over-limits .ensures) (c .before .before .if1 .left) (all-known .result) (all-known .ensures) (c .if2 .taken)
-
-all-over-stored-requires : tie.Need-all-over-stored-requires
-all-over-stored-requires c κs = search needs
+returns-2 c = number-unread (shapeOf (catalogueOf (now (c .before .before .before .before .before .before .before .before .before .args .catalogue)))) (now (c .before .before .before .before .before .before .before .before .before .args .list)) (c .before .before .before .before .rest .result) (c .before .enum-told .given .1) (c .before .before .before .before .rest .ensures) _ (c .number .ensures)
 
 returns-3 : tie.Need-returns-3
-returns-3 c =
-    let c₁ = c .before in let all-over-stored = c₁ .all-over-stored in
-    let c₃ = c₁ .before .before in let all-known = c₃ .all-known in
-    let c₄ = c₃ .before in let if1 = c₄ .if1 in
-    let c₅ = c₄ .before in let over-limits = c₅ .over-limits in
-    let c₈ = c₅ .before .before .before in let args = c₈ .args in
-    finds.check-23 (now (args .catalogue)) (now (args .list)) (over-limits .result) (over-limits .ensures) (if1 .left) (all-known .result) (all-known .ensures) (c .before .before .if2 .left) (all-over-stored .result) (all-over-stored .ensures) (c .if3 .taken)
+returns-3 c = number-22 (shapeOf (catalogueOf (now (c .before .before .before .before .before .before .before .before .before .before .args .catalogue)))) (now (c .before .before .before .before .before .before .before .before .before .before .args .list)) (c .before .before .before .before .before .before .before .if1 .left) (c .before .before .before .before .before .rest .result) _ _ (c .before .before .known .given .1) (c .before .before .before .before .before .rest .ensures) (c .if2 .taken)
 
 returns-4 : tie.Need-returns-4
-returns-4 c =
-    let c₁ = c .before in let all-over-stored = c₁ .all-over-stored in
-    let c₃ = c₁ .before .before in let all-known = c₃ .all-known in
-    let c₄ = c₃ .before in let if1 = c₄ .if1 in
-    let c₅ = c₄ .before in let over-limits = c₅ .over-limits in
-    let c₈ = c₅ .before .before .before in let args = c₈ .args in
-    finds.check-none (now (args .catalogue)) (now (args .list)) (over-limits .result) (over-limits .ensures) (if1 .left) (all-known .result) (all-known .ensures) (c .before .before .if2 .left) (all-over-stored .result) (all-over-stored .ensures) (c .if3 .left)
+returns-4 c = number-23 (shapeOf (catalogueOf (now (c .before .before .before .before .before .before .before .before .before .before .before .args .catalogue)))) (now (c .before .before .before .before .before .before .before .before .before .before .before .args .list)) (c .before .before .before .before .before .before .before .before .if1 .left) (c .before .before .before .before .before .before .rest .result) _ _ (c .before .before .before .known .given .1) (c .before .before .before .before .before .before .rest .ensures) (c .before .if2 .left) (c .if3 .taken)
+
+returns-5 : tie.Need-returns-5
+returns-5 c = number-none (shapeOf (catalogueOf (now (c .before .before .before .before .before .before .before .before .before .before .before .args .catalogue)))) (now (c .before .before .before .before .before .before .before .before .before .before .before .args .list)) (c .before .before .before .before .before .before .before .before .if1 .left) (c .before .before .before .before .before .before .rest .result) _ _ (c .before .before .before .known .given .1) (c .before .before .before .before .before .before .rest .ensures) (c .before .if2 .left) (c .if3 .left)
 
 pub check-spec : {M : Type 1} → statement M
 check-spec =
     tie.close
     (tie.spec
-    over-limits-requires
     returns
-    all-known-requires
+    slice-aggregate-rest
+    rest-requires
+    enum-known-known
+    enum-told
+    number-requires
     returns-2
-    all-over-stored-requires
     returns-3
-    returns-4)
+    returns-4
+    returns-5)

@@ -1,28 +1,38 @@
+use denote.Ref.{now}
+use Rattle.permits.proofs.Grants.{in-permit}
 use borrow.Author.Needs.{needs}
 use Rattle.permits.proofs.condition.Statement.{statement}
 use Rattle.permits.proofs.condition.Tie as tie
 use Rattle.permits.proofs.condition.Reads as reads
 use Rattle.permits.proofs.condition.Lts as lts
-use Rattle.kinds.proofs.tail.Reads as tail-reads
-use Rattle.permits.proofs.part.Reads as part-reads
-use Rattle.permits.proofs.span.Reads as span-reads
-use mathlib.Core.Path.{ap, ap₂, _∙_}
-use Prim.Native.Nat.{_-_}
-use lib.ListN.{take}
-use Rattle.permits.specs.Entries.{spanOf, conditionOf}
+use Rattle.conditions.proofs.condition.Reads as condition-reads
+use Rattle.scope.proofs.bind.Reads as bind-reads
 
-tail-requires : tie.Need-tail-requires
-tail-requires c κs = search needs
+slice-aggregate-bind : tie.Need-slice-aggregate-bind
+slice-aggregate-bind c = search needs
 
-span-requires : tie.Need-span-requires
-span-requires c κs = search needs
+bind-requires : tie.Need-bind-requires
+bind-requires c κs = search needs
 
-part-requires : tie.Need-part-requires
-part-requires c κs = search needs
+slice-aggregate-condition : tie.Need-slice-aggregate-condition
+slice-aggregate-condition c = search needs
+
+condition-requires : tie.Need-condition-requires
+condition-requires c κs = search needs
+
+same-length : tie.Need-same-length
+same-length c = search needs
 
 returns : tie.Need-returns
-unfolding conditionOf
-returns c = c .part .ensures ∙ ap₂ take (c .before .span .ensures .0 ∙ ap spanOf (c .before .before .tail .ensures)) (c .before .before .tail .ensures)
+returns c = in-permit _ (c .before .before .before .before .before .before .before .before .before .before .before .before .args .relation) (c .before .before .before .before .before .before .before .bind .last .0) (now (c .before .before .before .before .before .before .before .before .before .before .before .before .args .bytes)) _ (c .before .before .before .before .before .before .before .bind .ensures) (c .before .before .before .condition .ensures .0)
 
 pub condition-spec : {M : Type 1} → statement M
-condition-spec = tie.close (tie.spec tail-requires span-requires part-requires returns)
+condition-spec =
+    tie.close
+    (tie.spec
+    slice-aggregate-bind
+    bind-requires
+    slice-aggregate-condition
+    condition-requires
+    same-length
+    returns)

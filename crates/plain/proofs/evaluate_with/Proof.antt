@@ -48,7 +48,7 @@ answer-all-requires c κs =
     let c₁₀ = c₉ .before in let check = c₁₀ .check in
     let c₁₄ = c₁₀ .before .before .before .before in let args = c₁₄ .args in
     let query = now (args .query) in
-    let h = subst (λ (r : Checked). Ready r 64 query (check2 .last .1 .1 .1 .0)) (layout .given .1) (check2 .ensures .1) in answerable (now (args .catalogue)) (now (args .values)) query (now (args .answer)) _ (check .ensures) (if1 .left) (layout .given .0 .0) (check2 .last .1 .1 .1 .0) (sym (ap numberOf (layout .given .1)) ∙ check2 .ensures .0) (h .0) (h .1)
+    let h = subst (λ (r : Checked). Ready r 64 query (check2 .last .1 .1 .1 .0)) (layout .given .1) (check2 .ensures .1 .0) in answerable (now (args .catalogue)) (now (args .values)) query (now (args .answer)) _ (check .ensures) (if1 .left) (layout .given .0 .0) (check2 .last .1 .1 .1 .0) (sym (ap numberOf (layout .given .1)) ∙ check2 .ensures .0) (h .0) (h .1)
 
 same-length : tie.Need-same-length
 same-length c = search needs
@@ -61,7 +61,7 @@ returns-2 c =
     let c₉ = c₈ .before in let check = c₉ .check in
     let c₁₃ = c₉ .before .before .before .before in let args = c₁₃ .args in
     let query = now (args .query) in
-    refused-second (now (args .catalogue)) (now (args .values)) query (now (args .answer)) _ (check .ensures) (if1 .left) _ _ (sym (ap numberOf (n .given .1)) ∙ check2 .ensures .0) (subst (λ (r : Checked). Ready r 64 query (check2 .last .1 .1 .1 .0)) (n .given .1) (check2 .ensures .1)) (c .refused2 .ensures)
+    refused-second (now (args .catalogue)) (now (args .values)) query (now (args .answer)) _ (check .ensures) (if1 .left) _ _ (sym (ap numberOf (n .given .1)) ∙ check2 .ensures .0) (subst (λ (r : Checked). Ready r 64 query (check2 .last .1 .1 .1 .0)) (n .given .1) (check2 .ensures .1 .0)) (c .refused2 .ensures)
 
 same-length-2 : tie.Need-same-length-2
 same-length-2 c = search needs

@@ -1,8 +1,8 @@
-use Prim.Native.Nat.{ℕ, _<_}
 use native.Mathlib.Omega.{arith}
 use denote.Ref.{now}
-use Rattle.queries.proofs.Admission.{count-none, count-more}
+use Rattle.queries.proofs.Targeting.{count-none, count-stop, count-more}
 use borrow.Author.Needs.{needs}
+use Prim.Native.Nat.{ℕ, _<_}
 use borrow.Fn.Kinds.{In}
 use borrow.Fn.PlainCycle.{Measures, is, falls, and}
 use Rattle.queries.proofs.count_ranges.Reads as count-ranges
@@ -33,13 +33,13 @@ abbrev count-ranges-claims : ℕ → count-ranges-lts.Claims
 count-ranges-claims t = (byte-reads.Asked, byte-reads.Learnt, record-length-reads.Asked, record-length-reads.Learnt, tail-reads.Asked, tail-reads.Learnt, count-ranges-below t, count-ranges.Post)
 
 count-ranges-returns : (t : ℕ) → count-ranges-lts.Need-returns (count-ranges-claims t) (count-ranges-at t) count-ranges.Post
-count-ranges-returns t c = (omega arith, count-none (now (c .before .before .args .q)))
+count-ranges-returns t c = (count-none (c .before .before .args .left) (now (c .before .before .args .q)) (c .if1 .taken), omega arith)
 
 count-ranges-byte-requires : (t : ℕ) → count-ranges-lts.Need-byte-requires (count-ranges-claims t) (count-ranges-at t) count-ranges.Post
 count-ranges-byte-requires t c κs = search needs
 
 count-ranges-returns-2 : (t : ℕ) → count-ranges-lts.Need-returns-2 (count-ranges-claims t) (count-ranges-at t) count-ranges.Post
-count-ranges-returns-2 t c = (omega arith, count-none (now (c .before .before .before .before .args .q)))
+count-ranges-returns-2 t c = (count-stop (c .before .before .before .before .args .left) (now (c .before .before .before .before .args .q)) (c .before .before .if1 .left) (c .before .byte .result) (c .before .byte .ensures) (c .if2 .taken), omega arith)
 
 count-ranges-record-length-requires : (t : ℕ) → count-ranges-lts.Need-record-length-requires (count-ranges-claims t) (count-ranges-at t) count-ranges.Post
 count-ranges-record-length-requires t c κs = search needs
@@ -57,14 +57,7 @@ count-ranges-add-result : (t : ℕ) → count-ranges-lts.Need-add-result (count-
 count-ranges-add-result t c = search needs
 
 count-ranges-returns-3 : (t : ℕ) → count-ranges-lts.Need-returns-3 (count-ranges-claims t) (count-ranges-at t) count-ranges.Post
-count-ranges-returns-3 t c =
-    let c₁ = c .before in let tail = c₁ .tail in
-    let c₂ = c₁ .before in let record-length = c₂ .record-length in
-    let c₃ = c₂ .before in let if2 = c₃ .if2 in
-    let c₄ = c₃ .before in let byte = c₄ .byte in
-    let c₅ = c₄ .before in let if1 = c₅ .if1 in
-    let c₇ = c₅ .before .before in let args = c₇ .args in
-    (omega (arith, c .count-ranges .ensures .0, if1 .left), count-more (now (args .q)) (now (tail .result)) (byte .result) (record-length .result) (c .count-ranges .result) (byte .ensures) (if2 .left) (record-length .ensures .0) (tail .ensures) (c .count-ranges .ensures .1))
+count-ranges-returns-3 t c = (count-more (c .before .before .before .before .before .before .before .args .left) (now (c .before .before .before .before .before .before .before .args .q)) (c .before .before .before .before .before .if1 .left) (c .before .before .before .before .byte .result) (c .before .before .before .before .byte .ensures) (c .before .before .before .if2 .left) _ _ _ (c .before .before .record-length .ensures .0) (c .before .tail .ensures) (c .count-ranges .ensures .0), omega (arith, c .count-ranges .ensures .1, c .before .before .before .before .before .if1 .left))
 
 pub +count-ranges-spec : {M : Type 1} → statement M
 +count-ranges-spec = close μ-count-ranges λ t. count-ranges-lts.spec (count-ranges-claims t)

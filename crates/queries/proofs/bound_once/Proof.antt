@@ -1,7 +1,7 @@
 use native.Mathlib.Omega.{arith}
 use denote.Ref.{now}
 use Rattle.scans.specs.Flat.{flatBindings}
-use Rattle.queries.proofs.Admission.{one-bound}
+use Rattle.queries.proofs.Steps.{one-bound}
 use borrow.Author.Needs.{needs}
 use Rattle.queries.proofs.bound_once.Statement.{statement}
 use Rattle.queries.proofs.bound_once.Tie as tie

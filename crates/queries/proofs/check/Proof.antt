@@ -1,53 +1,56 @@
 use native.Mathlib.Omega.{arith}
+use mathlib.Core.Path.{refl}
 use denote.Ref.{now}
-use Rattle.queries.proofs.Admission.{passed}
+use Rattle.queries.proofs.Telling.{number-refused, refused-some, number-32, number-none, ready}
 use borrow.Author.Needs.{needs}
 use Rattle.queries.proofs.check.Statement.{statement}
 use Rattle.queries.proofs.check.Tie as tie
 use Rattle.queries.proofs.check.Reads as reads
 use Rattle.queries.proofs.check.Lts as lts
-use Rattle.queries.proofs.admit.Reads as admit-reads
-use Rattle.queries.proofs.check_each.Reads as check-each-reads
+use Rattle.queries.proofs.number.Reads as number-reads
+use Rattle.queries.proofs.read.Reads as read-reads
 
-admit-requires : tie.Need-admit-requires
-admit-requires c κs = search needs
+read-requires : tie.Need-read-requires
+read-requires c κs = search needs
 
-enum-known-admitted : tie.Need-enum-known-admitted
-enum-known-admitted c = search needs
+enum-known-layout : tie.Need-enum-known-layout
+enum-known-layout c = search needs
 
 enum-told : tie.Need-enum-told
 enum-told c = search needs
 
-check-each-requires : tie.Need-check-each-requires
-check-each-requires c κs =
-    let c₅ = c .before .before .before .before .before in let admit = c₅ .admit in
-    let c₁₀ = c₅ .before .before .before .before .before in let pre = c₁₀ .pre in
-    (pre .0, (λ h. omega (arith, pre .1 h, admit .kept .1 .1 .1 .0)), pre .2)
+number-requires : tie.Need-number-requires
+number-requires c κs = search needs
 
 same-length : tie.Need-same-length
 same-length c = search needs
 
 returns : tie.Need-returns
-returns c = search needs
+returns c = (number-refused (c .before .before .before .before .before .before .before .before .before .before .args .limits) _ (now (c .before .before .before .before .before .before .before .before .before .before .args .q)) _ (c .before .before .before .before .before .read .result) (c .before .before .before .before .before .read .ensures .0) (c .before .enum-told .given .1) (c .number .result) _ refl (c .number .ensures), (refused-some (c .before .before .before .before .before .before .before .before .before .before .args .limits) _ (now (c .before .before .before .before .before .before .before .before .before .before .args .q)) _ (c .before .before .before .before .before .read .result) (c .before .before .before .before .before .read .ensures .0) _ (c .number .result) (c .number .ensures), c .before .before .before .before .before .read .ensures .1))
 
 same-length-2 : tie.Need-same-length-2
 same-length-2 c = search needs
 
 returns-2 : tie.Need-returns-2
-returns-2 c =
-    let c₅ = c .before .before .before .before .before in let admit = c₅ .admit in
-    let c₁₀ = c₅ .before .before .before .before .before in let args = c₁₀ .args in
-    passed (admit .result) _ (args .limits) _ (now (args .q)) _ (c .before .admitted .given .1) (admit .ensures)
+returns-2 c = (number-32 (c .before .before .before .before .before .before .before .before .before .before .before .args .limits) _ (now (c .before .before .before .before .before .before .before .before .before .before .before .args .q)) _ (c .before .before .before .before .before .before .read .result) (c .before .before .before .before .before .before .read .ensures .0) _ _ (c .before .before .layout .given .1) (c .if1 .taken), (omega arith, c .before .before .before .before .before .before .read .ensures .1))
+
+same-length-3 : tie.Need-same-length-3
+same-length-3 c = search needs
+
+returns-3 : tie.Need-returns-3
+returns-3 c = (number-none (c .before .before .before .before .before .before .before .before .before .before .before .args .limits) _ (now (c .before .before .before .before .before .before .before .before .before .before .before .args .q)) _ (c .before .before .before .before .before .before .read .result) (c .before .before .before .before .before .before .read .ensures .0) _ _ (c .before .before .layout .given .1) (c .if1 .left), (ready (c .before .before .before .before .before .before .before .before .before .before .before .args .limits) _ (now (c .before .before .before .before .before .before .before .before .before .before .before .args .q)) _ (c .before .before .before .before .before .before .read .result) (c .before .before .before .before .before .before .read .ensures .0) _ _ (c .before .before .layout .given .1), c .before .before .before .before .before .before .read .ensures .1))
 
 pub check-spec : {M : Type 1} → statement M
 check-spec =
     tie.close
     (tie.spec
-    admit-requires
-    enum-known-admitted
+    read-requires
+    enum-known-layout
     enum-told
-    check-each-requires
+    number-requires
     same-length
     returns
     same-length-2
-    returns-2)
+    returns-2
+    same-length-3
+    returns-3)

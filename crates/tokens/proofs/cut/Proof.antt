@@ -17,7 +17,7 @@ abbrev μ-loop : tie.MeasureT-loop
 μ-loop text kinds₀ starts₀ lengths₀ numbers₀ at₀ n₀ kinds starts lengths numbers at n = length text - at
 
 returns : tie.Need-returns Inv-loop μ-loop
-returns c = (sym (too-long (now (c .before .before .before .before .before .before .args .text)) (c .if1 .taken)), omega arith)
+returns c = (sym (too-long (now (c .before .before .before .before .before .before .args .text)) (c .if1 .taken)), (omega arith, omega arith))
 
 skip-requires : tie.Need-skip-requires Inv-loop μ-loop
 skip-requires c κs = search needs
@@ -52,12 +52,13 @@ returns-2 c =
     let c₄ = c₃ .before in let loop = c₄ .loop in
     let c₁₂ = c₄ .before .before .before .before .before .before .before .before in let args = c₁₂ .args in
     let text = now (args .text) in
-    (held-refused text (loop .kinds) (loop .starts) (loop .lengths) (loop .numbers) (loop .at) (loop .n) (loop .inv .0) (loop .inv .1) (loop-test .taken) (subst (λ (r : Piece). Leads r (drop (loop .at) text)) (c .enum-told .given .1) (c .before .before .piece-at .ensures)), omega arith)
+    (held-refused text (loop .kinds) (loop .starts) (loop .lengths) (loop .numbers) (loop .at) (loop .n) (loop .inv .0) (loop .inv .1) (loop-test .taken) (subst (λ (r : Piece). Leads r (drop (loop .at) text)) (c .enum-told .given .1) (c .before .before .piece-at .ensures)), (omega arith, omega arith))
 
 slice-write-kinds : tie.Need-slice-write-kinds Inv-loop μ-loop
 slice-write-kinds c =
     let c₅ = c .before .before .before .before .before in let loop = c₅ .loop in
-    omega (arith, loop .inv .2, loop .inv .0 .behind, loop .inv .1)
+    let c₁₃ = c₅ .before .before .before .before .before .before .before .before in let pre = c₁₃ .pre in
+    omega (arith, loop .inv .2, loop .inv .0 .behind, pre (loop .inv .1) .0)
 
 cast-starts : tie.Need-cast-starts Inv-loop μ-loop
 cast-starts c = record { fits = omega (arith, c .before .before .before .before .before .loop .inv .0 .behind, c .before .before .before .before .before .loop .inv .1) }
@@ -68,7 +69,8 @@ mul-starts c = record { fits = omega (arith, c .before .before .before .before .
 slice-write-starts : tie.Need-slice-write-starts Inv-loop μ-loop
 slice-write-starts c =
     let c₅ = c .before .before .before .before .before in let loop = c₅ .loop in
-    omega (arith, loop .inv .3, loop .inv .0 .behind, loop .inv .1)
+    let c₁₃ = c₅ .before .before .before .before .before .before .before .before in let pre = c₁₃ .pre in
+    omega (arith, loop .inv .3, loop .inv .0 .behind, pre (loop .inv .1) .1)
 
 cast-lengths : tie.Need-cast-lengths Inv-loop μ-loop
 cast-lengths c =
@@ -86,7 +88,8 @@ mul-lengths c = record { fits = omega (arith, c .before .before .before .before 
 slice-write-lengths : tie.Need-slice-write-lengths Inv-loop μ-loop
 slice-write-lengths c =
     let c₅ = c .before .before .before .before .before in let loop = c₅ .loop in
-    omega (arith, loop .inv .4, loop .inv .0 .behind, loop .inv .1)
+    let c₁₃ = c₅ .before .before .before .before .before .before .before .before in let pre = c₁₃ .pre in
+    omega (arith, loop .inv .4, loop .inv .0 .behind, pre (loop .inv .1) .2)
 
 mul-numbers : tie.Need-mul-numbers Inv-loop μ-loop
 mul-numbers c = record { fits = omega (arith, c .before .before .before .before .before .loop .inv .0 .behind, c .before .before .before .before .before .loop .inv .1) }
@@ -94,7 +97,8 @@ mul-numbers c = record { fits = omega (arith, c .before .before .before .before 
 slice-write-numbers : tie.Need-slice-write-numbers Inv-loop μ-loop
 slice-write-numbers c =
     let c₅ = c .before .before .before .before .before in let loop = c₅ .loop in
-    omega (arith, loop .inv .5, loop .inv .0 .behind, loop .inv .1)
+    let c₁₃ = c₅ .before .before .before .before .before .before .before .before in let pre = c₁₃ .pre in
+    omega (arith, loop .inv .5, loop .inv .0 .behind, pre (loop .inv .1) .3)
 
 add-n : tie.Need-add-n Inv-loop μ-loop
 add-n c = record { fits = omega (arith, c .before .before .before .before .before .loop .inv .0 .behind, c .before .before .before .before .before .loop .inv .1) }
@@ -135,9 +139,9 @@ loop-again c =
     let c₄ = c₂ .before .before in let piece-at = c₄ .piece-at in
     let c₅ = c₄ .before in let loop-test = c₅ .loop-test in
     let c₆ = c₅ .before in let loop = c₆ .loop in
-    let c₁₄ = c₆ .before .before .before .before .before .before .before .before in let args = c₁₄ .args in
+    let c₁₄ = c₆ .before .before .before .before .before .before .before .before in let args = c₁₄ .args in let pre = c₁₄ .pre in
     let text = now (args .text) in
-    (held-more text (loop .kinds) (loop .starts) (loop .lengths) (loop .numbers) (loop .at) (loop .n) (loop .inv .0) (loop .inv .1) (loop-test .taken) (kind .given .0 .0) (kind .given .0 .1 .0) (kind .given .0 .1 .1 .0) (subst (λ (r : Piece). Leads r (drop (loop .at) text)) (kind .given .1) (piece-at .ensures)) (omega (arith, loop .inv .2, loop .inv .0 .behind, loop .inv .1)) (omega (arith, loop .inv .3, loop .inv .0 .behind, loop .inv .1)) (omega (arith, loop .inv .4, loop .inv .0 .behind, loop .inv .1)) (omega (arith, loop .inv .5, loop .inv .0 .behind, loop .inv .1)) (c .skip2 .result) (c .skip2 .ensures .0) (c .skip2 .ensures .1) (c .skip2 .ensures .2), loop .inv .1, length-set (loop .kinds) (loop .n) (kind .given .0 .0) ∙ loop .inv .2, length-set (loop .starts) (loop .n) (loop .at) ∙ loop .inv .3, length-set (loop .lengths) (loop .n) (kind .given .0 .1 .0) ∙ loop .inv .4, length-set (loop .numbers) (loop .n) (kind .given .0 .1 .1 .0) ∙ loop .inv .5)
+    (held-more text (loop .kinds) (loop .starts) (loop .lengths) (loop .numbers) (loop .at) (loop .n) (loop .inv .0) (loop .inv .1) (loop-test .taken) (kind .given .0 .0) (kind .given .0 .1 .0) (kind .given .0 .1 .1 .0) (subst (λ (r : Piece). Leads r (drop (loop .at) text)) (kind .given .1) (piece-at .ensures)) (omega (arith, loop .inv .2, loop .inv .0 .behind, loop-test .taken, pre (loop .inv .1) .0)) (omega (arith, loop .inv .3, loop .inv .0 .behind, loop-test .taken, pre (loop .inv .1) .1)) (omega (arith, loop .inv .4, loop .inv .0 .behind, loop-test .taken, pre (loop .inv .1) .2)) (omega (arith, loop .inv .5, loop .inv .0 .behind, loop-test .taken, pre (loop .inv .1) .3)) (c .skip2 .result) (c .skip2 .ensures .0) (c .skip2 .ensures .1) (c .skip2 .ensures .2), loop .inv .1, length-set (loop .kinds) (loop .n) (kind .given .0 .0) ∙ loop .inv .2, length-set (loop .starts) (loop .n) (loop .at) ∙ loop .inv .3, length-set (loop .lengths) (loop .n) (kind .given .0 .1 .0) ∙ loop .inv .4, length-set (loop .numbers) (loop .n) (kind .given .0 .1 .1 .0) ∙ loop .inv .5)
 
 same-length-5 : tie.Need-same-length-5 Inv-loop μ-loop
 same-length-5 c = search needs
@@ -155,7 +159,7 @@ returns-3 : tie.Need-returns-3 Inv-loop μ-loop
 returns-3 c =
     let c₁ = c .before in let loop = c₁ .loop in
     let c₉ = c₁ .before .before .before .before .before .before .before .before in let args = c₉ .args in
-    (held-end (now (args .text)) (loop .kinds) (loop .starts) (loop .lengths) (loop .numbers) (loop .at) (loop .n) (loop .inv .0) (loop .inv .1) (c .loop-test .left), omega (arith, loop .inv .0 .behind, loop .inv .0 .inside, loop .inv .1))
+    (held-end (now (args .text)) (loop .kinds) (loop .starts) (loop .lengths) (loop .numbers) (loop .at) (loop .n) (loop .inv .0) (loop .inv .1) (c .loop-test .left), (omega (arith, loop .inv .0 .behind, loop .inv .0 .inside, loop .inv .1), omega (arith, loop .inv .0 .behind, loop .inv .0 .inside)))
 
 pub cut-spec : {M : Type 1} → statement M
 cut-spec =

@@ -1,4 +1,4 @@
-use Rattle.walks.proofs.Table.{place-is}
+use Rattle.walks.proofs.Table.{place-plain, place-is}
 use denote.Ref.{now}
 use native.Mathlib.Nat.{mul-le-mul}
 use native.Mathlib.Omega.{arith}
@@ -9,24 +9,30 @@ use Rattle.walks.proofs.place.Reads as reads
 use Rattle.walks.proofs.place.Lts as lts
 use Rattle.walks.proofs.row_at.Reads as row-at-reads
 
--- src/lib.rt:56:17
+mul-result : tie.Need-mul-result
+mul-result c = let top = c .before .before .before .before in omega (arith, mul-le-mul (top .pre .1) (top .pre .0 .width))
+
+add-result : tie.Need-add-result
+add-result c = let top = c .before .before .before .before .before in omega (arith, mul-le-mul (top .pre .1) (top .pre .0 .width), top .pre .0 .base)
+
+returns : tie.Need-returns
+returns c = let top = c .before .before .before .before .before in place-plain (now (top .args .walks)) (top .args .walk) (top .args .i) (c .before .before .if1 .taken)
+
 row-at-requires : tie.Need-row-at-requires
 row-at-requires c κs = search needs
 
--- src/lib.rt:56:17
-mul-result : tie.Need-mul-result
-mul-result c = omega (arith, mul-le-mul (c .before .row-at .ensures .1) (c .before .before .before .pre .0 .width))
+mul-result-2 : tie.Need-mul-result-2
+mul-result-2 c = let top = c .before .before .before .before .before in omega (arith, mul-le-mul (c .before .row-at .ensures .1) (top .pre .0 .width))
 
--- src/lib.rt:56:5
-add-result : tie.Need-add-result
-add-result c = omega (arith, mul-le-mul (c .before .before .row-at .ensures .1) (c .before .before .before .before .pre .0 .width), c .before .before .before .before .pre .0 .base)
+add-result-2 : tie.Need-add-result-2
+add-result-2 c = let top = c .before .before .before .before .before .before in omega (arith, mul-le-mul (c .before .before .row-at .ensures .1) (top .pre .0 .width), top .pre .0 .base)
 
--- src/lib.rt:52:1
-returns : tie.Need-returns
-returns c =
-    let c₂ = c .before .before in let row-at = c₂ .row-at in
-    let c₄ = c₂ .before .before in let args = c₄ .args in
-    place-is (now (args .walks)) (args .walk) (args .i) (row-at .result) (row-at .ensures .0)
+returns-2 : tie.Need-returns-2
+returns-2 c =
+    let row-at = c .before .before .row-at in let top = c .before .before .before .before .before .before in
+    place-is (now (top .args .walks)) (top .args .walk) (top .args .i) (row-at .result) (c .before .before .before .if1 .left) (row-at .ensures .0)
 
 pub place-spec : {M : Type 1} → statement M
-place-spec = tie.close (tie.spec row-at-requires mul-result add-result returns)
+place-spec =
+    tie.close
+    (tie.spec mul-result add-result returns row-at-requires mul-result-2 add-result-2 returns-2)

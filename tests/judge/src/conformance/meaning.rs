@@ -319,15 +319,20 @@ fn aggregates(group: &mut Group) {
             column(&[3, 5, 3, 2], ask(function, yes())),
             &[expected],
         );
+        // Change 2: COUNT and SUM stay 0, the others leave no row.
+        let (is, cells): (&str, &[i64]) = match function {
+            COUNT | SUM => ("is 0", &[0]),
+            _ => ("has no value, so there is no row", &[]),
+        };
         group.cells(
-            format!("{name} over no rows is 0."),
+            format!("{name} over no rows {is}."),
             column(&[], ask(function, yes())),
-            &[0],
+            cells,
         );
         group.cells(
-            format!("{name} over rows of which none meets the condition is 0."),
+            format!("{name} over rows of which none meets the condition {is}."),
             column(&[7, -7], ask(function, no())),
-            &[0],
+            cells,
         );
         group.cells(
             format!("{name} takes the rows that meet its condition."),
@@ -501,7 +506,7 @@ fn averages(group: &mut Group) {
         &[2],
     );
     group.cells(
-        "AVE over no rows is compared as 0.",
+        "AVE over no rows is not equal to 0.",
         column(
             &[],
             join(&[
@@ -509,7 +514,7 @@ fn averages(group: &mut Group) {
                 &compare(EQUAL, &aggregate(AVE, 0, 0, 0, &yes()), &constant(0)),
             ]),
         ),
-        &[0],
+        &[],
     );
     let two = |first: &[i32], second: &[i32], operator: u8| {
         let catalogue = join(&[

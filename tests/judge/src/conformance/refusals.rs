@@ -31,11 +31,11 @@ pub fn catalogue(group: &mut Group) {
         let cut = join(&[&relation(1, 1), &relation(1, 0)[..bytes]]);
         group.refused(10, about, with(cut, &[5]));
     }
-    for kind in [0, 1, 47, 50, 64, 255] {
+    for kind in [0, 1, 47, 51, 64, 255] {
         let about = format!("Kind {kind} is none of a catalogue.");
         group.refused(10, about, with(vec![kind, 1, 1, 0], &[5]));
     }
-    let last_unknown = join(&[&relation(1, 1), &relation(1, 0), &[50, 1, 0, 0]]);
+    let last_unknown = join(&[&relation(1, 1), &relation(1, 0), &[51, 1, 0, 0]]);
     group.refused(
         10,
         "The last record has an unknown kind.",

@@ -18,6 +18,11 @@ pub fn workspace(attributes: u8, rows: u16) -> Vec<u8> {
     table(49, attributes, rows)
 }
 
+/// A stored relation that is walked from its last row (Change 9).
+pub fn latest(attributes: u8, rows: u16) -> Vec<u8> {
+    table(50, attributes, rows)
+}
+
 pub fn range(variable: u8, relation: u8) -> Vec<u8> {
     vec![1, variable, relation]
 }

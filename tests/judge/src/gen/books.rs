@@ -7,7 +7,7 @@ use super::rng::Rng;
 use super::tables::{self, Table};
 use super::{cost, damaged, lend_buffers, needs, Case, ORDINARY};
 use crate::book::{DISPLAY_BYTES, LABELS};
-use crate::catalogue::{Kind, MOST_ROWS};
+use crate::catalogue::MOST_ROWS;
 use crate::permits::{Permit, ALL};
 use crate::query::{Aggregate, Binding, Condition, Query, Term, FUNCTIONS};
 use crate::refusal;
@@ -152,7 +152,7 @@ fn offers(rng: &mut Rng, labels: &[i32], pool: &[i32]) -> Table {
         }
     }
     Table {
-        kind: Kind::Stored,
+        kind: tables::kind(rng, 0),
         attributes,
         rows,
     }
@@ -164,7 +164,7 @@ fn other(rng: &mut Rng, pool: &[i32]) -> Table {
     let rows = (0..count)
         .map(|_| tables::row(rng, attributes, pool))
         .collect();
-    let kind = rng.pick(&[Kind::Stored, Kind::Workspace]);
+    let kind = tables::kind(rng, 50);
     Table {
         kind,
         attributes,
@@ -174,7 +174,7 @@ fn other(rng: &mut Rng, pool: &[i32]) -> Table {
 
 /// A permit for all rows of each stored relation.
 fn open(tables: &[Table]) -> Vec<Permit> {
-    let stored = tables::numbers_of_kind(tables, Kind::Stored);
+    let stored = tables::stored(tables);
     let permit = |relation| Permit {
         relation,
         mask: ALL,

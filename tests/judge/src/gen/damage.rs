@@ -3,7 +3,7 @@
 use super::draft::Draft;
 use super::rng::Rng;
 use super::{grow, sizes, Case};
-use crate::catalogue::{self, Kind};
+use crate::catalogue;
 use crate::checks::{ASK, EVALUATE, MOST_RANGES, MOST_TARGETS};
 use crate::permits::{
     self, Permit, MOST_BYTES, MOST_LEVELS, MOST_LIST_BYTES, MOST_OTHER_VARIABLES, MOST_PERMITS,
@@ -77,7 +77,7 @@ fn withdraw(rng: &mut Rng, draft: &mut Draft) {
     let bindings = draft.query.bindings();
     let stored: Vec<_> = bindings
         .into_iter()
-        .filter(|binding| draft.tables[usize::from(binding.relation)].kind == Kind::Stored)
+        .filter(|binding| draft.tables[usize::from(binding.relation)].kind.is_stored())
         .collect();
     if stored.is_empty() {
         return;
@@ -182,7 +182,7 @@ fn spoil_catalogue(rng: &mut Rng, catalogue: &mut Vec<u8>) {
             }
         }
         2 => catalogue.truncate(catalogue.len() - rng.between(1, 3)),
-        3 => catalogue[record] = rng.pick(&[0, 1, 16, 47, 50, 64, 255]),
+        3 => catalogue[record] = rng.pick(&[0, 1, 16, 47, 51, 64, 255]),
         4 => catalogue[record + 1] = rng.pick(&[0, 17, 18, 255]),
         _ => {
             let rows = rng.pick(&[1025u16, 1026, 2048, 4096, 65535]);
@@ -253,7 +253,7 @@ fn spoil_form(rng: &mut Rng, bytes: &mut Vec<u8>, spots: &[Entry]) {
     }
     let spot = rng.pick(spots);
     match rng.below(8) {
-        0 => bytes[spot.offset] = rng.pick(&[0, 2, 15, 23, 31, 35, 48, 64, 65, 255]),
+        0 => bytes[spot.offset] = rng.pick(&[0, 2, 15, 23, 31, 35, 48, 50, 64, 65, 255]),
         1 => bytes[spot.offset] = rng.pick(&[1, 16, 19, 21, 22, 32, 33, 34]),
         2 => bytes.truncate(bytes.len() - rng.between(1, bytes.len().min(6))),
         3 => bytes.truncate(spot.offset),

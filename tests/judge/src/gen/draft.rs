@@ -2,9 +2,8 @@
 
 use super::rng::Rng;
 use super::sizes;
-use super::tables::{self, numbers_of_kind, Table};
+use super::tables::{self, Table};
 use super::{grow, Case};
-use crate::catalogue::Kind;
 use crate::checks::{ASK, MOST_RANGES, MOST_TARGETS};
 use crate::permits::{Permit, ALL, MOST_BYTES, MOST_LEVELS, MOST_OTHER_VARIABLES, MOST_PERMITS};
 use crate::query::{Condition, Query};
@@ -53,7 +52,7 @@ impl Draft {
 
     /// The relations that permits may name; relation 0 if there is none.
     pub fn stored(&self) -> Vec<u8> {
-        let stored = numbers_of_kind(&self.tables, Kind::Stored);
+        let stored = tables::stored(&self.tables);
         if stored.is_empty() {
             vec![0]
         } else {

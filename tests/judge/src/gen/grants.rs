@@ -1,9 +1,9 @@
 //! Pairs of permit lists for Change 12: the longer one has one permit more, and its premises hold.
 
 use super::rng::Rng;
-use super::tables::{self, numbers_of_kind, Table};
+use super::tables::{self, Table};
 use super::{cost, draft::Draft, grow, needs, sizes, true_needs, Case, Needs, ORDINARY};
-use crate::catalogue::{self, Kind};
+use crate::catalogue;
 use crate::permits::{self, Permit, ALL, MOST_BYTES, MOST_PERMITS};
 use crate::query::{Condition, Query, Term};
 use crate::rewrite;
@@ -124,7 +124,7 @@ fn permit(rng: &mut Rng, draft: &Draft) -> Option<Permit> {
         permits,
         query,
     } = draft;
-    let stored = numbers_of_kind(tables, Kind::Stored);
+    let stored = tables::stored(tables);
     let mut bindings = query.bindings();
     bindings.retain(|binding| stored.contains(&binding.relation));
     if bindings.is_empty() {

@@ -1,8 +1,7 @@
 //! Grows random conditions, queries and permits whose names are all good.
 
 use super::rng::Rng;
-use super::tables::{numbers_of_kind, Table};
-use crate::catalogue::Kind;
+use super::tables::{self, Table};
 use crate::checks::ASK;
 use crate::permits::{Permit, ALL, MOST_BYTES, MOST_PERMITS};
 use crate::query::{Aggregate, Binding, Condition, Operator, Query, Term, FUNCTIONS, OPERATORS};
@@ -68,6 +67,11 @@ impl Grower<'_> {
     }
 
     fn comparison(&mut self, scope: &[Binding], depth: usize) -> Condition {
+        if self.rng.percent(10) {
+            if let Some(condition) = self.comparison_with_none(scope) {
+                return condition;
+            }
+        }
         let operator = match self.rng.below(10) {
             // The operators that more often hold: answers should not be mostly empty.
             0..=3 => self
@@ -78,6 +82,47 @@ impl Grower<'_> {
         let left = self.term(scope, depth, 75);
         let right = self.term(scope, depth, 35);
         Condition::Compare(operator, left, right)
+    }
+
+    /// One side or both mostly have no value (Change 2), under NOT or not.
+    fn comparison_with_none(&mut self, scope: &[Binding]) -> Option<Condition> {
+        let operator = self.rng.pick(&OPERATORS);
+        let mut sides = [self.seldom_taken()?, self.term(scope, 0, 60)];
+        if self.rng.percent(40) {
+            sides[1] = self.seldom_taken().unwrap_or(sides[1].clone());
+        }
+        if self.rng.percent(50) {
+            sides.reverse();
+        }
+        let [left, right] = sides;
+        let condition = Condition::Compare(operator, left, right);
+        Some(if self.rng.percent(40) {
+            Condition::negated(condition)
+        } else {
+            condition
+        })
+    }
+
+    /// An aggregate that mostly takes no row.
+    fn seldom_taken(&mut self) -> Option<Term> {
+        let binding = self.binding()?;
+        let attribute = self.attribute_of(binding.relation);
+        let own = self.attribute(&[binding]);
+        let (operator, limit) = self.rng.pick(&[
+            (Operator::Less, i32::MIN),
+            (Operator::Greater, i32::MAX),
+            (Operator::Less, self.pool[0]),
+        ]);
+        let condition = match self.rng.below(4) {
+            0 => Condition::False,
+            _ => Condition::Compare(operator, own, Term::Constant(limit)),
+        };
+        Some(Term::Aggregate(Box::new(Aggregate {
+            function: self.rng.pick(&FUNCTIONS),
+            binding,
+            attribute,
+            condition,
+        })))
     }
 
     fn term(&mut self, scope: &[Binding], depth: usize, attribute_chance: usize) -> Term {
@@ -186,7 +231,7 @@ pub fn query(rng: &mut Rng, tables: &[Table], pool: &[i32]) -> Query {
 
 /// Permits that mostly let the query through.
 pub fn permits(rng: &mut Rng, tables: &[Table], pool: &[i32], query: &Query) -> Vec<Permit> {
-    let stored = numbers_of_kind(tables, Kind::Stored);
+    let stored = tables::stored(tables);
     let mut permits: Vec<Permit> = Vec::new();
     for binding in query.bindings() {
         let used = rewrite::used_attributes(query, binding.variable);
@@ -250,7 +295,7 @@ pub fn permit(rng: &mut Rng, tables: &[Table], pool: &[i32], relation: u8, used:
     let mask = mask(rng, tables, relation, used);
     loop {
         let free = shuffled(rng, 1..4);
-        let bindable = numbers_of_kind(tables, Kind::Stored);
+        let bindable = tables::stored(tables);
         let depth = rng.pick(&[0, 0, 1, 1, 2, 2, 3, 4]);
         let condition = Grower {
             rng,

@@ -5,7 +5,6 @@ use super::grow::{shuffled, Grower};
 use super::rng::Rng;
 use super::tables::{self, Table};
 use super::{buffer_size, damage, sizes};
-use crate::catalogue::Kind;
 use crate::checks::{EVALUATE, MOST_RANGES, MOST_TARGETS};
 use crate::query::{Binding, Condition, Query};
 use crate::{calls, meaning};
@@ -55,11 +54,7 @@ fn small_table(rng: &mut Rng, pool: &[i32]) -> Table {
     let rows = (0..count)
         .map(|_| tables::row(rng, attributes, pool))
         .collect();
-    let kind = if rng.percent(30) {
-        Kind::Workspace
-    } else {
-        Kind::Stored
-    };
+    let kind = tables::kind(rng, 30);
     Table {
         kind,
         attributes,

@@ -23,6 +23,7 @@ fn record(table: &Table) -> [u8; 4] {
     let kind = match table.kind {
         Kind::Stored => catalogue::STORED,
         Kind::Workspace => catalogue::WORKSPACE,
+        Kind::Latest => catalogue::LATEST,
     };
     let [low, high] = (table.rows.len() as u16).to_le_bytes();
     [kind, table.attributes as u8, low, high]
@@ -51,11 +52,7 @@ pub fn tables(rng: &mut Rng, pool: &[i32]) -> Vec<Table> {
 }
 
 fn table(rng: &mut Rng, pool: &[i32]) -> Table {
-    let kind = if rng.percent(20) {
-        Kind::Workspace
-    } else {
-        Kind::Stored
-    };
+    let kind = kind(rng, 20);
     let attributes = match rng.below(60) {
         0 => MOST_ATTRIBUTES,
         1 => rng.between(5, MOST_ATTRIBUTES),
@@ -87,9 +84,19 @@ pub fn value(rng: &mut Rng, pool: &[i32]) -> i32 {
     }
 }
 
-pub fn numbers_of_kind(tables: &[Table], kind: Kind) -> Vec<u8> {
+/// A workspace in so many of a hundred; the stored ones are walked either way, half of them each.
+pub fn kind(rng: &mut Rng, workspaces: usize) -> Kind {
+    if rng.percent(workspaces) {
+        Kind::Workspace
+    } else {
+        rng.pick(&[Kind::Stored, Kind::Latest])
+    }
+}
+
+/// The relations that need permits.
+pub fn stored(tables: &[Table]) -> Vec<u8> {
     (0..tables.len())
-        .filter(|number| tables[*number].kind == kind)
+        .filter(|number| tables[*number].kind.is_stored())
         .map(|number| number as u8)
         .collect()
 }

@@ -43,7 +43,7 @@ fn starts(call: &Guarded, relation: u8) -> (usize, usize, usize) {
     (start, here.attributes, here.rows)
 }
 
-/// Whether each row of the variable's relation is permitted to it.
+/// Whether each row of the variable's relation, in the order of its walk, is permitted to it.
 pub fn permitted(call: &Guarded, binding: Binding) -> Vec<bool> {
     let permits = rewrite::applying(&call.permits, &call.query, binding);
     let is_workspace = !rewrite::is_stored(&call.collection.relations, binding.relation);
@@ -85,7 +85,9 @@ pub fn marks(call: &Guarded) -> Vec<bool> {
     for binding in call.query.bindings() {
         let used = rewrite::used_attributes(&call.query, binding.variable);
         let (start, attributes, _) = starts(call, binding.relation);
-        for (row, is_permitted) in permitted(call, binding).into_iter().enumerate() {
+        let relation = call.collection.relations[usize::from(binding.relation)];
+        for (step, is_permitted) in permitted(call, binding).into_iter().enumerate() {
+            let row = relation.place(step);
             for attribute in (0..attributes).filter(|n| is_permitted && used >> n & 1 == 1) {
                 marked[start + row * attributes + attribute] = false;
             }

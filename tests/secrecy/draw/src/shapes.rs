@@ -80,7 +80,9 @@ fn sizes(rng: &mut Rng) -> Sizes {
 fn tables(rng: &mut Rng, sizes: &Sizes) -> (Vec<u8>, Vec<i32>) {
     let mut catalogue = Vec::new();
     let mut values = Vec::new();
-    for (number, (kind, attributes)) in [(48u8, 5u8), (48, 5), (48, 3), (49, 4)].into_iter().enumerate() {
+    let stored = |rng: &mut Rng| rng.pick(&[48u8, 50]);
+    let kinds = [(stored(rng), 5u8), (stored(rng), 5), (stored(rng), 3), (49, 4)];
+    for (number, (kind, attributes)) in kinds.into_iter().enumerate() {
         let [low, high] = (sizes.rows[number] as u16).to_le_bytes();
         catalogue.extend([kind, attributes, low, high]);
         for _ in 0..sizes.rows[number] {

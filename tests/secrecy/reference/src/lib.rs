@@ -12,7 +12,7 @@ use std::alloc::{GlobalAlloc, Layout};
 use std::slice::from_raw_parts;
 use std::sync::atomic::{AtomicUsize, Ordering};
 
-/// Memory that is handed out from the start of each call on, and never taken back: what an allocator remembers of
+/// Memory that is handed out from the start of each call on, and taken back only from its end: what an allocator remembers of
 /// earlier calls would show in the instruction counts. One thread.
 struct Arena;
 const ROOM: usize = 1 << 28;
@@ -28,7 +28,12 @@ unsafe impl GlobalAlloc for Arena {
         NEXT.store(start + layout.size(), Ordering::Relaxed);
         (&raw mut MEMORY as *mut u8).add(start)
     }
-    unsafe fn dealloc(&self, _: *mut u8, _: Layout) {}
+    unsafe fn dealloc(&self, freed: *mut u8, layout: Layout) {
+        let start = freed as usize - &raw const MEMORY as usize;
+        if start + layout.size() == NEXT.load(Ordering::Relaxed) {
+            NEXT.store(start, Ordering::Relaxed);
+        }
+    }
 }
 
 #[global_allocator]

@@ -1,0 +1,622 @@
+use native.Mathlib.Omega.{arith}
+use mathlib.Core.Path.{_≡_, refl, sym, ap, _∙_}
+use lib.ListN.{length}
+use denote.Ref.{now}
+use Rattle.scope.specs.Reach.{shapeIn, scopeOf}
+use Rattle.scope.proofs.Steps.{put-back}
+use Rattle.conditions.specs.Answers.{bytesOf}
+use Rattle.conditions.proofs.Parts.{same-sized}
+use Rattle.conditions.proofs.Records.{not-room, both-room, compare-room, some-room, aggregate-room}
+use Rattle.conditions.proofs.Steps.{no-level, no-levelT, no-operator, no-function, no-condition, no-term, condition-ends, term-ends, some-ends, aggregate-ends, conditions-ends, terms-ends, conditions-fit, terms-fit, conditions-stop, conditions-go, terms-stop, terms-go, truth-is, not-is, both-is, compare-is, some-is, constant-is, attribute-is, aggregate-is, under-is, aggregated-is}
+use borrow.Author.Needs.{needs}
+use Prim.Native.Nat.{ℕ, _+_, _*_, _<_}
+use borrow.Fn.Kinds.{In}
+use borrow.Fn.PlainCycle.{Measures, is, falls, and}
+use Rattle.conditions.proofs.aggregate.Reads as aggregate
+use Rattle.conditions.proofs.aggregate.Kinds as aggregate-kinds
+use Rattle.conditions.proofs.+aggregate+condition+conditions+some+term+terms.Lts-aggregate as aggregate-lts
+use Rattle.conditions.proofs.condition.Reads as condition
+use Rattle.conditions.proofs.condition.Kinds as condition-kinds
+use Rattle.conditions.proofs.+aggregate+condition+conditions+some+term+terms.Lts-condition as condition-lts
+use Rattle.conditions.proofs.conditions.Reads as conditions
+use Rattle.conditions.proofs.conditions.Kinds as conditions-kinds
+use Rattle.conditions.proofs.+aggregate+condition+conditions+some+term+terms.Lts-conditions as conditions-lts
+use Rattle.conditions.proofs.some.Reads as some
+use Rattle.conditions.proofs.some.Kinds as some-kinds
+use Rattle.conditions.proofs.+aggregate+condition+conditions+some+term+terms.Lts-some as some-lts
+use Rattle.conditions.proofs.term.Reads as term
+use Rattle.conditions.proofs.term.Kinds as term-kinds
+use Rattle.conditions.proofs.+aggregate+condition+conditions+some+term+terms.Lts-term as term-lts
+use Rattle.conditions.proofs.terms.Reads as terms
+use Rattle.conditions.proofs.terms.Kinds as terms-kinds
+use Rattle.conditions.proofs.+aggregate+condition+conditions+some+term+terms.Lts-terms as terms-lts
+use Rattle.kinds.proofs.is_function.Reads as is-function-reads
+use Rattle.kinds.proofs.is_operator.Reads as is-operator-reads
+use Rattle.kinds.proofs.read.Reads as read-reads
+use Rattle.kinds.proofs.record_length.Reads as record-length-reads
+use Rattle.kinds.proofs.tail.Reads as tail-reads
+use Rattle.conditions.proofs.also.Reads as also-reads
+use Rattle.conditions.proofs.leaf.Reads as leaf-reads
+use Rattle.conditions.proofs.parent.Reads as parent-reads
+use Rattle.scope.proofs.attribute.Reads as attribute-reads
+use Rattle.scope.proofs.bind.Reads as bind-reads
+use Rattle.scope.proofs.entry.Reads as entry-reads
+use Rattle.scope.proofs.has.Reads as has-reads
+use Rattle.scope.proofs.known.Reads as known-reads
+use Rattle.scope.proofs.put.Reads as put-reads
+use Rattle.conditions.proofs.+aggregate+condition+conditions+some+term+terms.{statement}
+use Rattle.conditions.proofs.+aggregate+condition+conditions+some+term+terms.Tie.{close}
+
+abbrev μ-aggregate : Measures 3 aggregate-kinds.ps ℕ
+μ-aggregate κs a = 2 * (a .1 .1 .1 .0) + 1
+
+abbrev μ-condition : Measures 4 condition-kinds.ps ℕ
+μ-condition κs a = 2 * (a .1 .1 .1 .0)
+
+abbrev μ-conditions : Measures 4 conditions-kinds.ps ℕ
+μ-conditions κs a = 2 * (a .1 .1 .1 .0) + 1
+
+abbrev μ-some : Measures 4 some-kinds.ps ℕ
+μ-some κs a = 2 * (a .1 .1 .1 .0) + 1
+
+abbrev μ-term : Measures 4 term-kinds.ps ℕ
+μ-term κs a = 2 * (a .1 .1 .1 .0)
+
+abbrev μ-terms : Measures 4 terms-kinds.ps ℕ
+μ-terms κs a = 2 * (a .1 .1 .1 .0) + 1
+
+abbrev aggregate-at : ℕ → In 3 aggregate-kinds.ps
+aggregate-at t = and 3 aggregate-kinds.ps (is 3 aggregate-kinds.ps μ-aggregate t) aggregate.Pre
+
+abbrev aggregate-below : ℕ → In 3 aggregate-kinds.ps
+aggregate-below t =
+    and 3 aggregate-kinds.ps (falls 3 aggregate-kinds.ps _<_ μ-aggregate t) aggregate.Pre
+
+abbrev condition-at : ℕ → In 4 condition-kinds.ps
+condition-at t = and 4 condition-kinds.ps (is 4 condition-kinds.ps μ-condition t) condition.Pre
+
+abbrev condition-below : ℕ → In 4 condition-kinds.ps
+condition-below t =
+    and 4 condition-kinds.ps (falls 4 condition-kinds.ps _<_ μ-condition t) condition.Pre
+
+abbrev conditions-at : ℕ → In 4 conditions-kinds.ps
+conditions-at t =
+    and 4 conditions-kinds.ps (is 4 conditions-kinds.ps μ-conditions t) conditions.Pre
+
+abbrev conditions-below : ℕ → In 4 conditions-kinds.ps
+conditions-below t =
+    and 4 conditions-kinds.ps (falls 4 conditions-kinds.ps _<_ μ-conditions t) conditions.Pre
+
+abbrev some-at : ℕ → In 4 some-kinds.ps
+some-at t = and 4 some-kinds.ps (is 4 some-kinds.ps μ-some t) some.Pre
+
+abbrev some-below : ℕ → In 4 some-kinds.ps
+some-below t = and 4 some-kinds.ps (falls 4 some-kinds.ps _<_ μ-some t) some.Pre
+
+abbrev term-at : ℕ → In 4 term-kinds.ps
+term-at t = and 4 term-kinds.ps (is 4 term-kinds.ps μ-term t) term.Pre
+
+abbrev term-below : ℕ → In 4 term-kinds.ps
+term-below t = and 4 term-kinds.ps (falls 4 term-kinds.ps _<_ μ-term t) term.Pre
+
+abbrev terms-at : ℕ → In 4 terms-kinds.ps
+terms-at t = and 4 terms-kinds.ps (is 4 terms-kinds.ps μ-terms t) terms.Pre
+
+abbrev terms-below : ℕ → In 4 terms-kinds.ps
+terms-below t = and 4 terms-kinds.ps (falls 4 terms-kinds.ps _<_ μ-terms t) terms.Pre
+
+abbrev aggregate-claims : ℕ → aggregate-lts.Claims
+aggregate-claims t = (bind-reads.Asked, bind-reads.Learnt, condition-below t, condition.Post, has-reads.Asked, has-reads.Learnt, also-reads.Asked, also-reads.Learnt, known-reads.Asked, known-reads.Learnt)
+
+abbrev condition-claims : ℕ → condition-lts.Claims
+condition-claims t = (tail-reads.Asked, tail-reads.Learnt, read-reads.Asked, read-reads.Learnt, record-length-reads.Asked, record-length-reads.Learnt, leaf-reads.Asked, leaf-reads.Learnt, condition-below t, condition.Post, parent-reads.Asked, parent-reads.Learnt, conditions-below t, conditions.Post, is-operator-reads.Asked, is-operator-reads.Learnt, terms-below t, terms.Post, some-below t, some.Post)
+
+abbrev conditions-claims : ℕ → conditions-lts.Claims
+conditions-claims t = (condition-below t, condition.Post, also-reads.Asked, also-reads.Learnt)
+
+abbrev some-claims : ℕ → some-lts.Claims
+some-claims t = (entry-reads.Asked, entry-reads.Learnt, bind-reads.Asked, bind-reads.Learnt, condition-below t, condition.Post, put-reads.Asked, put-reads.Learnt, known-reads.Asked, known-reads.Learnt, also-reads.Asked, also-reads.Learnt)
+
+abbrev term-claims : ℕ → term-lts.Claims
+term-claims t = (tail-reads.Asked, tail-reads.Learnt, read-reads.Asked, read-reads.Learnt, record-length-reads.Asked, record-length-reads.Learnt, leaf-reads.Asked, leaf-reads.Learnt, attribute-reads.Asked, attribute-reads.Learnt, is-function-reads.Asked, is-function-reads.Learnt, aggregate-below t, aggregate.Post, parent-reads.Asked, parent-reads.Learnt)
+
+abbrev terms-claims : ℕ → terms-lts.Claims
+terms-claims t = (term-below t, term.Post, also-reads.Asked, also-reads.Learnt)
+
+aggregate-slice-aggregate-bind : (t : ℕ) → aggregate-lts.Need-slice-aggregate-bind (aggregate-claims t) (aggregate-at t) aggregate.Post
+aggregate-slice-aggregate-bind t c = search needs
+
+aggregate-bind-requires : (t : ℕ) → aggregate-lts.Need-bind-requires (aggregate-claims t) (aggregate-at t) aggregate.Post
+aggregate-bind-requires t c κs = search needs
+
+aggregate-slice-aggregate-condition : (t : ℕ) → aggregate-lts.Need-slice-aggregate-condition (aggregate-claims t) (aggregate-at t) aggregate.Post
+aggregate-slice-aggregate-condition t c = search needs
+
+aggregate-condition-requires : (t : ℕ) → aggregate-lts.Need-condition-requires (aggregate-claims t) (aggregate-at t) aggregate.Post
+aggregate-condition-requires t c κs = search needs
+
+aggregate-has-requires : (t : ℕ) → aggregate-lts.Need-has-requires (aggregate-claims t) (aggregate-at t) aggregate.Post
+aggregate-has-requires t c κs = search needs
+
+aggregate-also-requires : (t : ℕ) → aggregate-lts.Need-also-requires (aggregate-claims t) (aggregate-at t) aggregate.Post
+aggregate-also-requires t c κs = search needs
+
+aggregate-known-requires : (t : ℕ) → aggregate-lts.Need-known-requires (aggregate-claims t) (aggregate-at t) aggregate.Post
+aggregate-known-requires t c κs = search needs
+
+aggregate-also-requires-2 : (t : ℕ) → aggregate-lts.Need-also-requires-2 (aggregate-claims t) (aggregate-at t) aggregate.Post
+aggregate-also-requires-2 t c κs = search needs
+
+aggregate-same-length : (t : ℕ) → aggregate-lts.Need-same-length (aggregate-claims t) (aggregate-at t) aggregate.Post
+aggregate-same-length t c = search needs
+
+aggregate-returns : (t : ℕ) → aggregate-lts.Need-returns (aggregate-claims t) (aggregate-at t) aggregate.Post
+aggregate-returns t c = (aggregated-is (shapeIn (now (c .before .before .before .before .before .before .before .before .before .before .before .before .before .before .before .before .args .catalogue))) (c .before .before .before .before .before .before .before .before .before .before .before .before .before .before .before .before .args .limit) (c .before .before .before .before .before .before .before .before .before .before .before .before .before .before .before .before .args .level) (c .before .before .before .before .before .before .before .before .before .before .before .before .before .before .before .before .args .variable) (c .before .before .before .before .before .before .before .before .before .before .before .before .before .before .before .before .args .relation) (c .before .known .result) (c .before .known .ensures) _ _ _ (c .before .before .before .before .before .before .before .before .before .before .before .before .before .before .before .before .args .attribute) _ (c .before .before .before .has .result) (c .before .before .also .result) refl (c .before .before .before .has .ensures) (c .before .before .before .before .before .before .before .before .before .before .before .before .before .before .before .before .fits .variable .fits) (c .before .before .before .before .before .before .before .before .before .before .before .bind .last .0) (c .before .before .before .before .before .before .before .before .before .before .before .bind .ensures) (c .before .before .before .before .before .before .before .condition .ensures .0) (c .before .before .also .ensures) (c .also2 .ensures), c .before .before .before .before .before .before .before .condition .ensures .1 .0)
+
+condition-returns : (t : ℕ) → condition-lts.Need-returns (condition-claims t) (condition-at t) condition.Post
+condition-returns t c = let h = no-level (shapeIn (now (c .before .before .before .before .before .args .catalogue))) (c .before .before .before .before .before .args .limit) (c .before .before .before .before .before .args .level) (scopeOf (now (c .before .before .before .before .before .args .reach))) (now (c .before .before .before .before .before .args .q)) (c .before .before .before .before .before .args .at) (now (c .before .before .before .before .before .args .z)) (c .if1 .taken) in (h .0, (h .1, refl))
+
+condition-sub-l : (t : ℕ) → condition-lts.Need-sub-l (condition-claims t) (condition-at t) condition.Post
+condition-sub-l t c = search needs
+
+condition-tail-requires : (t : ℕ) → condition-lts.Need-tail-requires (condition-claims t) (condition-at t) condition.Post
+condition-tail-requires t c κs = search needs
+
+condition-read-requires : (t : ℕ) → condition-lts.Need-read-requires (condition-claims t) (condition-at t) condition.Post
+condition-read-requires t c κs = search needs
+
+condition-record-length-requires : (t : ℕ) → condition-lts.Need-record-length-requires (condition-claims t) (condition-at t) condition.Post
+condition-record-length-requires t c κs = search needs
+
+condition-leaf-requires : (t : ℕ) → condition-lts.Need-leaf-requires (condition-claims t) (condition-at t) condition.Post
+condition-leaf-requires t c κs = search needs
+
+condition-enum-told : (t : ℕ) → condition-lts.Need-enum-told (condition-claims t) (condition-at t) condition.Post
+condition-enum-told t c = search needs
+
+condition-record-length-requires-2 : (t : ℕ) → condition-lts.Need-record-length-requires-2 (condition-claims t) (condition-at t) condition.Post
+condition-record-length-requires-2 t c κs = search needs
+
+condition-add-condition : (t : ℕ) → condition-lts.Need-add-condition (condition-claims t) (condition-at t) condition.Post
+condition-add-condition t c = search needs
+
+condition-condition-requires : (t : ℕ) → condition-lts.Need-condition-requires (condition-claims t) (condition-at t) condition.Post
+condition-condition-requires t c κs = (omega (arith, c .before .before .before .before .before .before .before .before .before .before .before .before .pre .0, c .before .before .before .before .before .before .before .if1 .left), (not-room (now (c .before .before .before .before .before .before .before .before .before .before .before .before .args .q)) (now (c .before .before .before .before .before .before .tail .result)) (c .before .before .before .before .before .before .before .before .before .before .before .before .args .at) (c .before .before .before .before .before .before .tail .ensures) (c .before .before .before .before .before .read .result) (c .before .before .before .before .before .read .ensures) (c .before .before .record-length2 .result) (c .before .before .record-length2 .ensures .0) (c .before .before .before .enum-told .given .1), c .before .before .before .before .before .before .before .before .before .before .before .before .pre .1 .1))
+
+condition-parent-requires : (t : ℕ) → condition-lts.Need-parent-requires (condition-claims t) (condition-at t) condition.Post
+condition-parent-requires t c κs = omega (arith, condition-ends (now (c .before .before .before .before .before .before .before .before .before .before .before .before .before .before .before .before .before .before .args .q)) _ (not-room (now (c .before .before .before .before .before .before .before .before .before .before .before .before .before .before .before .before .before .before .args .q)) (now (c .before .before .before .before .before .before .before .before .before .before .before .before .tail .result)) (c .before .before .before .before .before .before .before .before .before .before .before .before .before .before .before .before .before .before .args .at) (c .before .before .before .before .before .before .before .before .before .before .before .before .tail .ensures) (c .before .before .before .before .before .before .before .before .before .before .before .read .result) (c .before .before .before .before .before .before .before .before .before .before .before .read .ensures) (c .before .before .before .before .before .before .before .before .record-length2 .result) (c .before .before .before .before .before .before .before .before .record-length2 .ensures .0) (c .before .before .before .before .before .before .before .before .before .enum-told .given .1)) _ _ _ _ _ (c .before .before .before .before .before .condition .ensures .0), c .before .before .before .before .before .before .before .before .before .before .before .before .before .before .before .before .before .before .good)
+
+condition-record-length-requires-3 : (t : ℕ) → condition-lts.Need-record-length-requires-3 (condition-claims t) (condition-at t) condition.Post
+condition-record-length-requires-3 t c κs = search needs
+
+condition-add-conditions : (t : ℕ) → condition-lts.Need-add-conditions (condition-claims t) (condition-at t) condition.Post
+condition-add-conditions t c = search needs
+
+condition-conditions-requires : (t : ℕ) → condition-lts.Need-conditions-requires (condition-claims t) (condition-at t) condition.Post
+condition-conditions-requires t c κs = (omega (arith, c .before .before .before .before .before .before .before .before .before .before .before .pre .0, c .before .before .before .before .before .before .if1 .left), (both-room (now (c .before .before .before .before .before .before .before .before .before .before .before .args .q)) (now (c .before .before .before .before .before .tail .result)) (c .before .before .before .before .before .before .before .before .before .before .before .args .at) (c .before .before .before .before .before .tail .ensures) (c .before .before .before .before .read .result) (c .before .before .before .before .read .ensures) (c .before .before .record-length3 .result) (c .before .before .record-length3 .ensures .0) (c .before .before .before .match .keys3), c .before .before .before .before .before .before .before .before .before .before .before .pre .1 .1))
+
+condition-parent-requires-2 : (t : ℕ) → condition-lts.Need-parent-requires-2 (condition-claims t) (condition-at t) condition.Post
+condition-parent-requires-2 t c κs = omega (arith, conditions-ends (now (c .before .before .before .before .before .before .before .before .before .before .before .before .before .before .before .before .before .args .q)) _ (both-room (now (c .before .before .before .before .before .before .before .before .before .before .before .before .before .before .before .before .before .args .q)) (now (c .before .before .before .before .before .before .before .before .before .before .before .tail .result)) (c .before .before .before .before .before .before .before .before .before .before .before .before .before .before .before .before .before .args .at) (c .before .before .before .before .before .before .before .before .before .before .before .tail .ensures) (c .before .before .before .before .before .before .before .before .before .before .read .result) (c .before .before .before .before .before .before .before .before .before .before .read .ensures) (c .before .before .before .before .before .before .before .before .record-length3 .result) (c .before .before .before .before .before .before .before .before .record-length3 .ensures .0) (c .before .before .before .before .before .before .before .before .before .match .keys3)) _ _ _ _ _ (c .before .before .before .before .before .conditions .ensures .0), c .before .before .before .before .before .before .before .before .before .before .before .before .before .before .before .before .before .good)
+
+condition-enum-known-o : (t : ℕ) → condition-lts.Need-enum-known-o (condition-claims t) (condition-at t) condition.Post
+condition-enum-known-o t c = search needs
+
+condition-is-operator-requires : (t : ℕ) → condition-lts.Need-is-operator-requires (condition-claims t) (condition-at t) condition.Post
+condition-is-operator-requires t c κs = search needs
+
+condition-returns-2 : (t : ℕ) → condition-lts.Need-returns-2 (condition-claims t) (condition-at t) condition.Post
+condition-returns-2 t c = let h = no-operator (shapeIn (now (c .before .before .before .before .before .before .before .before .before .before .before .before .args .catalogue))) (c .before .before .before .before .before .before .before .before .before .before .before .before .args .limit) (c .before .before .before .before .before .before .before .before .before .before .before .before .args .level) (scopeOf (now (c .before .before .before .before .before .before .before .before .before .before .before .before .args .reach))) (now (c .before .before .before .before .before .before .before .before .before .before .before .before .args .q)) (c .before .before .before .before .before .before .before .before .before .before .before .before .args .at) (now (c .before .before .before .before .before .before .before .before .before .before .before .before .args .z)) (c .before .before .before .before .before .before .before .if1 .left) (now (c .before .before .before .before .before .before .tail .result)) (c .before .before .before .before .before .before .tail .ensures) (c .before .before .before .before .before .read .result) (c .before .before .before .before .before .read .ensures) _ _ (c .before .before .before .o .given .1) (c .before .is-operator .ensures) (c .if2 .taken) in (h .0, (h .1, refl))
+
+condition-record-length-requires-4 : (t : ℕ) → condition-lts.Need-record-length-requires-4 (condition-claims t) (condition-at t) condition.Post
+condition-record-length-requires-4 t c κs = search needs
+
+condition-add-terms : (t : ℕ) → condition-lts.Need-add-terms (condition-claims t) (condition-at t) condition.Post
+condition-add-terms t c = search needs
+
+condition-terms-requires : (t : ℕ) → condition-lts.Need-terms-requires (condition-claims t) (condition-at t) condition.Post
+condition-terms-requires t c κs = (omega (arith, c .before .before .before .before .before .before .before .before .before .before .before .before .before .before .before .pre .0, c .before .before .before .before .before .before .before .before .before .before .if1 .left), compare-room (now (c .before .before .before .before .before .before .before .before .before .before .before .before .before .before .before .args .q)) (now (c .before .before .before .before .before .before .before .before .before .tail .result)) (c .before .before .before .before .before .before .before .before .before .before .before .before .before .before .before .args .at) (c .before .before .before .before .before .before .before .before .before .tail .ensures) (c .before .before .before .before .before .before .before .before .read .result) (c .before .before .before .before .before .before .before .before .read .ensures) (c .before .before .record-length4 .result) _ (c .before .before .record-length4 .ensures .0) (c .before .before .before .before .before .before .o .given .1))
+
+condition-parent-requires-3 : (t : ℕ) → condition-lts.Need-parent-requires-3 (condition-claims t) (condition-at t) condition.Post
+condition-parent-requires-3 t c κs = omega (arith, terms-ends (now (c .before .before .before .before .before .before .before .before .before .before .before .before .before .before .before .before .before .before .before .args .q)) _ (compare-room (now (c .before .before .before .before .before .before .before .before .before .before .before .before .before .before .before .before .before .before .before .args .q)) (now (c .before .before .before .before .before .before .before .before .before .before .before .before .before .tail .result)) (c .before .before .before .before .before .before .before .before .before .before .before .before .before .before .before .before .before .before .before .args .at) (c .before .before .before .before .before .before .before .before .before .before .before .before .before .tail .ensures) (c .before .before .before .before .before .before .before .before .before .before .before .before .read .result) (c .before .before .before .before .before .before .before .before .before .before .before .before .read .ensures) (c .before .before .before .before .before .before .record-length4 .result) _ (c .before .before .before .before .before .before .record-length4 .ensures .0) (c .before .before .before .before .before .before .before .before .before .before .o .given .1)) _ _ _ _ _ (c .before .before .before .terms .ensures .0), c .before .before .before .before .before .before .before .before .before .before .before .before .before .before .before .before .before .before .before .good)
+
+condition-enum-known-v : (t : ℕ) → condition-lts.Need-enum-known-v (condition-claims t) (condition-at t) condition.Post
+condition-enum-known-v t c = search needs
+
+condition-record-length-requires-5 : (t : ℕ) → condition-lts.Need-record-length-requires-5 (condition-claims t) (condition-at t) condition.Post
+condition-record-length-requires-5 t c κs = search needs
+
+condition-add-some : (t : ℕ) → condition-lts.Need-add-some (condition-claims t) (condition-at t) condition.Post
+condition-add-some t c = search needs
+
+condition-some-requires : (t : ℕ) → condition-lts.Need-some-requires (condition-claims t) (condition-at t) condition.Post
+condition-some-requires t c κs = (omega (arith, c .before .before .before .before .before .before .before .before .before .before .before .before .before .pre .0, c .before .before .before .before .before .before .before .before .if1 .left), (some-room (now (c .before .before .before .before .before .before .before .before .before .before .before .before .before .args .q)) (now (c .before .before .before .before .before .before .before .tail .result)) (c .before .before .before .before .before .before .before .before .before .before .before .before .before .args .at) (c .before .before .before .before .before .before .before .tail .ensures) (c .before .before .before .before .before .before .read .result) (c .before .before .before .before .before .before .read .ensures) (c .before .before .record-length5 .result) _ _ (c .before .before .record-length5 .ensures .0) (c .before .before .before .before .v .given .1), c .before .before .before .before .before .before .before .before .before .before .before .before .before .pre .1 .1))
+
+condition-parent-requires-4 : (t : ℕ) → condition-lts.Need-parent-requires-4 (condition-claims t) (condition-at t) condition.Post
+condition-parent-requires-4 t c κs = omega (arith, some-ends (now (c .before .before .before .before .before .before .before .before .before .before .before .before .before .before .before .before .before .before .before .args .q)) _ (some-room (now (c .before .before .before .before .before .before .before .before .before .before .before .before .before .before .before .before .before .before .before .args .q)) (now (c .before .before .before .before .before .before .before .before .before .before .before .before .before .tail .result)) (c .before .before .before .before .before .before .before .before .before .before .before .before .before .before .before .before .before .before .before .args .at) (c .before .before .before .before .before .before .before .before .before .before .before .before .before .tail .ensures) (c .before .before .before .before .before .before .before .before .before .before .before .before .read .result) (c .before .before .before .before .before .before .before .before .before .before .before .before .read .ensures) (c .before .before .before .before .before .before .before .before .record-length5 .result) _ _ (c .before .before .before .before .before .before .before .before .record-length5 .ensures .0) (c .before .before .before .before .before .before .before .before .before .before .v .given .1)) _ _ _ _ _ _ (c .before .before .before .before .before .some .ensures .0), c .before .before .before .before .before .before .before .before .before .before .before .before .before .before .before .before .before .before .before .good)
+
+condition-same-length : (t : ℕ) → condition-lts.Need-same-length (condition-claims t) (condition-at t) condition.Post
+condition-same-length t c = search needs
+
+condition-returns-3 : (t : ℕ) → condition-lts.Need-returns-3 (condition-claims t) (condition-at t) condition.Post
+condition-returns-3 t c = let h = truth-is (shapeIn (now (c .before .before .before .before .before .before .before .before .before .before .before .before .before .args .catalogue))) (c .before .before .before .before .before .before .before .before .before .before .before .before .before .args .limit) (c .before .before .before .before .before .before .before .before .before .before .before .before .before .args .level) (c .before .before .before .before .before .before .before .before .if1 .left) (scopeOf (now (c .before .before .before .before .before .before .before .before .before .before .before .before .before .args .reach))) (now (c .before .before .before .before .before .before .before .before .before .before .before .before .before .args .q)) (c .before .before .before .before .before .before .before .before .before .before .before .before .before .args .at) (now (c .before .before .before .before .before .before .before .before .before .before .before .before .before .args .z)) (now (c .before .before .before .before .before .before .before .tail .result)) (c .before .before .before .before .before .before .before .tail .ensures) (c .before .before .before .before .before .before .read .result) (c .before .before .before .before .before .before .read .ensures) (c .before .before .before .record-length .result) _ _ (c .before .before .before .record-length .ensures .0) (c .before .before .before .before .before .match .keys1) (c .before .before .leaf .ensures .0) (c .before .before .leaf .ensures .1) in (h .0, (h .1, refl))
+
+condition-same-length-2 : (t : ℕ) → condition-lts.Need-same-length-2 (condition-claims t) (condition-at t) condition.Post
+condition-same-length-2 t c = search needs
+
+condition-same-length-3 : (t : ℕ) → condition-lts.Need-same-length-3 (condition-claims t) (condition-at t) condition.Post
+condition-same-length-3 t c = search needs
+
+condition-returns-4 : (t : ℕ) → condition-lts.Need-returns-4 (condition-claims t) (condition-at t) condition.Post
+condition-returns-4 t c = let h = not-is (shapeIn (now (c .before .before .before .before .before .before .before .before .before .before .before .before .before .before .before .before .before .before .before .before .before .args .catalogue))) (c .before .before .before .before .before .before .before .before .before .before .before .before .before .before .before .before .before .before .before .before .before .args .limit) (c .before .before .before .before .before .before .before .before .before .before .before .before .before .before .before .before .before .before .before .before .before .args .level) (c .before .before .before .before .before .before .before .before .before .before .before .before .before .before .before .before .if1 .left) (scopeOf (now (c .before .before .before .before .before .before .before .before .before .before .before .before .before .before .before .before .before .before .before .before .before .args .reach))) (now (c .before .before .before .before .before .before .before .before .before .before .before .before .before .before .before .before .before .before .before .before .before .args .q)) (c .before .before .before .before .before .before .before .before .before .before .before .before .before .before .before .before .before .before .before .before .before .args .at) (now (c .before .before .before .before .before .before .before .before .before .before .before .before .before .before .before .before .before .before .before .before .before .args .z)) (now (c .before .before .before .before .before .before .before .before .before .before .before .before .before .before .before .tail .result)) (c .before .before .before .before .before .before .before .before .before .before .before .before .before .before .before .tail .ensures) (c .before .before .before .before .before .before .before .before .before .before .before .before .before .before .read .result) (c .before .before .before .before .before .before .before .before .before .before .before .before .before .before .read .ensures) (c .before .before .before .before .before .before .before .before .before .before .before .record-length2 .result) _ _ _ _ (c .before .before .parent .ensures .0) (c .before .before .parent .ensures .1) (c .before .before .before .before .before .before .before .before .before .before .before .record-length2 .ensures .0) (c .before .before .before .before .before .before .before .before .before .before .before .before .enum-told .given .1) (c .before .before .before .before .before .before .before .before .condition .ensures .0) (c .before .before .before .before .before .before .before .before .condition .ensures .1 .0) in (h .0, (h .1, c .before .before .before .before .before .before .before .before .condition .ensures .1 .1))
+
+condition-same-length-4 : (t : ℕ) → condition-lts.Need-same-length-4 (condition-claims t) (condition-at t) condition.Post
+condition-same-length-4 t c = search needs
+
+condition-same-length-5 : (t : ℕ) → condition-lts.Need-same-length-5 (condition-claims t) (condition-at t) condition.Post
+condition-same-length-5 t c = search needs
+
+condition-returns-5 : (t : ℕ) → condition-lts.Need-returns-5 (condition-claims t) (condition-at t) condition.Post
+condition-returns-5 t c = let h = both-is (shapeIn (now (c .before .before .before .before .before .before .before .before .before .before .before .before .before .before .before .before .before .before .before .before .args .catalogue))) (c .before .before .before .before .before .before .before .before .before .before .before .before .before .before .before .before .before .before .before .before .args .limit) (c .before .before .before .before .before .before .before .before .before .before .before .before .before .before .before .before .before .before .before .before .args .level) (c .before .before .before .before .before .before .before .before .before .before .before .before .before .before .before .if1 .left) (scopeOf (now (c .before .before .before .before .before .before .before .before .before .before .before .before .before .before .before .before .before .before .before .before .args .reach))) (now (c .before .before .before .before .before .before .before .before .before .before .before .before .before .before .before .before .before .before .before .before .args .q)) (c .before .before .before .before .before .before .before .before .before .before .before .before .before .before .before .before .before .before .before .before .args .at) (now (c .before .before .before .before .before .before .before .before .before .before .before .before .before .before .before .before .before .before .before .before .args .z)) (now (c .before .before .before .before .before .before .before .before .before .before .before .before .before .before .tail .result)) (c .before .before .before .before .before .before .before .before .before .before .before .before .before .before .tail .ensures) (c .before .before .before .before .before .before .before .before .before .before .before .before .before .read .result) (c .before .before .before .before .before .before .before .before .before .before .before .before .before .read .ensures) (c .before .before .before .before .before .before .before .before .before .before .before .record-length3 .result) _ _ _ _ (c .before .before .parent2 .ensures .0) (c .before .before .parent2 .ensures .1) (c .before .before .before .before .before .before .before .before .before .before .before .record-length3 .ensures .0) (c .before .before .before .before .before .before .before .before .before .before .before .before .match .keys3) (c .before .before .before .before .before .before .before .before .conditions .ensures .0) (c .before .before .before .before .before .before .before .before .conditions .ensures .1 .0) in (h .0, (h .1, c .before .before .before .before .before .before .before .before .conditions .ensures .1 .1))
+
+condition-same-length-6 : (t : ℕ) → condition-lts.Need-same-length-6 (condition-claims t) (condition-at t) condition.Post
+condition-same-length-6 t c = search needs
+
+condition-same-length-7 : (t : ℕ) → condition-lts.Need-same-length-7 (condition-claims t) (condition-at t) condition.Post
+condition-same-length-7 t c = search needs
+
+condition-returns-6 : (t : ℕ) → condition-lts.Need-returns-6 (condition-claims t) (condition-at t) condition.Post
+condition-returns-6 t c = let h = compare-is (shapeIn (now (c .before .before .before .before .before .before .before .before .before .before .before .before .before .before .before .before .before .before .before .before .before .before .args .catalogue))) (c .before .before .before .before .before .before .before .before .before .before .before .before .before .before .before .before .before .before .before .before .before .before .args .limit) (c .before .before .before .before .before .before .before .before .before .before .before .before .before .before .before .before .before .before .before .before .before .before .args .level) (c .before .before .before .before .before .before .before .before .before .before .before .before .before .before .before .before .before .if1 .left) (scopeOf (now (c .before .before .before .before .before .before .before .before .before .before .before .before .before .before .before .before .before .before .before .before .before .before .args .reach))) (now (c .before .before .before .before .before .before .before .before .before .before .before .before .before .before .before .before .before .before .before .before .before .before .args .q)) (c .before .before .before .before .before .before .before .before .before .before .before .before .before .before .before .before .before .before .before .before .before .before .args .at) (now (c .before .before .before .before .before .before .before .before .before .before .before .before .before .before .before .before .before .before .before .before .before .before .args .z)) (now (c .before .before .before .before .before .before .before .before .before .before .before .before .before .before .before .before .tail .result)) (c .before .before .before .before .before .before .before .before .before .before .before .before .before .before .before .before .tail .ensures) (c .before .before .before .before .before .before .before .before .before .before .before .before .before .before .before .read .result) (c .before .before .before .before .before .before .before .before .before .before .before .before .before .before .before .read .ensures) (c .before .before .before .before .before .before .before .before .before .record-length4 .result) _ _ _ _ (c .before .before .parent3 .ensures .0) (c .before .before .parent3 .ensures .1) _ _ (c .before .before .before .before .before .before .before .before .before .record-length4 .ensures .0) (c .before .before .before .before .before .before .before .before .before .before .before .before .before .o .given .1) (c .before .before .before .before .before .before .before .before .before .before .before .is-operator .ensures) (c .before .before .before .before .before .before .before .before .before .before .if2 .left) (c .before .before .before .before .before .before .terms .ensures .0) (c .before .before .before .before .before .before .terms .ensures .1) in (h .0, (h .1, refl))
+
+condition-same-length-8 : (t : ℕ) → condition-lts.Need-same-length-8 (condition-claims t) (condition-at t) condition.Post
+condition-same-length-8 t c = search needs
+
+condition-same-length-9 : (t : ℕ) → condition-lts.Need-same-length-9 (condition-claims t) (condition-at t) condition.Post
+condition-same-length-9 t c = search needs
+
+condition-returns-7 : (t : ℕ) → condition-lts.Need-returns-7 (condition-claims t) (condition-at t) condition.Post
+condition-returns-7 t c = let h = some-is (shapeIn (now (c .before .before .before .before .before .before .before .before .before .before .before .before .before .before .before .before .before .before .before .before .before .before .args .catalogue))) (c .before .before .before .before .before .before .before .before .before .before .before .before .before .before .before .before .before .before .before .before .before .before .args .limit) (c .before .before .before .before .before .before .before .before .before .before .before .before .before .before .before .before .before .before .before .before .before .before .args .level) (c .before .before .before .before .before .before .before .before .before .before .before .before .before .before .before .before .before .if1 .left) (scopeOf (now (c .before .before .before .before .before .before .before .before .before .before .before .before .before .before .before .before .before .before .before .before .before .before .args .reach))) (now (c .before .before .before .before .before .before .before .before .before .before .before .before .before .before .before .before .before .before .before .before .before .before .args .q)) (c .before .before .before .before .before .before .before .before .before .before .before .before .before .before .before .before .before .before .before .before .before .before .args .at) (now (c .before .before .before .before .before .before .before .before .before .before .before .before .before .before .before .before .before .before .before .before .before .before .args .z)) (now (c .before .before .before .before .before .before .before .before .before .before .before .before .before .before .before .before .tail .result)) (c .before .before .before .before .before .before .before .before .before .before .before .before .before .before .before .before .tail .ensures) (c .before .before .before .before .before .before .before .before .before .before .before .before .before .before .before .read .result) (c .before .before .before .before .before .before .before .before .before .before .before .before .before .before .before .read .ensures) (c .before .before .before .before .before .before .before .before .before .before .before .record-length5 .result) _ _ _ _ (c .before .before .parent4 .ensures .0) (c .before .before .parent4 .ensures .1) _ _ (c .before .before .before .before .before .before .before .before .before .before .before .record-length5 .ensures .0) (c .before .before .before .before .before .before .before .before .before .before .before .before .before .v .given .1) (c .before .before .before .before .before .before .before .before .some .ensures .0) (c .before .before .before .before .before .before .before .before .some .ensures .1 .0) in (h .0, (h .1, c .before .before .before .before .before .before .before .before .some .ensures .1 .1))
+
+condition-returns-8 : (t : ℕ) → condition-lts.Need-returns-8 (condition-claims t) (condition-at t) condition.Post
+condition-returns-8 t c = let h = no-condition (shapeIn (now (c .before .before .before .before .before .before .before .before .args .catalogue))) (c .before .before .before .before .before .before .before .before .args .limit) (c .before .before .before .before .before .before .before .before .args .level) (scopeOf (now (c .before .before .before .before .before .before .before .before .args .reach))) (now (c .before .before .before .before .before .before .before .before .args .q)) (c .before .before .before .before .before .before .before .before .args .at) (now (c .before .before .before .before .before .before .before .before .args .z)) (c .before .before .before .if1 .left) (now (c .before .before .tail .result)) (c .before .before .tail .ensures) (c .before .read .result) (c .before .read .ensures) (c .match .keys6) in (h .0, (h .1, refl))
+
+conditions-condition-requires : (t : ℕ) → conditions-lts.Need-condition-requires (conditions-claims t) (conditions-at t) conditions.Post
+conditions-condition-requires t c κs = search needs
+
+conditions-enum-known-n : (t : ℕ) → conditions-lts.Need-enum-known-n (conditions-claims t) (conditions-at t) conditions.Post
+conditions-enum-known-n t c = search needs
+
+conditions-enum-told : (t : ℕ) → conditions-lts.Need-enum-told (conditions-claims t) (conditions-at t) conditions.Post
+conditions-enum-told t c = search needs
+
+conditions-same-length : (t : ℕ) → conditions-lts.Need-same-length (conditions-claims t) (conditions-at t) conditions.Post
+conditions-same-length t c = search needs
+
+conditions-same-length-2 : (t : ℕ) → conditions-lts.Need-same-length-2 (conditions-claims t) (conditions-at t) conditions.Post
+conditions-same-length-2 t c = search needs
+
+conditions-returns : (t : ℕ) → conditions-lts.Need-returns (conditions-claims t) (conditions-at t) conditions.Post
+conditions-returns t c = let h = conditions-stop (shapeIn (now (c .before .before .before .before .before .before .before .before .before .before .before .before .before .args .catalogue))) (c .before .before .before .before .before .before .before .before .before .before .before .before .before .args .limit) (c .before .before .before .before .before .before .before .before .before .before .before .before .before .args .level) (now (c .before .before .before .before .before .before .before .before .before .before .before .before .before .args .q)) (c .before .before .before .before .before .before .before .before .before .before .before .before .before .args .at) (now (c .before .before .before .before .before .before .before .before .before .before .before .before .before .args .z)) (c .before .before .before .before .before .before .condition .result) _ (now (c .before .before .before .before .before .before .before .before .before .before .before .before .before .args .reach)) (c .before .before .before .before .before .before .condition .ensures .0) (c .before .before .before .before .before .before .condition .ensures .1 .0) (c .enum-told .given .1) in (h .0, (h .1, c .before .before .before .before .before .before .condition .ensures .1 .1))
+
+conditions-add-condition : (t : ℕ) → conditions-lts.Need-add-condition (conditions-claims t) (conditions-at t) conditions.Post
+conditions-add-condition t c = omega (arith, ap bytesOf (c .before .before .n .given .1), condition-ends (now (c .before .before .before .before .before .before .before .before .before .before .before .before .before .before .before .args .q)) _ (c .before .before .before .before .before .before .before .before .before .before .before .before .before .before .before .pre .1 .0) _ _ _ _ (c .before .before .before .before .before .before .before .before .condition .result) (c .before .before .before .before .before .before .before .before .condition .ensures .0), c .before .before .before .before .before .before .before .before .before .before .before .before .before .before .before .good)
+
+conditions-condition-requires-2 : (t : ℕ) → conditions-lts.Need-condition-requires-2 (conditions-claims t) (conditions-at t) conditions.Post
+conditions-condition-requires-2 t c κs = (omega (arith, c .before .before .before .before .before .before .before .before .before .before .before .before .before .before .before .before .pre .0), (omega (arith, ap bytesOf (c .before .before .before .n .given .1), condition-ends (now (c .before .before .before .before .before .before .before .before .before .before .before .before .before .before .before .before .args .q)) _ (c .before .before .before .before .before .before .before .before .before .before .before .before .before .before .before .before .pre .1 .0) _ _ _ _ (c .before .before .before .before .before .before .before .before .before .condition .result) (c .before .before .before .before .before .before .before .before .before .condition .ensures .0)), omega (arith, ap length (c .before .before .before .before .before .before .before .before .before .condition .ensures .1 .1), c .before .before .before .before .before .before .before .before .before .before .before .before .before .before .before .before .pre .1 .1)))
+
+conditions-enum-known-m : (t : ℕ) → conditions-lts.Need-enum-known-m (conditions-claims t) (conditions-at t) conditions.Post
+conditions-enum-known-m t c = search needs
+
+conditions-enum-told-2 : (t : ℕ) → conditions-lts.Need-enum-told-2 (conditions-claims t) (conditions-at t) conditions.Post
+conditions-enum-told-2 t c = search needs
+
+conditions-same-length-3 : (t : ℕ) → conditions-lts.Need-same-length-3 (conditions-claims t) (conditions-at t) conditions.Post
+conditions-same-length-3 t c = search needs
+
+conditions-same-length-4 : (t : ℕ) → conditions-lts.Need-same-length-4 (conditions-claims t) (conditions-at t) conditions.Post
+conditions-same-length-4 t c = search needs
+
+conditions-returns-2 : (t : ℕ) → conditions-lts.Need-returns-2 (conditions-claims t) (conditions-at t) conditions.Post
+conditions-returns-2 t c = let h = conditions-go (shapeIn (now (c .before .before .before .before .before .before .before .before .before .before .before .before .before .before .before .before .before .before .before .before .before .before .before .args .catalogue))) (c .before .before .before .before .before .before .before .before .before .before .before .before .before .before .before .before .before .before .before .before .before .before .before .args .limit) (c .before .before .before .before .before .before .before .before .before .before .before .before .before .before .before .before .before .before .before .before .before .before .before .args .level) (now (c .before .before .before .before .before .before .before .before .before .before .before .before .before .before .before .before .before .before .before .before .before .before .before .args .q)) (c .before .before .before .before .before .before .before .before .before .before .before .before .before .before .before .before .before .before .before .before .before .before .before .args .at) (now (c .before .before .before .before .before .before .before .before .before .before .before .before .before .before .before .before .before .before .before .before .before .before .before .args .z)) (c .before .before .before .before .before .before .before .before .before .before .before .before .before .before .before .before .condition .result) _ (now (c .before .before .before .before .before .before .before .before .before .before .before .before .before .before .before .before .before .before .before .before .before .before .before .args .reach)) (c .before .before .before .before .before .before .before .before .before .before .before .before .before .before .before .before .condition .ensures .0) (c .before .before .before .before .before .before .before .before .before .before .before .before .before .before .before .before .condition .ensures .1 .0) _ _ (c .before .before .before .before .before .before .before .before .before .before .n .given .1) _ (c .before .before .before .before .before .before .before .before .before .before .before .before .before .before .before .before .condition .ensures .1 .1) _ _ (sym (c .enum-told2 .given .1) ∙ c .before .before .before .before .before .before .condition2 .ensures .0) (c .before .before .before .before .before .before .condition2 .ensures .1 .0) in (h .0, (h .1, c .before .before .before .before .before .before .condition2 .ensures .1 .1 ∙ c .before .before .before .before .before .before .before .before .before .before .before .before .before .before .before .before .condition .ensures .1 .1))
+
+conditions-add-t20 : (t : ℕ) → conditions-lts.Need-add-t20 (conditions-claims t) (conditions-at t) conditions.Post
+conditions-add-t20 t c = omega (arith, conditions-fit (now (c .before .before .before .before .before .before .before .before .before .before .before .before .before .before .before .before .before .before .before .before .before .before .before .before .args .q)) _ (c .before .before .before .before .before .before .before .before .before .before .before .before .before .before .before .before .before .before .before .before .before .before .before .before .pre .1 .0) _ _ _ _ _ _ _ _ _ _ _ (c .before .before .before .before .before .before .before .before .before .before .before .n .given .1) (c .before .m .given .1) (c .before .before .before .before .before .before .before .before .before .before .before .before .before .before .before .before .before .condition .ensures .0) (c .before .before .before .before .before .before .before .condition2 .ensures .0), c .before .before .before .before .before .before .before .before .before .before .before .before .before .before .before .before .before .before .before .before .before .before .before .before .good)
+
+conditions-also-requires : (t : ℕ) → conditions-lts.Need-also-requires (conditions-claims t) (conditions-at t) conditions.Post
+conditions-also-requires t c κs = search needs
+
+conditions-same-length-5 : (t : ℕ) → conditions-lts.Need-same-length-5 (conditions-claims t) (conditions-at t) conditions.Post
+conditions-same-length-5 t c = search needs
+
+conditions-same-length-6 : (t : ℕ) → conditions-lts.Need-same-length-6 (conditions-claims t) (conditions-at t) conditions.Post
+conditions-same-length-6 t c = search needs
+
+conditions-returns-3 : (t : ℕ) → conditions-lts.Need-returns-3 (conditions-claims t) (conditions-at t) conditions.Post
+conditions-returns-3 t c = let h = conditions-go (shapeIn (now (c .before .before .before .before .before .before .before .before .before .before .before .before .before .before .before .before .before .before .before .before .before .before .before .before .before .args .catalogue))) (c .before .before .before .before .before .before .before .before .before .before .before .before .before .before .before .before .before .before .before .before .before .before .before .before .before .args .limit) (c .before .before .before .before .before .before .before .before .before .before .before .before .before .before .before .before .before .before .before .before .before .before .before .before .before .args .level) (now (c .before .before .before .before .before .before .before .before .before .before .before .before .before .before .before .before .before .before .before .before .before .before .before .before .before .args .q)) (c .before .before .before .before .before .before .before .before .before .before .before .before .before .before .before .before .before .before .before .before .before .before .before .before .before .args .at) (now (c .before .before .before .before .before .before .before .before .before .before .before .before .before .before .before .before .before .before .before .before .before .before .before .before .before .args .z)) (c .before .before .before .before .before .before .before .before .before .before .before .before .before .before .before .before .before .before .condition .result) _ (now (c .before .before .before .before .before .before .before .before .before .before .before .before .before .before .before .before .before .before .before .before .before .before .before .before .before .args .reach)) (c .before .before .before .before .before .before .before .before .before .before .before .before .before .before .before .before .before .before .condition .ensures .0) (c .before .before .before .before .before .before .before .before .before .before .before .before .before .before .before .before .before .before .condition .ensures .1 .0) _ _ (c .before .before .before .before .before .before .before .before .before .before .before .before .n .given .1) _ (c .before .before .before .before .before .before .before .before .before .before .before .before .before .before .before .before .before .before .condition .ensures .1 .1) _ _ (sym (c .before .before .m .given .1) ∙ c .before .before .before .before .before .before .before .before .condition2 .ensures .0) (c .before .before .before .before .before .before .before .before .condition2 .ensures .1 .0) in (c .also .ensures ∙ h .0, (same-sized _ _ _ _ (c .also .ensures) (h .1), c .before .before .before .before .before .before .before .before .condition2 .ensures .1 .1 ∙ c .before .before .before .before .before .before .before .before .before .before .before .before .before .before .before .before .before .before .condition .ensures .1 .1))
+
+some-entry-requires : (t : ℕ) → some-lts.Need-entry-requires (some-claims t) (some-at t) some.Post
+some-entry-requires t c κs = search needs
+
+some-bind-requires : (t : ℕ) → some-lts.Need-bind-requires (some-claims t) (some-at t) some.Post
+some-bind-requires t c κs = search needs
+
+some-condition-requires : (t : ℕ) → some-lts.Need-condition-requires (some-claims t) (some-at t) some.Post
+some-condition-requires t c κs = search needs
+
+some-put-requires : (t : ℕ) → some-lts.Need-put-requires (some-claims t) (some-at t) some.Post
+some-put-requires t c κs = search needs
+
+some-known-requires : (t : ℕ) → some-lts.Need-known-requires (some-claims t) (some-at t) some.Post
+some-known-requires t c κs = search needs
+
+some-also-requires : (t : ℕ) → some-lts.Need-also-requires (some-claims t) (some-at t) some.Post
+some-also-requires t c κs = search needs
+
+some-same-length : (t : ℕ) → some-lts.Need-same-length (some-claims t) (some-at t) some.Post
+some-same-length t c = search needs
+
+some-same-length-2 : (t : ℕ) → some-lts.Need-same-length-2 (some-claims t) (some-at t) some.Post
+some-same-length-2 t c = search needs
+
+some-returns : (t : ℕ) → some-lts.Need-returns (some-claims t) (some-at t) some.Post
+some-returns t c = (under-is (shapeIn (now (c .before .before .before .before .before .before .before .before .before .before .before .before .before .before .before .before .before .before .before .before .before .before .before .args .catalogue))) (c .before .before .before .before .before .before .before .before .before .before .before .before .before .before .before .before .before .before .before .before .before .before .before .args .limit) (c .before .before .before .before .before .before .before .before .before .before .before .before .before .before .before .before .before .before .before .before .before .before .before .args .level) (c .before .before .before .before .before .before .before .before .before .before .before .before .before .before .before .before .before .before .before .before .before .before .before .args .variable) (c .before .before .before .before .before .before .before .before .before .before .before .before .before .before .before .before .before .before .before .before .before .before .before .args .relation) (c .before .known .result) (c .before .known .ensures) _ _ _ (now (c .before .before .before .before .before .before .before .before .before .before .before .before .before .before .before .before .before .before .before .before .before .before .before .args .reach)) (c .before .before .before .before .before .before .before .before .before .before .before .before .before .before .before .bind .last .0) (c .before .before .before .before .before .before .before .before .before .before .before .before .before .before .before .before .before .before .before .before .before .before .before .pre .1 .1) (c .before .before .before .before .before .before .before .before .before .before .before .before .before .before .before .bind .ensures) (c .before .before .before .before .before .before .before .before .before .before .condition .ensures .0) (c .also .ensures), (c .before .before .before .before .before .before .before .before .before .before .condition .ensures .1 .0, put-back (now (c .before .before .before .before .before .before .before .before .before .before .before .before .before .before .before .before .before .before .before .before .before .before .before .args .reach)) _ (c .before .before .before .before .put .last .0) (c .before .before .before .before .before .before .before .before .before .before .before .before .before .before .before .before .before .before .before .before .before .before .before .args .variable) _ _ (c .before .before .before .before .before .before .before .before .before .before .condition .ensures .1 .1 ∙ c .before .before .before .before .before .before .before .before .before .before .before .before .before .before .before .bind .ensures) (c .before .before .before .before .before .before .before .before .before .before .before .before .before .before .before .before .before .entry .ensures) (c .before .before .before .before .put .ensures)))
+
+term-returns : (t : ℕ) → term-lts.Need-returns (term-claims t) (term-at t) term.Post
+term-returns t c = no-levelT (shapeIn (now (c .before .before .before .before .before .args .catalogue))) (c .before .before .before .before .before .args .limit) (c .before .before .before .before .before .args .level) (scopeOf (now (c .before .before .before .before .before .args .reach))) (now (c .before .before .before .before .before .args .q)) (c .before .before .before .before .before .args .at) (now (c .before .before .before .before .before .args .z)) (c .if1 .taken)
+
+term-tail-requires : (t : ℕ) → term-lts.Need-tail-requires (term-claims t) (term-at t) term.Post
+term-tail-requires t c κs = search needs
+
+term-read-requires : (t : ℕ) → term-lts.Need-read-requires (term-claims t) (term-at t) term.Post
+term-read-requires t c κs = search needs
+
+term-enum-told : (t : ℕ) → term-lts.Need-enum-told (term-claims t) (term-at t) term.Post
+term-enum-told t c = search needs
+
+term-record-length-requires : (t : ℕ) → term-lts.Need-record-length-requires (term-claims t) (term-at t) term.Post
+term-record-length-requires t c κs = search needs
+
+term-leaf-requires : (t : ℕ) → term-lts.Need-leaf-requires (term-claims t) (term-at t) term.Post
+term-leaf-requires t c κs = search needs
+
+term-enum-known-v : (t : ℕ) → term-lts.Need-enum-known-v (term-claims t) (term-at t) term.Post
+term-enum-known-v t c = search needs
+
+term-attribute-requires : (t : ℕ) → term-lts.Need-attribute-requires (term-claims t) (term-at t) term.Post
+term-attribute-requires t c κs = search needs
+
+term-record-length-requires-2 : (t : ℕ) → term-lts.Need-record-length-requires-2 (term-claims t) (term-at t) term.Post
+term-record-length-requires-2 t c κs = search needs
+
+term-leaf-requires-2 : (t : ℕ) → term-lts.Need-leaf-requires-2 (term-claims t) (term-at t) term.Post
+term-leaf-requires-2 t c κs = search needs
+
+term-enum-known-f : (t : ℕ) → term-lts.Need-enum-known-f (term-claims t) (term-at t) term.Post
+term-enum-known-f t c = search needs
+
+term-is-function-requires : (t : ℕ) → term-lts.Need-is-function-requires (term-claims t) (term-at t) term.Post
+term-is-function-requires t c κs = search needs
+
+term-returns-2 : (t : ℕ) → term-lts.Need-returns-2 (term-claims t) (term-at t) term.Post
+term-returns-2 t c = no-function (shapeIn (now (c .before .before .before .before .before .before .before .before .before .before .before .before .args .catalogue))) (c .before .before .before .before .before .before .before .before .before .before .before .before .args .limit) (c .before .before .before .before .before .before .before .before .before .before .before .before .args .level) (scopeOf (now (c .before .before .before .before .before .before .before .before .before .before .before .before .args .reach))) (now (c .before .before .before .before .before .before .before .before .before .before .before .before .args .q)) (c .before .before .before .before .before .before .before .before .before .before .before .before .args .at) (now (c .before .before .before .before .before .before .before .before .before .before .before .before .args .z)) (c .before .before .before .before .before .before .before .if1 .left) (now (c .before .before .before .before .before .before .tail .result)) (c .before .before .before .before .before .before .tail .ensures) (c .before .before .before .before .before .read .result) (c .before .before .before .before .before .read .ensures) _ _ _ _ _ (c .before .before .before .f .given .1) (c .before .is-function .ensures) (c .if2 .taken)
+
+term-record-length-requires-3 : (t : ℕ) → term-lts.Need-record-length-requires-3 (term-claims t) (term-at t) term.Post
+term-record-length-requires-3 t c κs = search needs
+
+term-add-aggregate : (t : ℕ) → term-lts.Need-add-aggregate (term-claims t) (term-at t) term.Post
+term-add-aggregate t c = search needs
+
+term-sub-aggregate : (t : ℕ) → term-lts.Need-sub-aggregate (term-claims t) (term-at t) term.Post
+term-sub-aggregate t c = search needs
+
+term-aggregate-requires : (t : ℕ) → term-lts.Need-aggregate-requires (term-claims t) (term-at t) term.Post
+term-aggregate-requires t c κs = (omega (arith, c .before .before .before .before .before .before .before .before .before .before .before .before .before .before .pre .0, c .before .before .before .before .before .before .before .before .before .if1 .left), aggregate-room (now (c .before .before .before .before .before .before .before .before .before .before .before .before .before .before .args .q)) (now (c .before .before .before .before .before .before .before .before .tail .result)) (c .before .before .before .before .before .before .before .before .before .before .before .before .before .before .args .at) (c .before .before .before .before .before .before .before .before .tail .ensures) (c .before .before .before .before .before .before .before .read .result) (c .before .before .before .before .before .before .before .read .ensures) (c .before .record-length3 .result) _ _ _ _ (c .before .record-length3 .ensures .0) (c .before .before .before .before .before .f .given .1))
+
+term-parent-requires : (t : ℕ) → term-lts.Need-parent-requires (term-claims t) (term-at t) term.Post
+term-parent-requires t c κs = omega (arith, aggregate-ends (now (c .before .before .before .before .before .before .before .before .before .before .before .before .before .before .before .before .before .before .args .q)) _ (aggregate-room (now (c .before .before .before .before .before .before .before .before .before .before .before .before .before .before .before .before .before .before .args .q)) (now (c .before .before .before .before .before .before .before .before .before .before .before .before .tail .result)) (c .before .before .before .before .before .before .before .before .before .before .before .before .before .before .before .before .before .before .args .at) (c .before .before .before .before .before .before .before .before .before .before .before .before .tail .ensures) (c .before .before .before .before .before .before .before .before .before .before .before .read .result) (c .before .before .before .before .before .before .before .before .before .before .before .read .ensures) (c .before .before .before .before .before .record-length3 .result) _ _ _ _ (c .before .before .before .before .before .record-length3 .ensures .0) (c .before .before .before .before .before .before .before .before .before .f .given .1)) _ _ _ (scopeOf (now (c .before .before .before .before .before .before .before .before .before .before .before .before .before .before .before .before .before .before .args .reach))) _ _ _ (c .before .before .before .aggregate .ensures .0), c .before .before .before .before .before .before .before .before .before .before .before .before .before .before .before .before .before .before .good)
+
+term-same-length : (t : ℕ) → term-lts.Need-same-length (term-claims t) (term-at t) term.Post
+term-same-length t c = search needs
+
+term-returns-3 : (t : ℕ) → term-lts.Need-returns-3 (term-claims t) (term-at t) term.Post
+term-returns-3 t c = constant-is (shapeIn (now (c .before .before .before .before .before .before .before .before .before .before .before .before .before .before .args .catalogue))) (c .before .before .before .before .before .before .before .before .before .before .before .before .before .before .args .limit) (c .before .before .before .before .before .before .before .before .before .before .before .before .before .before .args .level) (c .before .before .before .before .before .before .before .before .before .if1 .left) (scopeOf (now (c .before .before .before .before .before .before .before .before .before .before .before .before .before .before .args .reach))) (now (c .before .before .before .before .before .before .before .before .before .before .before .before .before .before .args .q)) (c .before .before .before .before .before .before .before .before .before .before .before .before .before .before .args .at) (now (c .before .before .before .before .before .before .before .before .before .before .before .before .before .before .args .z)) (now (c .before .before .before .before .before .before .before .before .tail .result)) (c .before .before .before .before .before .before .before .before .tail .ensures) (c .before .before .before .before .before .before .before .read .result) (c .before .before .before .before .before .before .before .read .ensures) (c .before .before .before .record-length .result) _ _ _ _ _ _ (c .before .before .before .record-length .ensures .0) (c .before .before .before .before .before .enum-told .given .1) (c .before .before .leaf .ensures .0) (c .before .before .leaf .ensures .1)
+
+term-same-length-2 : (t : ℕ) → term-lts.Need-same-length-2 (term-claims t) (term-at t) term.Post
+term-same-length-2 t c = search needs
+
+term-returns-4 : (t : ℕ) → term-lts.Need-returns-4 (term-claims t) (term-at t) term.Post
+term-returns-4 t c = attribute-is (shapeIn (now (c .before .before .before .before .before .before .before .before .before .before .before .before .before .before .before .before .args .catalogue))) (c .before .before .before .before .before .before .before .before .before .before .before .before .before .before .before .before .args .limit) (c .before .before .before .before .before .before .before .before .before .before .before .before .before .before .before .before .args .level) (c .before .before .before .before .before .before .before .before .before .before .before .if1 .left) (scopeOf (now (c .before .before .before .before .before .before .before .before .before .before .before .before .before .before .before .before .args .reach))) (now (c .before .before .before .before .before .before .before .before .before .before .before .before .before .before .before .before .args .q)) (c .before .before .before .before .before .before .before .before .before .before .before .before .before .before .before .before .args .at) (now (c .before .before .before .before .before .before .before .before .before .before .before .before .before .before .before .before .args .z)) (now (c .before .before .before .before .before .before .before .before .before .before .tail .result)) (c .before .before .before .before .before .before .before .before .before .before .tail .ensures) (c .before .before .before .before .before .before .before .before .before .read .result) (c .before .before .before .before .before .before .before .before .before .read .ensures) (c .before .before .before .record-length2 .result) _ _ _ _ _ (c .before .before .before .record-length2 .ensures .0) (c .before .before .before .before .before .before .before .v .given .1) (c .before .before .before .before .before .attribute .ensures) (c .before .before .leaf2 .ensures .0) (c .before .before .leaf2 .ensures .1)
+
+term-same-length-3 : (t : ℕ) → term-lts.Need-same-length-3 (term-claims t) (term-at t) term.Post
+term-same-length-3 t c = search needs
+
+term-returns-5 : (t : ℕ) → term-lts.Need-returns-5 (term-claims t) (term-at t) term.Post
+term-returns-5 t c = aggregate-is (shapeIn (now (c .before .before .before .before .before .before .before .before .before .before .before .before .before .before .before .before .before .before .before .before .before .args .catalogue))) (c .before .before .before .before .before .before .before .before .before .before .before .before .before .before .before .before .before .before .before .before .before .args .limit) (c .before .before .before .before .before .before .before .before .before .before .before .before .before .before .before .before .before .before .before .before .before .args .level) (c .before .before .before .before .before .before .before .before .before .before .before .before .before .before .before .before .if1 .left) (scopeOf (now (c .before .before .before .before .before .before .before .before .before .before .before .before .before .before .before .before .before .before .before .before .before .args .reach))) (now (c .before .before .before .before .before .before .before .before .before .before .before .before .before .before .before .before .before .before .before .before .before .args .q)) (c .before .before .before .before .before .before .before .before .before .before .before .before .before .before .before .before .before .before .before .before .before .args .at) (now (c .before .before .before .before .before .before .before .before .before .before .before .before .before .before .before .before .before .before .before .before .before .args .z)) (now (c .before .before .before .before .before .before .before .before .before .before .before .before .before .before .before .tail .result)) (c .before .before .before .before .before .before .before .before .before .before .before .before .before .before .before .tail .ensures) (c .before .before .before .before .before .before .before .before .before .before .before .before .before .before .read .result) (c .before .before .before .before .before .before .before .before .before .before .before .before .before .before .read .ensures) (c .before .before .before .before .before .before .before .before .record-length3 .result) _ _ _ _ (c .before .before .parent .ensures .0) (c .before .before .parent .ensures .1) _ _ _ _ _ (c .before .before .before .before .before .before .before .before .record-length3 .ensures .0) (c .before .before .before .before .before .before .before .before .before .before .before .before .f .given .1) (c .before .before .before .before .before .before .before .before .before .before .is-function .ensures) (c .before .before .before .before .before .before .before .before .before .if2 .left) (c .before .before .before .before .before .before .aggregate .ensures .0) (c .before .before .before .before .before .before .aggregate .ensures .1)
+
+term-returns-6 : (t : ℕ) → term-lts.Need-returns-6 (term-claims t) (term-at t) term.Post
+term-returns-6 t c = no-term (shapeIn (now (c .before .before .before .before .before .before .before .before .args .catalogue))) (c .before .before .before .before .before .before .before .before .args .limit) (c .before .before .before .before .before .before .before .before .args .level) (scopeOf (now (c .before .before .before .before .before .before .before .before .args .reach))) (now (c .before .before .before .before .before .before .before .before .args .q)) (c .before .before .before .before .before .before .before .before .args .at) (now (c .before .before .before .before .before .before .before .before .args .z)) (c .before .before .before .if1 .left) (now (c .before .before .tail .result)) (c .before .before .tail .ensures) (c .before .read .result) (c .before .read .ensures) (c .match .keys4)
+
+terms-term-requires : (t : ℕ) → terms-lts.Need-term-requires (terms-claims t) (terms-at t) terms.Post
+terms-term-requires t c κs = search needs
+
+terms-enum-known-n : (t : ℕ) → terms-lts.Need-enum-known-n (terms-claims t) (terms-at t) terms.Post
+terms-enum-known-n t c = search needs
+
+terms-enum-told : (t : ℕ) → terms-lts.Need-enum-told (terms-claims t) (terms-at t) terms.Post
+terms-enum-told t c = search needs
+
+terms-same-length : (t : ℕ) → terms-lts.Need-same-length (terms-claims t) (terms-at t) terms.Post
+terms-same-length t c = search needs
+
+terms-returns : (t : ℕ) → terms-lts.Need-returns (terms-claims t) (terms-at t) terms.Post
+terms-returns t c = terms-stop (shapeIn (now (c .before .before .before .before .before .before .before .before .before .before .args .catalogue))) (c .before .before .before .before .before .before .before .before .before .before .args .limit) (c .before .before .before .before .before .before .before .before .before .before .args .level) (now (c .before .before .before .before .before .before .before .before .before .before .args .q)) (c .before .before .before .before .before .before .before .before .before .before .args .at) (now (c .before .before .before .before .before .before .before .before .before .before .args .z)) (c .before .before .before .before .term .result) _ (scopeOf (now (c .before .before .before .before .before .before .before .before .before .before .args .reach))) (c .before .before .before .before .term .ensures .0) (c .before .before .before .before .term .ensures .1) (c .enum-told .given .1)
+
+terms-add-term : (t : ℕ) → terms-lts.Need-add-term (terms-claims t) (terms-at t) terms.Post
+terms-add-term t c = omega (arith, ap bytesOf (c .before .before .n .given .1), term-ends (now (c .before .before .before .before .before .before .before .before .before .before .before .before .args .q)) _ (c .before .before .before .before .before .before .before .before .before .before .before .before .pre .1) _ _ _ _ (c .before .before .before .before .before .before .term .result) (c .before .before .before .before .before .before .term .ensures .0), c .before .before .before .before .before .before .before .before .before .before .before .before .good)
+
+terms-term-requires-2 : (t : ℕ) → terms-lts.Need-term-requires-2 (terms-claims t) (terms-at t) terms.Post
+terms-term-requires-2 t c κs = (omega (arith, c .before .before .before .before .before .before .before .before .before .before .before .before .pre .0), omega (arith, ap bytesOf (c .before .before .n .given .1), term-ends (now (c .before .before .before .before .before .before .before .before .before .before .before .before .args .q)) _ (c .before .before .before .before .before .before .before .before .before .before .before .before .pre .1) _ _ _ _ (c .before .before .before .before .before .before .term .result) (c .before .before .before .before .before .before .term .ensures .0)))
+
+terms-enum-known-m : (t : ℕ) → terms-lts.Need-enum-known-m (terms-claims t) (terms-at t) terms.Post
+terms-enum-known-m t c = search needs
+
+terms-enum-told-2 : (t : ℕ) → terms-lts.Need-enum-told-2 (terms-claims t) (terms-at t) terms.Post
+terms-enum-told-2 t c = search needs
+
+terms-same-length-2 : (t : ℕ) → terms-lts.Need-same-length-2 (terms-claims t) (terms-at t) terms.Post
+terms-same-length-2 t c = search needs
+
+terms-returns-2 : (t : ℕ) → terms-lts.Need-returns-2 (terms-claims t) (terms-at t) terms.Post
+terms-returns-2 t c = terms-go (shapeIn (now (c .before .before .before .before .before .before .before .before .before .before .before .before .before .before .before .before .before .args .catalogue))) (c .before .before .before .before .before .before .before .before .before .before .before .before .before .before .before .before .before .args .limit) (c .before .before .before .before .before .before .before .before .before .before .before .before .before .before .before .before .before .args .level) (now (c .before .before .before .before .before .before .before .before .before .before .before .before .before .before .before .before .before .args .q)) (c .before .before .before .before .before .before .before .before .before .before .before .before .before .before .before .before .before .args .at) (now (c .before .before .before .before .before .before .before .before .before .before .before .before .before .before .before .before .before .args .z)) (c .before .before .before .before .before .before .before .before .before .before .before .term .result) _ (scopeOf (now (c .before .before .before .before .before .before .before .before .before .before .before .before .before .before .before .before .before .args .reach))) (c .before .before .before .before .before .before .before .before .before .before .before .term .ensures .0) (c .before .before .before .before .before .before .before .before .before .before .before .term .ensures .1) _ _ (c .before .before .before .before .before .before .before .n .given .1) _ _ (sym (c .enum-told2 .given .1) ∙ c .before .before .before .before .term2 .ensures .0) (c .before .before .before .before .term2 .ensures .1)
+
+terms-add-t18 : (t : ℕ) → terms-lts.Need-add-t18 (terms-claims t) (terms-at t) terms.Post
+terms-add-t18 t c = omega (arith, terms-fit (now (c .before .before .before .before .before .before .before .before .before .before .before .before .before .before .before .before .before .before .args .q)) _ (c .before .before .before .before .before .before .before .before .before .before .before .before .before .before .before .before .before .before .pre .1) _ _ _ _ _ _ _ _ _ _ _ (c .before .before .before .before .before .before .before .before .n .given .1) (c .before .m .given .1) (c .before .before .before .before .before .before .before .before .before .before .before .before .term .ensures .0) (c .before .before .before .before .before .term2 .ensures .0), c .before .before .before .before .before .before .before .before .before .before .before .before .before .before .before .before .before .before .good)
+
+terms-also-requires : (t : ℕ) → terms-lts.Need-also-requires (terms-claims t) (terms-at t) terms.Post
+terms-also-requires t c κs = search needs
+
+terms-same-length-3 : (t : ℕ) → terms-lts.Need-same-length-3 (terms-claims t) (terms-at t) terms.Post
+terms-same-length-3 t c = search needs
+
+terms-returns-3 : (t : ℕ) → terms-lts.Need-returns-3 (terms-claims t) (terms-at t) terms.Post
+terms-returns-3 t c = let h = terms-go (shapeIn (now (c .before .before .before .before .before .before .before .before .before .before .before .before .before .before .before .before .before .before .before .args .catalogue))) (c .before .before .before .before .before .before .before .before .before .before .before .before .before .before .before .before .before .before .before .args .limit) (c .before .before .before .before .before .before .before .before .before .before .before .before .before .before .before .before .before .before .before .args .level) (now (c .before .before .before .before .before .before .before .before .before .before .before .before .before .before .before .before .before .before .before .args .q)) (c .before .before .before .before .before .before .before .before .before .before .before .before .before .before .before .before .before .before .before .args .at) (now (c .before .before .before .before .before .before .before .before .before .before .before .before .before .before .before .before .before .before .before .args .z)) (c .before .before .before .before .before .before .before .before .before .before .before .before .before .term .result) _ (scopeOf (now (c .before .before .before .before .before .before .before .before .before .before .before .before .before .before .before .before .before .before .before .args .reach))) (c .before .before .before .before .before .before .before .before .before .before .before .before .before .term .ensures .0) (c .before .before .before .before .before .before .before .before .before .before .before .before .before .term .ensures .1) _ _ (c .before .before .before .before .before .before .before .before .before .n .given .1) _ _ (sym (c .before .before .m .given .1) ∙ c .before .before .before .before .before .before .term2 .ensures .0) (c .before .before .before .before .before .before .term2 .ensures .1) in (c .also .ensures ∙ h .0, same-sized _ _ _ _ (c .also .ensures) (h .1))
+
+pub +aggregate+condition+conditions+some+term+terms-spec : {M : Type 1} → statement M
++aggregate+condition+conditions+some+term+terms-spec =
+    close μ-aggregate μ-condition μ-conditions μ-some μ-term μ-terms (λ t. aggregate-lts.spec (aggregate-claims t)
+    (aggregate-at t)
+    aggregate.Post
+    (aggregate-slice-aggregate-bind t)
+    (aggregate-bind-requires t)
+    (aggregate-slice-aggregate-condition t)
+    (aggregate-condition-requires t)
+    (aggregate-has-requires t)
+    (aggregate-also-requires t)
+    (aggregate-known-requires t)
+    (aggregate-also-requires-2 t)
+    (aggregate-same-length t)
+    (aggregate-returns t))
+    (λ t. condition-lts.spec (condition-claims t)
+    (condition-at t)
+    condition.Post
+    (condition-returns t)
+    (condition-sub-l t)
+    (condition-tail-requires t)
+    (condition-read-requires t)
+    (condition-record-length-requires t)
+    (condition-leaf-requires t)
+    (condition-enum-told t)
+    (condition-record-length-requires-2 t)
+    (condition-add-condition t)
+    (condition-condition-requires t)
+    (condition-parent-requires t)
+    (condition-record-length-requires-3 t)
+    (condition-add-conditions t)
+    (condition-conditions-requires t)
+    (condition-parent-requires-2 t)
+    (condition-enum-known-o t)
+    (condition-is-operator-requires t)
+    (condition-returns-2 t)
+    (condition-record-length-requires-4 t)
+    (condition-add-terms t)
+    (condition-terms-requires t)
+    (condition-parent-requires-3 t)
+    (condition-enum-known-v t)
+    (condition-record-length-requires-5 t)
+    (condition-add-some t)
+    (condition-some-requires t)
+    (condition-parent-requires-4 t)
+    (condition-same-length t)
+    (condition-returns-3 t)
+    (condition-same-length-2 t)
+    (condition-same-length-3 t)
+    (condition-returns-4 t)
+    (condition-same-length-4 t)
+    (condition-same-length-5 t)
+    (condition-returns-5 t)
+    (condition-same-length-6 t)
+    (condition-same-length-7 t)
+    (condition-returns-6 t)
+    (condition-same-length-8 t)
+    (condition-same-length-9 t)
+    (condition-returns-7 t)
+    (condition-returns-8 t))
+    (λ t. conditions-lts.spec (conditions-claims t)
+    (conditions-at t)
+    conditions.Post
+    (conditions-condition-requires t)
+    (conditions-enum-known-n t)
+    (conditions-enum-told t)
+    (conditions-same-length t)
+    (conditions-same-length-2 t)
+    (conditions-returns t)
+    (conditions-add-condition t)
+    (conditions-condition-requires-2 t)
+    (conditions-enum-known-m t)
+    (conditions-enum-told-2 t)
+    (conditions-same-length-3 t)
+    (conditions-same-length-4 t)
+    (conditions-returns-2 t)
+    (conditions-add-t20 t)
+    (conditions-also-requires t)
+    (conditions-same-length-5 t)
+    (conditions-same-length-6 t)
+    (conditions-returns-3 t))
+    (λ t. some-lts.spec (some-claims t)
+    (some-at t)
+    some.Post
+    (some-entry-requires t)
+    (some-bind-requires t)
+    (some-condition-requires t)
+    (some-put-requires t)
+    (some-known-requires t)
+    (some-also-requires t)
+    (some-same-length t)
+    (some-same-length-2 t)
+    (some-returns t))
+    (λ t. term-lts.spec (term-claims t)
+    (term-at t)
+    term.Post
+    (term-returns t)
+    (term-tail-requires t)
+    (term-read-requires t)
+    (term-enum-told t)
+    (term-record-length-requires t)
+    (term-leaf-requires t)
+    (term-enum-known-v t)
+    (term-attribute-requires t)
+    (term-record-length-requires-2 t)
+    (term-leaf-requires-2 t)
+    (term-enum-known-f t)
+    (term-is-function-requires t)
+    (term-returns-2 t)
+    (term-record-length-requires-3 t)
+    (term-add-aggregate t)
+    (term-sub-aggregate t)
+    (term-aggregate-requires t)
+    (term-parent-requires t)
+    (term-same-length t)
+    (term-returns-3 t)
+    (term-same-length-2 t)
+    (term-returns-4 t)
+    (term-same-length-3 t)
+    (term-returns-5 t)
+    (term-returns-6 t))
+    λ t. terms-lts.spec
+    (term-below t, term.Post, also-reads.Asked, also-reads.Learnt)
+    (terms-at t)
+    terms.Post
+    (terms-term-requires t)
+    (terms-enum-known-n t)
+    (terms-enum-told t)
+    (terms-same-length t)
+    (terms-returns t)
+    (terms-add-term t)
+    (terms-term-requires-2 t)
+    (terms-enum-known-m t)
+    (terms-enum-told-2 t)
+    (terms-same-length-2 t)
+    (terms-returns-2 t)
+    (terms-add-t18 t)
+    (terms-also-requires t)
+    (terms-same-length-3 t)
+    (terms-returns-3 t)

@@ -1,0 +1,228 @@
+// The one reader of conditions and terms, of at most so many levels: sizes go into the table, and variables, relations and attributes are held to
+// their scope. What is out of scope is read on, so that the answer says both: whether it can be read, and whether it is in scope.
+use kinds::Record;
+ghost use mathlib.Core.Path.{_≡_};
+ghost use mathlib.Core.Bool.{true, false};
+ghost use Prim.Native.Nat.{_+_, _≤_, _<_};
+ghost use lib.ListN.{length, drop};
+ghost use Rattle.sizes.specs.Measured.{store, leaves, conditionTable, termTable};
+ghost use Rattle.scope.specs.Reach.{scopeOf, shapeIn};
+ghost use Rattle.conditions.specs.Answers.{held, grown, bytesOf, kept, conditionReading, termReading, someReading, aggregateReading, conditionsReading, termsReading, sizeOf, twoMeasured};
+
+pub enum Reading {
+    // its bytes, and whether it is in scope
+    Whole(usize, bool),
+    // not well formed, or nested deeper
+    Refused,
+}
+
+// The same, where something more must hold for it to be in scope.
+fn also(r: Reading, known: bool) -> Reading
+    ensures { λ x. ⌜ x ≡ held known r ⌝ }
+{
+    let Reading::Whole(n, inside) = r else {
+        return Reading::Refused;
+    };
+    if !known {
+        return Reading::Whole(n, false);
+    }
+    Reading::Whole(n, inside)
+}
+
+// Keeps the size of a record with no child.
+fn leaf(z: &mut [u16], at: usize, n: usize, inside: bool) -> Reading
+    ensures { λ r. ⌜ r ≡ Reading.Whole n inside ⌝ }
+    ensures { λ _. ⌜ now (z .exit) ≡ store (now (z .entry)) at n ⌝ }
+{
+    sizes::put(z, at, n);
+    Reading::Whole(n, inside)
+}
+
+// Keeps the size of a record of so many bytes with what was read of its children.
+fn parent(z: &mut [u16], at: usize, own: usize, children: Reading) -> Reading
+    requires { ⌜ own + bytesOf children < 9223372036854775808 ⌝ }
+    ensures { λ r. ⌜ r ≡ grown own children ⌝ }
+    ensures { λ _. ⌜ now (z .exit) ≡ kept at own children (now (z .entry)) ⌝ }
+{
+    let Reading::Whole(n, inside) = children else {
+        return Reading::Refused;
+    };
+    leaf(z, at, own + n, inside)
+}
+
+// The condition at a place.
+pub fn condition(
+    q: &[u8],
+    z: &mut [u16],
+    at: usize,
+    level: usize,
+    catalogue: &[u8],
+    limit: u8,
+    reach: &mut [u16],
+) -> Reading
+    requires { ⌜ (at ≤ length (now q)) × (limit ≤ length (now reach)) ⌝ }
+    ensures { λ r. ⌜ r ≡ conditionReading (shapeIn (now (catalogue .entry))) limit level (scopeOf (now (reach .entry))) (drop at (now (q .entry))) ⌝ }
+    ensures { λ _. ⌜ now (z .exit) ≡ conditionTable level (now (q .entry)) at (now (z .entry)) ⌝ }
+    ensures { λ _. ⌜ now (reach .exit) ≡ now (reach .entry) ⌝ }
+{
+    if level == 0 {
+        return Reading::Refused;
+    }
+    let l = level - 1;
+    match kinds::read(kinds::tail(q, at)) {
+        Record::True | Record::False => leaf(z, at, kinds::record_length(16), true),
+        Record::Not => {
+            let a = kinds::record_length(18);
+            let inner = condition(q, z, at + a, l, catalogue, limit, reach);
+            parent(z, at, a, inner)
+        }
+        Record::And | Record::Or => {
+            let a = kinds::record_length(19);
+            let inner = conditions(q, z, at + a, l, catalogue, limit, reach);
+            parent(z, at, a, inner)
+        }
+        Record::Compare(o) => {
+            if !kinds::is_operator(o) {
+                return Reading::Refused;
+            }
+            let a = kinds::record_length(21);
+            let inner = terms(q, z, at + a, l, catalogue, limit, reach);
+            parent(z, at, a, inner)
+        }
+        Record::Some(v, r) => {
+            let a = kinds::record_length(22);
+            let inner = some(q, z, at + a, l, catalogue, limit, reach, v, r);
+            parent(z, at, a, inner)
+        }
+        _ => Reading::Refused,
+    }
+}
+
+// Two conditions, one after the other.
+fn conditions(
+    q: &[u8],
+    z: &mut [u16],
+    at: usize,
+    level: usize,
+    catalogue: &[u8],
+    limit: u8,
+    reach: &mut [u16],
+) -> Reading
+    requires { ⌜ (at ≤ length (now q)) × (limit ≤ length (now reach)) ⌝ }
+    ensures { λ r. ⌜ r ≡ conditionsReading (shapeIn (now (catalogue .entry))) limit level (scopeOf (now (reach .entry))) (drop at (now (q .entry))) ⌝ }
+    ensures { λ r. ⌜ leaves (sizeOf r) (now (z .exit)) ≡ twoMeasured false level (now (q .entry)) at (now (z .entry)) ⌝ }
+    ensures { λ _. ⌜ now (reach .exit) ≡ now (reach .entry) ⌝ }
+{
+    let Reading::Whole(n, first) = condition(q, z, at, level, catalogue, limit, reach) else {
+        return Reading::Refused;
+    };
+    let Reading::Whole(m, second) = condition(q, z, at + n, level, catalogue, limit, reach) else {
+        return Reading::Refused;
+    };
+    also(Reading::Whole(n + m, second), first)
+}
+
+// Two terms, one after the other.
+fn terms(
+    q: &[u8],
+    z: &mut [u16],
+    at: usize,
+    level: usize,
+    catalogue: &[u8],
+    limit: u8,
+    reach: &[u16],
+) -> Reading
+    requires { ⌜ at ≤ length (now q) ⌝ }
+    ensures { λ r. ⌜ r ≡ termsReading (shapeIn (now (catalogue .entry))) limit level (scopeOf (now (reach .entry))) (drop at (now (q .entry))) ⌝ }
+    ensures { λ r. ⌜ leaves (sizeOf r) (now (z .exit)) ≡ twoMeasured true level (now (q .entry)) at (now (z .entry)) ⌝ }
+{
+    let Reading::Whole(n, first) = term(q, z, at, level, catalogue, limit, reach) else {
+        return Reading::Refused;
+    };
+    let Reading::Whole(m, second) = term(q, z, at + n, level, catalogue, limit, reach) else {
+        return Reading::Refused;
+    };
+    also(Reading::Whole(n + m, second), first)
+}
+
+// The condition under SOME: its variable is in reach there, and as it was afterwards.
+fn some(
+    q: &[u8],
+    z: &mut [u16],
+    at: usize,
+    level: usize,
+    catalogue: &[u8],
+    limit: u8,
+    reach: &mut [u16],
+    variable: u8,
+    relation: u8,
+) -> Reading
+    requires { ⌜ (at ≤ length (now q)) × (limit ≤ length (now reach)) ⌝ }
+    ensures { λ r. ⌜ r ≡ someReading (shapeIn (now (catalogue .entry))) limit level (record { variable = variable; relation = relation }) (scopeOf (now (reach .entry))) (drop at (now (q .entry))) ⌝ }
+    ensures { λ _. ⌜ now (z .exit) ≡ conditionTable level (now (q .entry)) at (now (z .entry)) ⌝ }
+    ensures { λ _. ⌜ now (reach .exit) ≡ now (reach .entry) ⌝ }
+{
+    let old = scope::entry(reach, variable);
+    scope::bind(reach, variable, relation);
+    let inner = condition(q, z, at, level, catalogue, limit, reach);
+    scope::put(reach, variable, old);
+    also(inner, scope::known(catalogue, limit, variable, relation))
+}
+
+// The condition under an aggregate: of the variables in reach only its own reaches it.
+fn aggregate(
+    q: &[u8],
+    z: &mut [u16],
+    at: usize,
+    level: usize,
+    catalogue: &[u8],
+    limit: u8,
+    variable: u8,
+    relation: u8,
+    attribute: u8,
+) -> Reading
+    requires { ⌜ at ≤ length (now q) ⌝ }
+    ensures { λ r. ⌜ r ≡ aggregateReading (shapeIn (now (catalogue .entry))) limit level (record { variable = variable; relation = relation }) attribute (drop at (now (q .entry))) ⌝ }
+    ensures { λ _. ⌜ now (z .exit) ≡ conditionTable level (now (q .entry)) at (now (z .entry)) ⌝ }
+{
+    let mut inner = [0u16; 256];
+    scope::bind(&mut inner, variable, relation);
+    let r = condition(q, z, at, level, catalogue, limit, &mut inner);
+    let known = also(r, scope::has(catalogue, relation as usize, attribute));
+    also(known, scope::known(catalogue, limit, variable, relation))
+}
+
+// The term at a place.
+pub fn term(
+    q: &[u8],
+    z: &mut [u16],
+    at: usize,
+    level: usize,
+    catalogue: &[u8],
+    limit: u8,
+    reach: &[u16],
+) -> Reading
+    requires { ⌜ at ≤ length (now q) ⌝ }
+    ensures { λ r. ⌜ r ≡ termReading (shapeIn (now (catalogue .entry))) limit level (scopeOf (now (reach .entry))) (drop at (now (q .entry))) ⌝ }
+    ensures { λ _. ⌜ now (z .exit) ≡ termTable level (now (q .entry)) at (now (z .entry)) ⌝ }
+{
+    if level == 0 {
+        return Reading::Refused;
+    }
+    match kinds::read(kinds::tail(q, at)) {
+        Record::Constant(_, _, _, _) => leaf(z, at, kinds::record_length(32), true),
+        Record::Attribute(v, a) => {
+            let inside = scope::attribute(catalogue, reach, v, a);
+            leaf(z, at, kinds::record_length(33), inside)
+        }
+        Record::Aggregate(f, v, r, a) => {
+            if !kinds::is_function(f) {
+                return Reading::Refused;
+            }
+            let k = kinds::record_length(34);
+            let inner = aggregate(q, z, at + k, level - 1, catalogue, limit, v, r, a);
+            parent(z, at, k, inner)
+        }
+        _ => Reading::Refused,
+    }
+}

@@ -1,0 +1,139 @@
+-- Marks by NOT, AND and OR, and by the rows one after the other.
+use Prim.Native.Nat.{ℕ, _+_, _-_, _≤_, _<_}
+use mathlib.Core.Bool.{Bool, true, false, not, cond, _&&_, _||_}
+use mathlib.Core.List.{List}
+use mathlib.Core.Path.{_≡_, refl, sym, ap, ap₂, _∙_, subst}
+use native.Mathlib.Omega.{arith}
+use lib.Dec.{eqb}
+use lib.IntN.{ℤ}
+use lib.ListN.{length, getD, drop, replicate}
+use Rattle.model.specs.Lists.{update}
+use Rattle.model.specs.Syntax.{Condition}
+use Rattle.model.specs.Meaning.{Assignment}
+use Rattle.kinds.specs.Tables.{recordLength}
+use Rattle.kinds.specs.Record.{recordAt}
+use Rattle.kinds.specs.declared.Record.{Record}
+use Rattle.kinds.specs.declared.Record.the-variants as R
+use Rattle.sizes.specs.Decode.{first, second, conditionBy, decode, decodeT}
+use Rattle.sizes.specs.Parts.{rangesAt}
+use Rattle.walks.specs.declared.Walk.{Walk}
+use Rattle.walks.specs.Walks.{rowsBy}
+use Rattle.evaluator.specs.Recalled.{holdsBy}
+use Rattle.evaluator.specs.Evaluation.{assigned}
+use Rattle.conjuncts.specs.Stages.{Planned}
+use Rattle.aggregates.proofs.Taking.{getD-same}
+use Rattle.judges.specs.Marked.{Marked, turned, tupleOf, judgedOn}
+use Rattle.judges.proofs.Steps.{rowTest, marked-same, marked-then}
+use Rattle.judges.proofs.Terms.{condition-is}
+
+turned-yes : (w : Bool) → w ≡ turned w true
+turned-yes true = refl
+turned-yes false = refl
+
+turned-turned : (w b : Bool) → turned (not w) b ≡ turned w (not b)
+turned-turned true b = refl
+turned-turned false true = refl
+turned-turned false false = refl
+
+turned-away : (w b : Bool) → turned (not w) b ≡ not (turned w b)
+turned-away true b = refl
+turned-away false true = refl
+turned-away false false = refl
+
+neither : (a b : Bool) → not (a && b) ≡ not a || not b
+neither true b = refl
+neither false b = refl
+
+neither-or : (a b : Bool) → not (a || b) ≡ not a && not b
+neither-or true b = refl
+neither-or false b = refl
+
+or-swap : (a b : Bool) → a || b ≡ b || a
+or-swap true true = refl
+or-swap true false = refl
+or-swap false true = refl
+or-swap false false = refl
+
+left-out : (a b : Bool) (m : ℕ) → m ≡ cond (not a || not b) 1 0 → eqb m 0 ≡ a && b
+left-out true true m e = ap (λ n. eqb n 0) e
+left-out true false m e = ap (λ n. eqb n 0) e
+left-out false b m e = ap (λ n. eqb n 0) e
+
+-- a planned table marks as the condition does
+pub planned-marks : (t : List ℕ) (xs : List ℤ) (q z ws : List ℕ) (vs m : List ℤ) (e : List ℕ) (l : ℕ) (x : Walk) (w : Bool) (n : ℕ) (ms y : List ℕ) → Planned t xs q z ws vs m (decode l (drop 0 q) (drop 0 z)) (rangesAt 0 q) → Marked (rowTest t xs q z ws vs m e x w) n ms y → Marked (judgedOn l q z ws vs m e x w) n ms y
+unfolding judgedOn rangesAt
+planned-marks t xs q z ws vs m e l x w n ms y p h = marked-same h refl (λ i k. ap (turned w) (p .whole (update (assigned vs e) 0 (tupleOf vs x i))))
+
+module _ (q z ws : List ℕ) (vs m : List ℤ) (e : List ℕ) (x : Walk) where
+  -- the two conditions under AND or OR
+  abbrev pub one : ℕ → Bool → ℕ → Bool
+  one l w i = judgedOn l (drop (first q) q) (drop (first q) z) ws vs m e x w i
+
+  abbrev pub two : ℕ → Bool → ℕ → Bool
+  two l w i = judgedOn l (drop (second q z) q) (drop (second q z) z) ws vs m e x w i
+
+  module _ (l : ℕ) (r : Record) (nz : l ≡ 0 → ⊥) (er : r ≡ recordAt q) where
+    opened : (w : Bool) (i : ℕ) (k : Record) → r ≡ k → judgedOn l q z ws vs m e x w i ≡ turned w (holdsBy m (conditionBy k (λ x y. decode (l - 1) x y) (λ x y. decodeT (l - 1) x y) q z) (rowsBy ws vs) (update (assigned vs e) 0 (tupleOf vs x i)))
+    unfolding judgedOn
+    opened w i k h = ap (λ (c : Condition). turned w (holdsBy m c (rowsBy ws vs) (update (assigned vs e) 0 (tupleOf vs x i)))) (sym (condition-is m q l r nz er z) ∙ ap (λ (s : Record). conditionBy s (λ x y. decode (l - 1) x y) (λ x y. decodeT (l - 1) x y) q z) h)
+
+    -- whether the first, and the second, holds with row i
+    abbrev fst : ℕ → Bool
+    fst i = holdsBy m (decode (l - 1) (drop (first q) q) (drop (first q) z)) (rowsBy ws vs) (update (assigned vs e) 0 (tupleOf vs x i))
+
+    abbrev snd : ℕ → Bool
+    snd i = holdsBy m (decode (l - 1) (drop (second q z) q) (drop (second q z) z)) (rowsBy ws vs) (update (assigned vs e) 0 (tupleOf vs x i))
+
+    pub true-is : r ≡ R.True → (w : Bool) (i : ℕ) → w ≡ judgedOn l q z ws vs m e x w i
+    unfolding holdsBy
+    true-is h w i = turned-yes w ∙ sym (opened w i R.True h)
+
+    pub not-is : r ≡ R.Not → (w : Bool) (i : ℕ) → one (l - 1) (not w) i ≡ judgedOn l q z ws vs m e x w i
+    unfolding holdsBy judgedOn
+    not-is h w i = turned-turned w _ ∙ sym (opened w i R.Not h)
+
+    pub and-is : r ≡ R.And → (w : Bool) → w ≡ true → (i : ℕ) → one (l - 1) true i && two (l - 1) true i ≡ judgedOn l q z ws vs m e x w i
+    unfolding holdsBy judgedOn
+    and-is h w ew i = sym (ap (λ b. judgedOn l q z ws vs m e x b i) ew ∙ opened true i R.And h)
+
+    pub and-not : r ≡ R.And → (w : Bool) → w ≡ false → (i : ℕ) → one (l - 1) false i || two (l - 1) false i ≡ judgedOn l q z ws vs m e x w i
+    unfolding holdsBy judgedOn
+    and-not h w ew i = sym (ap (λ b. judgedOn l q z ws vs m e x b i) ew ∙ opened false i R.And h ∙ neither (fst i) (snd i))
+
+    pub or-is : r ≡ R.Or → (w : Bool) → w ≡ true → (i : ℕ) → one (l - 1) true i || two (l - 1) true i ≡ judgedOn l q z ws vs m e x w i
+    unfolding holdsBy judgedOn
+    or-is h w ew i = sym (ap (λ b. judgedOn l q z ws vs m e x b i) ew ∙ opened true i R.Or h)
+
+    pub or-not : r ≡ R.Or → (w : Bool) → w ≡ false → (i : ℕ) → one (l - 1) false i && two (l - 1) false i ≡ judgedOn l q z ws vs m e x w i
+    unfolding holdsBy judgedOn
+    or-not h w ew i = sym (ap (λ b. judgedOn l q z ws vs m e x b i) ew ∙ opened false i R.Or h ∙ neither-or (fst i) (snd i))
+
+  pub under-first : (l : ℕ) (w : Bool) (i k a : ℕ) (x₁ y₁ : List ℕ) → k ≡ getD q 0 0 → a ≡ recordLength k → x₁ ≡ drop a q → y₁ ≡ drop a z → judgedOn l x₁ y₁ ws vs m e x w i ≡ one l w i
+  under-first l w i k a x₁ y₁ ek ea e₁ e₂ = let f = ea ∙ ap recordLength ek in ap₂ (λ (u v : List ℕ). judgedOn l u v ws vs m e x w i) (e₁ ∙ ap (λ n. drop n q) f) (e₂ ∙ ap (λ n. drop n z) f)
+
+  -- what two calls mark, in either order
+  module _ (l : ℕ) (w : Bool) (n k a s : ℕ) (x₁ y₁ x₂ y₂ : List ℕ) (ek : k ≡ getD q 0 0) (ea : a ≡ recordLength k) (es : s ≡ getD z a 0) (e₁ : x₁ ≡ drop a q) (e₂ : y₁ ≡ drop a z) (e₃ : x₂ ≡ drop (a + s) q) (e₄ : y₂ ≡ drop (a + s) z) where
+    at-first : a ≡ first q
+    at-first = ea ∙ ap recordLength ek
+
+    at-second : a + s ≡ second q z
+    at-second = ap (λ n. a + n) es ∙ ap (λ n. n + getD z n 0) at-first
+
+    is-one : (i : ℕ) → judgedOn l x₁ y₁ ws vs m e x w i ≡ one l w i
+    is-one i = ap₂ (λ (u v : List ℕ). judgedOn l u v ws vs m e x w i) (e₁ ∙ ap (λ n. drop n q) at-first) (e₂ ∙ ap (λ n. drop n z) at-first)
+
+    is-two : (i : ℕ) → judgedOn l x₂ y₂ ws vs m e x w i ≡ two l w i
+    is-two i = ap₂ (λ (u v : List ℕ). judgedOn l u v ws vs m e x w i) (e₃ ∙ ap (λ n. drop n q) at-second) (e₄ ∙ ap (λ n. drop n z) at-second)
+
+    pub in-order : (d ms y t : List ℕ) → d ≡ e → Marked (judgedOn l x₁ y₁ ws vs m e x w) n ms y → Marked (judgedOn l x₂ y₂ ws vs m d x w) n y t → Marked (λ i. one l w i || two l w i) n ms t
+    in-order d ms y t ed h k = marked-same (marked-then h (subst (λ (u : List ℕ). Marked (judgedOn l x₂ y₂ ws vs m u x w) n y t) ed k)) refl (λ i g. ap₂ _||_ (is-one i) (is-two i))
+
+    pub swapped : (d ms y t : List ℕ) → d ≡ e → Marked (judgedOn l x₂ y₂ ws vs m e x w) n ms y → Marked (judgedOn l x₁ y₁ ws vs m d x w) n y t → Marked (λ i. one l w i || two l w i) n ms t
+    swapped d ms y t ed h k = marked-same (marked-then h (subst (λ (u : List ℕ). Marked (judgedOn l x₁ y₁ ws vs m u x w) n y t) ed k)) refl (λ i g. ap₂ _||_ (is-two i) (is-one i) ∙ or-swap (two l w i) (one l w i))
+
+  -- what neither leaves out
+  pub both-marked : (l : ℕ) (w : Bool) (n k : ℕ) (others ms y : List ℕ) → Marked (λ i. one l (not w) i || two l (not w) i) n (replicate k 0) others → Marked (λ i. eqb (getD others i 0) 0) n ms y → Marked (λ i. one l w i && two l w i) n ms y
+  unfolding judgedOn
+  both-marked l w n k others ms y h g =
+      marked-same g refl (λ i j. left-out (one l w i) (two l w i) (getD others i 0)
+      (h .row i j ∙ ap₂ (λ (b : Bool) (o : ℕ). cond b 1 o) (ap₂ _||_ (turned-away w _) (turned-away w _)) (getD-same {A = ℕ} k 0 i)))

@@ -1,0 +1,4 @@
+pub mod Steps
+pub mod Terms
+pub mod Conditions
+pub mod Shorts

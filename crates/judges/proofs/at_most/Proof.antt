@@ -1,0 +1,23 @@
+use mathlib.Core.Path.{sym, ap, _∙_}
+use mathlib.Core.Bool.{Bool, _||_}
+use lib.Signed.{leZ}
+use Rattle.numbers.proofs.Signed.{test-is}
+use borrow.Author.Needs.{needs}
+use Rattle.judges.proofs.at_most.Statement.{statement}
+use Rattle.judges.proofs.at_most.Tie as tie
+use Rattle.judges.proofs.at_most.Reads as reads
+use Rattle.judges.proofs.at_most.Lts as lts
+
+-- src/lib.rt:43:1
+returns : tie.Need-returns
+returns c = search needs
+
+-- src/lib.rt:43:1
+returns-2 : tie.Need-returns-2
+returns-2 c =
+    let args = c .before .args in
+    let fits = c .before .fits in
+    test-is leZ (args .a) (args .b) (fits .a) (fits .b) ∙ sym (ap (λ (b : Bool). b || leZ (args .a) (args .b)) (c .if1 .left))
+
+pub at-most-spec : {M : Type 1} → statement M
+at-most-spec = tie.close (tie.spec returns returns-2)

@@ -1,0 +1,43 @@
+use mathlib.Core.Path.{ap, ap₂, _∙_}
+use mathlib.Core.Bool.{Bool, _&&_, _||_}
+use lib.Signed.{leZ}
+use Rattle.numbers.proofs.Signed.{test-is}
+use Rattle.judges.specs.Marked.{turned}
+use borrow.Author.Needs.{needs}
+use Rattle.judges.proofs.between.Statement.{statement}
+use Rattle.judges.proofs.between.Tie as tie
+use Rattle.judges.proofs.between.Reads as reads
+use Rattle.judges.proofs.between.Lts as lts
+use Rattle.judges.proofs.at_most.Reads as at-most-reads
+use Rattle.judges.proofs.both.Reads as both-reads
+use Rattle.judges.proofs.turned.Reads as turned-reads
+
+-- src/lib.rt:58:9
+at-most-requires : tie.Need-at-most-requires
+at-most-requires c κs = search needs
+
+-- src/lib.rt:59:9
+at-most-requires-2 : tie.Need-at-most-requires-2
+at-most-requires-2 c κs = search needs
+
+-- src/lib.rt:60:20
+both-requires : tie.Need-both-requires
+both-requires c κs = search needs
+
+-- src/lib.rt:60:5
+turned-requires : tie.Need-turned-requires
+turned-requires c κs = search needs
+
+-- src/lib.rt:55:1
+returns : tie.Need-returns
+returns c =
+    let c₄ = c .before .before .before .before in let args = c₄ .args in let fits = c₄ .fits in
+    let n = args .n in let v = args .v in
+    c .turned .ensures
+    ∙ ap (turned (args .wanted))
+    (c .before .both .ensures
+    ∙ ap₂ _&&_ (c .before .before .before .at-most .ensures ∙ ap (λ (b : Bool). args .above || b) (test-is leZ n v (fits .n) (fits .v))) (c .before .before .at-most2 .ensures ∙ ap (λ (b : Bool). args .below || b) (test-is leZ v n (fits .v) (fits .n))))
+
+pub between-spec : {M : Type 1} → statement M
+between-spec =
+    tie.close (tie.spec at-most-requires at-most-requires-2 both-requires turned-requires returns)

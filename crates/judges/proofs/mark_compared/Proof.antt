@@ -1,0 +1,141 @@
+use denote.Ref.{now}
+use mathlib.Core.Path.{refl}
+use Rattle.model.proofs.Tests.{clash, not-no}
+use Rattle.judges.proofs.Steps.{marked-same}
+use Rattle.judges.proofs.Terms.{compared-is, not-zero, not-one, eq-zero}
+use borrow.Author.Needs.{needs}
+use Rattle.judges.proofs.mark_compared.Statement.{statement}
+use Rattle.judges.proofs.mark_compared.Tie as tie
+use Rattle.judges.proofs.mark_compared.Reads as reads
+use Rattle.judges.proofs.mark_compared.Lts as lts
+use Rattle.judges.proofs.known_at.Reads as known-at-reads
+use Rattle.judges.proofs.mark_against.Reads as mark-against-reads
+use Rattle.kinds.proofs.byte.Reads as byte-reads
+use Rattle.kinds.proofs.read.Reads as read-reads
+use Rattle.kinds.proofs.record_length.Reads as record-length-reads
+use Rattle.kinds.proofs.size_at.Reads as size-at-reads
+use Rattle.kinds.proofs.tail.Reads as tail-reads
+
+-- src/lib.rt:233:9
+returns : tie.Need-returns
+returns c = (λ h. clash h, λ h. refl)
+
+-- src/lib.rt:235:37
+read-requires : tie.Need-read-requires
+read-requires c κs = search needs
+
+-- src/lib.rt:235:25
+enum-known-operator : tie.Need-enum-known-operator
+enum-known-operator c = search needs
+
+-- src/lib.rt:236:9
+returns-2 : tie.Need-returns-2
+returns-2 c = (λ h. clash h, λ h. refl)
+
+-- src/lib.rt:238:34
+byte-requires : tie.Need-byte-requires
+byte-requires c κs = search needs
+
+-- src/lib.rt:238:9
+record-length-requires : tie.Need-record-length-requires
+record-length-requires c κs = search needs
+
+-- src/lib.rt:239:62
+tail-requires : tie.Need-tail-requires
+tail-requires c κs = search needs
+
+-- src/lib.rt:239:50
+read-requires-2 : tie.Need-read-requires-2
+read-requires-2 c κs = search needs
+
+-- src/lib.rt:239:27
+enum-known-variable : tie.Need-enum-known-variable
+enum-known-variable c = search needs
+
+-- src/lib.rt:240:9
+returns-3 : tie.Need-returns-3
+returns-3 c = (λ h. clash h, λ h. refl)
+
+-- src/lib.rt:243:9
+returns-4 : tie.Need-returns-4
+returns-4 c = (λ h. clash h, λ h. refl)
+
+-- src/lib.rt:245:17
+size-at-requires : tie.Need-size-at-requires
+size-at-requires c κs = search needs
+
+-- src/lib.rt:245:13
+add-b : tie.Need-add-b
+add-b c = search needs
+
+-- src/lib.rt:246:22
+tail-requires-2 : tie.Need-tail-requires-2
+tail-requires-2 c κs = search needs
+
+-- src/lib.rt:246:41
+sub-known-at : tie.Need-sub-known-at
+sub-known-at c = search needs
+
+-- src/lib.rt:246:9
+known-at-requires : tie.Need-known-at-requires
+known-at-requires c κs = search needs
+
+-- src/lib.rt:249:9
+returns-5 : tie.Need-returns-5
+returns-5 c = (λ h. clash h, λ h. refl)
+
+-- src/lib.rt:252:5
+mark-against-requires : tie.Need-mark-against-requires
+mark-against-requires c κs =
+    let c₃ = c .before .before .before in let known-at = c₃ .known-at in
+    let c₂₂ = c₃ .before .before .before .before .before .before .before .before .before .before .before .before .before .before .before .before .before .before .before in let pre = c₂₂ .pre in
+    (pre .0, pre .1, known-at .ensures .1, pre .2)
+
+-- src/lib.rt:218:1
+same-length : tie.Need-same-length
+same-length c = search needs
+
+-- src/lib.rt:218:1
+returns-6 : tie.Need-returns-6
+returns-6 c =
+    let c₀ = c .before .before in let c₃ = c₀ .before .before .before in let if3 = c₃ .if3 in
+    let c₄ = c₃ .before in let known-at = c₄ .known-at in
+    let c₅ = c₄ .before in let tail2 = c₅ .tail2 in
+    let c₆ = c₅ .before in let size-at = c₆ .size-at in
+    let c₇ = c₆ .before in let if2 = c₇ .if2 in
+    let c₉ = c₇ .before .before in let variable = c₉ .variable in
+    let c₁₁ = c₉ .before .before in let read2 = c₁₁ .read2 in
+    let c₁₂ = c₁₁ .before in let tail = c₁₂ .tail in
+    let c₁₃ = c₁₂ .before in let record-length = c₁₃ .record-length in
+    let c₁₄ = c₁₃ .before in let byte = c₁₄ .byte in
+    let c₁₆ = c₁₄ .before .before in let operator = c₁₆ .operator in
+    let c₁₈ = c₁₆ .before .before in let read = c₁₈ .read in
+    let c₁₉ = c₁₈ .before in let if1 = c₁₉ .if1 in
+    let c₂₃ = c₁₉ .before .before .before .before in let args = c₂₃ .args in
+    let values = now (args .values) in let memo = now (args .memo) in let q = now (args .q) in let z = now (args .z) in
+    (λ h ws e. marked-same (c₀ .mark-against .ensures .0 h) refl (λ i l. compared-is memo q (args .level) _ (not-zero (args .level) (if1 .left)) (read .ensures) _ _ _ _ _ _ _ _ _ (known-at .result .value) z (operator .given .1) (byte .ensures) (record-length .ensures .0) (size-at .ensures .0) (tail .ensures) (tail2 .ensures) (not-one (args .level) (if1 .left)) (read2 .ensures) (variable .given .1) (eq-zero _ (if2 .left)) (known-at .ensures .0 (not-no _ (if3 .left))) ws values e (args .walk) (args .wanted) i), c₀ .mark-against .ensures .1)
+
+pub mark-compared-spec : {M : Type 1} → statement M
+mark-compared-spec =
+    tie.close
+    (tie.spec
+    returns
+    read-requires
+    enum-known-operator
+    returns-2
+    byte-requires
+    record-length-requires
+    tail-requires
+    read-requires-2
+    enum-known-variable
+    returns-3
+    returns-4
+    size-at-requires
+    add-b
+    tail-requires-2
+    sub-known-at
+    known-at-requires
+    returns-5
+    mark-against-requires
+    same-length
+    returns-6)

@@ -1,0 +1,104 @@
+use Rattle.model.specs.Catalogue.{catalogueOf, shapeOf}
+use denote.Ref.{now}
+use Rattle.permits.proofs.Grants.{list-end, list-full, list-unread, one-room, list-refused, list-more}
+use native.Mathlib.Omega.{arith}
+use borrow.Author.Needs.{needs}
+use Prim.Native.Nat.{ℕ, _<_}
+use borrow.Fn.Kinds.{In}
+use borrow.Fn.PlainCycle.{Measures, is, falls, and}
+use Rattle.permits.proofs.rest.Reads as rest
+use Rattle.permits.proofs.rest.Kinds as rest-kinds
+use Rattle.permits.proofs.+rest.Lts-rest as rest-lts
+use Rattle.permits.proofs.both.Reads as both-reads
+use Rattle.permits.proofs.permit.Reads as permit-reads
+use Rattle.permits.proofs.+rest.{statement}
+use Rattle.permits.proofs.+rest.Tie.{close}
+
+abbrev μ-rest : Measures 3 rest-kinds.ps ℕ
+μ-rest κs a = a .1 .1 .0
+
+abbrev rest-at : ℕ → In 3 rest-kinds.ps
+rest-at t = and 3 rest-kinds.ps (is 3 rest-kinds.ps μ-rest t) rest.Pre
+
+abbrev rest-below : ℕ → In 3 rest-kinds.ps
+rest-below t = and 3 rest-kinds.ps (falls 3 rest-kinds.ps _<_ μ-rest t) rest.Pre
+
+abbrev rest-claims : ℕ → rest-lts.Claims
+rest-claims t = (permit-reads.Asked, permit-reads.Learnt, rest-below t, rest.Post, both-reads.Asked, both-reads.Learnt)
+
+rest-returns : (t : ℕ) → rest-lts.Need-returns (rest-claims t) (rest-at t) rest.Post
+rest-returns t c = list-end _ (now (c .before .before .before .before .args .list)) (c .before .before .before .before .args .at) (c .before .before .before .before .args .left) (c .if1 .taken)
+
+rest-returns-2 : (t : ℕ) → rest-lts.Need-returns-2 (rest-claims t) (rest-at t) rest.Post
+rest-returns-2 t c = list-full (shapeOf (catalogueOf (now (c .before .before .before .before .before .args .catalogue)))) (now (c .before .before .before .before .before .args .list)) (c .before .before .before .before .before .args .at) (c .before .before .before .before .before .args .left) (c .before .if1 .left) (c .if2 .taken)
+
+rest-permit-requires : (t : ℕ) → rest-lts.Need-permit-requires (rest-claims t) (rest-at t) rest.Post
+rest-permit-requires t c κs = search needs
+
+rest-enum-known-n : (t : ℕ) → rest-lts.Need-enum-known-n (rest-claims t) (rest-at t) rest.Post
+rest-enum-known-n t c = search needs
+
+rest-enum-told : (t : ℕ) → rest-lts.Need-enum-told (rest-claims t) (rest-at t) rest.Post
+rest-enum-told t c = search needs
+
+rest-same-length : (t : ℕ) → rest-lts.Need-same-length (rest-claims t) (rest-at t) rest.Post
+rest-same-length t c = search needs
+
+rest-returns-3 : (t : ℕ) → rest-lts.Need-returns-3 (rest-claims t) (rest-at t) rest.Post
+rest-returns-3 t c = list-unread _ (now (c .before .before .before .before .before .before .before .before .before .before .before .args .list)) (c .before .before .before .before .before .before .before .before .before .before .before .args .at) (c .before .before .before .before .before .before .before .before .before .before .before .args .left) (c .before .before .before .before .before .before .before .if1 .left) (c .before .before .before .before .permit .result) (c .before .before .before .before .permit .ensures) (c .enum-told .given .1)
+
+rest-add-rest : (t : ℕ) → rest-lts.Need-add-rest (rest-claims t) (rest-at t) rest.Post
+rest-add-rest t c = omega (arith, one-room _ (now (c .before .before .before .before .before .before .before .before .before .before .before .before .args .list)) (c .before .before .before .before .before .before .before .before .before .before .before .before .args .at) (c .before .before .before .before .before .before .before .before .before .before .before .before .args .left) (c .before .before .before .before .before .before .before .before .if1 .left) (c .before .before .before .before .before .permit .result) (c .before .before .before .before .before .permit .ensures) _ _ _ (c .before .n .given .1), c .before .before .before .before .before .before .before .before .before .before .before .before .good)
+
+rest-sub-rest : (t : ℕ) → rest-lts.Need-sub-rest (rest-claims t) (rest-at t) rest.Post
+rest-sub-rest t c = search needs
+
+rest-rest-requires : (t : ℕ) → rest-lts.Need-rest-requires (rest-claims t) (rest-at t) rest.Post
+rest-rest-requires t c κs = (omega (arith, c .before .before .before .before .before .before .before .before .before .before .before .before .before .pre .0, c .before .before .before .before .before .before .before .before .if2 .left), (c .before .before .before .before .before .before .before .before .before .before .before .before .before .pre .1 .0, one-room _ (now (c .before .before .before .before .before .before .before .before .before .before .before .before .before .args .list)) (c .before .before .before .before .before .before .before .before .before .before .before .before .before .args .at) (c .before .before .before .before .before .before .before .before .before .before .before .before .before .args .left) (c .before .before .before .before .before .before .before .before .before .if1 .left) (c .before .before .before .before .before .before .permit .result) (c .before .before .before .before .before .before .permit .ensures) _ _ _ (c .before .before .n .given .1)))
+
+rest-enum-known-others-known : (t : ℕ) → rest-lts.Need-enum-known-others-known (rest-claims t) (rest-at t) rest.Post
+rest-enum-known-others-known t c = search needs
+
+rest-enum-told-2 : (t : ℕ) → rest-lts.Need-enum-told-2 (rest-claims t) (rest-at t) rest.Post
+rest-enum-told-2 t c = search needs
+
+rest-same-length-2 : (t : ℕ) → rest-lts.Need-same-length-2 (rest-claims t) (rest-at t) rest.Post
+rest-same-length-2 t c = search needs
+
+rest-returns-4 : (t : ℕ) → rest-lts.Need-returns-4 (rest-claims t) (rest-at t) rest.Post
+rest-returns-4 t c = list-refused _ (now (c .before .before .before .before .before .before .before .before .before .before .before .before .before .before .before .before .before .before .args .list)) (c .before .before .before .before .before .before .before .before .before .before .before .before .before .before .before .before .before .before .args .at) (c .before .before .before .before .before .before .before .before .before .before .before .before .before .before .before .before .before .before .args .left) (c .before .before .before .before .before .before .before .before .before .before .before .before .before .before .if1 .left) (c .before .before .before .before .before .before .before .before .before .before .before .permit .result) (c .before .before .before .before .before .before .before .before .before .before .before .permit .ensures) _ _ _ (c .before .before .before .before .before .before .before .n .given .1) (c .before .before .before .before .rest .result) (c .before .before .before .before .rest .ensures) (c .enum-told2 .given .1)
+
+rest-both-requires : (t : ℕ) → rest-lts.Need-both-requires (rest-claims t) (rest-at t) rest.Post
+rest-both-requires t c κs = search needs
+
+rest-both-requires-2 : (t : ℕ) → rest-lts.Need-both-requires-2 (rest-claims t) (rest-at t) rest.Post
+rest-both-requires-2 t c κs = search needs
+
+rest-same-length-3 : (t : ℕ) → rest-lts.Need-same-length-3 (rest-claims t) (rest-at t) rest.Post
+rest-same-length-3 t c = search needs
+
+rest-returns-5 : (t : ℕ) → rest-lts.Need-returns-5 (rest-claims t) (rest-at t) rest.Post
+rest-returns-5 t c = list-more _ (now (c .before .before .before .before .before .before .before .before .before .before .before .before .before .before .before .before .before .before .before .before .before .args .list)) (c .before .before .before .before .before .before .before .before .before .before .before .before .before .before .before .before .before .before .before .before .before .args .at) (c .before .before .before .before .before .before .before .before .before .before .before .before .before .before .before .before .before .before .before .before .before .args .left) (c .before .before .before .before .before .before .before .before .before .before .before .before .before .before .before .before .before .if1 .left) (c .before .before .before .before .before .before .before .before .before .before .before .before .before .before .permit .result) (c .before .before .before .before .before .before .before .before .before .before .before .before .before .before .permit .ensures) _ _ _ (c .before .before .before .before .before .before .before .before .before .before .n .given .1) (c .before .before .before .before .before .before .before .rest .result) (c .before .before .before .before .before .before .before .rest .ensures) (c .before .before .before .before .before .before .before .before .before .before .before .before .before .before .before .before .if2 .left) _ _ (c .before .before .before .others-known .given .1) _ _ (c .before .both .ensures) (c .both2 .ensures)
+
+pub +rest-spec : {M : Type 1} → statement M
++rest-spec = close μ-rest λ t. rest-lts.spec (rest-claims t)
+    (rest-at t)
+    rest.Post
+    (rest-returns t)
+    (rest-returns-2 t)
+    (rest-permit-requires t)
+    (rest-enum-known-n t)
+    (rest-enum-told t)
+    (rest-same-length t)
+    (rest-returns-3 t)
+    (rest-add-rest t)
+    (rest-sub-rest t)
+    (rest-rest-requires t)
+    (rest-enum-known-others-known t)
+    (rest-enum-told-2 t)
+    (rest-same-length-2 t)
+    (rest-returns-4 t)
+    (rest-both-requires t)
+    (rest-both-requires-2 t)
+    (rest-same-length-3 t)
+    (rest-returns-5 t)

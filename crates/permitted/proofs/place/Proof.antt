@@ -1,0 +1,24 @@
+use lib.ListN.{List·getD-eq-default}
+use mathlib.Core.Path.{sym}
+use native.Mathlib.Omega.{arith}
+use denote.Ref.{now}
+use borrow.Author.Needs.{needs}
+use Rattle.permitted.proofs.place.Statement.{statement}
+use Rattle.permitted.proofs.place.Tie as tie
+use Rattle.permitted.proofs.place.Reads as reads
+use Rattle.permitted.proofs.place.Lts as lts
+
+mul-result : tie.Need-mul-result
+mul-result c = search needs
+
+shared-slice-read-result : tie.Need-shared-slice-read-result
+shared-slice-read-result c = search needs
+
+returns : tie.Need-returns
+returns c = search needs
+
+returns-2 : tie.Need-returns-2
+returns-2 c = sym (List·getD-eq-default (now (c .before .args .places)) 0 (c .if1 .left))
+
+pub place-spec : {M : Type 1} → statement M
+place-spec = tie.close (tie.spec mul-result shared-slice-read-result returns returns-2)

@@ -1,0 +1,441 @@
+// The permitted rows of each variable of a query, as lists of row numbers in its table of walks. Only permits' conditions are computed on a row that
+// is not permitted, before anything of the query runs. Variables over one relation with the same permits share a list.
+use scans::Bound;
+use walks::Walk;
+ghost use mathlib.Core.Path.{_≡_};
+ghost use mathlib.Core.Bool.{true, _&&_};
+ghost use mathlib.Core.List.{map};
+ghost use Prim.Native.Nat.{ℕ, _+_, _*_, _%_, _≤_, _<_};
+ghost use lib.Dec.{eqb};
+ghost use lib.ListN.{length, getD};
+ghost use Rattle.model.specs.Lists.{all, unique, filter, below, Every};
+ghost use Rattle.model.specs.Syntax.{Binding, variables};
+ghost use Rattle.catalogue.specs.Layout.{rowsOf};
+ghost use Rattle.scans.specs.Flat.{boundBy, flatBindings};
+ghost use Rattle.scans.specs.declared.Bound.the-variants.{To, Nothing};
+ghost use Rattle.copier.specs.Guard.{part};
+ghost use Rattle.walks.specs.Walks.{walked, Fits};
+ghost use Rattle.judges.specs.Marked.{Bits, Marked};
+ghost use Rattle.judges.specs.Meets.{meetsBytes, rowOf};
+ghost use Rattle.permitted.specs.Given as G;
+
+fn place(places: &[usize], i: usize) -> usize
+    ensures { λ r. ⌜ r ≡ getD (now (places .entry)) i 0 ⌝ }
+{
+    if i < places.len() { places[i] } else { 0 }
+}
+
+// The bytes of permit k's condition.
+fn part_at<'a>(list: &'a [u8], places: &[usize], k: usize) -> &'a [u8]
+    requires { ⌜ k < 8 ⌝ }
+    ensures { λ r. ⌜ now r ≡ part (now (list .entry)) (now (places .entry)) k ⌝ }
+{
+    let rest = kinds::tail(list, place(places, 2 * k));
+    permits::part(rest, place(places, 2 * k + 1))
+}
+
+// Permit k, if its bit, the mask's lowest, is set.
+fn turn(
+    list: &[u8],
+    places: &[usize],
+    mask: u8,
+    k: usize,
+    catalogue: &[u8],
+    values: &[i32],
+    relation: u8,
+    marks: &mut [u8],
+)
+    requires { ⌜ (k < 8) × (rowsOf (now catalogue) relation ≤ 1024) × (rowsOf (now catalogue) relation ≤ length (now marks)) × Bits (now marks) ⌝ }
+    ensures { λ _. ⌜ Marked (λ i. eqb (mask % 2) 1 && meetsBytes (now (catalogue .entry)) (now (values .entry)) (part (now (list .entry)) (now (places .entry)) k) (rowOf (now (catalogue .entry)) (now (values .entry)) relation i)) (rowsOf (now (catalogue .entry)) relation) (now (marks .entry)) (now (marks .exit)) ⌝ }
+{
+    if mask % 2 != 1 {
+        return;
+    }
+    let q = part_at(list, places, k);
+    judges::judge(q, catalogue, values, relation, marks);
+}
+
+// Marks the rows of a relation that meet the condition of a permit in the mask.
+fn judge_all(
+    list: &[u8],
+    places: &[usize],
+    mask: u8,
+    catalogue: &[u8],
+    values: &[i32],
+    relation: u8,
+    marks: &mut [u8],
+)
+    requires { ⌜ (rowsOf (now catalogue) relation ≤ 1024) × (rowsOf (now catalogue) relation ≤ length (now marks)) × Bits (now marks) ⌝ }
+    ensures { λ _. ⌜ Marked (λ i. G.meetsAny (now (catalogue .entry)) (now (values .entry)) (part (now (list .entry)) (now (places .entry))) mask (rowOf (now (catalogue .entry)) (now (values .entry)) relation i)) (rowsOf (now (catalogue .entry)) relation) (now (marks .entry)) (now (marks .exit)) ⌝ }
+{
+    let mut m = mask;
+    let mut k: usize = 0;
+    while k < 8 {
+        turn(list, places, m, k, catalogue, values, relation, marks);
+        m = m / 2;
+        k += 1;
+    }
+}
+
+fn narrow(x: usize) -> u16
+    requires { ⌜ x ≤ 65535 ⌝ }
+    ensures { λ r. ⌜ r ≡ x ⌝ }
+{
+    x as u16
+}
+
+fn wide(x: u8) -> usize
+    ensures { λ r. ⌜ r ≡ x ⌝ }
+{
+    x as usize
+}
+
+// The number of the row that is met as the i-th of n.
+fn number(latest: bool, n: usize, i: usize) -> usize
+    requires { ⌜ (i < n) × (n ≤ 65535) ⌝ }
+    ensures { λ r. ⌜ (r ≡ G.numberAt latest n i) × (r < n) ⌝ }
+{
+    if latest { n - 1 - i } else { i }
+}
+
+// The numbers of the marked rows, as they are met, from a place of the table on; where they end. Each number is written, and the next one goes over it
+// unless its row is marked: the way is the same for every row.
+fn collect(marks: &[u8], latest: bool, n: usize, walks: &mut [u16], start: usize) -> usize
+    requires { ⌜ (n ≤ length (now marks)) × (n ≤ 65535) × (start + n ≤ length (now walks)) × (length (now walks) ≤ 65535) × Bits (now marks) ⌝ }
+    ensures { λ r. ⌜ G.Listed (filter (λ i. eqb (getD (now (marks .entry)) i 0) 1) (map (G.numberAt latest n) (below n))) start r (now (walks .entry)) (now (walks .exit)) ⌝ }
+    ensures { λ r. ⌜ (start ≤ r) × (r ≤ start + n) ⌝ }
+{
+    let mut at = start;
+    let mut i = 0;
+    while i < n {
+        let row = number(latest, n, i);
+        walks[at] = narrow(row);
+        at += wide(marks[row]);
+        i += 1;
+    }
+    at
+}
+
+// The rows of a relation that meet a permit in the mask, with marks that are lent, cleared.
+fn list_by(
+    list: &[u8],
+    places: &[usize],
+    mask: u8,
+    catalogue: &[u8],
+    values: &[i32],
+    relation: u8,
+    marks: &mut [u8],
+    walks: &mut [u16],
+    start: usize,
+) -> usize
+    requires { ⌜ (rowsOf (now catalogue) relation ≤ 1024) × (rowsOf (now catalogue) relation ≤ length (now marks)) × ((i : ℕ) → getD (now marks) i 0 ≡ 0) × (start + rowsOf (now catalogue) relation ≤ length (now walks)) × (length (now walks) ≤ 65535) ⌝ }
+    ensures { λ r. ⌜ G.Listed (G.numbersFor (now (catalogue .entry)) (now (values .entry)) (part (now (list .entry)) (now (places .entry))) mask relation) start r (now (walks .entry)) (now (walks .exit)) ⌝ }
+    ensures { λ r. ⌜ (start ≤ r) × (r ≤ start + rowsOf (now (catalogue .entry)) relation) ⌝ }
+{
+    judge_all(list, places, mask, catalogue, values, relation, marks);
+    let n = catalogue::rows(catalogue, relation);
+    let latest = catalogue::latest(catalogue, relation);
+    collect(marks, latest, n, walks, start)
+}
+
+fn list_few(
+    list: &[u8],
+    places: &[usize],
+    mask: u8,
+    catalogue: &[u8],
+    values: &[i32],
+    relation: u8,
+    walks: &mut [u16],
+    start: usize,
+) -> usize
+    requires { ⌜ (rowsOf (now catalogue) relation ≤ 16) × (start + rowsOf (now catalogue) relation ≤ length (now walks)) × (length (now walks) ≤ 65535) ⌝ }
+    ensures { λ r. ⌜ G.Listed (G.numbersFor (now (catalogue .entry)) (now (values .entry)) (part (now (list .entry)) (now (places .entry))) mask relation) start r (now (walks .entry)) (now (walks .exit)) ⌝ }
+    ensures { λ r. ⌜ (start ≤ r) × (r ≤ start + rowsOf (now (catalogue .entry)) relation) ⌝ }
+{
+    let mut marks = [0u8; 16];
+    list_by(
+        list,
+        places,
+        mask,
+        catalogue,
+        values,
+        relation,
+        &mut marks,
+        walks,
+        start,
+    )
+}
+
+fn list_many(
+    list: &[u8],
+    places: &[usize],
+    mask: u8,
+    catalogue: &[u8],
+    values: &[i32],
+    relation: u8,
+    walks: &mut [u16],
+    start: usize,
+) -> usize
+    requires { ⌜ (rowsOf (now catalogue) relation ≤ 1024) × (start + rowsOf (now catalogue) relation ≤ length (now walks)) × (length (now walks) ≤ 65535) ⌝ }
+    ensures { λ r. ⌜ G.Listed (G.numbersFor (now (catalogue .entry)) (now (values .entry)) (part (now (list .entry)) (now (places .entry))) mask relation) start r (now (walks .entry)) (now (walks .exit)) ⌝ }
+    ensures { λ r. ⌜ (start ≤ r) × (r ≤ start + rowsOf (now (catalogue .entry)) relation) ⌝ }
+{
+    let mut marks = [0u8; 1024];
+    list_by(
+        list,
+        places,
+        mask,
+        catalogue,
+        values,
+        relation,
+        &mut marks,
+        walks,
+        start,
+    )
+}
+
+// A large array is not cleared for few rows.
+fn list_rows(
+    list: &[u8],
+    places: &[usize],
+    mask: u8,
+    catalogue: &[u8],
+    values: &[i32],
+    relation: u8,
+    walks: &mut [u16],
+    start: usize,
+) -> usize
+    requires { ⌜ (rowsOf (now catalogue) relation ≤ 1024) × (start + rowsOf (now catalogue) relation ≤ length (now walks)) × (length (now walks) ≤ 65535) ⌝ }
+    ensures { λ r. ⌜ G.Listed (G.numbersFor (now (catalogue .entry)) (now (values .entry)) (part (now (list .entry)) (now (places .entry))) mask relation) start r (now (walks .entry)) (now (walks .exit)) ⌝ }
+    ensures { λ r. ⌜ (start ≤ r) × (r ≤ start + rowsOf (now (catalogue .entry)) relation) ⌝ }
+{
+    if catalogue::rows(catalogue, relation) <= 16 {
+        return list_few(
+            list,
+            places,
+            mask,
+            catalogue,
+            values,
+            relation,
+            walks,
+            start,
+        );
+    }
+    list_many(
+        list,
+        places,
+        mask,
+        catalogue,
+        values,
+        relation,
+        walks,
+        start,
+    )
+}
+
+// A variable's walk and key.
+fn enter(walks: &mut [u16], variable: u8, walk: Walk, key: usize)
+    requires { ⌜ Fits walk × (key ≤ 65535) ⌝ }
+    ensures { λ _. ⌜ now (walks .exit) ≡ G.entered (now (walks .entry)) variable walk key ⌝ }
+{
+    allrows::put(walks, variable, walk);
+    allrows::store(walks, 8 * wide(variable) + 5, key);
+}
+
+fn key_of(relation: u8, mask: u8) -> usize
+    ensures { λ r. ⌜ (r ≡ G.keyOf relation mask) × (r ≤ 65535) ⌝ }
+{
+    256 * wide(relation) + wide(mask)
+}
+
+// A variable with the key, 8 where there is none.
+fn with_key(walks: &[u16], key: usize) -> usize
+    ensures { λ r. ⌜ (r ≤ 8) × (r < 8 → getD (now (walks .entry)) (8 * r + 5) 0 ≡ key) ⌝ }
+{
+    let mut v = 0;
+    while v < 8 {
+        if kinds::size_at(walks, 8 * v + 5) == key {
+            return v;
+        }
+        v += 1;
+    }
+    8
+}
+
+// A list of its own for a variable; where the next one can start.
+fn give_new(
+    list: &[u8],
+    places: &[usize],
+    mask: u8,
+    catalogue: &[u8],
+    values: &[i32],
+    variable: u8,
+    relation: u8,
+    next: usize,
+    walks: &mut [u16],
+) -> usize
+    requires { ⌜ ((mask ≡ 0 → ⊥) × (variable < 8) × (rowsOf (now catalogue) relation ≤ 1024)) × ((next + rowsOf (now catalogue) relation ≤ length (now walks)) × (length (now walks) ≤ 65535)) × G.Keyed (now catalogue) (now values) (part (now list) (now places)) (now walks) next ⌝ }
+    ensures { λ r. ⌜ G.Stepped (now (catalogue .entry)) (now (values .entry)) (part (now (list .entry)) (now (places .entry))) variable (G.rowsFor (now (catalogue .entry)) (now (values .entry)) (part (now (list .entry)) (now (places .entry))) mask relation) (rowsOf (now (catalogue .entry)) relation) next r (now (walks .entry)) (now (walks .exit)) ⌝ }
+{
+    let end = list_rows(list, places, mask, catalogue, values, relation, walks, next);
+    let all = allrows::whole(catalogue, relation);
+    let walk = Walk {
+        start: next,
+        count: end - next,
+        base: all.base,
+        width: all.width,
+    };
+    enter(walks, variable, walk, key_of(relation, mask));
+    end
+}
+
+fn byte_of(x: usize) -> u8
+    requires { ⌜ x < 256 ⌝ }
+    ensures { λ r. ⌜ r ≡ x ⌝ }
+{
+    x as u8
+}
+
+// The list of another variable with the same key, or one of its own.
+fn give_listed(
+    list: &[u8],
+    places: &[usize],
+    mask: u8,
+    catalogue: &[u8],
+    values: &[i32],
+    variable: u8,
+    relation: u8,
+    next: usize,
+    walks: &mut [u16],
+) -> usize
+    requires { ⌜ ((mask ≡ 0 → ⊥) × (variable < 8) × (rowsOf (now catalogue) relation ≤ 1024)) × ((next + rowsOf (now catalogue) relation ≤ length (now walks)) × (length (now walks) ≤ 65535)) × G.Keyed (now catalogue) (now values) (part (now list) (now places)) (now walks) next ⌝ }
+    ensures { λ r. ⌜ G.Stepped (now (catalogue .entry)) (now (values .entry)) (part (now (list .entry)) (now (places .entry))) variable (G.rowsFor (now (catalogue .entry)) (now (values .entry)) (part (now (list .entry)) (now (places .entry))) mask relation) (rowsOf (now (catalogue .entry)) relation) next r (now (walks .entry)) (now (walks .exit)) ⌝ }
+{
+    let key = key_of(relation, mask);
+    let other = with_key(walks, key);
+    if other < 8 {
+        let walk = walks::walk_of(walks, byte_of(other));
+        enter(walks, variable, walk, key);
+        return next;
+    }
+    give_new(
+        list,
+        places,
+        mask,
+        catalogue,
+        values,
+        variable,
+        relation,
+        next,
+        walks,
+    )
+}
+
+// Where 33 has passed, a mask of 0 is a workspace's, of which all rows are permitted.
+fn give(
+    list: &[u8],
+    places: &[usize],
+    mask: u8,
+    catalogue: &[u8],
+    values: &[i32],
+    variable: u8,
+    relation: u8,
+    next: usize,
+    walks: &mut [u16],
+) -> usize
+    requires { ⌜ ((variable < 8) × (rowsOf (now catalogue) relation ≤ 1024)) × ((next + rowsOf (now catalogue) relation ≤ length (now walks)) × (length (now walks) ≤ 65535)) × G.Keyed (now catalogue) (now values) (part (now list) (now places)) (now walks) next ⌝ }
+    ensures { λ r. ⌜ G.Stepped (now (catalogue .entry)) (now (values .entry)) (part (now (list .entry)) (now (places .entry))) variable (G.rowsFor (now (catalogue .entry)) (now (values .entry)) (part (now (list .entry)) (now (places .entry))) mask relation) (rowsOf (now (catalogue .entry)) relation) next r (now (walks .entry)) (now (walks .exit)) ⌝ }
+{
+    if mask == 0 {
+        enter(walks, variable, allrows::whole(catalogue, relation), 0);
+        return next;
+    }
+    give_listed(
+        list,
+        places,
+        mask,
+        catalogue,
+        values,
+        variable,
+        relation,
+        next,
+        walks,
+    )
+}
+
+// One record of the query: what it binds is given its rows.
+fn fill_one(
+    list: &[u8],
+    places: &[usize],
+    masks: &[u8],
+    catalogue: &[u8],
+    values: &[i32],
+    b: Bound,
+    next: usize,
+    walks: &mut [u16],
+) -> usize
+    requires { ⌜ ((v r : ℕ) → b ≡ To v r → ((v < 8) × (rowsOf (now catalogue) r ≤ 1024)) × ((next + rowsOf (now catalogue) r ≤ length (now walks)) × (length (now walks) ≤ 65535)) × G.Keyed (now catalogue) (now values) (part (now list) (now places)) (now walks) next) ⌝ }
+    ensures { λ r. ⌜ (b ≡ Nothing → (r ≡ next) × (now (walks .exit) ≡ now (walks .entry))) ⌝ }
+    ensures { λ n. ⌜ ((v r : ℕ) → b ≡ To v r → G.Stepped (now (catalogue .entry)) (now (values .entry)) (part (now (list .entry)) (now (places .entry))) v (G.rowsFor (now (catalogue .entry)) (now (values .entry)) (part (now (list .entry)) (now (places .entry))) (getD (now (masks .entry)) v 0) r) (rowsOf (now (catalogue .entry)) r) next n (now (walks .entry)) (now (walks .exit))) ⌝ }
+{
+    let Bound::To(variable, relation) = b else {
+        return next;
+    };
+    let mask = kinds::byte(masks, wide(variable));
+    give(
+        list,
+        places,
+        mask,
+        catalogue,
+        values,
+        variable,
+        relation,
+        next,
+        walks,
+    )
+}
+
+// The walks of all variables that the query binds, in a cleared table with 64 numbers and room for eight lists.
+pub fn fill(
+    query: &[u8],
+    list: &[u8],
+    places: &[usize],
+    masks: &[u8],
+    catalogue: &[u8],
+    values: &[i32],
+    walks: &mut [u16],
+)
+    requires { ⌜ (unique (variables (flatBindings (now query))) ≡ true) × Every (G.Low (now catalogue) (G.mostIn (now walks))) (flatBindings (now query)) × (length (flatBindings (now query)) ≤ 8) × ((64 ≤ length (now walks)) × (length (now walks) ≤ 8256)) × ((i : ℕ) → getD (now walks) i 0 ≡ 0) ⌝ }
+    ensures { λ _. ⌜ Every (λ (b : Binding). walked (now (walks .exit)) (now (values .entry)) (b .variable) ≡ G.rowsFor (now (catalogue .entry)) (now (values .entry)) (part (now (list .entry)) (now (places .entry))) (getD (now (masks .entry)) (b .variable) 0) (b .relation)) (flatBindings (now (query .entry))) ⌝ }
+{
+    let mut next = 64;
+    let mut at = 0;
+    while at < query.len() {
+        let b = scans::binding(query, at);
+        next = fill_one(list, places, masks, catalogue, values, b, next, walks);
+        at += scans::step(query, at);
+    }
+}
+
+fn fits(catalogue: &[u8], b: Bound) -> bool
+    ensures { λ r. ⌜ r ≡ all (G.tiny (now (catalogue .entry))) (boundBy b) ⌝ }
+{
+    let Bound::To(_, relation) = b else {
+        return true;
+    };
+    catalogue::rows(catalogue, relation) <= 16
+}
+
+// Whether each bound relation has at most 16 rows.
+pub fn few(query: &[u8], catalogue: &[u8]) -> bool
+    ensures { λ r. ⌜ r ≡ all (G.tiny (now (catalogue .entry))) (flatBindings (now (query .entry))) ⌝ }
+{
+    let mut at = 0;
+    while at < query.len() {
+        if !fits(catalogue, scans::binding(query, at)) {
+            return false;
+        }
+        at += scans::step(query, at);
+    }
+    true
+}

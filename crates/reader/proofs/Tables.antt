@@ -1,0 +1,23 @@
+-- The first n kinds say the same as all, for tokens before the nth.
+use Prim.Native.Nat.{ℕ, zero, suc, _+_, _≤_}
+use mathlib.Core.List.{List, _∷_}
+use mathlib.Core.Path.{_≡_, refl, sym, ap, ap₂, _∙_}
+use native.Mathlib.Omega.{arith}
+use lib.ListN.{length, getD, take, drop}
+use lib.Seq.{getD-take, length-take-le}
+use Rattle.quel.specs.Tokens.{Token}
+use Rattle.tokens.specs.Table.{tokenOf, wordIn, tokenAt, tokensAt}
+use Rattle.marks.specs.Places.{table, tokensFrom}
+
+module _ (text ks ss ls ns : List ℕ) (n : ℕ) where
+  same-tokens : (m i : ℕ) → i + m ≤ n → tokensAt text (table ks ss ls ns) i m ≡ tokensAt text (table (take n ks) ss ls ns) i m
+  unfolding tokensAt tokenAt wordIn
+  same-tokens zero i h = refl
+  same-tokens (suc m) i h =
+      ap₂ (λ (t : Token) (ts : List Token). t ∷ ts)
+      (ap (λ (k : ℕ). tokenOf k (take (getD ls i 0) (drop (getD ss i 0) text)) (getD ns i 0)) (sym (getD-take n ks i 0 (omega arith))))
+      (same-tokens m (suc i) (omega arith))
+
+  pub first-tokens : n ≤ length ks → tokensAt text (table ks ss ls ns) 0 n ≡ tokensFrom text (table (take n ks) ss ls ns) 0
+  unfolding tokensFrom
+  first-tokens h = same-tokens n 0 (omega arith) ∙ ap (λ (m : ℕ). tokensAt text (table (take n ks) ss ls ns) 0 m) (omega (arith, length-take-le n ks h))

@@ -1,0 +1,1 @@
+"""A shell over the proved library. It translates and shows; the library reads, guards and answers."""
