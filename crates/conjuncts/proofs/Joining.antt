@@ -34,6 +34,10 @@ pub from-start : (t : List ℕ) (xs : List ℤ) (q z ws : List ℕ) (vs m : List
 unfolding stageHolds
 from-start t xs q z ws vs m i s e h = ap (λ j. runs t xs q z ws vs m j e) h
 
+-- a stage without conjuncts
+pub no-conjunct : (t : List ℕ) (xs : List ℤ) (q z ws : List ℕ) (vs m : List ℤ) (i s : ℕ) (e : Assignment) → i ≡ getD t s 0 → i ≡ 0 → true ≡ stageHolds t xs q z ws vs m s e
+no-conjunct t xs q z ws vs m i s e h k = sym (runs-0 t xs q z ws vs m e) ∙ ap (λ j. runs t xs q z ws vs m j e) (sym k) ∙ from-start t xs q z ws vs m i s e h
+
 -- tables that differ before branch 2 alone
 module _ (t t′ : List ℕ) (xs : List ℤ) (q z ws : List ℕ) (vs m : List ℤ) (h : (i : ℕ) → 16 ≤ i → getD t′ i 0 ≡ getD t i 0) where
   same-field : (i j : ℕ) → 2 ≤ i → field t′ i j ≡ field t i j

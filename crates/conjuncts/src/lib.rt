@@ -32,6 +32,9 @@ pub fn holds(
     ensures { λ _. ⌜ now (env .exit) ≡ now (env .entry) ⌝ }
 {
     let i = kinds::size_at(t, stage);
+    if i == 0 {
+        return true;
+    }
     decide::holds(t, xs, i, q, z, walks, chains, values, memo, env)
 }
 
