@@ -6,18 +6,22 @@ use mathlib.Core.Option.{Option, none, some}
 use Prim.Native.Nat.{ℕ, zero, suc, _+_, _-_, _*_, _≤_, _<_}
 use native.Mathlib.Omega.{arith}
 use native.Mathlib.Numerals.{sub-one, add-one}
-use lib.IntN.{ℤ}
+use lib.IntN.{ℤ, pos}
 use lib.ListN.{length, getD, set, drop, take}
-use lib.Seq.{sets, sets-eq, take-at, length-take-le}
+use lib.Seq.{sets, sets-eq, take-at, length-take-le, drop-drop, getD-drop}
 use Rattle.model.specs.Lists.{update, concatMap, present}
 use Rattle.model.specs.Syntax.{Term, Binding}
-use Rattle.model.specs.Meaning.{Tuple, Assignment, Rows, Ratio, Value, cell, withCell}
+use Rattle.model.specs.Meaning.{Tuple, Assignment, Rows, Ratio, Value, whole, cell, withCell}
 use Rattle.model.proofs.Tests.{not-yes, not-no, clash}
+use Rattle.model.proofs.Rounding.{cell-whole}
 use Rattle.kinds.specs.Tables.{recordLength}
+use Rattle.kinds.specs.Record.{recordAt}
+use Rattle.kinds.specs.declared.Record.{Record}
+use Rattle.kinds.specs.declared.Record.the-variants as R
 use Rattle.evaluator.specs.Recalled.{valueBy}
 use Rattle.walks.specs.Walks.{walkOf, placeAt, places, walked, rowsBy}
 use Rattle.evaluator.specs.Evaluation.{assigned, valueAt}
-use Rattle.evaluator.proofs.Steps.{assigned-set}
+use Rattle.evaluator.proofs.Steps.{assigned-set, attribute-is}
 use Rattle.catalogue.specs.Layout.{tupleAt}
 use Rattle.walks.specs.declared.Walk.{Walk}
 use Rattle.walks.proofs.Loops.{concat-to}
@@ -29,7 +33,7 @@ use Rattle.conjuncts.specs.Stages.{stageHolds}
 use Rattle.probes.proofs.Places.{places-alike, passed-over}
 use Rattle.odometer.specs.declared.Plan.{Plan}
 use Rattle.odometer.specs.Staged.{stagedFrom, depthHolds}
-use Rattle.odometer.specs.Plan.{cellsBy, Written, addedRow, rowBy, rowsOf, rowsFrom, rowsBelow}
+use Rattle.odometer.specs.Plan.{cellsBy, Written, Cells, addedRow, rowBy, rowsOf, rowsFrom, rowsBelow}
 
 -- the cell of one target before those of the others
 one-cell : (b : Bool) (row y w : List ℤ) (at : ℕ) (x : Ratio) (cells : Option (List ℤ)) → y ≡ set row at (cell x) → Written b y (at + 1) w cells → Written b row at w (withCell (some x) cells)
@@ -63,6 +67,18 @@ module _ (ws : List ℕ) (vs m : List ℤ) (e q z : List ℕ) (left l at : ℕ) 
           let same : cellsBy m (targetsAt (suc k - 1) l u v) (rowsBy ws vs) (assigned vs e₁) ≡ rest = rw (sub-one, ee, eu, ev, en) in
           rw ex (one-cell b row y w at x rest (ey ∙ ap (set row at) ec) (subst (Written b y (at + 1) w) same f))
 
+-- one target that is an attribute, before others
+module _ (vs : List ℤ) (e q z : List ℕ) (left l at p : ℕ) (row : List ℤ) where
+  pub attributes-more : (u : List ℕ) (r : Record) (v a place n next : ℕ) (t c : ℤ) (y w : List ℤ) → (left ≡ 0 → ⊥) → (l ≡ 0 → ⊥) → u ≡ drop p q → r ≡ recordAt u → r ≡ R.Attribute v a → v < length e
+      → place ≡ getD e v 0 → t ≡ getD vs (place + a) (pos 0) → c ≡ t → y ≡ set row at c → n ≡ getD z p 0 → next ≡ p + n
+      → ((m : List ℤ) (ws : List ℕ) → Written true y (at + 1) w (cellsBy m (targetsAt (left - 1) l (drop next q) (drop next z)) (rowsBy ws vs) (assigned vs e)))
+      → (m : List ℤ) (ws : List ℕ) → Written true row at w (cellsBy m (targetsAt left l (drop p q) (drop p z)) (rowsBy ws vs) (assigned vs e))
+  attributes-more u r v a place n next t c y w nz lz eu er ea hv ep et ec ey en ex f m ws =
+      let cells = sym (attribute-is ws vs m e (drop p q) (drop p z) l v a place r t lz (er ∙ ap recordAt eu) ea hv ep et) in
+      let k : p ≡ p + 0 = omega arith in
+      let size : n ≡ getD (drop p z) 0 0 = en ∙ ap (λ (i : ℕ). getD z i 0) k ∙ sym (getD-drop p z 0 0) in
+      targets-more ws vs m e (drop p q) (drop p z) left l at row true (whole t) c n y w (drop next q) (drop next z) e nz cells (ec ∙ sym (cell-whole t)) ey size (ap (λ (k : ℕ). drop k q) ex ∙ sym (drop-drop n p q)) (ap (λ (k : ℕ). drop k z) ex ∙ sym (drop-drop n p z)) refl (f m ws)
+
 length-targets : (n l : ℕ) (q z : List ℕ) → length (targetsAt n l q z) ≡ n
 unfolding targetsAt
 length-targets zero l q z = refl
@@ -82,28 +98,28 @@ length-cells m (t ∷ ts) R e x h = go (valueBy m t R e) (cellsBy m ts R e) (λ 
 written : (n : ℕ) (row xs : List ℤ) → length xs ≡ n → n ≤ length row → take n (sets row 0 xs) ≡ xs
 written n row xs e h = let k : 0 + length xs ≤ length row = omega arith in ap (take n) (sets-eq xs row 0 k) ∙ take-at xs (drop (0 + length xs) row) n e
 
-module _ (p : Plan) (ws : List ℕ) (vs m : List ℤ) (e q z : List ℕ) (s : Buffer) (u v : List ℕ) (row row₀ : List ℤ) (b : Bool) (eu : u ≡ drop (p .targets) q) (ev : v ≡ drop (p .targets) z)
-    (eb : Written b row₀ 0 row (cellsBy m (targetsAt (p .columns) (p .level) u v) (rowsBy ws vs) (assigned vs e))) where
-  here : Written b row₀ 0 row (rowBy p q z ws vs m (assigned vs e))
-  here =
+-- the cells of an assignment's row, as its targets gave them
+module _ (p : Plan) (ws : List ℕ) (vs m : List ℤ) (e q z : List ℕ) where
+  pub cells-of : (b : Bool) (u v : List ℕ) (row₀ row : List ℤ) → u ≡ drop (p .targets) q → v ≡ drop (p .targets) z → p .columns ≤ length row₀
+      → Written b row₀ 0 row (cellsBy m (targetsAt (p .columns) (p .level) u v) (rowsBy ws vs) (assigned vs e)) → Cells b (p .columns) row (rowBy p q z ws vs m (assigned vs e))
+  cells-of b u v row₀ row eu ev h eb =
       let same : cellsBy m (targetsAt (p .columns) (p .level) u v) (rowsBy ws vs) (assigned vs e) ≡ rowBy p q z ws vs m (assigned vs e) = rw (eu, ev) in
-      subst (Written b row₀ 0 row) same eb
-
-  pub write-none : not b ≡ true → s ≡ addedRow s (rowBy p q z ws vs m (assigned vs e))
-  write-none h = go (rowBy p q z ws vs m (assigned vs e)) here
+      go (rowBy p q z ws vs m (assigned vs e)) refl (subst (Written b row₀ 0 row) same eb)
     where
-      go : (cells : Option (List ℤ)) → Written b row₀ 0 row cells → s ≡ addedRow s cells
-      go none k = refl
-      go (some x) k = clash (sym (not-yes b h) ∙ k .0)
-
-  pub write-row : (r : Buffer) → not b ≡ false → p .columns ≤ length row₀ → r ≡ added s (take (p .columns) row) → r ≡ addedRow s (rowBy p q z ws vs m (assigned vs e))
-  write-row r h hl e′ = go (rowBy p q z ws vs m (assigned vs e)) refl here
-    where
-      go : (cells : Option (List ℤ)) → rowBy p q z ws vs m (assigned vs e) ≡ cells → Written b row₀ 0 row cells → r ≡ addedRow s cells
-      go none g k = clash (sym k ∙ not-no b h)
+      go : (cells : Option (List ℤ)) → rowBy p q z ws vs m (assigned vs e) ≡ cells → Written b row₀ 0 row cells → Cells b (p .columns) row cells
+      go none g k = k
       go (some x) g k =
           let l = length-cells m (targetsAt (p .columns) (p .level) (drop (p .targets) q) (drop (p .targets) z)) (rowsBy ws vs) (assigned vs e) x g ∙ length-targets (p .columns) (p .level) (drop (p .targets) q) (drop (p .targets) z) in
-          e′ ∙ ap (added s) (ap (take (p .columns)) (k .1) ∙ written (p .columns) row₀ x l hl)
+          (k .0, ap (take (p .columns)) (k .1) ∙ written (p .columns) row₀ x l h)
+
+module _ (b : Bool) (n : ℕ) (row : List ℤ) (s : Buffer) where
+  pub write-none : (cells : Option (List ℤ)) → Cells b n row cells → not b ≡ true → s ≡ addedRow s cells
+  write-none none k h = refl
+  write-none (some x) k h = clash (sym (not-yes b h) ∙ k .0)
+
+  pub write-row : (cells : Option (List ℤ)) → Cells b n row cells → (r : Buffer) → not b ≡ false → r ≡ added s (take n row) → r ≡ addedRow s cells
+  write-row none k r h e = clash (sym k ∙ not-no b h)
+  write-row (some x) k r h e = e ∙ ap (added s) (k .1)
 
 -- the row handed on has as many cells as the plan says
 module _ (n : ℕ) (row : List ℤ) (k : ℕ) (cells : List ℤ) (t : List ℕ) (h : n ≤ length row) where

@@ -5,7 +5,7 @@ use mathlib.Core.Bool.{Bool, true, false}
 use mathlib.Core.List.{List, [], _∷_, map}
 use mathlib.Core.Option.{Option, none, some}
 use lib.IntN.{ℤ}
-use lib.ListN.{getD, drop}
+use lib.ListN.{getD, take, drop}
 use lib.Seq.{sets}
 use Rattle.model.specs.Lists.{update, concatMap, present}
 use Rattle.model.specs.Syntax.{Term}
@@ -32,6 +32,11 @@ cellsBy m (t ∷ ts) R e = withCell (valueBy m t R e) (cellsBy m ts R e)
 abbrev pub Written : Bool → List ℤ → ℕ → List ℤ → Option (List ℤ) → Type 0
 Written b row at after none = b ≡ false
 Written b row at after (some cells) = (b ≡ true) × (after ≡ sets row at cells)
+
+-- whether there are cells, and that they are the first n
+abbrev pub Cells : Bool → ℕ → List ℤ → Option (List ℤ) → Type 0
+Cells b n row none = b ≡ false
+Cells b n row (some x) = (b ≡ true) × (take n row ≡ x)
 
 -- an assignment's row, if it gives one, added to the answer
 abbrev pub addedRow : Buffer → Option (List ℤ) → Buffer

@@ -1,9 +1,13 @@
 // The odometer: range variables run over their rows, the last RANGE fastest. Each conjunct is tried as soon as the variables that it needs
 // are bound; an assignment that meets all of them gives a row, if each target has a value.
+use kinds::Record;
 use rows::Filled;
 ghost use mathlib.Core.Path.{_≡_};
+ghost use mathlib.Core.Bool.{true};
+ghost use mathlib.Core.List.{List};
 ghost use Prim.Native.Nat.{ℕ, _≤_, _<_, _+_, _-_};
-ghost use lib.ListN.{length, getD};
+ghost use lib.IntN.{ℤ};
+ghost use lib.ListN.{length, getD, drop};
 ghost use Rattle.sizes.specs.Parts.{targetsAt};
 ghost use Rattle.rows.specs.Buffer.{addedAll};
 ghost use Rattle.rows.specs.Chains.{Linked};
@@ -11,7 +15,7 @@ ghost use Rattle.walks.specs.Walks.{rowsBy};
 ghost use Rattle.seeks.specs.Keys.{Faithful};
 ghost use Rattle.evaluator.specs.Evaluation.{assigned};
 ghost use Rattle.odometer.specs.Staged.{depthHolds};
-ghost use Rattle.odometer.specs.Plan.{Bounds, cellsBy, Written, addedRow, rowBy, rowsFrom, rowsBelow};
+ghost use Rattle.odometer.specs.Plan.{Bounds, cellsBy, Written, Cells, addedRow, rowBy, rowsFrom, rowsBelow};
 
 // Chains for what is walked again and again: the ranges after the first, and the rows that a branch asks for.
 pub fn link(q: &[u8], ranges: usize, t: &[u16], walks: &[u16], values: &[i32], chains: &mut [u16])
@@ -71,6 +75,66 @@ fn targets(
     targets(u, v, left - 1, level, walks, vs, memo, env, row, at + 1)
 }
 
+// The cells of targets that are all attributes, from place p of the query on; false where one is something else.
+fn attributes(
+    q: &[u8],
+    z: &[u16],
+    p: usize,
+    left: usize,
+    level: usize,
+    vs: &[i32],
+    env: &[usize],
+    row: &mut [i64],
+    at: usize,
+) -> bool
+    requires { ⌜ (256 ≤ length (now env)) × (at + left ≤ length (now row)) ⌝ }
+    ensures { λ r. ⌜ (r ≡ true → (m : List ℤ) (ws : List ℕ) → Written true (now (row .entry)) at (now (row .exit)) (cellsBy m (targetsAt left level (drop p (now (q .entry))) (drop p (now (z .entry)))) (rowsBy ws (now (vs .entry))) (assigned (now (vs .entry)) (now (env .entry))))) ⌝ }
+{
+    if left == 0 {
+        return true;
+    }
+    if level == 0 {
+        return false;
+    }
+    if 65535 < p {
+        return false;
+    }
+    let Record::Attribute(variable, attribute) = kinds::read(kinds::tail(q, p)) else {
+        return false;
+    };
+    let place = evaluator::place(env, variable);
+    let cell = numbers::wide(catalogue::cell(vs, place, attribute));
+    row[at] = cell;
+    let next = p + kinds::size_at(z, p);
+    attributes(q, z, next, left - 1, level, vs, env, row, at + 1)
+}
+
+// The cells of an assignment's row; whether each target has a value. Attributes, the usual targets, are read without the evaluator.
+fn cells(
+    q: &[u8],
+    z: &[u16],
+    plan: Plan,
+    walks: &[u16],
+    vs: &[i32],
+    memo: &[i64],
+    env: &mut [usize],
+    row: &mut [i64],
+) -> bool
+    requires { ⌜ (256 ≤ length (now env)) × (plan .columns ≤ length (now row)) ⌝ }
+    ensures { λ r. ⌜ Cells r (plan .columns) (now (row .exit)) (rowBy plan (now (q .entry)) (now (z .entry)) (now (walks .entry)) (now (vs .entry)) (now (memo .entry)) (assigned (now (vs .entry)) (now (env .entry)))) ⌝ }
+    ensures { λ _. ⌜ now (env .exit) ≡ now (env .entry) ⌝ }
+{
+    let level = plan.level;
+    let n = plan.columns;
+    let t = plan.targets;
+    if attributes(q, z, t, n, level, vs, env, row, 0) {
+        return true;
+    }
+    let x = kinds::tail(q, t);
+    let y = kinds::tail_sizes(z, t);
+    targets(x, y, n, level, walks, vs, memo, env, row, 0)
+}
+
 // The row of one assignment, if each of its targets has a value.
 fn write(
     q: &[u8],
@@ -89,13 +153,9 @@ fn write(
     ensures { λ _. ⌜ now (env .exit) ≡ now (env .entry) ⌝ }
     ensures { λ r. ⌜ Linked (plan .columns) (r .rows) (now (answer .exit)) (now (table .exit)) ⌝ }
 {
-    let level = plan.level;
     let n = plan.columns;
-    let t = plan.targets;
-    let x = kinds::tail(q, t);
-    let y = kinds::tail_sizes(z, t);
     let mut row = [0i64; 8];
-    if !targets(x, y, n, level, walks, vs, memo, env, &mut row, 0) {
+    if !cells(q, z, plan, walks, vs, memo, env, &mut row) {
         return state;
     }
     rows::add_row(answer, table, state, &row[..n])
