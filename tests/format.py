@@ -72,11 +72,11 @@ def in_header(what, names, values):
 
 def kinds(print_of):
     rows = table("table: kinds")
+    relations = by_kind("relationCode")
     for column, name in ((0, "code"), (2, "bodyLength"), (4, "childConditions"), (5, "childTerms")):
-        model = by_kind(name)
-        # kind 50 need not be in that table of the model: of catalogues the program is asked, below
-        page = {row[1]: int(row[column]) for row in rows if row[1] in model or row[1] != "latest"}
-        same(f"kinds, {name}", page, model)
+        page = {row[1]: int(row[column]) for row in rows if row[1] not in relations}
+        same(f"kinds, {name}", page, by_kind(name))
+    same("kinds, relationCode", {row[1]: int(row[0]) for row in rows if row[1] in relations}, relations)
     for row in rows:
         in_header(f"kind {row[1]}", constants(row[6]), [int(row[0])])
     # which kinds are conditions and which are terms
@@ -85,11 +85,12 @@ def kinds(print_of):
         page = {alternative.split()[0] for alternative in text.split("|")}
         read_so = re.findall(rf"^\s*{name} k-(\w+) r = (\w+)", SPECS, re.M)
         same(f"grammar, {name}", page, {kind for kind, how in read_so if how != "fail"})
-    # which kinds a catalogue has
+    # which kinds a catalogue has, and that their body has the page's length
     relation = re.search(r"relation +=(.*)\n", PAGE).group(1)
-    page = {int(row[0]) for row in rows if row[1] in relation.split()}
+    same("grammar, relation", set(relation.split()) & {row[1] for row in rows}, set(relations))
     printed = {kind: print_of({"catalogue": [kind, 1, 0, 0]}) for kind in range(256)}
-    same("kinds of a catalogue", page, {kind for kind in printed if printed[kind] != "refused 10\n"})
+    same("kinds of a catalogue", set(relations.values()), {kind for kind in printed if printed[kind] != "refused 10\n"})
+    same("bodies of a catalogue", {row[2] for row in rows if row[1] in relations}, {"3"})
 
 
 def operators(print_of):

@@ -1,37 +1,7 @@
 // QUEL as text: the worked texts, the examples of document 000, and the points where readers differ. Included by the tests of the judge
 // and of the library, with `read_text`, `ask_text` and `evaluate` of their own in scope.
 
-const ROWS_EMPLOYEE: [[i32; 4]; 6] = [
-    [1, 1, 10_000, 2],
-    [2, 1, 15_000, 8],
-    [3, 2, 12_000, 5],
-    [4, 2, 14_000, 7],
-    [5, 4, 20_000, 6],
-    [6, 4, 40_000, 0],
-];
-
-const ROWS_DEPARTMENT: [[i32; 4]; 5] = [
-    [1, -1, 10, 1000],
-    [2, 1, 5, 2000],
-    [3, 1, 16, 1500],
-    [4, 4, 10, 0],
-    [5, 2, 3, 0],
-];
-
-const BOTH: [u8; 8] = [48, 4, 6, 0, 48, 4, 5, 0];
-
-const PERMITS_OF_3_3: [&[u8]; 4] = [
-    &[64, 0, 12, 0, 16],
-    &[64, 0, 11, 0, 21, 2, 33, 0, 0, 32, 5, 0, 0, 0],
-    &[
-        64, 0, 13, 0, 22, 1, 0, 19, 21, 1, 33, 1, 0, 33, 0, 3, 21, 5, 33, 0, 2, 33, 1, 2,
-    ],
-    &[64, 1, 255, 255, 21, 5, 33, 0, 3, 34, 3, 1, 1, 3, 16],
-];
-
-fn both_values() -> Vec<i32> {
-    [ROWS_EMPLOYEE.concat(), ROWS_DEPARTMENT.concat()].concat()
-}
+include!("employees.rs");
 
 const FILLED: u8 = 99;
 
@@ -291,8 +261,8 @@ fn asked_by_text(text: &str, permits: &[u8]) -> (Outcome, Vec<i64>) {
     let (mut records, mut rewritten) = (vec![FILLED; 300], vec![FILLED; 17_216]);
     let mut answer = vec![-77; 64];
     let outcome = ask_text(
-        &BOTH,
-        &both_values(),
+        &CATALOGUE,
+        &values(),
         permits,
         text.as_bytes(),
         &shop_names(),
@@ -319,7 +289,7 @@ fn cells_by_text(text: &str, permits: &[u8]) -> Vec<i64> {
 
 fn plain_cells(text: &str) -> Vec<i64> {
     let mut answer = [0; 64];
-    let outcome = evaluate(&BOTH, &both_values(), &read(text).unwrap(), &mut answer);
+    let outcome = evaluate(&CATALOGUE, &values(), &read(text).unwrap(), &mut answer);
     assert_eq!(outcome.number, 0, "{text}");
     answer[..(outcome.rows * outcome.columns) as usize].to_vec()
 }
@@ -342,7 +312,7 @@ fn answers_to_texts() {
     assert_eq!((outcome.number, outcome.length), (0, 27));
     assert_eq!(cells, []);
 
-    let permits = PERMITS_OF_3_3.concat();
+    let permits = PERMITS_3_3.concat();
     let all = "RANGE EMPLOYEE(X) RETRIEVE W: X.SALARY";
     let six = [10_000, 15_000, 12_000, 14_000, 20_000, 40_000];
     assert_eq!(cells_by_text(all, &permits), six);

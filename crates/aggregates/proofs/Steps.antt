@@ -107,30 +107,28 @@ module _ (S : Rows) (e : Assignment) (q z : List ℕ) (m : List ℤ) where
 
 -- other records bind no aggregate
 rest-condition : (f : List ℕ → List ℕ → Condition) (g : List ℕ → List ℕ → Term) (q z : List ℕ) (r : Record) (S : Rows) (e : Assignment) (m : List ℤ)
-    → OneOf (0 ∷ 1 ∷ 2 ∷ 8 ∷ 9 ∷ 10 ∷ 11 ∷ 12 ∷ 13 ∷ 14 ∷ 15 ∷ []) (tagOf (declared enum) r) → filledC (conditionBy r f g q z) S e m ≡ m
+    → OneOf (0 ∷ 1 ∷ 2 ∷ 8 ∷ 9 ∷ 10 ∷ 11 ∷ 12 ∷ 13 ∷ []) (tagOf (declared enum) r) → filledC (conditionBy r f g q z) S e m ≡ m
 unfolding filledC
 rest-condition f g q z (R.Range v r) S e m h = refl
 rest-condition f g q z R.True S e m h = refl
 rest-condition f g q z R.False S e m h = refl
-rest-condition f g q z R.Not S e m h = absurd (miss (0 ∷ 1 ∷ 2 ∷ 8 ∷ 9 ∷ 10 ∷ 11 ∷ 12 ∷ 13 ∷ 14 ∷ 15 ∷ []) 3 tt h)
-rest-condition f g q z R.And S e m h = absurd (miss (0 ∷ 1 ∷ 2 ∷ 8 ∷ 9 ∷ 10 ∷ 11 ∷ 12 ∷ 13 ∷ 14 ∷ 15 ∷ []) 4 tt h)
-rest-condition f g q z R.Or S e m h = absurd (miss (0 ∷ 1 ∷ 2 ∷ 8 ∷ 9 ∷ 10 ∷ 11 ∷ 12 ∷ 13 ∷ 14 ∷ 15 ∷ []) 5 tt h)
-rest-condition f g q z (R.Compare o) S e m h = absurd (miss (0 ∷ 1 ∷ 2 ∷ 8 ∷ 9 ∷ 10 ∷ 11 ∷ 12 ∷ 13 ∷ 14 ∷ 15 ∷ []) 6 tt h)
-rest-condition f g q z (R.Some v r) S e m h = absurd (miss (0 ∷ 1 ∷ 2 ∷ 8 ∷ 9 ∷ 10 ∷ 11 ∷ 12 ∷ 13 ∷ 14 ∷ 15 ∷ []) 7 tt h)
+rest-condition f g q z R.Not S e m h = absurd (miss (0 ∷ 1 ∷ 2 ∷ 8 ∷ 9 ∷ 10 ∷ 11 ∷ 12 ∷ 13 ∷ []) 3 tt h)
+rest-condition f g q z R.And S e m h = absurd (miss (0 ∷ 1 ∷ 2 ∷ 8 ∷ 9 ∷ 10 ∷ 11 ∷ 12 ∷ 13 ∷ []) 4 tt h)
+rest-condition f g q z R.Or S e m h = absurd (miss (0 ∷ 1 ∷ 2 ∷ 8 ∷ 9 ∷ 10 ∷ 11 ∷ 12 ∷ 13 ∷ []) 5 tt h)
+rest-condition f g q z (R.Compare o) S e m h = absurd (miss (0 ∷ 1 ∷ 2 ∷ 8 ∷ 9 ∷ 10 ∷ 11 ∷ 12 ∷ 13 ∷ []) 6 tt h)
+rest-condition f g q z (R.Some v r) S e m h = absurd (miss (0 ∷ 1 ∷ 2 ∷ 8 ∷ 9 ∷ 10 ∷ 11 ∷ 12 ∷ 13 ∷ []) 7 tt h)
 rest-condition f g q z (R.Constant a b c d) S e m h = refl
 rest-condition f g q z (R.Attribute v a) S e m h = refl
 rest-condition f g q z (R.Aggregate k v r a) S e m h = refl
-rest-condition f g q z (R.Stored a b c) S e m h = refl
-rest-condition f g q z (R.Workspace a b c) S e m h = refl
 rest-condition f g q z (R.Permit a b c) S e m h = refl
 rest-condition f g q z R.Unknown S e m h = refl
 rest-condition f g q z R.Short S e m h = refl
 
-pub no-aggregate : (S : Rows) (e : Assignment) (q z : List ℕ) (m : List ℤ) (l : ℕ) (r : Record) → (l ≡ 0 → ⊥) → r ≡ recordAt q → OneOf (0 ∷ 1 ∷ 2 ∷ 8 ∷ 9 ∷ 10 ∷ 11 ∷ 12 ∷ 13 ∷ 14 ∷ 15 ∷ []) (tagOf (declared enum) r)
+pub no-aggregate : (S : Rows) (e : Assignment) (q z : List ℕ) (m : List ℤ) (l : ℕ) (r : Record) → (l ≡ 0 → ⊥) → r ≡ recordAt q → OneOf (0 ∷ 1 ∷ 2 ∷ 8 ∷ 9 ∷ 10 ∷ 11 ∷ 12 ∷ 13 ∷ []) (tagOf (declared enum) r)
     → m ≡ filledC (decode l q z) S e m
 no-aggregate S e q z m l r nz er h = sym (rest-condition (λ x y. decode (l - 1) x y) (λ x y. decodeT (l - 1) x y) q z r S e m h) ∙ filled-is S e q z m l r nz er
 
-rest-term : (f : List ℕ → List ℕ → Condition) (q z : List ℕ) (r : Record) (S : Rows) (e : Assignment) (m : List ℤ) → OneOf (0 ∷ 1 ∷ 2 ∷ 3 ∷ 4 ∷ 5 ∷ 6 ∷ 7 ∷ 8 ∷ 9 ∷ 11 ∷ 12 ∷ 13 ∷ 14 ∷ 15 ∷ []) (tagOf (declared enum) r) → filledT (termBy r f q z) S e m ≡ m
+rest-term : (f : List ℕ → List ℕ → Condition) (q z : List ℕ) (r : Record) (S : Rows) (e : Assignment) (m : List ℤ) → OneOf (0 ∷ 1 ∷ 2 ∷ 3 ∷ 4 ∷ 5 ∷ 6 ∷ 7 ∷ 8 ∷ 9 ∷ 11 ∷ 12 ∷ 13 ∷ []) (tagOf (declared enum) r) → filledT (termBy r f q z) S e m ≡ m
 unfolding filledC
 rest-term f q z (R.Range v r) S e m h = refl
 rest-term f q z R.True S e m h = refl
@@ -142,14 +140,12 @@ rest-term f q z (R.Compare o) S e m h = refl
 rest-term f q z (R.Some v r) S e m h = refl
 rest-term f q z (R.Constant a b c d) S e m h = refl
 rest-term f q z (R.Attribute v a) S e m h = refl
-rest-term f q z (R.Aggregate k v r a) S e m h = absurd (miss (0 ∷ 1 ∷ 2 ∷ 3 ∷ 4 ∷ 5 ∷ 6 ∷ 7 ∷ 8 ∷ 9 ∷ 11 ∷ 12 ∷ 13 ∷ 14 ∷ 15 ∷ []) 10 tt h)
-rest-term f q z (R.Stored a b c) S e m h = refl
-rest-term f q z (R.Workspace a b c) S e m h = refl
+rest-term f q z (R.Aggregate k v r a) S e m h = absurd (miss (0 ∷ 1 ∷ 2 ∷ 3 ∷ 4 ∷ 5 ∷ 6 ∷ 7 ∷ 8 ∷ 9 ∷ 11 ∷ 12 ∷ 13 ∷ []) 10 tt h)
 rest-term f q z (R.Permit a b c) S e m h = refl
 rest-term f q z R.Unknown S e m h = refl
 rest-term f q z R.Short S e m h = refl
 
-pub no-term : (S : Rows) (e : Assignment) (q z : List ℕ) (m : List ℤ) (l : ℕ) (r : Record) → (l ≡ 0 → ⊥) → r ≡ recordAt q → OneOf (0 ∷ 1 ∷ 2 ∷ 3 ∷ 4 ∷ 5 ∷ 6 ∷ 7 ∷ 8 ∷ 9 ∷ 11 ∷ 12 ∷ 13 ∷ 14 ∷ 15 ∷ []) (tagOf (declared enum) r)
+pub no-term : (S : Rows) (e : Assignment) (q z : List ℕ) (m : List ℤ) (l : ℕ) (r : Record) → (l ≡ 0 → ⊥) → r ≡ recordAt q → OneOf (0 ∷ 1 ∷ 2 ∷ 3 ∷ 4 ∷ 5 ∷ 6 ∷ 7 ∷ 8 ∷ 9 ∷ 11 ∷ 12 ∷ 13 ∷ []) (tagOf (declared enum) r)
     → m ≡ filledT (decodeT l q z) S e m
 no-term S e q z m l r nz er h = sym (rest-term (λ x y. decode (l - 1) x y) q z r S e m h) ∙ filledT-is S e q z m l r nz er
 

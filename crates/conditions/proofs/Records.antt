@@ -11,7 +11,7 @@ use borrow.Author.Tests.{leb-true, leb-false}
 use denote.Enum.Declared.{tagOf, declared}
 use types.Run.{OneOf, miss}
 use Rattle.kinds.proofs.Record.{enum}
-use Rattle.model.specs.Kinds.{Kind, k-range, k-true, k-false, k-not, k-and, k-or, k-compare, k-some, k-constant, k-attribute, k-aggregate, k-stored, k-workspace, k-permit, kinds, code, bodyLength, kindOf, find}
+use Rattle.model.specs.Kinds.{Kind, k-range, k-true, k-false, k-not, k-and, k-or, k-compare, k-some, k-constant, k-attribute, k-aggregate, k-permit, kinds, code, bodyLength, kindOf, find}
 use Rattle.model.proofs.Reading.{find-inv}
 use Rattle.kinds.specs.Tables.{ofKind, recordLength}
 use Rattle.kinds.specs.Record.{recordAt, filled, within}
@@ -34,8 +34,6 @@ Starts (R.Attribute v a) x = x ≡ 33 ∷ v ∷ a ∷ drop 3 x
 Starts (R.Aggregate f v r a) x = x ≡ 34 ∷ f ∷ v ∷ r ∷ a ∷ drop 5 x
 Starts (R.Permit r a b) x = x ≡ 64 ∷ r ∷ a ∷ b ∷ drop 4 x
 Starts (R.Range v r) x = x ≡ 1 ∷ v ∷ r ∷ drop 3 x
-Starts (R.Stored a b c) x = Unit
-Starts (R.Workspace a b c) x = Unit
 Starts R.Unknown x = Unit
 Starts R.Short x = Unit
 
@@ -68,8 +66,6 @@ by-kind k-some k r e h = ap₂ _∷_ e (two r h)
 by-kind k-constant k r e h = ap₂ _∷_ e (four r h)
 by-kind k-attribute k r e h = ap₂ _∷_ e (two r h)
 by-kind k-aggregate k r e h = ap₂ _∷_ e (four r h)
-by-kind k-stored k r e h = tt
-by-kind k-workspace k r e h = tt
 by-kind k-permit k r e h = ap₂ _∷_ e (three r h)
 
 pub starts : (x : List ℕ) (y : Record) → y ≡ recordAt x → Starts y x
@@ -113,11 +109,9 @@ truths x (R.Some v w) k s = absurd (miss (1 ∷ 2 ∷ []) 7 tt k)
 truths x (R.Constant a b c d) k s = absurd (miss (1 ∷ 2 ∷ []) 8 tt k)
 truths x (R.Attribute v a) k s = absurd (miss (1 ∷ 2 ∷ []) 9 tt k)
 truths x (R.Aggregate h v w a) k s = absurd (miss (1 ∷ 2 ∷ []) 10 tt k)
-truths x (R.Stored a b c) k s = absurd (miss (1 ∷ 2 ∷ []) 11 tt k)
-truths x (R.Workspace a b c) k s = absurd (miss (1 ∷ 2 ∷ []) 12 tt k)
-truths x (R.Permit a b c) k s = absurd (miss (1 ∷ 2 ∷ []) 13 tt k)
-truths x R.Unknown k s = absurd (miss (1 ∷ 2 ∷ []) 14 tt k)
-truths x R.Short k s = absurd (miss (1 ∷ 2 ∷ []) 15 tt k)
+truths x (R.Permit a b c) k s = absurd (miss (1 ∷ 2 ∷ []) 11 tt k)
+truths x R.Unknown k s = absurd (miss (1 ∷ 2 ∷ []) 12 tt k)
+truths x R.Short k s = absurd (miss (1 ∷ 2 ∷ []) 13 tt k)
 
 joins : (x : List ℕ) (y : Record) → OneOf (4 ∷ 5 ∷ []) (tagOf (declared enum) y) → Starts y x → (b : Bool) × (x ≡ joining b ∷ drop 1 x)
 joins x (R.Range v w) k s = absurd (miss (4 ∷ 5 ∷ []) 0 tt k)
@@ -131,11 +125,9 @@ joins x (R.Some v w) k s = absurd (miss (4 ∷ 5 ∷ []) 7 tt k)
 joins x (R.Constant a b c d) k s = absurd (miss (4 ∷ 5 ∷ []) 8 tt k)
 joins x (R.Attribute v a) k s = absurd (miss (4 ∷ 5 ∷ []) 9 tt k)
 joins x (R.Aggregate h v w a) k s = absurd (miss (4 ∷ 5 ∷ []) 10 tt k)
-joins x (R.Stored a b c) k s = absurd (miss (4 ∷ 5 ∷ []) 11 tt k)
-joins x (R.Workspace a b c) k s = absurd (miss (4 ∷ 5 ∷ []) 12 tt k)
-joins x (R.Permit a b c) k s = absurd (miss (4 ∷ 5 ∷ []) 13 tt k)
-joins x R.Unknown k s = absurd (miss (4 ∷ 5 ∷ []) 14 tt k)
-joins x R.Short k s = absurd (miss (4 ∷ 5 ∷ []) 15 tt k)
+joins x (R.Permit a b c) k s = absurd (miss (4 ∷ 5 ∷ []) 11 tt k)
+joins x R.Unknown k s = absurd (miss (4 ∷ 5 ∷ []) 12 tt k)
+joins x R.Short k s = absurd (miss (4 ∷ 5 ∷ []) 13 tt k)
 
 -- the record y at place p, as the code reads it, and its length a by the table
 module _ (q x : List ℕ) (p : ℕ) (ex : x ≡ drop p q) (y : Record) (er : y ≡ recordAt x) where

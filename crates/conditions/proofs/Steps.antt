@@ -87,28 +87,26 @@ module _ (sh : Shape) (limit l : ℕ) (σ : Scope) (q : List ℕ) (p : ℕ) (z :
     pub no-function : (f v r a : ℕ) (b : Bool) → y ≡ R.Aggregate f v r a → b ≡ isFunction f → not b ≡ true → (Refused ≡ termReading sh limit l σ (drop p q)) × (z ≡ termTable l q p z)
     no-function f v r a b e eb h = none-term (not-accepted true (ap (accepts true) e ∙ sym eb ∙ not-true b h))
 
-    others : (y : Record) → OneOf (0 ∷ 8 ∷ 9 ∷ 10 ∷ 11 ∷ 12 ∷ 13 ∷ 14 ∷ 15 ∷ []) (tagOf (declared enum) y) → accepts false y ≡ false
+    others : (y : Record) → OneOf (0 ∷ 8 ∷ 9 ∷ 10 ∷ 11 ∷ 12 ∷ 13 ∷ []) (tagOf (declared enum) y) → accepts false y ≡ false
     others (R.Range v w) k = refl
-    others R.True k = absurd (miss (0 ∷ 8 ∷ 9 ∷ 10 ∷ 11 ∷ 12 ∷ 13 ∷ 14 ∷ 15 ∷ []) 1 tt k)
-    others R.False k = absurd (miss (0 ∷ 8 ∷ 9 ∷ 10 ∷ 11 ∷ 12 ∷ 13 ∷ 14 ∷ 15 ∷ []) 2 tt k)
-    others R.Not k = absurd (miss (0 ∷ 8 ∷ 9 ∷ 10 ∷ 11 ∷ 12 ∷ 13 ∷ 14 ∷ 15 ∷ []) 3 tt k)
-    others R.And k = absurd (miss (0 ∷ 8 ∷ 9 ∷ 10 ∷ 11 ∷ 12 ∷ 13 ∷ 14 ∷ 15 ∷ []) 4 tt k)
-    others R.Or k = absurd (miss (0 ∷ 8 ∷ 9 ∷ 10 ∷ 11 ∷ 12 ∷ 13 ∷ 14 ∷ 15 ∷ []) 5 tt k)
-    others (R.Compare o) k = absurd (miss (0 ∷ 8 ∷ 9 ∷ 10 ∷ 11 ∷ 12 ∷ 13 ∷ 14 ∷ 15 ∷ []) 6 tt k)
-    others (R.Some v w) k = absurd (miss (0 ∷ 8 ∷ 9 ∷ 10 ∷ 11 ∷ 12 ∷ 13 ∷ 14 ∷ 15 ∷ []) 7 tt k)
+    others R.True k = absurd (miss (0 ∷ 8 ∷ 9 ∷ 10 ∷ 11 ∷ 12 ∷ 13 ∷ []) 1 tt k)
+    others R.False k = absurd (miss (0 ∷ 8 ∷ 9 ∷ 10 ∷ 11 ∷ 12 ∷ 13 ∷ []) 2 tt k)
+    others R.Not k = absurd (miss (0 ∷ 8 ∷ 9 ∷ 10 ∷ 11 ∷ 12 ∷ 13 ∷ []) 3 tt k)
+    others R.And k = absurd (miss (0 ∷ 8 ∷ 9 ∷ 10 ∷ 11 ∷ 12 ∷ 13 ∷ []) 4 tt k)
+    others R.Or k = absurd (miss (0 ∷ 8 ∷ 9 ∷ 10 ∷ 11 ∷ 12 ∷ 13 ∷ []) 5 tt k)
+    others (R.Compare o) k = absurd (miss (0 ∷ 8 ∷ 9 ∷ 10 ∷ 11 ∷ 12 ∷ 13 ∷ []) 6 tt k)
+    others (R.Some v w) k = absurd (miss (0 ∷ 8 ∷ 9 ∷ 10 ∷ 11 ∷ 12 ∷ 13 ∷ []) 7 tt k)
     others (R.Constant a b c d) k = refl
     others (R.Attribute v a) k = refl
     others (R.Aggregate h v w a) k = refl
-    others (R.Stored a b c) k = refl
-    others (R.Workspace a b c) k = refl
     others (R.Permit a b c) k = refl
     others R.Unknown k = refl
     others R.Short k = refl
 
-    pub no-condition : OneOf (0 ∷ 8 ∷ 9 ∷ 10 ∷ 11 ∷ 12 ∷ 13 ∷ 14 ∷ 15 ∷ []) (tagOf (declared enum) y) → (Refused ≡ conditionReading sh limit l σ (drop p q)) × (z ≡ conditionTable l q p z)
+    pub no-condition : OneOf (0 ∷ 8 ∷ 9 ∷ 10 ∷ 11 ∷ 12 ∷ 13 ∷ []) (tagOf (declared enum) y) → (Refused ≡ conditionReading sh limit l σ (drop p q)) × (z ≡ conditionTable l q p z)
     no-condition o = none-condition (not-accepted false (others y o))
 
-    othersT : (y : Record) → OneOf (0 ∷ 1 ∷ 2 ∷ 3 ∷ 4 ∷ 5 ∷ 6 ∷ 7 ∷ 11 ∷ 12 ∷ 13 ∷ 14 ∷ 15 ∷ []) (tagOf (declared enum) y) → accepts true y ≡ false
+    othersT : (y : Record) → OneOf (0 ∷ 1 ∷ 2 ∷ 3 ∷ 4 ∷ 5 ∷ 6 ∷ 7 ∷ 11 ∷ 12 ∷ 13 ∷ []) (tagOf (declared enum) y) → accepts true y ≡ false
     othersT (R.Range v w) k = refl
     othersT R.True k = refl
     othersT R.False k = refl
@@ -117,16 +115,14 @@ module _ (sh : Shape) (limit l : ℕ) (σ : Scope) (q : List ℕ) (p : ℕ) (z :
     othersT R.Or k = refl
     othersT (R.Compare o) k = refl
     othersT (R.Some v w) k = refl
-    othersT (R.Constant a b c d) k = absurd (miss (0 ∷ 1 ∷ 2 ∷ 3 ∷ 4 ∷ 5 ∷ 6 ∷ 7 ∷ 11 ∷ 12 ∷ 13 ∷ 14 ∷ 15 ∷ []) 8 tt k)
-    othersT (R.Attribute v a) k = absurd (miss (0 ∷ 1 ∷ 2 ∷ 3 ∷ 4 ∷ 5 ∷ 6 ∷ 7 ∷ 11 ∷ 12 ∷ 13 ∷ 14 ∷ 15 ∷ []) 9 tt k)
-    othersT (R.Aggregate h v w a) k = absurd (miss (0 ∷ 1 ∷ 2 ∷ 3 ∷ 4 ∷ 5 ∷ 6 ∷ 7 ∷ 11 ∷ 12 ∷ 13 ∷ 14 ∷ 15 ∷ []) 10 tt k)
-    othersT (R.Stored a b c) k = refl
-    othersT (R.Workspace a b c) k = refl
+    othersT (R.Constant a b c d) k = absurd (miss (0 ∷ 1 ∷ 2 ∷ 3 ∷ 4 ∷ 5 ∷ 6 ∷ 7 ∷ 11 ∷ 12 ∷ 13 ∷ []) 8 tt k)
+    othersT (R.Attribute v a) k = absurd (miss (0 ∷ 1 ∷ 2 ∷ 3 ∷ 4 ∷ 5 ∷ 6 ∷ 7 ∷ 11 ∷ 12 ∷ 13 ∷ []) 9 tt k)
+    othersT (R.Aggregate h v w a) k = absurd (miss (0 ∷ 1 ∷ 2 ∷ 3 ∷ 4 ∷ 5 ∷ 6 ∷ 7 ∷ 11 ∷ 12 ∷ 13 ∷ []) 10 tt k)
     othersT (R.Permit a b c) k = refl
     othersT R.Unknown k = refl
     othersT R.Short k = refl
 
-    pub no-term : OneOf (0 ∷ 1 ∷ 2 ∷ 3 ∷ 4 ∷ 5 ∷ 6 ∷ 7 ∷ 11 ∷ 12 ∷ 13 ∷ 14 ∷ 15 ∷ []) (tagOf (declared enum) y) → (Refused ≡ termReading sh limit l σ (drop p q)) × (z ≡ termTable l q p z)
+    pub no-term : OneOf (0 ∷ 1 ∷ 2 ∷ 3 ∷ 4 ∷ 5 ∷ 6 ∷ 7 ∷ 11 ∷ 12 ∷ 13 ∷ []) (tagOf (declared enum) y) → (Refused ≡ termReading sh limit l σ (drop p q)) × (z ≡ termTable l q p z)
     no-term o = none-term (not-accepted true (othersT y o))
 
 -- the bytes that were read end within the query

@@ -23,29 +23,27 @@ use Rattle.copier.specs.Copied.{recordBytes, renamedRecord, numberIn, co
 use Rattle.copier.proofs.Sets.{Wrote, Left, left-then, left-room}
 
 -- records that are not written
-pub unwritten : (r : Record) → OneOf (11 ∷ 12 ∷ 13 ∷ 14 ∷ 15 ∷ []) (tagOf (declared enum) r) → [] ≡ recordBytes r
-unwritten (R.Range v r) h = absurd (miss (11 ∷ 12 ∷ 13 ∷ 14 ∷ 15 ∷ []) 0 tt h)
-unwritten R.True h = absurd (miss (11 ∷ 12 ∷ 13 ∷ 14 ∷ 15 ∷ []) 1 tt h)
-unwritten R.False h = absurd (miss (11 ∷ 12 ∷ 13 ∷ 14 ∷ 15 ∷ []) 2 tt h)
-unwritten R.Not h = absurd (miss (11 ∷ 12 ∷ 13 ∷ 14 ∷ 15 ∷ []) 3 tt h)
-unwritten R.And h = absurd (miss (11 ∷ 12 ∷ 13 ∷ 14 ∷ 15 ∷ []) 4 tt h)
-unwritten R.Or h = absurd (miss (11 ∷ 12 ∷ 13 ∷ 14 ∷ 15 ∷ []) 5 tt h)
-unwritten (R.Compare o) h = absurd (miss (11 ∷ 12 ∷ 13 ∷ 14 ∷ 15 ∷ []) 6 tt h)
-unwritten (R.Some v r) h = absurd (miss (11 ∷ 12 ∷ 13 ∷ 14 ∷ 15 ∷ []) 7 tt h)
-unwritten (R.Constant a b c d) h = absurd (miss (11 ∷ 12 ∷ 13 ∷ 14 ∷ 15 ∷ []) 8 tt h)
-unwritten (R.Attribute v a) h = absurd (miss (11 ∷ 12 ∷ 13 ∷ 14 ∷ 15 ∷ []) 9 tt h)
-unwritten (R.Aggregate f v r a) h = absurd (miss (11 ∷ 12 ∷ 13 ∷ 14 ∷ 15 ∷ []) 10 tt h)
-unwritten (R.Stored a b c) h = refl
-unwritten (R.Workspace a b c) h = refl
+pub unwritten : (r : Record) → OneOf (11 ∷ 12 ∷ 13 ∷ []) (tagOf (declared enum) r) → [] ≡ recordBytes r
+unwritten (R.Range v r) h = absurd (miss (11 ∷ 12 ∷ 13 ∷ []) 0 tt h)
+unwritten R.True h = absurd (miss (11 ∷ 12 ∷ 13 ∷ []) 1 tt h)
+unwritten R.False h = absurd (miss (11 ∷ 12 ∷ 13 ∷ []) 2 tt h)
+unwritten R.Not h = absurd (miss (11 ∷ 12 ∷ 13 ∷ []) 3 tt h)
+unwritten R.And h = absurd (miss (11 ∷ 12 ∷ 13 ∷ []) 4 tt h)
+unwritten R.Or h = absurd (miss (11 ∷ 12 ∷ 13 ∷ []) 5 tt h)
+unwritten (R.Compare o) h = absurd (miss (11 ∷ 12 ∷ 13 ∷ []) 6 tt h)
+unwritten (R.Some v r) h = absurd (miss (11 ∷ 12 ∷ 13 ∷ []) 7 tt h)
+unwritten (R.Constant a b c d) h = absurd (miss (11 ∷ 12 ∷ 13 ∷ []) 8 tt h)
+unwritten (R.Attribute v a) h = absurd (miss (11 ∷ 12 ∷ 13 ∷ []) 9 tt h)
+unwritten (R.Aggregate f v r a) h = absurd (miss (11 ∷ 12 ∷ 13 ∷ []) 10 tt h)
 unwritten (R.Permit a b c) h = refl
 unwritten R.Unknown h = refl
 unwritten R.Short h = refl
 
 -- records with no variable that a condition could have
-pub unnamed : (r : Record) (ρ : ℕ → ℕ) → OneOf (0 ∷ 1 ∷ 2 ∷ 3 ∷ 4 ∷ 5 ∷ 6 ∷ 8 ∷ 11 ∷ 12 ∷ 13 ∷ 14 ∷ 15 ∷ []) (tagOf (declared enum) r) → r ≡ renamedRecord ρ r
-unnamed (R.Some v r) ρ h = absurd (miss (0 ∷ 1 ∷ 2 ∷ 3 ∷ 4 ∷ 5 ∷ 6 ∷ 8 ∷ 11 ∷ 12 ∷ 13 ∷ 14 ∷ 15 ∷ []) 7 tt h)
-unnamed (R.Attribute v a) ρ h = absurd (miss (0 ∷ 1 ∷ 2 ∷ 3 ∷ 4 ∷ 5 ∷ 6 ∷ 8 ∷ 11 ∷ 12 ∷ 13 ∷ 14 ∷ 15 ∷ []) 9 tt h)
-unnamed (R.Aggregate f v r a) ρ h = absurd (miss (0 ∷ 1 ∷ 2 ∷ 3 ∷ 4 ∷ 5 ∷ 6 ∷ 8 ∷ 11 ∷ 12 ∷ 13 ∷ 14 ∷ 15 ∷ []) 10 tt h)
+pub unnamed : (r : Record) (ρ : ℕ → ℕ) → OneOf (0 ∷ 1 ∷ 2 ∷ 3 ∷ 4 ∷ 5 ∷ 6 ∷ 8 ∷ 11 ∷ 12 ∷ 13 ∷ []) (tagOf (declared enum) r) → r ≡ renamedRecord ρ r
+unnamed (R.Some v r) ρ h = absurd (miss (0 ∷ 1 ∷ 2 ∷ 3 ∷ 4 ∷ 5 ∷ 6 ∷ 8 ∷ 11 ∷ 12 ∷ 13 ∷ []) 7 tt h)
+unnamed (R.Attribute v a) ρ h = absurd (miss (0 ∷ 1 ∷ 2 ∷ 3 ∷ 4 ∷ 5 ∷ 6 ∷ 8 ∷ 11 ∷ 12 ∷ 13 ∷ []) 9 tt h)
+unnamed (R.Aggregate f v r a) ρ h = absurd (miss (0 ∷ 1 ∷ 2 ∷ 3 ∷ 4 ∷ 5 ∷ 6 ∷ 8 ∷ 11 ∷ 12 ∷ 13 ∷ []) 10 tt h)
 unnamed (R.Range v r) ρ h = refl
 unnamed R.True ρ h = refl
 unnamed R.False ρ h = refl
@@ -54,8 +52,6 @@ unnamed R.And ρ h = refl
 unnamed R.Or ρ h = refl
 unnamed (R.Compare o) ρ h = refl
 unnamed (R.Constant a b c d) ρ h = refl
-unnamed (R.Stored a b c) ρ h = refl
-unnamed (R.Workspace a b c) ρ h = refl
 unnamed (R.Permit a b c) ρ h = refl
 unnamed R.Unknown ρ h = refl
 unnamed R.Short ρ h = refl

@@ -157,25 +157,23 @@ module _ (ws : List ℕ) (vs m : List ℤ) (e q z : List ℕ) where
   attribute-is l v a p r t nz er h hv ep et = ap (λ (y : ℤ). some (whole y)) (et ∙ ap (λ n. getD vs (n + a) (pos 0)) (ep ∙ getD-inside e v 0 (length vs) hv)) ∙ value-is l (R.Attribute v a) nz (sym h ∙ er)
 
 -- other records are no condition, and no term
-rest-condition : (f : List ℕ → List ℕ → Condition) (g : List ℕ → List ℕ → Term) (q z : List ℕ) (r : Record) → OneOf (0 ∷ 2 ∷ 8 ∷ 9 ∷ 10 ∷ 11 ∷ 12 ∷ 13 ∷ 14 ∷ 15 ∷ []) (tagOf (declared enum) r) → conditionBy r f g q z ≡ FALSE
+rest-condition : (f : List ℕ → List ℕ → Condition) (g : List ℕ → List ℕ → Term) (q z : List ℕ) (r : Record) → OneOf (0 ∷ 2 ∷ 8 ∷ 9 ∷ 10 ∷ 11 ∷ 12 ∷ 13 ∷ []) (tagOf (declared enum) r) → conditionBy r f g q z ≡ FALSE
 rest-condition f g q z (R.Range v r) h = refl
-rest-condition f g q z R.True h = absurd (miss (0 ∷ 2 ∷ 8 ∷ 9 ∷ 10 ∷ 11 ∷ 12 ∷ 13 ∷ 14 ∷ 15 ∷ []) 1 tt h)
+rest-condition f g q z R.True h = absurd (miss (0 ∷ 2 ∷ 8 ∷ 9 ∷ 10 ∷ 11 ∷ 12 ∷ 13 ∷ []) 1 tt h)
 rest-condition f g q z R.False h = refl
-rest-condition f g q z R.Not h = absurd (miss (0 ∷ 2 ∷ 8 ∷ 9 ∷ 10 ∷ 11 ∷ 12 ∷ 13 ∷ 14 ∷ 15 ∷ []) 3 tt h)
-rest-condition f g q z R.And h = absurd (miss (0 ∷ 2 ∷ 8 ∷ 9 ∷ 10 ∷ 11 ∷ 12 ∷ 13 ∷ 14 ∷ 15 ∷ []) 4 tt h)
-rest-condition f g q z R.Or h = absurd (miss (0 ∷ 2 ∷ 8 ∷ 9 ∷ 10 ∷ 11 ∷ 12 ∷ 13 ∷ 14 ∷ 15 ∷ []) 5 tt h)
-rest-condition f g q z (R.Compare o) h = absurd (miss (0 ∷ 2 ∷ 8 ∷ 9 ∷ 10 ∷ 11 ∷ 12 ∷ 13 ∷ 14 ∷ 15 ∷ []) 6 tt h)
-rest-condition f g q z (R.Some v r) h = absurd (miss (0 ∷ 2 ∷ 8 ∷ 9 ∷ 10 ∷ 11 ∷ 12 ∷ 13 ∷ 14 ∷ 15 ∷ []) 7 tt h)
+rest-condition f g q z R.Not h = absurd (miss (0 ∷ 2 ∷ 8 ∷ 9 ∷ 10 ∷ 11 ∷ 12 ∷ 13 ∷ []) 3 tt h)
+rest-condition f g q z R.And h = absurd (miss (0 ∷ 2 ∷ 8 ∷ 9 ∷ 10 ∷ 11 ∷ 12 ∷ 13 ∷ []) 4 tt h)
+rest-condition f g q z R.Or h = absurd (miss (0 ∷ 2 ∷ 8 ∷ 9 ∷ 10 ∷ 11 ∷ 12 ∷ 13 ∷ []) 5 tt h)
+rest-condition f g q z (R.Compare o) h = absurd (miss (0 ∷ 2 ∷ 8 ∷ 9 ∷ 10 ∷ 11 ∷ 12 ∷ 13 ∷ []) 6 tt h)
+rest-condition f g q z (R.Some v r) h = absurd (miss (0 ∷ 2 ∷ 8 ∷ 9 ∷ 10 ∷ 11 ∷ 12 ∷ 13 ∷ []) 7 tt h)
 rest-condition f g q z (R.Constant a b c d) h = refl
 rest-condition f g q z (R.Attribute v a) h = refl
 rest-condition f g q z (R.Aggregate k v r a) h = refl
-rest-condition f g q z (R.Stored a b c) h = refl
-rest-condition f g q z (R.Workspace a b c) h = refl
 rest-condition f g q z (R.Permit a b c) h = refl
 rest-condition f g q z R.Unknown h = refl
 rest-condition f g q z R.Short h = refl
 
-rest-term : (f : List ℕ → List ℕ → Condition) (q z : List ℕ) (r : Record) → OneOf (0 ∷ 1 ∷ 2 ∷ 3 ∷ 4 ∷ 5 ∷ 6 ∷ 7 ∷ 11 ∷ 12 ∷ 13 ∷ 14 ∷ 15 ∷ []) (tagOf (declared enum) r) → termBy r f q z ≡ nothing
+rest-term : (f : List ℕ → List ℕ → Condition) (q z : List ℕ) (r : Record) → OneOf (0 ∷ 1 ∷ 2 ∷ 3 ∷ 4 ∷ 5 ∷ 6 ∷ 7 ∷ 11 ∷ 12 ∷ 13 ∷ []) (tagOf (declared enum) r) → termBy r f q z ≡ nothing
 rest-term f q z (R.Range v r) h = refl
 rest-term f q z R.True h = refl
 rest-term f q z R.False h = refl
@@ -184,21 +182,19 @@ rest-term f q z R.And h = refl
 rest-term f q z R.Or h = refl
 rest-term f q z (R.Compare o) h = refl
 rest-term f q z (R.Some v r) h = refl
-rest-term f q z (R.Constant a b c d) h = absurd (miss (0 ∷ 1 ∷ 2 ∷ 3 ∷ 4 ∷ 5 ∷ 6 ∷ 7 ∷ 11 ∷ 12 ∷ 13 ∷ 14 ∷ 15 ∷ []) 8 tt h)
-rest-term f q z (R.Attribute v a) h = absurd (miss (0 ∷ 1 ∷ 2 ∷ 3 ∷ 4 ∷ 5 ∷ 6 ∷ 7 ∷ 11 ∷ 12 ∷ 13 ∷ 14 ∷ 15 ∷ []) 9 tt h)
-rest-term f q z (R.Aggregate k v r a) h = absurd (miss (0 ∷ 1 ∷ 2 ∷ 3 ∷ 4 ∷ 5 ∷ 6 ∷ 7 ∷ 11 ∷ 12 ∷ 13 ∷ 14 ∷ 15 ∷ []) 10 tt h)
-rest-term f q z (R.Stored a b c) h = refl
-rest-term f q z (R.Workspace a b c) h = refl
+rest-term f q z (R.Constant a b c d) h = absurd (miss (0 ∷ 1 ∷ 2 ∷ 3 ∷ 4 ∷ 5 ∷ 6 ∷ 7 ∷ 11 ∷ 12 ∷ 13 ∷ []) 8 tt h)
+rest-term f q z (R.Attribute v a) h = absurd (miss (0 ∷ 1 ∷ 2 ∷ 3 ∷ 4 ∷ 5 ∷ 6 ∷ 7 ∷ 11 ∷ 12 ∷ 13 ∷ []) 9 tt h)
+rest-term f q z (R.Aggregate k v r a) h = absurd (miss (0 ∷ 1 ∷ 2 ∷ 3 ∷ 4 ∷ 5 ∷ 6 ∷ 7 ∷ 11 ∷ 12 ∷ 13 ∷ []) 10 tt h)
 rest-term f q z (R.Permit a b c) h = refl
 rest-term f q z R.Unknown h = refl
 rest-term f q z R.Short h = refl
 
 module _ (ws : List ℕ) (vs m : List ℤ) (e q z : List ℕ) (l : ℕ) (r : Record) (nz : l ≡ 0 → ⊥) (er : r ≡ recordAt q) where
-  pub no-condition : OneOf (0 ∷ 2 ∷ 8 ∷ 9 ∷ 10 ∷ 11 ∷ 12 ∷ 13 ∷ 14 ∷ 15 ∷ []) (tagOf (declared enum) r) → false ≡ holdsAt l q z ws vs m e
+  pub no-condition : OneOf (0 ∷ 2 ∷ 8 ∷ 9 ∷ 10 ∷ 11 ∷ 12 ∷ 13 ∷ []) (tagOf (declared enum) r) → false ≡ holdsAt l q z ws vs m e
   unfolding holdsBy
   no-condition h = sym (ap (λ (c : Condition). holdsBy m c (rowsBy ws vs) (assigned vs e)) (rest-condition (λ x y. decode (l - 1) x y) (λ x y. decodeT (l - 1) x y) q z r h)) ∙ holds-is ws vs m e q z l r nz er
 
-  pub no-term : OneOf (0 ∷ 1 ∷ 2 ∷ 3 ∷ 4 ∷ 5 ∷ 6 ∷ 7 ∷ 11 ∷ 12 ∷ 13 ∷ 14 ∷ 15 ∷ []) (tagOf (declared enum) r) → some (whole (pos 0)) ≡ valueAt l q z ws vs m e
+  pub no-term : OneOf (0 ∷ 1 ∷ 2 ∷ 3 ∷ 4 ∷ 5 ∷ 6 ∷ 7 ∷ 11 ∷ 12 ∷ 13 ∷ []) (tagOf (declared enum) r) → some (whole (pos 0)) ≡ valueAt l q z ws vs m e
   unfolding holdsBy signed
   no-term h = sym (ap (λ (t : Term). valueBy m t (rowsBy ws vs) (assigned vs e)) (rest-term (λ x y. decode (l - 1) x y) q z r h)) ∙ value-is ws vs m e q z l r nz er
 

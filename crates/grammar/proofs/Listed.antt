@@ -9,7 +9,7 @@ use borrow.Author.Tests.{eqb-true, leb-true}
 use lib.Dec.{eqb, leb}
 use lib.ListN.{length, getD, drop, length-drop}
 use lib.Seq.{drop-drop}
-use Rattle.model.specs.Kinds.{Kind, k-range, k-true, k-false, k-not, k-and, k-or, k-compare, k-some, k-constant, k-attribute, k-aggregate, k-stored, k-workspace, k-permit, kindOf, find, kinds, code, bodyLength}
+use Rattle.model.specs.Kinds.{Kind, k-range, k-true, k-false, k-not, k-and, k-or, k-compare, k-some, k-constant, k-attribute, k-aggregate, k-permit, kindOf, find, kinds, code, bodyLength}
 use Rattle.model.specs.Syntax.{Condition, Permit, WellFormed}
 use Rattle.model.specs.Encoding.{encode, encodePermit, Read, fail, ok, then, need, readCondition, readPermit, readPermits, permitsRead, failed}
 use Rattle.model.proofs.Reading.{never, then-inv, need-inv, find-inv}
@@ -40,8 +40,6 @@ kind-permit k-some a b c d x l h e = absurd (let z : _≡_ {A = ℕ} 0 1 = cc in
 kind-permit k-constant a b c d x l h e = absurd (let z : _≡_ {A = ℕ} 0 1 = cc in omega arith)
 kind-permit k-attribute a b c d x l h e = absurd (let z : _≡_ {A = ℕ} 0 1 = cc in omega arith)
 kind-permit k-aggregate a b c d x l h e = absurd (let z : _≡_ {A = ℕ} 0 1 = cc in omega arith)
-kind-permit k-stored a b c d x l h e = absurd (let z : _≡_ {A = ℕ} 0 1 = cc in omega arith)
-kind-permit k-workspace a b c d x l h e = absurd (let z : _≡_ {A = ℕ} 0 1 = cc in omega arith)
 
 pub permit-head : (q : List ℕ) (x l h : ℕ) → recordAt q ≡ R.Permit x l h → (getD q 0 0 ≡ 64) × (4 ≤ length q)
 unfolding recordAt kindOf

@@ -8,7 +8,7 @@ use native.Mathlib.Omega.{arith}
 use lib.Dec.{leb}
 use borrow.Author.Tests.{le-leb}
 use lib.ListN.{length, getD, drop}
-use Rattle.model.specs.Kinds.{Kind, k-range, k-true, k-false, k-not, k-and, k-or, k-compare, k-some, k-constant, k-attribute, k-aggregate, k-stored, k-workspace, k-permit, kindOf, bodyLength, childConditions, childTerms}
+use Rattle.model.specs.Kinds.{Kind, k-range, k-true, k-false, k-not, k-and, k-or, k-compare, k-some, k-constant, k-attribute, k-aggregate, k-permit, kindOf, bodyLength, childConditions, childTerms}
 use Rattle.model.specs.Syntax.{Condition, Term, NOT, AND, OR, COMPARE, SOME, AGGREGATE, isOperator, isFunction}
 use Rattle.model.specs.Encoding.{Read, fail, ok, then, byte, need, conditionBody, termBody, onKind, readCondition, readTerm}
 use Rattle.model.proofs.Sizes.{size, sizeT}
@@ -113,8 +113,6 @@ module _ (f k : ℕ) where
   condition-by k-attribute r h = rw (no-condition (leb 2 (length r)) (R.Attribute (getD r 0 0) (getD r 1 0)) (after 3 (Bytes 0)) refl)
   condition-by k-aggregate r h = rw (no-condition (leb 4 (length r)) (R.Aggregate (getD r 0 0) (getD r 1 0) (getD r 2 0) (getD r 3 0)) (after 5 (Bytes 0)) refl)
   condition-by k-range r h = rw (no-condition (leb 2 (length r)) (R.Range (getD r 0 0) (getD r 1 0)) (after 3 (Bytes 0)) refl)
-  condition-by k-stored r h = rw (no-condition (leb 3 (length r)) (R.Stored (getD r 0 0) (getD r 1 0) (getD r 2 0)) (after 4 (Bytes 0)) refl)
-  condition-by k-workspace r h = rw (no-condition (leb 3 (length r)) (R.Workspace (getD r 0 0) (getD r 1 0) (getD r 2 0)) (after 4 (Bytes 0)) refl)
   condition-by k-permit r h = rw (no-condition (leb 3 (length r)) (R.Permit (getD r 0 0) (getD r 1 0) (getD r 2 0)) (after 4 (Bytes 0)) refl)
 
 -- a term likewise
@@ -148,8 +146,6 @@ module _ (f : ℕ) where
   term-by k-compare r h = sym (no-term (leb 1 (length r)) (R.Compare (getD r 0 0)) (Bytes 2) refl)
   term-by k-some r h = sym (no-term (leb 2 (length r)) (R.Some (getD r 0 0) (getD r 1 0)) (after 3 (many conditionSize 1 (drop 2 r))) refl)
   term-by k-range r h = sym (no-term (leb 2 (length r)) (R.Range (getD r 0 0) (getD r 1 0)) (Bytes 3) refl)
-  term-by k-stored r h = sym (no-term (leb 3 (length r)) (R.Stored (getD r 0 0) (getD r 1 0) (getD r 2 0)) (Bytes 4) refl)
-  term-by k-workspace r h = sym (no-term (leb 3 (length r)) (R.Workspace (getD r 0 0) (getD r 1 0) (getD r 2 0)) (Bytes 4) refl)
   term-by k-permit r h = sym (no-term (leb 3 (length r)) (R.Permit (getD r 0 0) (getD r 1 0) (getD r 2 0)) (after 4 (many conditionSize 1 (drop 3 r))) refl)
 
 -- a condition is its first record with its terms, then its children

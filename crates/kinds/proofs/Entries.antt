@@ -1,6 +1,6 @@
 -- A constant table by kind agrees with the model's kinds: one test that is computed over each word, and one law for every entry.
 use mathlib.Core.Path.{_≡_, refl, sym, ap, subst, _∙_}
-use mathlib.Core.Bool.{Bool, true, false, _&&_}
+use mathlib.Core.Bool.{Bool, true, false, cond, _&&_, _||_}
 use mathlib.Core.List.{List, [], _∷_}
 use mathlib.Core.Option.{Option, none, some}
 use Prim.Native.Nat.{ℕ, zero, suc, _+_, _*_, _/_, _%_, _^_, _<_, _≤_}
@@ -8,7 +8,7 @@ use native.Mathlib.Nat.{not-suc-le-zero}
 use native.Mathlib.Omega.{arith}
 use lib.Dec.{T, eqb, eqb→eq, ltb}
 use borrow.Author.Tests.{ne-eqb, eqb-true, eqb-false, le-ltb}
-use Rattle.model.specs.Kinds.{Kind, k-range, k-true, k-false, k-not, k-and, k-or, k-compare, k-some, k-constant, k-attribute, k-aggregate, k-stored, k-workspace, k-permit, kinds, code, bodyLength, childConditions, childTerms, find, kindOf}
+use Rattle.model.specs.Kinds.{Kind, k-range, k-true, k-false, k-not, k-and, k-or, k-compare, k-some, k-constant, k-attribute, k-aggregate, k-permit, kinds, code, bodyLength, childConditions, childTerms, find, kindOf}
 use Rattle.kinds.specs.Tables.{byteIn, ofKind, bodyOf, conditionsOf, termsOf, recordLength}
 
 and-left : (a b : Bool) → T (a && b) → T a
@@ -69,9 +69,30 @@ row-entry d f w i t k e h =
     let p : 16 * i + k % 8 ≡ k = omega (arith, e, h) in
     eqb→eq (byteIn w (k % 8)) (ofKind d f (16 * i + k % 8)) (below (λ l. eqb (byteIn w l) (ofKind d f (16 * i + l))) 8 t (k % 8) l) ∙ ap (ofKind d f) p
 
--- past the five rows
-pub high : (k : ℕ) → ((((Unit {0} × (k / 16 ≡ 0 → ⊥)) × (k / 16 ≡ 1 → ⊥)) × (k / 16 ≡ 2 → ⊥)) × (k / 16 ≡ 3 → ⊥)) × (k / 16 ≡ 4 → ⊥) → 80 ≤ k
-high k h = omega (arith, h .0 .0 .0 .0 .1, h .0 .0 .0 .1, h .0 .0 .1, h .0 .1, h .1)
+-- f says d of a byte that fails a test, where each kind passes the test or has d
+abbrev pub covered : (ℕ → Bool) → ℕ → (Kind → ℕ) → List Kind → Bool
+covered p d f [] = true
+covered p d f (x ∷ xs) = (p (code x) || eqb (f x) d) && covered p d f xs
+
+covered-some : (p : ℕ → Bool) (d : ℕ) (f : Kind → ℕ) (b : ℕ) → p b ≡ false → (xs : List Kind) (x : Kind) → T (covered p d f xs) → find b xs ≡ some x → f x ≡ d
+unfolding find
+covered-some p d f b h [] x t e = absurd (let z : _≡_ {A = Bool} true false = cc in subst T z tt)
+covered-some p d f b h (y ∷ ys) x t e = go (eqb b (code y)) refl e (covered-some p d f b h ys x (and-right (p (code y) || eqb (f y) d) (covered p d f ys) t))
+  where
+    l : T (p (code y) || eqb (f y) d)
+    l = and-left (p (code y) || eqb (f y) d) (covered p d f ys) t
+
+    go : (c : Bool) → eqb b (code y) ≡ c → cond c (some y) (find b ys) ≡ some x → (find b ys ≡ some x → f x ≡ d) → f x ≡ d
+    go true q g k = let z : y ≡ x = cc in subst (λ (w : Kind). f w ≡ d) z (eqb→eq (f y) d (subst (λ (a : Bool). T (a || eqb (f y) d)) (ap p (sym (eqb-true b (code y) q)) ∙ h) l))
+    go false q g k = k g
+
+pub outside : (p : ℕ → Bool) (d : ℕ) (f : Kind → ℕ) (b : ℕ) → p b ≡ false → T (covered p d f kinds) → ofKind d f b ≡ d
+unfolding kindOf
+outside p d f b h t = go (kindOf b) refl
+  where
+    go : (o : Option Kind) → kindOf b ≡ o → ofKind d f b ≡ d
+    go none e = of-none d f b e
+    go (some x) e = of-some d f b x e ∙ covered-some p d f b h kinds x t e
 
 -- a body has at most four bytes
 pub body-small : (x : Kind) → bodyLength x ≤ 4
@@ -86,8 +107,6 @@ body-small k-some = omega arith
 body-small k-constant = omega arith
 body-small k-attribute = omega arith
 body-small k-aggregate = omega arith
-body-small k-stored = omega arith
-body-small k-workspace = omega arith
 body-small k-permit = omega arith
 
 pub unknown : (b : ℕ) → bodyOf b ≡ 255 → kindOf b ≡ none
@@ -135,8 +154,6 @@ kind-children k-some = omega arith
 kind-children k-constant = omega arith
 kind-children k-attribute = omega arith
 kind-children k-aggregate = omega arith
-kind-children k-stored = omega arith
-kind-children k-workspace = omega arith
 kind-children k-permit = omega arith
 
 pub children-small : (b : ℕ) → conditionsOf b + termsOf b ≤ 2

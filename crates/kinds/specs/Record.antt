@@ -5,7 +5,7 @@ use mathlib.Core.List.{List, [], _∷_}
 use mathlib.Core.Option.{Option, none, some}
 use lib.ListN.{length, getD}
 use lib.Dec.{leb}
-use Rattle.model.specs.Kinds.{Kind, k-range, k-true, k-false, k-not, k-and, k-or, k-compare, k-some, k-constant, k-attribute, k-aggregate, k-stored, k-workspace, k-permit, kindOf, bodyLength}
+use Rattle.model.specs.Kinds.{Kind, k-range, k-true, k-false, k-not, k-and, k-or, k-compare, k-some, k-constant, k-attribute, k-aggregate, k-permit, kindOf, bodyLength}
 use Rattle.kinds.specs.Tables.{ofKind}
 use Rattle.kinds.specs.declared.Record.{Record}
 use Rattle.kinds.specs.declared.Record.the-variants as R
@@ -23,8 +23,6 @@ filled a b c d k-some = R.Some a b
 filled a b c d k-constant = R.Constant a b c d
 filled a b c d k-attribute = R.Attribute a b
 filled a b c d k-aggregate = R.Aggregate a b c d
-filled a b c d k-stored = R.Stored a b c
-filled a b c d k-workspace = R.Workspace a b c
 filled a b c d k-permit = R.Permit a b c
 
 -- the record of kind x that the bytes after the kind byte begin, Short where they end before its body does

@@ -9,21 +9,25 @@ ghost use Rattle.model.specs.Meaning.{signed};
 ghost use Rattle.kinds.specs.Tables.{byteIn, bodyOf, conditionsOf, termsOf, recordLength};
 ghost use Rattle.kinds.specs.Record.{recordAt};
 
-// Tables by kind: a word for each sixteen kinds, of which only the first eight are in use, and in it a byte for each kind, the first one lowest.
-// Each word is read at a place that the compiler knows, so that no table is written to the stack.
+// Tables by kind: a word for each sixteen kinds that have any, of which only the first eight are in use, and in it a byte for each kind, the first
+// one lowest. Words and no array: the compiler writes an array to the stack wherever it is read.
 // The length of the body, 255 where no record has the kind.
-const BODY: [u64; 5] = [
-    0xffff_ffff_ffff_02ff,
-    0xff02_0100_0000_0000,
-    0xffff_ffff_ff04_0204,
-    0xffff_ffff_ffff_0303,
-    0xffff_ffff_ffff_ff03,
-];
+const BODY_0: u64 = 0xffff_ffff_ffff_02ff;
+
+const BODY_16: u64 = 0xff02_0100_0000_0000;
+
+const BODY_32: u64 = 0xffff_ffff_ff04_0204;
+
+const BODY_64: u64 = 0xffff_ffff_ffff_ff03;
 
 // How many conditions follow as children, and how many terms.
-const CHILD_CONDITIONS: [u64; 5] = [0, 0x0001_0002_0201_0000, 0x0001_0000, 0, 1];
+const CONDITIONS_16: u64 = 0x0001_0002_0201_0000;
 
-const CHILD_TERMS: [u64; 5] = [0, 0x0200_0000_0000, 0, 0, 0];
+const CONDITIONS_32: u64 = 0x0001_0000;
+
+const CONDITIONS_64: u64 = 1;
+
+const TERMS_16: u64 = 0x0200_0000_0000;
 
 fn wide_kind(x: u8) -> u64
     ensures { λ r. ⌜ r ≡ x ⌝ }
@@ -45,11 +49,10 @@ fn body_length(kind: u8) -> u8
         return 255;
     }
     match kind / 16 {
-        0 => entry(BODY[0], kind),
-        1 => entry(BODY[1], kind),
-        2 => entry(BODY[2], kind),
-        3 => entry(BODY[3], kind),
-        4 => entry(BODY[4], kind),
+        0 => entry(BODY_0, kind),
+        1 => entry(BODY_16, kind),
+        2 => entry(BODY_32, kind),
+        4 => entry(BODY_64, kind),
         _ => 255,
     }
 }
@@ -61,11 +64,9 @@ pub fn child_conditions(kind: u8) -> u8
         return 0;
     }
     match kind / 16 {
-        0 => entry(CHILD_CONDITIONS[0], kind),
-        1 => entry(CHILD_CONDITIONS[1], kind),
-        2 => entry(CHILD_CONDITIONS[2], kind),
-        3 => entry(CHILD_CONDITIONS[3], kind),
-        4 => entry(CHILD_CONDITIONS[4], kind),
+        1 => entry(CONDITIONS_16, kind),
+        2 => entry(CONDITIONS_32, kind),
+        4 => entry(CONDITIONS_64, kind),
         _ => 0,
     }
 }
@@ -77,11 +78,7 @@ pub fn child_terms(kind: u8) -> u8
         return 0;
     }
     match kind / 16 {
-        0 => entry(CHILD_TERMS[0], kind),
-        1 => entry(CHILD_TERMS[1], kind),
-        2 => entry(CHILD_TERMS[2], kind),
-        3 => entry(CHILD_TERMS[3], kind),
-        4 => entry(CHILD_TERMS[4], kind),
+        1 => entry(TERMS_16, kind),
         _ => 0,
     }
 }
@@ -167,9 +164,6 @@ pub enum Record {
     Attribute(u8, u8),
     // function, variable, relation, attribute
     Aggregate(u8, u8, u8, u8),
-    // attributes, rows (low, high)
-    Stored(u8, u8, u8),
-    Workspace(u8, u8, u8),
     // relation, mask (low, high)
     Permit(u8, u8, u8),
     Unknown,
@@ -210,8 +204,6 @@ pub fn read(q: &[u8]) -> Record
         32 => Record::Constant(q[1], q[2], q[3], q[4]),
         33 => Record::Attribute(q[1], q[2]),
         34 => Record::Aggregate(q[1], q[2], q[3], q[4]),
-        48 => Record::Stored(q[1], q[2], q[3]),
-        49 => Record::Workspace(q[1], q[2], q[3]),
         64 => Record::Permit(q[1], q[2], q[3]),
         _ => Record::Unknown,
     }

@@ -7,7 +7,7 @@ use mathlib.Core.Path.{_≡_, refl, sym, _∙_, ap, subst₂}
 use lib.Dec.{eqb, leb}
 use native.Mathlib.Omega.{arith}
 use borrow.Author.Tests.{eqb-true}
-use Rattle.model.specs.Kinds.{Kind, k-range, k-true, k-false, k-not, k-and, k-or, k-compare, k-some, k-constant, k-attribute, k-aggregate, k-stored, k-workspace, k-permit, code, find, kindOf}
+use Rattle.model.specs.Kinds.{Kind, k-range, k-true, k-false, k-not, k-and, k-or, k-compare, k-some, k-constant, k-attribute, k-aggregate, k-permit, code, find, kindOf}
 use Rattle.model.specs.Syntax.{Condition, Term, TRUE, FALSE, NOT, AND, OR, COMPARE, SOME, CONSTANT, ATTRIBUTE, AGGREGATE, isOperator, isFunction, WellFormed, WellFormedT, levels, levelsT}
 use Rattle.model.specs.Encoding.{encode, encodeT, Read, fail, ok, then, byte, need, conditionBody, termBody, onKind, readCondition, readTerm}
 
@@ -121,8 +121,6 @@ module _ (pc : List ℕ → Read Condition) (pt : List ℕ → Read Term) (n : �
       giveC (record { bytes = ap (λ l. 22 ∷ l) (p ∙ ap (λ l. v ∷ l) (p′ ∙ ap (λ l. q ∷ l) (i .bytes))); well = i .well; deep = omega arith }) z
   cond-inv k-constant bs c r h = never c r h
   cond-inv k-range bs c r h = never c r h
-  cond-inv k-stored bs c r h = never c r h
-  cond-inv k-workspace bs c r h = never c r h
   cond-inv k-permit bs c r h = never c r h
   cond-inv k-attribute bs c r h = never c r h
   cond-inv k-aggregate bs c r h = never c r h
@@ -130,8 +128,6 @@ module _ (pc : List ℕ → Read Condition) (pt : List ℕ → Read Term) (n : �
   term-inv : (x : Kind) (bs : List ℕ) (t : Term) (r : List ℕ) → termBody pc pt x bs ≡ ok t r → IsT (code x ∷ bs) t r (suc n)
   unfolding termBody encode WellFormed levels
   term-inv k-range bs c r h = never c r h
-  term-inv k-stored bs c r h = never c r h
-  term-inv k-workspace bs c r h = never c r h
   term-inv k-permit bs c r h = never c r h
   term-inv k-true bs c r h = never c r h
   term-inv k-false bs c r h = never c r h

@@ -5,7 +5,7 @@ use mathlib.Core.List.{List, [], _∷_}
 use mathlib.Core.Option.{Option, none, some}
 use lib.Dec.{eqb, leb}
 use lib.ListN.{length}
-use Rattle.model.specs.Kinds.{Kind, k-range, k-true, k-false, k-not, k-and, k-or, k-compare, k-some, k-constant, k-attribute, k-aggregate, k-stored, k-workspace, k-permit, kindOf}
+use Rattle.model.specs.Kinds.{Kind, k-range, k-true, k-false, k-not, k-and, k-or, k-compare, k-some, k-constant, k-attribute, k-aggregate, k-permit, kindOf}
 use Rattle.model.specs.Syntax.{Condition, Term, TRUE, FALSE, NOT, AND, OR, COMPARE, SOME, CONSTANT, ATTRIBUTE, AGGREGATE, Binding, Query, Permit, isOperator, isFunction}
 
 -- written: the bytes of a condition or a term, before the bytes `r`
@@ -74,8 +74,6 @@ module _ (condition : List ℕ → Read Condition) (term : List ℕ → Read Ter
   conditionBody k-attribute r = fail
   conditionBody k-aggregate r = fail
   conditionBody k-range r = fail
-  conditionBody k-stored r = fail
-  conditionBody k-workspace r = fail
   conditionBody k-permit r = fail
 
   unfoldable pub termBody : Kind → List ℕ → Read Term
@@ -90,8 +88,6 @@ module _ (condition : List ℕ → Read Condition) (term : List ℕ → Read Ter
   termBody k-compare r = fail
   termBody k-some r = fail
   termBody k-range r = fail
-  termBody k-stored r = fail
-  termBody k-workspace r = fail
   termBody k-permit r = fail
 
 -- an unknown kind is not well formed

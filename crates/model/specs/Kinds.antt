@@ -1,4 +1,4 @@
--- The kinds of record (document 01, the table of "Questions", with the records of catalogue and permits).
+-- The kinds of record, by place: in questions and permits (document 01, the table of "Questions", with the permit's own), and in a catalogue.
 -- A record is one byte of kind, then a body whose length the kind fixes; children follow their parent.
 use Prim.Native.Nat.{ℕ}
 use mathlib.Core.Bool.{cond}
@@ -7,10 +7,10 @@ use mathlib.Core.Option.{Option, none, some}
 use lib.Dec.{eqb}
 
 pub data Kind : Type 0 where
-  k-range k-true k-false k-not k-and k-or k-compare k-some k-constant k-attribute k-aggregate k-stored k-workspace k-permit : Kind
+  k-range k-true k-false k-not k-and k-or k-compare k-some k-constant k-attribute k-aggregate k-permit : Kind
 
 abbrev pub kinds : List Kind
-kinds = k-range ∷ k-true ∷ k-false ∷ k-not ∷ k-and ∷ k-or ∷ k-compare ∷ k-some ∷ k-constant ∷ k-attribute ∷ k-aggregate ∷ k-stored ∷ k-workspace ∷ k-permit ∷ []
+kinds = k-range ∷ k-true ∷ k-false ∷ k-not ∷ k-and ∷ k-or ∷ k-compare ∷ k-some ∷ k-constant ∷ k-attribute ∷ k-aggregate ∷ k-permit ∷ []
 
 -- the byte of a kind
 abbrev pub code : Kind → ℕ
@@ -25,8 +25,6 @@ code k-some = 22
 code k-constant = 32
 code k-attribute = 33
 code k-aggregate = 34
-code k-stored = 48
-code k-workspace = 49
 code k-permit = 64
 
 -- the length of the body
@@ -42,8 +40,6 @@ bodyLength k-some = 2
 bodyLength k-constant = 4
 bodyLength k-attribute = 2
 bodyLength k-aggregate = 4
-bodyLength k-stored = 3
-bodyLength k-workspace = 3
 bodyLength k-permit = 3
 
 -- how many conditions follow as children, and how many terms
@@ -59,8 +55,6 @@ childConditions k-some = 1
 childConditions k-constant = 0
 childConditions k-attribute = 0
 childConditions k-aggregate = 1
-childConditions k-stored = 0
-childConditions k-workspace = 0
 childConditions k-permit = 1
 
 abbrev pub childTerms : Kind → ℕ
@@ -75,8 +69,6 @@ childTerms k-some = 0
 childTerms k-constant = 0
 childTerms k-attribute = 0
 childTerms k-aggregate = 0
-childTerms k-stored = 0
-childTerms k-workspace = 0
 childTerms k-permit = 0
 
 -- the kind that a byte names
@@ -86,3 +78,13 @@ find b (k ∷ ks) = cond (eqb b (code k)) (some k) (find b ks)
 
 unfoldable pub kindOf : ℕ → Option Kind
 kindOf b = find b kinds
+
+-- the records of a catalogue: a stored relation, a workspace, and a stored relation whose latest row is met first (document 02, change 9); their body,
+-- attributes and the count of rows, is read in Catalogue
+pub data RelationKind : Type 0 where
+  k-stored k-workspace k-latest : RelationKind
+
+abbrev pub relationCode : RelationKind → ℕ
+relationCode k-stored = 48
+relationCode k-workspace = 49
+relationCode k-latest = 50

@@ -71,7 +71,7 @@ pub framed-as : (it r : Record) (i c : ℕ) → it ≡ r → Framed r i c → Fr
 framed-as it r i c e f = subst (λ (x : Record). Framed x i c) (sym e) f
 
 module _ (i c : ℕ) (m : modeIn c ≡ 0) (r : relationIn c ≡ 0) (v : variableIn c ≡ 0) (p : placeIn c ≡ i) where
-  framed : (it : Record) → OneOf (0 ∷ 1 ∷ 2 ∷ 3 ∷ 4 ∷ 5 ∷ 6 ∷ 8 ∷ 9 ∷ 11 ∷ 12 ∷ 13 ∷ 14 ∷ 15 ∷ []) (tagOf (declared enum) it) → Framed it i c
+  framed : (it : Record) → OneOf (0 ∷ 1 ∷ 2 ∷ 3 ∷ 4 ∷ 5 ∷ 6 ∷ 8 ∷ 9 ∷ 11 ∷ 12 ∷ 13 ∷ []) (tagOf (declared enum) it) → Framed it i c
   framed (R.Range _ _) h = record { mode = m; relation = r; variable = v; place = p ∙ sym (add-zero i) }
   framed R.True h = record { mode = m; relation = r; variable = v; place = p ∙ sym (add-zero i) }
   framed R.False h = record { mode = m; relation = r; variable = v; place = p ∙ sym (add-zero i) }
@@ -79,17 +79,15 @@ module _ (i c : ℕ) (m : modeIn c ≡ 0) (r : relationIn c ≡ 0) (v : variable
   framed R.And h = record { mode = m; relation = r; variable = v; place = p ∙ sym (add-zero i) }
   framed R.Or h = record { mode = m; relation = r; variable = v; place = p ∙ sym (add-zero i) }
   framed (R.Compare _) h = record { mode = m; relation = r; variable = v; place = p ∙ sym (add-zero i) }
-  framed (R.Some _ _) h = absurd (miss (0 ∷ 1 ∷ 2 ∷ 3 ∷ 4 ∷ 5 ∷ 6 ∷ 8 ∷ 9 ∷ 11 ∷ 12 ∷ 13 ∷ 14 ∷ 15 ∷ []) 7 tt h)
+  framed (R.Some _ _) h = absurd (miss (0 ∷ 1 ∷ 2 ∷ 3 ∷ 4 ∷ 5 ∷ 6 ∷ 8 ∷ 9 ∷ 11 ∷ 12 ∷ 13 ∷ []) 7 tt h)
   framed (R.Constant _ _ _ _) h = record { mode = m; relation = r; variable = v; place = p ∙ sym (add-zero i) }
   framed (R.Attribute _ _) h = record { mode = m; relation = r; variable = v; place = p ∙ sym (add-zero i) }
-  framed (R.Aggregate _ _ _ _) h = absurd (miss (0 ∷ 1 ∷ 2 ∷ 3 ∷ 4 ∷ 5 ∷ 6 ∷ 8 ∷ 9 ∷ 11 ∷ 12 ∷ 13 ∷ 14 ∷ 15 ∷ []) 10 tt h)
-  framed (R.Stored _ _ _) h = record { mode = m; relation = r; variable = v; place = p ∙ sym (add-zero i) }
-  framed (R.Workspace _ _ _) h = record { mode = m; relation = r; variable = v; place = p ∙ sym (add-zero i) }
+  framed (R.Aggregate _ _ _ _) h = absurd (miss (0 ∷ 1 ∷ 2 ∷ 3 ∷ 4 ∷ 5 ∷ 6 ∷ 8 ∷ 9 ∷ 11 ∷ 12 ∷ 13 ∷ []) 10 tt h)
   framed (R.Permit _ _ _) h = record { mode = m; relation = r; variable = v; place = p ∙ sym (add-zero i) }
   framed R.Unknown h = record { mode = m; relation = r; variable = v; place = p ∙ sym (add-zero i) }
   framed R.Short h = record { mode = m; relation = r; variable = v; place = p ∙ sym (add-zero i) }
 
-pub framed-none : (it : Record) → OneOf (0 ∷ 1 ∷ 2 ∷ 3 ∷ 4 ∷ 5 ∷ 6 ∷ 8 ∷ 9 ∷ 11 ∷ 12 ∷ 13 ∷ 14 ∷ 15 ∷ []) (tagOf (declared enum) it) → (i c : ℕ) → modeIn c ≡ 0 → relationIn c ≡ 0 → variableIn c ≡ 0 → placeIn c ≡ i → Framed it i c
+pub framed-none : (it : Record) → OneOf (0 ∷ 1 ∷ 2 ∷ 3 ∷ 4 ∷ 5 ∷ 6 ∷ 8 ∷ 9 ∷ 11 ∷ 12 ∷ 13 ∷ []) (tagOf (declared enum) it) → (i c : ℕ) → modeIn c ≡ 0 → relationIn c ≡ 0 → variableIn c ≡ 0 → placeIn c ≡ i → Framed it i c
 framed-none it h i c m r v p = framed i c m r v p it h
 
 -- V's, ^'s and a sign

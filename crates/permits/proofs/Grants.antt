@@ -91,11 +91,11 @@ four = refl
 
 -- no permit starts at p
 abbrev Others : List ℕ
-Others = 0 ∷ 1 ∷ 2 ∷ 3 ∷ 4 ∷ 5 ∷ 6 ∷ 7 ∷ 8 ∷ 9 ∷ 10 ∷ 11 ∷ 12 ∷ 14 ∷ 15 ∷ []
+Others = 0 ∷ 1 ∷ 2 ∷ 3 ∷ 4 ∷ 5 ∷ 6 ∷ 7 ∷ 8 ∷ 9 ∷ 10 ∷ 12 ∷ 13 ∷ []
 
 pub no-permit : (sh : Shape) (list x : List ℕ) (p : ℕ) (k : Record) → x ≡ drop p list → k ≡ recordAt x → OneOf Others (tagOf (declared enum) k) → Granted G.Refused sh list p
 unfolding encodePermit kindOf find
-no-permit sh list x p k ex ek o g r e w f = absurd (miss Others 13 tt (subst (λ v. OneOf Others (tagOf (declared enum) v)) (ek ∙ ap recordAt (ex ∙ e) ∙ whole-record 64 (g .relation ∷ g .low ∷ g .high ∷ encode (g .condition) r) k-permit refl (omega arith)) o))
+no-permit sh list x p k ex ek o g r e w f = absurd (miss Others 11 tt (subst (λ v. OneOf Others (tagOf (declared enum) v)) (ek ∙ ap recordAt (ex ∙ e) ∙ whole-record 64 (g .relation ∷ g .low ∷ g .high ∷ encode (g .condition) r) k-permit refl (omega arith)) o))
 
 -- a permit's head at p, and what was read after it
 module _ (cb list : List ℕ) (h10 : fails10 cb ≡ false) (p : ℕ) (inside : p ≤ length list) (r lo hi : ℕ) (starts : Starts (R.Permit r lo hi) (drop p list)) (k : ℕ) (ek : k ≡ recordLength 64)

@@ -104,28 +104,26 @@ module _ (masks : List ℕ) (f : ℕ → List ℕ) where
 
 -- any other record is FALSE, or the constant 0
 module _ (c : List ℕ → List ℕ → Condition) (t : List ℕ → List ℕ → Term) (q z : List ℕ) where
-  no-condition : (r : Record) → OneOf (0 ∷ 2 ∷ 8 ∷ 9 ∷ 10 ∷ 11 ∷ 12 ∷ 13 ∷ 14 ∷ 15 ∷ []) (tagOf (declared enum) r) → conditionBy r c t q z ≡ FALSE
-  no-condition R.True h = absurd (miss (0 ∷ 2 ∷ 8 ∷ 9 ∷ 10 ∷ 11 ∷ 12 ∷ 13 ∷ 14 ∷ 15 ∷ []) 1 tt h)
-  no-condition R.Not h = absurd (miss (0 ∷ 2 ∷ 8 ∷ 9 ∷ 10 ∷ 11 ∷ 12 ∷ 13 ∷ 14 ∷ 15 ∷ []) 3 tt h)
-  no-condition R.And h = absurd (miss (0 ∷ 2 ∷ 8 ∷ 9 ∷ 10 ∷ 11 ∷ 12 ∷ 13 ∷ 14 ∷ 15 ∷ []) 4 tt h)
-  no-condition R.Or h = absurd (miss (0 ∷ 2 ∷ 8 ∷ 9 ∷ 10 ∷ 11 ∷ 12 ∷ 13 ∷ 14 ∷ 15 ∷ []) 5 tt h)
-  no-condition (R.Compare o) h = absurd (miss (0 ∷ 2 ∷ 8 ∷ 9 ∷ 10 ∷ 11 ∷ 12 ∷ 13 ∷ 14 ∷ 15 ∷ []) 6 tt h)
-  no-condition (R.Some v r) h = absurd (miss (0 ∷ 2 ∷ 8 ∷ 9 ∷ 10 ∷ 11 ∷ 12 ∷ 13 ∷ 14 ∷ 15 ∷ []) 7 tt h)
+  no-condition : (r : Record) → OneOf (0 ∷ 2 ∷ 8 ∷ 9 ∷ 10 ∷ 11 ∷ 12 ∷ 13 ∷ []) (tagOf (declared enum) r) → conditionBy r c t q z ≡ FALSE
+  no-condition R.True h = absurd (miss (0 ∷ 2 ∷ 8 ∷ 9 ∷ 10 ∷ 11 ∷ 12 ∷ 13 ∷ []) 1 tt h)
+  no-condition R.Not h = absurd (miss (0 ∷ 2 ∷ 8 ∷ 9 ∷ 10 ∷ 11 ∷ 12 ∷ 13 ∷ []) 3 tt h)
+  no-condition R.And h = absurd (miss (0 ∷ 2 ∷ 8 ∷ 9 ∷ 10 ∷ 11 ∷ 12 ∷ 13 ∷ []) 4 tt h)
+  no-condition R.Or h = absurd (miss (0 ∷ 2 ∷ 8 ∷ 9 ∷ 10 ∷ 11 ∷ 12 ∷ 13 ∷ []) 5 tt h)
+  no-condition (R.Compare o) h = absurd (miss (0 ∷ 2 ∷ 8 ∷ 9 ∷ 10 ∷ 11 ∷ 12 ∷ 13 ∷ []) 6 tt h)
+  no-condition (R.Some v r) h = absurd (miss (0 ∷ 2 ∷ 8 ∷ 9 ∷ 10 ∷ 11 ∷ 12 ∷ 13 ∷ []) 7 tt h)
   no-condition R.False h = refl
   no-condition (R.Range v r) h = refl
   no-condition (R.Constant a b c d) h = refl
   no-condition (R.Attribute v a) h = refl
   no-condition (R.Aggregate g v r a) h = refl
-  no-condition (R.Stored a b c) h = refl
-  no-condition (R.Workspace a b c) h = refl
   no-condition (R.Permit a b c) h = refl
   no-condition R.Unknown h = refl
   no-condition R.Short h = refl
 
-  no-term : (r : Record) → OneOf (0 ∷ 1 ∷ 2 ∷ 3 ∷ 4 ∷ 5 ∷ 6 ∷ 7 ∷ 11 ∷ 12 ∷ 13 ∷ 14 ∷ 15 ∷ []) (tagOf (declared enum) r) → termBy r c q z ≡ nothing
-  no-term (R.Constant a b c d) h = absurd (miss (0 ∷ 1 ∷ 2 ∷ 3 ∷ 4 ∷ 5 ∷ 6 ∷ 7 ∷ 11 ∷ 12 ∷ 13 ∷ 14 ∷ 15 ∷ []) 8 tt h)
-  no-term (R.Attribute v a) h = absurd (miss (0 ∷ 1 ∷ 2 ∷ 3 ∷ 4 ∷ 5 ∷ 6 ∷ 7 ∷ 11 ∷ 12 ∷ 13 ∷ 14 ∷ 15 ∷ []) 9 tt h)
-  no-term (R.Aggregate g v r a) h = absurd (miss (0 ∷ 1 ∷ 2 ∷ 3 ∷ 4 ∷ 5 ∷ 6 ∷ 7 ∷ 11 ∷ 12 ∷ 13 ∷ 14 ∷ 15 ∷ []) 10 tt h)
+  no-term : (r : Record) → OneOf (0 ∷ 1 ∷ 2 ∷ 3 ∷ 4 ∷ 5 ∷ 6 ∷ 7 ∷ 11 ∷ 12 ∷ 13 ∷ []) (tagOf (declared enum) r) → termBy r c q z ≡ nothing
+  no-term (R.Constant a b c d) h = absurd (miss (0 ∷ 1 ∷ 2 ∷ 3 ∷ 4 ∷ 5 ∷ 6 ∷ 7 ∷ 11 ∷ 12 ∷ 13 ∷ []) 8 tt h)
+  no-term (R.Attribute v a) h = absurd (miss (0 ∷ 1 ∷ 2 ∷ 3 ∷ 4 ∷ 5 ∷ 6 ∷ 7 ∷ 11 ∷ 12 ∷ 13 ∷ []) 9 tt h)
+  no-term (R.Aggregate g v r a) h = absurd (miss (0 ∷ 1 ∷ 2 ∷ 3 ∷ 4 ∷ 5 ∷ 6 ∷ 7 ∷ 11 ∷ 12 ∷ 13 ∷ []) 10 tt h)
   no-term (R.Range v r) h = refl
   no-term R.True h = refl
   no-term R.False h = refl
@@ -134,17 +132,15 @@ module _ (c : List ℕ → List ℕ → Condition) (t : List ℕ → List ℕ �
   no-term R.Or h = refl
   no-term (R.Compare o) h = refl
   no-term (R.Some v r) h = refl
-  no-term (R.Stored a b c) h = refl
-  no-term (R.Workspace a b c) h = refl
   no-term (R.Permit a b c) h = refl
   no-term R.Unknown h = refl
   no-term R.Short h = refl
 
 module _ (masks : List ℕ) (f : ℕ → List ℕ) (l : ℕ) (q z : List ℕ) (h : l ≡ 0 → ⊥) (r : Record) (e : r ≡ recordAt q) where
-  pub rest-leaf : OneOf (0 ∷ 2 ∷ 8 ∷ 9 ∷ 10 ∷ 11 ∷ 12 ∷ 13 ∷ 14 ∷ 15 ∷ []) (tagOf (declared enum) r) → Leaf (W masks f l q z) (K masks f l q z) (17 ∷ [])
+  pub rest-leaf : OneOf (0 ∷ 2 ∷ 8 ∷ 9 ∷ 10 ∷ 11 ∷ 12 ∷ 13 ∷ []) (tagOf (declared enum) r) → Leaf (W masks f l q z) (K masks f l q z) (17 ∷ [])
   unfolding rewritten bindings
   rest-leaf o = leaf masks f l q z FALSE (17 ∷ []) (decode-step l q z r h (sym e) ∙ no-condition (λ x y. decode (l - 1) x y) (λ x y. decodeT (l - 1) x y) q z r o) (λ n. refl) refl
 
-  pub rest-leafT : OneOf (0 ∷ 1 ∷ 2 ∷ 3 ∷ 4 ∷ 5 ∷ 6 ∷ 7 ∷ 11 ∷ 12 ∷ 13 ∷ 14 ∷ 15 ∷ []) (tagOf (declared enum) r) → Leaf (U masks f l q z) (J masks f l q z) (32 ∷ 0 ∷ 0 ∷ 0 ∷ 0 ∷ [])
+  pub rest-leafT : OneOf (0 ∷ 1 ∷ 2 ∷ 3 ∷ 4 ∷ 5 ∷ 6 ∷ 7 ∷ 11 ∷ 12 ∷ 13 ∷ []) (tagOf (declared enum) r) → Leaf (U masks f l q z) (J masks f l q z) (32 ∷ 0 ∷ 0 ∷ 0 ∷ 0 ∷ [])
   unfolding rewritten bindings
   rest-leafT o = leafT masks f l q z nothing (32 ∷ 0 ∷ 0 ∷ 0 ∷ 0 ∷ []) (decodeT-step l q z r h (sym e) ∙ no-term (λ x y. decode (l - 1) x y) (λ x y. decodeT (l - 1) x y) q z r o) (λ n. refl) refl

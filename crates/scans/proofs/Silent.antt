@@ -8,7 +8,7 @@ use native.Mathlib.Omega.{arith}
 use lib.Dec.{eqb, leb}
 use lib.ListN.{length, getD, drop}
 use borrow.Author.Tests.{eqb-true}
-use Rattle.model.specs.Kinds.{Kind, k-range, k-true, k-false, k-not, k-and, k-or, k-compare, k-some, k-constant, k-attribute, k-aggregate, k-stored, k-workspace, k-permit, kinds, code, bodyLength, find, kindOf}
+use Rattle.model.specs.Kinds.{Kind, k-range, k-true, k-false, k-not, k-and, k-or, k-compare, k-some, k-constant, k-attribute, k-aggregate, k-permit, kinds, code, bodyLength, find, kindOf}
 use Rattle.kinds.specs.Record.{filled, within, recordAt}
 use Rattle.kinds.specs.declared.Record.{Record}
 use Rattle.kinds.specs.declared.Record.the-variants as R
@@ -54,8 +54,6 @@ binds-nothing q at k ek (range, exists, aggregate) = sym (silent bindingOf refl 
     go k-constant e a b c d = refl
     go k-attribute e a b c d = refl
     go k-aggregate e a b c d = absurd (aggregate e)
-    go k-stored e a b c d = refl
-    go k-workspace e a b c d = refl
     go k-permit e a b c d = refl
 
 pub uses-nothing : (q : List ℕ) (at k : ℕ) → k ≡ getD q at 0 → (k ≡ 33 → ⊥) × (k ≡ 34 → ⊥) → [] ≡ useOf (recordAt (drop at q))
@@ -73,6 +71,4 @@ uses-nothing q at k ek (attribute, aggregate) = sym (silent useOf refl refl (dro
     go k-constant e a b c d = refl
     go k-attribute e a b c d = absurd (attribute e)
     go k-aggregate e a b c d = absurd (aggregate e)
-    go k-stored e a b c d = refl
-    go k-workspace e a b c d = refl
     go k-permit e a b c d = refl

@@ -8,7 +8,7 @@ use lib.ListN.{length, getD, drop}
 use Rattle.model.specs.Lists.{concatMap, unique}
 use Rattle.model.specs.Syntax.{Condition, Term, TRUE, FALSE, NOT, AND, OR, COMPARE, SOME, CONSTANT, ATTRIBUTE, AGGREGATE, Binding, Use, Query, Permit, variables, bindings, bindingsT, bindingsQ, uses, usesT, usesQ}
 use Rattle.model.specs.Encoding.{encode, encodeT, encodeTargets, encodeRanges, encodeQuery, encodePermit}
-use Rattle.model.specs.Kinds.{Kind, k-range, k-true, k-false, k-not, k-and, k-or, k-compare, k-some, k-constant, k-attribute, k-aggregate, k-stored, k-workspace, k-permit, code, bodyLength, kindOf, find}
+use Rattle.model.specs.Kinds.{Kind, k-range, k-true, k-false, k-not, k-and, k-or, k-compare, k-some, k-constant, k-attribute, k-aggregate, k-permit, code, bodyLength, kindOf, find}
 use Rattle.model.specs.Permits.{usedOf}
 use Rattle.model.specs.Catalogue.{Shape}
 use Rattle.model.specs.Scope.{knownBinding, boundOnce}
@@ -33,8 +33,6 @@ kind-is k-some = refl
 kind-is k-constant = refl
 kind-is k-attribute = refl
 kind-is k-aggregate = refl
-kind-is k-stored = refl
-kind-is k-workspace = refl
 kind-is k-permit = refl
 
 -- a record that is whole, then the rest

@@ -60,32 +60,28 @@ module _ (sh : Shape) (limit : ℕ) (f : List ℕ → List ℕ → Condition) (g
   both-of (R.Constant a b c d) k = absurd (miss (4 ∷ 5 ∷ []) 8 tt k)
   both-of (R.Attribute v a) k = absurd (miss (4 ∷ 5 ∷ []) 9 tt k)
   both-of (R.Aggregate h v w a) k = absurd (miss (4 ∷ 5 ∷ []) 10 tt k)
-  both-of (R.Stored a b c) k = absurd (miss (4 ∷ 5 ∷ []) 11 tt k)
-  both-of (R.Workspace a b c) k = absurd (miss (4 ∷ 5 ∷ []) 12 tt k)
-  both-of (R.Permit a b c) k = absurd (miss (4 ∷ 5 ∷ []) 13 tt k)
-  both-of R.Unknown k = absurd (miss (4 ∷ 5 ∷ []) 14 tt k)
-  both-of R.Short k = absurd (miss (4 ∷ 5 ∷ []) 15 tt k)
+  both-of (R.Permit a b c) k = absurd (miss (4 ∷ 5 ∷ []) 11 tt k)
+  both-of R.Unknown k = absurd (miss (4 ∷ 5 ∷ []) 12 tt k)
+  both-of R.Short k = absurd (miss (4 ∷ 5 ∷ []) 13 tt k)
 
-  rest-of : (y : Record) → OneOf (0 ∷ 1 ∷ 2 ∷ 8 ∷ 9 ∷ 10 ∷ 11 ∷ 12 ∷ 13 ∷ 14 ∷ 15 ∷ []) (tagOf (declared enum) y) → inScope sh limit (conditionBy y f g q z) σ ≡ true
+  rest-of : (y : Record) → OneOf (0 ∷ 1 ∷ 2 ∷ 8 ∷ 9 ∷ 10 ∷ 11 ∷ 12 ∷ 13 ∷ []) (tagOf (declared enum) y) → inScope sh limit (conditionBy y f g q z) σ ≡ true
   unfolding inScope
   rest-of (R.Range v w) k = refl
   rest-of R.True k = refl
   rest-of R.False k = refl
-  rest-of R.Not k = absurd (miss (0 ∷ 1 ∷ 2 ∷ 8 ∷ 9 ∷ 10 ∷ 11 ∷ 12 ∷ 13 ∷ 14 ∷ 15 ∷ []) 3 tt k)
-  rest-of R.And k = absurd (miss (0 ∷ 1 ∷ 2 ∷ 8 ∷ 9 ∷ 10 ∷ 11 ∷ 12 ∷ 13 ∷ 14 ∷ 15 ∷ []) 4 tt k)
-  rest-of R.Or k = absurd (miss (0 ∷ 1 ∷ 2 ∷ 8 ∷ 9 ∷ 10 ∷ 11 ∷ 12 ∷ 13 ∷ 14 ∷ 15 ∷ []) 5 tt k)
-  rest-of (R.Compare o) k = absurd (miss (0 ∷ 1 ∷ 2 ∷ 8 ∷ 9 ∷ 10 ∷ 11 ∷ 12 ∷ 13 ∷ 14 ∷ 15 ∷ []) 6 tt k)
-  rest-of (R.Some v w) k = absurd (miss (0 ∷ 1 ∷ 2 ∷ 8 ∷ 9 ∷ 10 ∷ 11 ∷ 12 ∷ 13 ∷ 14 ∷ 15 ∷ []) 7 tt k)
+  rest-of R.Not k = absurd (miss (0 ∷ 1 ∷ 2 ∷ 8 ∷ 9 ∷ 10 ∷ 11 ∷ 12 ∷ 13 ∷ []) 3 tt k)
+  rest-of R.And k = absurd (miss (0 ∷ 1 ∷ 2 ∷ 8 ∷ 9 ∷ 10 ∷ 11 ∷ 12 ∷ 13 ∷ []) 4 tt k)
+  rest-of R.Or k = absurd (miss (0 ∷ 1 ∷ 2 ∷ 8 ∷ 9 ∷ 10 ∷ 11 ∷ 12 ∷ 13 ∷ []) 5 tt k)
+  rest-of (R.Compare o) k = absurd (miss (0 ∷ 1 ∷ 2 ∷ 8 ∷ 9 ∷ 10 ∷ 11 ∷ 12 ∷ 13 ∷ []) 6 tt k)
+  rest-of (R.Some v w) k = absurd (miss (0 ∷ 1 ∷ 2 ∷ 8 ∷ 9 ∷ 10 ∷ 11 ∷ 12 ∷ 13 ∷ []) 7 tt k)
   rest-of (R.Constant a b c d) k = refl
   rest-of (R.Attribute v a) k = refl
   rest-of (R.Aggregate h v w a) k = refl
-  rest-of (R.Stored a b c) k = refl
-  rest-of (R.Workspace a b c) k = refl
   rest-of (R.Permit a b c) k = refl
   rest-of R.Unknown k = refl
   rest-of R.Short k = refl
 
-  rest-ofT : (y : Record) → OneOf (0 ∷ 1 ∷ 2 ∷ 3 ∷ 4 ∷ 5 ∷ 6 ∷ 7 ∷ 8 ∷ 11 ∷ 12 ∷ 13 ∷ 14 ∷ 15 ∷ []) (tagOf (declared enum) y) → inScopeT sh limit (termBy y f q z) σ ≡ true
+  rest-ofT : (y : Record) → OneOf (0 ∷ 1 ∷ 2 ∷ 3 ∷ 4 ∷ 5 ∷ 6 ∷ 7 ∷ 8 ∷ 11 ∷ 12 ∷ 13 ∷ []) (tagOf (declared enum) y) → inScopeT sh limit (termBy y f q z) σ ≡ true
   unfolding inScopeT
   rest-ofT (R.Range v w) k = refl
   rest-ofT R.True k = refl
@@ -96,10 +92,8 @@ module _ (sh : Shape) (limit : ℕ) (f : List ℕ → List ℕ → Condition) (g
   rest-ofT (R.Compare o) k = refl
   rest-ofT (R.Some v w) k = refl
   rest-ofT (R.Constant a b c d) k = refl
-  rest-ofT (R.Attribute v a) k = absurd (miss (0 ∷ 1 ∷ 2 ∷ 3 ∷ 4 ∷ 5 ∷ 6 ∷ 7 ∷ 8 ∷ 11 ∷ 12 ∷ 13 ∷ 14 ∷ 15 ∷ []) 9 tt k)
-  rest-ofT (R.Aggregate h v w a) k = absurd (miss (0 ∷ 1 ∷ 2 ∷ 3 ∷ 4 ∷ 5 ∷ 6 ∷ 7 ∷ 8 ∷ 11 ∷ 12 ∷ 13 ∷ 14 ∷ 15 ∷ []) 10 tt k)
-  rest-ofT (R.Stored a b c) k = refl
-  rest-ofT (R.Workspace a b c) k = refl
+  rest-ofT (R.Attribute v a) k = absurd (miss (0 ∷ 1 ∷ 2 ∷ 3 ∷ 4 ∷ 5 ∷ 6 ∷ 7 ∷ 8 ∷ 11 ∷ 12 ∷ 13 ∷ []) 9 tt k)
+  rest-ofT (R.Aggregate h v w a) k = absurd (miss (0 ∷ 1 ∷ 2 ∷ 3 ∷ 4 ∷ 5 ∷ 6 ∷ 7 ∷ 8 ∷ 11 ∷ 12 ∷ 13 ∷ []) 10 tt k)
   rest-ofT (R.Permit a b c) k = refl
   rest-ofT R.Unknown k = refl
   rest-ofT R.Short k = refl
@@ -172,10 +166,10 @@ module _ (sh : Shape) (limit l : ℕ) (q z s : List ℕ) where
     unfolding inScopeT
     attribute-is v a e b eb = eb ∙ sym (wholeT (R.Attribute v a) e)
 
-    pub rest-is : OneOf (0 ∷ 1 ∷ 2 ∷ 8 ∷ 9 ∷ 10 ∷ 11 ∷ 12 ∷ 13 ∷ 14 ∷ 15 ∷ []) (tagOf (declared enum) r) → true ≡ inScope sh limit (decode l q z) (scopeOf s)
+    pub rest-is : OneOf (0 ∷ 1 ∷ 2 ∷ 8 ∷ 9 ∷ 10 ∷ 11 ∷ 12 ∷ 13 ∷ []) (tagOf (declared enum) r) → true ≡ inScope sh limit (decode l q z) (scopeOf s)
     rest-is o = sym (whole r refl ∙ rest-of sh limit _ _ q z (scopeOf s) r o)
 
-    pub rest-isT : OneOf (0 ∷ 1 ∷ 2 ∷ 3 ∷ 4 ∷ 5 ∷ 6 ∷ 7 ∷ 8 ∷ 11 ∷ 12 ∷ 13 ∷ 14 ∷ 15 ∷ []) (tagOf (declared enum) r) → true ≡ inScopeT sh limit (decodeT l q z) (scopeOf s)
+    pub rest-isT : OneOf (0 ∷ 1 ∷ 2 ∷ 3 ∷ 4 ∷ 5 ∷ 6 ∷ 7 ∷ 8 ∷ 11 ∷ 12 ∷ 13 ∷ []) (tagOf (declared enum) r) → true ≡ inScopeT sh limit (decodeT l q z) (scopeOf s)
     rest-isT o = sym (wholeT r refl ∙ rest-ofT sh limit _ (λ x y. decodeT (l - 1) x y) q z (scopeOf s) r o)
 
 -- SOME: its variable put in reach, and taken out again

@@ -10,7 +10,7 @@ use lib.Dec.{leb}
 use lib.ListN.{length, getD, drop, length-drop, drop-of-length-le}
 use lib.Seq.{drop-drop}
 use borrow.Author.Tests.{leb-true, leb-false}
-use Rattle.model.specs.Kinds.{Kind, k-range, k-true, k-false, k-not, k-and, k-or, k-compare, k-some, k-constant, k-attribute, k-aggregate, k-stored, k-workspace, k-permit, code, find, kindOf, bodyLength}
+use Rattle.model.specs.Kinds.{Kind, k-range, k-true, k-false, k-not, k-and, k-or, k-compare, k-some, k-constant, k-attribute, k-aggregate, k-permit, code, find, kindOf, bodyLength}
 use Rattle.model.specs.Syntax.{Condition, Term, TRUE, FALSE, NOT, AND, OR, COMPARE, SOME, CONSTANT, ATTRIBUTE, AGGREGATE, isOperator, isFunction}
 use Rattle.model.specs.Encoding.{encode, encodeT, Read, fail, ok, then, byte, need, conditionBody, termBody, onKind, readCondition, readTerm}
 use Rattle.model.proofs.Reading.{find-inv, read-inverse, read-inverseT}
@@ -156,8 +156,6 @@ module _ (l : ℕ)
   condition-kind k-attribute r p z = other l false 33 r p z k-attribute refl (λ a b c d. refl)
   condition-kind k-aggregate r p z = other l false 34 r p z k-aggregate refl (λ a b c d. refl)
   condition-kind k-range r p z = other l false 1 r p z k-range refl (λ a b c d. refl)
-  condition-kind k-stored r p z = other l false 48 r p z k-stored refl (λ a b c d. refl)
-  condition-kind k-workspace r p z = other l false 49 r p z k-workspace refl (λ a b c d. refl)
   condition-kind k-permit r p z = other l false 64 r p z k-permit refl (λ a b c d. refl)
 
   term-kind : (x : Kind) (r : List ℕ) (p : ℕ) (z : List ℕ) → measured (suc l) true (code x ∷ r) p z .size ≡ sizeRead (code x ∷ r) (termBody (λ x. readCondition l x) (λ x. readTerm l x) x r)
@@ -197,8 +195,6 @@ module _ (l : ℕ)
   term-kind k-compare r p z = other l true 21 r p z k-compare refl (λ a b c d. refl)
   term-kind k-some r p z = other l true 22 r p z k-some refl (λ a b c d. refl)
   term-kind k-range r p z = other l true 1 r p z k-range refl (λ a b c d. refl)
-  term-kind k-stored r p z = other l true 48 r p z k-stored refl (λ a b c d. refl)
-  term-kind k-workspace r p z = other l true 49 r p z k-workspace refl (λ a b c d. refl)
   term-kind k-permit r p z = other l true 64 r p z k-permit refl (λ a b c d. refl)
 
 -- any bytes, by the kind that they start with

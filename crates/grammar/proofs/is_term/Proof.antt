@@ -23,13 +23,11 @@ taken (R.Some v x) h = absurd (miss (8 ∷ 9 ∷ []) 7 tt h)
 taken (R.Constant a b x d) h = refl
 taken (R.Attribute v a) h = refl
 taken (R.Aggregate f v x a) h = absurd (miss (8 ∷ 9 ∷ []) 10 tt h)
-taken (R.Stored a b x) h = absurd (miss (8 ∷ 9 ∷ []) 11 tt h)
-taken (R.Workspace a b x) h = absurd (miss (8 ∷ 9 ∷ []) 12 tt h)
-taken (R.Permit a b x) h = absurd (miss (8 ∷ 9 ∷ []) 13 tt h)
-taken R.Unknown h = absurd (miss (8 ∷ 9 ∷ []) 14 tt h)
-taken R.Short h = absurd (miss (8 ∷ 9 ∷ []) 15 tt h)
+taken (R.Permit a b x) h = absurd (miss (8 ∷ 9 ∷ []) 11 tt h)
+taken R.Unknown h = absurd (miss (8 ∷ 9 ∷ []) 12 tt h)
+taken R.Short h = absurd (miss (8 ∷ 9 ∷ []) 13 tt h)
 
-other : (r : Record) → OneOf (0 ∷ 1 ∷ 2 ∷ 3 ∷ 4 ∷ 5 ∷ 6 ∷ 7 ∷ 11 ∷ 12 ∷ 13 ∷ 14 ∷ 15 ∷ []) (tagOf (declared enum) r) → false ≡ isTerm r
+other : (r : Record) → OneOf (0 ∷ 1 ∷ 2 ∷ 3 ∷ 4 ∷ 5 ∷ 6 ∷ 7 ∷ 11 ∷ 12 ∷ 13 ∷ []) (tagOf (declared enum) r) → false ≡ isTerm r
 other (R.Range v x) h = refl
 other R.True h = refl
 other R.False h = refl
@@ -38,11 +36,9 @@ other R.And h = refl
 other R.Or h = refl
 other (R.Compare o) h = refl
 other (R.Some v x) h = refl
-other (R.Constant a b x d) h = absurd (miss (0 ∷ 1 ∷ 2 ∷ 3 ∷ 4 ∷ 5 ∷ 6 ∷ 7 ∷ 11 ∷ 12 ∷ 13 ∷ 14 ∷ 15 ∷ []) 8 tt h)
-other (R.Attribute v a) h = absurd (miss (0 ∷ 1 ∷ 2 ∷ 3 ∷ 4 ∷ 5 ∷ 6 ∷ 7 ∷ 11 ∷ 12 ∷ 13 ∷ 14 ∷ 15 ∷ []) 9 tt h)
-other (R.Aggregate f v x a) h = absurd (miss (0 ∷ 1 ∷ 2 ∷ 3 ∷ 4 ∷ 5 ∷ 6 ∷ 7 ∷ 11 ∷ 12 ∷ 13 ∷ 14 ∷ 15 ∷ []) 10 tt h)
-other (R.Stored a b x) h = refl
-other (R.Workspace a b x) h = refl
+other (R.Constant a b x d) h = absurd (miss (0 ∷ 1 ∷ 2 ∷ 3 ∷ 4 ∷ 5 ∷ 6 ∷ 7 ∷ 11 ∷ 12 ∷ 13 ∷ []) 8 tt h)
+other (R.Attribute v a) h = absurd (miss (0 ∷ 1 ∷ 2 ∷ 3 ∷ 4 ∷ 5 ∷ 6 ∷ 7 ∷ 11 ∷ 12 ∷ 13 ∷ []) 9 tt h)
+other (R.Aggregate f v x a) h = absurd (miss (0 ∷ 1 ∷ 2 ∷ 3 ∷ 4 ∷ 5 ∷ 6 ∷ 7 ∷ 11 ∷ 12 ∷ 13 ∷ []) 10 tt h)
 other (R.Permit a b x) h = refl
 other R.Unknown h = refl
 other R.Short h = refl

@@ -16,10 +16,10 @@ use Rattle.grammar.proofs.Listed.{no-permit, permit-found}
 use Rattle.grammar.proofs.Bounds.{condition-within, part-within}
 
 abbrev others : List ℕ
-others = 0 ∷ 1 ∷ 2 ∷ 3 ∷ 4 ∷ 5 ∷ 6 ∷ 7 ∷ 8 ∷ 9 ∷ 10 ∷ 11 ∷ 12 ∷ 14 ∷ 15 ∷ []
+others = 0 ∷ 1 ∷ 2 ∷ 3 ∷ 4 ∷ 5 ∷ 6 ∷ 7 ∷ 8 ∷ 9 ∷ 10 ∷ 12 ∷ 13 ∷ []
 
 not-permit : (r : Record) → OneOf others (tagOf (declared enum) r) → (v l h : ℕ) → r ≡ R.Permit v l h → ⊥
-not-permit r k v l h e = miss others 13 tt (subst (λ (r : Record). OneOf others (tagOf (declared enum) r)) e k)
+not-permit r k v l h e = miss others 11 tt (subst (λ (r : Record). OneOf others (tagOf (declared enum) r)) e k)
 
 read-requires : tie.Need-read-requires
 read-requires c κs = search needs

@@ -16,7 +16,7 @@ use Rattle.grammar.specs.Shapes.{rangesPart}
 use Rattle.grammar.proofs.Parts.{beyond, begins, range-end, range-cut, range-fits, range-turn}
 
 abbrev others : List ℕ
-others = 1 ∷ 2 ∷ 3 ∷ 4 ∷ 5 ∷ 6 ∷ 7 ∷ 8 ∷ 9 ∷ 10 ∷ 11 ∷ 12 ∷ 13 ∷ 14 ∷ 15 ∷ []
+others = 1 ∷ 2 ∷ 3 ∷ 4 ∷ 5 ∷ 6 ∷ 7 ∷ 8 ∷ 9 ∷ 10 ∷ 11 ∷ 12 ∷ 13 ∷ []
 
 not-range : (r : Record) → OneOf others (tagOf (declared enum) r) → (v y : ℕ) → r ≡ R.Range v y → ⊥
 not-range r h v y e = miss others 0 tt (subst (λ (r : Record). OneOf others (tagOf (declared enum) r)) e h)

@@ -9,23 +9,19 @@ use mathlib.Core.Path.{refl, sym, ap, _∙_}
 use denote.Ref.{now}
 use lib.ListN.{length, getD}
 use borrow.Author.Tests.{ltb-true, ltb-false}
-use Rattle.model.specs.Kinds.{kindOf, find, k-range, k-true, k-false, k-not, k-and, k-or, k-compare, k-some, k-constant, k-attribute, k-aggregate, k-stored, k-workspace, k-permit}
+use Rattle.model.specs.Kinds.{kindOf, find, k-range, k-true, k-false, k-not, k-and, k-or, k-compare, k-some, k-constant, k-attribute, k-aggregate, k-permit}
 use Rattle.kinds.specs.Tables.{recordLength}
 use Rattle.kinds.proofs.Records.{empty-is, cut-is, whole-is, unknown-is, body-there, none-of}
 
--- src/lib.rt:195:9
 returns : tie.Need-returns
 returns c = sym (empty-is (now (c .before .before .args .q)) (c .if1 .taken))
 
--- src/lib.rt:197:13
 shared-slice-read-k : tie.Need-shared-slice-read-k
 shared-slice-read-k c = search needs
 
--- src/lib.rt:198:8
 cut-requires : tie.Need-cut-requires
 cut-requires c κs = search needs
 
--- src/lib.rt:199:9
 returns-2 : tie.Need-returns-2
 returns-2 c =
     let c₃ = c .before .before .before in let if1 = c₃ .if1 in
@@ -33,7 +29,6 @@ returns-2 c =
     let q = now (args .q) in
     sym (cut-is q (if1 .left) (ltb-true (length q) (recordLength (getD q 0 0)) (sym (c .before .cut .ensures) ∙ c .if2 .taken)))
 
--- src/lib.rt:202:28
 shared-slice-read-t10 : tie.Need-shared-slice-read-t10
 unfolding kindOf find
 shared-slice-read-t10 c =
@@ -42,7 +37,6 @@ shared-slice-read-t10 c =
     let q = now (args .q) in
     omega (arith, body-there q 1 k-range (c .before .match .keys1) refl (ltb-false (length q) (recordLength (getD q 0 0)) (sym (cut .ensures) ∙ c .before .before .if2 .left)))
 
--- src/lib.rt:202:34
 shared-slice-read-t12 : tie.Need-shared-slice-read-t12
 unfolding kindOf find
 shared-slice-read-t12 c =
@@ -52,7 +46,6 @@ shared-slice-read-t12 c =
     let q = now (args .q) in
     omega (arith, body-there q 1 k-range (c .before .before .match .keys1) refl (ltb-false (length q) (recordLength (getD q 0 0)) (sym (cut .ensures) ∙ if2 .left)))
 
--- src/lib.rt:208:31
 shared-slice-read-t14 : tie.Need-shared-slice-read-t14
 unfolding kindOf find
 shared-slice-read-t14 c =
@@ -61,7 +54,6 @@ shared-slice-read-t14 c =
     let q = now (args .q) in
     omega (arith, body-there q 21 k-compare (c .before .match .keys7) refl (ltb-false (length q) (recordLength (getD q 0 0)) (sym (cut .ensures) ∙ c .before .before .if2 .left)))
 
--- src/lib.rt:209:28
 shared-slice-read-t16 : tie.Need-shared-slice-read-t16
 unfolding kindOf find
 shared-slice-read-t16 c =
@@ -70,7 +62,6 @@ shared-slice-read-t16 c =
     let q = now (args .q) in
     omega (arith, body-there q 22 k-some (c .before .match .keys8) refl (ltb-false (length q) (recordLength (getD q 0 0)) (sym (cut .ensures) ∙ c .before .before .if2 .left)))
 
--- src/lib.rt:209:34
 shared-slice-read-t18 : tie.Need-shared-slice-read-t18
 unfolding kindOf find
 shared-slice-read-t18 c =
@@ -80,7 +71,6 @@ shared-slice-read-t18 c =
     let q = now (args .q) in
     omega (arith, body-there q 22 k-some (c .before .before .match .keys8) refl (ltb-false (length q) (recordLength (getD q 0 0)) (sym (cut .ensures) ∙ if2 .left)))
 
--- src/lib.rt:210:32
 shared-slice-read-t20 : tie.Need-shared-slice-read-t20
 unfolding kindOf find
 shared-slice-read-t20 c =
@@ -89,7 +79,6 @@ shared-slice-read-t20 c =
     let q = now (args .q) in
     omega (arith, body-there q 32 k-constant (c .before .match .keys9) refl (ltb-false (length q) (recordLength (getD q 0 0)) (sym (cut .ensures) ∙ c .before .before .if2 .left)))
 
--- src/lib.rt:210:38
 shared-slice-read-t22 : tie.Need-shared-slice-read-t22
 unfolding kindOf find
 shared-slice-read-t22 c =
@@ -99,7 +88,6 @@ shared-slice-read-t22 c =
     let q = now (args .q) in
     omega (arith, body-there q 32 k-constant (c .before .before .match .keys9) refl (ltb-false (length q) (recordLength (getD q 0 0)) (sym (cut .ensures) ∙ if2 .left)))
 
--- src/lib.rt:210:44
 shared-slice-read-t24 : tie.Need-shared-slice-read-t24
 unfolding kindOf find
 shared-slice-read-t24 c =
@@ -110,7 +98,6 @@ shared-slice-read-t24 c =
     let q = now (args .q) in
     omega (arith, body-there q 32 k-constant (match .keys9) refl (ltb-false (length q) (recordLength (getD q 0 0)) (sym (cut .ensures) ∙ if2 .left)))
 
--- src/lib.rt:210:50
 shared-slice-read-t26 : tie.Need-shared-slice-read-t26
 unfolding kindOf find
 shared-slice-read-t26 c =
@@ -121,7 +108,6 @@ shared-slice-read-t26 c =
     let q = now (args .q) in
     omega (arith, body-there q 32 k-constant (match .keys9) refl (ltb-false (length q) (recordLength (getD q 0 0)) (sym (cut .ensures) ∙ if2 .left)))
 
--- src/lib.rt:211:33
 shared-slice-read-t28 : tie.Need-shared-slice-read-t28
 unfolding kindOf find
 shared-slice-read-t28 c =
@@ -130,7 +116,6 @@ shared-slice-read-t28 c =
     let q = now (args .q) in
     omega (arith, body-there q 33 k-attribute (c .before .match .keys10) refl (ltb-false (length q) (recordLength (getD q 0 0)) (sym (cut .ensures) ∙ c .before .before .if2 .left)))
 
--- src/lib.rt:211:39
 shared-slice-read-t30 : tie.Need-shared-slice-read-t30
 unfolding kindOf find
 shared-slice-read-t30 c =
@@ -140,7 +125,6 @@ shared-slice-read-t30 c =
     let q = now (args .q) in
     omega (arith, body-there q 33 k-attribute (c .before .before .match .keys10) refl (ltb-false (length q) (recordLength (getD q 0 0)) (sym (cut .ensures) ∙ if2 .left)))
 
--- src/lib.rt:212:33
 shared-slice-read-t32 : tie.Need-shared-slice-read-t32
 unfolding kindOf find
 shared-slice-read-t32 c =
@@ -149,7 +133,6 @@ shared-slice-read-t32 c =
     let q = now (args .q) in
     omega (arith, body-there q 34 k-aggregate (c .before .match .keys11) refl (ltb-false (length q) (recordLength (getD q 0 0)) (sym (cut .ensures) ∙ c .before .before .if2 .left)))
 
--- src/lib.rt:212:39
 shared-slice-read-t34 : tie.Need-shared-slice-read-t34
 unfolding kindOf find
 shared-slice-read-t34 c =
@@ -159,7 +142,6 @@ shared-slice-read-t34 c =
     let q = now (args .q) in
     omega (arith, body-there q 34 k-aggregate (c .before .before .match .keys11) refl (ltb-false (length q) (recordLength (getD q 0 0)) (sym (cut .ensures) ∙ if2 .left)))
 
--- src/lib.rt:212:45
 shared-slice-read-t36 : tie.Need-shared-slice-read-t36
 unfolding kindOf find
 shared-slice-read-t36 c =
@@ -170,7 +152,6 @@ shared-slice-read-t36 c =
     let q = now (args .q) in
     omega (arith, body-there q 34 k-aggregate (match .keys11) refl (ltb-false (length q) (recordLength (getD q 0 0)) (sym (cut .ensures) ∙ if2 .left)))
 
--- src/lib.rt:212:51
 shared-slice-read-t38 : tie.Need-shared-slice-read-t38
 unfolding kindOf find
 shared-slice-read-t38 c =
@@ -181,16 +162,14 @@ shared-slice-read-t38 c =
     let q = now (args .q) in
     omega (arith, body-there q 34 k-aggregate (match .keys11) refl (ltb-false (length q) (recordLength (getD q 0 0)) (sym (cut .ensures) ∙ if2 .left)))
 
--- src/lib.rt:213:30
 shared-slice-read-t40 : tie.Need-shared-slice-read-t40
 unfolding kindOf find
 shared-slice-read-t40 c =
     let c₃ = c .before .before .before in let cut = c₃ .cut in
     let c₇ = c₃ .before .before .before .before in let args = c₇ .args in
     let q = now (args .q) in
-    omega (arith, body-there q 48 k-stored (c .before .match .keys12) refl (ltb-false (length q) (recordLength (getD q 0 0)) (sym (cut .ensures) ∙ c .before .before .if2 .left)))
+    omega (arith, body-there q 64 k-permit (c .before .match .keys12) refl (ltb-false (length q) (recordLength (getD q 0 0)) (sym (cut .ensures) ∙ c .before .before .if2 .left)))
 
--- src/lib.rt:213:36
 shared-slice-read-t42 : tie.Need-shared-slice-read-t42
 unfolding kindOf find
 shared-slice-read-t42 c =
@@ -198,9 +177,8 @@ shared-slice-read-t42 c =
     let c₄ = c₃ .before in let cut = c₄ .cut in
     let c₈ = c₄ .before .before .before .before in let args = c₈ .args in
     let q = now (args .q) in
-    omega (arith, body-there q 48 k-stored (c .before .before .match .keys12) refl (ltb-false (length q) (recordLength (getD q 0 0)) (sym (cut .ensures) ∙ if2 .left)))
+    omega (arith, body-there q 64 k-permit (c .before .before .match .keys12) refl (ltb-false (length q) (recordLength (getD q 0 0)) (sym (cut .ensures) ∙ if2 .left)))
 
--- src/lib.rt:213:42
 shared-slice-read-t44 : tie.Need-shared-slice-read-t44
 unfolding kindOf find
 shared-slice-read-t44 c =
@@ -209,69 +187,8 @@ shared-slice-read-t44 c =
     let c₅ = c₄ .before in let cut = c₅ .cut in
     let c₉ = c₅ .before .before .before .before in let args = c₉ .args in
     let q = now (args .q) in
-    omega (arith, body-there q 48 k-stored (match .keys12) refl (ltb-false (length q) (recordLength (getD q 0 0)) (sym (cut .ensures) ∙ if2 .left)))
+    omega (arith, body-there q 64 k-permit (match .keys12) refl (ltb-false (length q) (recordLength (getD q 0 0)) (sym (cut .ensures) ∙ if2 .left)))
 
--- src/lib.rt:214:33
-shared-slice-read-t46 : tie.Need-shared-slice-read-t46
-unfolding kindOf find
-shared-slice-read-t46 c =
-    let c₃ = c .before .before .before in let cut = c₃ .cut in
-    let c₇ = c₃ .before .before .before .before in let args = c₇ .args in
-    let q = now (args .q) in
-    omega (arith, body-there q 49 k-workspace (c .before .match .keys13) refl (ltb-false (length q) (recordLength (getD q 0 0)) (sym (cut .ensures) ∙ c .before .before .if2 .left)))
-
--- src/lib.rt:214:39
-shared-slice-read-t48 : tie.Need-shared-slice-read-t48
-unfolding kindOf find
-shared-slice-read-t48 c =
-    let c₃ = c .before .before .before in let if2 = c₃ .if2 in
-    let c₄ = c₃ .before in let cut = c₄ .cut in
-    let c₈ = c₄ .before .before .before .before in let args = c₈ .args in
-    let q = now (args .q) in
-    omega (arith, body-there q 49 k-workspace (c .before .before .match .keys13) refl (ltb-false (length q) (recordLength (getD q 0 0)) (sym (cut .ensures) ∙ if2 .left)))
-
--- src/lib.rt:214:45
-shared-slice-read-t50 : tie.Need-shared-slice-read-t50
-unfolding kindOf find
-shared-slice-read-t50 c =
-    let c₃ = c .before .before .before in let match = c₃ .match in
-    let c₄ = c₃ .before in let if2 = c₄ .if2 in
-    let c₅ = c₄ .before in let cut = c₅ .cut in
-    let c₉ = c₅ .before .before .before .before in let args = c₉ .args in
-    let q = now (args .q) in
-    omega (arith, body-there q 49 k-workspace (match .keys13) refl (ltb-false (length q) (recordLength (getD q 0 0)) (sym (cut .ensures) ∙ if2 .left)))
-
--- src/lib.rt:215:30
-shared-slice-read-t52 : tie.Need-shared-slice-read-t52
-unfolding kindOf find
-shared-slice-read-t52 c =
-    let c₃ = c .before .before .before in let cut = c₃ .cut in
-    let c₇ = c₃ .before .before .before .before in let args = c₇ .args in
-    let q = now (args .q) in
-    omega (arith, body-there q 64 k-permit (c .before .match .keys14) refl (ltb-false (length q) (recordLength (getD q 0 0)) (sym (cut .ensures) ∙ c .before .before .if2 .left)))
-
--- src/lib.rt:215:36
-shared-slice-read-t54 : tie.Need-shared-slice-read-t54
-unfolding kindOf find
-shared-slice-read-t54 c =
-    let c₃ = c .before .before .before in let if2 = c₃ .if2 in
-    let c₄ = c₃ .before in let cut = c₄ .cut in
-    let c₈ = c₄ .before .before .before .before in let args = c₈ .args in
-    let q = now (args .q) in
-    omega (arith, body-there q 64 k-permit (c .before .before .match .keys14) refl (ltb-false (length q) (recordLength (getD q 0 0)) (sym (cut .ensures) ∙ if2 .left)))
-
--- src/lib.rt:215:42
-shared-slice-read-t56 : tie.Need-shared-slice-read-t56
-unfolding kindOf find
-shared-slice-read-t56 c =
-    let c₃ = c .before .before .before in let match = c₃ .match in
-    let c₄ = c₃ .before in let if2 = c₄ .if2 in
-    let c₅ = c₄ .before in let cut = c₅ .cut in
-    let c₉ = c₅ .before .before .before .before in let args = c₉ .args in
-    let q = now (args .q) in
-    omega (arith, body-there q 64 k-permit (match .keys14) refl (ltb-false (length q) (recordLength (getD q 0 0)) (sym (cut .ensures) ∙ if2 .left)))
-
--- src/lib.rt:191:1
 returns-3 : tie.Need-returns-3
 unfolding kindOf find
 returns-3 c =
@@ -282,7 +199,6 @@ returns-3 c =
     let q = now (args .q) in
     sym (whole-is q (if1 .left) k-range (ap kindOf (c .before .before .match .keys1)) (ltb-false (length q) (recordLength (getD q 0 0)) (sym (cut .ensures) ∙ if2 .left)))
 
--- src/lib.rt:191:1
 returns-4 : tie.Need-returns-4
 unfolding kindOf find
 returns-4 c =
@@ -291,7 +207,6 @@ returns-4 c =
     let q = now (args .q) in
     sym (whole-is q (if1 .left) k-true (ap kindOf (c .match .keys2)) (ltb-false (length q) (recordLength (getD q 0 0)) (sym (c .before .before .cut .ensures) ∙ c .before .if2 .left)))
 
--- src/lib.rt:191:1
 returns-5 : tie.Need-returns-5
 unfolding kindOf find
 returns-5 c =
@@ -300,7 +215,6 @@ returns-5 c =
     let q = now (args .q) in
     sym (whole-is q (if1 .left) k-false (ap kindOf (c .match .keys3)) (ltb-false (length q) (recordLength (getD q 0 0)) (sym (c .before .before .cut .ensures) ∙ c .before .if2 .left)))
 
--- src/lib.rt:191:1
 returns-6 : tie.Need-returns-6
 unfolding kindOf find
 returns-6 c =
@@ -309,7 +223,6 @@ returns-6 c =
     let q = now (args .q) in
     sym (whole-is q (if1 .left) k-not (ap kindOf (c .match .keys4)) (ltb-false (length q) (recordLength (getD q 0 0)) (sym (c .before .before .cut .ensures) ∙ c .before .if2 .left)))
 
--- src/lib.rt:191:1
 returns-7 : tie.Need-returns-7
 unfolding kindOf find
 returns-7 c =
@@ -318,7 +231,6 @@ returns-7 c =
     let q = now (args .q) in
     sym (whole-is q (if1 .left) k-and (ap kindOf (c .match .keys5)) (ltb-false (length q) (recordLength (getD q 0 0)) (sym (c .before .before .cut .ensures) ∙ c .before .if2 .left)))
 
--- src/lib.rt:191:1
 returns-8 : tie.Need-returns-8
 unfolding kindOf find
 returns-8 c =
@@ -327,7 +239,6 @@ returns-8 c =
     let q = now (args .q) in
     sym (whole-is q (if1 .left) k-or (ap kindOf (c .match .keys6)) (ltb-false (length q) (recordLength (getD q 0 0)) (sym (c .before .before .cut .ensures) ∙ c .before .if2 .left)))
 
--- src/lib.rt:191:1
 returns-9 : tie.Need-returns-9
 unfolding kindOf find
 returns-9 c =
@@ -337,7 +248,6 @@ returns-9 c =
     let q = now (args .q) in
     sym (whole-is q (if1 .left) k-compare (ap kindOf (c .before .match .keys7)) (ltb-false (length q) (recordLength (getD q 0 0)) (sym (cut .ensures) ∙ c .before .before .if2 .left)))
 
--- src/lib.rt:191:1
 returns-10 : tie.Need-returns-10
 unfolding kindOf find
 returns-10 c =
@@ -348,7 +258,6 @@ returns-10 c =
     let q = now (args .q) in
     sym (whole-is q (if1 .left) k-some (ap kindOf (c .before .before .match .keys8)) (ltb-false (length q) (recordLength (getD q 0 0)) (sym (cut .ensures) ∙ if2 .left)))
 
--- src/lib.rt:191:1
 returns-11 : tie.Need-returns-11
 unfolding kindOf find
 returns-11 c =
@@ -360,7 +269,6 @@ returns-11 c =
     let q = now (args .q) in
     sym (whole-is q (if1 .left) k-constant (ap kindOf (match .keys9)) (ltb-false (length q) (recordLength (getD q 0 0)) (sym (cut .ensures) ∙ if2 .left)))
 
--- src/lib.rt:191:1
 returns-12 : tie.Need-returns-12
 unfolding kindOf find
 returns-12 c =
@@ -371,7 +279,6 @@ returns-12 c =
     let q = now (args .q) in
     sym (whole-is q (if1 .left) k-attribute (ap kindOf (c .before .before .match .keys10)) (ltb-false (length q) (recordLength (getD q 0 0)) (sym (cut .ensures) ∙ if2 .left)))
 
--- src/lib.rt:191:1
 returns-13 : tie.Need-returns-13
 unfolding kindOf find
 returns-13 c =
@@ -383,7 +290,6 @@ returns-13 c =
     let q = now (args .q) in
     sym (whole-is q (if1 .left) k-aggregate (ap kindOf (match .keys11)) (ltb-false (length q) (recordLength (getD q 0 0)) (sym (cut .ensures) ∙ if2 .left)))
 
--- src/lib.rt:191:1
 returns-14 : tie.Need-returns-14
 unfolding kindOf find
 returns-14 c =
@@ -393,35 +299,10 @@ returns-14 c =
     let c₇ = c₅ .before .before in let if1 = c₇ .if1 in
     let c₉ = c₇ .before .before in let args = c₉ .args in
     let q = now (args .q) in
-    sym (whole-is q (if1 .left) k-stored (ap kindOf (match .keys12)) (ltb-false (length q) (recordLength (getD q 0 0)) (sym (cut .ensures) ∙ if2 .left)))
+    sym (whole-is q (if1 .left) k-permit (ap kindOf (match .keys12)) (ltb-false (length q) (recordLength (getD q 0 0)) (sym (cut .ensures) ∙ if2 .left)))
 
--- src/lib.rt:191:1
 returns-15 : tie.Need-returns-15
-unfolding kindOf find
-returns-15 c =
-    let c₃ = c .before .before .before in let match = c₃ .match in
-    let c₄ = c₃ .before in let if2 = c₄ .if2 in
-    let c₅ = c₄ .before in let cut = c₅ .cut in
-    let c₇ = c₅ .before .before in let if1 = c₇ .if1 in
-    let c₉ = c₇ .before .before in let args = c₉ .args in
-    let q = now (args .q) in
-    sym (whole-is q (if1 .left) k-workspace (ap kindOf (match .keys13)) (ltb-false (length q) (recordLength (getD q 0 0)) (sym (cut .ensures) ∙ if2 .left)))
-
--- src/lib.rt:191:1
-returns-16 : tie.Need-returns-16
-unfolding kindOf find
-returns-16 c =
-    let c₃ = c .before .before .before in let match = c₃ .match in
-    let c₄ = c₃ .before in let if2 = c₄ .if2 in
-    let c₅ = c₄ .before in let cut = c₅ .cut in
-    let c₇ = c₅ .before .before in let if1 = c₇ .if1 in
-    let c₉ = c₇ .before .before in let args = c₉ .args in
-    let q = now (args .q) in
-    sym (whole-is q (if1 .left) k-permit (ap kindOf (match .keys14)) (ltb-false (length q) (recordLength (getD q 0 0)) (sym (cut .ensures) ∙ if2 .left)))
-
--- src/lib.rt:191:1
-returns-17 : tie.Need-returns-17
-returns-17 c = sym (unknown-is (now (c .before .before .before .before .before .before .args .q)) (c .before .before .before .before .if1 .left) (none-of _ (c .match .rest)))
+returns-15 c = sym (unknown-is (now (c .before .before .before .before .before .before .args .q)) (c .before .before .before .before .if1 .left) (none-of _ (c .match .rest)))
 
 pub read-spec : {M : Type 1} → statement M
 read-spec =
@@ -449,12 +330,6 @@ read-spec =
     shared-slice-read-t40
     shared-slice-read-t42
     shared-slice-read-t44
-    shared-slice-read-t46
-    shared-slice-read-t48
-    shared-slice-read-t50
-    shared-slice-read-t52
-    shared-slice-read-t54
-    shared-slice-read-t56
     returns-3
     returns-4
     returns-5
@@ -467,6 +342,4 @@ read-spec =
     returns-12
     returns-13
     returns-14
-    returns-15
-    returns-16
-    returns-17)
+    returns-15)

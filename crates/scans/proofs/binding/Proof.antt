@@ -22,20 +22,18 @@ use Rattle.model.proofs.Tests.{not-yes}
 use Rattle.scans.proofs.Silent.{binds-nothing}
 
 -- no other record does
-other : (r : Record) → OneOf (1 ∷ 2 ∷ 3 ∷ 4 ∷ 5 ∷ 6 ∷ 8 ∷ 9 ∷ 11 ∷ 12 ∷ 13 ∷ 14 ∷ 15 ∷ []) (tagOf (declared enum) r) → [] ≡ bindingOf r
-other (R.Range v r) h = absurd (miss (1 ∷ 2 ∷ 3 ∷ 4 ∷ 5 ∷ 6 ∷ 8 ∷ 9 ∷ 11 ∷ 12 ∷ 13 ∷ 14 ∷ 15 ∷ []) 0 tt h)
+other : (r : Record) → OneOf (1 ∷ 2 ∷ 3 ∷ 4 ∷ 5 ∷ 6 ∷ 8 ∷ 9 ∷ 11 ∷ 12 ∷ 13 ∷ []) (tagOf (declared enum) r) → [] ≡ bindingOf r
+other (R.Range v r) h = absurd (miss (1 ∷ 2 ∷ 3 ∷ 4 ∷ 5 ∷ 6 ∷ 8 ∷ 9 ∷ 11 ∷ 12 ∷ 13 ∷ []) 0 tt h)
 other R.True h = refl
 other R.False h = refl
 other R.Not h = refl
 other R.And h = refl
 other R.Or h = refl
 other (R.Compare o) h = refl
-other (R.Some v r) h = absurd (miss (1 ∷ 2 ∷ 3 ∷ 4 ∷ 5 ∷ 6 ∷ 8 ∷ 9 ∷ 11 ∷ 12 ∷ 13 ∷ 14 ∷ 15 ∷ []) 7 tt h)
+other (R.Some v r) h = absurd (miss (1 ∷ 2 ∷ 3 ∷ 4 ∷ 5 ∷ 6 ∷ 8 ∷ 9 ∷ 11 ∷ 12 ∷ 13 ∷ []) 7 tt h)
 other (R.Constant a b c d) h = refl
 other (R.Attribute v a) h = refl
-other (R.Aggregate f v r a) h = absurd (miss (1 ∷ 2 ∷ 3 ∷ 4 ∷ 5 ∷ 6 ∷ 8 ∷ 9 ∷ 11 ∷ 12 ∷ 13 ∷ 14 ∷ 15 ∷ []) 10 tt h)
-other (R.Stored a b c) h = refl
-other (R.Workspace a b c) h = refl
+other (R.Aggregate f v r a) h = absurd (miss (1 ∷ 2 ∷ 3 ∷ 4 ∷ 5 ∷ 6 ∷ 8 ∷ 9 ∷ 11 ∷ 12 ∷ 13 ∷ []) 10 tt h)
 other (R.Permit a b c) h = refl
 other R.Unknown h = refl
 other R.Short h = refl

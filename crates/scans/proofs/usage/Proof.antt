@@ -22,7 +22,7 @@ use Rattle.model.proofs.Tests.{not-yes}
 use Rattle.scans.proofs.Silent.{uses-nothing}
 
 -- no other record does
-other : (r : Record) → OneOf (0 ∷ 1 ∷ 2 ∷ 3 ∷ 4 ∷ 5 ∷ 6 ∷ 7 ∷ 8 ∷ 11 ∷ 12 ∷ 13 ∷ 14 ∷ 15 ∷ []) (tagOf (declared enum) r) → [] ≡ useOf r
+other : (r : Record) → OneOf (0 ∷ 1 ∷ 2 ∷ 3 ∷ 4 ∷ 5 ∷ 6 ∷ 7 ∷ 8 ∷ 11 ∷ 12 ∷ 13 ∷ []) (tagOf (declared enum) r) → [] ≡ useOf r
 other (R.Range v r) h = refl
 other R.True h = refl
 other R.False h = refl
@@ -32,10 +32,8 @@ other R.Or h = refl
 other (R.Compare o) h = refl
 other (R.Some v r) h = refl
 other (R.Constant a b c d) h = refl
-other (R.Attribute v a) h = absurd (miss (0 ∷ 1 ∷ 2 ∷ 3 ∷ 4 ∷ 5 ∷ 6 ∷ 7 ∷ 8 ∷ 11 ∷ 12 ∷ 13 ∷ 14 ∷ 15 ∷ []) 9 tt h)
-other (R.Aggregate f v r a) h = absurd (miss (0 ∷ 1 ∷ 2 ∷ 3 ∷ 4 ∷ 5 ∷ 6 ∷ 7 ∷ 8 ∷ 11 ∷ 12 ∷ 13 ∷ 14 ∷ 15 ∷ []) 10 tt h)
-other (R.Stored a b c) h = refl
-other (R.Workspace a b c) h = refl
+other (R.Attribute v a) h = absurd (miss (0 ∷ 1 ∷ 2 ∷ 3 ∷ 4 ∷ 5 ∷ 6 ∷ 7 ∷ 8 ∷ 11 ∷ 12 ∷ 13 ∷ []) 9 tt h)
+other (R.Aggregate f v r a) h = absurd (miss (0 ∷ 1 ∷ 2 ∷ 3 ∷ 4 ∷ 5 ∷ 6 ∷ 7 ∷ 8 ∷ 11 ∷ 12 ∷ 13 ∷ []) 10 tt h)
 other (R.Permit a b c) h = refl
 other R.Unknown h = refl
 other R.Short h = refl

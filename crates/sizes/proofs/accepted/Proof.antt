@@ -29,11 +29,9 @@ condition-arm t (R.Some v r) h = refl
 condition-arm t (R.Constant a b c d) h = absurd (miss (1 ∷ 2 ∷ 3 ∷ 4 ∷ 5 ∷ 7 ∷ []) 8 tt h)
 condition-arm t (R.Attribute v a) h = absurd (miss (1 ∷ 2 ∷ 3 ∷ 4 ∷ 5 ∷ 7 ∷ []) 9 tt h)
 condition-arm t (R.Aggregate f v r a) h = absurd (miss (1 ∷ 2 ∷ 3 ∷ 4 ∷ 5 ∷ 7 ∷ []) 10 tt h)
-condition-arm t (R.Stored a b c) h = absurd (miss (1 ∷ 2 ∷ 3 ∷ 4 ∷ 5 ∷ 7 ∷ []) 11 tt h)
-condition-arm t (R.Workspace a b c) h = absurd (miss (1 ∷ 2 ∷ 3 ∷ 4 ∷ 5 ∷ 7 ∷ []) 12 tt h)
-condition-arm t (R.Permit a b c) h = absurd (miss (1 ∷ 2 ∷ 3 ∷ 4 ∷ 5 ∷ 7 ∷ []) 13 tt h)
-condition-arm t R.Unknown h = absurd (miss (1 ∷ 2 ∷ 3 ∷ 4 ∷ 5 ∷ 7 ∷ []) 14 tt h)
-condition-arm t R.Short h = absurd (miss (1 ∷ 2 ∷ 3 ∷ 4 ∷ 5 ∷ 7 ∷ []) 15 tt h)
+condition-arm t (R.Permit a b c) h = absurd (miss (1 ∷ 2 ∷ 3 ∷ 4 ∷ 5 ∷ 7 ∷ []) 11 tt h)
+condition-arm t R.Unknown h = absurd (miss (1 ∷ 2 ∷ 3 ∷ 4 ∷ 5 ∷ 7 ∷ []) 12 tt h)
+condition-arm t R.Short h = absurd (miss (1 ∷ 2 ∷ 3 ∷ 4 ∷ 5 ∷ 7 ∷ []) 13 tt h)
 
 term-arm : (t : Bool) (r : Record) → OneOf (8 ∷ 9 ∷ []) (tagOf (declared enum) r) → t ≡ accepts t r
 term-arm t (R.Range v r) h = absurd (miss (8 ∷ 9 ∷ []) 0 tt h)
@@ -47,26 +45,22 @@ term-arm t (R.Some v r) h = absurd (miss (8 ∷ 9 ∷ []) 7 tt h)
 term-arm t (R.Constant a b c d) h = refl
 term-arm t (R.Attribute v a) h = refl
 term-arm t (R.Aggregate f v r a) h = absurd (miss (8 ∷ 9 ∷ []) 10 tt h)
-term-arm t (R.Stored a b c) h = absurd (miss (8 ∷ 9 ∷ []) 11 tt h)
-term-arm t (R.Workspace a b c) h = absurd (miss (8 ∷ 9 ∷ []) 12 tt h)
-term-arm t (R.Permit a b c) h = absurd (miss (8 ∷ 9 ∷ []) 13 tt h)
-term-arm t R.Unknown h = absurd (miss (8 ∷ 9 ∷ []) 14 tt h)
-term-arm t R.Short h = absurd (miss (8 ∷ 9 ∷ []) 15 tt h)
+term-arm t (R.Permit a b c) h = absurd (miss (8 ∷ 9 ∷ []) 11 tt h)
+term-arm t R.Unknown h = absurd (miss (8 ∷ 9 ∷ []) 12 tt h)
+term-arm t R.Short h = absurd (miss (8 ∷ 9 ∷ []) 13 tt h)
 
-other-arm : (t : Bool) (r : Record) → OneOf (0 ∷ 11 ∷ 12 ∷ 13 ∷ 14 ∷ 15 ∷ []) (tagOf (declared enum) r) → false ≡ accepts t r
+other-arm : (t : Bool) (r : Record) → OneOf (0 ∷ 11 ∷ 12 ∷ 13 ∷ []) (tagOf (declared enum) r) → false ≡ accepts t r
 other-arm t (R.Range v r) h = refl
-other-arm t R.True h = absurd (miss (0 ∷ 11 ∷ 12 ∷ 13 ∷ 14 ∷ 15 ∷ []) 1 tt h)
-other-arm t R.False h = absurd (miss (0 ∷ 11 ∷ 12 ∷ 13 ∷ 14 ∷ 15 ∷ []) 2 tt h)
-other-arm t R.Not h = absurd (miss (0 ∷ 11 ∷ 12 ∷ 13 ∷ 14 ∷ 15 ∷ []) 3 tt h)
-other-arm t R.And h = absurd (miss (0 ∷ 11 ∷ 12 ∷ 13 ∷ 14 ∷ 15 ∷ []) 4 tt h)
-other-arm t R.Or h = absurd (miss (0 ∷ 11 ∷ 12 ∷ 13 ∷ 14 ∷ 15 ∷ []) 5 tt h)
-other-arm t (R.Compare o) h = absurd (miss (0 ∷ 11 ∷ 12 ∷ 13 ∷ 14 ∷ 15 ∷ []) 6 tt h)
-other-arm t (R.Some v r) h = absurd (miss (0 ∷ 11 ∷ 12 ∷ 13 ∷ 14 ∷ 15 ∷ []) 7 tt h)
-other-arm t (R.Constant a b c d) h = absurd (miss (0 ∷ 11 ∷ 12 ∷ 13 ∷ 14 ∷ 15 ∷ []) 8 tt h)
-other-arm t (R.Attribute v a) h = absurd (miss (0 ∷ 11 ∷ 12 ∷ 13 ∷ 14 ∷ 15 ∷ []) 9 tt h)
-other-arm t (R.Aggregate f v r a) h = absurd (miss (0 ∷ 11 ∷ 12 ∷ 13 ∷ 14 ∷ 15 ∷ []) 10 tt h)
-other-arm t (R.Stored a b c) h = refl
-other-arm t (R.Workspace a b c) h = refl
+other-arm t R.True h = absurd (miss (0 ∷ 11 ∷ 12 ∷ 13 ∷ []) 1 tt h)
+other-arm t R.False h = absurd (miss (0 ∷ 11 ∷ 12 ∷ 13 ∷ []) 2 tt h)
+other-arm t R.Not h = absurd (miss (0 ∷ 11 ∷ 12 ∷ 13 ∷ []) 3 tt h)
+other-arm t R.And h = absurd (miss (0 ∷ 11 ∷ 12 ∷ 13 ∷ []) 4 tt h)
+other-arm t R.Or h = absurd (miss (0 ∷ 11 ∷ 12 ∷ 13 ∷ []) 5 tt h)
+other-arm t (R.Compare o) h = absurd (miss (0 ∷ 11 ∷ 12 ∷ 13 ∷ []) 6 tt h)
+other-arm t (R.Some v r) h = absurd (miss (0 ∷ 11 ∷ 12 ∷ 13 ∷ []) 7 tt h)
+other-arm t (R.Constant a b c d) h = absurd (miss (0 ∷ 11 ∷ 12 ∷ 13 ∷ []) 8 tt h)
+other-arm t (R.Attribute v a) h = absurd (miss (0 ∷ 11 ∷ 12 ∷ 13 ∷ []) 9 tt h)
+other-arm t (R.Aggregate f v r a) h = absurd (miss (0 ∷ 11 ∷ 12 ∷ 13 ∷ []) 10 tt h)
 other-arm t (R.Permit a b c) h = refl
 other-arm t R.Unknown h = refl
 other-arm t R.Short h = refl
