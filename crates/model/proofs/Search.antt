@@ -4,7 +4,9 @@ use native.Mathlib.Omega.{arith}
 use mathlib.Core.Bool.{Bool, true, false, cond, _||_}
 use mathlib.Core.List.{List, [], _∷_, _++_, map}
 use mathlib.Core.Path.{_≡_, refl, sym, _∙_, ap}
+use lib.Dec.{ltb}
 use lib.ListN.{length, getD}
+use borrow.Author.Tests.{ltb-true, ltb-false}
 use Rattle.model.specs.Lists.{any}
 use Rattle.model.specs.Search.{Search, search, Counted}
 use Rattle.model.proofs.Tests.{clash}
@@ -12,6 +14,25 @@ use Rattle.model.proofs.Tests.{clash}
 -- one more was tried before it
 abbrev later : Search → Search
 later s = record { found = s .found; tried = suc (s .tried) }
+
+-- no number below i meets f: what a search knows of the rows that it passed
+module _ (f : ℕ → Bool) where
+  abbrev pub NoneBelow : ℕ → Type 0
+  NoneBelow i = (j : ℕ) → j < i → f j ≡ false
+
+  pub none-start : NoneBelow 0
+  none-start j h = absurd (omega arith)
+
+  -- and none from i on and below s
+  pub none-over : (i s : ℕ) → NoneBelow i → ((j : ℕ) → i ≤ j → j < s → f j ≡ false) → NoneBelow s
+  none-over i s h g j k = go (ltb j i) refl
+    where
+      go : (b : Bool) → ltb j i ≡ b → f j ≡ false
+      go true e = h j (ltb-true j i e)
+      go false e = g j (ltb-false j i e) k
+
+  pub none-next : (i : ℕ) → NoneBelow i → f i ≡ false → NoneBelow (i + 1)
+  none-next i h e = none-over i (i + 1) h (λ j a b. let g : j ≡ i = omega arith in ap f g ∙ e)
 
 module _ {A : Type 0} (p : A → Bool) where
   search-first : (x : A) (xs : List A) → p x ≡ true → search p (x ∷ xs) ≡ record { found = true; tried = 1 }
@@ -46,6 +67,16 @@ module _ {A : Type 0} (p : A → Bool) where
 
   pub counted : (xs : List A) → Counted p xs (search p xs)
   counted xs = record { hit = search-hit xs; none = search-none xs }
+
+  -- where nothing is found, all fail
+  pub search-missed : (xs : List A) (d : A) → search p xs .found ≡ false → (i : ℕ) → i < length xs → p (getD xs i d) ≡ false
+  search-missed [] d h i l = absurd (omega arith)
+  search-missed (x ∷ xs) d h i l = go (p x) refl i l (search-missed xs d)
+    where
+      go : (b : Bool) → p x ≡ b → (i : ℕ) → i < suc (length xs) → (search p xs .found ≡ false → (i : ℕ) → i < length xs → p (getD xs i d) ≡ false) → p (getD (x ∷ xs) i d) ≡ false
+      go true e i l k = clash (sym h ∙ ap (λ (s : Search). s .found) (search-first x xs e))
+      go false e zero l k = e
+      go false e (suc i) l k = k (ap (λ (s : Search). s .found) (sym (search-later x xs e)) ∙ h) i (omega arith)
 
   -- no more than there are
   pub tried-most : (xs : List A) → search p xs .tried ≤ length xs

@@ -5,14 +5,12 @@ use mathlib.Core.Bool.{Bool, true, false}
 use mathlib.Core.List.{List, [], _∷_, _++_, map, map-append, append-nil}
 use Prim.Native.Nat.{ℕ, zero, suc, _+_, _-_, _≤_, _<_}
 use native.Mathlib.Omega.{arith}
-use lib.Dec.{ltb}
 use lib.IntN.{ℤ, pos}
 use lib.ListN.{length, getD, length-map}
-use borrow.Author.Tests.{ltb-true, ltb-false}
 use Rattle.model.specs.Lists.{filter, consIf, concatMap}
 use Rattle.model.specs.Meaning.{Tuple}
 use Rattle.model.specs.Search.{search}
-use Rattle.model.proofs.Search.{search-hit, search-none}
+use Rattle.model.proofs.Search.{NoneBelow, search-hit, search-none}
 use Rattle.model.proofs.Lists.{filter-append, concatMap-append}
 use Rattle.catalogue.specs.Layout.{tupleAt}
 use Rattle.walks.specs.declared.Walk.{Walk}
@@ -44,21 +42,7 @@ module _ (P : ℕ → ℕ) where
   -- a search: no row before i is a hit
   module _ (vs : List ℤ) (f : Tuple → Bool) where
     abbrev pub Failed : ℕ → Type 0
-    Failed i = (j : ℕ) → j < i → f (tupleAt vs (P j)) ≡ false
-
-    pub failed-start : Failed 0
-    failed-start j h = absurd (omega arith)
-
-    -- and none from i on and before s
-    pub failed-over : (i s : ℕ) → Failed i → ((j : ℕ) → i ≤ j → j < s → f (tupleAt vs (P j)) ≡ false) → Failed s
-    failed-over i s h g j k = go (ltb j i) refl
-      where
-        go : (b : Bool) → ltb j i ≡ b → f (tupleAt vs (P j)) ≡ false
-        go true e = h j (ltb-true j i e)
-        go false e = g j (ltb-false j i e) k
-
-    pub failed-next : (i : ℕ) → Failed i → f (tupleAt vs (P i)) ≡ false → Failed (i + 1)
-    failed-next i h e = failed-over i (i + 1) h (λ j a b. let g : j ≡ i = omega arith in ap (λ (m : ℕ). f (tupleAt vs (P m))) g ∙ e)
+    Failed i = NoneBelow (λ j. f (tupleAt vs (P j))) i
 
     row-at : (k n j : ℕ) (d : Tuple) → j < n → getD (map (tupleAt vs) (places P k n)) j d ≡ tupleAt vs (P (k + j))
     unfolding places

@@ -9,11 +9,12 @@ use denote.Ref.{now}
 use mir.Syntax.{w32}
 use mir.Facts.{toZ-ofZ}
 use lib.ListN.{length, getD, set, length-set}
+use Rattle.model.proofs.Search.{none-start, none-next}
 use Rattle.numbers.specs.declared.Accumulator.{Accumulator}
 use Rattle.numbers.specs.Numbers.{Small, Accumulates}
 use Rattle.catalogue.specs.Layout.{tupleAt}
 use Rattle.walks.specs.Walks.{placeAt, kept}
-use Rattle.walks.proofs.Loops.{Failed, failed-start, failed-next, walked-hit, walked-none}
+use Rattle.walks.proofs.Loops.{Failed, walked-hit, walked-none}
 use Rattle.evaluator.specs.Evaluation.{holdsAt, valueAt, holdsOn, valuesOn}
 use Rattle.evaluator.proofs.Steps.{holds-zero, value-zero, true-is, not-is, and-no, and-yes, or-yes, or-no, compare-is, some-is, aggregate-is, known-is, constant-is, attribute-is, no-condition, no-term, places-start, places-back, places-length, on-row, taken-all, taken-start, taken-few, taken-hit, taken-miss}
 use Rattle.numbers.proofs.Laws.{ends}
@@ -456,7 +457,7 @@ some-row-loop-holds t c =
     let c₂ = c .before .before in let walk-of = c₂ .walk-of in
     let c₇ = c₂ .before .before .before .before .before in let args = c₇ .args in
     let env = now (args .env) in let vs = now (args .vs) in let walks = now (args .walks) in let variable = args .variable in
-    (places-start env variable (c .place .result) (c .place .ensures), failed-start (placeAt walks (walk-of .result)) vs (holdsOn (args .level) (now (args .q)) (now (args .z)) walks vs (now (args .memo)) env variable), omega arith, refl)
+    (places-start env variable (c .place .result) (c .place .ensures), none-start (λ j. holdsOn (args .level) (now (args .q)) (now (args .z)) walks vs (now (args .memo)) env variable (tupleAt vs (placeAt walks (walk-of .result) j))), omega arith, refl)
 
 some-row-place-requires-2 : (t : ℕ) → some-row-lts.Need-place-requires-2 (some-row-claims t) (some-row-at t) some-row.Post some-row-Inv-loop some-row-μ-loop
 some-row-place-requires-2 t c κs = (c .before .before .before .before .before .walk-of .ensures .1, omega (arith, c .before .before .before .before .before .walk-of .ensures .1 .count, c .before .loop-test .taken))
@@ -507,7 +508,7 @@ some-row-loop-again t c =
     let c₁₄ = c₁₂ .before .before in let walk-of = c₁₄ .walk-of in
     let c₁₉ = c₁₄ .before .before .before .before .before in let args = c₁₉ .args in let good = c₁₉ .good in let pre = c₁₉ .pre in
     let env = now (args .env) in let memo = now (args .memo) in let q = now (args .q) in let vs = now (args .vs) in let walks = now (args .walks) in let z = now (args .z) in let level = args .level in let variable = args .variable in
-    (places-back (loop .env) env _ variable (place .result) (place2 .result) (loop .inv .0) (set-place .ensures) _ (condition .ensures .1), failed-next (placeAt walks (walk-of .result)) vs (holdsOn level q z walks vs memo env variable) (loop .i) (loop .inv .1) ((ap (λ (p : ℕ). (holdsOn level q z walks vs memo env variable) (tupleAt vs p)) (sym (place2 .ensures)) ∙ on-row (loop .env) env _ variable (place .result) (place2 .result) (loop .inv .0) (set-place .ensures) level q z walks vs memo _ (omega (arith, pre, good)) (condition .ensures .0)) ∙ c .if1 .left), omega (arith, loop-test .taken), places-length (loop .env) env _ variable (place .result) (place2 .result) (loop .inv .0) (set-place .ensures) _ (condition .ensures .1) (loop .inv .3))
+    (places-back (loop .env) env _ variable (place .result) (place2 .result) (loop .inv .0) (set-place .ensures) _ (condition .ensures .1), none-next (λ j. holdsOn level q z walks vs memo env variable (tupleAt vs (placeAt walks (walk-of .result) j))) (loop .i) (loop .inv .1) ((ap (λ (p : ℕ). (holdsOn level q z walks vs memo env variable) (tupleAt vs p)) (sym (place2 .ensures)) ∙ on-row (loop .env) env _ variable (place .result) (place2 .result) (loop .inv .0) (set-place .ensures) level q z walks vs memo _ (omega (arith, pre, good)) (condition .ensures .0)) ∙ c .if1 .left), omega (arith, loop-test .taken), places-length (loop .env) env _ variable (place .result) (place2 .result) (loop .inv .0) (set-place .ensures) _ (condition .ensures .1) (loop .inv .3))
 
 some-row-set-place-requires-3 : (t : ℕ) → some-row-lts.Need-set-place-requires-3 (some-row-claims t) (some-row-at t) some-row.Post some-row-Inv-loop some-row-μ-loop
 some-row-set-place-requires-3 t c κs = search needs
