@@ -66,7 +66,7 @@ module _ {A : Type 0} (p : A → Bool) where
   search-none (x ∷ xs) d f = search-later x xs (f 0 (omega arith)) ∙ ap later (search-none xs d (λ i k. f (suc i) (omega arith)))
 
   pub counted : (xs : List A) → Counted p xs (search p xs)
-  counted xs = record { hit = search-hit xs; none = search-none xs }
+  counted xs = record { truth = search-found xs; hit = search-hit xs; none = search-none xs }
 
   -- where nothing is found, all fail
   pub search-missed : (xs : List A) (d : A) → search p xs .found ≡ false → (i : ℕ) → i < length xs → p (getD xs i d) ≡ false

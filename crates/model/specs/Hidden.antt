@@ -12,16 +12,16 @@ use Rattle.model.specs.Search.{Search, someSearches, rowSearches, permit
 use Rattle.model.specs.Calls.{Outcome, ask}
 use Rattle.model.specs.Demands.{runThrough}
 
--- two stored relations of one attribute: an offer, and two partners that no asker sees
+-- two stored relations of one attribute: an offer, and three partners that no asker sees
 abbrev pub offers : List ℕ
-offers = 48 ∷ 1 ∷ 1 ∷ 0 ∷ 48 ∷ 1 ∷ 2 ∷ 0 ∷ []
+offers = 48 ∷ 1 ∷ 1 ∷ 0 ∷ 48 ∷ 1 ∷ 3 ∷ 0 ∷ []
 
--- the partners 7 and 9, and the same two in the other order
+-- the partners 7, 9 and 7, and the same in another order
 abbrev pub first : List ℤ
-first = pos 7 ∷ pos 7 ∷ pos 9 ∷ []
+first = pos 7 ∷ pos 7 ∷ pos 9 ∷ pos 7 ∷ []
 
 abbrev pub second : List ℤ
-second = pos 7 ∷ pos 9 ∷ pos 7 ∷ []
+second = pos 7 ∷ pos 9 ∷ pos 7 ∷ pos 7 ∷ []
 
 -- a permit for the offers of partners: SOME p, p's attribute = the row's
 abbrev pub ofPartners : List ℕ

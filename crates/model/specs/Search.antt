@@ -5,7 +5,7 @@ use mathlib.Core.List.{List, [], _∷_, _++_}
 use mathlib.Core.Path.{_≡_}
 use lib.IntN.{ℤ}
 use lib.ListN.{length, getD, take}
-use Rattle.model.specs.Lists.{update, concatMap}
+use Rattle.model.specs.Lists.{update, any, concatMap}
 use Rattle.model.specs.Syntax.{Condition, Term, TRUE, FALSE, NOT, AND, OR, COMPARE, SOME, CONSTANT, ATTRIBUTE, AGGREGATE, Query, Permit}
 use Rattle.model.specs.Meaning.{Tuple, Assignment, Rows, holds, assignments, unbound, sameRow, addRow}
 use Rattle.model.specs.Catalogue.{allRows}
@@ -22,6 +22,8 @@ search p (x ∷ xs) = cond (p x) (record { found = true; tried = 1 }) (let s = s
 
 -- the same said by places; proofs/Search.antt proves it of `search`
 pub record Counted {A : Type 0} (p : A → Bool) (xs : List A) (s : Search) : Type 0 where
+  -- it finds where some row is a hit: what SOME means, and when an equal row is dropped
+  pub truth : s .found ≡ any p xs
   -- row j is a hit and none before it is: found, and j + 1 were tried
   pub hit : (d : A) (j : ℕ) → j < length xs → ((i : ℕ) → i < j → p (getD xs i d) ≡ false) → p (getD xs j d) ≡ true → s ≡ record { found = true; tried = j + 1 }
   -- no row is a hit: not found, and all were tried
