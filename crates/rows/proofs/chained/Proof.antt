@@ -6,10 +6,10 @@ use native.Mathlib.Nat.{mul-le-mul, le-refl}
 use lib.ListN.{length, getD, take, drop}
 use mathlib.Core.Bool.{true, false}
 use denote.Ref.{now}
-use Rattle.model.specs.Meaning.{sameRow}
+use Rattle.rows.specs.Buffer.{sought}
 use Rattle.rows.specs.Chains.{headsOf, nextsOf, bucketOf, bucketAt, LastOf}
 use Rattle.rows.proofs.Folded.{bucket-low}
-use Rattle.rows.proofs.Links.{Passed, passed-start, passed-none, passed-step, stored-here, row-within, row-part, heads-most}
+use Rattle.rows.proofs.Links.{Passed, passed-start, passed-none, passed-hit, passed-step, row-within, row-part, heads-most}
 use Rattle.rows.proofs.chained.Statement.{statement}
 use Rattle.rows.proofs.chained.Tie as tie
 use Rattle.rows.proofs.chained.Reads as reads
@@ -37,7 +37,7 @@ loop-holds : tie.Need-loop-holds Inv-loop μ-loop
 loop-holds c =
     let c₃ = c .before .before .before in let args = c₃ .args in let pre = c₃ .pre in
     let answer = now (args .answer) in let row = now (args .row) in let table = now (args .table) in
-    passed-start row answer (length table) _ _ (subst (LastOf (λ (j : ℕ). bucketAt (length table) (length row) answer j ≡ bucketOf (length table) row) (min (args .rows) (nextsOf (length table)))) (sym (c .size-at .ensures .0 ∙ ap (λ (h : ℕ). getD table h 0) (pre .1))) (pre .0 .chained .first (bucketOf (length table) row) (bucket-low (length table) row)))
+    passed-start row answer (length table) _ _ (subst (LastOf (λ (j : ℕ). bucketAt (length table) (length row) answer j ≡ bucketOf (length table) row) (min (args .rows) (nextsOf (length table)))) (sym (c .size-at .ensures .0 ∙ ap (λ (h : ℕ). getD table h 0) (pre .2))) (pre .0 .chained .first (bucketOf (length table) row) (bucket-low (length table) row)))
 
 -- src/lib.rt:142:19
 sub-at : tie.Need-sub-at Inv-loop μ-loop
@@ -89,9 +89,9 @@ returns c =
     let c₁ = c .before in let same = c₁ .same in
     let c₃ = c₁ .before .before in let loop-test = c₃ .loop-test in
     let c₄ = c₃ .before in let loop = c₄ .loop in
-    let c₈ = c₄ .before .before .before .before in let args = c₈ .args in
+    let c₈ = c₄ .before .before .before .before in let args = c₈ .args in let pre = c₈ .pre in
     let answer = now (args .answer) in let row = now (args .row) in
-    sym (stored-here row _ (loop .link - 1) answer (omega (arith, loop .inv .low, loop-test .taken)) (row-part answer ((loop .link - 1) * length row) (length row) row (same .result) true (same .ensures) (c .if1 .taken)))
+    sym (passed-hit row answer (length (now (args .table))) (args .rows) (loop .link) (loop-test .taken) (omega (arith, loop .inv .low)) (pre .0 .distinct) (row-part answer ((loop .link - 1) * length row) (loop .link - 1) row (same .result) true refl (same .ensures) (c .if1 .taken)))
 
 -- src/lib.rt:147:47
 sub-size-at : tie.Need-sub-size-at Inv-loop μ-loop
@@ -127,14 +127,16 @@ loop-again c =
     let c₇ = c₅ .before .before in let heads = c₇ .heads in
     let c₉ = c₇ .before .before in let args = c₉ .args in let pre = c₉ .pre in
     let answer = now (args .answer) in let row = now (args .row) in let table = now (args .table) in
-    passed-step row answer (length table) _ (loop .link - 1) (loop .link) _ (omega (arith, loop-test .taken)) (row-part answer ((loop .link - 1) * length row) (length row) row (same .result) false (same .ensures) (c .before .if1 .left)) (loop .inv) (subst (LastOf (λ (j : ℕ). bucketAt (length table) (length row) answer j ≡ bucketAt (length table) (length row) answer (loop .link - 1)) (loop .link - 1)) (sym (c .size-at2 .ensures .0 ∙ ap (λ (h : ℕ). getD table (h + (loop .link - 1)) 0) (heads .ensures))) (pre .0 .chained .next (loop .link - 1) (omega (arith, loop .inv .low, loop-test .taken))))
+    passed-step row answer (length table) _ (loop .link - 1) (loop .link) _ (omega (arith, loop-test .taken)) (row-part answer ((loop .link - 1) * length row) (loop .link - 1) row (same .result) false refl (same .ensures) (c .before .if1 .left)) (loop .inv) (subst (LastOf (λ (j : ℕ). bucketAt (length table) (length row) answer j ≡ bucketAt (length table) (length row) answer (loop .link - 1)) (loop .link - 1)) (sym (c .size-at2 .ensures .0 ∙ ap (λ (h : ℕ). getD table (h + (loop .link - 1)) 0) (heads .ensures))) (pre .0 .chained .next (loop .link - 1) (omega (arith, loop .inv .low, loop-test .taken))))
 
 -- src/lib.rt:135:1
 returns-2 : tie.Need-returns-2 Inv-loop μ-loop
 returns-2 c =
     let c₁ = c .before in let loop = c₁ .loop in
-    let c₅ = c₁ .before .before .before .before in let args = c₅ .args in
-    sym (passed-none (now (args .row)) (now (args .answer)) (length (now (args .table))) _ (loop .link) (omega (arith, c .loop-test .left)) (loop .inv))
+    let c₅ = c₁ .before .before .before .before in let args = c₅ .args in let pre = c₅ .pre in
+    let n = args .rows in
+    let e : min n (nextsOf (length (now (args .table)))) ≡ n = omega (arith, pre .1) in
+    sym (ap (λ (m : ℕ). sought m (now (args .answer)) (now (args .row))) (sym e) ∙ passed-none (now (args .row)) (now (args .answer)) (length (now (args .table))) _ (loop .link) (omega (arith, c .loop-test .left)) (loop .inv) ∙ ap (λ (m : ℕ). record { found = false; tried = m }) e)
 
 pub chained-spec : {M : Type 1} → statement M
 chained-spec =
