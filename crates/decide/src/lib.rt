@@ -144,6 +144,68 @@ fn byte_of(x: usize) -> u8
     x as u8
 }
 
+// The search for a row of a variable that leads from branch `start` to 0; it ends at the first. Rows that fail are passed over, and count as walked.
+fn search(
+    t: &[u16],
+    xs: &[i32],
+    start: usize,
+    variable: u8,
+    q: &[u8],
+    z: &[u16],
+    walks: &[u16],
+    chains: &[u16],
+    values: &[i32],
+    memo: &[i64],
+    env: &mut [usize],
+) -> Search
+    requires { ⌜ (256 ≤ length (now env)) × (start ≤ 65535) × Faithful (now t) (now walks) (now values) (now chains) ⌝ }
+    ensures { λ r. ⌜ record { found = r .found; tried = r .tried } ≡ M.search (asks (now (t .entry)) (now (xs .entry)) (now (q .entry)) (now (z .entry)) (now (walks .entry)) (now (values .entry)) (now (memo .entry)) start variable (now (env .entry))) (walked (now (walks .entry)) (now (values .entry)) variable) ⌝ }
+    ensures { λ _. ⌜ now (env .exit) ≡ now (env .entry) ⌝ }
+{
+    let walk = walks::walk_of(walks, variable);
+    let n = walk.count;
+    let old = evaluator::place(env, variable);
+    let mut j = seeks::seek(
+        t,
+        xs,
+        start,
+        variable,
+        walks,
+        walk,
+        chains,
+        values,
+        memo,
+        env,
+        0,
+    );
+    while j < n {
+        evaluator::set_place(env, variable, walks::place(walks, walk, j));
+        if holds(t, xs, start, q, z, walks, chains, values, memo, env) {
+            evaluator::set_place(env, variable, old);
+            let tried = j + 1;
+            return Search { found: true, tried };
+        }
+        j = seeks::seek(
+            t,
+            xs,
+            start,
+            variable,
+            walks,
+            walk,
+            chains,
+            values,
+            memo,
+            env,
+            j + 1,
+        );
+    }
+    evaluator::set_place(env, variable, old);
+    Search {
+        found: false,
+        tried: n,
+    }
+}
+
 // Whether branch i holds, which asks for a row.
 fn some_row(
     t: &[u16],
@@ -170,42 +232,5 @@ fn some_row(
         return false;
     }
     let variable = byte_of(v);
-    let walk = walks::walk_of(walks, variable);
-    let n = walk.count;
-    let old = evaluator::place(env, variable);
-    let mut j = seeks::seek(
-        t,
-        xs,
-        inner,
-        variable,
-        walks,
-        walk,
-        chains,
-        values,
-        memo,
-        env,
-        0,
-    );
-    while j < n {
-        evaluator::set_place(env, variable, walks::place(walks, walk, j));
-        if holds(t, xs, inner, q, z, walks, chains, values, memo, env) {
-            evaluator::set_place(env, variable, old);
-            return true;
-        }
-        j = seeks::seek(
-            t,
-            xs,
-            inner,
-            variable,
-            walks,
-            walk,
-            chains,
-            values,
-            memo,
-            env,
-            j + 1,
-        );
-    }
-    evaluator::set_place(env, variable, old);
-    false
+    search(t, xs, inner, variable, q, z, walks, chains, values, memo, env).found
 }
