@@ -1,38 +1,34 @@
 -- A search over the rows of a variable that passes some over.
 use Prim.Native.Nat.{ℕ, _+_, _-_, _*_, _≤_, _<_}
 use mathlib.Core.Bool.{Bool, true, false, cond}
-use mathlib.Core.List.{List, map}
+use mathlib.Core.List.{List}
 use mathlib.Core.Path.{_≡_, refl, sym, ap, _∙_}
 use native.Mathlib.Nat.{add-zero}
 use native.Mathlib.Omega.{arith}
 use lib.IntN.{ℤ}
 use lib.ListN.{length, getD, set}
 use borrow.Author.Tests.{lt-ltb, le-ltb}
-use Rattle.model.specs.Lists.{update, any}
+use Rattle.model.specs.Lists.{update}
+use Rattle.model.specs.Search.{Search, search}
+use Rattle.model.proofs.Search.{none-over, search-found}
 use Rattle.model.specs.Meaning.{Tuple}
 use Rattle.catalogue.specs.Layout.{tupleAt}
-use Rattle.walks.specs.Walks.{places, walked}
-use Rattle.walks.proofs.Loops.{any-left}
+use Rattle.walks.specs.Walks.{walked}
+use Rattle.walks.proofs.Loops.{Failed}
 use Rattle.evaluator.specs.Evaluation.{assigned}
 use Rattle.evaluator.proofs.Steps.{assigned-set}
 use Rattle.branches.specs.Branches.{field, holdsIn, branchHolds, next, runs}
-use Rattle.seeks.proofs.Places.{places-alike, passed-over}
+use Rattle.seeks.proofs.Places.{places-alike}
 
 module _ (t : List ℕ) (xs : List ℤ) (q z ws : List ℕ) (vs m : List ℤ) (inner v : ℕ) (e : List ℕ) where
   -- what is asked of a row
   abbrev pub asks : Tuple → Bool
   asks x = runs t xs q z ws vs m inner (update (assigned vs e) v x)
 
-  module _ (P : ℕ → ℕ) (n : ℕ) where
-    -- whether a row from j on meets it; P j is the place of row j
-    abbrev pub from : ℕ → Bool
-    from j = any asks (map (tupleAt vs) (places P j (n - j)))
-
-    pub over : (d : List ℕ) (old i s : ℕ) (b : Bool) → set d v old ≡ e → i ≤ s → s ≤ n → ((j : ℕ) → i ≤ j → j < s → runs t xs q z ws vs m inner (update (assigned vs d) v (tupleAt vs (P j))) ≡ false) → from i ≡ b → from s ≡ b
-    over d old i s b hd hs hn h f = passed-over from i s hs (λ j k l. sym (any-left P vs asks n j (omega arith) (fact j k l))) ∙ f
-      where
-        fact : (j : ℕ) → i ≤ j → j < s → asks (tupleAt vs (P j)) ≡ false
-        fact j k l = ap (λ u. runs t xs q z ws vs m inner u) (sym (places-alike vs d e v old (tupleAt vs (P j)) hd)) ∙ h j k l
+  module _ (P : ℕ → ℕ) where
+    -- rows that were passed over with other places of v are no hits; P j is the place of row j
+    pub over : (d : List ℕ) (old i s : ℕ) → set d v old ≡ e → ((j : ℕ) → i ≤ j → j < s → runs t xs q z ws vs m inner (update (assigned vs d) v (tupleAt vs (P j))) ≡ false) → Failed P vs asks i → Failed P vs asks s
+    over d old i s hd h f = none-over (λ j. asks (tupleAt vs (P j))) i s f (λ j k l. ap (λ u. runs t xs q z ws vs m inner u) (sym (places-alike vs d e v old (tupleAt vs (P j)) hd)) ∙ h j k l)
 
     pub tried : (y : List ℕ) (row i : ℕ) (b : Bool) → row ≡ P i → y ≡ set e v row → v < length e → b ≡ runs t xs q z ws vs m inner (assigned vs y) → asks (tupleAt vs (P i)) ≡ b
     tried y row i b hr ey hv eb = sym (eb ∙ ap (λ u. runs t xs q z ws vs m inner u) (ap (assigned vs) ey ∙ assigned-set vs e v row hv ∙ ap (λ (p : ℕ). update (assigned vs e) v (tupleAt vs p)) hr))
@@ -47,9 +43,9 @@ module _ (t : List ℕ) (xs : List ℤ) (q z ws : List ℕ) (vs m : List ℤ) (i
     unfolding branchHolds holdsIn
     some-high w ew l h = let g : 256 ≤ w = omega arith in sym (rw (add-zero (8 * i), eo, sym en, lt-ltb inner i l, sym ew, le-ltb w 256 g))
 
-    pub some-is : (b : Bool) → v ≡ getD t (8 * i + 1) 0 → inner < i → v < 256 → b ≡ any asks (walked ws vs v) → b ≡ branchHolds t xs q z ws vs m i (assigned vs e)
+    pub some-is : (b : Bool) (k : ℕ) → v ≡ getD t (8 * i + 1) 0 → inner < i → v < 256 → record { found = b; tried = k } ≡ search asks (walked ws vs v) → b ≡ branchHolds t xs q z ws vs m i (assigned vs e)
     unfolding branchHolds holdsIn
-    some-is b ev l h eb = eb ∙ sym (rw (add-zero (8 * i), eo, sym en, lt-ltb inner i l, sym ev, lt-ltb v 256 h))
+    some-is b k ev l h eb = ap (λ (s : Search). s .found) eb ∙ search-found asks (walked ws vs v) ∙ sym (rw (add-zero (8 * i), eo, sym en, lt-ltb inner i l, sym ev, lt-ltb v 256 h))
 
 -- the branches followed, with the places as they were
 module _ (t : List ℕ) (xs : List ℤ) (q z ws : List ℕ) (vs m : List ℤ) where

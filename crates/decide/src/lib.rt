@@ -8,7 +8,15 @@ ghost use lib.ListN.{length, getD};
 ghost use Rattle.evaluator.specs.Evaluation.{assigned};
 ghost use Rattle.branches.specs.Branches as B;
 ghost use Rattle.seeks.specs.Keys.{Faithful};
-ghost use Rattle.walks.specs.Walks.{walkOf};
+ghost use Rattle.walks.specs.Walks.{walkOf, walked};
+ghost use Rattle.model.specs.Lists.{update};
+ghost use Rattle.model.specs.Search as M;
+
+// Whether a row was a hit, and how many rows were tried: up to the first hit, or all.
+struct Search {
+    found: bool,
+    tried: usize,
+}
 
 // Whether branch i holds, which asks for no row.
 fn branch(
@@ -144,6 +152,68 @@ fn byte_of(x: usize) -> u8
     x as u8
 }
 
+// The search for a row of a variable that leads from branch `start` to 0; it ends at the first. Rows that fail are passed over, and count as walked.
+fn first_row(
+    t: &[u16],
+    xs: &[i32],
+    start: usize,
+    variable: u8,
+    q: &[u8],
+    z: &[u16],
+    walks: &[u16],
+    chains: &[u16],
+    values: &[i32],
+    memo: &[i64],
+    env: &mut [usize],
+) -> Search
+    requires { ⌜ (256 ≤ length (now env)) × (start ≤ 65535) × Faithful (now t) (now walks) (now values) (now chains) ⌝ }
+    ensures { λ r. ⌜ record { found = r .found; tried = r .tried } ≡ M.search (λ x. B.runs (now (t .entry)) (now (xs .entry)) (now (q .entry)) (now (z .entry)) (now (walks .entry)) (now (values .entry)) (now (memo .entry)) start (update (assigned (now (values .entry)) (now (env .entry))) variable x)) (walked (now (walks .entry)) (now (values .entry)) variable) ⌝ }
+    ensures { λ _. ⌜ now (env .exit) ≡ now (env .entry) ⌝ }
+{
+    let walk = walks::walk_of(walks, variable);
+    let n = walk.count;
+    let old = evaluator::place(env, variable);
+    let mut j = seeks::seek(
+        t,
+        xs,
+        start,
+        variable,
+        walks,
+        walk,
+        chains,
+        values,
+        memo,
+        env,
+        0,
+    );
+    while j < n {
+        evaluator::set_place(env, variable, walks::place(walks, walk, j));
+        if holds(t, xs, start, q, z, walks, chains, values, memo, env) {
+            evaluator::set_place(env, variable, old);
+            let tried = j + 1;
+            return Search { found: true, tried };
+        }
+        j = seeks::seek(
+            t,
+            xs,
+            start,
+            variable,
+            walks,
+            walk,
+            chains,
+            values,
+            memo,
+            env,
+            j + 1,
+        );
+    }
+    evaluator::set_place(env, variable, old);
+    Search {
+        found: false,
+        tried: n,
+    }
+}
+
 // Whether branch i holds, which asks for a row.
 fn some_row(
     t: &[u16],
@@ -170,42 +240,17 @@ fn some_row(
         return false;
     }
     let variable = byte_of(v);
-    let walk = walks::walk_of(walks, variable);
-    let n = walk.count;
-    let old = evaluator::place(env, variable);
-    let mut j = seeks::seek(
+    first_row(
         t,
         xs,
         inner,
         variable,
+        q,
+        z,
         walks,
-        walk,
         chains,
         values,
         memo,
         env,
-        0,
-    );
-    while j < n {
-        evaluator::set_place(env, variable, walks::place(walks, walk, j));
-        if holds(t, xs, inner, q, z, walks, chains, values, memo, env) {
-            evaluator::set_place(env, variable, old);
-            return true;
-        }
-        j = seeks::seek(
-            t,
-            xs,
-            inner,
-            variable,
-            walks,
-            walk,
-            chains,
-            values,
-            memo,
-            env,
-            j + 1,
-        );
-    }
-    evaluator::set_place(env, variable, old);
-    false
+    ).found
 }

@@ -14,6 +14,8 @@ use borrow.Author.Tests.{eq-eqb, ne-eqb, eqb-true, eqb-false}
 use denote.Enum.Declared.{tagOf, declared}
 use types.Run.{OneOf, miss}
 use Rattle.model.specs.Lists.{update, filter, any}
+use Rattle.model.specs.Search.{Search, search}
+use Rattle.model.proofs.Search.{search-found}
 use Rattle.model.proofs.Tests.{not-yes, not-no}
 use Rattle.model.specs.Syntax.{Condition, Term, TRUE, FALSE, NOT, AND, OR, COMPARE, SOME, CONSTANT, ATTRIBUTE, AGGREGATE}
 use Rattle.model.specs.Meaning.{Tuple, Assignment, Value, whole, signed, compare, aggregate}
@@ -27,8 +29,8 @@ use Rattle.numbers.specs.Numbers.{Bounded, accumulatorOf, added, Accumulates}
 use Rattle.numbers.proofs.Laws.{starts, continues, counts}
 use Rattle.catalogue.specs.Layout.{tupleAt}
 use Rattle.walks.specs.declared.Walk.{Walk}
-use Rattle.walks.specs.Walks.{walkOf, placeAt, places, walked, rowsBy, kept}
-use Rattle.walks.proofs.Loops.{any-none, any-found, any-left, kept-start, kept-hit, kept-miss, kept-length}
+use Rattle.walks.specs.Walks.{walkOf, placeAt, walked, rowsBy, kept}
+use Rattle.walks.proofs.Loops.{kept-start, kept-hit, kept-miss, kept-length}
 use Rattle.sizes.specs.Decode.{first, second, conditionBy, termBy, nothing, decode, decodeT}
 use Rattle.numbers.specs.Memo.{knows, recalled}
 use Rattle.evaluator.specs.Recalled.{holdsBy, valueBy}
@@ -105,10 +107,10 @@ module _ (ws : List ℕ) (vs m : List ℤ) (e q z : List ℕ) where
       unfolding holdsBy
       or-yes b h eb f = let g = sym child ∙ sym eb ∙ f in sym (rw g) ∙ holds-is l R.Or nz (sym h ∙ er)
 
-      pub some-is : (v r′ : ℕ) (b : Bool) → r ≡ R.Some v r′ → b ≡ any (holdsOn (l - 1) x y ws vs m e v) (walked ws vs v) → b ≡ holdsAt l q z ws vs m e
+      pub some-is : (v r′ : ℕ) (b : Bool) (n : ℕ) → r ≡ R.Some v r′ → record { found = b; tried = n } ≡ search (holdsOn (l - 1) x y ws vs m e v) (walked ws vs v) → b ≡ holdsAt l q z ws vs m e
       unfolding holdsBy holdsOn
-      some-is v r′ b h eb =
-          eb ∙ ap₂ (λ (u w : List ℕ). any (λ t. holdsBy m (decode (l - 1) u w) (rowsBy ws vs) (update (assigned vs e) v t)) (walked ws vs v)) (ex ∙ ap (λ n. drop n q) at-first) (ey ∙ ap (λ n. drop n z) at-first)
+      some-is v r′ b n h eb =
+          ap (λ (s : Search). s .found) eb ∙ search-found (holdsOn (l - 1) x y ws vs m e v) (walked ws vs v) ∙ ap₂ (λ (u w : List ℕ). any (λ t. holdsBy m (decode (l - 1) u w) (rowsBy ws vs) (update (assigned vs e) v t)) (walked ws vs v)) (ex ∙ ap (λ n. drop n q) at-first) (ey ∙ ap (λ n. drop n z) at-first)
           ∙ holds-is l (R.Some v r′) nz (sym h ∙ er)
 
       pub aggregate-is : (f v r′ t : ℕ) (u : Value) (b : Bool) → r ≡ R.Aggregate f v r′ t → b ≡ knows m v → b ≡ false → u ≡ aggregate f (valuesOn (l - 1) x y ws vs m e v t) → u ≡ valueAt l q z ws vs m e
@@ -215,21 +217,6 @@ module _ (d e y : List ℕ) (v old p : ℕ) (inv : set d v old ≡ e) (ey : y �
   pub on-row : (l : ℕ) (q z ws : List ℕ) (vs m : List ℤ) (b : Bool) → v < length e → b ≡ holdsAt l q z ws vs m y → holdsOn l q z ws vs m e v (tupleAt vs p) ≡ b
   unfolding holdsAt holdsOn
   on-row l q z ws vs m b h eb = sym (eb ∙ ap (λ (x : List ℕ). holdsBy m (decode l q z) (rowsBy ws vs) (assigned vs x)) places-on ∙ ap (holdsBy m (decode l q z) (rowsBy ws vs)) (assigned-set vs e v p h))
-
--- a search over the rows; P i is the place of row i
-pub search-start : (f : Tuple → Bool) (ws : List ℕ) (vs : List ℤ) (v : ℕ) (x : Walk) → x ≡ walkOf ws v → any f (map (tupleAt vs) (places (placeAt ws x) 0 (x .count - 0))) ≡ any f (walked ws vs v)
-unfolding walked
-search-start f ws vs v x e = let z : x .count - 0 ≡ x .count = omega arith in rw z (rw e)
-
-module _ (f : Tuple → Bool) (vs : List ℤ) (P : ℕ → ℕ) (n i : ℕ) (xs : List Tuple) (inv : any f (map (tupleAt vs) (places P i (n - i))) ≡ any f xs) where
-  pub search-found : i < n → f (tupleAt vs (P i)) ≡ true → true ≡ any f xs
-  search-found h e = sym (any-found P vs f n i h e) ∙ inv
-
-  pub search-next : i < n → f (tupleAt vs (P i)) ≡ false → any f (map (tupleAt vs) (places P (i + 1) (n - (i + 1)))) ≡ any f xs
-  search-next h e = sym (any-left P vs f n i h e) ∙ inv
-
-  pub search-none : n ≤ i → false ≡ any f xs
-  search-none h = sym (any-none P vs f n i h) ∙ inv
 
 -- the values taken
 pub taken-all : (l : ℕ) (q z ws : List ℕ) (vs m : List ℤ) (e : List ℕ) (v a i : ℕ) (x : Walk) → x ≡ walkOf ws v → i ≡ x .count → kept vs (holdsOn l q z ws vs m e v) a (placeAt ws x) i ≡ valuesOn l q z ws vs m e v a

@@ -7,10 +7,16 @@ use numbers::Ratio;
 ghost use mathlib.Core.Path.{_≡_};
 ghost use Prim.Native.Nat.{_≤_, _<_};
 ghost use lib.ListN.{length, getD, set};
-ghost use Rattle.model.specs.Lists.{any};
+ghost use Rattle.model.specs.Search.{search};
 ghost use Rattle.numbers.specs.Numbers.{valueOf, Small, Accumulates};
 ghost use Rattle.walks.specs.Walks.{walked};
 ghost use Rattle.evaluator.specs.Evaluation.{holdsAt, valueAt, holdsOn, valuesOn};
+
+// Whether a row was a hit, and how many rows were tried: up to the first hit, or all.
+struct Search {
+    found: bool,
+    tried: usize,
+}
 
 // The place of a variable's row.
 pub fn place(env: &[usize], variable: u8) -> usize
@@ -79,7 +85,7 @@ pub fn condition(
             let right = term(u, v, l, walks, vs, memo, env);
             numbers::compare(operator, left, right)
         }
-        Record::Some(variable, _) => some_row(x, y, l, walks, vs, memo, env, variable),
+        Record::Some(variable, _) => some_row(x, y, l, walks, vs, memo, env, variable).found,
         _ => false,
     }
 }
@@ -123,7 +129,7 @@ pub fn term(
     }
 }
 
-// Whether some row of the variable meets the condition; the search ends at the first.
+// The search for a row of the variable that meets the condition; it ends at the first.
 fn some_row(
     q: &[u8],
     z: &[u16],
@@ -133,9 +139,9 @@ fn some_row(
     memo: &[i64],
     env: &mut [usize],
     variable: u8,
-) -> bool
+) -> Search
     requires { ⌜ 256 ≤ length (now env) ⌝ }
-    ensures { λ r. ⌜ r ≡ any (holdsOn level (now (q .entry)) (now (z .entry)) (now (walks .entry)) (now (vs .entry)) (now (memo .entry)) (now (env .entry)) variable) (walked (now (walks .entry)) (now (vs .entry)) variable) ⌝ }
+    ensures { λ r. ⌜ record { found = r .found; tried = r .tried } ≡ search (holdsOn level (now (q .entry)) (now (z .entry)) (now (walks .entry)) (now (vs .entry)) (now (memo .entry)) (now (env .entry)) variable) (walked (now (walks .entry)) (now (vs .entry)) variable) ⌝ }
     ensures { λ _. ⌜ now (env .exit) ≡ now (env .entry) ⌝ }
 {
     let walk = walks::walk_of(walks, variable);
@@ -146,12 +152,16 @@ fn some_row(
         set_place(env, variable, walks::place(walks, walk, i));
         if condition(q, z, level, walks, vs, memo, env) {
             set_place(env, variable, old);
-            return true;
+            let tried = i + 1;
+            return Search { found: true, tried };
         }
         i += 1;
     }
     set_place(env, variable, old);
-    false
+    Search {
+        found: false,
+        tried: n,
+    }
 }
 
 // The attribute of each row of the variable that meets the condition.

@@ -9,7 +9,7 @@ use lib.IntN.{ℤ, pos}
 use borrow.Author.Tests.{eqb-true}
 use Rattle.model.specs.Lists.{update, filter, any, concatMap, Every, present}
 use Rattle.model.specs.Syntax.{Condition, Term, TRUE, FALSE, NOT, AND, OR, COMPARE, SOME, CONSTANT, ATTRIBUTE, AGGREGATE, Binding, Use, Query, uses, usesT, usesQ}
-use Rattle.model.specs.Meaning.{Tuple, Assignment, Rows, whole, compare, aggregate, holds, value, assignments, unbound, withCell, targetRow, addRows, qualifying, rowsMet, answers}
+use Rattle.model.specs.Meaning.{Tuple, Assignment, Rows, whole, compare, aggregate, holds, value, assignments, unbound, withCell, targetRow, qualifying, rowsMet}
 use Rattle.model.proofs.Lists.{any-map, filter-map, concatMap-map, map-concatMap, every-append}
 
 -- a use is in S
@@ -79,9 +79,9 @@ module _ (S : ℕ → ℕ → Bool) where
         ∙ ap (λ (h : Tuple → List Assignment). concatMap h (R (b .variable) (b .relation))) (fun-ext λ x. cut-assign bs (update e (b .variable) x) ∙ ap (assignments bs (cutRows R)) (cut-update e (b .variable) x))
         ∙ sym (concatMap-map (masked (S (b .variable))) (λ _. true) (λ x. assignments bs (cutRows R) (update (cutAssignment e) (b .variable) x)) (R (b .variable) (b .relation)))
 
-    pub cut-answers : (q : Query) → Every (In S) (usesQ q) → answers q R ≡ addRows [] (present (map (targetRow (q .targets) (cutRows R)) (filter (holds (q .condition) (cutRows R)) (assignments (q .ranges) (cutRows R) (cutAssignment unbound)))))
-    unfolding answers rowsMet qualifying usesQ
-    cut-answers q u = let i = every-append (In S) (concatMap usesT (q .targets)) (uses (q .condition)) u in ap (λ (rows : List (Option (List ℤ))). addRows [] (present rows))
+    pub cut-met : (q : Query) → Every (In S) (usesQ q) → rowsMet q R ≡ present (map (targetRow (q .targets) (cutRows R)) (filter (holds (q .condition) (cutRows R)) (assignments (q .ranges) (cutRows R) (cutAssignment unbound))))
+    unfolding rowsMet qualifying usesQ
+    cut-met q u = let i = every-append (In S) (concatMap usesT (q .targets)) (uses (q .condition)) u in ap (λ (rows : List (Option (List ℤ))). present rows)
         (ap₂ (λ (h : Assignment → Option (List ℤ)) (p : Assignment → Bool). map h (filter p (assignments (q .ranges) R unbound)))
         (fun-ext λ e. cut-row (q .targets) e (i .0))
         (fun-ext λ e. cut-holds (q .condition) e (i .1))

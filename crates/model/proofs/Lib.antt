@@ -1,5 +1,6 @@
 pub mod Tests
 pub mod Lists
+pub mod Search
 pub mod Records
 pub mod Reading
 pub mod Sizes
@@ -18,11 +19,13 @@ pub mod Accepted
 pub mod Grounds
 pub mod FirstMeeting
 pub mod Demands
+pub mod Searches
 pub mod Monotone
 pub mod Grants
 pub mod Rounding
 pub mod Computed
 pub mod Premises
+pub mod Hidden
 pub mod Book
 pub mod BookExamples
 pub mod Shelf

@@ -10,13 +10,13 @@ use lib.IntN.{ℤ, pos}
 use borrow.Author.Tests.{eq-eqb, eqb-true, eqb-false}
 use Rattle.model.specs.Lists.{update, consIf, filter, any, concatMap, contains, below, Every, present}
 use Rattle.model.specs.Syntax.{Condition, Term, TRUE, FALSE, NOT, AND, OR, COMPARE, SOME, CONSTANT, ATTRIBUTE, AGGREGATE, Binding, Use, Query, bindings, bindingsT, bindingsQ, usesQ}
-use Rattle.model.specs.Meaning.{Tuple, Assignment, Rows, whole, compare, aggregate, holds, value, assignments, unbound, withCell, targetRow, addRows, qualifying, rowsMet, answers}
+use Rattle.model.specs.Meaning.{Tuple, Assignment, Rows, whole, compare, aggregate, holds, value, assignments, unbound, withCell, targetRow, addRows, rowsMet, answers}
 use Rattle.model.specs.Catalogue.{Shape, allRows}
 use Rattle.model.specs.Permits.{usedOf, Guards, permitted, cut}
 use Rattle.model.specs.Rewriting.{rewriteQuery}
 use Rattle.model.proofs.Lists.{every-append, every-map}
 use Rattle.model.proofs.Permitted.{Sound, SaneGuard, rewritten-answers}
-use Rattle.model.proofs.Cut.{In, masked, cutAssignment, cutRows, cut-answers}
+use Rattle.model.proofs.Cut.{In, masked, cutAssignment, cutRows, cut-met}
 
 -- two families of rows that agree at each bound variable give the same
 module _ (R R′ : Rows) where
@@ -148,20 +148,31 @@ Narrow q = (v a : ℕ) → usedOf q v a ≡ true → a < 16
 abbrev pub SameCut : (ℕ → List Tuple) → (ℕ → List Tuple) → Guards → Query → Binding → Type 0
 SameCut D D′ G q b = map (cut (usedOf q (b .variable))) (permitted D G (b .variable) (b .relation)) ≡ map (cut (usedOf q (b .variable))) (permitted D′ G (b .variable) (b .relation))
 
-pub non-interference : (sh : Shape) (D D′ : ℕ → List Tuple) (G : Guards) (sane : (v r : ℕ) → SaneGuard sh r (G v r)) (q : Query) → Sound q → Narrow q
-    → Every (SameCut D D′ G q) (bindingsQ q) → answers (rewriteQuery G q) (allRows D) ≡ answers (rewriteQuery G q) (allRows D′)
-unfolding cutRows bindingsQ
-non-interference sh D D′ G sane q s k h =
+-- the cut rows of two such collections agree
+pub cut-agree : (D D′ : ℕ → List Tuple) (G : Guards) (q : Query) → Narrow q → Every (SameCut D D′ G q) (bindingsQ q)
+    → Every (Agree (cutRows (usedOf q) (permitted D G)) (cutRows (usedOf q) (permitted D′ G))) (bindingsQ q)
+unfolding cutRows
+cut-agree D D′ G q k h =
+    let R = cutRows (usedOf q) (permitted D G) in
+    let R′ = cutRows (usedOf q) (permitted D′ G) in
+    every-map (SameCut D D′ G q) (Agree R R′) (λ b e. masked-of-cut (usedOf q (b .variable)) (permitted D G (b .variable) (b .relation)) (permitted D′ G (b .variable) (b .relation)) (k (b .variable)) e) (bindingsQ q) h
+
+-- so the rows met are the same
+pub same-met : (D D′ : ℕ → List Tuple) (G : Guards) (q : Query) → Narrow q → Every (SameCut D D′ G q) (bindingsQ q) → rowsMet q (permitted D G) ≡ rowsMet q (permitted D′ G)
+unfolding bindingsQ
+same-met D D′ G q k h =
     let S = usedOf q in
     let R = cutRows S (permitted D G) in
     let R′ = cutRows S (permitted D′ G) in
-    let a : Every (Agree R R′) (bindingsQ q) = every-map (SameCut D D′ G q) (Agree R R′) (λ b e. masked-of-cut (S (b .variable)) (permitted D G (b .variable) (b .relation)) (permitted D′ G (b .variable) (b .relation)) (k (b .variable)) e) (bindingsQ q) h in
-    let i = every-append (Agree R R′) (q .ranges) (concatMap bindingsT (q .targets) ++ bindings (q .condition)) a in
+    let i = every-append (Agree R R′) (q .ranges) (concatMap bindingsT (q .targets) ++ bindings (q .condition)) (cut-agree D D′ G q k h) in
     let j = every-append (Agree R R′) (concatMap bindingsT (q .targets)) (bindings (q .condition)) (i .1) in
-    rewritten-answers sh D G sane q s
-    ∙ cut-answers S (permitted D G) q (query-uses q)
-    ∙ ap (λ (rows : List (Option (List ℤ))). addRows [] (present rows)) (
+    cut-met S (permitted D G) q (query-uses q)
+    ∙ ap (λ (rows : List (Option (List ℤ))). present rows) (
     ap₂ (λ (f : Assignment → Option (List ℤ)) (p : Assignment → Bool). map f (filter p (assignments (q .ranges) R (cutAssignment S unbound)))) (fun-ext λ e. same-row R R′ (q .targets) e (j .0)) (fun-ext λ e. same-holds R R′ (q .condition) e (j .1))
     ∙ ap (λ (l : List Assignment). map (targetRow (q .targets) R′) (filter (holds (q .condition) R′) l)) (same-assign R R′ (q .ranges) (cutAssignment S unbound) (i .0)))
-    ∙ sym (cut-answers S (permitted D′ G) q (query-uses q))
-    ∙ sym (rewritten-answers sh D′ G sane q s)
+    ∙ sym (cut-met S (permitted D′ G) q (query-uses q))
+
+pub non-interference : (sh : Shape) (D D′ : ℕ → List Tuple) (G : Guards) (sane : (v r : ℕ) → SaneGuard sh r (G v r)) (q : Query) → Sound q → Narrow q
+    → Every (SameCut D D′ G q) (bindingsQ q) → answers (rewriteQuery G q) (allRows D) ≡ answers (rewriteQuery G q) (allRows D′)
+unfolding answers
+non-interference sh D D′ G sane q s k h = rewritten-answers sh D G sane q s ∙ ap (addRows []) (same-met D D′ G q k h) ∙ sym (rewritten-answers sh D′ G sane q s)

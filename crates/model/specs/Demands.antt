@@ -1,4 +1,5 @@
--- The three demands, change 12 of document 02 and the label book of change 3, as statements over ask and evaluate. proofs/Demands, Grants and Book prove them.
+-- The three demands, changes 5 and 12 of document 02 and the label book of change 3, as statements over ask and evaluate. proofs/Demands, Searches, Grants and
+-- Book prove them.
 -- The letters, here and in every file of specs and proofs:
 --   cb  the catalogue's bytes    vs  the values           pb  the permit list's bytes    qb  the question's bytes
 --   rewritten, cells  the two lent buffers before the call
@@ -20,6 +21,7 @@ use Rattle.model.specs.Syntax.{Condition, Term, TRUE, FALSE, NOT, AND, O
 use Rattle.model.specs.Encoding.{encodeQuery, encodePermits, ok, readQuery, queryOf, permitsOf, permitsRead}
 use Rattle.model.specs.Meaning.{Rows, sameRow, rowsMet, answers}
 use Rattle.model.specs.Catalogue.{catalogueOf, shapeOf, tuplesAt, allRows}
+use Rattle.model.specs.Search.{Search, someSearches, rowSearches}
 use Rattle.model.specs.Permits.{usedOf, noAccess, Guards, guardsOf, permitted, cut}
 use Rattle.model.specs.Rewriting.{rewriteQuery}
 use Rattle.model.specs.Checks.{Check, keeperChecks, permitChecks, shapeChecks, askChecks, evaluateChecks, refusal}
@@ -238,6 +240,23 @@ Demand3 = (cb cb′ : List ℕ) (vs vs′ : List ℤ) (pb qb rewritten : List �
     -- unless the call is refused with a number from 20 to 40, each variable of the query has the same permitted rows, cut to S
     → (let n = ask cb vs pb qb rewritten cells .answer .number in ((20 ≤ n) × (n ≤ 40) → ⊥) → Every (λ b. permittedCut cb vs pb (queryOf qb) b ≡ permittedCut cb′ vs′ pb (queryOf qb) b) (bindingsQ (queryOf qb)))
     → ask cb vs pb qb rewritten cells ≡ ask cb′ vs′ pb qb rewritten cells
+
+-- the rows that a call runs the asker's query over: of each variable, its permitted rows (`PermittedRows`)
+abbrev pub runThrough : List ℕ → List ℤ → List ℕ → List ℕ → Rows
+runThrough cb vs pb qb = permitted (tuplesAt (catalogueOf cb) vs) (guardsIn cb pb (queryOf qb))
+
+-- CHANGE 5 (document 02): what the counts of searches tell. Two collections alike in demand 3's premises, and a call that passes its checks (one that does
+-- not searches nothing): then each search of the asker's query finds alike, and has tried equally many rows. So hidden rows move the counts of permits'
+-- searches alone; that they do move those is in Hidden
+abbrev pub SearchesAlike : Type 0
+SearchesAlike = (cb cb′ : List ℕ) (vs vs′ : List ℤ) (pb qb rewritten : List ℕ)
+    → Kept cb vs → Kept cb′ vs′ → shapeOf (catalogueOf cb) ≡ shapeOf (catalogueOf cb′)
+    → Every (λ b. permittedCut cb vs pb (queryOf qb) b ≡ permittedCut cb′ vs′ pb (queryOf qb) b) (bindingsQ (queryOf qb))
+    → Passes (askChecks cb vs pb qb (length rewritten))
+    -- SOME's searches, with any number of RANGE variables bound, each on all rows of the variables around it
+    → ((k : ℕ) → someSearches k (queryOf qb) (runThrough cb vs pb qb) ≡ someSearches k (queryOf qb) (runThrough cb′ vs′ pb qb))
+    -- and those for an equal earlier row
+    × (rowSearches [] (rowsMet (queryOf qb) (runThrough cb vs pb qb)) ≡ rowSearches [] (rowsMet (queryOf qb) (runThrough cb′ vs′ pb qb)))
 
 -- a constant or an attribute
 unfoldable pub noAggregate : Term → Bool

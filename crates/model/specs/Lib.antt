@@ -6,6 +6,7 @@ pub mod Encoding
 pub mod Records
 pub mod Meaning
 pub mod Catalogue
+pub mod Search
 pub mod Permits
 pub mod Rewriting
 pub mod Scope
@@ -14,5 +15,6 @@ pub mod Calls
 pub mod Book
 pub mod Demands
 pub mod Premises
+pub mod Hidden
 pub mod Shelf
 pub mod Largest

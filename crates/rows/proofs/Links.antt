@@ -1,6 +1,6 @@
 -- Chains through the stored rows: one row more at the front, and one link further back.
 use mathlib.Core.Path.{_≡_, refl, sym, ap, _∙_, transport, subst}
-use mathlib.Core.Bool.{Bool, true, false, _||_, cond}
+use mathlib.Core.Bool.{Bool, true, false, cond}
 use mathlib.Core.List.{List, _++_}
 use Prim.Native.Nat.{ℕ, zero, suc, _+_, _-_, _*_, _/_, _≤_, _<_, min}
 use native.Mathlib.Nat.{mul-le-mul, le-refl}
@@ -10,57 +10,16 @@ use lib.IntN.{ℤ}
 use lib.ListN.{length, getD, set, take, drop, length-append, length-take, length-drop, length-set, take-append-drop}
 use lib.Seq.{take-all, drop-drop, drop-at, take-length, take-append-le, drop-append-le, getD-set-same, getD-set-other}
 use borrow.Author.Tests.{eqb-true, eqb-false, ltb-true, ltb-false}
-use Rattle.model.specs.Lists.{any}
 use Rattle.model.specs.Meaning.{sameRow}
-use Rattle.model.proofs.Monotone.{same-equal}
-use Rattle.model.proofs.Tests.{clash, or-left, or-right}
-use Rattle.rows.specs.Buffer.{stored, storedRows, over}
+use Rattle.model.specs.Search.{Search, search}
+use Rattle.model.proofs.Monotone.{same-equal, same-refl}
+use Rattle.model.proofs.Search.{NoneBelow, search-before, search-after}
+use Rattle.model.proofs.Tests.{clash}
+use Rattle.rows.specs.Buffer.{storedRows, sought, over}
 use Rattle.rows.specs.Chains.{headsOf, nextsOf, bucketOf, rowAt, bucketAt, Last, LastOf, Chained, Linked}
+use Rattle.rows.proofs.Compared.{sameAt, row-count, sought-hit, sought-none, rows-split}
 use Rattle.rows.proofs.Folded.{bucket-low}
 use Rattle.rows.proofs.Laws.{row-room}
-
--- row by row
-module _ (x : List ℤ) where
-  row-first : (c : List ℤ) → rowAt (length x) c 0 ≡ take (length x) c
-  row-first c = let e : 0 * length x ≡ 0 = omega arith in rw e
-
-  row-later : (c : List ℤ) (j : ℕ) → rowAt (length x) c (suc j) ≡ rowAt (length x) (drop (length x) c) j
-  row-later c j =
-      let e : suc j * length x ≡ length x + j * length x = omega arith in
-      ap (λ (k : ℕ). take (length x) (drop k c)) e ∙ ap (take (length x)) (sym (drop-drop (j * length x) (length x) c))
-
-  pub stored-here : (n j : ℕ) (c : List ℤ) → j < n → sameRow x (rowAt (length x) c j) ≡ true → stored n c x ≡ true
-  unfolding any storedRows
-  stored-here zero j c h s = absurd (omega arith)
-  stored-here (suc n) zero c h s = or-left (sameRow x (take (length x) c)) _ (ap (sameRow x) (sym (row-first c)) ∙ s)
-  stored-here (suc n) (suc j) c h s =
-      or-right (sameRow x (take (length x) c)) _ (stored-here n j (drop (length x) c) (omega arith) (ap (sameRow x) (sym (row-later c j)) ∙ s))
-
-  pub stored-none : (n : ℕ) (c : List ℤ) → ((j : ℕ) → j < n → sameRow x (rowAt (length x) c j) ≡ true → ⊥) → stored n c x ≡ false
-  unfolding any storedRows
-  stored-none zero c h = refl
-  stored-none (suc n) c h = go (sameRow x (take (length x) c)) refl (stored-none n (drop (length x) c) (λ j k s. h (suc j) (omega arith) (ap (sameRow x) (row-later c j) ∙ s)))
-    where
-      go : (b : Bool) → sameRow x (take (length x) c) ≡ b → stored n (drop (length x) c) x ≡ false → b || stored n (drop (length x) c) x ≡ false
-      go true e f = absurd (h 0 (omega arith) (ap (sameRow x) (row-first c) ∙ e))
-      go false e f = f
-
-  -- the first m rows, and those after them
-  pub stored-split : (m k n : ℕ) (c : List ℤ) → n ≡ m + k → stored n c x ≡ stored m c x || stored k (drop (m * length x) c) x
-  unfolding any storedRows
-  stored-split zero k n c e =
-      let e₁ : n ≡ k = omega arith in
-      let e₂ : 0 * length x ≡ 0 = omega arith in
-      rw (e₁, e₂)
-  stored-split (suc m) k n c e =
-      let e₁ : n ≡ suc (m + k) = omega arith in
-      let e₂ : suc m * length x ≡ length x + m * length x = omega arith in
-      rw (e₁, e₂) (go (sameRow x (take (length x) c)) (stored-split m k (m + k) (drop (length x) c) refl ∙ ap (λ (d : List ℤ). stored m (drop (length x) c) x || stored k d x) (drop-drop (m * length x) (length x) c)))
-    where
-      go : (b : Bool) → stored (m + k) (drop (length x) c) x ≡ stored m (drop (length x) c) x || stored k (drop (length x + m * length x) c) x
-          → b || stored (m + k) (drop (length x) c) x ≡ (b || stored m (drop (length x) c) x) || stored k (drop (length x + m * length x) c) x
-      go true f = refl
-      go false f = f
 
 -- a walk along the chain of a row: no row equal to it from the link on
 abbrev pub Passed : List ℤ → List ℤ → ℕ → ℕ → ℕ → Type 0
@@ -74,8 +33,21 @@ module _ (x c : List ℤ) (l n : ℕ) where
   pub passed-start : (link : ℕ) → LastOf (λ (j : ℕ). bucketAt l (length x) c j ≡ bucketOf l x) n link → Passed x c l n link
   passed-start link f = record { low = f .low; here = f .here; above = λ j a b s. f .above j a b (same-bucket j s) }
 
-  pub passed-none : (link : ℕ) → link ≡ 0 → Passed x c l n link → stored n c x ≡ false
-  passed-none link e f = stored-none x n c (λ j h s. f .above j (omega arith) h s)
+  pub passed-none : (link : ℕ) → link ≡ 0 → Passed x c l n link → sought n c x ≡ record { found = false; tried = n }
+  passed-none link e f = sought-none x n c (λ j h. go (sameAt x c j) (λ s. f .above j (omega arith) h s))
+    where
+      go : (b : Bool) → (b ≡ true → ⊥) → b ≡ false
+      go true k = absurd (k refl)
+      go false k = refl
+
+  -- an equal row is the first, where no two are equal
+  pub passed-hit : (link : ℕ) → 0 < link → link ≤ n → ((i j : ℕ) → i < j → j < n → rowAt (length x) c i ≡ rowAt (length x) c j → ⊥) → sameAt x c (link - 1) ≡ true → sought n c x ≡ record { found = true; tried = link }
+  passed-hit link h k distinct s =
+      sought-hit x n (link - 1) c (omega arith) (λ i a. go i a (sameAt x c i) refl) s ∙ ap (λ (m : ℕ). record { found = true; tried = m }) (omega arith)
+    where
+      go : (i : ℕ) → i < link - 1 → (b : Bool) → sameAt x c i ≡ b → b ≡ false
+      go i a true e = absurd (distinct i (link - 1) a (omega arith) (sym (same-equal x (rowAt (length x) c i) e) ∙ same-equal x (rowAt (length x) c (link - 1)) s))
+      go i a false e = refl
 
   pub passed-step : (i link to : ℕ) → link ≡ i + 1 → sameRow x (rowAt (length x) c i) ≡ false → Passed x c l n link → LastOf (λ (j : ℕ). bucketAt l (length x) c j ≡ bucketAt l (length x) c i) i to → Passed x c l n to
   passed-step i link to e differs f g =
@@ -165,26 +137,34 @@ heads-most l = go (ltb l 8192)
     go true = omega arith
     go false = omega arith
 
-pub row-part : (c : List ℤ) (at w : ℕ) (x : List ℤ) (r b : Bool) → r ≡ sameRow x (take (at + w - at) (drop at c)) → r ≡ b → sameRow x (take w (drop at c)) ≡ b
-row-part c at w x r b e f = let k : at + w - at ≡ w = omega arith in ap (λ (m : ℕ). sameRow x (take m (drop at c))) (sym k) ∙ sym e ∙ f
+-- row j, read as a part of the cells
+pub row-part : (c : List ℤ) (at j : ℕ) (x : List ℤ) (r b : Bool) → at ≡ j * length x → r ≡ sameRow x (take (at + length x - at) (drop at c)) → r ≡ b → sameAt x c j ≡ b
+row-part c at j x r b ea e f =
+    let k : at + length x - at ≡ length x = omega arith in
+    ap (λ (m : ℕ). sameRow x (take (length x) (drop m c))) (sym ea) ∙ ap (λ (m : ℕ). sameRow x (take m (drop at c))) (sym k) ∙ sym e ∙ f
 
--- the linked rows first, then those after them
-module _ (x c : List ℤ) (n k : ℕ) where
-  pub known-linked : stored (min n k) c x ≡ true → stored n c x ≡ true
-  known-linked h = stored-split x (min n k) (n - min n k) n c (omega arith) ∙ rw h
+-- s is what the search among the first of n rows gave, as many as a table can link
+module _ (x c : List ℤ) (n k : ℕ) (s : Search) (es : s ≡ sought (min n k) c x) where
+  pub known-linked : s .found ≡ true → s ≡ sought n c x
+  known-linked h =
+      let l = min n k in
+      let after = storedRows (length x) (n - l) (drop (l * length x) c) in
+      es
+      ∙ sym (search-before (sameRow x) (storedRows (length x) l c) after (ap (λ (r : Search). r .found) (sym es) ∙ h))
+      ∙ ap (search (sameRow x)) (sym (rows-split x l (n - l) n c (omega arith)))
 
-  pub known-none : n ≤ k → stored (min n k) c x ≡ false → stored n c x ≡ false
-  known-none l h = let e : min n k ≡ n = omega arith in ap (λ (m : ℕ). stored m c x) (sym e) ∙ h
+  pub known-all : n ≤ k → s ≡ sought n c x
+  known-all h = let e : min n k ≡ n = omega arith in es ∙ ap (λ (i : ℕ). sought i c x) e
 
-  pub known-rest : (m at : ℕ) → m ≡ k → m < n → at ≡ m * length x → stored (min n k) c x ≡ false → stored n c x ≡ stored (n - m) (take (length c - at) (drop at c)) x
-  known-rest m at em l ea h =
-      let e₁ : min n k ≡ k = omega arith in
-      let h₁ : stored k c x ≡ false = ap (λ (m : ℕ). stored m c x) (sym e₁) ∙ h in
-      stored-split x k (n - k) n c (omega arith)
-      ∙ (rw h₁)
-      ∙ ap (λ (m : ℕ). stored (n - m) (drop (m * length x) c) x) (sym em)
-      ∙ ap (λ (b : ℕ). stored (n - m) (drop b c) x) (sym ea)
-      ∙ ap (λ (d : List ℤ). stored (n - m) d x) (sym (take-all (length c - at) (drop at c) (rw (length-drop at c) (omega arith))))
+  -- r is what the search among the rows after them gave
+  pub known-rest : (m : ℕ) → m ≡ k → m < n → s .found ≡ false → (at : ℕ) → at ≡ m * length x → (r : Search) → r ≡ sought (n - m) (take (length c - at) (drop at c)) x → record { found = r .found; tried = m + r .tried } ≡ sought n c x
+  known-rest m em h none at ea r er =
+      let e : min n k ≡ m = omega arith in
+      let after = storedRows (length x) (n - m) (drop (m * length x) c) in
+      ap (λ (y : Search). record { found = y .found; tried = m + y .tried }) (er ∙ ap (λ (d : List ℤ). sought (n - m) d x) (take-all (length c - at) (drop at c) (rw (length-drop at c) (omega arith)) ∙ ap (λ (i : ℕ). drop i c) ea))
+      ∙ ap (λ (i : ℕ). record { found = search (sameRow x) after .found; tried = i + search (sameRow x) after .tried }) (sym (row-count x m c))
+      ∙ sym (search-after (sameRow x) (storedRows (length x) m c) after (ap (λ (i : ℕ). sought i c x .found) (sym e) ∙ ap (λ (y : Search). y .found) (sym es) ∙ none))
+      ∙ ap (search (sameRow x)) (sym (rows-split x m (n - m) n c (omega arith)))
 
 pub rest-within : (k n w l : ℕ) → k < n → n * w ≤ l → k * w ≤ l
 rest-within k n w l h room =
@@ -221,17 +201,30 @@ module _ (c x : List ℤ) (n : ℕ) (room : n * length x + length x ≤ length c
       ∙ ap (take (length x)) (drop-at front x (n * length x) front-length)
       ∙ take-length x
 
+  -- a row that equals none of them leaves them distinct
+  distinct-laid : ((i j : ℕ) → i < j → j < n → rowAt (length x) c i ≡ rowAt (length x) c j → ⊥) → NoneBelow (sameAt x c) n
+      → (i j : ℕ) → i < j → j < n + 1 → rowAt (length x) (over c (n * length x) x) i ≡ rowAt (length x) (over c (n * length x) x) j → ⊥
+  distinct-laid old new i j a b e = go (ltb j n) refl
+    where
+      go : (t : Bool) → ltb j n ≡ t → ⊥
+      go true h = old i j a (ltb-true j n h) (row-below i (omega (arith, ltb-true j n h)) ∙ e ∙ sym (row-below j (ltb-true j n h)))
+      go false h =
+          let g : j ≡ n = omega (arith, ltb-false j n h) in
+          let is : rowAt (length x) c i ≡ x = row-below i (omega arith) ∙ e ∙ ap (rowAt (length x) (over c (n * length x) x)) g ∙ row-new in
+          clash (sym (new i (omega arith)) ∙ ap (sameRow x) is ∙ same-refl x)
+
 -- one row more, laid and linked
-pub linked-laid : (c d x : List ℤ) (n h : ℕ) (t u : List ℕ) → Linked (length x) n c t → n < length c / length x → h ≡ bucketOf (length t) x → d ≡ over c (n * length x) x → length d ≡ length c → length u ≡ length t
+pub linked-laid : (c d x : List ℤ) (n h : ℕ) (t u : List ℕ) → Linked (length x) n c t → NoneBelow (sameAt x c) n → n < length c / length x → h ≡ bucketOf (length t) x → d ≡ over c (n * length x) x → length d ≡ length c → length u ≡ length t
     → ((b : ℕ → ℕ) → b n ≡ h → Chained b (headsOf (length t)) (min n (nextsOf (length t))) t → Chained b (headsOf (length t)) (min (n + 1) (nextsOf (length t))) u)
     → Linked (length x) (n + 1) d u
-linked-laid c d x n h t u f lt eh ed ld lu more =
+linked-laid c d x n h t u f new lt eh ed ld lu more =
     let room = row-room n (length x) (length c) lt in
     let b : ℕ → ℕ = bucketAt (length t) (length x) d in
     let row-n : b n ≡ h = ap (λ (l : List ℤ). bucketAt (length t) (length x) l n) ed ∙ ap (bucketOf (length t)) (row-new c x n room) ∙ sym eh in
     let old = chained-alike (bucketAt (length t) (length x) c) b n (λ j k. ap (bucketOf (length t)) (row-below c x n room j k) ∙ ap (λ (l : List ℤ). bucketAt (length t) (length x) l j) (sym ed)) (headsOf (length t)) (min n (nextsOf (length t))) t (omega arith) (f .chained) in
     record {
       room = omega (arith, room, ld);
+      distinct = λ i j a b e. distinct-laid c x n room (f .distinct) new i j a b (ap (λ (l : List ℤ). rowAt (length x) l i) (sym ed) ∙ e ∙ ap (λ (l : List ℤ). rowAt (length x) l j) ed);
       short = omega (arith, f .short, lu);
       chained = subst (λ (l : ℕ). Chained (bucketAt l (length x) d) (headsOf l) (min (n + 1) (nextsOf l)) u) (sym lu) (more b row-n old);
     }
@@ -242,6 +235,7 @@ linked-none w c t h z =
     let e : min 0 (nextsOf (length t)) ≡ 0 = omega arith in
     record {
       room = omega arith;
+      distinct = λ i j a b. absurd (omega arith);
       short = h;
       chained = rw e (record { first = λ g _. record { low = omega (arith, z g); here = λ j k. absurd (omega (arith, z g)); above = λ j _ k _. omega arith }; next = λ i k. absurd (omega arith) });
     }

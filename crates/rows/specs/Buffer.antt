@@ -8,6 +8,7 @@ use lib.IntN.{ℤ}
 use lib.ListN.{length, take, drop}
 use Rattle.model.specs.Lists.{any}
 use Rattle.model.specs.Meaning.{sameRow}
+use Rattle.model.specs.Search.{Search, search}
 use Rattle.model.specs.Calls.{Answer}
 
 -- how many rows are stored, and whether a distinct row did not fit
@@ -24,6 +25,10 @@ storedRows columns (suc n) cells = take columns cells ∷ storedRows columns n (
 -- the row is among the first n
 abbrev pub stored : ℕ → List ℤ → List ℤ → Bool
 stored n cells x = any (sameRow x) (storedRows (length x) n cells)
+
+-- the search for a row equal to it among the first n (document 02, change 5); `stored` is whether it finds one
+abbrev pub sought : ℕ → List ℤ → List ℤ → Search
+sought n cells x = search (sameRow x) (storedRows (length x) n cells)
 
 -- the cells from `at` on are those of the row
 abbrev pub over : List ℤ → ℕ → List ℤ → List ℤ

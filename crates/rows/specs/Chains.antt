@@ -50,8 +50,9 @@ pub record Chained (b : ℕ → ℕ) (heads n : ℕ) (table : List ℕ) : Type 0
   pub first : (h : ℕ) → h < heads → LastOf (λ (j : ℕ). b j ≡ h) n (getD table h 0)
   pub next : (i : ℕ) → i < n → LastOf (λ (j : ℕ). b j ≡ b i) i (getD table (heads + i) 0)
 
--- a table in which the first of n rows are linked, as many as it can link
+-- a table in which the first of n rows are linked, as many as it can link; no two of the n rows are equal, so the one that a chain finds is the first
 pub record Linked (w n : ℕ) (cells : List ℤ) (table : List ℕ) : Type 0 where
   pub room : n * w ≤ length cells
+  pub distinct : (i j : ℕ) → i < j → j < n → rowAt w cells i ≡ rowAt w cells j → ⊥
   pub short : length table ≤ 65535
   pub chained : Chained (bucketAt (length table) w cells) (headsOf (length table)) (min n (nextsOf (length table))) table

@@ -5,13 +5,19 @@ ghost use Prim.Native.Nat.{ℕ, _+_, _-_, _*_, _/_, _≤_, _<_, min};
 ghost use lib.ListN.{length, take, drop};
 ghost use lib.Signed.{leZ, mag};
 ghost use Rattle.model.specs.Meaning.{sameRow};
-ghost use Rattle.rows.specs.Buffer.{stored, over, added};
+ghost use Rattle.rows.specs.Buffer.{sought, over, added};
 ghost use Rattle.rows.specs.Chains.{mixed, hashed, headsOf, nextsOf, bucketOf, Chained, Linked};
 
 // How many rows are stored, and whether a distinct row did not fit.
 pub struct Filled {
     pub rows: usize,
     pub full: bool,
+}
+
+// Whether an equal row was found, and how many rows were tried: in their order up to that row, or all.
+struct Search {
+    found: bool,
+    tried: usize,
 }
 
 fn equal(x: i64, y: i64) -> bool
@@ -38,24 +44,31 @@ fn same(x: &[i64], y: &[i64]) -> bool
     true
 }
 
-// Whether the row is among the first rows of the answer; ends at the first that equals it.
-fn find(answer: &[i64], rows: usize, row: &[i64]) -> bool
-    ensures { λ r. ⌜ r ≡ stored rows (now (answer .entry)) (now (row .entry)) ⌝ }
+// The search for the row among the first rows of the answer; ends at the first that equals it.
+fn find(answer: &[i64], rows: usize, row: &[i64]) -> Search
+    ensures { λ r. ⌜ record { found = r .found; tried = r .tried } ≡ sought rows (now (answer .entry)) (now (row .entry)) ⌝ }
 {
     let mut at = 0;
     let mut i = 0;
     while i < rows {
         if answer.len() - at < row.len() {
-            return false;
+            return Search {
+                found: false,
+                tried: rows,
+            };
         }
         let end = at + row.len();
         if same(row, &answer[at..end]) {
-            return true;
+            let tried = i + 1;
+            return Search { found: true, tried };
         }
         at = end;
         i += 1;
     }
-    false
+    Search {
+        found: false,
+        tried: rows,
+    }
 }
 
 // How many rows of `columns` cells fit; none of no cells.
@@ -131,10 +144,17 @@ fn bucket(row: &[i64], length: usize) -> usize
     if length < 8192 { h % 512 } else { h % 4096 }
 }
 
-// Whether the row is among those that the table links: along the chain of its bucket, from the last row back.
-fn chained(answer: &[i64], table: &[u16], rows: usize, row: &[i64], bucket: usize) -> bool
+fn least(a: usize, b: usize) -> usize
+    ensures { λ r. ⌜ r ≡ min a b ⌝ }
+{
+    if a < b { a } else { b }
+}
+
+// The search for the row among those that the table links, along the chain of its bucket from the last row back: none of them equals another, so the
+// one that is found is the first, and its number tells how many a walk would have tried.
+fn chained(answer: &[i64], table: &[u16], rows: usize, row: &[i64], bucket: usize) -> Search
     requires { ⌜ Linked (length (now row)) rows (now answer) (now table) × (bucket ≡ bucketOf (length (now table)) (now row)) ⌝ }
-    ensures { λ r. ⌜ r ≡ stored (min rows (nextsOf (length (now (table .entry))))) (now (answer .entry)) (now (row .entry)) ⌝ }
+    ensures { λ r. ⌜ record { found = r .found; tried = r .tried } ≡ sought (min rows (nextsOf (length (now (table .entry))))) (now (answer .entry)) (now (row .entry)) ⌝ }
 {
     let first = heads(table.len());
     let mut link = kinds::size_at(table, bucket);
@@ -142,27 +162,38 @@ fn chained(answer: &[i64], table: &[u16], rows: usize, row: &[i64], bucket: usiz
         let at = (link - 1) * row.len();
         let end = at + row.len();
         if same(row, &answer[at..end]) {
-            return true;
+            return Search {
+                found: true,
+                tried: link,
+            };
         }
         link = kinds::size_at(table, first + (link - 1));
     }
-    false
+    let tried = least(rows, nexts(table.len()));
+    Search {
+        found: false,
+        tried,
+    }
 }
 
-// Whether the row is stored: on its chain, or among the rows that found no room in the table.
-fn known(answer: &[i64], table: &[u16], rows: usize, row: &[i64], bucket: usize) -> bool
+// The search for the row among all that are stored: on its chain, then among those that found no room in the table.
+fn known(answer: &[i64], table: &[u16], rows: usize, row: &[i64], bucket: usize) -> Search
     requires { ⌜ Linked (length (now row)) rows (now answer) (now table) × (bucket ≡ bucketOf (length (now table)) (now row)) ⌝ }
-    ensures { λ r. ⌜ r ≡ stored rows (now (answer .entry)) (now (row .entry)) ⌝ }
+    ensures { λ r. ⌜ record { found = r .found; tried = r .tried } ≡ sought rows (now (answer .entry)) (now (row .entry)) ⌝ }
 {
-    if chained(answer, table, rows, row, bucket) {
-        return true;
+    let linked = chained(answer, table, rows, row, bucket);
+    if linked.found {
+        return linked;
     }
     let n = nexts(table.len());
     if rows <= n {
-        return false;
+        return linked;
     }
     let at = n * row.len();
-    find(&answer[at..], rows - n, row)
+    let rest = find(&answer[at..], rows - n, row);
+    let found = rest.found;
+    let tried = n + rest.tried;
+    Search { found, tried }
 }
 
 fn narrow(x: usize) -> u16
@@ -198,7 +229,7 @@ pub fn add_row(answer: &mut [i64], table: &mut [u16], state: Filled, row: &[i64]
         return state;
     }
     let h = bucket(row, table.len());
-    if known(answer, table, rows, row, h) {
+    if known(answer, table, rows, row, h).found {
         return state;
     }
     if capacity(answer.len(), row.len()) <= rows {

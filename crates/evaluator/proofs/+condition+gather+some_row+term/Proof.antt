@@ -9,13 +9,14 @@ use denote.Ref.{now}
 use mir.Syntax.{w32}
 use mir.Facts.{toZ-ofZ}
 use lib.ListN.{length, getD, set, length-set}
-use Rattle.model.specs.Lists.{any}
+use Rattle.model.proofs.Search.{none-start, none-next}
 use Rattle.numbers.specs.declared.Accumulator.{Accumulator}
 use Rattle.numbers.specs.Numbers.{Small, Accumulates}
 use Rattle.catalogue.specs.Layout.{tupleAt}
-use Rattle.walks.specs.Walks.{placeAt, places, walked, kept}
+use Rattle.walks.specs.Walks.{placeAt, kept}
+use Rattle.walks.proofs.Loops.{Failed, walked-hit, walked-none}
 use Rattle.evaluator.specs.Evaluation.{holdsAt, valueAt, holdsOn, valuesOn}
-use Rattle.evaluator.proofs.Steps.{holds-zero, value-zero, true-is, not-is, and-no, and-yes, or-yes, or-no, compare-is, some-is, aggregate-is, known-is, constant-is, attribute-is, no-condition, no-term, places-start, places-back, places-length, on-row, search-start, search-found, search-next, search-none, taken-all, taken-start, taken-few, taken-hit, taken-miss}
+use Rattle.evaluator.proofs.Steps.{holds-zero, value-zero, true-is, not-is, and-no, and-yes, or-yes, or-no, compare-is, some-is, aggregate-is, known-is, constant-is, attribute-is, no-condition, no-term, places-start, places-back, places-length, on-row, taken-all, taken-start, taken-few, taken-hit, taken-miss}
 use Rattle.numbers.proofs.Laws.{ends}
 use Rattle.catalogue.proofs.attributes.Reads as attributes-reads
 use Rattle.catalogue.proofs.base.Reads as base-reads
@@ -347,7 +348,7 @@ condition-returns-9 t c =
     let c₁₁ = c₁₀ .before in let byte = c₁₁ .byte in
     let c₁₂ = c₁₁ .before in let if1 = c₁₂ .if1 in
     let c₁₇ = c₁₂ .before .before .before .before .before in let args = c₁₇ .args in
-    (some-is (now (args .walks)) (now (args .vs)) (now (args .memo)) (now (args .env)) (now (args .q)) (now (args .z)) (args .level) _ _ _ (if1 .left) (byte .ensures) (record-length .ensures .0) (read .ensures) _ _ (tail .ensures) (tail-sizes .ensures) _ _ _ (variable .given .1) (some-row .ensures .0), some-row .ensures .1)
+    (some-is (now (args .walks)) (now (args .vs)) (now (args .memo)) (now (args .env)) (now (args .q)) (now (args .z)) (args .level) _ _ _ (if1 .left) (byte .ensures) (record-length .ensures .0) (read .ensures) _ _ (tail .ensures) (tail-sizes .ensures) _ _ _ _ (variable .given .1) (some-row .ensures .0), some-row .ensures .1)
 
 condition-returns-10 : (t : ℕ) → condition-lts.Need-returns-10 (condition-claims t) (condition-at t) condition.Post
 condition-returns-10 t c =
@@ -439,7 +440,7 @@ gather-returns t c =
 abbrev some-row-Inv-loop : some-row-lts.InvT-loop
 some-row-Inv-loop q z level ws vs memo env₀ variable walk n old i₀ env i =
     (set env variable old ≡ env₀)
-    × (any (holdsOn level q z ws vs memo env₀ variable) (map (tupleAt vs) (places (placeAt ws walk) i (n - i))) ≡ any (holdsOn level q z ws vs memo env₀ variable) (walked ws vs variable))
+    × Failed (placeAt ws walk) vs (holdsOn level q z ws vs memo env₀ variable) i
     × (i ≤ n) × (length env ≡ length env₀)
 
 abbrev some-row-μ-loop : some-row-lts.MeasureT-loop
@@ -456,7 +457,7 @@ some-row-loop-holds t c =
     let c₂ = c .before .before in let walk-of = c₂ .walk-of in
     let c₇ = c₂ .before .before .before .before .before in let args = c₇ .args in
     let env = now (args .env) in let vs = now (args .vs) in let walks = now (args .walks) in let variable = args .variable in
-    (places-start env variable (c .place .result) (c .place .ensures), search-start (holdsOn (args .level) (now (args .q)) (now (args .z)) walks vs (now (args .memo)) env variable) walks vs variable (walk-of .result) (walk-of .ensures .0), omega arith, refl)
+    (places-start env variable (c .place .result) (c .place .ensures), none-start (λ j. holdsOn (args .level) (now (args .q)) (now (args .z)) walks vs (now (args .memo)) env variable (tupleAt vs (placeAt walks (walk-of .result) j))), omega arith, refl)
 
 some-row-place-requires-2 : (t : ℕ) → some-row-lts.Need-place-requires-2 (some-row-claims t) (some-row-at t) some-row.Post some-row-Inv-loop some-row-μ-loop
 some-row-place-requires-2 t c κs = (c .before .before .before .before .before .walk-of .ensures .1, omega (arith, c .before .before .before .before .before .walk-of .ensures .1 .count, c .before .loop-test .taken))
@@ -469,6 +470,9 @@ some-row-condition-requires t c κs = search needs
 
 some-row-set-place-requires-2 : (t : ℕ) → some-row-lts.Need-set-place-requires-2 (some-row-claims t) (some-row-at t) some-row.Post some-row-Inv-loop some-row-μ-loop
 some-row-set-place-requires-2 t c κs = search needs
+
+some-row-add-tried : (t : ℕ) → some-row-lts.Need-add-tried (some-row-claims t) (some-row-at t) some-row.Post some-row-Inv-loop some-row-μ-loop
+some-row-add-tried t c = search needs
 
 some-row-same-length : (t : ℕ) → some-row-lts.Need-same-length (some-row-claims t) (some-row-at t) some-row.Post some-row-Inv-loop some-row-μ-loop
 some-row-same-length t c = search needs
@@ -485,7 +489,7 @@ some-row-returns t c =
     let c₁₈ = c₁₆ .before .before in let walk-of = c₁₈ .walk-of in
     let c₂₃ = c₁₈ .before .before .before .before .before in let args = c₂₃ .args in let good = c₂₃ .good in let pre = c₂₃ .pre in
     let env = now (args .env) in let memo = now (args .memo) in let q = now (args .q) in let vs = now (args .vs) in let walks = now (args .walks) in let z = now (args .z) in let level = args .level in let variable = args .variable in
-    (search-found (holdsOn level q z walks vs memo env variable) vs (placeAt walks (walk-of .result)) (walk-of .result .count) (loop .i) (walked walks vs variable) (loop .inv .1) (loop-test .taken) ((ap (λ (p : ℕ). (holdsOn level q z walks vs memo env variable) (tupleAt vs p)) (sym (place2 .ensures)) ∙ on-row (loop .env) env _ variable (place .result) (place2 .result) (loop .inv .0) (set-place .ensures) level q z walks vs memo _ (omega (arith, pre, good)) (condition .ensures .0)) ∙ if1 .taken), c .before .before .set-place2 .ensures ∙ places-back (loop .env) env _ variable (place .result) (place2 .result) (loop .inv .0) (set-place .ensures) _ (condition .ensures .1))
+    (sym (walked-hit (holdsOn level q z walks vs memo env variable) walks vs variable (walk-of .result) (walk-of .ensures .0) (loop .i) (loop-test .taken) (loop .inv .1) ((ap (λ (p : ℕ). (holdsOn level q z walks vs memo env variable) (tupleAt vs p)) (sym (place2 .ensures)) ∙ on-row (loop .env) env _ variable (place .result) (place2 .result) (loop .inv .0) (set-place .ensures) level q z walks vs memo _ (omega (arith, pre, good)) (condition .ensures .0)) ∙ if1 .taken)), c .before .before .set-place2 .ensures ∙ places-back (loop .env) env _ variable (place .result) (place2 .result) (loop .inv .0) (set-place .ensures) _ (condition .ensures .1))
 
 some-row-add-i : (t : ℕ) → some-row-lts.Need-add-i (some-row-claims t) (some-row-at t) some-row.Post some-row-Inv-loop some-row-μ-loop
 some-row-add-i t c = search needs
@@ -504,7 +508,7 @@ some-row-loop-again t c =
     let c₁₄ = c₁₂ .before .before in let walk-of = c₁₄ .walk-of in
     let c₁₉ = c₁₄ .before .before .before .before .before in let args = c₁₉ .args in let good = c₁₉ .good in let pre = c₁₉ .pre in
     let env = now (args .env) in let memo = now (args .memo) in let q = now (args .q) in let vs = now (args .vs) in let walks = now (args .walks) in let z = now (args .z) in let level = args .level in let variable = args .variable in
-    (places-back (loop .env) env _ variable (place .result) (place2 .result) (loop .inv .0) (set-place .ensures) _ (condition .ensures .1), search-next (holdsOn level q z walks vs memo env variable) vs (placeAt walks (walk-of .result)) (walk-of .result .count) (loop .i) (walked walks vs variable) (loop .inv .1) (loop-test .taken) ((ap (λ (p : ℕ). (holdsOn level q z walks vs memo env variable) (tupleAt vs p)) (sym (place2 .ensures)) ∙ on-row (loop .env) env _ variable (place .result) (place2 .result) (loop .inv .0) (set-place .ensures) level q z walks vs memo _ (omega (arith, pre, good)) (condition .ensures .0)) ∙ c .if1 .left), omega (arith, loop-test .taken), places-length (loop .env) env _ variable (place .result) (place2 .result) (loop .inv .0) (set-place .ensures) _ (condition .ensures .1) (loop .inv .3))
+    (places-back (loop .env) env _ variable (place .result) (place2 .result) (loop .inv .0) (set-place .ensures) _ (condition .ensures .1), none-next (λ j. holdsOn level q z walks vs memo env variable (tupleAt vs (placeAt walks (walk-of .result) j))) (loop .i) (loop .inv .1) ((ap (λ (p : ℕ). (holdsOn level q z walks vs memo env variable) (tupleAt vs p)) (sym (place2 .ensures)) ∙ on-row (loop .env) env _ variable (place .result) (place2 .result) (loop .inv .0) (set-place .ensures) level q z walks vs memo _ (omega (arith, pre, good)) (condition .ensures .0)) ∙ c .if1 .left), omega (arith, loop-test .taken), places-length (loop .env) env _ variable (place .result) (place2 .result) (loop .inv .0) (set-place .ensures) _ (condition .ensures .1) (loop .inv .3))
 
 some-row-set-place-requires-3 : (t : ℕ) → some-row-lts.Need-set-place-requires-3 (some-row-claims t) (some-row-at t) some-row.Post some-row-Inv-loop some-row-μ-loop
 some-row-set-place-requires-3 t c κs = search needs
@@ -519,7 +523,7 @@ some-row-returns-2 t c =
     let c₈ = c₅ .before .before .before in let walk-of = c₈ .walk-of in
     let c₁₃ = c₈ .before .before .before .before .before in let args = c₁₃ .args in
     let vs = now (args .vs) in let walks = now (args .walks) in let variable = args .variable in
-    (search-none (holdsOn (args .level) (now (args .q)) (now (args .z)) walks vs (now (args .memo)) (now (args .env)) variable) vs (placeAt walks (walk-of .result)) (walk-of .result .count) (loop .i) (walked walks vs variable) (loop .inv .1) (loop-test .left), c .before .before .set-place3 .ensures ∙ loop .inv .0)
+    (sym (walked-none (holdsOn (args .level) (now (args .q)) (now (args .z)) walks vs (now (args .memo)) (now (args .env)) variable) walks vs variable (walk-of .result) (walk-of .ensures .0) (λ j k. loop .inv .1 j (omega (arith, loop-test .left)))), c .before .before .set-place3 .ensures ∙ loop .inv .0)
 
 term-whole-requires : (t : ℕ) → term-lts.Need-whole-requires (term-claims t) (term-at t) term.Post
 term-whole-requires t c κs = search needs
@@ -729,6 +733,7 @@ pub +condition+gather+some-row+term-spec : {M : Type 1} → statement M
     (some-row-set-place-requires t)
     (some-row-condition-requires t)
     (some-row-set-place-requires-2 t)
+    (some-row-add-tried t)
     (some-row-same-length t)
     (some-row-returns t)
     (some-row-add-i t)

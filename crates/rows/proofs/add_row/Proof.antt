@@ -1,4 +1,5 @@
 use Rattle.rows.proofs.Laws.{row-room, added-full, added-stored, added-over, added-laid}
+use Rattle.rows.proofs.Compared.{sought-stored, sought-missed}
 use Rattle.rows.proofs.Links.{linked-laid}
 use Rattle.rows.proofs.Folded.{bucket-low}
 use lib.ListN.{length}
@@ -45,7 +46,7 @@ returns-2 : tie.Need-returns-2
 returns-2 c =
     let c₅ = c .before .before .before .before .before in let if1 = c₅ .if1 in
     let c₇ = c₅ .before .before in let args = c₇ .args in let pre = c₇ .pre in
-    (added-stored (args .state .rows) (args .state .full) (now (args .answer)) (now (args .row)) (if1 .left) (sym (c .before .known .ensures) ∙ c .if2 .taken), pre)
+    (added-stored (args .state .rows) (args .state .full) (now (args .answer)) (now (args .row)) (if1 .left) (sought-stored (now (args .row)) (args .state .rows) (now (args .answer)) _ (c .before .known .ensures) _ (c .if2 .taken)), pre)
 
 -- src/lib.rt:204:8
 capacity-requires : tie.Need-capacity-requires
@@ -65,7 +66,7 @@ returns-3 c =
     let c₃ = c .before .before .before in let known = c₃ .known in
     let c₇ = c₃ .before .before .before .before in let if1 = c₇ .if1 in
     let c₉ = c₇ .before .before in let args = c₉ .args in let pre = c₉ .pre in
-    (added-over (args .state .rows) (args .state .full) (now (args .answer)) (now (args .row)) (if1 .left) (sym (known .ensures) ∙ c .before .before .if2 .left) (omega (arith, c .before .capacity .ensures, c .if3 .taken)), pre)
+    (added-over (args .state .rows) (args .state .full) (now (args .answer)) (now (args .row)) (if1 .left) (sought-stored (now (args .row)) (args .state .rows) (now (args .answer)) _ (known .ensures) _ (c .before .before .if2 .left)) (omega (arith, c .before .capacity .ensures, c .if3 .taken)), pre)
 
 -- src/lib.rt:207:14
 mul-at : tie.Need-mul-at
@@ -111,7 +112,7 @@ returns-4 c =
     let c₁₄ = c₁₃ .before in let if1 = c₁₄ .if1 in
     let c₁₆ = c₁₄ .before .before in let args = c₁₆ .args in let pre = c₁₆ .pre in
     let answer = now (args .answer) in let row = now (args .row) in
-    (ap (λ (l : List ℤ). record { rows = args .state .rows + 1; full = false; cells = l }) (append .ensures) ∙ added-laid (args .state .rows) (args .state .full) answer row (if1 .left) (sym (known .ensures) ∙ if2 .left) (omega (arith, capacity .ensures, if3 .left)), linked-laid answer _ row (args .state .rows) (bucket .result) (now (args .table)) _ (pre) (omega (arith, capacity .ensures, if3 .left)) (bucket .ensures) (append .ensures) (append .kept .0) (link .kept .0) (link .ensures))
+    (ap (λ (l : List ℤ). record { rows = args .state .rows + 1; full = false; cells = l }) (append .ensures) ∙ added-laid (args .state .rows) (args .state .full) answer row (if1 .left) (sought-stored row (args .state .rows) answer _ (known .ensures) _ (if2 .left)) (omega (arith, capacity .ensures, if3 .left)), linked-laid answer _ row (args .state .rows) (bucket .result) (now (args .table)) _ pre (sought-missed row (args .state .rows) answer _ (known .ensures) (if2 .left)) (omega (arith, capacity .ensures, if3 .left)) (bucket .ensures) (append .ensures) (append .kept .0) (link .kept .0) (link .ensures))
 
 pub add-row-spec : {M : Type 1} → statement M
 add-row-spec =

@@ -1,29 +1,24 @@
 use borrow.Author.Needs.{needs}
 use native.Mathlib.Omega.{arith}
-use mathlib.Core.Path.{_≡_, sym, ap, _∙_}
-use mathlib.Core.List.{List}
-use Prim.Native.Nat.{ℕ, _+_, _-_, _≤_}
-use lib.ListN.{length, take, drop, length-drop}
-use lib.Seq.{drop-drop}
-use lib.IntN.{ℤ}
+use mathlib.Core.Path.{_≡_, sym}
+use mathlib.Core.Bool.{true, false}
+use Prim.Native.Nat.{ℕ, _+_, _-_, _*_, _≤_}
+use lib.ListN.{length}
 use denote.Ref.{now}
-use Rattle.model.specs.Meaning.{sameRow}
-use Rattle.rows.specs.Buffer.{stored}
-use Rattle.rows.proofs.Compared.{found-none, found-short, found-here, found-later}
+use Rattle.model.proofs.Search.{NoneBelow, none-start, none-over, none-next}
+use Rattle.rows.proofs.Compared.{sameAt, sought-hit, sought-none, rows-short}
+use Rattle.rows.proofs.Links.{row-part}
 use Rattle.rows.proofs.find.Statement.{statement}
 use Rattle.rows.proofs.find.Tie as tie
 
-part : (c : List ℤ) (at w : ℕ) → take w (drop at c) ≡ take (at + w - at) (drop at c)
-part c at w = let e : at + w - at ≡ w = omega arith in rw e
-
 abbrev Inv-loop : tie.InvT-loop
-Inv-loop answer rows row at₀ i₀ at i = (stored rows answer row ≡ stored (rows - i) (drop at answer) row) × (at ≤ length answer) × (i ≤ rows)
+Inv-loop answer rows row at₀ i₀ at i = NoneBelow (sameAt row answer) i × (at ≤ length answer) × (i ≤ rows) × (at ≡ i * length row)
 
 abbrev μ-loop : tie.MeasureT-loop
 μ-loop answer rows row at₀ i₀ at i = rows - i
 
 loop-holds : tie.Need-loop-holds Inv-loop μ-loop
-loop-holds c = let e : c .args .rows - 0 ≡ c .args .rows = omega arith in (rw e, omega arith, omega arith)
+loop-holds c = (none-start (sameAt (now (c .args .row)) (now (c .args .answer))), omega arith, omega arith, omega arith)
 
 sub-if1 : tie.Need-sub-if1 Inv-loop μ-loop
 sub-if1 c = search needs
@@ -32,7 +27,8 @@ returns : tie.Need-returns Inv-loop μ-loop
 returns c =
     let args = c .before .before .before .args in
     let the-loop = c .before .before .loop in
-    sym (the-loop .inv .0 ∙ found-short (now (args .row)) ((args .rows) - (the-loop .i)) (drop (the-loop .at) (now (args .answer))) (rw (length-drop (the-loop .at) (now (args .answer))) (omega arith)))
+    let answer = now (args .answer) in let row = now (args .row) in
+    sym (sought-none row (args .rows) answer (none-over (sameAt row answer) (the-loop .i) (args .rows) (the-loop .inv .0) (λ j a _. rows-short row answer (the-loop .at) (the-loop .i) j (the-loop .inv .3) (c .if1 .taken) a)))
 
 add-end : tie.Need-add-end Inv-loop μ-loop
 add-end c = search needs
@@ -52,12 +48,16 @@ part-same-end c = search needs
 same-requires : tie.Need-same-requires Inv-loop μ-loop
 same-requires c κs = search needs
 
+add-tried : tie.Need-add-tried Inv-loop μ-loop
+add-tried c = search needs
+
 returns-2 : tie.Need-returns-2 Inv-loop μ-loop
 returns-2 c =
     let args = c .before .before .before .before .before .before .args in
     let the-loop = c .before .before .before .before .before .loop in
     let same = c .before .same in
-    sym (the-loop .inv .0 ∙ found-here (now (args .row)) (drop (the-loop .at) (now (args .answer))) (args .rows) (the-loop .i) (omega arith) (ap (sameRow (now (args .row))) (part (now (args .answer)) (the-loop .at) (length (now (args .row)))) ∙ sym (same .ensures) ∙ c .if2 .taken))
+    let answer = now (args .answer) in let row = now (args .row) in
+    sym (sought-hit row (args .rows) (the-loop .i) answer (omega arith) (the-loop .inv .0) (row-part answer (the-loop .at) (the-loop .i) row (same .result) true (the-loop .inv .3) (same .ensures) (c .if2 .taken)))
 
 add-i : tie.Need-add-i Inv-loop μ-loop
 add-i c = search needs
@@ -70,13 +70,14 @@ loop-again c =
     let args = c .before .before .before .before .before .before .args in
     let the-loop = c .before .before .before .before .before .loop in
     let same = c .before .same in
-    (the-loop .inv .0 ∙ found-later (now (args .row)) (drop (the-loop .at) (now (args .answer))) (args .rows) (the-loop .i) (omega arith) (ap (sameRow (now (args .row))) (part (now (args .answer)) (the-loop .at) (length (now (args .row)))) ∙ sym (same .ensures) ∙ c .if2 .left) ∙ ap (λ (l : List ℤ). stored ((args .rows) - ((the-loop .i) + 1)) l (now (args .row))) (drop-drop (length (now (args .row))) (the-loop .at) (now (args .answer))), omega arith, omega arith)
+    let answer = now (args .answer) in let row = now (args .row) in
+    (none-next (sameAt row answer) (the-loop .i) (the-loop .inv .0) (row-part answer (the-loop .at) (the-loop .i) row (same .result) false (the-loop .inv .3) (same .ensures) (c .if2 .left)), omega arith, omega arith, omega arith)
 
 returns-3 : tie.Need-returns-3 Inv-loop μ-loop
 returns-3 c =
     let args = c .before .before .args in
     let the-loop = c .before .loop in
-    sym (the-loop .inv .0 ∙ found-none (now (args .row)) (drop (the-loop .at) (now (args .answer))) (args .rows) (the-loop .i) (omega arith))
+    sym (sought-none (now (args .row)) (args .rows) (now (args .answer)) (λ j k. the-loop .inv .0 j (omega arith)))
 
 pub find-spec : {M : Type 1} → statement M
 find-spec =
@@ -93,6 +94,7 @@ find-spec =
     part-same-start
     part-same-end
     same-requires
+    add-tried
     returns-2
     add-i
     loop-less

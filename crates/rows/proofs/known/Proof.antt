@@ -1,12 +1,12 @@
 use native.Mathlib.Omega.{arith}
-use mathlib.Core.Path.{_≡_, refl, sym, ap, _∙_, subst}
-use mathlib.Core.Bool.{false}
-use Prim.Native.Nat.{ℕ, _-_, _*_, min}
-use lib.ListN.{length}
+use mathlib.Core.Path.{refl, ap}
+use Prim.Native.Nat.{_-_, _*_}
+use lib.ListN.{length, take, drop}
 use denote.Ref.{now}
-use Rattle.rows.specs.Buffer.{stored}
+use Rattle.model.specs.Search.{Search}
 use Rattle.rows.specs.Chains.{nextsOf}
-use Rattle.rows.proofs.Links.{known-linked, known-none, known-rest, rest-within}
+use Rattle.rows.proofs.Compared.{sought-most}
+use Rattle.rows.proofs.Links.{known-linked, known-all, known-rest, rest-within}
 use borrow.Author.Needs.{needs}
 use Rattle.rows.proofs.known.Statement.{statement}
 use Rattle.rows.proofs.known.Tie as tie
@@ -16,70 +16,79 @@ use Rattle.rows.proofs.chained.Reads as chained-reads
 use Rattle.rows.proofs.find.Reads as find-reads
 use Rattle.rows.proofs.nexts.Reads as nexts-reads
 
--- src/lib.rt:157:8
+-- src/lib.rt:184:9
 chained-requires : tie.Need-chained-requires
 chained-requires c κs = search needs
 
--- src/lib.rt:158:9
+-- src/lib.rt:186:9
 returns : tie.Need-returns
-returns c = sym (known-linked (now (c .before .before .before .args .row)) (now (c .before .before .before .args .answer)) (c .before .before .before .args .rows) (nextsOf (length (now (c .before .before .before .args .table)))) (sym (c .before .chained .ensures) ∙ c .if1 .taken))
+returns c = known-linked (now (c .before .before .before .args .row)) (now (c .before .before .before .args .answer)) (c .before .before .before .args .rows) (nextsOf (length (now (c .before .before .before .args .table)))) _ (c .before .chained .ensures) (c .if1 .taken)
 
--- src/lib.rt:160:9
+-- src/lib.rt:188:9
 nexts-requires : tie.Need-nexts-requires
 nexts-requires c κs = search needs
 
--- src/lib.rt:162:9
+-- src/lib.rt:190:9
 returns-2 : tie.Need-returns-2
 returns-2 c =
     let c₃ = c .before .before .before in let chained = c₃ .chained in
     let c₅ = c₃ .before .before in let args = c₅ .args in
-    sym (known-none (now (args .row)) (now (args .answer)) (args .rows) (nextsOf (length (now (args .table)))) (omega (arith, c .before .nexts .ensures, c .if2 .taken)) (sym (chained .ensures) ∙ c .before .before .if1 .left))
+    known-all (now (args .row)) (now (args .answer)) (args .rows) (nextsOf (length (now (args .table)))) _ (chained .ensures) (omega (arith, c .before .nexts .ensures, c .if2 .taken))
 
--- src/lib.rt:164:14
+-- src/lib.rt:192:14
 mul-at : tie.Need-mul-at
 mul-at c =
     let c₅ = c .before .before .before .before .before in let args = c₅ .args in let pre = c₅ .pre in
     omega (arith, rest-within (c .before .nexts .result) (args .rows) (length (now (args .row))) (length (now (args .answer))) (c .if2 .left) (pre .0 .room))
 
--- src/lib.rt:165:10
+-- src/lib.rt:193:21
 mul-find : tie.Need-mul-find
 mul-find c =
     let c₅ = c .before .before .before .before .before in let args = c₅ .args in let pre = c₅ .pre in
     omega (arith, rest-within (c .before .nexts .result) (args .rows) (length (now (args .row))) (length (now (args .answer))) (c .if2 .left) (pre .0 .room))
 
--- src/lib.rt:165:10
+-- src/lib.rt:193:21
 sub-find : tie.Need-sub-find
 sub-find c =
     let c₅ = c .before .before .before .before .before in let args = c₅ .args in let pre = c₅ .pre in
     omega (arith, rest-within (c .before .nexts .result) (args .rows) (length (now (args .row))) (length (now (args .answer))) (c .if2 .left) (pre .0 .room))
 
--- src/lib.rt:165:10
+-- src/lib.rt:193:21
 part-find-start : tie.Need-part-find-start
 part-find-start c =
     let c₅ = c .before .before .before .before .before in let args = c₅ .args in let pre = c₅ .pre in
     omega (arith, rest-within (c .before .nexts .result) (args .rows) (length (now (args .row))) (length (now (args .answer))) (c .if2 .left) (pre .0 .room))
 
--- src/lib.rt:165:10
+-- src/lib.rt:193:21
 part-find-end : tie.Need-part-find-end
 part-find-end c = search needs
 
--- src/lib.rt:165:25
+-- src/lib.rt:193:36
 sub-find-2 : tie.Need-sub-find-2
 sub-find-2 c = search needs
 
--- src/lib.rt:165:5
+-- src/lib.rt:193:9
 find-requires : tie.Need-find-requires
 find-requires c κs = search needs
 
--- src/lib.rt:153:1
+-- src/lib.rt:195:17
+add-tried : tie.Need-add-tried
+add-tried c =
+    let c₃ = c .before .before .before in let if2 = c₃ .if2 in
+    let c₄ = c₃ .before in let nexts = c₄ .nexts in
+    let c₈ = c₄ .before .before .before .before in let args = c₈ .args in
+    let answer = now (args .answer) in let row = now (args .row) in
+    omega (arith, ap (λ (s : Search). s .tried) (c .before .find .ensures), sought-most row ((args .rows) - nexts .result) (take (length answer - nexts .result * length row) (drop (nexts .result * length row) answer)), if2 .left)
+
+-- src/lib.rt:180:1
 returns-3 : tie.Need-returns-3
 returns-3 c =
-    let c₃ = c .before .before .before in let nexts = c₃ .nexts in
-    let c₄ = c₃ .before in let if1 = c₄ .if1 in
-    let c₅ = c₄ .before in let chained = c₅ .chained in
-    let c₇ = c₅ .before .before in let args = c₇ .args in
-    let row = now (args .row) in
-    c .find .ensures ∙ sym (known-rest row (now (args .answer)) (args .rows) (nextsOf (length (now (args .table)))) (nexts .result) (nexts .result * length row) (nexts .ensures) (c .before .before .if2 .left) refl (sym (chained .ensures) ∙ if1 .left))
+    let c₃ = c .before .before .before in let if2 = c₃ .if2 in
+    let c₄ = c₃ .before in let nexts = c₄ .nexts in
+    let c₅ = c₄ .before in let if1 = c₅ .if1 in
+    let c₆ = c₅ .before in let chained = c₆ .chained in
+    let c₈ = c₆ .before .before in let args = c₈ .args in
+    known-rest (now (args .row)) (now (args .answer)) (args .rows) (nextsOf (length (now (args .table)))) _ (chained .ensures) (nexts .result) (nexts .ensures) (if2 .left) (if1 .left) _ refl _ (c .before .find .ensures)
 
 pub known-spec : {M : Type 1} → statement M
 known-spec =
@@ -96,4 +105,5 @@ known-spec =
     part-find-end
     sub-find-2
     find-requires
+    add-tried
     returns-3)
