@@ -1,4 +1,6 @@
 // What each token of a text gives: the loop's next mode, and the token's record with its names looked up.
+pub mod reach;
+
 use kinds::Record;
 use names::Found;
 use names::Value;
@@ -14,7 +16,7 @@ ghost use Rattle.quel.specs.Names.{attributeNamed, relationNamed, valueNamed};
 ghost use Rattle.quel.specs.Writing.{inner};
 ghost use Rattle.names.specs.Entries.{entries};
 ghost use Rattle.marks.specs.Places.{nameIn};
-ghost use Rattle.reach.specs.Reach.{rangeSymbol, reaches, knownOf};
+ghost use Rattle.items.specs.Reach.{rangeSymbol, reaches, knownOf};
 ghost use Rattle.items.specs.Actions.{actionOf, restOf, nextOf, useBy, headBy, someBy, valueBy, constantBy, useItem, headItem, itemOf};
 
 // A token's record (Short: none), or a name that is unknown or out of reach.
