@@ -7,10 +7,10 @@ use denote.Ref.{now}
 use borrow.Author.Tests.{not-true, not-false}
 use Rattle.model.specs.Lists.{all}
 use Rattle.model.specs.Book.{rowsIn, inRange}
-use Rattle.labels.proofs.Rows.{all-end, all-less, all-more}
-use Rattle.labels.proofs.Range.{row-bits}
-use Rattle.labels.proofs.all_in_range.Statement.{statement}
-use Rattle.labels.proofs.all_in_range.Tie as tie
+use Rattle.book.proofs.labels.Rows.{all-end, all-less, all-more}
+use Rattle.book.proofs.labels.Range.{row-bits}
+use Rattle.book.proofs.labels.all_in_range.Statement.{statement}
+use Rattle.book.proofs.labels.all_in_range.Tie as tie
 
 abbrev Inv-loop : tie.InvT-loop
 Inv-loop cells at₀ at = (all inRange (rowsIn cells) ≡ all inRange (rowsIn (drop at cells))) × (at ≤ length cells)

@@ -5,8 +5,8 @@ use lib.Seq.{sets}
 use denote.Ref.{now}
 use Rattle.model.specs.Book.{digit, lead, displayOf}
 use borrow.Author.Needs.{needs}
-use Rattle.labels.proofs.put_price.Statement.{statement}
-use Rattle.labels.proofs.put_price.Tie as tie
+use Rattle.book.proofs.labels.put_price.Statement.{statement}
+use Rattle.book.proofs.labels.put_price.Tie as tie
 
 module _ (cents : ℕ) {a b c d e f : ℕ} where
   price-bytes : a ≡ lead (cents / 100 / 1000) → b ≡ lead (cents / 100 / 100) → c ≡ lead (cents / 100 / 10) → d ≡ digit (cents / 100) → e ≡ digit (cents / 10) → f ≡ digit cents

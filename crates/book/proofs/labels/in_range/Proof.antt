@@ -1,9 +1,9 @@
 use mathlib.Core.Path.{sym, _∙_}
 use borrow.Author.Tests.{not-true, not-false}
-use Rattle.labels.proofs.Range.{sign, up-to-bits, label-out, offer-out, price-decides}
+use Rattle.book.proofs.labels.Range.{sign, up-to-bits, label-out, offer-out, price-decides}
 use borrow.Author.Needs.{needs}
-use Rattle.labels.proofs.in_range.Statement.{statement}
-use Rattle.labels.proofs.in_range.Tie as tie
+use Rattle.book.proofs.labels.in_range.Statement.{statement}
+use Rattle.book.proofs.labels.in_range.Tie as tie
 
 up-to-requires : tie.Need-up-to-requires
 up-to-requires c κs = search needs

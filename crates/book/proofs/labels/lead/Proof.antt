@@ -1,7 +1,7 @@
 use borrow.Author.Tests.{eq-eqb, ne-eqb}
 use borrow.Author.Needs.{needs}
-use Rattle.labels.proofs.lead.Statement.{statement}
-use Rattle.labels.proofs.lead.Tie as tie
+use Rattle.book.proofs.labels.lead.Statement.{statement}
+use Rattle.book.proofs.labels.lead.Tie as tie
 
 digit-requires : tie.Need-digit-requires
 digit-requires c κs = search needs

@@ -1,7 +1,7 @@
 use mir.Facts.{toZ-ofZ}
-use Rattle.labels.proofs.Range.{sign}
-use Rattle.labels.proofs.up_to.Statement.{statement}
-use Rattle.labels.proofs.up_to.Tie as tie
+use Rattle.book.proofs.labels.Range.{sign}
+use Rattle.book.proofs.labels.up_to.Statement.{statement}
+use Rattle.book.proofs.labels.up_to.Tie as tie
 
 returns : tie.Need-returns
 returns c = rw (sign (c .before .args .z) (c .before .fits .z) (c .if1 .taken))
