@@ -2,15 +2,15 @@ use native.Mathlib.Omega.{arith}
 use denote.Ref.{now}
 use mathlib.Core.Path.{refl, ap}
 use Prim.Native.Nat.{ℕ, _*_}
 use Rattle.copier.proofs.Turns.{part-is}
 use borrow.Author.Needs.{needs}
-use Rattle.copier.proofs.condition_of.Statement.{statement}
-use Rattle.copier.proofs.condition_of.Tie as tie
-use Rattle.copier.proofs.condition_of.Reads as reads
-use Rattle.copier.proofs.condition_of.Lts as lts
-use Rattle.copier.proofs.head.Reads as head-reads
-use Rattle.copier.proofs.place.Reads as place-reads
-use Rattle.copier.proofs.wide.Reads as wide-reads
+use Rattle.rewriter.proofs.guard.condition_of.Statement.{statement}
+use Rattle.rewriter.proofs.guard.condition_of.Tie as tie
+use Rattle.rewriter.proofs.guard.condition_of.Reads as reads
+use Rattle.rewriter.proofs.guard.condition_of.Lts as lts
+use Rattle.rewriter.proofs.guard.head.Reads as head-reads
+use Rattle.rewriter.proofs.guard.place.Reads as place-reads
+use Rattle.rewriter.proofs.guard.wide.Reads as wide-reads
 use Rattle.kinds.proofs.tail.Reads as tail-reads
 
 wide-requires : tie.Need-wide-requires

@@ -5,15 +5,15 @@ use Prim.Native.Nat.{_+_, _-_, _≤_}
 use lib.ListN.{length, drop}
 use denote.Ref.{now}
 use Rattle.scans.specs.Flat.{flat}
 use Rattle.copier.specs.Copied.{copiedRecord, copiedBytes}
 use Rattle.copier.proofs.Sets.{Left, left-end}
-use Rattle.copier.proofs.Copies.{copy-room, copy-turn, copy-end, copy-start}
-use Rattle.copier.proofs.copy_condition.Statement.{statement}
-use Rattle.copier.proofs.copy_condition.Tie as tie
-use Rattle.copier.proofs.copy_condition.Reads as reads
-use Rattle.copier.proofs.copy_condition.Lts as lts
+use Rattle.rewriter.proofs.guard.Copies.{copy-room, copy-turn, copy-end, copy-start}
+use Rattle.rewriter.proofs.guard.copy_condition.Statement.{statement}
+use Rattle.rewriter.proofs.guard.copy_condition.Tie as tie
+use Rattle.rewriter.proofs.guard.copy_condition.Reads as reads
+use Rattle.rewriter.proofs.guard.copy_condition.Lts as lts
 use Rattle.copier.proofs.put_record.Reads as put-record-reads
-use Rattle.copier.proofs.renamed.Reads as renamed-reads
+use Rattle.rewriter.proofs.guard.renamed.Reads as renamed-reads
 use Rattle.kinds.proofs.read.Reads as read-reads
 use Rattle.kinds.proofs.tail.Reads as tail-reads
 use Rattle.scans.proofs.step.Reads as step-reads

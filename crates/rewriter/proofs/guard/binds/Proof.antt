@@ -1,9 +1,9 @@
-use Rattle.copier.proofs.Index.{binds-none, binds-one}
+use Rattle.rewriter.proofs.guard.Index.{binds-none, binds-one}
 use borrow.Author.Needs.{needs}
-use Rattle.copier.proofs.binds.Statement.{statement}
-use Rattle.copier.proofs.binds.Tie as tie
-use Rattle.copier.proofs.binds.Reads as reads
-use Rattle.copier.proofs.binds.Lts as lts
+use Rattle.rewriter.proofs.guard.binds.Statement.{statement}
+use Rattle.rewriter.proofs.guard.binds.Tie as tie
+use Rattle.rewriter.proofs.guard.binds.Reads as reads
+use Rattle.rewriter.proofs.guard.binds.Lts as lts
 
 enum-known-b : tie.Need-enum-known-b
 enum-known-b c = search needs

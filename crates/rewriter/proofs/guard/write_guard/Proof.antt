@@ -4,14 +4,14 @@ use mathlib.Core.Path.{_≡_, refl, _∙_}
 use Prim.Native.Nat.{_+_, _-_, _≤_}
 use lib.ListN.{length}
 use denote.Ref.{now}
 use Rattle.copier.specs.Guard.{part}
 use Rattle.copier.proofs.Turns.{State, state-start, state-room, state-again, state-end}
-use Rattle.copier.proofs.write_guard.Statement.{statement}
-use Rattle.copier.proofs.write_guard.Tie as tie
-use Rattle.copier.proofs.write_guard.Reads as reads
-use Rattle.copier.proofs.write_guard.Lts as lts
-use Rattle.copier.proofs.condition_of.Reads as condition-of-reads
-use Rattle.copier.proofs.write_turn.Reads as write-turn-reads
+use Rattle.rewriter.proofs.guard.write_guard.Statement.{statement}
+use Rattle.rewriter.proofs.guard.write_guard.Tie as tie
+use Rattle.rewriter.proofs.guard.write_guard.Reads as reads
+use Rattle.rewriter.proofs.guard.write_guard.Lts as lts
+use Rattle.rewriter.proofs.guard.condition_of.Reads as condition-of-reads
+use Rattle.rewriter.proofs.guard.write_turn.Reads as write-turn-reads
 
 abbrev Inv-loop : tie.InvT-loop
 Inv-loop out₀ at permits places mask variable next m₀ k₀ to₀ n₀ out m k to n = State out₀ at mask (part permits places) variable next out to m k n × (length out ≡ length out₀)

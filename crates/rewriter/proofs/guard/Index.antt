@@ -9,6 +9,7 @@ use lib.ListN.{length, getD, drop}
 use Rattle.model.specs.Lists.{any, contains, indexOf}
 use Rattle.model.specs.Syntax.{Binding, variables}
 use Rattle.model.proofs.Tests.{or-false}
+use Rattle.model.proofs.Renaming.{length-variables}
 use Rattle.kinds.specs.Tables.{recordLength}
 use Rattle.kinds.specs.Record.{recordAt}
 use Rattle.scans.specs.Flat.{bindingOf, flatBindings, boundBy}
@@ -60,9 +61,5 @@ index-in w (x ∷ xs) = go (eqb w x) (index-in w xs)
     go true h = omega arith
     go false h = omega arith
 
-count : (bs : List Binding) → length (variables bs) ≡ length bs
-count [] = refl
-count (b ∷ bs) = ap suc (count bs)
-
 pub index-small : (w i : ℕ) (bs : List Binding) → i ≡ indexOf w (variables bs) → i ≤ length bs
-index-small w i bs e = omega (arith, index-in w (variables bs), count bs)
+index-small w i bs e = omega (arith, index-in w (variables bs), length-variables bs)

@@ -1,14 +1,14 @@
 use Rattle.scans.specs.Flat.{flatBindings}
 use native.Mathlib.Omega.{arith}
 use denote.Ref.{now}
-use Rattle.copier.proofs.Index.{index-small}
-use Rattle.copier.proofs.Copies.{number-zero, number-other}
+use Rattle.rewriter.proofs.guard.Index.{index-small}
+use Rattle.rewriter.proofs.guard.Copies.{number-zero, number-other}
 use borrow.Author.Needs.{needs}
-use Rattle.copier.proofs.number.Statement.{statement}
-use Rattle.copier.proofs.number.Tie as tie
-use Rattle.copier.proofs.number.Reads as reads
-use Rattle.copier.proofs.number.Lts as lts
-use Rattle.copier.proofs.index_of.Reads as index-of-reads
+use Rattle.rewriter.proofs.guard.number.Statement.{statement}
+use Rattle.rewriter.proofs.guard.number.Tie as tie
+use Rattle.rewriter.proofs.guard.number.Reads as reads
+use Rattle.rewriter.proofs.guard.number.Lts as lts
+use Rattle.rewriter.proofs.guard.index_of.Reads as index-of-reads
 
 returns : tie.Need-returns
 returns c = number-zero (now (c .before .before .args .q)) (c .before .before .args .variable) (c .before .before .args .next) (c .before .before .args .w) (c .if1 .taken)

@@ -1,4 +1,4 @@
--- What is written of one record, as the code tells the records apart.
+-- What is copied of one record of a permit's condition, as the code tells the records apart.
 use mathlib.Core.Path.{_≡_, refl, sym, ap, _∙_}
 use mathlib.Core.Bool.{Bool, cond}
 use mathlib.Core.List.{List, [], _∷_, _++_}
@@ -19,27 +19,8 @@ use Rattle.kinds.specs.declared.Record.the-variants as R
 use Rattle.kinds.proofs.Record.{enum}
 use Rattle.scans.specs.Flat.{flat, flatBindings}
 use Rattle.scans.proofs.Walk.{flat-step, flat-end}
 use Rattle.copier.specs.Copied.{recordBytes, renamedRecord, numberIn, copiedRecord, copiedBytes}
 use Rattle.copier.proofs.Sets.{Wrote, Left, left-then, left-room}
-
--- records that are not written
-pub unwritten : (r : Record) → OneOf (11 ∷ 12 ∷ 13 ∷ 14 ∷ 15 ∷ []) (tagOf (declared enum) r) → [] ≡ recordBytes r
-unwritten (R.Range v r) h = absurd (miss (11 ∷ 12 ∷ 13 ∷ 14 ∷ 15 ∷ []) 0 tt h)
-unwritten R.True h = absurd (miss (11 ∷ 12 ∷ 13 ∷ 14 ∷ 15 ∷ []) 1 tt h)
-unwritten R.False h = absurd (miss (11 ∷ 12 ∷ 13 ∷ 14 ∷ 15 ∷ []) 2 tt h)
-unwritten R.Not h = absurd (miss (11 ∷ 12 ∷ 13 ∷ 14 ∷ 15 ∷ []) 3 tt h)
-unwritten R.And h = absurd (miss (11 ∷ 12 ∷ 13 ∷ 14 ∷ 15 ∷ []) 4 tt h)
-unwritten R.Or h = absurd (miss (11 ∷ 12 ∷ 13 ∷ 14 ∷ 15 ∷ []) 5 tt h)
-unwritten (R.Compare o) h = absurd (miss (11 ∷ 12 ∷ 13 ∷ 14 ∷ 15 ∷ []) 6 tt h)
-unwritten (R.Some v r) h = absurd (miss (11 ∷ 12 ∷ 13 ∷ 14 ∷ 15 ∷ []) 7 tt h)
-unwritten (R.Constant a b c d) h = absurd (miss (11 ∷ 12 ∷ 13 ∷ 14 ∷ 15 ∷ []) 8 tt h)
-unwritten (R.Attribute v a) h = absurd (miss (11 ∷ 12 ∷ 13 ∷ 14 ∷ 15 ∷ []) 9 tt h)
-unwritten (R.Aggregate f v r a) h = absurd (miss (11 ∷ 12 ∷ 13 ∷ 14 ∷ 15 ∷ []) 10 tt h)
-unwritten (R.Stored a b c) h = refl
-unwritten (R.Workspace a b c) h = refl
-unwritten (R.Permit a b c) h = refl
-unwritten R.Unknown h = refl
-unwritten R.Short h = refl
 
 -- records with no variable that a condition could have
 pub unnamed : (r : Record) (ρ : ℕ → ℕ) → OneOf (0 ∷ 1 ∷ 2 ∷ 3 ∷ 4 ∷ 5 ∷ 6 ∷ 8 ∷ 11 ∷ 12 ∷ 13 ∷ 14 ∷ 15 ∷ []) (tagOf (declared enum) r) → r ≡ renamedRecord ρ r

@@ -1,12 +1,12 @@
 use denote.Ref.{now}
 use Rattle.copier.specs.Copied.{numberIn}
-use Rattle.copier.proofs.Copies.{unnamed, some-renamed, attribute-renamed, aggregate-renamed}
+use Rattle.rewriter.proofs.guard.Copies.{unnamed, some-renamed, attribute-renamed, aggregate-renamed}
 use borrow.Author.Needs.{needs}
-use Rattle.copier.proofs.renamed.Statement.{statement}
-use Rattle.copier.proofs.renamed.Tie as tie
-use Rattle.copier.proofs.renamed.Reads as reads
-use Rattle.copier.proofs.renamed.Lts as lts
-use Rattle.copier.proofs.number.Reads as number-reads
+use Rattle.rewriter.proofs.guard.renamed.Statement.{statement}
+use Rattle.rewriter.proofs.guard.renamed.Tie as tie
+use Rattle.rewriter.proofs.guard.renamed.Reads as reads
+use Rattle.rewriter.proofs.guard.renamed.Lts as lts
+use Rattle.rewriter.proofs.guard.number.Reads as number-reads
 
 enum-known-item : tie.Need-enum-known-item
 enum-known-item c = search needs

@@ -2,14 +2,14 @@ use native.Mathlib.Omega.{arith}
 use mathlib.Core.Path.{ap, sym}
 use mathlib.Core.List.{[], _∷_}
 use denote.Ref.{now}
 use Rattle.copier.proofs.Sets.{wrote-as, wrote-nothing, room-as}
 use Rattle.copier.proofs.Turns.{nothing-is, something-is}
 use borrow.Author.Needs.{needs}
-use Rattle.copier.proofs.put_unless.Statement.{statement}
-use Rattle.copier.proofs.put_unless.Tie as tie
-use Rattle.copier.proofs.put_unless.Reads as reads
-use Rattle.copier.proofs.put_unless.Lts as lts
+use Rattle.rewriter.proofs.guard.put_unless.Statement.{statement}
+use Rattle.rewriter.proofs.guard.put_unless.Tie as tie
+use Rattle.rewriter.proofs.guard.put_unless.Reads as reads
+use Rattle.rewriter.proofs.guard.put_unless.Lts as lts
 use Rattle.copier.proofs.put.Reads as put-reads
 
 returns : tie.Need-returns
 returns c = wrote-nothing (now (c .before .before .args .out)) (c .before .before .args .at) _ (nothing-is (c .before .before .args .mask) ((c .before .before .args .b) ∷ []) (c .if1 .taken))

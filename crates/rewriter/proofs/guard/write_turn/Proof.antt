@@ -1,13 +1,13 @@
 use native.Mathlib.Omega.{arith}
 use denote.Ref.{now}
 use Rattle.copier.proofs.Turns.{turn-not, turn-first, turn-second, turn-done}
 use borrow.Author.Needs.{needs}
-use Rattle.copier.proofs.write_turn.Statement.{statement}
-use Rattle.copier.proofs.write_turn.Tie as tie
-use Rattle.copier.proofs.write_turn.Reads as reads
-use Rattle.copier.proofs.write_turn.Lts as lts
-use Rattle.copier.proofs.copy_condition.Reads as copy-condition-reads
-use Rattle.copier.proofs.put_unless.Reads as put-unless-reads
+use Rattle.rewriter.proofs.guard.write_turn.Statement.{statement}
+use Rattle.rewriter.proofs.guard.write_turn.Tie as tie
+use Rattle.rewriter.proofs.guard.write_turn.Reads as reads
+use Rattle.rewriter.proofs.guard.write_turn.Lts as lts
+use Rattle.rewriter.proofs.guard.copy_condition.Reads as copy-condition-reads
+use Rattle.rewriter.proofs.guard.put_unless.Reads as put-unless-reads
 use Rattle.scans.proofs.count_bindings.Reads as count-bindings-reads
 
 returns : tie.Need-returns

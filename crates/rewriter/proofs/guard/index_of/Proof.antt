@@ -7,13 +7,13 @@ use denote.Ref.{now}
 use Rattle.model.specs.Lists.{indexOf}
 use Rattle.model.specs.Syntax.{variables}
 use Rattle.scans.specs.Flat.{flatBindings}
-use Rattle.copier.proofs.Index.{index-on, index-found, index-end}
-use Rattle.copier.proofs.index_of.Statement.{statement}
-use Rattle.copier.proofs.index_of.Tie as tie
-use Rattle.copier.proofs.index_of.Reads as reads
-use Rattle.copier.proofs.index_of.Lts as lts
-use Rattle.copier.proofs.binds.Reads as binds-reads
-use Rattle.copier.proofs.one.Reads as one-reads
+use Rattle.rewriter.proofs.guard.Index.{index-on, index-found, index-end}
+use Rattle.rewriter.proofs.guard.index_of.Statement.{statement}
+use Rattle.rewriter.proofs.guard.index_of.Tie as tie
+use Rattle.rewriter.proofs.guard.index_of.Reads as reads
+use Rattle.rewriter.proofs.guard.index_of.Lts as lts
+use Rattle.rewriter.proofs.guard.binds.Reads as binds-reads
+use Rattle.rewriter.proofs.guard.one.Reads as one-reads
 use Rattle.scans.proofs.binding.Reads as binding-reads
 use Rattle.scans.proofs.step.Reads as step-reads
 

@@ -2,10 +2,10 @@ use mathlib.Core.Path.{sym}
 use denote.Ref.{now}
 use lib.ListN.{List·getD-eq-default}
 use borrow.Author.Needs.{needs}
-use Rattle.copier.proofs.place.Statement.{statement}
-use Rattle.copier.proofs.place.Tie as tie
-use Rattle.copier.proofs.place.Reads as reads
-use Rattle.copier.proofs.place.Lts as lts
+use Rattle.rewriter.proofs.guard.place.Statement.{statement}
+use Rattle.rewriter.proofs.guard.place.Tie as tie
+use Rattle.rewriter.proofs.guard.place.Reads as reads
+use Rattle.rewriter.proofs.guard.place.Lts as lts
 
 mul-result : tie.Need-mul-result
 mul-result c = search needs

@@ -7,10 +7,10 @@ use denote.Ref.{now}
 use lib.ListN.{length, take}
 use lib.Seq.{length-take-le, take-all}
 use borrow.Author.Needs.{needs}
-use Rattle.copier.proofs.head.Statement.{statement}
-use Rattle.copier.proofs.head.Tie as tie
-use Rattle.copier.proofs.head.Reads as reads
-use Rattle.copier.proofs.head.Lts as lts
+use Rattle.rewriter.proofs.guard.head.Statement.{statement}
+use Rattle.rewriter.proofs.guard.head.Tie as tie
+use Rattle.rewriter.proofs.guard.head.Reads as reads
+use Rattle.rewriter.proofs.guard.head.Lts as lts
 
 whole : (q : List ℕ) (n : ℕ) → length q < n → take (length q - 0) q ≡ take n q
 whole q n h = take-all (length q - 0) q (omega arith) ∙ sym (take-all n q (omega arith))
