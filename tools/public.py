@@ -22,7 +22,7 @@ def source(path):
 
 def functions(text):
     # name, whether it is public, its parameters, its lines with signature and contract
-    for found in re.finditer(r'^( *)(pub )?(extern "C" )?fn (\w+)(?:<[^>]*>)?\(', text, re.M):
+    for found in re.finditer(r'^( *)(pub(?:\(crate\))? )?(extern "C" )?fn (\w+)(?:<[^>]*>)?\(', text, re.M):
         start = found.start()
         signature = text[found.end():text.index('\n' + found.group(1) + '{', start) if '\n' + found.group(1) + '{' in text[start:] else len(text)]
         depth, end = 1, 0
@@ -32,7 +32,7 @@ def functions(text):
         parameters = len([p for p in signature[:end - 1].split(',') if p.strip()])
         last = text.find('\n' + found.group(1) + '}', start)
         lines = text[start:last + 2].count('\n') + 1
-        yield found.group(4), bool(found.group(2)), parameters, lines
+        yield found.group(4), found.group(2) == 'pub ', parameters, lines
 
 
 def files(crate):
@@ -60,10 +60,14 @@ def public(crate):
 
 
 def callers(crate, path, crates):
-    wanted = re.compile(rf'\b{crate}::{path}\(')
-    short = re.compile(rf'^use {crate}::{path};', re.M)
+    # by its whole path, or by the short one that a `use` gives
+    module, _, name = path.rpartition('::')
+    calls = [(re.compile(rf'\b{crate}::{path}\('), None), (re.compile(rf'(?<![\w:]){name}\('), f'use {crate}::{path};')]
+    if module:
+        calls.append((re.compile(rf'(?<![\w:]){path}\('), f'use {crate}::{module};'))
     for other in crates:
-        if other != crate and any(wanted.search(source(f)) or short.search(source(f)) for f in files(other)):
+        texts = [source(f) for f in files(other)] if other != crate else []
+        if any(call.search(t) and (not line or line in t) for t in texts for call, line in calls):
             yield other
 
 
