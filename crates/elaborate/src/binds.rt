@@ -1,5 +1,5 @@
 // The RANGE list: its symbols, with relations looked up, and a record for each symbol that is used.
-use items::reach;
+use crate::frames;
 use names::Found;
 ghost use mathlib.Core.Path.{_≡_};
 ghost use mathlib.Core.Bool.{true, cond};
@@ -52,7 +52,7 @@ fn symbol(
     let used = marks::used(text, kinds, starts, lengths, main, i);
     let v = (s.n % 256) as u8;
     let k = s.count;
-    symbols[k] = reach::pack(flag(used), s.relation, v, i);
+    symbols[k] = frames::pack(flag(used), s.relation, v, i);
     if !used {
         return Ranges::Listed(Tally {
             inside: true,

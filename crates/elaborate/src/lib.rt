@@ -1,7 +1,9 @@
 // The records of a text's tokens, with names looked up. What does not fit the buffer is not written, so that an empty one measures.
 mod ahead;
 mod binds;
+mod frames;
 mod loops;
+mod modes;
 mod opens;
 mod turns;
 

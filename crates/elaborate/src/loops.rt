@@ -1,9 +1,9 @@
 // The loop over a text's tokens: turn after turn, up to the last token or a refusal.
 use crate::End;
+use crate::frames;
 use crate::turns;
 use crate::turns::Next;
 use crate::turns::State;
-use items::reach;
 ghost use mathlib.Core.Path.{_≡_};
 ghost use mathlib.Core.List.{List, map};
 ghost use Prim.Native.Nat.{ℕ, _+_, _<_, _≤_};
@@ -34,7 +34,7 @@ pub fn run(
     ensures { λ r. ⌜ Ends (now (text .entry)) (table (now (kinds .entry)) (now (starts .entry)) (now (lengths .entry)) (now (numbers .entry))) (entries (now (list .entry))) (map (rangeSymbol (nameIn (now (text .entry)) (now (kinds .entry)) (now (starts .entry)) (now (lengths .entry)))) (now (symbols .entry))) from at n (now (out .entry)) r (now (out .exit)) ⌝ }
     ensures { λ r. ⌜ Last at r ⌝ }
 {
-    frames[0] = reach::pack(3, 0, 0, 0);
+    frames[0] = frames::pack(3, 0, 0, 0);
     let mut s = State {
         mode: 3,
         depth: 1,

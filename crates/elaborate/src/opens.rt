@@ -1,5 +1,5 @@
 // Writes what stands before a token's record, and makes the frame of a record that binds a symbol.
-use items::reach;
+use crate::frames;
 use kinds::Record;
 ghost use mathlib.Core.Path.{_≡_};
 ghost use mathlib.Core.Bool.{cond, _&&_};
@@ -73,8 +73,8 @@ pub fn frame(item: Record, i: usize) -> u64
     ensures { λ r. ⌜ Framed item i r ⌝ }
 {
     match item {
-        Record::Some(v, r) => reach::pack(1, r, v, i + 1),
-        Record::Aggregate(_, v, r, _) => reach::pack(2, r, v, i + 2),
-        _ => reach::pack(0, 0, 0, i),
+        Record::Some(v, r) => frames::pack(1, r, v, i + 1),
+        Record::Aggregate(_, v, r, _) => frames::pack(2, r, v, i + 2),
+        _ => frames::pack(0, 0, 0, i),
     }
 }

@@ -1,5 +1,6 @@
 // A turn of the loop over a text's tokens: what it writes, and what is in reach after it.
 use crate::ahead;
+use crate::modes;
 use crate::opens;
 use items::Item;
 use kinds::Record;
@@ -134,7 +135,7 @@ pub fn turn(
 {
     let kind = kinds[i];
     let point = marks::is_point(kinds, i + 1);
-    let a = items::action(s.mode, kind, point);
+    let a = modes::action(s.mode, kind, point);
     let Item::Put(r) = items::item_at(
         text,
         kinds,
@@ -154,7 +155,7 @@ pub fn turn(
     let at = write(out, s.at, s.mode, kind, counts, i, r);
     let depth = shift(frames, s.depth, a, r, i);
     let n = number(a, s.n);
-    let mode = items::next_mode(s.mode, kind, point);
+    let mode = modes::next_mode(s.mode, kind, point);
     Next::Go(State {
         mode: mode,
         depth: depth,

@@ -21,7 +21,7 @@ use Rattle.elaborate.proofs.binds.symbol.Lts as lts
 use Rattle.elaborate.proofs.binds.flag.Reads as flag-reads
 use Rattle.copier.proofs.copy.Reads as copy-reads
 use Rattle.marks.proofs.used.Reads as used-reads
-use Rattle.items.proofs.reach.pack.Reads as pack-reads
+use Rattle.elaborate.proofs.frames.pack.Reads as pack-reads
 
 -- src/lib.rt:51:9
 used-requires : tie.Need-used-requires

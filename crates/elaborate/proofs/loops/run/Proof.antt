@@ -16,7 +16,7 @@ use Rattle.elaborate.proofs.loops.run.Statement.{statement}
 use Rattle.elaborate.proofs.loops.run.Tie as tie
 use Rattle.elaborate.proofs.loops.run.Reads as reads
 use Rattle.elaborate.proofs.loops.run.Lts as lts
-use Rattle.items.proofs.reach.pack.Reads as pack-reads
+use Rattle.elaborate.proofs.frames.pack.Reads as pack-reads
 use Rattle.elaborate.proofs.turns.turn.Reads as turn-reads
 
 abbrev Inv-loop : tie.InvT-loop

@@ -8,7 +8,7 @@ use Rattle.elaborate.proofs.opens.frame.Statement.{statement}
 use Rattle.elaborate.proofs.opens.frame.Tie as tie
 use Rattle.elaborate.proofs.opens.frame.Reads as reads
 use Rattle.elaborate.proofs.opens.frame.Lts as lts
-use Rattle.items.proofs.reach.pack.Reads as pack-reads
+use Rattle.elaborate.proofs.frames.pack.Reads as pack-reads
 
 -- src/lib.rt:75:22
 enum-known-item : tie.Need-enum-known-item

@@ -15,9 +15,9 @@ use Rattle.elaborate.proofs.turns.turn.Statement.{statement}
 use Rattle.elaborate.proofs.turns.turn.Tie as tie
 use Rattle.elaborate.proofs.turns.turn.Reads as reads
 use Rattle.elaborate.proofs.turns.turn.Lts as lts
-use Rattle.items.proofs.action.Reads as action-reads
+use Rattle.elaborate.proofs.modes.action.Reads as action-reads
 use Rattle.items.proofs.item_at.Reads as item-at-reads
-use Rattle.items.proofs.next_mode.Reads as next-mode-reads
+use Rattle.elaborate.proofs.modes.next_mode.Reads as next-mode-reads
 use Rattle.marks.proofs.is_point.Reads as is-point-reads
 use Rattle.elaborate.proofs.turns.number.Reads as number-reads
 use Rattle.elaborate.proofs.turns.shift.Reads as shift-reads

@@ -2,10 +2,10 @@ use denote.Ref.{now}
 use mathlib.Core.Path.{_≡_, refl, sym, ap, _∙_}
 use borrow.Author.Tests.{eq-eqb, ne-eqb, le-leb, lt-leb}
 use borrow.Author.Needs.{needs}
-use Rattle.items.proofs.ending.Statement.{statement}
-use Rattle.items.proofs.ending.Tie as tie
-use Rattle.items.proofs.ending.Reads as reads
-use Rattle.items.proofs.ending.Lts as lts
+use Rattle.elaborate.proofs.modes.ending.Statement.{statement}
+use Rattle.elaborate.proofs.modes.ending.Tie as tie
+use Rattle.elaborate.proofs.modes.ending.Reads as reads
+use Rattle.elaborate.proofs.modes.ending.Lts as lts
 
 -- src/lib.rt:31:9
 returns : tie.Need-returns

@@ -1,14 +1,14 @@
 use Rattle.items.specs.Actions.{restOf}
 use denote.Ref.{now}
 use mathlib.Core.Path.{_≡_, refl, sym, ap, _∙_}
 use borrow.Author.Tests.{eq-eqb, ne-eqb, le-leb, lt-leb}
 use borrow.Author.Needs.{needs}
-use Rattle.items.proofs.rest.Statement.{statement}
-use Rattle.items.proofs.rest.Tie as tie
-use Rattle.items.proofs.rest.Reads as reads
-use Rattle.items.proofs.rest.Lts as lts
-use Rattle.items.proofs.pick.Reads as pick-reads
-use Rattle.items.proofs.pick_at.Reads as pick-at-reads
+use Rattle.elaborate.proofs.modes.rest.Statement.{statement}
+use Rattle.elaborate.proofs.modes.rest.Tie as tie
+use Rattle.elaborate.proofs.modes.rest.Reads as reads
+use Rattle.elaborate.proofs.modes.rest.Lts as lts
+use Rattle.elaborate.proofs.modes.pick.Reads as pick-reads
+use Rattle.elaborate.proofs.modes.pick_at.Reads as pick-at-reads
 use Rattle.marks.proofs.is_function.Reads as is-function-reads
 
 -- src/lib.rt:88:9

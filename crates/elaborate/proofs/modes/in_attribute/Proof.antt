@@ -2,10 +2,10 @@ use denote.Ref.{now}
 use mathlib.Core.Path.{_≡_, refl, sym, ap, _∙_}
 use borrow.Author.Tests.{eq-eqb, ne-eqb, le-leb, lt-leb}
 use borrow.Author.Needs.{needs}
-use Rattle.items.proofs.in_attribute.Statement.{statement}
-use Rattle.items.proofs.in_attribute.Tie as tie
-use Rattle.items.proofs.in_attribute.Reads as reads
-use Rattle.items.proofs.in_attribute.Lts as lts
+use Rattle.elaborate.proofs.modes.in_attribute.Statement.{statement}
+use Rattle.elaborate.proofs.modes.in_attribute.Tie as tie
+use Rattle.elaborate.proofs.modes.in_attribute.Reads as reads
+use Rattle.elaborate.proofs.modes.in_attribute.Lts as lts
 
 -- src/lib.rt:125:1
 returns : tie.Need-returns

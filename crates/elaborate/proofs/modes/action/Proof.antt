@@ -1,16 +1,16 @@
 use Rattle.items.specs.Actions.{actionOf}
 use denote.Ref.{now}
 use mathlib.Core.Path.{_≡_, refl, sym, ap, _∙_}
 use borrow.Author.Tests.{eq-eqb, ne-eqb, le-leb, lt-leb}
 use borrow.Author.Needs.{needs}
-use Rattle.items.proofs.action.Statement.{statement}
-use Rattle.items.proofs.action.Tie as tie
-use Rattle.items.proofs.action.Reads as reads
-use Rattle.items.proofs.action.Lts as lts
-use Rattle.items.proofs.ending.Reads as ending-reads
-use Rattle.items.proofs.factor.Reads as factor-reads
-use Rattle.items.proofs.pick.Reads as pick-reads
-use Rattle.items.proofs.pick_at.Reads as pick-at-reads
+use Rattle.elaborate.proofs.modes.action.Statement.{statement}
+use Rattle.elaborate.proofs.modes.action.Tie as tie
+use Rattle.elaborate.proofs.modes.action.Reads as reads
+use Rattle.elaborate.proofs.modes.action.Lts as lts
+use Rattle.elaborate.proofs.modes.ending.Reads as ending-reads
+use Rattle.elaborate.proofs.modes.factor.Reads as factor-reads
+use Rattle.elaborate.proofs.modes.pick.Reads as pick-reads
+use Rattle.elaborate.proofs.modes.pick_at.Reads as pick-at-reads
 use Rattle.marks.proofs.is_function.Reads as is-function-reads
 
 -- src/lib.rt:66:9

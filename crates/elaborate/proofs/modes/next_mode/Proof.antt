@@ -1,16 +1,16 @@
 use Rattle.items.specs.Actions.{nextOf}
 use denote.Ref.{now}
 use mathlib.Core.Path.{_≡_, refl, sym, ap, _∙_}
 use borrow.Author.Tests.{eq-eqb, ne-eqb, le-leb, lt-leb}
 use borrow.Author.Needs.{needs}
-use Rattle.items.proofs.next_mode.Statement.{statement}
-use Rattle.items.proofs.next_mode.Tie as tie
-use Rattle.items.proofs.next_mode.Reads as reads
-use Rattle.items.proofs.next_mode.Lts as lts
-use Rattle.items.proofs.after_key.Reads as after-key-reads
-use Rattle.items.proofs.in_attribute.Reads as in-attribute-reads
-use Rattle.items.proofs.in_head.Reads as in-head-reads
-use Rattle.items.proofs.rest.Reads as rest-reads
+use Rattle.elaborate.proofs.modes.next_mode.Statement.{statement}
+use Rattle.elaborate.proofs.modes.next_mode.Tie as tie
+use Rattle.elaborate.proofs.modes.next_mode.Reads as reads
+use Rattle.elaborate.proofs.modes.next_mode.Lts as lts
+use Rattle.elaborate.proofs.modes.after_key.Reads as after-key-reads
+use Rattle.elaborate.proofs.modes.in_attribute.Reads as in-attribute-reads
+use Rattle.elaborate.proofs.modes.in_head.Reads as in-head-reads
+use Rattle.elaborate.proofs.modes.rest.Reads as rest-reads
 
 -- src/lib.rt:136:9
 in-head-requires : tie.Need-in-head-requires

@@ -2,10 +2,10 @@ use denote.Ref.{now}
 use mathlib.Core.Path.{_≡_, refl, sym, ap, _∙_}
 use borrow.Author.Tests.{eq-eqb, ne-eqb, le-leb, lt-leb}
 use borrow.Author.Needs.{needs}
-use Rattle.items.proofs.pick_at.Statement.{statement}
-use Rattle.items.proofs.pick_at.Tie as tie
-use Rattle.items.proofs.pick_at.Reads as reads
-use Rattle.items.proofs.pick_at.Lts as lts
+use Rattle.elaborate.proofs.modes.pick_at.Statement.{statement}
+use Rattle.elaborate.proofs.modes.pick_at.Tie as tie
+use Rattle.elaborate.proofs.modes.pick_at.Reads as reads
+use Rattle.elaborate.proofs.modes.pick_at.Lts as lts
 
 -- src/lib.rt:55:1
 returns : tie.Need-returns
