@@ -1,5 +1,5 @@
 // The reader of QUEL (document 02, Change 1): a text and a name list, to the records of a question in a lent buffer.
-use loops::End;
+use elaborate::End;
 use tokens::Outcome;
 ghost use mathlib.Core.Path.{_≡_};
 ghost use Prim.Native.Nat.{_≤_, _<_};
