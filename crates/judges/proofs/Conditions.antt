@@ -15,15 +15,15 @@ use Rattle.kinds.specs.Record.{recordAt}
 use Rattle.kinds.specs.declared.Record.{Record}
 use Rattle.kinds.specs.declared.Record.the-variants as R
 use Rattle.sizes.specs.Decode.{first, second, conditionBy, decode, decodeT}
-use Rattle.sizes.specs.Parts.{rangesAt}
 use Rattle.walks.specs.declared.Walk.{Walk}
 use Rattle.walks.specs.Walks.{rowsBy}
 use Rattle.evaluator.specs.Recalled.{holdsBy}
 use Rattle.evaluator.specs.Evaluation.{assigned}
-use Rattle.conjuncts.specs.Stages.{Planned}
+use Rattle.branches.specs.Branches.{leads, runs}
+use Rattle.branches.specs.Compiled.{Compiled}
 use Rattle.aggregates.proofs.Taking.{getD-same}
-use Rattle.judges.specs.Marked.{Marked, turned, tupleOf, judgedOn}
-use Rattle.judges.proofs.Steps.{rowTest, marked-same, marked-then}
+use Rattle.judges.specs.Marked.{Marked, turned, tupleOf, judgedOn, ranOn}
+use Rattle.judges.proofs.Steps.{marked-same, marked-then}
 use Rattle.judges.proofs.Terms.{condition-is}
 
 turned-yes : (w : Bool) → w ≡ turned w true
@@ -59,10 +59,32 @@ left-out true true m e = ap (λ n. eqb n 0) e
 left-out true false m e = ap (λ n. eqb n 0) e
 left-out false b m e = ap (λ n. eqb n 0) e
 
--- a planned table marks as the condition does
-pub planned-marks : (t : List ℕ) (xs : List ℤ) (q z ws : List ℕ) (vs m : List ℤ) (e : List ℕ) (l : ℕ) (x : Walk) (w : Bool) (n : ℕ) (ms y : List ℕ) → Planned t xs q z ws vs m (decode l (drop 0 q) (drop 0 z)) (rangesAt 0 q) → Marked (rowTest t xs q z ws vs m e x w) n ms y → Marked (judgedOn l q z ws vs m e x w) n ms y
-unfolding judgedOn rangesAt
-planned-marks t xs q z ws vs m e l x w n ms y p h = marked-same h refl (λ i k. ap (turned w) (p .whole (update (assigned vs e) 0 (tupleOf vs x i))))
+-- the two ends
+pub end-low : (w : Bool) (k : ℕ) → k ≡ cond w 0 1 → k < 2
+end-low true k e = omega (arith, e)
+end-low false k e = omega (arith, e)
+
+ends : (t : List ℕ) (xs : List ℤ) (q z ws : List ℕ) (vs m : List ℤ) (w : Bool) (k : ℕ) (u : Assignment) → k ≡ cond w 0 1 → runs t xs q z ws vs m k u ≡ w
+unfolding runs leads
+ends t xs q z ws vs m w k u e = ap (λ n. runs t xs q z ws vs m n u) e ∙ go w
+  where
+    go : (w : Bool) → runs t xs q z ws vs m (cond w 0 1) u ≡ w
+    go true = refl
+    go false = refl
+
+-- a table marks as the condition does that it was compiled from
+pub compiled-marks : (r a b : ℕ) (t t′ : List ℕ) (xs xs′ : List ℤ) (q z ws : List ℕ) (vs m : List ℤ) (e : List ℕ) (l : ℕ) (x : Walk) (w : Bool) (n : ℕ) (ms y : List ℕ) → Compiled 2 r a b t t′ xs xs′ q z m (decode l (drop 0 q) (drop 0 z)) → a ≡ cond w 0 1 → b ≡ cond (not w) 0 1
+    → Marked (ranOn t′ xs′ r q z ws vs m e x) n ms y → Marked (judgedOn l q z ws vs m e x w) n ms y
+unfolding judgedOn
+compiled-marks r a b t t′ xs xs′ q z ws vs m e l x w n ms y c ea eb h =
+    marked-same h refl (λ i k. let u = update (assigned vs e) 0 (tupleOf vs x i) in
+    c .means ws vs u ∙ ap₂ (λ (f g : Bool). cond (holdsBy m (decode l q z) (rowsBy ws vs) u) f g) (ends t xs q z ws vs m w a u ea) (ends t xs q z ws vs m (not w) b u eb) ∙ either w (holdsBy m (decode l q z) (rowsBy ws vs) u))
+  where
+    either : (w h : Bool) → cond h w (not w) ≡ turned w h
+    either true true = refl
+    either true false = refl
+    either false true = refl
+    either false false = refl
 
 module _ (q z ws : List ℕ) (vs m : List ℤ) (e : List ℕ) (x : Walk) where
   -- the two conditions under AND or OR

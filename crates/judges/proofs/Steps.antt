@@ -13,17 +13,15 @@ use lib.Signed.{leZ}
 use lib.ListN.{length, getD, set, replicate, length-set}
 use lib.Seq.{set-getD, getD-set-same, getD-set-other}
 use borrow.Author.Tests.{eqb-true, eqb-false, ltb-true, ltb-false}
-use Rattle.model.specs.Lists.{update, all, below}
-use Rattle.model.proofs.Tests.{not-yes, not-no}
-use Rattle.model.specs.Meaning.{Assignment}
+use Rattle.model.specs.Lists.{update}
 use Rattle.catalogue.specs.Layout.{tupleAt}
 use Rattle.walks.specs.declared.Walk.{Walk}
 use Rattle.evaluator.specs.Evaluation.{assigned}
 use Rattle.evaluator.proofs.Steps.{assigned-set}
 use Rattle.seeks.proofs.Places.{places-alike}
-use Rattle.conjuncts.specs.Stages.{stageHolds, stagesHold}
+use Rattle.branches.specs.Branches.{runs}
 use Rattle.aggregates.proofs.Taking.{getD-same}
-use Rattle.judges.specs.Marked.{Bits, Marked, between, turned, tupleOf}
+use Rattle.judges.specs.Marked.{Bits, Marked, between, tupleOf, ranOn}
 
 abbrev pub tested : List ℤ → ℕ → ℕ → Bool → Bool → Bool → ℕ → ℕ → ℕ → Bool
 tested vs from width above below wanted number scale i = between above below wanted (toZ w64 number) (getD vs (from + i * width) (pos 0) *ℤ toZ w64 scale)
@@ -97,51 +95,43 @@ row-joined vs from w i at r m above below wanted b n d v a er eb ev ea e = er �
 pub marked-nothing : (f : ℕ → Bool) (ms : List ℕ) → ((i : ℕ) → i < length ms → f i ≡ false) → {n : ℕ} → n ≤ length ms → Marked f n ms ms
 marked-nothing f ms h {n = n} k = record { size = refl; row = λ i l. sym (ap (λ b. cond b 1 (getD ms i 0)) (h i (omega (arith, l, k)))); rest = λ i l. refl }
 
--- a row that is marked stays so
-pub row-kept : (ms : List ℕ) (i : ℕ) (b : Bool) → Bits ms → (getD ms i 0 ≡ 0 → ⊥) → ms ≡ set ms i (cond b 1 (getD ms i 0))
-row-kept ms i b h d = sym (ap (set ms i) (same b) ∙ set-getD ms i 0)
+-- a marked row more
+pub passed-next : (ms : List ℕ) (from i : ℕ) → ((j : ℕ) → from ≤ j → j < i → getD ms j 0 ≡ 0 → ⊥) → (getD ms i 0 ≡ 0 → ⊥) → (j : ℕ) → from ≤ j → j < i + 1 → getD ms j 0 ≡ 0 → ⊥
+passed-next ms from i h d j a b e = go (eqb j i) refl
   where
-    same : (b : Bool) → cond b 1 (getD ms i 0) ≡ getD ms i 0
-    same true = omega (arith, h i, d)
-    same false = refl
+    go : (c : Bool) → eqb j i ≡ c → ⊥
+    go true k = d (sym (ap (λ n. getD ms n 0) (eqb-true j i k)) ∙ e)
+    go false k = h j a (omega (arith, eqb-false j i k, b)) e
 
-module _ (t : List ℕ) (xs : List ℤ) (q z ws : List ℕ) (vs m : List ℤ) (e : List ℕ) where
-  pub row-tried : (y ms : List ℕ) (i p : ℕ) (b wanted c : Bool) (r : ℕ) → 256 ≤ length e → getD ms i 0 ≡ 0 → y ≡ set e 0 p → b ≡ stagesHold t xs q z ws vs m 0 (assigned vs y) → c ≡ turned wanted b → r ≡ cond c 1 0
-      → set ms i r ≡ set ms i (cond (turned wanted (stagesHold t xs q z ws vs m 0 (update (assigned vs e) 0 (tupleAt vs p)))) 1 (getD ms i 0))
-  row-tried y ms i p b wanted c r l h ey eb ec er =
-      ap (set ms i) (er ∙ ap (λ x. cond x 1 0) (ec ∙ ap (turned wanted) (eb ∙ ap (stagesHold t xs q z ws vs m 0) (ap (assigned vs) ey ∙ assigned-set vs e 0 p (omega arith)))) ∙ ap (cond (turned wanted (stagesHold t xs q z ws vs m 0 (update (assigned vs e) 0 (tupleAt vs p)))) 1) (sym h))
+-- rows that are marked can be passed over
+pub marked-over : {f : ℕ → Bool} {i r : ℕ} {ms x : List ℕ} → Bits ms → Marked f i ms x → i ≤ r → ((j : ℕ) → i ≤ j → j < r → getD x j 0 ≡ 0 → ⊥) → Marked f r ms x
+marked-over {f = f} {i = i} {r = r} {ms = ms} {x = x} h m l k = record {
+  size = m .size;
+  row = λ j o. go j o (ltb j i) refl;
+  rest = λ j o. m .rest j (omega arith);
+}
+  where
+    same : (b : Bool) (j : ℕ) → getD ms j 0 ≡ 1 → getD ms j 0 ≡ cond b 1 (getD ms j 0)
+    same true j e = e
+    same false j e = refl
 
-  -- the test of a loop over rows
-  abbrev pub rowTest : Walk → Bool → ℕ → Bool
-  rowTest x wanted i = turned wanted (stagesHold t xs q z ws vs m 0 (update (assigned vs e) 0 (tupleOf vs x i)))
+    go : (j : ℕ) → j < r → (b : Bool) → ltb j i ≡ b → getD x j 0 ≡ cond (f j) 1 (getD ms j 0)
+    go j o true e = m .row j (ltb-true j i e)
+    go j o false e =
+        let n = ltb-false j i e in
+        let old = m .rest j n in
+        let one : getD ms j 0 ≡ 1 = omega (arith, h j, k j n o, old) in
+        old ∙ same (f j) j one
 
-  pub row-marked : (d : List ℕ) (x : Walk) (wanted : Bool) (ms y w : List ℕ) (i old p : ℕ) → i < length ms → set d 0 old ≡ e → p ≡ x .base + i * x .width → Marked (rowTest x wanted) i ms y
-      → w ≡ set y i (cond (turned wanted (stagesHold t xs q z ws vs m 0 (update (assigned vs d) 0 (tupleAt vs p)))) 1 (getD y i 0)) → Marked (rowTest x wanted) (i + 1) ms w
-  row-marked d x wanted ms y w i old p l hd hp my ew =
-      subst (Marked (rowTest x wanted) (i + 1) ms) (sym ew)
-      (marked-next (rowTest x wanted) i ms y _ l my (ap (λ (u : Assignment). cond (turned wanted (stagesHold t xs q z ws vs m 0 u)) 1 (getD y i 0)) (places-alike vs d e 0 old (tupleAt vs p) hd ∙ ap (λ n. update (assigned vs e) 0 (tupleAt vs n)) hp)))
+-- one row is tried
+pub row-marked : (t : List ℕ) (xs : List ℤ) (s : ℕ) (q z ws : List ℕ) (vs m : List ℤ) (e d u : List ℕ) (x : Walk) (ms y : List ℕ) (i old p r : ℕ) (b : Bool) → 256 ≤ length d → i < length ms → set d 0 old ≡ e → p ≡ x .base + i * x .width → u ≡ set d 0 p → b ≡ runs t xs q z ws vs m s (assigned vs u) → r ≡ cond b 1 (getD y i 0)
+    → Marked (ranOn t xs s q z ws vs m e x) i ms y → Marked (ranOn t xs s q z ws vs m e x) (i + 1) ms (set y i r)
+row-marked t xs s q z ws vs m e d u x ms y i old p r b ld l hd hp eu eb er my =
+    let row : assigned vs u ≡ update (assigned vs e) 0 (tupleOf vs x i) = ap (assigned vs) eu ∙ assigned-set vs d 0 p (omega arith) ∙ places-alike vs d e 0 old (tupleAt vs p) hd ∙ ap (λ n. update (assigned vs e) 0 (tupleAt vs n)) hp in
+    marked-next (ranOn t xs s q z ws vs m e x) i ms y r l my (er ∙ ap (λ c. cond c 1 (getD y i 0)) (eb ∙ ap (runs t xs q z ws vs m s) row))
 
 pub marked-from : {f : ℕ → Bool} {n : ℕ} {a b c : List ℕ} → b ≡ a → Marked f n b c → Marked f n a c
 marked-from {f = f} {n = n} {a = a} {b = b} {c = c} e h = subst (λ (u : List ℕ). Marked f n u c) e h
 
 pub blank-bits : (n : ℕ) → Bits (replicate n 0)
 blank-bits n i = omega (arith, getD-same {A = ℕ} n 0 i)
-
--- the two stages of a table with no ranges
-module _ (t : List ℕ) (xs : List ℤ) (q z ws : List ℕ) (vs m : List ℤ) (e : List ℕ) where
-  abbrev stage : ℕ → Bool
-  stage s = stageHolds t xs q z ws vs m s (assigned vs e)
-
-  both-are : stagesHold t xs q z ws vs m 0 (assigned vs e) ≡ stage 0 && (stage 1 && true)
-  unfolding stagesHold all below
-  both-are = refl
-
-  pub both-no : (b : Bool) → b ≡ stage 0 → not b ≡ true → false ≡ stagesHold t xs q z ws vs m 0 (assigned vs e)
-  both-no b eb h = sym (both-are ∙ ap (λ c. c && (stage 1 && true)) (sym eb ∙ not-yes b h))
-
-  pub both-yes : (b c : Bool) (d : List ℕ) → b ≡ stage 0 → not b ≡ false → d ≡ e → c ≡ stageHolds t xs q z ws vs m 1 (assigned vs d) → c ≡ stagesHold t xs q z ws vs m 0 (assigned vs e)
-  both-yes b c d eb h ed ec = ec ∙ ap (λ (u : List ℕ). stageHolds t xs q z ws vs m 1 (assigned vs u)) ed ∙ sym (both-are ∙ ap (λ k. k && (stage 1 && true)) (sym eb ∙ not-no b h) ∙ and-yes (stage 1))
-    where
-      and-yes : (a : Bool) → a && true ≡ a
-      and-yes true = refl
-      and-yes false = refl

@@ -15,6 +15,7 @@ use Rattle.walks.specs.Walks.{rowsBy}
 use Rattle.sizes.specs.Decode.{decode}
 use Rattle.evaluator.specs.Recalled.{holdsBy}
 use Rattle.evaluator.specs.Evaluation.{assigned}
+use Rattle.branches.specs.Branches.{runs}
 use Rattle.judges.specs.declared.Test.{Test}
 
 abbrev pub Bits : List ℕ → Type 0
@@ -44,6 +45,10 @@ tupleOf vs x i = tupleAt vs (x .base + i * x .width)
 -- whether the condition that bytes stand for is as it is wanted with variable 0 on row i
 unfoldable pub judgedOn : ℕ → List ℕ → List ℕ → List ℕ → List ℤ → List ℤ → List ℕ → Walk → Bool → ℕ → Bool
 judgedOn l q z ws vs m e x wanted i = turned wanted (holdsBy m (decode l q z) (rowsBy ws vs) (update (assigned vs e) 0 (tupleOf vs x i)))
+
+-- whether branch s of a table leads to 0 with variable 0 on row i
+abbrev pub ranOn : List ℕ → List ℤ → ℕ → List ℕ → List ℕ → List ℕ → List ℤ → List ℤ → List ℕ → Walk → ℕ → Bool
+ranOn t xs s q z ws vs m e x i = runs t xs q z ws vs m s (update (assigned vs e) 0 (tupleOf vs x i))
 
 -- bytes that are one comparison of an attribute of variable 0 with a number
 pub record Short (q : List ℕ) : Type 0 where

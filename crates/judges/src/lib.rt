@@ -24,7 +24,6 @@ ghost use Rattle.walks.specs.Walks.{Fits};
 ghost use Rattle.evaluator.specs.Recalled.{valueBy};
 ghost use Rattle.evaluator.specs.Evaluation.{assigned};
 ghost use Rattle.seeks.specs.Keys.{Faithful};
-ghost use Rattle.conjuncts.specs.Stages.{stagesHold};
 ghost use Rattle.judges.specs.Marked as J;
 ghost use Rattle.judges.specs.Meets.{meetsBytes, rowOf};
 
@@ -293,54 +292,20 @@ fn mark_others(others: &[u8], n: usize, marks: &mut [u8])
     }
 }
 
-// Whether the conjuncts of a table with no ranges hold, comparisons first.
-fn holds(
-    t: &[u16],
-    xs: &[i32],
-    q: &[u8],
-    z: &[u16],
-    walks: &[u16],
-    chains: &[u16],
-    vs: &[i32],
-    memo: &[i64],
-    env: &mut [usize],
-) -> bool
-    requires { ⌜ (256 ≤ length (now env)) × Faithful (now t) (now walks) (now vs) (now chains) ⌝ }
-    ensures { λ r. ⌜ r ≡ stagesHold (now (t .entry)) (now (xs .entry)) (now (q .entry)) (now (z .entry)) (now (walks .entry)) (now (vs .entry)) (now (memo .entry)) 0 (assigned (now (vs .entry)) (now (env .entry))) ⌝ }
-    ensures { λ _. ⌜ now (env .exit) ≡ now (env .entry) ⌝ }
+// The first row, from one on, that is not marked; where all are, n.
+fn unmarked(marks: &[u8], n: usize, from: usize) -> usize
+    requires { ⌜ (n ≤ length (now marks)) × (from ≤ n) ⌝ }
+    ensures { λ r. ⌜ (from ≤ r) × (r ≤ n) ⌝ }
+    ensures { λ r. ⌜ ((j : ℕ) → from ≤ j → j < r → getD (now (marks .entry)) j 0 ≡ 0 → ⊥) ⌝ }
 {
-    if !conjuncts::holds(t, xs, 0, q, z, walks, chains, vs, memo, env) {
-        return false;
+    let mut i = from;
+    while i < n {
+        if marks[i] == 0 {
+            return i;
+        }
+        i += 1;
     }
-    conjuncts::holds(t, xs, 1, q, z, walks, chains, vs, memo, env)
-}
-
-// Marks row i, whose values begin at a place, where the conjuncts of a table are as wanted. A row that is marked is not tried.
-fn try_row(
-    t: &[u16],
-    xs: &[i32],
-    q: &[u8],
-    z: &[u16],
-    walks: &[u16],
-    chains: &[u16],
-    vs: &[i32],
-    memo: &[i64],
-    env: &mut [usize],
-    place: usize,
-    wanted: bool,
-    marks: &mut [u8],
-    i: usize,
-)
-    requires { ⌜ (256 ≤ length (now env)) × (i < length (now marks)) × J.Bits (now marks) × Faithful (now t) (now walks) (now vs) (now chains) ⌝ }
-    ensures { λ _. ⌜ now (marks .exit) ≡ set (now (marks .entry)) i (cond (J.turned wanted (stagesHold (now (t .entry)) (now (xs .entry)) (now (q .entry)) (now (z .entry)) (now (walks .entry)) (now (vs .entry)) (now (memo .entry)) 0 (update (assigned (now (vs .entry)) (now (env .entry))) 0 (tupleAt (now (vs .entry)) place)))) 1 (getD (now (marks .entry)) i 0)) ⌝ }
-    ensures { λ _. ⌜ ((k : ℕ) → set (now (env .exit)) 0 k ≡ set (now (env .entry)) 0 k) × (length (now (env .exit)) ≡ length (now (env .entry))) ⌝ }
-{
-    if marks[i] != 0 {
-        return;
-    }
-    evaluator::set_place(env, 0, place);
-    let met = holds(t, xs, q, z, walks, chains, vs, memo, env);
-    marks[i] = flag(turned(wanted, met));
+    i
 }
 
 fn place_of(walk: Walk, i: usize) -> usize
@@ -350,10 +315,11 @@ fn place_of(walk: Walk, i: usize) -> usize
     walk.base + i * walk.width
 }
 
-// Marks the rows of a walk for which the conjuncts of a table are as wanted, row by row.
+// Marks the rows of a walk with which branch `start` of a table leads to 0, row by row. A row that is marked is not tried.
 fn mark_rows(
     t: &[u16],
     xs: &[i32],
+    start: usize,
     q: &[u8],
     z: &[u16],
     walks: &[u16],
@@ -362,42 +328,29 @@ fn mark_rows(
     vs: &[i32],
     memo: &[i64],
     env: &mut [usize],
-    wanted: bool,
     marks: &mut [u8],
 )
-    requires { ⌜ (256 ≤ length (now env)) × Fits walk × (walk .count ≤ length (now marks)) × J.Bits (now marks) × Faithful (now t) (now walks) (now vs) (now chains) ⌝ }
-    ensures { λ _. ⌜ J.Marked (λ i. J.turned wanted (stagesHold (now (t .entry)) (now (xs .entry)) (now (q .entry)) (now (z .entry)) (now (walks .entry)) (now (vs .entry)) (now (memo .entry)) 0 (update (assigned (now (vs .entry)) (now (env .entry))) 0 (J.tupleOf (now (vs .entry)) walk i)))) (walk .count) (now (marks .entry)) (now (marks .exit)) ⌝ }
+    requires { ⌜ (256 ≤ length (now env)) × (start ≤ 65535) × Fits walk × (walk .count ≤ length (now marks)) × J.Bits (now marks) × Faithful (now t) (now walks) (now vs) (now chains) ⌝ }
+    ensures { λ _. ⌜ J.Marked (J.ranOn (now (t .entry)) (now (xs .entry)) start (now (q .entry)) (now (z .entry)) (now (walks .entry)) (now (vs .entry)) (now (memo .entry)) (now (env .entry)) walk) (walk .count) (now (marks .entry)) (now (marks .exit)) ⌝ }
     ensures { λ _. ⌜ now (env .exit) ≡ now (env .entry) ⌝ }
 {
     let n = walk.count;
     let old = evaluator::place(env, 0);
-    let mut i = 0;
+    let mut i = unmarked(marks, n, 0);
     while i < n {
-        let place = place_of(walk, i);
-        try_row(
-            t,
-            xs,
-            q,
-            z,
-            walks,
-            chains,
-            vs,
-            memo,
-            env,
-            place,
-            wanted,
-            marks,
-            i,
-        );
-        i += 1;
+        evaluator::set_place(env, 0, place_of(walk, i));
+        let met = decide::holds(t, xs, start, q, z, walks, chains, vs, memo, env);
+        marks[i] = joined(marks[i], met);
+        i = unmarked(marks, n, i + 1);
     }
     evaluator::set_place(env, 0, old);
 }
 
-// The same where the conjuncts ask for rows of other variables: those are chained once for all rows of the walk, up to three of 1,024 rows.
+// The same where the table asks for rows of other variables: those are chained once for all rows of the walk, up to three of 1,024 rows.
 fn mark_linked(
     t: &[u16],
     xs: &[i32],
+    start: usize,
     q: &[u8],
     z: &[u16],
     walks: &[u16],
@@ -405,11 +358,10 @@ fn mark_linked(
     vs: &[i32],
     memo: &[i64],
     env: &mut [usize],
-    wanted: bool,
     marks: &mut [u8],
 )
-    requires { ⌜ (256 ≤ length (now env)) × Fits walk × (walk .count ≤ length (now marks)) × J.Bits (now marks) ⌝ }
-    ensures { λ _. ⌜ J.Marked (λ i. J.turned wanted (stagesHold (now (t .entry)) (now (xs .entry)) (now (q .entry)) (now (z .entry)) (now (walks .entry)) (now (vs .entry)) (now (memo .entry)) 0 (update (assigned (now (vs .entry)) (now (env .entry))) 0 (J.tupleOf (now (vs .entry)) walk i)))) (walk .count) (now (marks .entry)) (now (marks .exit)) ⌝ }
+    requires { ⌜ (256 ≤ length (now env)) × (start ≤ 65535) × Fits walk × (walk .count ≤ length (now marks)) × J.Bits (now marks) ⌝ }
+    ensures { λ _. ⌜ J.Marked (J.ranOn (now (t .entry)) (now (xs .entry)) start (now (q .entry)) (now (z .entry)) (now (walks .entry)) (now (vs .entry)) (now (memo .entry)) (now (env .entry)) walk) (walk .count) (now (marks .entry)) (now (marks .exit)) ⌝ }
     ensures { λ _. ⌜ now (env .exit) ≡ now (env .entry) ⌝ }
 {
     let mut chains = [0u16; 6220];
@@ -417,6 +369,7 @@ fn mark_linked(
     mark_rows(
         t,
         xs,
+        start,
         q,
         z,
         walks,
@@ -425,12 +378,18 @@ fn mark_linked(
         vs,
         memo,
         env,
-        wanted,
         marks,
     );
 }
 
-// Marks by the condition that q starts with, row by row. With no ranges the plan looks at no catalogue: any bytes will do.
+// The end that a condition leads to where it is as wanted.
+fn end_of(wanted: bool) -> usize
+    ensures { λ r. ⌜ r ≡ cond wanted 0 1 ⌝ }
+{
+    if wanted { 0 } else { 1 }
+}
+
+// Marks by the condition that q starts with, row by row.
 fn judge_each(
     q: &[u8],
     z: &[u16],
@@ -449,15 +408,18 @@ fn judge_each(
 {
     let mut t = [0u16; 512];
     let mut xs = [0i32; 128];
-    conjuncts::plan(q, z, 0, 0, level, q, 200, memo, &mut t, &mut xs);
+    let met = end_of(wanted);
+    let unmet = end_of(!wanted);
+    let start = branches::compile(q, z, 0, level, memo, &mut t, &mut xs, 2, 64, met, unmet);
     if seeks::searches(&t, walks) {
-        mark_linked(&t, &xs, q, z, walks, walk, vs, memo, env, wanted, marks);
+        mark_linked(&t, &xs, start, q, z, walks, walk, vs, memo, env, marks);
         return;
     }
     let chains = [0u16; 1];
     mark_rows(
         &t,
         &xs,
+        start,
         q,
         z,
         walks,
@@ -466,7 +428,6 @@ fn judge_each(
         vs,
         memo,
         env,
-        wanted,
         marks,
     );
 }
