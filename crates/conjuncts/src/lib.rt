@@ -14,7 +14,7 @@ ghost use Rattle.seeks.specs.Keys.{Faithful};
 ghost use Rattle.conjuncts.specs.Stages as S;
 ghost use Rattle.conjuncts.specs.Filling as F;
 
-// Whether the conjuncts of a stage hold.
+// Whether the conjuncts of a stage hold; a stage that has none starts at 0.
 pub fn holds(
     t: &[u16],
     xs: &[i32],
@@ -32,6 +32,9 @@ pub fn holds(
     ensures { λ _. ⌜ now (env .exit) ≡ now (env .entry) ⌝ }
 {
     let i = kinds::size_at(t, stage);
+    if i == 0 {
+        return true;
+    }
     decide::holds(t, xs, i, q, z, walks, chains, values, memo, env)
 }
 

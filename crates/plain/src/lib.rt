@@ -270,9 +270,10 @@ fn pays(rows: usize) -> usize
     if rows < 8 { 0 } else { 1 }
 }
 
-// How many ranges after the first have so many rows that a chain may pay. It promises nothing, since any room will do: it only saves time.
+// How many ranges after the first have so many rows that a chain may pay. It promises little, since any room will do: it only saves time.
 fn chained(q: &[u8], ranges: usize, walks: &[u16]) -> usize
     requires { ⌜ ranges ≤ 4 ⌝ }
+    ensures { λ r. ⌜ r ≤ 5 ⌝ }
 {
     let mut n = 0;
     let mut i = 1;
@@ -506,9 +507,11 @@ fn answer_filled(
     )
 }
 
-// Twice the number of SOME records of a query, and 1 more where it has an aggregate. It promises nothing, since any memo that can be trusted and any
+// Twice the number of SOME records of a query, and 1 more where it has an aggregate. It promises little, since any memo that can be trusted and any
 // room for chains will do: it only saves time.
-fn holding(q: &[u8]) -> usize {
+fn holding(q: &[u8]) -> usize
+    ensures { λ r. ⌜ r ≤ 1001 ⌝ }
+{
     let mut n = 0;
     let mut at = 0;
     while at < q.len() {

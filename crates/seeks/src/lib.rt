@@ -316,7 +316,14 @@ fn add_search(
     add(t, start, byte_of(v), walks, values, chains, free)
 }
 
-// Chains for all branches of a table that ask for a row; the next free place.
+// Whether branch i is in use: one that is leads to two ends. It promises nothing: a look at all 62 would do as well.
+fn used(t: &[u16], i: usize) -> bool
+    requires { ⌜ i < 64 ⌝ }
+{
+    kinds::size_at(t, 8 * i + 5) != kinds::size_at(t, 8 * i + 6)
+}
+
+// Chains for the branches of a table that ask for a row; the next free place.
 pub fn add_searches(
     t: &[u16],
     walks: &[u16],
@@ -330,6 +337,9 @@ pub fn add_searches(
     let mut next = free;
     let mut i = 2;
     while i < 64 {
+        if !used(t, i) {
+            return next;
+        }
         next = add_search(t, i, walks, values, chains, next);
         i += 1;
     }
@@ -355,6 +365,9 @@ fn asks(t: &[u16], walks: &[u16], i: usize) -> bool
 pub fn searches(t: &[u16], walks: &[u16]) -> bool {
     let mut i = 2;
     while i < 64 {
+        if !used(t, i) {
+            return false;
+        }
         if asks(t, walks, i) {
             return true;
         }

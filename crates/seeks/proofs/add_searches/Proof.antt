@@ -9,6 +9,7 @@ use Rattle.seeks.proofs.add_searches.Tie as tie
 use Rattle.seeks.proofs.add_searches.Reads as reads
 use Rattle.seeks.proofs.add_searches.Lts as lts
 use Rattle.seeks.proofs.add_search.Reads as add-search-reads
+use Rattle.seeks.proofs.used.Reads as used-reads
 
 abbrev Inv-loop : tie.InvT-loop
 Inv-loop t walks values chains₀ free next₀ i₀ chains next i = K.Filling next t walks values chains × (length chains ≡ length chains₀) × (2 ≤ i)
@@ -16,33 +17,45 @@ Inv-loop t walks values chains₀ free next₀ i₀ chains next i = K.Filling ne
 abbrev μ-loop : tie.MeasureT-loop
 μ-loop t walks values chains₀ free next₀ i₀ chains next i = 64 - i
 
--- src/lib.rt:327:5
+-- src/lib.rt:339:5
 loop-holds : tie.Need-loop-holds Inv-loop μ-loop
 loop-holds c = (c .before .before .before .pre, refl, omega arith)
 
--- src/lib.rt:328:9
-add-search-requires : tie.Need-add-search-requires Inv-loop μ-loop
-add-search-requires c κs = (c .before .loop-test .taken, c .before .before .loop .inv .0)
+-- src/lib.rt:340:13
+used-requires : tie.Need-used-requires Inv-loop μ-loop
+used-requires c κs = search needs
 
--- src/lib.rt:329:9
-add-i : tie.Need-add-i Inv-loop μ-loop
-add-i c = search needs
-
--- src/lib.rt:327:5
-loop-less : tie.Need-loop-less Inv-loop μ-loop
-loop-less c = search needs
-
--- src/lib.rt:327:5
-loop-again : tie.Need-loop-again Inv-loop μ-loop
-loop-again c = (c .before .before .add-search .ensures, c .before .before .add-search .kept .1 .1 .1 .1 .0 ∙ c .before .before .before .before .before .loop .inv .1, omega arith)
-
--- src/lib.rt:315:1
+-- src/lib.rt:341:13
 same-length : tie.Need-same-length Inv-loop μ-loop
 same-length c = search needs
 
--- src/lib.rt:315:1
+-- src/lib.rt:341:13
 returns : tie.Need-returns Inv-loop μ-loop
-returns c = c .before .loop .inv .0
+returns c = c .before .before .before .loop .inv .0
+
+-- src/lib.rt:343:9
+add-search-requires : tie.Need-add-search-requires Inv-loop μ-loop
+add-search-requires c κs = (c .before .before .before .loop-test .taken, c .before .before .before .before .loop .inv .0)
+
+-- src/lib.rt:344:9
+add-i : tie.Need-add-i Inv-loop μ-loop
+add-i c = search needs
+
+-- src/lib.rt:339:5
+loop-less : tie.Need-loop-less Inv-loop μ-loop
+loop-less c = search needs
+
+-- src/lib.rt:339:5
+loop-again : tie.Need-loop-again Inv-loop μ-loop
+loop-again c = (c .before .before .add-search .ensures, c .before .before .add-search .kept .1 .1 .1 .1 .0 ∙ c .before .before .before .before .before .before .before .loop .inv .1, omega arith)
+
+-- src/lib.rt:327:1
+same-length-2 : tie.Need-same-length-2 Inv-loop μ-loop
+same-length-2 c = search needs
+
+-- src/lib.rt:327:1
+returns-2 : tie.Need-returns-2 Inv-loop μ-loop
+returns-2 c = c .before .loop .inv .0
 
 pub add-searches-spec : {M : Type 1} → statement M
 add-searches-spec =
@@ -51,9 +64,12 @@ add-searches-spec =
     Inv-loop
     μ-loop
     loop-holds
+    used-requires
+    same-length
+    returns
     add-search-requires
     add-i
     loop-less
     loop-again
-    same-length
-    returns)
+    same-length-2
+    returns-2)
