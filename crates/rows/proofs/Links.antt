@@ -143,42 +143,28 @@ row-part c at j x r b ea e f =
     let k : at + length x - at ≡ length x = omega arith in
     ap (λ (m : ℕ). sameRow x (take (length x) (drop m c))) (sym ea) ∙ ap (λ (m : ℕ). sameRow x (take m (drop at c))) (sym k) ∙ sym e ∙ f
 
--- s is what the search among the first m of n rows gave
-module _ (x c : List ℤ) (n m l : ℕ) (el : l ≡ min n m) (s : Search) (es : s ≡ sought l c x) where
+-- s is what the search among the first of n rows gave, as many as a table can link
+module _ (x c : List ℤ) (n k : ℕ) (s : Search) (es : s ≡ sought (min n k) c x) where
   pub known-linked : s .found ≡ true → s ≡ sought n c x
   known-linked h =
+      let l = min n k in
       let after = storedRows (length x) (n - l) (drop (l * length x) c) in
       es
       ∙ sym (search-before (sameRow x) (storedRows (length x) l c) after (ap (λ (r : Search). r .found) (sym es) ∙ h))
       ∙ ap (search (sameRow x)) (sym (rows-split x l (n - l) n c (omega arith)))
 
-  pub known-all : n ≤ m → s ≡ sought n c x
-  known-all h = let e : l ≡ n = omega arith in es ∙ ap (λ (i : ℕ). sought i c x) e
+  pub known-all : n ≤ k → s ≡ sought n c x
+  known-all h = let e : min n k ≡ n = omega arith in es ∙ ap (λ (i : ℕ). sought i c x) e
 
   -- r is what the search among the rows after them gave
-  pub known-rest : m < n → s .found ≡ false → (at : ℕ) → at ≡ m * length x → (r : Search) → r ≡ sought (n - m) (take (length c - at) (drop at c)) x → record { found = r .found; tried = m + r .tried } ≡ sought n c x
-  known-rest h none at ea r er =
-      let e : l ≡ m = omega arith in
+  pub known-rest : (m : ℕ) → m ≡ k → m < n → s .found ≡ false → (at : ℕ) → at ≡ m * length x → (r : Search) → r ≡ sought (n - m) (take (length c - at) (drop at c)) x → record { found = r .found; tried = m + r .tried } ≡ sought n c x
+  known-rest m em h none at ea r er =
+      let e : min n k ≡ m = omega arith in
       let after = storedRows (length x) (n - m) (drop (m * length x) c) in
       ap (λ (y : Search). record { found = y .found; tried = m + y .tried }) (er ∙ ap (λ (d : List ℤ). sought (n - m) d x) (take-all (length c - at) (drop at c) (rw (length-drop at c) (omega arith)) ∙ ap (λ (i : ℕ). drop i c) ea))
       ∙ ap (λ (i : ℕ). record { found = search (sameRow x) after .found; tried = i + search (sameRow x) after .tried }) (sym (row-count x m c))
       ∙ sym (search-after (sameRow x) (storedRows (length x) m c) after (ap (λ (i : ℕ). sought i c x .found) (sym e) ∙ ap (λ (y : Search). y .found) (sym es) ∙ none))
       ∙ ap (search (sameRow x)) (sym (rows-split x m (n - m) n c (omega arith)))
-
--- as many rows as the table links are linked by it
-pub linked-first : (w n : ℕ) (c : List ℤ) (t : List ℕ) → Linked w n c t → Linked w (min n (nextsOf (length t))) c t
-linked-first w n c t f =
-    let k = nextsOf (length t) in
-    let e : min (min n k) k ≡ min n k = omega arith in
-    record {
-      room = omega (arith, f .room, mul-le-mul (min-le n k) (le-refl w));
-      distinct = λ i j a b. f .distinct i j a (omega arith);
-      short = f .short;
-      chained = rw e (f .chained);
-    }
-  where
-    min-le : (a b : ℕ) → min a b ≤ a
-    min-le a b = omega arith
 
 pub rest-within : (k n w l : ℕ) → k < n → n * w ≤ l → k * w ≤ l
 rest-within k n w l h room =

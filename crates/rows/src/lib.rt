@@ -150,11 +150,11 @@ fn least(a: usize, b: usize) -> usize
     if a < b { a } else { b }
 }
 
-// The search for the row among so many that the table links, along the chain of its bucket from the last row back: none of them equals another, so
-// the one that is found is the first, and its number tells how many a walk would have tried.
+// The search for the row among those that the table links, along the chain of its bucket from the last row back: none of them equals another, so the
+// one that is found is the first, and its number tells how many a walk would have tried.
 fn chained(answer: &[i64], table: &[u16], rows: usize, row: &[i64], bucket: usize) -> Search
-    requires { ⌜ Linked (length (now row)) rows (now answer) (now table) × (rows ≤ nextsOf (length (now table))) × (bucket ≡ bucketOf (length (now table)) (now row)) ⌝ }
-    ensures { λ r. ⌜ record { found = r .found; tried = r .tried } ≡ sought rows (now (answer .entry)) (now (row .entry)) ⌝ }
+    requires { ⌜ Linked (length (now row)) rows (now answer) (now table) × (bucket ≡ bucketOf (length (now table)) (now row)) ⌝ }
+    ensures { λ r. ⌜ record { found = r .found; tried = r .tried } ≡ sought (min rows (nextsOf (length (now (table .entry))))) (now (answer .entry)) (now (row .entry)) ⌝ }
 {
     let first = heads(table.len());
     let mut link = kinds::size_at(table, bucket);
@@ -169,9 +169,10 @@ fn chained(answer: &[i64], table: &[u16], rows: usize, row: &[i64], bucket: usiz
         }
         link = kinds::size_at(table, first + (link - 1));
     }
+    let tried = least(rows, nexts(table.len()));
     Search {
         found: false,
-        tried: rows,
+        tried,
     }
 }
 
@@ -180,11 +181,11 @@ fn known(answer: &[i64], table: &[u16], rows: usize, row: &[i64], bucket: usize)
     requires { ⌜ Linked (length (now row)) rows (now answer) (now table) × (bucket ≡ bucketOf (length (now table)) (now row)) ⌝ }
     ensures { λ r. ⌜ record { found = r .found; tried = r .tried } ≡ sought rows (now (answer .entry)) (now (row .entry)) ⌝ }
 {
-    let n = nexts(table.len());
-    let linked = chained(answer, table, least(rows, n), row, bucket);
+    let linked = chained(answer, table, rows, row, bucket);
     if linked.found {
         return linked;
     }
+    let n = nexts(table.len());
     if rows <= n {
         return linked;
     }

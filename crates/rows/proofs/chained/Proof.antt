@@ -6,7 +6,6 @@ use native.Mathlib.Nat.{mul-le-mul, le-refl}
 use lib.ListN.{length, getD, take, drop}
 use mathlib.Core.Bool.{true, false}
 use denote.Ref.{now}
-use Rattle.rows.specs.Buffer.{sought}
 use Rattle.rows.specs.Chains.{headsOf, nextsOf, bucketOf, bucketAt, LastOf}
 use Rattle.rows.proofs.Folded.{bucket-low}
 use Rattle.rows.proofs.Links.{Passed, passed-start, passed-none, passed-hit, passed-step, row-within, row-part, heads-most}
@@ -16,6 +15,8 @@ use Rattle.rows.proofs.chained.Reads as reads
 use Rattle.rows.proofs.chained.Lts as lts
 use Rattle.kinds.proofs.size_at.Reads as size-at-reads
 use Rattle.rows.proofs.heads.Reads as heads-reads
+use Rattle.rows.proofs.least.Reads as least-reads
+use Rattle.rows.proofs.nexts.Reads as nexts-reads
 use Rattle.rows.proofs.same.Reads as same-reads
 
 abbrev Inv-loop : tie.InvT-loop
@@ -37,7 +38,7 @@ loop-holds : tie.Need-loop-holds Inv-loop μ-loop
 loop-holds c =
     let c₃ = c .before .before .before in let args = c₃ .args in let pre = c₃ .pre in
     let answer = now (args .answer) in let row = now (args .row) in let table = now (args .table) in
-    passed-start row answer (length table) _ _ (subst (LastOf (λ (j : ℕ). bucketAt (length table) (length row) answer j ≡ bucketOf (length table) row) (min (args .rows) (nextsOf (length table)))) (sym (c .size-at .ensures .0 ∙ ap (λ (h : ℕ). getD table h 0) (pre .2))) (pre .0 .chained .first (bucketOf (length table) row) (bucket-low (length table) row)))
+    passed-start row answer (length table) _ _ (subst (LastOf (λ (j : ℕ). bucketAt (length table) (length row) answer j ≡ bucketOf (length table) row) (min (args .rows) (nextsOf (length table)))) (sym (c .size-at .ensures .0 ∙ ap (λ (h : ℕ). getD table h 0) (pre .1))) (pre .0 .chained .first (bucketOf (length table) row) (bucket-low (length table) row)))
 
 -- src/lib.rt:142:19
 sub-at : tie.Need-sub-at Inv-loop μ-loop
@@ -91,7 +92,7 @@ returns c =
     let c₄ = c₃ .before in let loop = c₄ .loop in
     let c₈ = c₄ .before .before .before .before in let args = c₈ .args in let pre = c₈ .pre in
     let answer = now (args .answer) in let row = now (args .row) in
-    sym (passed-hit row answer (length (now (args .table))) (args .rows) (loop .link) (loop-test .taken) (omega (arith, loop .inv .low)) (pre .0 .distinct) (row-part answer ((loop .link - 1) * length row) (loop .link - 1) row (same .result) true refl (same .ensures) (c .if1 .taken)))
+    sym (passed-hit row answer (length (now (args .table))) _ (loop .link) (loop-test .taken) (loop .inv .low) (λ i j a b. pre .0 .distinct i j a (omega arith)) (row-part answer ((loop .link - 1) * length row) (loop .link - 1) row (same .result) true refl (same .ensures) (c .if1 .taken)))
 
 -- src/lib.rt:147:47
 sub-size-at : tie.Need-sub-size-at Inv-loop μ-loop
@@ -130,13 +131,22 @@ loop-again c =
     passed-step row answer (length table) _ (loop .link - 1) (loop .link) _ (omega (arith, loop-test .taken)) (row-part answer ((loop .link - 1) * length row) (loop .link - 1) row (same .result) false refl (same .ensures) (c .before .if1 .left)) (loop .inv) (subst (LastOf (λ (j : ℕ). bucketAt (length table) (length row) answer j ≡ bucketAt (length table) (length row) answer (loop .link - 1)) (loop .link - 1)) (sym (c .size-at2 .ensures .0 ∙ ap (λ (h : ℕ). getD table (h + (loop .link - 1)) 0) (heads .ensures))) (pre .0 .chained .next (loop .link - 1) (omega (arith, loop .inv .low, loop-test .taken))))
 
 -- src/lib.rt:135:1
+nexts-requires : tie.Need-nexts-requires Inv-loop μ-loop
+nexts-requires c κs = search needs
+
+-- src/lib.rt:175:17
+least-requires : tie.Need-least-requires Inv-loop μ-loop
+least-requires c κs = search needs
+
+-- src/lib.rt:155:1
 returns-2 : tie.Need-returns-2 Inv-loop μ-loop
 returns-2 c =
-    let c₁ = c .before in let loop = c₁ .loop in
-    let c₅ = c₁ .before .before .before .before in let args = c₅ .args in let pre = c₅ .pre in
-    let n = args .rows in
-    let e : min n (nextsOf (length (now (args .table)))) ≡ n = omega (arith, pre .1) in
-    sym (ap (λ (m : ℕ). sought m (now (args .answer)) (now (args .row))) (sym e) ∙ passed-none (now (args .row)) (now (args .answer)) (length (now (args .table))) _ (loop .link) (omega (arith, c .loop-test .left)) (loop .inv) ∙ ap (λ (m : ℕ). record { found = false; tried = m }) e)
+    let c₁ = c .before in let nexts = c₁ .nexts in
+    let c₂ = c₁ .before in let loop-test = c₂ .loop-test in
+    let c₃ = c₂ .before in let loop = c₃ .loop in
+    let c₇ = c₃ .before .before .before .before in let args = c₇ .args in
+    let e : c .least .result ≡ min (args .rows) (nextsOf (length (now (args .table)))) = c .least .ensures ∙ ap (λ (n : ℕ). min (args .rows) n) (nexts .ensures) in
+    ap (λ (n : ℕ). record { found = false; tried = n }) e ∙ sym (passed-none (now (args .row)) (now (args .answer)) (length (now (args .table))) _ (loop .link) (omega (arith, loop-test .left)) (loop .inv))
 
 pub chained-spec : {M : Type 1} → statement M
 chained-spec =
@@ -161,4 +171,6 @@ chained-spec =
     size-at-requires-2
     loop-less
     loop-again
+    nexts-requires
+    least-requires
     returns-2)
