@@ -190,40 +190,105 @@ fn find(list: &[u8], from: usize, kind: u8, relation: u8, word: &[u8]) -> usize
     at
 }
 
-// Whether the record at a place is good, and its name comes once. A search for each record: the check is quadratic in the list.
-fn is_good(list: &[u8], at: usize) -> bool
-    requires { ⌜ at ≤ length (now list) ⌝ }
-    ensures { λ r. ⌜ r ≡ goodAt (drop at (now (list .entry))) ⌝ }
+// Whether a record that is chained in a bucket has the kind and the name, and belongs to the relation.
+fn known(
+    list: &[u8],
+    heads: &[u16],
+    nexts: &[u16],
+    bucket: usize,
+    kind: u8,
+    relation: u8,
+    word: &[u8],
+) -> bool
+{
+    let mut link = kinds::size_at(heads, bucket);
+    while 0 < link {
+        let at = link - 1;
+        if named(list, at, kind, relation, word) {
+            return true;
+        }
+        link = kinds::size_at(nexts, at / 14);
+    }
+    false
+}
+
+// How many letters the name of a good record has, 0 where the record at a place is none.
+fn good_record(list: &[u8], at: usize) -> usize
 {
     let kind = kinds::byte(list, at);
     if kind < 80 {
-        return false;
+        return 0;
     }
     if 82 < kind {
-        return false;
+        return 0;
     }
-    let from = at + place(kind);
-    let count = good_letters(list, from);
-    if count == 0 {
-        return false;
-    }
-    let end = from + count;
+    good_letters(list, at + place(kind))
+}
+
+// Whether no record before one has its name. It is chained then; a record past the table is held to those after it instead.
+fn fresh(
+    list: &[u8],
+    at: usize,
+    count: usize,
+    heads: &mut [u16],
+    nexts: &mut [u16],
+) -> bool
+{
+    let kind = kinds::byte(list, at);
     let relation = kinds::byte(list, at + 1);
+    let from = at + place(kind);
+    let end = from + count;
+    let h = buckets::bucket(&list[from..end]);
+    if known(list, heads, nexts, h, kind, relation, &list[from..end]) {
+        return false;
+    }
+    let slot = at / 14;
+    if slot < nexts.len() {
+        buckets::put(heads, nexts, h, slot, at);
+        return true;
+    }
     list.len() <= find(list, from + 12, kind, relation, &list[from..end])
+}
+
+// The whole list, with two tables for its names.
+fn listed_with(list: &[u8], heads: &mut [u16], nexts: &mut [u16]) -> bool
+{
+    let mut at = 0;
+    while at < list.len() {
+        let count = good_record(list, at);
+        if count == 0 {
+            return false;
+        }
+        if !fresh(list, at, count, heads, nexts) {
+            return false;
+        }
+        at += place(kinds::byte(list, at)) + 12;
+    }
+    true
+}
+
+fn listed_short(list: &[u8]) -> bool
+{
+    let mut heads = [0u16; 256];
+    let mut nexts = [0u16; 256];
+    listed_with(list, &mut heads, &mut nexts)
+}
+
+fn listed_long(list: &[u8]) -> bool
+{
+    let mut heads = [0u16; 256];
+    let mut nexts = [0u16; 4096];
+    listed_with(list, &mut heads, &mut nexts)
 }
 
 // Whether a name list is good, from its first byte to its last; 51 otherwise.
 pub fn listed(list: &[u8]) -> bool
     ensures { λ r. ⌜ r ≡ not (failed (names (now (list .entry)))) ⌝ }
 {
-    let mut at = 0;
-    while at < list.len() {
-        if !is_good(list, at) {
-            return false;
-        }
-        at += place(kinds::byte(list, at)) + 12;
+    if list.len() <= 3584 {
+        return listed_short(list);
     }
-    true
+    listed_long(list)
 }
 
 // A word of more than twelve letters is found nowhere.
