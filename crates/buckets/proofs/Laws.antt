@@ -22,7 +22,7 @@ pub hash-end : (w : List ℕ) (i h : ℕ) → length w ≤ i → hashed h (drop 
 unfolding hashed
 hash-end w i h l = rw (drop-of-length-le w {i = i} l)
 
-pub bucket-is : (w : List ℕ) (h : ℕ) → hashed 0 w ≡ h → bucketOf w ≡ h % 256
+pub bucket-is : (w : List ℕ) (h : ℕ) → hashed 0 w ≡ h → bucketOf w ≡ h % 1024
 unfolding bucketOf
 bucket-is w h e = rw e
 
@@ -69,10 +69,10 @@ module _ (slot : ℕ → ℕ) where
 
   -- the place y at the front of its chain
   module _ (b : ℕ → ℕ) (heads nexts xs : List ℕ) (y : ℕ) (f : Held b slot y heads nexts xs) (low : b y < length heads) (room : slot y < length nexts) where
-    old : (h : ℕ) → h < 256 → Chain slot (set nexts (slot y) (getD heads (b y) 0)) (getD heads h 0) (filter (λ (x : ℕ). eqb (b x) h) xs)
+    old : (h : ℕ) → h < 1024 → Chain slot (set nexts (slot y) (getD heads (b y) 0)) (getD heads h 0) (filter (λ (x : ℕ). eqb (b x) h) xs)
     old h l = chain-frame nexts (slot y) _ _ _ (every-filter (λ (x : ℕ). slot x < slot y) _ xs (every-map xs (λ x p. p .1) (f .low))) (f .chains h l)
 
-    front : b y < 256 → (h : ℕ) → h < 256 → (t : Bool) → eqb (b y) h ≡ t
+    front : b y < 1024 → (h : ℕ) → h < 1024 → (t : Bool) → eqb (b y) h ≡ t
         → Chain slot (set nexts (slot y) (getD heads (b y) 0)) (getD (set heads (b y) (y + 1)) h 0) (consIf t y (filter (λ (x : ℕ). eqb (b x) h) xs))
     unfolding Chain
     front k h l true e =
@@ -85,7 +85,7 @@ module _ (slot : ℕ → ℕ) where
         subst (λ (n : ℕ). Chain slot (set nexts (slot y) (getD heads (b y) 0)) n (filter (λ (x : ℕ). eqb (b x) h) xs))
         (sym (getD-set-other heads (b y) h (y + 1) 0 (λ z. eqb-false (b y) h e (sym z)))) (old h l)
 
-    pub held-put : b y < 256 → (top : ℕ) → y < top → slot y < slot top → Held b slot top (set heads (b y) (y + 1)) (set nexts (slot y) (getD heads (b y) 0)) (y ∷ xs)
+    pub held-put : b y < 1024 → (top : ℕ) → y < top → slot y < slot top → Held b slot top (set heads (b y) (y + 1)) (set nexts (slot y) (getD heads (b y) 0)) (y ∷ xs)
     unfolding filter Every
     held-put k top l m = record {
       chains = λ h d. front k h d (eqb (b y) h) refl;
@@ -119,7 +119,7 @@ any-filter p q (x ∷ xs) f = ap (λ (t : Bool). q x || t) (any-filter p q xs f)
     go false false e g = refl
 
 module _ (slot : ℕ → ℕ) (nexts : List ℕ) (q : ℕ → Bool) (top : ℕ) (xs : List ℕ) where
-  pub walk-start : (b : ℕ → ℕ) (heads : List ℕ) (h link : ℕ) → h < 256 → link ≡ getD heads h 0 → ((x : ℕ) → q x ≡ true → b x ≡ h) → Held b slot top heads nexts xs → Walk slot nexts q top xs link
+  pub walk-start : (b : ℕ → ℕ) (heads : List ℕ) (h link : ℕ) → h < 1024 → link ≡ getD heads h 0 → ((x : ℕ) → q x ≡ true → b x ≡ h) → Held b slot top heads nexts xs → Walk slot nexts q top xs link
   walk-start b heads h link l e f k = record {
     rest = filter (λ (x : ℕ). eqb (b x) h) xs;
     chain = subst (λ (n : ℕ). Chain slot nexts n (filter (λ (x : ℕ). eqb (b x) h) xs)) (sym e) (k .chains h l);

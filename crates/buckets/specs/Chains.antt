@@ -1,4 +1,4 @@
--- Places by the bucket of their words, in two tables: for each of 256 buckets its last place, and for each place, at its slot, the one before it there.
+-- Places by the bucket of their words, in two tables: for each of 1,024 buckets its last place, and for each place, at its slot, the one before it there.
 -- A link is 0, or one more than a place.
 use Prim.Native.Nat.{ℕ, _+_, _*_, _%_, _≤_, _<_}
 use mathlib.Core.Path.{_≡_}
@@ -17,7 +17,7 @@ hashed h (x ∷ xs) = hashed (mixed h x) xs
 
 -- the bucket of a word
 unfoldable pub bucketOf : List ℕ → ℕ
-bucketOf w = hashed 0 w % 256
+bucketOf w = hashed 0 w % 1024
 
 -- a link leads through these places, from each one to a lower one
 unfoldable pub Chain : (ℕ → ℕ) → List ℕ → ℕ → List ℕ → Type 0
@@ -26,7 +26,7 @@ Chain slot nexts link (x ∷ xs) = (link ≡ x + 1) × ((getD nexts (slot x) 0 �
 
 -- the tables chain these places, all below top, each in its bucket
 pub record Held (b slot : ℕ → ℕ) (top : ℕ) (heads nexts xs : List ℕ) : Type 0 where
-  pub chains : (h : ℕ) → h < 256 → Chain slot nexts (getD heads h 0) (filter (λ (x : ℕ). eqb (b x) h) xs)
+  pub chains : (h : ℕ) → h < 1024 → Chain slot nexts (getD heads h 0) (filter (λ (x : ℕ). eqb (b x) h) xs)
   pub low : Every (λ (x : ℕ). (x < top) × (slot x < slot top)) xs
 
 -- the tables chain some places

@@ -19,10 +19,10 @@ fn mix(h: usize, b: u8) -> usize
     (h * 31 + wide(b)) % 4294967296
 }
 
-// The bucket of a word, one of 256: any function of the word would do.
+// The bucket of a word, one of 1,024: any function of the word would do.
 pub fn bucket(word: &[u8]) -> usize
     ensures { λ r. ⌜ r ≡ bucketOf (now (word .entry)) ⌝ }
-    ensures { λ r. ⌜ r < 256 ⌝ }
+    ensures { λ r. ⌜ r < 1024 ⌝ }
 {
     let mut h = 0;
     let mut i = 0;
@@ -30,7 +30,7 @@ pub fn bucket(word: &[u8]) -> usize
         h = mix(h, word[i]);
         i += 1;
     }
-    h % 256
+    h % 1024
 }
 
 fn narrow(x: usize) -> u16

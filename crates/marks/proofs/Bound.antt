@@ -136,7 +136,7 @@ module _ (text ks ss ls : List ℕ) where
     pub told-twice : boundBefore text ks ss ls i xs ≡ true → Told text ks ss ls i true xs heads nexts false
     told-twice e = record { says = sym (ap not e); held = λ z. clash z }
 
-    pub told-fresh : (h : ℕ) → h ≡ bucketOf (boundWord text ks ss ls i) → h < 256 → 256 ≤ length heads → i < length nexts → boundBefore text ks ss ls i xs ≡ false
+    pub told-fresh : (h : ℕ) → h ≡ bucketOf (boundWord text ks ss ls i) → h < 1024 → 1024 ≤ length heads → i < length nexts → boundBefore text ks ss ls i xs ≡ false
         → (heads′ nexts′ : List ℕ) → heads′ ≡ set heads h (i + 1) → nexts′ ≡ set nexts i (getD heads h 0) → Told text ks ss ls i true xs heads′ nexts′ true
     told-fresh h eh lh room more e heads′ nexts′ e₁ e₂ = record { says = sym (ap not e); held = λ _. rw (e₁, e₂, eh) (held-put (λ (x : ℕ). x) (λ (x : ℕ). bucketOf (boundWord text ks ss ls x)) heads nexts xs i f (omega (arith, eh)) more (omega (arith, eh)) (i + 1) (omega arith) (omega arith)) }
 

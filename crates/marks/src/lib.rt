@@ -194,7 +194,11 @@ fn bound_place(kinds: &[u8], i: usize) -> usize
     requires { ⌜ i < 4000 ⌝ }
     ensures { λ r. ⌜ r ≡ boundPlace (now (kinds .entry)) i ⌝ }
 {
-    if kinds::byte(kinds, i) == 16 { i + 1 } else { i }
+    if kinds::byte(kinds, i) == 16 {
+        i + 1
+    } else {
+        i
+    }
 }
 
 // Whether a token of a bucket's chain binds the name that the token at i binds.
@@ -208,7 +212,7 @@ fn known(
     bucket: usize,
     i: usize,
 ) -> bool
-    requires { ⌜ (i < 4000) × (bucket < 256) × (bucket ≡ bucketOf (boundWord (now text) (now kinds) (now starts) (now lengths) i)) × ChainedAt (now text) (now kinds) (now starts) (now lengths) i (now heads) (now nexts) ⌝ }
+    requires { ⌜ (i < 4000) × (bucket < 1024) × (bucket ≡ bucketOf (boundWord (now text) (now kinds) (now starts) (now lengths) i)) × ChainedAt (now text) (now kinds) (now starts) (now lengths) i (now heads) (now nexts) ⌝ }
     ensures { λ r. ⌜ ((xs : List ℕ) → HeldAt (now (text .entry)) (now (kinds .entry)) (now (starts .entry)) (now (lengths .entry)) i (now (heads .entry)) (now (nexts .entry)) xs → r ≡ boundBefore (now (text .entry)) (now (kinds .entry)) (now (starts .entry)) (now (lengths .entry)) i xs) ⌝ }
 {
     let x = bound_place(kinds, i);
@@ -233,7 +237,7 @@ fn fresh(
     nexts: &mut [u16],
     i: usize,
 ) -> bool
-    requires { ⌜ (i < 4000) × (256 ≤ length (now heads)) × (i < length (now nexts)) × ChainedAt (now text) (now kinds) (now starts) (now lengths) i (now heads) (now nexts) ⌝ }
+    requires { ⌜ (i < 4000) × (1024 ≤ length (now heads)) × (i < length (now nexts)) × ChainedAt (now text) (now kinds) (now starts) (now lengths) i (now heads) (now nexts) ⌝ }
     ensures { λ r. ⌜ ((xs : List ℕ) → HeldAt (now (text .entry)) (now (kinds .entry)) (now (starts .entry)) (now (lengths .entry)) i (now (heads .entry)) (now (nexts .entry)) xs → Told (now (text .entry)) (now (kinds .entry)) (now (starts .entry)) (now (lengths .entry)) i true xs (now (heads .exit)) (now (nexts .exit)) r) ⌝ }
 {
     let x = bound_place(kinds, i);
@@ -269,7 +273,7 @@ fn once(
     p: u8,
     i: usize,
 ) -> bool
-    requires { ⌜ (i < length (now kinds)) × (i < 4000) × (256 ≤ length (now heads)) × (i < length (now nexts)) × ChainedAt (now text) (now kinds) (now starts) (now lengths) i (now heads) (now nexts) ⌝ }
+    requires { ⌜ (i < length (now kinds)) × (i < 4000) × (1024 ≤ length (now heads)) × (i < length (now nexts)) × ChainedAt (now text) (now kinds) (now starts) (now lengths) i (now heads) (now nexts) ⌝ }
     ensures { λ r. ⌜ ((xs : List ℕ) → HeldAt (now (text .entry)) (now (kinds .entry)) (now (starts .entry)) (now (lengths .entry)) i (now (heads .entry)) (now (nexts .entry)) xs → Told (now (text .entry)) (now (kinds .entry)) (now (starts .entry)) (now (lengths .entry)) i (bindsKind (getD (now (kinds .entry)) i 0) p) xs (now (heads .exit)) (now (nexts .exit)) r) ⌝ }
 {
     if !binds(kinds[i], p) {
@@ -287,7 +291,7 @@ fn unique_with(
     heads: &mut [u16],
     nexts: &mut [u16],
 ) -> bool
-    requires { ⌜ (length (now kinds) < 4000) × (256 ≤ length (now heads)) × (length (now kinds) ≤ length (now nexts)) × ((h : ℕ) → getD (now heads) h 0 ≡ 0) ⌝ }
+    requires { ⌜ (length (now kinds) < 4000) × (1024 ≤ length (now heads)) × (length (now kinds) ≤ length (now nexts)) × ((h : ℕ) → getD (now heads) h 0 ≡ 0) ⌝ }
     ensures { λ r. ⌜ ((ns : List ℕ) → r ≡ uniqueWords (binders 0 (tokensFrom (now (text .entry)) (table (now (kinds .entry)) (now (starts .entry)) (now (lengths .entry)) ns) 0))) ⌝ }
 {
     let mut i = 0;
@@ -307,7 +311,7 @@ fn unique_short(text: &[u8], kinds: &[u8], starts: &[u16], lengths: &[u16]) -> b
     requires { ⌜ length (now kinds) ≤ 256 ⌝ }
     ensures { λ r. ⌜ ((ns : List ℕ) → r ≡ uniqueWords (binders 0 (tokensFrom (now (text .entry)) (table (now (kinds .entry)) (now (starts .entry)) (now (lengths .entry)) ns) 0))) ⌝ }
 {
-    let mut heads = [0u16; 256];
+    let mut heads = [0u16; 1024];
     let mut nexts = [0u16; 256];
     unique_with(text, kinds, starts, lengths, &mut heads, &mut nexts)
 }
@@ -316,7 +320,7 @@ fn unique_long(text: &[u8], kinds: &[u8], starts: &[u16], lengths: &[u16]) -> bo
     requires { ⌜ length (now kinds) < 4000 ⌝ }
     ensures { λ r. ⌜ ((ns : List ℕ) → r ≡ uniqueWords (binders 0 (tokensFrom (now (text .entry)) (table (now (kinds .entry)) (now (starts .entry)) (now (lengths .entry)) ns) 0))) ⌝ }
 {
-    let mut heads = [0u16; 256];
+    let mut heads = [0u16; 1024];
     let mut nexts = [0u16; 4000];
     unique_with(text, kinds, starts, lengths, &mut heads, &mut nexts)
 }

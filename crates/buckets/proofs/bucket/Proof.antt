@@ -18,33 +18,26 @@ Inv-loop word h₀ i₀ h i = (hashed 0 word ≡ hashed h (drop i word)) × (h <
 abbrev μ-loop : tie.MeasureT-loop
 μ-loop word h₀ i₀ h i = length word - i
 
--- src/lib.rt:29:5
 loop-holds : tie.Need-loop-holds Inv-loop μ-loop
 loop-holds c = search needs
 
--- src/lib.rt:30:20
 shared-slice-read-mix : tie.Need-shared-slice-read-mix Inv-loop μ-loop
 shared-slice-read-mix c = search needs
 
--- src/lib.rt:30:9
 mix-requires : tie.Need-mix-requires Inv-loop μ-loop
 mix-requires c κs = search needs
 
--- src/lib.rt:31:9
 add-i : tie.Need-add-i Inv-loop μ-loop
 add-i c = search needs
 
--- src/lib.rt:29:5
 loop-less : tie.Need-loop-less Inv-loop μ-loop
 loop-less c = search needs
 
--- src/lib.rt:29:5
 loop-again : tie.Need-loop-again Inv-loop μ-loop
 loop-again c =
     let c₂ = c .before .before .before in let loop = c₂ .loop in
     (loop .inv .0 ∙ hash-next (now (c₂ .before .before .args .word)) (loop .i) (loop .h) _ (omega arith) (c .mix .ensures .0), c .mix .ensures .1)
 
--- src/lib.rt:23:1
 returns : tie.Need-returns Inv-loop μ-loop
 returns c =
     let c₁ = c .before in let loop = c₁ .loop in

@@ -8,47 +8,36 @@ use Rattle.buckets.proofs.put.Reads as reads
 use Rattle.buckets.proofs.put.Lts as lts
 use Rattle.buckets.proofs.narrow.Reads as narrow-reads
 
--- src/lib.rt:49:19
 mul-nexts : tie.Need-mul-nexts
 mul-nexts c = search needs
 
--- src/lib.rt:49:19
 slice-read-nexts : tie.Need-slice-read-nexts
 slice-read-nexts c = search needs
 
--- src/lib.rt:49:5
 mul-nexts-2 : tie.Need-mul-nexts-2
 mul-nexts-2 c = search needs
 
--- src/lib.rt:49:5
 slice-write-nexts : tie.Need-slice-write-nexts
 slice-write-nexts c = search needs
 
--- src/lib.rt:50:28
 add-narrow : tie.Need-add-narrow
 add-narrow c = search needs
 
--- src/lib.rt:50:21
 narrow-requires : tie.Need-narrow-requires
 narrow-requires c κs = search needs
 
--- src/lib.rt:50:5
 mul-heads : tie.Need-mul-heads
 mul-heads c = search needs
 
--- src/lib.rt:50:5
 slice-write-heads : tie.Need-slice-write-heads
 slice-write-heads c = search needs
 
--- src/lib.rt:44:1
 same-length : tie.Need-same-length
 same-length c = search needs
 
--- src/lib.rt:44:1
 same-length-2 : tie.Need-same-length-2
 same-length-2 c = search needs
 
--- src/lib.rt:44:1
 returns : tie.Need-returns
 returns c =
     let c₄ = c .before .before .before .before in let args = c₄ .args in

@@ -4,15 +4,12 @@ use Rattle.marks.proofs.binds.Tie as tie
 use Rattle.marks.proofs.binds.Reads as reads
 use Rattle.marks.proofs.binds.Lts as lts
 
--- src/lib.rt:253:9
 returns : tie.Need-returns
 returns c = binds-some (c .before .args .kind) (c .before .args .p) (c .if1 .taken)
 
--- src/lib.rt:256:9
 returns-2 : tie.Need-returns-2
 returns-2 c = binds-none (c .before .before .args .kind) (c .before .before .args .p) (c .before .if1 .left) (c .if2 .taken)
 
--- src/lib.rt:249:1
 returns-3 : tie.Need-returns-3
 returns-3 c = binds-name (c .before .before .args .kind) (c .before .before .args .p) (c .before .if1 .left) (c .if2 .left)
 

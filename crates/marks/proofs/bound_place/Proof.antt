@@ -7,19 +7,15 @@ use Rattle.marks.proofs.bound_place.Reads as reads
 use Rattle.marks.proofs.bound_place.Lts as lts
 use Rattle.kinds.proofs.byte.Reads as byte-reads
 
--- src/lib.rt:197:8
 byte-requires : tie.Need-byte-requires
 byte-requires c κs = search needs
 
--- src/lib.rt:197:38
 add-result : tie.Need-add-result
 add-result c = search needs
 
--- src/lib.rt:193:1
 returns : tie.Need-returns
 returns c = place-some (now (c .before .before .before .args .kinds)) (c .before .before .before .args .i) (c .before .byte .result) (c .before .byte .ensures) (c .if1 .taken)
 
--- src/lib.rt:193:1
 returns-2 : tie.Need-returns-2
 returns-2 c = place-own (now (c .before .before .before .args .kinds)) (c .before .before .before .args .i) (c .before .byte .result) (c .before .byte .ensures) (c .if1 .left)
 

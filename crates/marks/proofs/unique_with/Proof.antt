@@ -19,57 +19,63 @@ Inv-loop text kinds starts lengths heads₀ nexts₀ i₀ p₀ heads nexts i p =
 abbrev μ-loop : tie.MeasureT-loop
 μ-loop text kinds starts lengths heads₀ nexts₀ i₀ p₀ heads nexts i p = length kinds - i
 
--- src/lib.rt:295:5
 loop-holds : tie.Need-loop-holds Inv-loop μ-loop
-loop-holds c = (left-start (now (c .before .before .before .before .before .before .args .text)) (now (c .before .before .before .before .before .before .args .kinds)) (now (c .before .before .before .before .before .before .args .starts)) (now (c .before .before .before .before .before .before .args .lengths)) (now (c .before .before .before .before .before .before .args .heads)) (now (c .before .before .before .before .before .before .args .nexts)) (c .before .before .before .before .before .before .pre .3), omega arith, refl, refl)
+loop-holds c =
+    let c₆ = c .before .before .before .before .before .before in let args = c₆ .args in let pre = c₆ .pre in
+    (left-start (now (args .text)) (now (args .kinds)) (now (args .starts)) (now (args .lengths)) (now (args .heads)) (now (args .nexts)) (pre .3), omega arith, refl, refl)
 
--- src/lib.rt:296:13
 once-requires : tie.Need-once-requires Inv-loop μ-loop
-once-requires c κs = (c .before .before .loop-test .taken, omega (arith, c .before .before .loop-test .taken, c .before .before .before .before .before .before .before .before .before .before .pre .0), omega (arith, c .before .before .before .loop .inv .2, c .before .before .before .before .before .before .before .before .before .before .pre .1), omega (arith, c .before .before .before .loop .inv .3, c .before .before .before .before .before .before .before .before .before .before .pre .2, c .before .before .loop-test .taken), chained (now (c .before .before .before .before .before .before .before .before .before .before .args .text)) (now (c .before .before .before .before .before .before .before .before .before .before .args .kinds)) (now (c .before .before .before .before .before .before .before .before .before .before .args .starts)) (now (c .before .before .before .before .before .before .before .before .before .before .args .lengths)) _ _ _ _ (c .before .before .before .loop .inv .0))
+once-requires c κs =
+    let c₂ = c .before .before in let loop-test = c₂ .loop-test in
+    let c₃ = c₂ .before in let loop = c₃ .loop in
+    let c₁₀ = c₃ .before .before .before .before .before .before .before in let args = c₁₀ .args in let pre = c₁₀ .pre in
+    (loop-test .taken, omega (arith, loop-test .taken, pre .0), omega (arith, loop .inv .2, pre .1), omega (arith, loop .inv .3, pre .2, loop-test .taken), chained (now (args .text)) (now (args .kinds)) (now (args .starts)) (now (args .lengths)) _ _ _ _ (loop .inv .0))
 
--- src/lib.rt:297:13
 same-length : tie.Need-same-length Inv-loop μ-loop
 same-length c = search needs
 
--- src/lib.rt:297:13
 same-length-2 : tie.Need-same-length-2 Inv-loop μ-loop
 same-length-2 c = search needs
 
--- src/lib.rt:297:13
 returns : tie.Need-returns Inv-loop μ-loop
-returns c = left-twice (now (c .before .before .before .before .before .before .before .before .before .before .before .before .before .before .before .before .args .text)) (now (c .before .before .before .before .before .before .before .before .before .before .before .before .before .before .before .before .args .kinds)) (now (c .before .before .before .before .before .before .before .before .before .before .before .before .before .before .before .before .args .starts)) (now (c .before .before .before .before .before .before .before .before .before .before .before .before .before .before .before .before .args .lengths)) (c .before .before .before .before .before .before .before .before .before .loop .p) (c .before .before .before .before .before .before .before .before .before .loop .i) _ _ _ _ (c .before .before .before .before .before .once .result) (c .before .before .before .before .before .before .before .before .loop-test .taken) (c .before .before .before .before .before .before .before .before .before .loop .inv .0) (c .before .before .before .before .before .once .ensures (c .before .before .before .before .before .before .before .before .before .loop .inv .0 .places) (c .before .before .before .before .before .before .before .before .before .loop .inv .0 .held)) (not-true (c .before .before .before .before .before .once .result) (c .if1 .taken))
+returns c =
+    let c₅ = c .before .before .before .before .before in let once = c₅ .once in
+    let c₈ = c₅ .before .before .before in let loop-test = c₈ .loop-test in
+    let c₉ = c₈ .before in let loop = c₉ .loop in
+    let c₁₆ = c₉ .before .before .before .before .before .before .before in let args = c₁₆ .args in
+    left-twice (now (args .text)) (now (args .kinds)) (now (args .starts)) (now (args .lengths)) (loop .p) (loop .i) _ _ _ _ (once .result) (loop-test .taken) (loop .inv .0) (once .ensures (loop .inv .0 .places) (loop .inv .0 .held)) (not-true (once .result) (c .if1 .taken))
 
--- src/lib.rt:299:18
 shared-slice-read-part : tie.Need-shared-slice-read-part Inv-loop μ-loop
 shared-slice-read-part c = search needs
 
--- src/lib.rt:299:9
 part-requires : tie.Need-part-requires Inv-loop μ-loop
 part-requires c κs = search needs
 
--- src/lib.rt:300:9
 add-i : tie.Need-add-i Inv-loop μ-loop
 add-i c = search needs
 
--- src/lib.rt:295:5
 loop-less : tie.Need-loop-less Inv-loop μ-loop
 loop-less c = search needs
 
--- src/lib.rt:295:5
 loop-again : tie.Need-loop-again Inv-loop μ-loop
-loop-again c = (left-next (now (c .before .before .before .before .before .before .before .before .before .before .before .before .before .before .before .before .before .before .args .text)) (now (c .before .before .before .before .before .before .before .before .before .before .before .before .before .before .before .before .before .before .args .kinds)) (now (c .before .before .before .before .before .before .before .before .before .before .before .before .before .before .before .before .before .before .args .starts)) (now (c .before .before .before .before .before .before .before .before .before .before .before .before .before .before .before .before .before .before .args .lengths)) (c .before .before .before .before .before .before .before .before .before .before .before .loop .p) (c .before .before .before .before .before .before .before .before .before .before .before .loop .i) _ _ _ _ (c .before .before .before .before .before .before .before .once .result) (c .before .before .before .before .before .before .before .before .before .before .loop-test .taken) (c .before .before .before .before .before .before .before .before .before .before .before .loop .inv .0) (c .before .before .before .before .before .before .before .once .ensures (c .before .before .before .before .before .before .before .before .before .before .before .loop .inv .0 .places) (c .before .before .before .before .before .before .before .before .before .before .before .loop .inv .0 .held)) (not-false (c .before .before .before .before .before .before .before .once .result) (c .before .before .if1 .left)) _ (c .part .ensures .0), c .part .ensures .1, c .before .before .before .before .before .before .before .once .kept .1 .1 .1 .1 .0 ∙ c .before .before .before .before .before .before .before .before .before .before .before .loop .inv .2, c .before .before .before .before .before .before .before .once .kept .1 .1 .1 .1 .1 .0 ∙ c .before .before .before .before .before .before .before .before .before .before .before .loop .inv .3)
+loop-again c =
+    let c₇ = c .before .before .before .before .before .before .before in let once = c₇ .once in
+    let c₁₀ = c₇ .before .before .before in let loop-test = c₁₀ .loop-test in
+    let c₁₁ = c₁₀ .before in let loop = c₁₁ .loop in
+    let c₁₈ = c₁₁ .before .before .before .before .before .before .before in let args = c₁₈ .args in
+    (left-next (now (args .text)) (now (args .kinds)) (now (args .starts)) (now (args .lengths)) (loop .p) (loop .i) _ _ _ _ (once .result) (loop-test .taken) (loop .inv .0) (once .ensures (loop .inv .0 .places) (loop .inv .0 .held)) (not-false (once .result) (c .before .before .if1 .left)) _ (c .part .ensures .0), c .part .ensures .1, once .kept .1 .1 .1 .1 .0 ∙ loop .inv .2, once .kept .1 .1 .1 .1 .1 .0 ∙ loop .inv .3)
 
--- src/lib.rt:282:1
 same-length-3 : tie.Need-same-length-3 Inv-loop μ-loop
 same-length-3 c = search needs
 
--- src/lib.rt:282:1
 same-length-4 : tie.Need-same-length-4 Inv-loop μ-loop
 same-length-4 c = search needs
 
--- src/lib.rt:282:1
 returns-2 : tie.Need-returns-2 Inv-loop μ-loop
-returns-2 c = left-end (now (c .before .before .before .before .before .before .before .before .args .text)) (now (c .before .before .before .before .before .before .before .before .args .kinds)) (now (c .before .before .before .before .before .before .before .before .args .starts)) (now (c .before .before .before .before .before .before .before .before .args .lengths)) (c .before .loop .p) (c .before .loop .i) _ _ (c .loop-test .left) (c .before .loop .inv .0)
+returns-2 c =
+    let c₁ = c .before in let loop = c₁ .loop in
+    let c₈ = c₁ .before .before .before .before .before .before .before in let args = c₈ .args in
+    left-end (now (args .text)) (now (args .kinds)) (now (args .starts)) (now (args .lengths)) (loop .p) (loop .i) _ _ (c .loop-test .left) (loop .inv .0)
 
 pub unique-with-spec : {M : Type 1} → statement M
 unique-with-spec =
