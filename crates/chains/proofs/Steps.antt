@@ -201,3 +201,50 @@ module _ (k : ℕ → ℤ) (n at : ℕ) (table : List ℕ) (built : Built (λ (j
 pub built-kept : (b : ℕ → ℕ) (n at : ℕ) (c c′ : List ℕ) → ((i : ℕ) → at ≤ i → i < at + 1024 + n → getD c′ i 0 ≡ getD c i 0) → Built b n at c → Built b n at c′
 built-kept b n at c c′ k x =
     record { first = λ h l. rw (k (at + h) (omega arith) (omega arith)) (x .first h l); next = λ i l. rw (k (at + 1024 + i) (omega arith) (omega arith)) (x .next i l) }
+
+-- one row more without the value x
+pub looked : (k : ℕ → ℤ) (x y : ℤ) (from j : ℕ) (t : Bool) → ((i : ℕ) → from ≤ i → i < j → same (k i) x ≡ true → ⊥) → y ≡ k j → t ≡ same y x → t ≡ false → (i : ℕ) → from ≤ i → i < j + 1 → same (k i) x ≡ true → ⊥
+looked k x y from j t f ey et ef i a b h = go (eqb i j) refl
+  where
+    go : (d : Bool) → eqb i j ≡ d → ⊥
+    go true e = clash (sym (sym h ∙ ap (λ (m : ℕ). same (k m) x) (eqb-true i j e) ∙ ap (λ (z : ℤ). same z x) (sym ey) ∙ sym et ∙ ef))
+    go false e = f i a (omega (arith, eqb-false i j e)) h
+
+-- a chain that is followed from its head to the first row from `from` on
+pub record Entering (P : ℕ → Type 0) (from n link : ℕ) : Type 0 where
+  pub low : ℕ
+  pub before : low ≤ from
+  pub first : First P low n link
+
+pub entering-start : (P : ℕ → Type 0) (from n link : ℕ) → First P 0 n link → Entering P from n link
+entering-start P from n link f = record { low = 0; before = omega arith; first = f }
+
+pub entering-there : (P : ℕ → Type 0) (from n link : ℕ) → from < link → Entering P from n link → First P from n link
+entering-there P from n link h e =
+    record { none = λ z j _ _ _. absurd (omega arith); least = λ j a b. e .first .least j (omega (arith, e .before)) b; here = e .first .here; low = λ _. h; high = e .first .high }
+
+pub entering-none : (k : ℕ → ℤ) (x y : ℤ) → y ≡ x → (from n to link : ℕ) → link ≡ 0 → Entering (λ (j : ℕ). bucketOf (k j) ≡ bucketOf y) from n link → to ≤ n → (j : ℕ) → from ≤ j → j < to → same (k j) x ≡ true → ⊥
+entering-none k x y ey from n to link z e l j a b h = e .first .none z j (omega (arith, e .before)) (omega arith) (same-bucket (k j) x h ∙ ap bucketOf (sym ey))
+
+pub entering-step : (b : ℕ → ℕ) (h from n link to : ℕ) → 0 < link → link ≤ from → Entering (λ (j : ℕ). b j ≡ h) from n link → First (λ (j : ℕ). b j ≡ b (link - 1)) (link - 1 + 1) n to → Entering (λ (j : ℕ). b j ≡ h) from n to
+entering-step b h from n link to p l e f =
+    record { low = link - 1 + 1; before = omega arith; first = transport (ap (λ (m : ℕ). First (λ (j : ℕ). b j ≡ m) (link - 1 + 1) n to) (e .first .here (link - 1) (omega arith))) f }
+
+-- the row that a link gives, where it is before `to`
+pub found-before : (k : ℕ → ℤ) (x y : ℤ) → y ≡ x → (from n to link r i : ℕ) → First (λ (j : ℕ). bucketOf (k j) ≡ bucketOf y) from n link → ((g : ℕ) → First (λ (j : ℕ). bucketOf (k j) ≡ bucketOf y) g n link → First (λ (j : ℕ). same (k j) y ≡ true) g n r)
+    → from ≤ to → to ≤ n → (i ≤ to) × ((r ≡ 0 → i ≡ to) × ((0 < r → r ≤ to → i + 1 ≡ r) × (to < r → i ≡ to))) → ((from ≤ i) × (i ≤ to)) × ((j : ℕ) → from ≤ j → j < i → same (k j) x ≡ true → ⊥)
+found-before k x y e from n to link r i f g h l w = ((low r (g from f) (w .1) (ltb to r) refl, w .0), λ j a b p. go r (g from f) (w .1) (ltb to r) refl j a b (ap (λ (z : ℤ). same (k j) z) e ∙ p))
+  where
+    low : (r : ℕ) → First (λ (j : ℕ). same (k j) y ≡ true) from n r → (r ≡ 0 → i ≡ to) × ((0 < r → r ≤ to → i + 1 ≡ r) × (to < r → i ≡ to)) → (d : Bool) → ltb to r ≡ d → from ≤ i
+    low zero f w d q = omega (arith, w .0 refl)
+    low (suc r) f w true q = omega (arith, w .1 .1 (ltb-true to (suc r) q))
+    low (suc r) f w false q = omega (arith, w .1 .0 (omega arith) (ltb-false to (suc r) q), f .low (omega arith))
+
+    go : (r : ℕ) → First (λ (j : ℕ). same (k j) y ≡ true) from n r → (r ≡ 0 → i ≡ to) × ((0 < r → r ≤ to → i + 1 ≡ r) × (to < r → i ≡ to)) → (d : Bool) → ltb to r ≡ d → (j : ℕ) → from ≤ j → j < i → same (k j) y ≡ true → ⊥
+    go zero f w d q j a b = f .none refl j a (omega (arith, w .0 refl))
+    go (suc r) f w true q j a b = f .least j a (omega (arith, w .1 .1 (ltb-true to (suc r) q), ltb-true to (suc r) q))
+    go (suc r) f w false q j a b = f .least j a (omega (arith, w .1 .0 (omega arith) (ltb-false to (suc r) q)))
+
+-- rows without the value, as the code has it
+pub without : (k : ℕ → ℤ) (x y : ℤ) → y ≡ x → (from r : ℕ) → ((j : ℕ) → from ≤ j → j < r → same (k j) y ≡ true → ⊥) → (j : ℕ) → from ≤ j → j < r → same (k j) x ≡ true → ⊥
+without k x y e from r f j a b h = f j a b (ap (λ (z : ℤ). same (k j) z) e ∙ h)

@@ -4,13 +4,14 @@ use Prim.Native.Nat.{ℕ, zero, suc, _+_, _-_, _/_, _%_, _≤_, _<_}
 use mathlib.Core.Path.{_≡_}
 use mathlib.Core.Bool.{Bool, _&&_}
 use mathlib.Core.List.{List}
-use lib.IntN.{ℤ}
+use lib.IntN.{ℤ, natAbs}
 use lib.Signed.{leZ}
 use lib.ListN.{getD}
 use Rattle.rows.specs.Chains.{mixed}
 use Rattle.catalogue.specs.Layout.{tupleAt}
 use Rattle.walks.specs.declared.Walk.{Walk}
 use Rattle.walks.specs.Walks.{placeAt}
+use Rattle.chains.specs.declared.Entry.{Entry}
 
 abbrev pub same : ℤ → ℤ → Bool
 same x y = leZ x y && leZ y x
@@ -42,6 +43,12 @@ Nexts b n nexts table = (i : ℕ) → i < n → First (λ (j : ℕ). b j ≡ b i
 pub record Built (b : ℕ → ℕ) (n at : ℕ) (table : List ℕ) : Type 0 where
   pub first : (h : ℕ) → h < 1024 → First (λ (j : ℕ). b j ≡ h) 0 n (getD table (at + h) 0)
   pub next : Nexts b n (at + 1024) table
+
+-- where rows with a value stand in a chain
+pub record Entered (x : Entry) (vs : List ℤ) (ws : List ℕ) (walk : Walk) (table : List ℕ) : Type 0 where
+  pub place : x .at ≤ 65539
+  pub small : natAbs (x .value) ≤ 140735340871680
+  pub built : Built (bucketAt vs ws walk (x .attribute)) (walk .count) (x .at) table
 
 -- nothing but the numbers from a on and below e has changed
 abbrev pub Outside : ℕ → ℕ → List ℕ → List ℕ → Type 0

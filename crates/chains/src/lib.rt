@@ -120,3 +120,107 @@ fn row_of(link: usize, rows: usize) -> usize
 {
     if link == 0 { rows } else { link - 1 }
 }
+
+// What a chain is followed by: where it stands, the attribute, and the value that is looked for.
+pub struct Entry {
+    pub at: usize,
+    pub attribute: usize,
+    pub value: i64,
+}
+
+// The first row from `from` on and below `to` with the value x, by a look at each; `to` where there is none.
+fn look(
+    values: &[i32],
+    walks: &[u16],
+    walk: Walk,
+    attribute: usize,
+    x: i64,
+    from: usize,
+    to: usize,
+) -> usize
+    requires { ⌜ Fits walk × (from ≤ to) × (to ≤ walk .count) ⌝ }
+    ensures { λ r. ⌜ (from ≤ r) × (r ≤ to) ⌝ }
+    ensures { λ r. ⌜ ((j : ℕ) → from ≤ j → j < r → C.same (C.keyAt (now (values .entry)) (now (walks .entry)) walk attribute j) x ≡ true → ⊥) ⌝ }
+{
+    let mut j = from;
+    while j < to {
+        if equal(key(values, walks, walk, attribute, j), x) {
+            return j;
+        }
+        j += 1;
+    }
+    j
+}
+
+// The row of a link, where it is before `to`.
+fn row_before(link: usize, to: usize) -> usize
+    ensures { λ r. ⌜ (r ≤ to) × ((link ≡ 0 → r ≡ to) × ((0 < link → link ≤ to → r + 1 ≡ link) × (to < link → r ≡ to))) ⌝ }
+{
+    if link == 0 {
+        return to;
+    }
+    if link <= to { link - 1 } else { to }
+}
+
+// The same by the chain, entered at its head. It may have many rows before `from`, so no more than eight are passed by it.
+fn reach(
+    values: &[i32],
+    walks: &[u16],
+    walk: Walk,
+    attribute: usize,
+    x: i64,
+    chains: &[u16],
+    at: usize,
+    from: usize,
+    to: usize,
+) -> usize
+    requires { ⌜ Fits walk × (at ≤ 65539) × (from ≤ to) × (to ≤ walk .count) × C.Built (C.bucketAt (now values) (now walks) walk attribute) (walk .count) at (now chains) ⌝ }
+    ensures { λ r. ⌜ (from ≤ r) × (r ≤ to) ⌝ }
+    ensures { λ r. ⌜ ((j : ℕ) → from ≤ j → j < r → C.same (C.keyAt (now (values .entry)) (now (walks .entry)) walk attribute j) x ≡ true → ⊥) ⌝ }
+{
+    let nexts = at + 1024;
+    let mut link = kinds::size_at(chains, at + bucket(x));
+    let mut left: usize = 8;
+    while 0 < left {
+        if link == 0 {
+            return to;
+        }
+        if from < link {
+            let r = next_equal(values, walks, walk, attribute, x, chains, nexts, link);
+            return row_before(r, to);
+        }
+        link = kinds::size_at(chains, nexts + (link - 1));
+        left -= 1;
+    }
+    look(values, walks, walk, attribute, x, from, to)
+}
+
+// The first row from `from` on that one of two chains has; where there is none, the count of rows. Behind a row of one of them the other is followed
+// no further than to the next.
+pub fn either(
+    values: &[i32],
+    walks: &[u16],
+    walk: Walk,
+    one: Entry,
+    two: Entry,
+    chains: &[u16],
+    from: usize,
+) -> usize
+    requires { ⌜ Fits walk × (from ≤ walk .count) × C.Entered one (now values) (now walks) walk (now chains) × C.Entered two (now values) (now walks) walk (now chains) ⌝ }
+    ensures { λ r. ⌜ (from ≤ r) × (r ≤ walk .count) ⌝ }
+    ensures { λ r. ⌜ ((j : ℕ) → from ≤ j → j < r → C.same (C.keyAt (now (values .entry)) (now (walks .entry)) walk (one .attribute) j) (one .value) ≡ true → ⊥) ⌝ }
+    ensures { λ r. ⌜ ((j : ℕ) → from ≤ j → j < r → C.same (C.keyAt (now (values .entry)) (now (walks .entry)) walk (two .attribute) j) (two .value) ≡ true → ⊥) ⌝ }
+{
+    let a = one.attribute;
+    let x = one.value;
+    let p = one.at;
+    let b = two.attribute;
+    let y = two.value;
+    let r = two.at;
+    let to = find(values, walks, walk, a, x, chains, p, from);
+    if from < to {
+        return reach(values, walks, walk, b, y, chains, r, from, to);
+    }
+    let end = find(values, walks, walk, b, y, chains, r, from);
+    reach(values, walks, walk, a, x, chains, p, from, end)
+}
