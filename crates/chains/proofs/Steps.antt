@@ -13,7 +13,7 @@ use lib.Seq.{getD-set-same, getD-set-other}
 use borrow.Author.Tests.{eqb-true, eqb-false, ltb-true, ltb-false, leb-true, le-leb}
 use Rattle.rows.specs.Chains.{mixed}
 use Rattle.model.proofs.Tests.{clash, and-inv}
-use Rattle.chains.specs.Chains.{First, Built, Nexts, Outside, same, bucketOf, left}
+use Rattle.chains.specs.Chains.{First, Passing, Built, Nexts, Outside, same, bucketOf, left}
 
 -- values that are the same are equal
 pub same-equal : (x y : ℤ) → same x y ≡ true → x ≡ y
@@ -210,40 +210,31 @@ looked k x y from j t f ey et ef i a b h = go (eqb i j) refl
     go true e = clash (sym (sym h ∙ ap (λ (m : ℕ). same (k m) x) (eqb-true i j e) ∙ ap (λ (z : ℤ). same z x) (sym ey) ∙ sym et ∙ ef))
     go false e = f i a (omega (arith, eqb-false i j e)) h
 
--- a chain that is followed from its head to the first row from `from` on
-pub record Entering (P : ℕ → Type 0) (from n link : ℕ) : Type 0 where
-  pub low : ℕ
-  pub before : low ≤ from
-  pub first : First P low n link
+-- a chain that is entered at or before `from`, and followed link by link
+module _ (k : ℕ → ℤ) (x : ℤ) where
+  pub passing-start : (low from n link : ℕ) → low ≤ from → First (λ (j : ℕ). bucketOf (k j) ≡ bucketOf x) low n link → Passing k x from n link
+  passing-start low from n link l f =
+      record { none = λ e j a b h. f .none e j (omega arith) b (same-bucket (k j) x h); least = λ j a b h. f .least j (omega arith) b (same-bucket (k j) x h); bucket = f .here; high = f .high }
 
-pub entering-start : (P : ℕ → Type 0) (from n link : ℕ) → First P 0 n link → Entering P from n link
-entering-start P from n link f = record { low = 0; before = omega arith; first = f }
+  pub passing-step : (from n i link to : ℕ) → link ≡ i + 1 → Passing k x from n link → (from < link → same (k i) x ≡ true → ⊥) → First (λ (j : ℕ). bucketOf (k j) ≡ bucketOf (k i)) (i + 1) n to → Passing k x from n to
+  passing-step from n i link to e p never f =
+      record { none = λ z j a b. go j a (λ g q. f .none z j g b q) (ltb (j + 1) link) refl; least = λ j a b. go j a (λ g q. f .least j g b q) (ltb (j + 1) link) refl; bucket = λ j q. f .here j q ∙ p .bucket i e; high = f .high }
+    where
+      further : (j : ℕ) → from ≤ j → i ≤ j → (i + 1 ≤ j → bucketOf (k j) ≡ bucketOf (k i) → ⊥) → same (k j) x ≡ true → (b : Bool) → eqb i j ≡ b → ⊥
+      further j c a g h true q = never (omega (arith, eqb-true i j q)) (ap (λ (m : ℕ). same (k m) x) (eqb-true i j q) ∙ h)
+      further j c a g h false q = g (omega (arith, eqb-false i j q)) (same-bucket (k j) x h ∙ sym (p .bucket i e))
 
-pub entering-there : (P : ℕ → Type 0) (from n link : ℕ) → from < link → Entering P from n link → First P from n link
-entering-there P from n link h e =
-    record { none = λ z j _ _ _. absurd (omega arith); least = λ j a b. e .first .least j (omega (arith, e .before)) b; here = e .first .here; low = λ _. h; high = e .first .high }
+      go : (j : ℕ) → from ≤ j → (i + 1 ≤ j → bucketOf (k j) ≡ bucketOf (k i) → ⊥) → (b : Bool) → ltb (j + 1) link ≡ b → same (k j) x ≡ true → ⊥
+      go j a g true q h = p .least j a (ltb-true (j + 1) link q) h
+      go j a g false q h = further j a (omega (arith, ltb-false (j + 1) link q)) g h (eqb i j) refl
 
-pub entering-none : (k : ℕ → ℤ) (x y : ℤ) → y ≡ x → (from n to link : ℕ) → link ≡ 0 → Entering (λ (j : ℕ). bucketOf (k j) ≡ bucketOf y) from n link → to ≤ n → (j : ℕ) → from ≤ j → j < to → same (k j) x ≡ true → ⊥
-entering-none k x y ey from n to link z e l j a b h = e .first .none z j (omega (arith, e .before)) (omega arith) (same-bucket (k j) x h ∙ ap bucketOf (sym ey))
-
-pub entering-step : (b : ℕ → ℕ) (h from n link to : ℕ) → 0 < link → link ≤ from → Entering (λ (j : ℕ). b j ≡ h) from n link → First (λ (j : ℕ). b j ≡ b (link - 1)) (link - 1 + 1) n to → Entering (λ (j : ℕ). b j ≡ h) from n to
-entering-step b h from n link to p l e f =
-    record { low = link - 1 + 1; before = omega arith; first = transport (ap (λ (m : ℕ). First (λ (j : ℕ). b j ≡ m) (link - 1 + 1) n to) (e .first .here (link - 1) (omega arith))) f }
-
--- the row that a link gives, where it is before `to`
-pub found-before : (k : ℕ → ℤ) (x y : ℤ) → y ≡ x → (from n to link r i : ℕ) → First (λ (j : ℕ). bucketOf (k j) ≡ bucketOf y) from n link → ((g : ℕ) → First (λ (j : ℕ). bucketOf (k j) ≡ bucketOf y) g n link → First (λ (j : ℕ). same (k j) y ≡ true) g n r)
-    → from ≤ to → to ≤ n → (i ≤ to) × ((r ≡ 0 → i ≡ to) × ((0 < r → r ≤ to → i + 1 ≡ r) × (to < r → i ≡ to))) → ((from ≤ i) × (i ≤ to)) × ((j : ℕ) → from ≤ j → j < i → same (k j) x ≡ true → ⊥)
-found-before k x y e from n to link r i f g h l w = ((low r (g from f) (w .1) (ltb to r) refl, w .0), λ j a b p. go r (g from f) (w .1) (ltb to r) refl j a b (ap (λ (z : ℤ). same (k j) z) e ∙ p))
-  where
-    low : (r : ℕ) → First (λ (j : ℕ). same (k j) y ≡ true) from n r → (r ≡ 0 → i ≡ to) × ((0 < r → r ≤ to → i + 1 ≡ r) × (to < r → i ≡ to)) → (d : Bool) → ltb to r ≡ d → from ≤ i
-    low zero f w d q = omega (arith, w .0 refl)
-    low (suc r) f w true q = omega (arith, w .1 .1 (ltb-true to (suc r) q))
-    low (suc r) f w false q = omega (arith, w .1 .0 (omega arith) (ltb-false to (suc r) q), f .low (omega arith))
-
-    go : (r : ℕ) → First (λ (j : ℕ). same (k j) y ≡ true) from n r → (r ≡ 0 → i ≡ to) × ((0 < r → r ≤ to → i + 1 ≡ r) × (to < r → i ≡ to)) → (d : Bool) → ltb to r ≡ d → (j : ℕ) → from ≤ j → j < i → same (k j) y ≡ true → ⊥
-    go zero f w d q j a b = f .none refl j a (omega (arith, w .0 refl))
-    go (suc r) f w true q j a b = f .least j a (omega (arith, w .1 .1 (ltb-true to (suc r) q), ltb-true to (suc r) q))
-    go (suc r) f w false q j a b = f .least j a (omega (arith, w .1 .0 (omega arith) (ltb-false to (suc r) q)))
+  -- the row of a link, where it is before `to`
+  pub passing-here : (from n to link i : ℕ) → Passing k x from n link → from < link → from ≤ to → (i ≤ to) × ((link ≡ 0 → i ≡ to) × ((0 < link → link ≤ to → i + 1 ≡ link) × (to < link → i ≡ to))) → ((from ≤ i) × (i ≤ to)) × ((j : ℕ) → from ≤ j → j < i → same (k j) x ≡ true → ⊥)
+  passing-here from n to link i p l h w = go (ltb to link) refl
+    where
+      go : (b : Bool) → ltb to link ≡ b → ((from ≤ i) × (i ≤ to)) × ((j : ℕ) → from ≤ j → j < i → same (k j) x ≡ true → ⊥)
+      go true q = let e = w .1 .1 .1 (ltb-true to link q) in ((omega (arith, e), w .0), λ j a b. p .least j a (omega (arith, e, ltb-true to link q)))
+      go false q = let e = w .1 .1 .0 (omega arith) (ltb-false to link q) in ((omega (arith, e), w .0), λ j a b. p .least j a (omega (arith, e)))
 
 -- rows without the value, as the code has it
 pub without : (k : ℕ → ℤ) (x y : ℤ) → y ≡ x → (from r : ℕ) → ((j : ℕ) → from ≤ j → j < r → same (k j) y ≡ true → ⊥) → (j : ℕ) → from ≤ j → j < r → same (k j) x ≡ true → ⊥

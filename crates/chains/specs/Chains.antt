@@ -2,7 +2,7 @@
 -- its bucket. A link is 0, or one more than the number of a row in the walk, so it tells how far a walk would have gone.
 use Prim.Native.Nat.{ℕ, zero, suc, _+_, _-_, _/_, _%_, _≤_, _<_}
 use mathlib.Core.Path.{_≡_}
-use mathlib.Core.Bool.{Bool, _&&_}
+use mathlib.Core.Bool.{Bool, true, _&&_}
 use mathlib.Core.List.{List}
 use lib.IntN.{ℤ, natAbs}
 use lib.Signed.{leZ}
@@ -33,6 +33,13 @@ pub record First (P : ℕ → Type 0) (from n link : ℕ) : Type 0 where
   pub least : (j : ℕ) → from ≤ j → j + 1 < link → P j → ⊥
   pub here : (j : ℕ) → link ≡ j + 1 → P j
   pub low : 0 < link → from < link
+  pub high : link ≤ n
+
+-- a walk along a chain that has passed no row with the value x from `from` on: k has the values of the rows
+pub record Passing (k : ℕ → ℤ) (x : ℤ) (from n link : ℕ) : Type 0 where
+  pub none : link ≡ 0 → (j : ℕ) → from ≤ j → j < n → same (k j) x ≡ true → ⊥
+  pub least : (j : ℕ) → from ≤ j → j + 1 < link → same (k j) x ≡ true → ⊥
+  pub bucket : (j : ℕ) → link ≡ j + 1 → bucketOf (k j) ≡ bucketOf x
   pub high : link ≤ n
 
 -- after each row the next of its bucket

@@ -8,6 +8,7 @@ use native.Mathlib.Omega.{arith}
 use lib.IntN.{ℤ, pos, _*ℤ_, natAbs, one, *ℤ-one}
 use lib.Signed.{leZ}
 use lib.ListN.{getD}
+use borrow.Author.Tests.{lt-ltb, le-ltb}
 use Rattle.model.specs.Meaning as M
 use Rattle.model.specs.Meaning.{Assignment, Tuple, whole, compare}
 use Rattle.model.proofs.Tests.{clash}
@@ -21,7 +22,7 @@ use Rattle.model.specs.Lists.{update}
 use Rattle.evaluator.specs.Evaluation.{assigned}
 use Rattle.chains.specs.Chains.{same, bucketAt, Built}
 use Rattle.seeks.specs.declared.Key.{Key}
-use Rattle.seeks.specs.Keys.{Tells, Decides, Chain, Faithful}
+use Rattle.seeks.specs.Keys.{Tells, Decides, onward, Chain, Faithful}
 use Rattle.seeks.proofs.Steps.{left-fails, right-fails, branch-fails, start-fails}
 
 abbrev pub Bounded : Key → Type 0
@@ -93,6 +94,21 @@ differs u x y ex e1 h =
     no true h = absurd (h refl)
     no false h = refl
 
+-- a branch and the number of a side in one
+pub onward-low : (m : ℕ) → m < 256 → 1 ≡ onward m
+onward-low m h = rw (lt-ltb m 256 h)
+
+pub onward-high : (m : ℕ) → 256 ≤ m → m / 256 ≡ onward m
+onward-high m h = rw (le-ltb m 256 h)
+
+pub marked-alone : (n o : ℕ) → n ≤ 255 → o ≡ 1 → (onward n ≡ o) × (n % 256 ≡ n) × (n ≤ 65535)
+marked-alone n o h e = (sym (onward-low n (omega arith)) ∙ sym e, omega arith, omega arith)
+
+pub marked : (n o : ℕ) → n ≤ 255 → 1 ≤ o → o ≤ 63 → (o ≡ 1 → ⊥) → (onward (n + 256 * o) ≡ o) × ((n + 256 * o) % 256 ≡ n) × (n + 256 * o ≤ 65535)
+marked n o h l k ne =
+    let w : (n + 256 * o) / 256 ≡ o = omega arith in
+    (sym (onward-high (n + 256 * o) (omega arith)) ∙ w, omega arith, omega arith)
+
 -- the chain of a table
 module _ (t ws : List ℕ) (vs : List ℤ) (chains : List ℕ) where
   pub chain-here : Faithful t ws vs chains → (s at v : ℕ) → (at ≡ 0 → ⊥) → ((at ≡ 0 → ⊥) → (s < 64) × ((at ≡ getD chains s 0) × (getD chains at 0 ≡ v))) → Chain t ws vs chains s at
@@ -104,12 +120,19 @@ module _ (t ws : List ℕ) (vs : List ℤ) (chains : List ℕ) where
     pub chain-built : (walk : Walk) → walk ≡ walkOf ws v → Built (bucketAt vs ws walk a) (walk .count) (at + 4) chains
     chain-built walk ew = rw (ew, ea, sym ev) (chain .built)
 
-    pub chain-decides : (p m o : ℕ) → p ≡ getD chains (at + 1) 0 → m ≡ getD chains (at + 2) 0 → o ≡ m / 256 → Decides t s o v p (m % 256) a
+    pub chain-decides : (p m o : ℕ) → p ≡ getD chains (at + 1) 0 → m ≡ getD chains (at + 2) 0 → o ≡ onward m → Decides t s o v p (m % 256) a
     chain-decides p m o ep em eo = rw (eo, ep, em, ea, sym ev) (chain .decides)
 
     -- entered with a whole value
-    module _ (p m o : ℕ) (ep : p ≡ getD chains (at + 1) 0) (em : m ≡ getD chains (at + 2) 0) (eo : o ≡ m / 256) (xs memo : List ℤ) (env : List ℕ) (x : Ratio)
+    module _ (p m o : ℕ) (ep : p ≡ getD chains (at + 1) 0) (em : m ≡ getD chains (at + 2) 0) (eo : o ≡ onward m) (xs memo : List ℤ) (env : List ℕ) (x : Ratio)
         (ex : valueOf x ≡ operand memo (getD t p 0) (getD t (p + 1) 0) (getD xs (m % 256) (pos 0)) (assigned vs env)) (e1 : x .denominator ≡ pos 1) where
       pub chain-fails : (y : ℤ) → y ≡ x .numerator → (q z us : List ℕ) (row : Tuple) → (same (row a) y ≡ true → ⊥) → runs t xs q z us vs memo o (update (assigned vs env) v row) ≡ false → runs t xs q z us vs memo s (update (assigned vs env) v row) ≡ false
       chain-fails y ey q z us row h =
           chain-decides p m o ep em eo xs q z us vs memo (assigned vs env) row (differs (row a) x _ ex e1 (λ k. h (ap (same (row a)) ey ∙ k)))
+
+    -- the same where nothing leads on
+    pub chain-alone : (p m : ℕ) → p ≡ getD chains (at + 1) 0 → m ≡ getD chains (at + 2) 0 → m ≤ 255 → (xs memo : List ℤ) (env : List ℕ) (x : Ratio)
+        → valueOf x ≡ operand memo (getD t p 0) (getD t (p + 1) 0) (getD xs m (pos 0)) (assigned vs env) → x .denominator ≡ pos 1 → (y : ℤ) → y ≡ x .numerator → (q z us : List ℕ) (row : Tuple) → (same (row a) y ≡ true → ⊥) → runs t xs q z us vs memo s (update (assigned vs env) v row) ≡ false
+    chain-alone p m ep em l xs memo env x ex e1 y ey q z us row h =
+        let n : m ≡ m % 256 = omega arith in
+        chain-fails p m 1 ep em (onward-low m (omega arith)) xs memo env x (ex ∙ ap (λ (k : ℕ). operand memo (getD t p 0) (getD t (p + 1) 0) (getD xs k (pos 0)) (assigned vs env)) n) e1 y ey q z us row h (runs-1 t xs q z us vs memo (update (assigned vs env) v row))

@@ -7,7 +7,7 @@ ghost use mathlib.Core.Path.{_≡_};
 ghost use mathlib.Core.Bool.{true, false};
 ghost use mathlib.Core.List.{List, [], _∷_};
 ghost use mathlib.Core.Option.{some};
-ghost use Prim.Native.Nat.{ℕ, _+_, _*_, _≤_, _<_};
+ghost use Prim.Native.Nat.{ℕ, _+_, _*_, _%_, _≤_, _<_};
 ghost use lib.IntN.{pos, natAbs, _*ℤ_};
 ghost use lib.ListN.{length, getD};
 ghost use lib.Seq.{sets};
@@ -249,14 +249,33 @@ fn pays(rows: usize, end: usize, length: usize) -> bool
     end <= length
 }
 
+// The number of a side and a branch in one: the number alone where the branch is 1.
+fn mark(number: usize, other: usize) -> usize
+    requires { ⌜ (number ≤ 255) × (1 ≤ other) × (other ≤ 63) ⌝ }
+    ensures { λ r. ⌜ (K.onward r ≡ other) × (r % 256 ≡ number) × (r ≤ 65535) ⌝ }
+{
+    if other == 1 {
+        number
+    } else {
+        number + 256 * other
+    }
+}
+
+// The branch of such a number.
+fn onward(mark: usize) -> usize
+    ensures { λ r. ⌜ r ≡ K.onward mark ⌝ }
+{
+    if mark < 256 { 1 } else { mark / 256 }
+}
+
 // What a chain is for.
-fn head(chains: &mut [u16], at: usize, variable: u8, key: Key)
-    requires { ⌜ (at + 4 ≤ length (now chains)) × (at ≤ 65535) × (key .place ≤ 65535) × (key .number ≤ 255) × (key .attribute ≤ 65535) × (key .other ≤ 63) ⌝ }
-    ensures { λ _. ⌜ now (chains .exit) ≡ sets (now (chains .entry)) at (variable ∷ key .place ∷ (key .number + 256 * key .other) ∷ key .attribute ∷ []) ⌝ }
+fn head(chains: &mut [u16], at: usize, variable: u8, number: usize, key: Key)
+    requires { ⌜ (at + 4 ≤ length (now chains)) × (at ≤ 65535) × (key .place ≤ 65535) × (number ≤ 65535) × (key .attribute ≤ 65535) ⌝ }
+    ensures { λ _. ⌜ now (chains .exit) ≡ sets (now (chains .entry)) at (variable ∷ key .place ∷ number ∷ key .attribute ∷ []) ⌝ }
 {
     chains[at] = wide(variable);
     chains[at + 1] = narrow(key.place);
-    chains[at + 2] = narrow(key.number + 256 * key.other);
+    chains[at + 2] = narrow(number);
     chains[at + 3] = narrow(key.attribute);
 }
 
@@ -272,7 +291,7 @@ fn add_key(
     chains: &mut [u16],
     free: usize,
 ) -> usize
-    requires { ⌜ (start < 64) × (other < 64) × K.Filling free (now t) (now walks) (now values) (now chains) ⌝ }
+    requires { ⌜ (start < 64) × (1 ≤ other) × (other < 64) × K.Filling free (now t) (now walks) (now values) (now chains) ⌝ }
     ensures { λ r. ⌜ K.Filling r (now (t .entry)) (now (walks .entry)) (now (values .entry)) (now (chains .exit)) ⌝ }
 {
     let key = key_of(t, start, variable);
@@ -288,7 +307,7 @@ fn add_key(
     if !pays(walk.count, end, chains.len()) {
         return free;
     }
-    head(chains, free, variable, key);
+    head(chains, free, variable, mark(key.number, other), key);
     chains::build(values, walks, walk, attribute, chains, free + 4);
     chains[start] = narrow(free);
     end
@@ -472,7 +491,7 @@ fn enter(
         return nowhere();
     }
     let mark = kinds::size_at(chains, at + 2);
-    if mark / 256 != other {
+    if onward(mark) != other {
         return nowhere();
     }
     let place = kinds::size_at(chains, at + 1);
@@ -543,8 +562,8 @@ pub fn seek(
     }
     let place = kinds::size_at(chains, at + 1);
     let mark = kinds::size_at(chains, at + 2);
-    let other = mark / 256;
-    if other != 1 {
+    if 255 < mark {
+        let other = mark / 256;
         return seek_either(
             t,
             xs,
@@ -560,7 +579,7 @@ pub fn seek(
             from,
         );
     }
-    let x = branches::side(t, place, xs, mark % 256, values, memo, env);
+    let x = branches::side(t, place, xs, mark, values, memo, env);
     let n = x.numerator;
     if !is_one(x.denominator) {
         return pass(t, xs, start, variable, walks, walk, values, memo, env, from);
