@@ -20,7 +20,7 @@ HEADER = dict(
 )
 SPECS = "\n".join(
     re.sub(r"--.*", "", open(name, encoding="utf-8").read())
-    for crate in ("model", "output")
+    for crate in ("model", "program")
     for name in sorted(glob.glob(os.path.join(ROOT, "crates", crate, "specs", "*.antt")))
 )
 failures = []

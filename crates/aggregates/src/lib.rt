@@ -124,7 +124,7 @@ fn take(
     taken
 }
 
-// The same where the conjuncts ask for rows of other variables: those are chained, up to two of 1,024 rows.
+// The same where the conjuncts ask for rows of other variables: those of the first that has eight or more are chained.
 fn take_linked(
     t: &[u16],
     xs: &[i32],
@@ -142,7 +142,7 @@ fn take_linked(
     ensures { λ r. ⌜ r .count ≤ 65535 ⌝ }
     ensures { λ _. ⌜ now (env .exit) ≡ now (env .entry) ⌝ }
 {
-    let mut chains = [0u16; 4168];
+    let mut chains = [0u16; 2116];
     seeks::add_searches(t, walks, vs, &mut chains, 64);
     take(
         t,

@@ -16,7 +16,7 @@ use borrow.Author.Tests.{leb-true}
 use Rattle.model.specs.Lists.{all}
 use Rattle.model.specs.Book.{Row, rowsIn, upTo, inRange, displayOf, Book, bookOf}
 use Rattle.model.proofs.Tests.{clash, and-inv}
-use Rattle.labels.proofs.Rows.{rowAt, rows-end, rows-next}
+use Rattle.book.proofs.labels.Rows.{rowAt, rows-end, rows-next}
 use Rattle.book.proofs.Entries.{book-step}
 
 -- a number from 0 to n

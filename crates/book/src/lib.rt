@@ -1,4 +1,6 @@
 // The label book: whether an answer makes one, and if so its offers and its display.
+mod labels;
+
 ghost use mathlib.Core.Path.{_≡_};
 ghost use mathlib.Core.Bool.{true, cond, _&&_};
 ghost use mathlib.Core.List.{[]};

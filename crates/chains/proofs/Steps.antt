@@ -13,7 +13,7 @@ use lib.Seq.{getD-set-same, getD-set-other}
 use borrow.Author.Tests.{eqb-true, eqb-false, ltb-true, ltb-false, leb-true, le-leb}
 use Rattle.rows.specs.Chains.{mixed}
 use Rattle.model.proofs.Tests.{clash, and-inv}
-use Rattle.chains.specs.Chains.{First, Built, Nexts, Outside, same, bucketOf, left}
+use Rattle.chains.specs.Chains.{First, Passing, Built, Nexts, Outside, same, bucketOf, left}
 
 -- values that are the same are equal
 pub same-equal : (x y : ℤ) → same x y ≡ true → x ≡ y
@@ -201,3 +201,41 @@ module _ (k : ℕ → ℤ) (n at : ℕ) (table : List ℕ) (built : Built (λ (j
 pub built-kept : (b : ℕ → ℕ) (n at : ℕ) (c c′ : List ℕ) → ((i : ℕ) → at ≤ i → i < at + 1024 + n → getD c′ i 0 ≡ getD c i 0) → Built b n at c → Built b n at c′
 built-kept b n at c c′ k x =
     record { first = λ h l. rw (k (at + h) (omega arith) (omega arith)) (x .first h l); next = λ i l. rw (k (at + 1024 + i) (omega arith) (omega arith)) (x .next i l) }
+
+-- one row more without the value x
+pub looked : (k : ℕ → ℤ) (x y : ℤ) (from j : ℕ) (t : Bool) → ((i : ℕ) → from ≤ i → i < j → same (k i) x ≡ true → ⊥) → y ≡ k j → t ≡ same y x → t ≡ false → (i : ℕ) → from ≤ i → i < j + 1 → same (k i) x ≡ true → ⊥
+looked k x y from j t f ey et ef i a b h = go (eqb i j) refl
+  where
+    go : (d : Bool) → eqb i j ≡ d → ⊥
+    go true e = clash (sym (sym h ∙ ap (λ (m : ℕ). same (k m) x) (eqb-true i j e) ∙ ap (λ (z : ℤ). same z x) (sym ey) ∙ sym et ∙ ef))
+    go false e = f i a (omega (arith, eqb-false i j e)) h
+
+-- a chain that is entered at or before `from`, and followed link by link
+module _ (k : ℕ → ℤ) (x : ℤ) where
+  pub passing-start : (low from n link : ℕ) → low ≤ from → First (λ (j : ℕ). bucketOf (k j) ≡ bucketOf x) low n link → Passing k x from n link
+  passing-start low from n link l f =
+      record { none = λ e j a b h. f .none e j (omega arith) b (same-bucket (k j) x h); least = λ j a b h. f .least j (omega arith) b (same-bucket (k j) x h); bucket = f .here; high = f .high }
+
+  pub passing-step : (from n i link to : ℕ) → link ≡ i + 1 → Passing k x from n link → (from < link → same (k i) x ≡ true → ⊥) → First (λ (j : ℕ). bucketOf (k j) ≡ bucketOf (k i)) (i + 1) n to → Passing k x from n to
+  passing-step from n i link to e p never f =
+      record { none = λ z j a b. go j a (λ g q. f .none z j g b q) (ltb (j + 1) link) refl; least = λ j a b. go j a (λ g q. f .least j g b q) (ltb (j + 1) link) refl; bucket = λ j q. f .here j q ∙ p .bucket i e; high = f .high }
+    where
+      further : (j : ℕ) → from ≤ j → i ≤ j → (i + 1 ≤ j → bucketOf (k j) ≡ bucketOf (k i) → ⊥) → same (k j) x ≡ true → (b : Bool) → eqb i j ≡ b → ⊥
+      further j c a g h true q = never (omega (arith, eqb-true i j q)) (ap (λ (m : ℕ). same (k m) x) (eqb-true i j q) ∙ h)
+      further j c a g h false q = g (omega (arith, eqb-false i j q)) (same-bucket (k j) x h ∙ sym (p .bucket i e))
+
+      go : (j : ℕ) → from ≤ j → (i + 1 ≤ j → bucketOf (k j) ≡ bucketOf (k i) → ⊥) → (b : Bool) → ltb (j + 1) link ≡ b → same (k j) x ≡ true → ⊥
+      go j a g true q h = p .least j a (ltb-true (j + 1) link q) h
+      go j a g false q h = further j a (omega (arith, ltb-false (j + 1) link q)) g h (eqb i j) refl
+
+  -- the row of a link, where it is before `to`
+  pub passing-here : (from n to link i : ℕ) → Passing k x from n link → from < link → from ≤ to → (i ≤ to) × ((link ≡ 0 → i ≡ to) × ((0 < link → link ≤ to → i + 1 ≡ link) × (to < link → i ≡ to))) → ((from ≤ i) × (i ≤ to)) × ((j : ℕ) → from ≤ j → j < i → same (k j) x ≡ true → ⊥)
+  passing-here from n to link i p l h w = go (ltb to link) refl
+    where
+      go : (b : Bool) → ltb to link ≡ b → ((from ≤ i) × (i ≤ to)) × ((j : ℕ) → from ≤ j → j < i → same (k j) x ≡ true → ⊥)
+      go true q = let e = w .1 .1 .1 (ltb-true to link q) in ((omega (arith, e), w .0), λ j a b. p .least j a (omega (arith, e, ltb-true to link q)))
+      go false q = let e = w .1 .1 .0 (omega arith) (ltb-false to link q) in ((omega (arith, e), w .0), λ j a b. p .least j a (omega (arith, e)))
+
+-- rows without the value, as the code has it
+pub without : (k : ℕ → ℤ) (x y : ℤ) → y ≡ x → (from r : ℕ) → ((j : ℕ) → from ≤ j → j < r → same (k j) y ≡ true → ⊥) → (j : ℕ) → from ≤ j → j < r → same (k j) x ≡ true → ⊥
+without k x y e from r f j a b h = f j a b (ap (λ (z : ℤ). same (k j) z) e ∙ h)

@@ -104,16 +104,24 @@ fn stage_at(
     stage(q, ranges, c, sizes, level, catalogue, limit, &mut reach)
 }
 
-// The stage of the condition at a place, with so many ranges bound: comparisons come before other conditions.
-fn stage_number(q: &[u8], place: usize, bound: usize) -> usize
-    requires { ⌜ bound ≤ 7 ⌝ }
+// The stage of the condition at a place, with so many ranges bound: comparisons come before other conditions. An OR that begins with one stands with
+// them where none is behind it, for its rows may be found by chains.
+fn stage_number(q: &[u8], place: usize, bound: usize, t: &[u16]) -> usize
+    requires { ⌜ (bound ≤ 7) × (place ≤ 65535) ⌝ }
     ensures { λ r. ⌜ (2 * bound ≤ r) × (r ≤ 2 * bound + 1) ⌝ }
 {
-    if kinds::byte(q, place) == 21 {
-        2 * bound
-    } else {
-        2 * bound + 1
+    let s = 2 * bound;
+    let kind = kinds::byte(q, place);
+    if kind == 21 {
+        return s;
     }
+    if kind != 20 {
+        return s + 1;
+    }
+    if kinds::byte(q, place + 1) != 21 {
+        return s + 1;
+    }
+    if kinds::size_at(t, s) == 0 { s } else { s + 1 }
 }
 
 fn narrow(x: usize) -> u16
@@ -156,7 +164,7 @@ fn join(
         return k;
     }
     let bound = stage_at(q, z, ranges, place, level, cb, limit);
-    let s = stage_number(q, place, bound);
+    let s = stage_number(q, place, bound, t);
     let after = kinds::size_at(t, s);
     let r = branches::compile(q, z, place, level, memo, t, xs, k, end, after, 1);
     t[s] = narrow(r);

@@ -1,5 +1,4 @@
 pub mod Sets
-pub mod Index
-pub mod Copies
 pub mod Encoded
 pub mod Turns
+pub mod Unwritten

@@ -17,14 +17,14 @@ use Rattle.model.specs.Encoding.{encodeRanges}
 use Rattle.tokens.specs.Table.{Table}
 use Rattle.flat.specs.Flat.{uses, binders, mainOf, lastOf, bound, flatText}
 use Rattle.marks.specs.Places.{tokensFrom}
-use Rattle.turns.specs.After.{ended}
-use Rattle.binds.specs.declared.Ranges.{Ranges}
-use Rattle.binds.specs.declared.Ranges.the-variants as R
-use Rattle.binds.specs.declared.Tally.{Tally}
-use Rattle.binds.specs.Tallies.{listing, boundFrom, symbolsIn, afterAll, Whole, Most}
-use Rattle.loops.specs.declared.End.{End}
-use Rattle.loops.specs.declared.End.the-variants as E
-use Rattle.loops.specs.Ends.{endBy, Ends, Last}
+use Rattle.elaborate.specs.After.{ended}
+use Rattle.elaborate.specs.declared.binds.Ranges.{Ranges}
+use Rattle.elaborate.specs.declared.binds.Ranges.the-variants as R
+use Rattle.elaborate.specs.declared.binds.Tally.{Tally}
+use Rattle.elaborate.specs.Tallies.{listing, boundFrom, symbolsIn, afterAll, Whole, Most}
+use Rattle.elaborate.specs.declared.End.{End}
+use Rattle.elaborate.specs.declared.End.the-variants as E
+use Rattle.elaborate.specs.Ends.{endBy, Ends, Last}
 
 module _ (text : List ℕ) (t : Table) (es : List Entry) (d : List ℕ) (u : Bool) (eu : u ≡ uniqueWords (binders 0 (tokensFrom text t 0))) where
   pub twice : not u ≡ true → ended d 0 (flatText es (tokensFrom text t 0)) ≡ fail

@@ -1,14 +1,27 @@
 // The records of a text's tokens, with names looked up. What does not fit the buffer is not written, so that an empty one measures.
+mod ahead;
+mod binds;
+mod frames;
+mod loops;
+mod modes;
+mod opens;
+mod turns;
+
 use binds::Ranges;
-use loops::End;
 ghost use mathlib.Core.Path.{_≡_};
 ghost use Prim.Native.Nat.{_≤_, _<_};
 ghost use lib.ListN.{length};
 ghost use Rattle.flat.specs.Flat.{flatText};
 ghost use Rattle.names.specs.Entries.{entries};
 ghost use Rattle.marks.specs.Places.{table, tokensFrom};
-ghost use Rattle.turns.specs.After.{ended};
+ghost use Rattle.elaborate.specs.After.{ended};
 ghost use Rattle.elaborate.specs.Whole.{outcome};
+
+// The place after what was written, or a name that is unknown or out of reach.
+pub enum End {
+    Place(usize),
+    Refused,
+}
 
 // Writes the records of all tokens, and says where they end, or refuses a name (51).
 pub fn elaborate(

@@ -16,7 +16,7 @@ use Rattle.quel.specs.Writing.{Written, before, Reaches, inner, around}
 use Rattle.model.proofs.Tests.{clash, and-inv}
 use Rattle.kinds.specs.declared.Record.{Record}
 use Rattle.kinds.specs.declared.Record.the-variants as R
-use Rattle.reach.specs.Reach.{knownOf, knownBy, modeIn, relationIn, variableIn, placeIn, headSymbol, onto}
+use Rattle.items.specs.Reach.{knownOf, knownBy, modeIn, relationIn, variableIn, placeIn, headSymbol, onto}
 use Rattle.items.specs.declared.Item.{Item}
 use Rattle.items.specs.declared.Item.the-variants as I
 use Rattle.items.specs.Actions.{useItem, headItem, useBy, headBy, someBy, valueBy, constantBy, itemOf, headAt, perform}

@@ -6,7 +6,7 @@ use native.Mathlib.Omega.{arith}
 use mathlib.Core.List.{List}
 use Rattle.quel.specs.Results.{Word}
 use Rattle.quel.specs.Names.{Bytes, Entry}
-use Rattle.reach.specs.declared.Known.{Known}
+use Rattle.items.specs.declared.reach.Known.{Known}
 use Rattle.names.specs.declared.Found.{Found}
 use Rattle.names.specs.declared.Found.the-variants as F
 use Rattle.names.specs.declared.Value.{Value}

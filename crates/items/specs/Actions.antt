@@ -12,9 +12,9 @@ use Rattle.quel.specs.Elaboration.{Symbol, symbolIn, inside, headOnly, asByte, 
 use Rattle.quel.specs.Writing.{Written, before, Reaches, inner, around, useOf, valueOf, someOf}
 use Rattle.kinds.specs.declared.Record.{Record}
 use Rattle.kinds.specs.declared.Record.the-variants as R
-use Rattle.reach.specs.declared.Known.{Known}
-use Rattle.reach.specs.declared.Known.the-variants as K
-use Rattle.reach.specs.Reach.{knownOf}
+use Rattle.items.specs.declared.reach.Known.{Known}
+use Rattle.items.specs.declared.reach.Known.the-variants as K
+use Rattle.items.specs.Reach.{knownOf}
 use Rattle.items.specs.declared.Item.{Item}
 use Rattle.items.specs.declared.Item.the-variants as I
 

@@ -11,7 +11,7 @@ use Rattle.quel.specs.Writing.{Written, before, Reaches, inner, around}
 use Rattle.kinds.specs.declared.Record.{Record}
 use Rattle.kinds.specs.declared.Record.the-variants as R
 use Rattle.copier.specs.Copied.{recordBytes}
-use Rattle.reach.specs.Reach.{modeIn, relationIn, variableIn, placeIn}
+use Rattle.items.specs.Reach.{modeIn, relationIn, variableIn, placeIn}
 use Rattle.items.specs.declared.Item.{Item}
 use Rattle.items.specs.declared.Item.the-variants as I
 

@@ -23,6 +23,7 @@ use Rattle.branches.specs.Branches.{leads, runs}
 use Rattle.branches.specs.Compiled.{Compiled}
 use Rattle.aggregates.proofs.Taking.{getD-same}
 use Rattle.judges.specs.Marked.{Marked, turned, tupleOf, judgedOn, ranOn}
+use Rattle.judges.specs.Meets.{noPlaces}
 use Rattle.judges.proofs.Steps.{marked-same, marked-then}
 use Rattle.judges.proofs.Terms.{condition-is}
 
@@ -73,11 +74,11 @@ ends t xs q z ws vs m w k u e = ap (λ n. runs t xs q z ws vs m n u) e ∙ go w
     go false = refl
 
 -- a table marks as the condition does that it was compiled from
-pub compiled-marks : (r a b : ℕ) (t t′ : List ℕ) (xs xs′ : List ℤ) (q z ws : List ℕ) (vs m : List ℤ) (e : List ℕ) (l : ℕ) (x : Walk) (w : Bool) (n : ℕ) (ms y : List ℕ) → Compiled 2 r a b t t′ xs xs′ q z m (decode l (drop 0 q) (drop 0 z)) → a ≡ cond w 0 1 → b ≡ cond (not w) 0 1
-    → Marked (ranOn t′ xs′ r q z ws vs m e x) n ms y → Marked (judgedOn l q z ws vs m e x w) n ms y
+pub compiled-marks : (r a b : ℕ) (t t′ : List ℕ) (xs xs′ : List ℤ) (q z ws : List ℕ) (vs m : List ℤ) (l : ℕ) (x : Walk) (w : Bool) (n : ℕ) (ms y : List ℕ) → Compiled 2 r a b t t′ xs xs′ q z m (decode l (drop 0 q) (drop 0 z)) → a ≡ cond w 0 1 → b ≡ cond (not w) 0 1
+    → Marked (ranOn t′ xs′ r q z ws vs m x) n ms y → Marked (judgedOn l q z ws vs m x w) n ms y
 unfolding judgedOn
-compiled-marks r a b t t′ xs xs′ q z ws vs m e l x w n ms y c ea eb h =
-    marked-same h refl (λ i k. let u = update (assigned vs e) 0 (tupleOf vs x i) in
+compiled-marks r a b t t′ xs xs′ q z ws vs m l x w n ms y c ea eb h =
+    marked-same h refl (λ i k. let u = update (assigned vs (noPlaces vs)) 0 (tupleOf vs x i) in
     c .means ws vs u ∙ ap₂ (λ (f g : Bool). cond (holdsBy m (decode l q z) (rowsBy ws vs) u) f g) (ends t xs q z ws vs m w a u ea) (ends t xs q z ws vs m (not w) b u eb) ∙ either w (holdsBy m (decode l q z) (rowsBy ws vs) u))
   where
     either : (w h : Bool) → cond h w (not w) ≡ turned w h
@@ -86,52 +87,52 @@ compiled-marks r a b t t′ xs xs′ q z ws vs m e l x w n ms y c ea eb h =
     either false true = refl
     either false false = refl
 
-module _ (q z ws : List ℕ) (vs m : List ℤ) (e : List ℕ) (x : Walk) where
+module _ (q z ws : List ℕ) (vs m : List ℤ) (x : Walk) where
   -- the two conditions under AND or OR
   abbrev pub one : ℕ → Bool → ℕ → Bool
-  one l w i = judgedOn l (drop (first q) q) (drop (first q) z) ws vs m e x w i
+  one l w i = judgedOn l (drop (first q) q) (drop (first q) z) ws vs m x w i
 
   abbrev pub two : ℕ → Bool → ℕ → Bool
-  two l w i = judgedOn l (drop (second q z) q) (drop (second q z) z) ws vs m e x w i
+  two l w i = judgedOn l (drop (second q z) q) (drop (second q z) z) ws vs m x w i
 
   module _ (l : ℕ) (r : Record) (nz : l ≡ 0 → ⊥) (er : r ≡ recordAt q) where
-    opened : (w : Bool) (i : ℕ) (k : Record) → r ≡ k → judgedOn l q z ws vs m e x w i ≡ turned w (holdsBy m (conditionBy k (λ x y. decode (l - 1) x y) (λ x y. decodeT (l - 1) x y) q z) (rowsBy ws vs) (update (assigned vs e) 0 (tupleOf vs x i)))
+    opened : (w : Bool) (i : ℕ) (k : Record) → r ≡ k → judgedOn l q z ws vs m x w i ≡ turned w (holdsBy m (conditionBy k (λ x y. decode (l - 1) x y) (λ x y. decodeT (l - 1) x y) q z) (rowsBy ws vs) (update (assigned vs (noPlaces vs)) 0 (tupleOf vs x i)))
     unfolding judgedOn
-    opened w i k h = ap (λ (c : Condition). turned w (holdsBy m c (rowsBy ws vs) (update (assigned vs e) 0 (tupleOf vs x i)))) (sym (condition-is m q l r nz er z) ∙ ap (λ (s : Record). conditionBy s (λ x y. decode (l - 1) x y) (λ x y. decodeT (l - 1) x y) q z) h)
+    opened w i k h = ap (λ (c : Condition). turned w (holdsBy m c (rowsBy ws vs) (update (assigned vs (noPlaces vs)) 0 (tupleOf vs x i)))) (sym (condition-is m q l r nz er z) ∙ ap (λ (s : Record). conditionBy s (λ x y. decode (l - 1) x y) (λ x y. decodeT (l - 1) x y) q z) h)
 
     -- whether the first, and the second, holds with row i
     abbrev fst : ℕ → Bool
-    fst i = holdsBy m (decode (l - 1) (drop (first q) q) (drop (first q) z)) (rowsBy ws vs) (update (assigned vs e) 0 (tupleOf vs x i))
+    fst i = holdsBy m (decode (l - 1) (drop (first q) q) (drop (first q) z)) (rowsBy ws vs) (update (assigned vs (noPlaces vs)) 0 (tupleOf vs x i))
 
     abbrev snd : ℕ → Bool
-    snd i = holdsBy m (decode (l - 1) (drop (second q z) q) (drop (second q z) z)) (rowsBy ws vs) (update (assigned vs e) 0 (tupleOf vs x i))
+    snd i = holdsBy m (decode (l - 1) (drop (second q z) q) (drop (second q z) z)) (rowsBy ws vs) (update (assigned vs (noPlaces vs)) 0 (tupleOf vs x i))
 
-    pub true-is : r ≡ R.True → (w : Bool) (i : ℕ) → w ≡ judgedOn l q z ws vs m e x w i
+    pub true-is : r ≡ R.True → (w : Bool) (i : ℕ) → w ≡ judgedOn l q z ws vs m x w i
     unfolding holdsBy
     true-is h w i = turned-yes w ∙ sym (opened w i R.True h)
 
-    pub not-is : r ≡ R.Not → (w : Bool) (i : ℕ) → one (l - 1) (not w) i ≡ judgedOn l q z ws vs m e x w i
+    pub not-is : r ≡ R.Not → (w : Bool) (i : ℕ) → one (l - 1) (not w) i ≡ judgedOn l q z ws vs m x w i
     unfolding holdsBy judgedOn
     not-is h w i = turned-turned w _ ∙ sym (opened w i R.Not h)
 
-    pub and-is : r ≡ R.And → (w : Bool) → w ≡ true → (i : ℕ) → one (l - 1) true i && two (l - 1) true i ≡ judgedOn l q z ws vs m e x w i
+    pub and-is : r ≡ R.And → (w : Bool) → w ≡ true → (i : ℕ) → one (l - 1) true i && two (l - 1) true i ≡ judgedOn l q z ws vs m x w i
     unfolding holdsBy judgedOn
-    and-is h w ew i = sym (ap (λ b. judgedOn l q z ws vs m e x b i) ew ∙ opened true i R.And h)
+    and-is h w ew i = sym (ap (λ b. judgedOn l q z ws vs m x b i) ew ∙ opened true i R.And h)
 
-    pub and-not : r ≡ R.And → (w : Bool) → w ≡ false → (i : ℕ) → one (l - 1) false i || two (l - 1) false i ≡ judgedOn l q z ws vs m e x w i
+    pub and-not : r ≡ R.And → (w : Bool) → w ≡ false → (i : ℕ) → one (l - 1) false i || two (l - 1) false i ≡ judgedOn l q z ws vs m x w i
     unfolding holdsBy judgedOn
-    and-not h w ew i = sym (ap (λ b. judgedOn l q z ws vs m e x b i) ew ∙ opened false i R.And h ∙ neither (fst i) (snd i))
+    and-not h w ew i = sym (ap (λ b. judgedOn l q z ws vs m x b i) ew ∙ opened false i R.And h ∙ neither (fst i) (snd i))
 
-    pub or-is : r ≡ R.Or → (w : Bool) → w ≡ true → (i : ℕ) → one (l - 1) true i || two (l - 1) true i ≡ judgedOn l q z ws vs m e x w i
+    pub or-is : r ≡ R.Or → (w : Bool) → w ≡ true → (i : ℕ) → one (l - 1) true i || two (l - 1) true i ≡ judgedOn l q z ws vs m x w i
     unfolding holdsBy judgedOn
-    or-is h w ew i = sym (ap (λ b. judgedOn l q z ws vs m e x b i) ew ∙ opened true i R.Or h)
+    or-is h w ew i = sym (ap (λ b. judgedOn l q z ws vs m x b i) ew ∙ opened true i R.Or h)
 
-    pub or-not : r ≡ R.Or → (w : Bool) → w ≡ false → (i : ℕ) → one (l - 1) false i && two (l - 1) false i ≡ judgedOn l q z ws vs m e x w i
+    pub or-not : r ≡ R.Or → (w : Bool) → w ≡ false → (i : ℕ) → one (l - 1) false i && two (l - 1) false i ≡ judgedOn l q z ws vs m x w i
     unfolding holdsBy judgedOn
-    or-not h w ew i = sym (ap (λ b. judgedOn l q z ws vs m e x b i) ew ∙ opened false i R.Or h ∙ neither-or (fst i) (snd i))
+    or-not h w ew i = sym (ap (λ b. judgedOn l q z ws vs m x b i) ew ∙ opened false i R.Or h ∙ neither-or (fst i) (snd i))
 
-  pub under-first : (l : ℕ) (w : Bool) (i k a : ℕ) (x₁ y₁ : List ℕ) → k ≡ getD q 0 0 → a ≡ recordLength k → x₁ ≡ drop a q → y₁ ≡ drop a z → judgedOn l x₁ y₁ ws vs m e x w i ≡ one l w i
-  under-first l w i k a x₁ y₁ ek ea e₁ e₂ = let f = ea ∙ ap recordLength ek in ap₂ (λ (u v : List ℕ). judgedOn l u v ws vs m e x w i) (e₁ ∙ ap (λ n. drop n q) f) (e₂ ∙ ap (λ n. drop n z) f)
+  pub under-first : (l : ℕ) (w : Bool) (i k a : ℕ) (x₁ y₁ : List ℕ) → k ≡ getD q 0 0 → a ≡ recordLength k → x₁ ≡ drop a q → y₁ ≡ drop a z → judgedOn l x₁ y₁ ws vs m x w i ≡ one l w i
+  under-first l w i k a x₁ y₁ ek ea e₁ e₂ = let f = ea ∙ ap recordLength ek in ap₂ (λ (u v : List ℕ). judgedOn l u v ws vs m x w i) (e₁ ∙ ap (λ n. drop n q) f) (e₂ ∙ ap (λ n. drop n z) f)
 
   -- what two calls mark, in either order
   module _ (l : ℕ) (w : Bool) (n k a s : ℕ) (x₁ y₁ x₂ y₂ : List ℕ) (ek : k ≡ getD q 0 0) (ea : a ≡ recordLength k) (es : s ≡ getD z a 0) (e₁ : x₁ ≡ drop a q) (e₂ : y₁ ≡ drop a z) (e₃ : x₂ ≡ drop (a + s) q) (e₄ : y₂ ≡ drop (a + s) z) where
@@ -141,17 +142,17 @@ module _ (q z ws : List ℕ) (vs m : List ℤ) (e : List ℕ) (x : Walk) where
     at-second : a + s ≡ second q z
     at-second = ap (λ n. a + n) es ∙ ap (λ n. n + getD z n 0) at-first
 
-    is-one : (i : ℕ) → judgedOn l x₁ y₁ ws vs m e x w i ≡ one l w i
-    is-one i = ap₂ (λ (u v : List ℕ). judgedOn l u v ws vs m e x w i) (e₁ ∙ ap (λ n. drop n q) at-first) (e₂ ∙ ap (λ n. drop n z) at-first)
+    is-one : (i : ℕ) → judgedOn l x₁ y₁ ws vs m x w i ≡ one l w i
+    is-one i = ap₂ (λ (u v : List ℕ). judgedOn l u v ws vs m x w i) (e₁ ∙ ap (λ n. drop n q) at-first) (e₂ ∙ ap (λ n. drop n z) at-first)
 
-    is-two : (i : ℕ) → judgedOn l x₂ y₂ ws vs m e x w i ≡ two l w i
-    is-two i = ap₂ (λ (u v : List ℕ). judgedOn l u v ws vs m e x w i) (e₃ ∙ ap (λ n. drop n q) at-second) (e₄ ∙ ap (λ n. drop n z) at-second)
+    is-two : (i : ℕ) → judgedOn l x₂ y₂ ws vs m x w i ≡ two l w i
+    is-two i = ap₂ (λ (u v : List ℕ). judgedOn l u v ws vs m x w i) (e₃ ∙ ap (λ n. drop n q) at-second) (e₄ ∙ ap (λ n. drop n z) at-second)
 
-    pub in-order : (d ms y t : List ℕ) → d ≡ e → Marked (judgedOn l x₁ y₁ ws vs m e x w) n ms y → Marked (judgedOn l x₂ y₂ ws vs m d x w) n y t → Marked (λ i. one l w i || two l w i) n ms t
-    in-order d ms y t ed h k = marked-same (marked-then h (subst (λ (u : List ℕ). Marked (judgedOn l x₂ y₂ ws vs m u x w) n y t) ed k)) refl (λ i g. ap₂ _||_ (is-one i) (is-two i))
+    pub in-order : (ms y t : List ℕ) → Marked (judgedOn l x₁ y₁ ws vs m x w) n ms y → Marked (judgedOn l x₂ y₂ ws vs m x w) n y t → Marked (λ i. one l w i || two l w i) n ms t
+    in-order ms y t h k = marked-same (marked-then h k) refl (λ i g. ap₂ _||_ (is-one i) (is-two i))
 
-    pub swapped : (d ms y t : List ℕ) → d ≡ e → Marked (judgedOn l x₂ y₂ ws vs m e x w) n ms y → Marked (judgedOn l x₁ y₁ ws vs m d x w) n y t → Marked (λ i. one l w i || two l w i) n ms t
-    swapped d ms y t ed h k = marked-same (marked-then h (subst (λ (u : List ℕ). Marked (judgedOn l x₁ y₁ ws vs m u x w) n y t) ed k)) refl (λ i g. ap₂ _||_ (is-two i) (is-one i) ∙ or-swap (two l w i) (one l w i))
+    pub swapped : (ms y t : List ℕ) → Marked (judgedOn l x₂ y₂ ws vs m x w) n ms y → Marked (judgedOn l x₁ y₁ ws vs m x w) n y t → Marked (λ i. one l w i || two l w i) n ms t
+    swapped ms y t h k = marked-same (marked-then h k) refl (λ i g. ap₂ _||_ (is-two i) (is-one i) ∙ or-swap (two l w i) (one l w i))
 
   -- what neither leaves out
   pub both-marked : (l : ℕ) (w : Bool) (n k : ℕ) (others ms y : List ℕ) → Marked (λ i. one l (not w) i || two l (not w) i) n (replicate k 0) others → Marked (λ i. eqb (getD others i 0) 0) n ms y → Marked (λ i. one l w i && two l w i) n ms y

@@ -69,10 +69,10 @@ module _ (q : List ℕ) (s : Short q) where
       marked-same h refl (λ i k. ap (compare o (some (whole (tupleOf vs x i a)))) (er ∙ ap (λ n. some (whole n)) ev) ∙ rw (eo, ea, e₀, e₁, e₂, e₃) (sym (meets-short cb vs (tupleOf vs x i))))
 
 -- by tables
-pub long-marks : (cb : List ℕ) (vs : List ℤ) (q z ws : List ℕ) (m : List ℤ) (e : List ℕ) (x : Walk) (n : ℕ) (ms y : List ℕ) → z ≡ sizesOf q → ws ≡ ownWalks cb q → e ≡ noPlaces vs → m ≡ filledC (decode 16 q z) (rowsBy ws vs) (assigned vs (noPlaces vs)) (replicate 8 (pos 0))
-    → Marked (judgedOn 16 q z ws vs m e x true) n ms y → Marked (λ i. meetsBytes cb vs q (tupleOf vs x i)) n ms y
+pub long-marks : (cb : List ℕ) (vs : List ℤ) (q z ws : List ℕ) (m : List ℤ) (x : Walk) (n : ℕ) (ms y : List ℕ) → z ≡ sizesOf q → ws ≡ ownWalks cb q → m ≡ filledC (decode 16 q z) (rowsBy ws vs) (assigned vs (noPlaces vs)) (replicate 8 (pos 0))
+    → Marked (judgedOn 16 q z ws vs m x true) n ms y → Marked (λ i. meetsBytes cb vs q (tupleOf vs x i)) n ms y
 unfolding judgedOn meetsBytes holdsOn
-long-marks cb vs q z ws m e x n ms y ez ew ee em h = marked-same h refl (λ i k. rw (em, ee, ew, ez))
+long-marks cb vs q z ws m x n ms y ez ew em h = marked-same h refl (λ i k. rw (em, ew, ez))
 
 -- the whole of a relation
 pub whole-marks : (cb : List ℕ) (vs : List ℤ) (q : List ℕ) (r : ℕ) (x : Walk) (ms y : List ℕ) → x ≡ wholeOf cb r → Marked (λ i. meetsBytes cb vs q (tupleOf vs x i)) (x .count) ms y → Marked (λ i. meetsBytes cb vs q (rowOf cb vs r i)) (rowsOf cb r) ms y

@@ -33,6 +33,7 @@ use Rattle.walks.specs.Walks.{rowsBy}
 use Rattle.evaluator.specs.Recalled.{holdsBy, valueBy}
 use Rattle.evaluator.specs.Evaluation.{assigned}
 use Rattle.judges.specs.Marked.{between, passes, turned, tupleOf, judgedOn}
+use Rattle.judges.specs.Meets.{noPlaces}
 use Rattle.judges.specs.declared.Test.{Test}
 use Rattle.judges.specs.declared.Known.{Known}
 
@@ -168,11 +169,11 @@ module _ (m : List ℤ) (q : List ℕ) (l : ℕ) (r : Record) (nz : l ≡ 0 → 
 
   pub compared-is : (o k a s v at : ℕ) (u w : List ℕ) (y : Record) (x : Ratio) (z : List ℕ) → r ≡ R.Compare o → k ≡ getD q 0 0 → a ≡ recordLength k → s ≡ getD z a 0 → u ≡ drop a q → w ≡ drop (a + s) q → (l - 1 ≡ 0 → ⊥) → y ≡ recordAt u → y ≡ R.Attribute v at → v ≡ 0
       → ((z : List ℕ) (R : Rows) (e : Assignment) → valueOf x ≡ valueBy m (decodeT (l - 1) w z) R e)
-      → (ws : List ℕ) (vs : List ℤ) (e : List ℕ) (g : Walk) (wanted : Bool) (i : ℕ) → turned wanted (compare o (some (whole (tupleOf vs g i at))) (valueOf x)) ≡ judgedOn l q z ws vs m e g wanted i
+      → (ws : List ℕ) (vs : List ℤ) (g : Walk) (wanted : Bool) (i : ℕ) → turned wanted (compare o (some (whole (tupleOf vs g i at))) (valueOf x)) ≡ judgedOn l q z ws vs m g wanted i
   unfolding holdsBy judgedOn decode
-  compared-is o k a s v at u w y x z h ek ea es eu ew nz′ ey hy ev hx ws vs e g wanted i =
+  compared-is o k a s v at u w y x z h ek ea es eu ew nz′ ey hy ev hx ws vs g wanted i =
       let R = rowsBy ws vs in
-      let E : Assignment = update (assigned vs e) 0 (tupleOf vs g i) in
+      let E : Assignment = update (assigned vs (noPlaces vs)) 0 (tupleOf vs g i) in
       let at-first = ea ∙ ap recordLength ek in
       let at-second : a + s ≡ second q z = ap (λ n. a + n) es ∙ ap (λ n. n + getD z n 0) at-first in
       let fst : valueBy m (decodeT (l - 1) (drop (first q) q) (drop (first q) z)) R E ≡ some (whole (tupleOf vs g i at)) = subst (λ (p : List ℕ). valueBy m (decodeT (l - 1) p (drop (first q) z)) R E ≡ some (whole (tupleOf vs g i at))) (eu ∙ ap (λ n. drop n q) at-first) (left u y nz′ ey hy E (drop (first q) z) ∙ ap (λ n. some (whole (E n at))) ev) in

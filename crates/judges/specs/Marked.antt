@@ -17,6 +17,7 @@ use Rattle.evaluator.specs.Recalled.{holdsBy}
 use Rattle.evaluator.specs.Evaluation.{assigned}
 use Rattle.branches.specs.Branches.{runs}
 use Rattle.judges.specs.declared.Test.{Test}
+use Rattle.judges.specs.Meets.{noPlaces}
 
 abbrev pub Bits : List ℕ → Type 0
 Bits ms = (i : ℕ) → getD ms i 0 ≤ 1
@@ -42,13 +43,13 @@ passes t a = between (t .above) (t .below) (t .wanted) (t .number) (a *ℤ t .sc
 abbrev pub tupleOf : List ℤ → Walk → ℕ → Tuple
 tupleOf vs x i = tupleAt vs (x .base + i * x .width)
 
--- whether the condition that bytes stand for is as it is wanted with variable 0 on row i
-unfoldable pub judgedOn : ℕ → List ℕ → List ℕ → List ℕ → List ℤ → List ℤ → List ℕ → Walk → Bool → ℕ → Bool
-judgedOn l q z ws vs m e x wanted i = turned wanted (holdsBy m (decode l q z) (rowsBy ws vs) (update (assigned vs e) 0 (tupleOf vs x i)))
+-- whether the condition that bytes stand for is as it is wanted with variable 0 on row i and no other bound
+unfoldable pub judgedOn : ℕ → List ℕ → List ℕ → List ℕ → List ℤ → List ℤ → Walk → Bool → ℕ → Bool
+judgedOn l q z ws vs m x wanted i = turned wanted (holdsBy m (decode l q z) (rowsBy ws vs) (update (assigned vs (noPlaces vs)) 0 (tupleOf vs x i)))
 
--- whether branch s of a table leads to 0 with variable 0 on row i
-abbrev pub ranOn : List ℕ → List ℤ → ℕ → List ℕ → List ℕ → List ℕ → List ℤ → List ℤ → List ℕ → Walk → ℕ → Bool
-ranOn t xs s q z ws vs m e x i = runs t xs q z ws vs m s (update (assigned vs e) 0 (tupleOf vs x i))
+-- whether branch s of a table leads to 0 with variable 0 on row i and no other bound
+abbrev pub ranOn : List ℕ → List ℤ → ℕ → List ℕ → List ℕ → List ℕ → List ℤ → List ℤ → Walk → ℕ → Bool
+ranOn t xs s q z ws vs m x i = runs t xs q z ws vs m s (update (assigned vs (noPlaces vs)) 0 (tupleOf vs x i))
 
 -- bytes that are one comparison of an attribute of variable 0 with a number
 pub record Short (q : List ℕ) : Type 0 where

@@ -22,7 +22,6 @@ ghost use Rattle.numbers.specs.Memo as Memo;
 ghost use Rattle.sizes.specs.Decode.{first, second, decodeT};
 ghost use Rattle.walks.specs.Walks.{Fits};
 ghost use Rattle.evaluator.specs.Recalled.{valueBy};
-ghost use Rattle.evaluator.specs.Evaluation.{assigned};
 ghost use Rattle.seeks.specs.Keys.{Faithful};
 ghost use Rattle.judges.specs.Marked as J;
 ghost use Rattle.judges.specs.Meets.{meetsBytes, rowOf};
@@ -254,7 +253,7 @@ fn mark_compared(
     marks: &mut [u8],
 ) -> bool
     requires { ⌜ (walk .count ≤ length (now marks)) × Fits walk × J.Bits (now marks) ⌝ }
-    ensures { λ r. ⌜ (r ≡ true → (ws e : List ℕ) → J.Marked (J.judgedOn level (now (q .entry)) (now (z .entry)) ws (now (values .entry)) (now (memo .entry)) e walk wanted) (walk .count) (now (marks .entry)) (now (marks .exit))) ⌝ }
+    ensures { λ r. ⌜ (r ≡ true → (ws : List ℕ) → J.Marked (J.judgedOn level (now (q .entry)) (now (z .entry)) ws (now (values .entry)) (now (memo .entry)) walk wanted) (walk .count) (now (marks .entry)) (now (marks .exit))) ⌝ }
     ensures { λ r. ⌜ (r ≡ false → now (marks .exit) ≡ now (marks .entry)) ⌝ }
 {
     if level < 2 {
@@ -327,23 +326,20 @@ fn mark_rows(
     walk: Walk,
     vs: &[i32],
     memo: &[i64],
-    env: &mut [usize],
     marks: &mut [u8],
 )
-    requires { ⌜ (256 ≤ length (now env)) × (start ≤ 65535) × Fits walk × (walk .count ≤ length (now marks)) × J.Bits (now marks) × Faithful (now t) (now walks) (now vs) (now chains) ⌝ }
-    ensures { λ _. ⌜ J.Marked (J.ranOn (now (t .entry)) (now (xs .entry)) start (now (q .entry)) (now (z .entry)) (now (walks .entry)) (now (vs .entry)) (now (memo .entry)) (now (env .entry)) walk) (walk .count) (now (marks .entry)) (now (marks .exit)) ⌝ }
-    ensures { λ _. ⌜ now (env .exit) ≡ now (env .entry) ⌝ }
+    requires { ⌜ (start ≤ 65535) × Fits walk × (walk .count ≤ length (now marks)) × J.Bits (now marks) × Faithful (now t) (now walks) (now vs) (now chains) ⌝ }
+    ensures { λ _. ⌜ J.Marked (J.ranOn (now (t .entry)) (now (xs .entry)) start (now (q .entry)) (now (z .entry)) (now (walks .entry)) (now (vs .entry)) (now (memo .entry)) walk) (walk .count) (now (marks .entry)) (now (marks .exit)) ⌝ }
 {
     let n = walk.count;
-    let old = evaluator::place(env, 0);
+    let mut env = [vs.len(); 256];
     let mut i = unmarked(marks, n, 0);
     while i < n {
-        evaluator::set_place(env, 0, place_of(walk, i));
-        let met = decide::holds(t, xs, start, q, z, walks, chains, vs, memo, env);
+        evaluator::set_place(&mut env, 0, place_of(walk, i));
+        let met = decide::holds(t, xs, start, q, z, walks, chains, vs, memo, &mut env);
         marks[i] = joined(marks[i], met);
         i = unmarked(marks, n, i + 1);
     }
-    evaluator::set_place(env, 0, old);
 }
 
 // The same where the table asks for rows of other variables: those are chained once for all rows of the walk, up to three of 1,024 rows.
@@ -357,29 +353,14 @@ fn mark_linked(
     walk: Walk,
     vs: &[i32],
     memo: &[i64],
-    env: &mut [usize],
     marks: &mut [u8],
 )
-    requires { ⌜ (256 ≤ length (now env)) × (start ≤ 65535) × Fits walk × (walk .count ≤ length (now marks)) × J.Bits (now marks) ⌝ }
-    ensures { λ _. ⌜ J.Marked (J.ranOn (now (t .entry)) (now (xs .entry)) start (now (q .entry)) (now (z .entry)) (now (walks .entry)) (now (vs .entry)) (now (memo .entry)) (now (env .entry)) walk) (walk .count) (now (marks .entry)) (now (marks .exit)) ⌝ }
-    ensures { λ _. ⌜ now (env .exit) ≡ now (env .entry) ⌝ }
+    requires { ⌜ (start ≤ 65535) × Fits walk × (walk .count ≤ length (now marks)) × J.Bits (now marks) ⌝ }
+    ensures { λ _. ⌜ J.Marked (J.ranOn (now (t .entry)) (now (xs .entry)) start (now (q .entry)) (now (z .entry)) (now (walks .entry)) (now (vs .entry)) (now (memo .entry)) walk) (walk .count) (now (marks .entry)) (now (marks .exit)) ⌝ }
 {
     let mut chains = [0u16; 6220];
     seeks::add_searches(t, walks, vs, &mut chains, 64);
-    mark_rows(
-        t,
-        xs,
-        start,
-        q,
-        z,
-        walks,
-        &chains,
-        walk,
-        vs,
-        memo,
-        env,
-        marks,
-    );
+    mark_rows(t, xs, start, q, z, walks, &chains, walk, vs, memo, marks);
 }
 
 // The end that a condition leads to where it is as wanted.
@@ -398,13 +379,11 @@ fn judge_each(
     walk: Walk,
     vs: &[i32],
     memo: &[i64],
-    env: &mut [usize],
     wanted: bool,
     marks: &mut [u8],
 )
-    requires { ⌜ (256 ≤ length (now env)) × (level ≤ 65535) × Fits walk × (walk .count ≤ length (now marks)) × J.Bits (now marks) ⌝ }
-    ensures { λ _. ⌜ J.Marked (J.judgedOn level (now (q .entry)) (now (z .entry)) (now (walks .entry)) (now (vs .entry)) (now (memo .entry)) (now (env .entry)) walk wanted) (walk .count) (now (marks .entry)) (now (marks .exit)) ⌝ }
-    ensures { λ _. ⌜ now (env .exit) ≡ now (env .entry) ⌝ }
+    requires { ⌜ (level ≤ 65535) × Fits walk × (walk .count ≤ length (now marks)) × J.Bits (now marks) ⌝ }
+    ensures { λ _. ⌜ J.Marked (J.judgedOn level (now (q .entry)) (now (z .entry)) (now (walks .entry)) (now (vs .entry)) (now (memo .entry)) walk wanted) (walk .count) (now (marks .entry)) (now (marks .exit)) ⌝ }
 {
     let mut t = [0u16; 512];
     let mut xs = [0i32; 128];
@@ -412,24 +391,11 @@ fn judge_each(
     let unmet = end_of(!wanted);
     let start = branches::compile(q, z, 0, level, memo, &mut t, &mut xs, 2, 64, met, unmet);
     if seeks::searches(&t, walks) {
-        mark_linked(&t, &xs, start, q, z, walks, walk, vs, memo, env, marks);
+        mark_linked(&t, &xs, start, q, z, walks, walk, vs, memo, marks);
         return;
     }
     let chains = [0u16; 1];
-    mark_rows(
-        &t,
-        &xs,
-        start,
-        q,
-        z,
-        walks,
-        &chains,
-        walk,
-        vs,
-        memo,
-        env,
-        marks,
-    );
+    mark_rows(&t, &xs, start, q, z, walks, &chains, walk, vs, memo, marks);
 }
 
 // What is no AND, OR or NOT: a comparison with something known in one loop, else row by row.
@@ -441,18 +407,16 @@ fn judge_leaf(
     walk: Walk,
     vs: &[i32],
     memo: &[i64],
-    env: &mut [usize],
     wanted: bool,
     marks: &mut [u8],
 )
-    requires { ⌜ (256 ≤ length (now env)) × (level ≤ 65535) × Fits walk × (walk .count ≤ length (now marks)) × J.Bits (now marks) ⌝ }
-    ensures { λ _. ⌜ J.Marked (J.judgedOn level (now (q .entry)) (now (z .entry)) (now (walks .entry)) (now (vs .entry)) (now (memo .entry)) (now (env .entry)) walk wanted) (walk .count) (now (marks .entry)) (now (marks .exit)) ⌝ }
-    ensures { λ _. ⌜ now (env .exit) ≡ now (env .entry) ⌝ }
+    requires { ⌜ (level ≤ 65535) × Fits walk × (walk .count ≤ length (now marks)) × J.Bits (now marks) ⌝ }
+    ensures { λ _. ⌜ J.Marked (J.judgedOn level (now (q .entry)) (now (z .entry)) (now (walks .entry)) (now (vs .entry)) (now (memo .entry)) walk wanted) (walk .count) (now (marks .entry)) (now (marks .exit)) ⌝ }
 {
     if mark_compared(q, z, level, memo, walk, vs, wanted, marks) {
         return;
     }
-    judge_each(q, z, level, walks, walk, vs, memo, env, wanted, marks);
+    judge_each(q, z, level, walks, walk, vs, memo, wanted, marks);
 }
 
 // Where two conditions are both as wanted: what either leaves out is marked apart, and the others are marked.
@@ -464,27 +428,14 @@ fn judge_both(
     walk: Walk,
     vs: &[i32],
     memo: &[i64],
-    env: &mut [usize],
     wanted: bool,
     marks: &mut [u8],
 )
-    requires { ⌜ (256 ≤ length (now env)) × (level ≤ 65534) × Fits walk × (walk .count ≤ 1024) × (walk .count ≤ length (now marks)) × J.Bits (now marks) ⌝ }
-    ensures { λ _. ⌜ J.Marked (λ i. J.judgedOn level (drop (first (now (q .entry))) (now (q .entry))) (drop (first (now (q .entry))) (now (z .entry))) (now (walks .entry)) (now (vs .entry)) (now (memo .entry)) (now (env .entry)) walk wanted i && J.judgedOn level (drop (second (now (q .entry)) (now (z .entry))) (now (q .entry))) (drop (second (now (q .entry)) (now (z .entry))) (now (z .entry))) (now (walks .entry)) (now (vs .entry)) (now (memo .entry)) (now (env .entry)) walk wanted i) (walk .count) (now (marks .entry)) (now (marks .exit)) ⌝ }
-    ensures { λ _. ⌜ now (env .exit) ≡ now (env .entry) ⌝ }
+    requires { ⌜ (level ≤ 65534) × Fits walk × (walk .count ≤ 1024) × (walk .count ≤ length (now marks)) × J.Bits (now marks) ⌝ }
+    ensures { λ _. ⌜ J.Marked (λ i. J.judgedOn level (drop (first (now (q .entry))) (now (q .entry))) (drop (first (now (q .entry))) (now (z .entry))) (now (walks .entry)) (now (vs .entry)) (now (memo .entry)) walk wanted i && J.judgedOn level (drop (second (now (q .entry)) (now (z .entry))) (now (q .entry))) (drop (second (now (q .entry)) (now (z .entry))) (now (z .entry))) (now (walks .entry)) (now (vs .entry)) (now (memo .entry)) walk wanted i) (walk .count) (now (marks .entry)) (now (marks .exit)) ⌝ }
 {
     let mut others = [0u8; 1024];
-    judge_two(
-        q,
-        z,
-        level,
-        walks,
-        walk,
-        vs,
-        memo,
-        env,
-        !wanted,
-        &mut others,
-    );
+    judge_two(q, z, level, walks, walk, vs, memo, !wanted, &mut others);
     mark_others(&others, walk.count, marks);
 }
 
@@ -497,13 +448,11 @@ fn judge_two(
     walk: Walk,
     vs: &[i32],
     memo: &[i64],
-    env: &mut [usize],
     wanted: bool,
     marks: &mut [u8],
 )
-    requires { ⌜ (256 ≤ length (now env)) × (level ≤ 65534) × Fits walk × (walk .count ≤ 1024) × (walk .count ≤ length (now marks)) × J.Bits (now marks) ⌝ }
-    ensures { λ _. ⌜ J.Marked (λ i. J.judgedOn level (drop (first (now (q .entry))) (now (q .entry))) (drop (first (now (q .entry))) (now (z .entry))) (now (walks .entry)) (now (vs .entry)) (now (memo .entry)) (now (env .entry)) walk wanted i || J.judgedOn level (drop (second (now (q .entry)) (now (z .entry))) (now (q .entry))) (drop (second (now (q .entry)) (now (z .entry))) (now (z .entry))) (now (walks .entry)) (now (vs .entry)) (now (memo .entry)) (now (env .entry)) walk wanted i) (walk .count) (now (marks .entry)) (now (marks .exit)) ⌝ }
-    ensures { λ _. ⌜ now (env .exit) ≡ now (env .entry) ⌝ }
+    requires { ⌜ (level ≤ 65534) × Fits walk × (walk .count ≤ 1024) × (walk .count ≤ length (now marks)) × J.Bits (now marks) ⌝ }
+    ensures { λ _. ⌜ J.Marked (λ i. J.judgedOn level (drop (first (now (q .entry))) (now (q .entry))) (drop (first (now (q .entry))) (now (z .entry))) (now (walks .entry)) (now (vs .entry)) (now (memo .entry)) walk wanted i || J.judgedOn level (drop (second (now (q .entry)) (now (z .entry))) (now (q .entry))) (drop (second (now (q .entry)) (now (z .entry))) (now (z .entry))) (now (walks .entry)) (now (vs .entry)) (now (memo .entry)) walk wanted i) (walk .count) (now (marks .entry)) (now (marks .exit)) ⌝ }
 {
     let a = kinds::record_length(kinds::byte(q, 0));
     let b = a + kinds::size_at(z, a);
@@ -512,12 +461,12 @@ fn judge_two(
     let u = kinds::tail(q, b);
     let v = kinds::tail_sizes(z, b);
     if kinds::byte(q, b) == 21 {
-        judge_at(u, v, level, walks, walk, vs, memo, env, wanted, marks);
-        judge_at(x, y, level, walks, walk, vs, memo, env, wanted, marks);
+        judge_at(u, v, level, walks, walk, vs, memo, wanted, marks);
+        judge_at(x, y, level, walks, walk, vs, memo, wanted, marks);
         return;
     }
-    judge_at(x, y, level, walks, walk, vs, memo, env, wanted, marks);
-    judge_at(u, v, level, walks, walk, vs, memo, env, wanted, marks);
+    judge_at(x, y, level, walks, walk, vs, memo, wanted, marks);
+    judge_at(u, v, level, walks, walk, vs, memo, wanted, marks);
 }
 
 // Marks the rows with which the condition that q starts with is as wanted.
@@ -529,16 +478,14 @@ fn judge_at(
     walk: Walk,
     vs: &[i32],
     memo: &[i64],
-    env: &mut [usize],
     wanted: bool,
     marks: &mut [u8],
 )
-    requires { ⌜ (256 ≤ length (now env)) × (level ≤ 65535) × Fits walk × (walk .count ≤ 1024) × (walk .count ≤ length (now marks)) × J.Bits (now marks) ⌝ }
-    ensures { λ _. ⌜ J.Marked (J.judgedOn level (now (q .entry)) (now (z .entry)) (now (walks .entry)) (now (vs .entry)) (now (memo .entry)) (now (env .entry)) walk wanted) (walk .count) (now (marks .entry)) (now (marks .exit)) ⌝ }
-    ensures { λ _. ⌜ now (env .exit) ≡ now (env .entry) ⌝ }
+    requires { ⌜ (level ≤ 65535) × Fits walk × (walk .count ≤ 1024) × (walk .count ≤ length (now marks)) × J.Bits (now marks) ⌝ }
+    ensures { λ _. ⌜ J.Marked (J.judgedOn level (now (q .entry)) (now (z .entry)) (now (walks .entry)) (now (vs .entry)) (now (memo .entry)) walk wanted) (walk .count) (now (marks .entry)) (now (marks .exit)) ⌝ }
 {
     if level == 0 {
-        judge_leaf(q, z, level, walks, walk, vs, memo, env, wanted, marks);
+        judge_leaf(q, z, level, walks, walk, vs, memo, wanted, marks);
         return;
     }
     let l = level - 1;
@@ -548,23 +495,23 @@ fn judge_at(
             let a = kinds::record_length(kinds::byte(q, 0));
             let x = kinds::tail(q, a);
             let y = kinds::tail_sizes(z, a);
-            judge_at(x, y, l, walks, walk, vs, memo, env, !wanted, marks);
+            judge_at(x, y, l, walks, walk, vs, memo, !wanted, marks);
         }
         Record::And => {
             if wanted {
-                judge_both(q, z, l, walks, walk, vs, memo, env, true, marks);
+                judge_both(q, z, l, walks, walk, vs, memo, true, marks);
             } else {
-                judge_two(q, z, l, walks, walk, vs, memo, env, false, marks);
+                judge_two(q, z, l, walks, walk, vs, memo, false, marks);
             }
         }
         Record::Or => {
             if wanted {
-                judge_two(q, z, l, walks, walk, vs, memo, env, true, marks);
+                judge_two(q, z, l, walks, walk, vs, memo, true, marks);
             } else {
-                judge_both(q, z, l, walks, walk, vs, memo, env, false, marks);
+                judge_both(q, z, l, walks, walk, vs, memo, false, marks);
             }
         }
-        _ => judge_leaf(q, z, level, walks, walk, vs, memo, env, wanted, marks),
+        _ => judge_leaf(q, z, level, walks, walk, vs, memo, wanted, marks),
     }
 }
 
@@ -621,18 +568,7 @@ fn judge_long(q: &[u8], catalogue: &[u8], values: &[i32], walk: Walk, marks: &mu
     let mut env = [values.len(); 256];
     let mut memo = [0i64; 8];
     aggregates::condition(q, &z, 16, &walks, values, &mut env, &mut memo);
-    judge_at(
-        q,
-        &z,
-        16,
-        &walks,
-        walk,
-        values,
-        &memo,
-        &mut env,
-        true,
-        marks,
-    );
+    judge_at(q, &z, 16, &walks, walk, values, &memo, true, marks);
 }
 
 // Marks the rows of a relation that meet the condition of a permit.

@@ -17,7 +17,7 @@ use Rattle.quel.specs.Reader.{starts}
 use Rattle.quel.specs.Ahead.{wordAt, wordOf}
 use Rattle.tokens.specs.Table.{Table, tokenOf, wordIn, tokenAt, tokensAt}
 use Rattle.flat.specs.Flat.{outside, enter, deeper, shallower, uses, binding, opened, closed, binders, mainOf, colons, lastBy, lastOf}
-use Rattle.marks.specs.Places.{table, tokensFrom, nameIn, pointIn, depthKind, partKind, usesAt, bindsAt, againAt}
+use Rattle.marks.specs.Places.{table, tokensFrom, nameIn, pointIn, depthKind, partKind, usesAt}
 use Rattle.marks.proofs.Steps.{uses-kind, binders-kind, main-kind, colons-kind, point-kind, word-kind}
 
 next : (i j : ℕ) → i + 1 + j ≡ i + suc j
@@ -122,7 +122,7 @@ module _ (text : List ℕ) (t : Table) (i : ℕ) (h : i < length (t .kinds)) whe
   unfolding tokenAt
   binders-from p = ap (binders p) (from-cons text t i h) ∙ binders-kind kind (wordIn text t i) (getD (t .numbers) i 0) p rest
 
-  bound-from : (p : ℕ) → binders p (tokensFrom text t i)
+  pub bound-from : (p : ℕ) → binders p (tokensFrom text t i)
       ≡ cond (eqb kind 0) (cond (binding p) (here text t i ∷ binders (partKind kind p) rest) (binders (partKind kind p) rest))
       (cond (eqb kind 16) (here text t (i + 1) ∷ binders (partKind kind p) rest) (binders (partKind kind p) rest))
   unfolding partKind
@@ -141,35 +141,6 @@ module _ (text : List ℕ) (t : Table) (i : ℕ) (h : i < length (t .kinds)) whe
           let z = eqb-true kind 0 e in
           ap (λ (w : Word). cond (binding p) (w ∷ binders p rest) (binders p rest)) (sym (here-is text t i h z))
           ∙ sym (ap (λ (k : ℕ). cond (binding p) (here text t i ∷ binders (partKind k p) rest) (binders (partKind k p) rest)) z)
-      go false e = other (eqb kind 16) refl
-
-  pub bind-turn : (p : ℕ) (x : Word) → hasWord x (binders p (tokensFrom text t i)) ≡ (bindsAt text (t .kinds) (t .starts) (t .lengths) p i x || hasWord x (binders (partKind kind p) rest))
-  unfolding bindsAt
-  bind-turn p x = ap (hasWord x) (bound-from p) ∙ go (eqb kind 0)
-    where
-      go : (b : Bool)
-          → hasWord x (cond b (cond (binding p) (here text t i ∷ binders (partKind kind p) rest) (binders (partKind kind p) rest)) (cond (eqb kind 16) (here text t (i + 1) ∷ binders (partKind kind p) rest) (binders (partKind kind p) rest)))
-          ≡ (cond b (binding p && sameWord x (here text t i)) (eqb kind 16 && sameWord x (here text t (i + 1))) || hasWord x (binders (partKind kind p) rest))
-      go true = has-more x (here text t i) (binders (partKind kind p) rest) (binding p)
-      go false = has-more x (here text t (i + 1)) (binders (partKind kind p) rest) (eqb kind 16)
-
-  -- a turn of the loop that seeks a symbol bound twice
-  pub unique-turn : (p : ℕ) → uniqueWords (binders p (tokensFrom text t i)) ≡ (not (againAt text t p i) && uniqueWords (binders (partKind kind p) rest))
-  unfolding againAt partKind
-  unique-turn p = ap uniqueWords (bound-from p) ∙ go (eqb kind 0) refl
-    where
-      other : (b : Bool) → eqb kind 16 ≡ b
-          → uniqueWords (cond b (here text t (i + 1) ∷ binders (partKind kind p) rest) (binders (partKind kind p) rest))
-          ≡ (not (b && hasWord (here text t (i + 1)) (binders p rest)) && uniqueWords (binders (partKind kind p) rest))
-      other true e = unique-more (here text t (i + 1)) (binders (partKind kind p) rest) true ∙ ap (λ (k : ℕ). not (hasWord (here text t (i + 1)) (binders (partKind k p) rest)) && uniqueWords (binders (partKind kind p) rest)) (eqb-true kind 16 e)
-      other false e = refl
-
-      go : (b : Bool) → eqb kind 0 ≡ b
-          → uniqueWords (cond b (cond (binding p) (here text t i ∷ binders (partKind kind p) rest) (binders (partKind kind p) rest)) (cond (eqb kind 16) (here text t (i + 1) ∷ binders (partKind kind p) rest) (binders (partKind kind p) rest)))
-          ≡ (not (cond b (binding p && hasWord (here text t i) (binders p rest)) (eqb kind 16 && hasWord (here text t (i + 1)) (binders p rest))) && uniqueWords (binders (partKind kind p) rest))
-      go true e =
-          unique-more (here text t i) (binders (partKind kind p) rest) (binding p)
-          ∙ ap (λ (k : ℕ). not (binding p && hasWord (here text t i) (binders (partKind k p) rest)) && uniqueWords (binders (partKind kind p) rest)) (eqb-true kind 0 e)
       go false e = other (eqb kind 16) refl
 
   pub main-turn : mainOf (tokensFrom text t i) ≡ cond (eqb kind 14) (tokensFrom text t (i + 3)) (mainOf rest)
@@ -333,39 +304,6 @@ module _ (text ks ss ls : List ℕ) (i : ℕ) where
     unfolding usesAt
     use-there d e z h = rw (sym ek ∙ e, z, h)
 
-    pub bind-some : (p : ℕ) → k ≡ 16 → sameWord w (nameIn text ks ss ls (i + 1)) ≡ bindsAt text ks ss ls p i w
-    unfolding bindsAt
-    bind-some p e = rw (sym ek ∙ e)
-
-    pub bind-other : (p : ℕ) → (k ≡ 16 → ⊥) → (k ≡ 0 → ⊥) → false ≡ bindsAt text ks ss ls p i w
-    unfolding bindsAt
-    bind-other p a b = rw (ne-eqb (getD ks i 0) 0 (λ e. b (ek ∙ e)), ne-eqb (getD ks i 0) 16 (λ e. a (ek ∙ e)))
-
-    pub bind-apart : (p : ℕ) → k ≡ 0 → (p ≡ 1 → ⊥) → false ≡ bindsAt text ks ss ls p i w
-    unfolding bindsAt
-    bind-apart p e h = rw (sym ek ∙ e, binding-other p h)
-
-    pub bind-there : (p : ℕ) → k ≡ 0 → p ≡ 1 → sameWord w (nameIn text ks ss ls i) ≡ bindsAt text ks ss ls p i w
-    unfolding bindsAt
-    bind-there p e z = rw (sym ek ∙ e, z)
-
-module _ (text : List ℕ) (t : Table) (i k : ℕ) (ek : k ≡ getD (t .kinds) i 0) (p : ℕ) where
-  pub again-some : k ≡ 16 → hasWord (here text t (i + 1)) (binders p (tokensFrom text t (i + 1))) ≡ againAt text t p i
-  unfolding againAt
-  again-some e = rw (sym ek ∙ e)
-
-  pub again-other : (k ≡ 16 → ⊥) → (k ≡ 0 → ⊥) → false ≡ againAt text t p i
-  unfolding againAt
-  again-other a b = rw (ne-eqb (getD (t .kinds) i 0) 0 (λ e. b (ek ∙ e)), ne-eqb (getD (t .kinds) i 0) 16 (λ e. a (ek ∙ e)))
-
-  pub again-apart : k ≡ 0 → (p ≡ 1 → ⊥) → false ≡ againAt text t p i
-  unfolding againAt
-  again-apart e h = rw (sym ek ∙ e, binding-other p h)
-
-  pub again-there : k ≡ 0 → p ≡ 1 → hasWord (here text t i) (binders p (tokensFrom text t (i + 1))) ≡ againAt text t p i
-  unfolding againAt
-  again-there e z = rw (sym ek ∙ e, z)
-
 -- what a search over the places keeps
 pub found-here : {a b : Bool} (c : Bool) → a ≡ (b || c) → b ≡ true → true ≡ a
 found-here c e h = sym (rw h at e)
@@ -373,24 +311,10 @@ found-here c e h = sym (rw h at e)
 pub not-here : {a b c : Bool} → a ≡ (b || c) → b ≡ false → a ≡ c
 not-here e h = rw h at e
 
-pub twice-here : {a b : Bool} (c : Bool) → a ≡ (not b && c) → b ≡ true → false ≡ a
-twice-here c e h = sym (rw h at e)
-
-pub once-here : {a b c : Bool} → a ≡ (not b && c) → b ≡ false → a ≡ c
-once-here e h = rw h at e
-
 module _ (text : List ℕ) (t : Table) (i : ℕ) (h : length (t .kinds) ≤ i) where
   pub no-use-left : (d : ℕ) (x : Word) → false ≡ hasWord x (uses d (tokensFrom text t i))
   unfolding hasWord any uses
   no-use-left d x = rw (from-end text t i h)
-
-  pub no-bind-left : (p : ℕ) (x : Word) → false ≡ hasWord x (binders p (tokensFrom text t i))
-  unfolding hasWord any binders
-  no-bind-left p x = rw (from-end text t i h)
-
-  pub all-once : (p : ℕ) → true ≡ uniqueWords (binders p (tokensFrom text t i))
-  unfolding uniqueWords binders
-  all-once p = rw (from-end text t i h)
 
   pub main-end : tokensFrom text t i ≡ mainOf (tokensFrom text t i)
   unfolding mainOf

@@ -1,14 +1,15 @@
 // A text's tokens by their places: names, which symbols are used and bound, where the targets begin.
 ghost use mathlib.Core.Path.{_≡_};
-ghost use mathlib.Core.Bool.{not, cond, _&&_};
+ghost use mathlib.Core.Bool.{true, cond, _&&_};
 ghost use mathlib.Core.List.{List, [], _∷_};
 ghost use Prim.Native.Nat.{ℕ, _+_, _<_, _≤_};
 ghost use lib.Dec.{leb};
-ghost use lib.ListN.{length, take, drop};
+ghost use lib.ListN.{length, getD, take, drop};
 ghost use Rattle.quel.specs.Results.{sameWord, hasWord, uniqueWords};
 ghost use Rattle.flat.specs.Flat.{uses, binders, mainOf, lastOf};
 ghost use Rattle.flat.specs.Flat as F;
-ghost use Rattle.marks.specs.Places.{table, tokensFrom, nameIn, pointIn, depthKind, partKind, usesAt, bindsAt, againAt};
+ghost use Rattle.buckets.specs.Chains.{bucketOf};
+ghost use Rattle.marks.specs.Places.{table, tokensFrom, nameIn, pointIn, depthKind, partKind, usesAt, boundPlace, bindsKind, boundWord, HeldAt, ChainedAt, boundBefore, Told};
 
 fn wide(x: u16) -> usize
     ensures { λ r. ⌜ r ≡ x ⌝ }
@@ -188,73 +189,140 @@ fn part(kind: u8, p: u8) -> u8
     }
 }
 
-// Whether the token at i binds the name at x.
-fn binds_at(
-    text: &[u8],
-    kinds: &[u8],
-    starts: &[u16],
-    lengths: &[u16],
-    p: u8,
-    i: usize,
-    x: usize,
-) -> bool
+// The place of the name that a token binds: after SOME, or its own.
+fn bound_place(kinds: &[u8], i: usize) -> usize
     requires { ⌜ i < 4000 ⌝ }
-    ensures { λ r. ⌜ r ≡ bindsAt (now (text .entry)) (now (kinds .entry)) (now (starts .entry)) (now (lengths .entry)) p i (nameIn (now (text .entry)) (now (kinds .entry)) (now (starts .entry)) (now (lengths .entry)) x) ⌝ }
+    ensures { λ r. ⌜ r ≡ boundPlace (now (kinds .entry)) i ⌝ }
 {
-    let kind = kinds::byte(kinds, i);
-    if kind == 16 {
-        return same_names(text, kinds, starts, lengths, x, i + 1);
+    if kinds::byte(kinds, i) == 16 {
+        i + 1
+    } else {
+        i
     }
-    if kind != 0 {
-        return false;
-    }
-    if p != 1 {
-        return false;
-    }
-    same_names(text, kinds, starts, lengths, x, i)
 }
 
-// Whether the tokens from a place on bind the name at x.
-fn bound(
+// Whether a token of a bucket's chain binds the name that the token at i binds.
+fn known(
     text: &[u8],
     kinds: &[u8],
     starts: &[u16],
     lengths: &[u16],
-    p: u8,
-    from: usize,
-    x: usize,
+    heads: &[u16],
+    nexts: &[u16],
+    bucket: usize,
+    i: usize,
 ) -> bool
-    requires { ⌜ (length (now kinds) < 4000) × (p ≤ 2) ⌝ }
-    ensures { λ r. ⌜ ((ns : List ℕ) → r ≡ hasWord (nameIn (now (text .entry)) (now (kinds .entry)) (now (starts .entry)) (now (lengths .entry)) x) (binders p (tokensFrom (now (text .entry)) (table (now (kinds .entry)) (now (starts .entry)) (now (lengths .entry)) ns) from))) ⌝ }
+    requires { ⌜ (i < 4000) × (bucket < 1024) × (bucket ≡ bucketOf (boundWord (now text) (now kinds) (now starts) (now lengths) i)) × ChainedAt (now text) (now kinds) (now starts) (now lengths) i (now heads) (now nexts) ⌝ }
+    ensures { λ r. ⌜ ((xs : List ℕ) → HeldAt (now (text .entry)) (now (kinds .entry)) (now (starts .entry)) (now (lengths .entry)) i (now (heads .entry)) (now (nexts .entry)) xs → r ≡ boundBefore (now (text .entry)) (now (kinds .entry)) (now (starts .entry)) (now (lengths .entry)) i xs) ⌝ }
 {
-    let mut i = from;
-    let mut q = p;
-    while i < kinds.len() {
-        if binds_at(text, kinds, starts, lengths, q, i, x) {
+    let x = bound_place(kinds, i);
+    let mut link = kinds::size_at(heads, bucket);
+    while 0 < link {
+        let at = link - 1;
+        if same_names(text, kinds, starts, lengths, bound_place(kinds, at), x) {
             return true;
         }
-        q = part(kinds[i], q);
-        i += 1;
+        link = kinds::size_at(nexts, at);
     }
     false
 }
 
-// Whether the token at i binds a name that is bound again after it.
-fn again(text: &[u8], kinds: &[u8], starts: &[u16], lengths: &[u16], p: u8, i: usize) -> bool
-    requires { ⌜ (length (now kinds) < 4000) × (i < 4000) × (p ≤ 2) ⌝ }
-    ensures { λ r. ⌜ ((ns : List ℕ) → r ≡ againAt (now (text .entry)) (table (now (kinds .entry)) (now (starts .entry)) (now (lengths .entry)) ns) p i) ⌝ }
+// Whether no token before binds the name that the token at i binds. It is chained then.
+fn fresh(
+    text: &[u8],
+    kinds: &[u8],
+    starts: &[u16],
+    lengths: &[u16],
+    heads: &mut [u16],
+    nexts: &mut [u16],
+    i: usize,
+) -> bool
+    requires { ⌜ (i < 4000) × (1024 ≤ length (now heads)) × (i < length (now nexts)) × ChainedAt (now text) (now kinds) (now starts) (now lengths) i (now heads) (now nexts) ⌝ }
+    ensures { λ r. ⌜ ((xs : List ℕ) → HeldAt (now (text .entry)) (now (kinds .entry)) (now (starts .entry)) (now (lengths .entry)) i (now (heads .entry)) (now (nexts .entry)) xs → Told (now (text .entry)) (now (kinds .entry)) (now (starts .entry)) (now (lengths .entry)) i true xs (now (heads .exit)) (now (nexts .exit)) r) ⌝ }
 {
-    let kind = kinds::byte(kinds, i);
+    let x = bound_place(kinds, i);
+    let h = buckets::bucket(word(text, kinds, starts, lengths, x));
+    if known(text, kinds, starts, lengths, heads, nexts, h, i) {
+        return false;
+    }
+    buckets::put(heads, nexts, h, i, i);
+    true
+}
+
+// Whether a token of a kind binds a name.
+fn binds(kind: u8, p: u8) -> bool
+    ensures { λ r. ⌜ r ≡ bindsKind kind p ⌝ }
+{
     if kind == 16 {
-        return bound(text, kinds, starts, lengths, p, i + 1, i + 1);
+        return true;
     }
     if kind != 0 {
         return false;
     }
-    if p != 1 {
-        return false;
+    p == 1
+}
+
+// Whether the token at i binds no name, or one that no token before binds.
+fn once(
+    text: &[u8],
+    kinds: &[u8],
+    starts: &[u16],
+    lengths: &[u16],
+    heads: &mut [u16],
+    nexts: &mut [u16],
+    p: u8,
+    i: usize,
+) -> bool
+    requires { ⌜ (i < length (now kinds)) × (i < 4000) × (1024 ≤ length (now heads)) × (i < length (now nexts)) × ChainedAt (now text) (now kinds) (now starts) (now lengths) i (now heads) (now nexts) ⌝ }
+    ensures { λ r. ⌜ ((xs : List ℕ) → HeldAt (now (text .entry)) (now (kinds .entry)) (now (starts .entry)) (now (lengths .entry)) i (now (heads .entry)) (now (nexts .entry)) xs → Told (now (text .entry)) (now (kinds .entry)) (now (starts .entry)) (now (lengths .entry)) i (bindsKind (getD (now (kinds .entry)) i 0) p) xs (now (heads .exit)) (now (nexts .exit)) r) ⌝ }
+{
+    if !binds(kinds[i], p) {
+        return true;
     }
-    bound(text, kinds, starts, lengths, p, i + 1, i)
+    fresh(text, kinds, starts, lengths, heads, nexts, i)
+}
+
+// All tokens, with two tables for those that bind names.
+fn unique_with(
+    text: &[u8],
+    kinds: &[u8],
+    starts: &[u16],
+    lengths: &[u16],
+    heads: &mut [u16],
+    nexts: &mut [u16],
+) -> bool
+    requires { ⌜ (length (now kinds) < 4000) × (1024 ≤ length (now heads)) × (length (now kinds) ≤ length (now nexts)) × ((h : ℕ) → getD (now heads) h 0 ≡ 0) ⌝ }
+    ensures { λ r. ⌜ ((ns : List ℕ) → r ≡ uniqueWords (binders 0 (tokensFrom (now (text .entry)) (table (now (kinds .entry)) (now (starts .entry)) (now (lengths .entry)) ns) 0))) ⌝ }
+{
+    let mut i = 0;
+    let mut p = 0;
+    while i < kinds.len() {
+        if !once(text, kinds, starts, lengths, heads, nexts, p, i) {
+            return false;
+        }
+        p = part(kinds[i], p);
+        i += 1;
+    }
+    true
+}
+
+// Few tokens: the tables are small, and soon cleared.
+fn unique_short(text: &[u8], kinds: &[u8], starts: &[u16], lengths: &[u16]) -> bool
+    requires { ⌜ length (now kinds) ≤ 256 ⌝ }
+    ensures { λ r. ⌜ ((ns : List ℕ) → r ≡ uniqueWords (binders 0 (tokensFrom (now (text .entry)) (table (now (kinds .entry)) (now (starts .entry)) (now (lengths .entry)) ns) 0))) ⌝ }
+{
+    let mut heads = [0u16; 1024];
+    let mut nexts = [0u16; 256];
+    unique_with(text, kinds, starts, lengths, &mut heads, &mut nexts)
+}
+
+fn unique_long(text: &[u8], kinds: &[u8], starts: &[u16], lengths: &[u16]) -> bool
+    requires { ⌜ length (now kinds) < 4000 ⌝ }
+    ensures { λ r. ⌜ ((ns : List ℕ) → r ≡ uniqueWords (binders 0 (tokensFrom (now (text .entry)) (table (now (kinds .entry)) (now (starts .entry)) (now (lengths .entry)) ns) 0))) ⌝ }
+{
+    let mut heads = [0u16; 1024];
+    let mut nexts = [0u16; 4000];
+    unique_with(text, kinds, starts, lengths, &mut heads, &mut nexts)
 }
 
 // Whether no symbol is bound twice.
@@ -262,16 +330,10 @@ pub fn unique(text: &[u8], kinds: &[u8], starts: &[u16], lengths: &[u16]) -> boo
     requires { ⌜ length (now kinds) < 4000 ⌝ }
     ensures { λ r. ⌜ ((ns : List ℕ) → r ≡ uniqueWords (binders 0 (tokensFrom (now (text .entry)) (table (now (kinds .entry)) (now (starts .entry)) (now (lengths .entry)) ns) 0))) ⌝ }
 {
-    let mut i = 0;
-    let mut p = 0;
-    while i < kinds.len() {
-        if again(text, kinds, starts, lengths, p, i) {
-            return false;
-        }
-        p = part(kinds[i], p);
-        i += 1;
+    if kinds.len() <= 256 {
+        return unique_short(text, kinds, starts, lengths);
     }
-    true
+    unique_long(text, kinds, starts, lengths)
 }
 
 // Where the targets begin: after RETRIEVE, the workspace's name and a colon.

@@ -43,57 +43,14 @@ abbrev goodBy : ℕ → ℕ → Word → List ℕ → List ℕ → Bool
 goodBy k a w p y = (leb 80 k && leb k 82) && (isPadded w p && not (ltb 0 (length (seek (isNamed k a w) y))))
 
 module _ (x : List ℕ) (at k : ℕ) (ek : k ≡ getD x at 0) where
-  good-of : goodAt (drop at x) ≡ goodBy k (getD x (at + 1) 0) (nameAt x (at + placeOf k)) (drop (at + placeOf k) x) (drop (at + widthOf k) x)
+  pub good-of : goodAt (drop at x) ≡ goodBy k (getD x (at + 1) 0) (nameAt x (at + placeOf k)) (drop (at + placeOf k) x) (drop (at + widthOf k) x)
   unfolding goodAt again
   good-of =
       ap (λ (k : ℕ). goodBy k (getD (drop at x) 1 0) (nameAt (drop at x) (placeOf k)) (drop (placeOf k) (drop at x)) (drop (widthOf k) (drop at x))) (head-at x at ∙ sym ek)
       ∙ ap₂ (λ (a : ℕ) (w : Word). goodBy k a w (drop (placeOf k) (drop at x)) (drop (widthOf k) (drop at x))) (getD-drop at x 1 0) (name-at x at (placeOf k))
       ∙ ap₂ (λ (p y : List ℕ). goodBy k (getD x (at + 1) 0) (nameAt x (at + placeOf k)) p y) (drop-drop (placeOf k) at x) (drop-drop (widthOf k) at x)
 
-  pub good-low : k < 80 → false ≡ goodAt (drop at x)
-  good-low h = sym (good-of ∙ rw (lt-leb 80 k h))
-
-  pub good-high : 82 < k → false ≡ goodAt (drop at x)
-  good-high h = sym (good-of ∙ rw (le-leb 80 k (omega arith), lt-leb k 82 h))
-
-  module _ (low : 80 ≤ k) (high : k ≤ 82) (o : ℕ) (eo : o ≡ placeOf k) (t : Bool) (et : t ≡ isPadded (nameAt x (at + o)) (drop (at + o) x)) where
-    good-rest : goodAt (drop at x) ≡ (t && not (ltb 0 (length (seek (isNamed k (getD x (at + 1) 0) (nameAt x (at + o))) (drop (at + (o + 12)) x)))))
-    good-rest =
-        good-of
-        ∙ ap (λ (i : ℕ). goodBy k (getD x (at + 1) 0) (nameAt x (at + i)) (drop (at + i) x) (drop (at + (i + 12)) x)) (sym eo)
-        ∙ rw (le-leb 80 k low, le-leb k 82 high, sym et)
-
-    pub good-name : not t ≡ true → false ≡ goodAt (drop at x)
-    good-name f = sym (good-rest ∙ rw (not-true t f))
-
-    pub good-is : (n a : ℕ) (w : Word) → not t ≡ false → a ≡ getD x (at + 1) 0 → w ≡ nameAt x (at + o) → drop n x ≡ seek (isNamed k a w) (drop (at + o + 12) x) → leb (length x) n ≡ goodAt (drop at x)
-    good-is n a w f ea ew e =
-        let s : at + o + 12 ≡ at + (o + 12) = omega arith in
-        nothing (leb (length x) n) refl
-        ∙ ap (λ (y : List ℕ). not (ltb 0 (length y))) (e ∙ ap₂ (λ (a : ℕ) (w : Word). seek (isNamed k a w) (drop (at + o + 12) x)) ea ew ∙ ap (λ (i : ℕ). seek (isNamed k (getD x (at + 1) 0) (nameAt x (at + o))) (drop i x)) s)
-        ∙ sym (good-rest ∙ rw (not-false t f))
-      where
-        nothing : (b : Bool) → leb (length x) n ≡ b → b ≡ not (ltb 0 (length (drop n x)))
-        nothing true h = sym (ap not (le-ltb 0 (length (drop n x)) (omega (arith, length-drop n x, leb-true (length x) n h))))
-        nothing false h = sym (ap not (lt-ltb 0 (length (drop n x)) (omega (arith, length-drop n x, leb-false (length x) n h))))
-
--- one turn of the loop
-passes-some : (y : List ℕ) → 0 < length y → passes y ≡ (goodAt y && passes (drop (widthOf (getD y 0 0)) y))
+-- the first record, and the rest
+pub passes-some : (y : List ℕ) → 0 < length y → passes y ≡ (goodAt y && passes (drop (widthOf (getD y 0 0)) y))
 passes-some [] h = absurd (omega arith)
 passes-some (k ∷ r) h = passes-cons k r
-
-module _ (x : List ℕ) (at : ℕ) (h : at < length x) (g w : Bool) (eg : g ≡ goodAt (drop at x)) (e : passes (drop at x) ≡ w) where
-  passes-at : (g && passes (drop (widthOf (getD (drop at x) 0 0)) (drop at x))) ≡ w
-  passes-at = ap (λ (b : Bool). b && passes (drop (widthOf (getD (drop at x) 0 0)) (drop at x))) eg ∙ sym (passes-some (drop at x) (simp length-drop (omega arith))) ∙ e
-
-  pub passes-stopped : not g ≡ true → false ≡ w
-  passes-stopped f = sym (ap (λ (b : Bool). b && passes (drop (widthOf (getD (drop at x) 0 0)) (drop at x))) (not-true g f)) ∙ passes-at
-
-  pub passes-on : (k o : ℕ) → not g ≡ false → k ≡ getD x at 0 → o ≡ placeOf k → passes (drop (at + (o + 12)) x) ≡ w
-  passes-on k o f ek eo =
-      ap passes (sym (rest-at x at k o h ek eo))
-      ∙ sym (ap (λ (b : Bool). b && passes (drop (widthOf (getD (drop at x) 0 0)) (drop at x))) (not-false g f))
-      ∙ passes-at
-
-pub passes-end : (x : List ℕ) (at : ℕ) (w : Bool) → length x ≤ at → passes (drop at x) ≡ w → true ≡ w
-passes-end x at w h e = passes-none ∙ ap passes (sym (drop-of-length-le x h)) ∙ e

@@ -6,3 +6,4 @@ pub mod Finds
 pub mod Reading
 pub mod Checked
 pub mod Callers
+pub mod Once

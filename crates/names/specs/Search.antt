@@ -1,16 +1,27 @@
 -- How the code searches a name list: the bytes from the first record on that has a name.
-use Prim.Native.Nat.{ℕ, zero, suc, _-_}
-use mathlib.Core.Bool.{Bool, not, cond, _&&_, _||_}
+use Prim.Native.Nat.{ℕ, zero, suc, _+_, _-_, _/_}
+use mathlib.Core.Path.{_≡_}
+use mathlib.Core.Bool.{Bool, true, not, cond, _&&_, _||_}
 use mathlib.Core.List.{List, [], _∷_}
 use lib.Dec.{eqb, leb, ltb}
 use lib.ListN.{length, getD, drop}
+use Rattle.model.specs.Lists.{any, all}
 use Rattle.quel.specs.Results.{Word, sameWord}
+use Rattle.buckets.specs.Chains.{bucketOf, Held, Chained}
 use Rattle.quel.specs.Names.{isPadded}
 use Rattle.names.specs.Entries.{placeOf, widthOf, nameAt}
 
 -- how many letters a good name at a place has, 0 where none stands there
 unfoldable pub goodLetters : List ℕ → ℕ → ℕ
 goodLetters x i = cond (isPadded (nameAt x i) (drop i x)) (length (nameAt x i)) 0
+
+-- the name of the record at a place
+abbrev pub nameOf : List ℕ → ℕ → Word
+nameOf x i = nameAt x (i + placeOf (getD x i 0))
+
+-- how many letters a good record's name has, 0 where the one at a place is none
+unfoldable pub recordLetters : List ℕ → ℕ → ℕ
+recordLetters x i = let k = getD x i 0 in cond (leb 80 k && leb k 82) (goodLetters x (i + placeOf k)) 0
 
 -- whether the record that x starts with has the kind k and the name w, and, an attribute, belongs to the relation q
 unfoldable pub isNamed : ℕ → ℕ → Word → List ℕ → Bool
@@ -32,3 +43,36 @@ again x = let k = getD x 0 0 in ltb 0 (length (seek (isNamed k (getD x 1 0) (nam
 -- the first record is good, and its name comes once
 unfoldable pub goodAt : List ℕ → Bool
 goodAt x = let k = getD x 0 0 in (leb 80 k && leb k 82) && (isPadded (nameAt x (placeOf k)) (drop (placeOf k) x) && not (again x))
+
+-- Each name once, by the records before: those at xs are in chains by their names (a record has at least 14 bytes).
+module _ (x : List ℕ) where
+  -- whether a record has the kind, the name and, an attribute, the relation of the one at i
+  abbrev pub like : ℕ → List ℕ → Bool
+  like i y = isNamed (getD x i 0) (getD x (i + 1) 0) (nameOf x i) y
+
+  abbrev pub HeldIn : ℕ → List ℕ → List ℕ → List ℕ → Type 0
+  HeldIn at heads nexts xs = Held (λ (i : ℕ). bucketOf (nameOf x i)) (λ (i : ℕ). i / 14) at heads nexts xs
+
+  abbrev pub ChainedIn : ℕ → List ℕ → List ℕ → Type 0
+  ChainedIn at heads nexts = Chained (λ (i : ℕ). bucketOf (nameOf x i)) (λ (i : ℕ). i / 14) at heads nexts
+
+  -- one of the records at xs is like the one at i
+  abbrev pub listedBefore : ℕ → List ℕ → Bool
+  listedBefore i xs = any (λ (j : ℕ). like i (drop j x)) xs
+
+  -- some record from a place on is like the one at i
+  abbrev pub later : ℕ → ℕ → Bool
+  later i at = ltb 0 (length (seek (like i) (drop at x)))
+
+  -- no record from a place on is like one of those at xs
+  abbrev pub apart : List ℕ → ℕ → Bool
+  apart xs at = all (λ (i : ℕ). not (later i at)) xs
+
+  abbrev pub after : ℕ → ℕ
+  after i = i + widthOf (getD x i 0)
+
+  -- the answer at record i, with b the answer of all that is left: what it says of this record, and the records that are held to those after it
+  pub record Told (i : ℕ) (xs heads nexts : List ℕ) (r : Bool) : Type 0 where
+    pub places : List ℕ
+    pub says : (b : Bool) → ((not (later i (after i)) && b) && apart xs i) ≡ (r && (b && apart places (after i)))
+    pub held : r ≡ true → HeldIn (after i) heads nexts places

@@ -1,15 +1,17 @@
 // The lent name list (document 02, Change 1): checked whole, and looked up, by its bytes; nothing is copied.
 ghost use mathlib.Core.Path.{_≡_};
 ghost use mathlib.Core.Bool.{not, _||_};
-ghost use Prim.Native.Nat.{_+_, _≤_, _<_};
+ghost use mathlib.Core.List.{List};
+ghost use Prim.Native.Nat.{ℕ, _+_, _≤_, _<_};
 ghost use lib.Dec.{eqb};
 ghost use lib.ListN.{length, getD, take, drop};
 ghost use Rattle.model.specs.Lists.{all};
 ghost use Rattle.quel.specs.Results.{sameWord};
 ghost use Rattle.quel.specs.Tokens.{isLetter, isReserved};
 ghost use Rattle.quel.specs.Names.{names, relationNamed, attributeNamed, valueNamed};
+ghost use Rattle.buckets.specs.Chains.{bucketOf};
 ghost use Rattle.names.specs.Entries.{placeOf, nameAt, entries};
-ghost use Rattle.names.specs.Search.{isNamed, seek, goodLetters, goodAt};
+ghost use Rattle.names.specs.Search.{isNamed, seek, goodLetters, nameOf, recordLetters, HeldIn, ChainedIn, listedBefore, Told};
 ghost use Rattle.names.specs.Answers.{failed, found, valued};
 
 // A relation's or an attribute's number.
@@ -190,40 +192,105 @@ fn find(list: &[u8], from: usize, kind: u8, relation: u8, word: &[u8]) -> usize
     at
 }
 
-// Whether the record at a place is good, and its name comes once. A search for each record: the check is quadratic in the list.
-fn is_good(list: &[u8], at: usize) -> bool
+// How many letters the name of a good record has, 0 where the one at a place is none.
+fn record_letters(list: &[u8], at: usize) -> usize
     requires { ⌜ at ≤ length (now list) ⌝ }
-    ensures { λ r. ⌜ r ≡ goodAt (drop at (now (list .entry))) ⌝ }
+    ensures { λ r. ⌜ r ≡ recordLetters (now (list .entry)) at ⌝ }
+    ensures { λ r. ⌜ r ≤ 12 ⌝ }
 {
     let kind = kinds::byte(list, at);
     if kind < 80 {
-        return false;
+        return 0;
     }
     if 82 < kind {
-        return false;
+        return 0;
     }
-    let from = at + place(kind);
-    let count = good_letters(list, from);
-    if count == 0 {
-        return false;
-    }
-    let end = from + count;
+    good_letters(list, at + place(kind))
+}
+
+// Whether a record of a bucket's chain is like the one at a place, whose name is the word.
+fn known(list: &[u8], heads: &[u16], nexts: &[u16], bucket: usize, at: usize, word: &[u8]) -> bool
+    requires { ⌜ (at ≤ length (now list)) × (bucket < 1024) × (now word ≡ nameOf (now list) at) × (bucket ≡ bucketOf (now word)) × ChainedIn (now list) at (now heads) (now nexts) ⌝ }
+    ensures { λ r. ⌜ ((xs : List ℕ) → HeldIn (now (list .entry)) at (now (heads .entry)) (now (nexts .entry)) xs → r ≡ listedBefore (now (list .entry)) at xs) ⌝ }
+{
+    let kind = kinds::byte(list, at);
     let relation = kinds::byte(list, at + 1);
+    let mut link = kinds::size_at(heads, bucket);
+    while 0 < link {
+        let i = link - 1;
+        if named(list, i, kind, relation, word) {
+            return true;
+        }
+        link = kinds::size_at(nexts, i / 14);
+    }
+    false
+}
+
+// Whether no record before a good one is like it. It is chained then; one that is past the table is held to those after it.
+fn fresh(list: &[u8], at: usize, count: usize, heads: &mut [u16], nexts: &mut [u16]) -> bool
+    requires { ⌜ (at ≤ length (now list)) × (count ≡ recordLetters (now list) at) × (count ≤ 12) × (1 ≤ count) × (1024 ≤ length (now heads)) × (length (now nexts) ≤ 4096) × ChainedIn (now list) at (now heads) (now nexts) ⌝ }
+    ensures { λ r. ⌜ ((xs : List ℕ) → HeldIn (now (list .entry)) at (now (heads .entry)) (now (nexts .entry)) xs → Told (now (list .entry)) at xs (now (heads .exit)) (now (nexts .exit)) r) ⌝ }
+{
+    let kind = kinds::byte(list, at);
+    let relation = kinds::byte(list, at + 1);
+    let from = at + place(kind);
+    let end = from + count;
+    let h = buckets::bucket(&list[from..end]);
+    if known(list, heads, nexts, h, at, &list[from..end]) {
+        return false;
+    }
+    let slot = at / 14;
+    if slot < nexts.len() {
+        buckets::put(heads, nexts, h, slot, at);
+        return true;
+    }
     list.len() <= find(list, from + 12, kind, relation, &list[from..end])
+}
+
+// The whole list, with two tables for its records.
+fn listed_with(list: &[u8], heads: &mut [u16], nexts: &mut [u16]) -> bool
+    requires { ⌜ (1024 ≤ length (now heads)) × (length (now nexts) ≤ 4096) × ((h : ℕ) → getD (now heads) h 0 ≡ 0) ⌝ }
+    ensures { λ r. ⌜ r ≡ not (failed (names (now (list .entry)))) ⌝ }
+{
+    let mut at = 0;
+    while at < list.len() {
+        let count = record_letters(list, at);
+        if count == 0 {
+            return false;
+        }
+        if !fresh(list, at, count, heads, nexts) {
+            return false;
+        }
+        at += place(kinds::byte(list, at)) + 12;
+    }
+    true
+}
+
+// A short list: its tables are small, and soon cleared.
+fn listed_short(list: &[u8]) -> bool
+    ensures { λ r. ⌜ r ≡ not (failed (names (now (list .entry)))) ⌝ }
+{
+    let mut heads = [0u16; 1024];
+    let mut nexts = [0u16; 256];
+    listed_with(list, &mut heads, &mut nexts)
+}
+
+fn listed_long(list: &[u8]) -> bool
+    ensures { λ r. ⌜ r ≡ not (failed (names (now (list .entry)))) ⌝ }
+{
+    let mut heads = [0u16; 1024];
+    let mut nexts = [0u16; 4096];
+    listed_with(list, &mut heads, &mut nexts)
 }
 
 // Whether a name list is good, from its first byte to its last; 51 otherwise.
 pub fn listed(list: &[u8]) -> bool
     ensures { λ r. ⌜ r ≡ not (failed (names (now (list .entry)))) ⌝ }
 {
-    let mut at = 0;
-    while at < list.len() {
-        if !is_good(list, at) {
-            return false;
-        }
-        at += place(kinds::byte(list, at)) + 12;
+    if list.len() <= 3584 {
+        return listed_short(list);
     }
-    true
+    listed_long(list)
 }
 
 // A word of more than twelve letters is found nowhere.

@@ -67,17 +67,29 @@ module _ (ws : List ℕ) (vs m : List ℤ) (e q z : List ℕ) (left l at : ℕ) 
           let same : cellsBy m (targetsAt (suc k - 1) l u v) (rowsBy ws vs) (assigned vs e₁) ≡ rest = rw (sub-one, ee, eu, ev, en) in
           rw ex (one-cell b row y w at x rest (ey ∙ ap (set row at) ec) (subst (Written b y (at + 1) w) same f))
 
--- one target that is an attribute, before others
-module _ (vs : List ℤ) (e q z : List ℕ) (left l at p : ℕ) (row : List ℤ) where
-  pub attributes-more : (u : List ℕ) (r : Record) (v a place n next : ℕ) (t c : ℤ) (y w : List ℤ) → (left ≡ 0 → ⊥) → (l ≡ 0 → ⊥) → u ≡ drop p q → r ≡ recordAt u → r ≡ R.Attribute v a → v < length e
-      → place ≡ getD e v 0 → t ≡ getD vs (place + a) (pos 0) → c ≡ t → y ≡ set row at c → n ≡ getD z p 0 → next ≡ p + n
-      → ((m : List ℤ) (ws : List ℕ) → Written true y (at + 1) w (cellsBy m (targetsAt (left - 1) l (drop next q) (drop next z)) (rowsBy ws vs) (assigned vs e)))
-      → (m : List ℤ) (ws : List ℕ) → Written true row at w (cellsBy m (targetsAt left l (drop p q) (drop p z)) (rowsBy ws vs) (assigned vs e))
-  attributes-more u r v a place n next t c y w nz lz eu er ea hv ep et ec ey en ex f m ws =
-      let cells = sym (attribute-is ws vs m e (drop p q) (drop p z) l v a place r t lz (er ∙ ap recordAt eu) ea hv ep et) in
-      let k : p ≡ p + 0 = omega arith in
-      let size : n ≡ getD (drop p z) 0 0 = en ∙ ap (λ (i : ℕ). getD z i 0) k ∙ sym (getD-drop p z 0 0) in
-      targets-more ws vs m e (drop p q) (drop p z) left l at row true (whole t) c n y w (drop next q) (drop next z) e nz cells (ec ∙ sym (cell-whole t)) ey size (ap (λ (k : ℕ). drop k q) ex ∙ sym (drop-drop n p q)) (ap (λ (k : ℕ). drop k z) ex ∙ sym (drop-drop n p z)) refl (f m ws)
+-- targets that are attributes, one after the other: once those from place p on are written from cell i on, all from `start` on are
+module _ (vs : List ℤ) (e q z : List ℕ) (n l start : ℕ) (row₀ : List ℤ) where
+  abbrev pub Rest : List ℤ → ℕ → ℕ → Type 0
+  Rest row p i = (m : List ℤ) (ws : List ℕ) (w : List ℤ) → Written true row i w (cellsBy m (targetsAt (n - i) l (drop p q) (drop p z)) (rowsBy ws vs) (assigned vs e))
+      → Written true row₀ 0 w (cellsBy m (targetsAt n l (drop start q) (drop start z)) (rowsBy ws vs) (assigned vs e))
+
+  pub rest-start : Rest row₀ start 0
+  rest-start m ws w h = let k : n - 0 ≡ n = omega arith in subst (λ (j : ℕ). Written true row₀ 0 w (cellsBy m (targetsAt j l (drop start q) (drop start z)) (rowsBy ws vs) (assigned vs e))) k h
+
+  module _ (row : List ℤ) (p i : ℕ) (rest : Rest row p i) where
+    pub rest-end : n ≤ i → (m : List ℤ) (ws : List ℕ) → Written true row₀ 0 row (cellsBy m (targetsAt n l (drop start q) (drop start z)) (rowsBy ws vs) (assigned vs e))
+    rest-end h m ws = rest m ws row (targets-none ws vs m e (drop p q) (drop p z) (n - i) l i row (omega arith))
+
+    pub rest-more : (u : List ℕ) (r : Record) (v a place k next : ℕ) (t c : ℤ) (y : List ℤ) → i < n → (l ≡ 0 → ⊥) → u ≡ drop p q → r ≡ recordAt u → r ≡ R.Attribute v a → v < length e
+        → place ≡ getD e v 0 → t ≡ getD vs (place + a) (pos 0) → c ≡ t → y ≡ set row i c → k ≡ getD z p 0 → next ≡ p + k → Rest y next (i + 1)
+    rest-more u r v a place k next t c y l′ lz eu er ea hv ep et ec ey ek ex m ws w h =
+        let cells = sym (attribute-is ws vs m e (drop p q) (drop p z) l v a place r t lz (er ∙ ap recordAt eu) ea hv ep et) in
+        let o : p ≡ p + 0 = omega arith in
+        let size : k ≡ getD (drop p z) 0 0 = ek ∙ ap (λ (j : ℕ). getD z j 0) o ∙ sym (getD-drop p z 0 0) in
+        let left : n - (i + 1) ≡ n - i - 1 = omega arith in
+        rest m ws w (targets-more ws vs m e (drop p q) (drop p z) (n - i) l i row true (whole t) c k y w (drop next q) (drop next z) e (λ f. let g : n ≤ i = omega arith in absurd (omega arith)) cells (ec ∙ sym (cell-whole t)) ey size
+        (ap (λ (j : ℕ). drop j q) ex ∙ sym (drop-drop k p q)) (ap (λ (j : ℕ). drop j z) ex ∙ sym (drop-drop k p z)) refl
+        (subst (λ (j : ℕ). Written true y (i + 1) w (cellsBy m (targetsAt j l (drop next q) (drop next z)) (rowsBy ws vs) (assigned vs e))) left h))
 
 length-targets : (n l : ℕ) (q z : List ℕ) → length (targetsAt n l q z) ≡ n
 unfolding targetsAt

@@ -75,38 +75,39 @@ fn targets(
     targets(u, v, left - 1, level, walks, vs, memo, env, row, at + 1)
 }
 
-// The cells of targets that are all attributes, from place p of the query on; false where one is something else.
+// The cells of targets that are all attributes, from place `start` of the query on; false where one is something else.
 fn attributes(
     q: &[u8],
     z: &[u16],
-    p: usize,
-    left: usize,
+    start: usize,
+    n: usize,
     level: usize,
     vs: &[i32],
     env: &[usize],
     row: &mut [i64],
-    at: usize,
 ) -> bool
-    requires { ⌜ (256 ≤ length (now env)) × (at + left ≤ length (now row)) ⌝ }
-    ensures { λ r. ⌜ (r ≡ true → (m : List ℤ) (ws : List ℕ) → Written true (now (row .entry)) at (now (row .exit)) (cellsBy m (targetsAt left level (drop p (now (q .entry))) (drop p (now (z .entry)))) (rowsBy ws (now (vs .entry))) (assigned (now (vs .entry)) (now (env .entry))))) ⌝ }
+    requires { ⌜ (256 ≤ length (now env)) × (n ≤ length (now row)) ⌝ }
+    ensures { λ r. ⌜ (r ≡ true → (m : List ℤ) (ws : List ℕ) → Written true (now (row .entry)) 0 (now (row .exit)) (cellsBy m (targetsAt n level (drop start (now (q .entry))) (drop start (now (z .entry)))) (rowsBy ws (now (vs .entry))) (assigned (now (vs .entry)) (now (env .entry))))) ⌝ }
 {
-    if left == 0 {
-        return true;
-    }
     if level == 0 {
         return false;
     }
-    if 65535 < p {
-        return false;
+    let mut p = start;
+    let mut i = 0;
+    while i < n {
+        if 65535 < p {
+            return false;
+        }
+        let Record::Attribute(variable, attribute) = kinds::read(kinds::tail(q, p)) else {
+            return false;
+        };
+        let place = evaluator::place(env, variable);
+        let cell = numbers::wide(catalogue::cell(vs, place, attribute));
+        row[i] = cell;
+        p += kinds::size_at(z, p);
+        i += 1;
     }
-    let Record::Attribute(variable, attribute) = kinds::read(kinds::tail(q, p)) else {
-        return false;
-    };
-    let place = evaluator::place(env, variable);
-    let cell = numbers::wide(catalogue::cell(vs, place, attribute));
-    row[at] = cell;
-    let next = p + kinds::size_at(z, p);
-    attributes(q, z, next, left - 1, level, vs, env, row, at + 1)
+    true
 }
 
 // The cells of an assignment's row; whether each target has a value. Attributes, the usual targets, are read without the evaluator.
@@ -127,7 +128,7 @@ fn cells(
     let level = plan.level;
     let n = plan.columns;
     let t = plan.targets;
-    if attributes(q, z, t, n, level, vs, env, row, 0) {
+    if attributes(q, z, t, n, level, vs, env, row) {
         return true;
     }
     let x = kinds::tail(q, t);

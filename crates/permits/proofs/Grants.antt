@@ -60,15 +60,16 @@ module _ (cb : List ℕ) (r m n : ℕ) (c w : ℕ) (ec : c ≡ countOf cb) (ew :
   pub named-is : w < c → (a : ℕ) → a ≡ n → (x : Bool) → x ≡ maskIn a m → x ≡ (ltb r (countOf cb) && maskIn n m)
   named-is h a ea x ex = ex ∙ ap (λ i. maskIn i m) ea ∙ sym (ap (λ (b : Bool). b && maskIn n m) (lt-ltb r (countOf cb) (omega (arith, ec, ew))))
 
--- what a condition binds
-nothing-bound : (bs : List Binding) → length bs ≡ 0 → bs ≡ []
-nothing-bound [] h = refl
-nothing-bound (b ∷ bs) h = absurd (omega arith)
+-- a list of length 0
+nothing : {A : Type 0} (x : List A) → length x ≡ 0 → x ≡ []
+nothing [] e = refl
+nothing (a ∷ x) e = absurd (omega arith)
 
+-- what a condition binds
 module _ (c : List ℕ) (n : ℕ) (en : n ≡ length (flatBindings c)) where
   pub none-once : n ≡ 0 → true ≡ unique (0 ∷ variables (flatBindings c))
   unfolding unique contains any
-  none-once h = sym (ap (λ (bs : List Binding). unique (0 ∷ variables bs)) (nothing-bound (flatBindings c) (omega (arith, en, h))))
+  none-once h = sym (ap (λ (bs : List Binding). unique (0 ∷ variables bs)) (nothing (flatBindings c) (omega (arith, en, h))))
 
   module _ (cb : List ℕ) (r : ℕ) (s : Bool) (es : s ≡ storedOf cb r) where
     pub stored-not : not s ≡ true → false ≡ (storedOf cb r && all (storedIn cb) (flatBindings c))
@@ -79,7 +80,7 @@ module _ (c : List ℕ) (n : ℕ) (en : n ≡ length (flatBindings c)) where
 
     pub stored-none : not s ≡ false → n ≡ 0 → true ≡ (storedOf cb r && all (storedIn cb) (flatBindings c))
     unfolding all
-    stored-none h e = stored-all h true (sym (ap (all (storedIn cb)) (nothing-bound (flatBindings c) (omega (arith, en, e)))))
+    stored-none h e = stored-all h true (sym (ap (all (storedIn cb)) (nothing (flatBindings c) (omega (arith, en, e)))))
 
 -- the condition's scope: variable 0 alone
 pub in-permit : (sh : Shape) (r : ℕ) (t q : List ℕ) (x : Reading) → t ≡ set (replicate 256 0) 0 (r + 1) → x ≡ conditionReading sh 4 16 (scopeOf t) (drop 0 q) → x ≡ conditionReading sh 4 16 (permitScope r) q
@@ -194,10 +195,6 @@ permit-rest g h s u w v e =
     same-read c d s u (sym (read-encode c m s w (omega arith)) ∙ ap (λ x. readCondition m (drop 4 x)) e ∙ read-encode d m u v (omega arith))
 
 -- the list
-nothing : (x : List ℕ) → length x ≡ 0 → x ≡ []
-nothing [] e = refl
-nothing (a ∷ x) e = absurd (omega arith)
-
 module _ (sh : Shape) (list : List ℕ) (p k : ℕ) where
   pub list-end : length list ≤ p → ListRead sh list p k true true
   unfolding encodePermits WellFormedPs all

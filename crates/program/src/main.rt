@@ -1,4 +1,7 @@
 // The program of document 01: the four files of its folder, and what is printed of them.
+mod output;
+mod text;
+
 ghost use Rattle.io.specs.Counts.{Counts};
 use libc::STDOUT_FILENO;
 

@@ -31,9 +31,9 @@ use Rattle.tokens.specs.Pieces.{readOf, counted}
 use Rattle.tokens.specs.declared.Outcome.{Outcome}
 use Rattle.tokens.specs.declared.Outcome.the-variants as O
 use Rattle.syntax.specs.Verdict.{given, isText}
-use Rattle.turns.specs.After.{ended}
-use Rattle.loops.specs.declared.End.{End}
-use Rattle.loops.specs.declared.End.the-variants as E
+use Rattle.elaborate.specs.After.{ended}
+use Rattle.elaborate.specs.declared.End.{End}
+use Rattle.elaborate.specs.declared.End.the-variants as E
 use Rattle.elaborate.specs.Whole.{outcome}
 use Rattle.reader.specs.declared.Reading.{Reading}
 use Rattle.reader.specs.Readings.{readingOf, writing}

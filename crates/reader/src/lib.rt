@@ -1,5 +1,5 @@
 // The reader of QUEL (document 02, Change 1): a text and a name list, to the records of a question in a lent buffer.
-use loops::End;
+use elaborate::End;
 use tokens::Outcome;
 ghost use mathlib.Core.Path.{_≡_};
 ghost use Prim.Native.Nat.{_≤_, _<_};
@@ -123,18 +123,18 @@ fn read_with(
     )
 }
 
-// A short text: its tables are small, and soon cleared.
+// A short text: its tables are small, none over 2,048 bytes, and soon cleared.
 fn read_short(text: &[u8], list: &[u8], out: &mut [u8]) -> Reading
-    requires { ⌜ length (now text) ≤ 256 ⌝ }
+    requires { ⌜ length (now text) ≤ 255 ⌝ }
     ensures { λ r. ⌜ readingOf r (now (out .exit)) ≡ readText (now (list .entry)) (now (text .entry)) (now (out .entry)) ⌝ }
 {
-    let mut kinds = [0u8; 256];
-    let mut starts = [0u16; 256];
-    let mut lengths = [0u16; 256];
-    let mut numbers = [0u32; 256];
-    let mut counts = [0u64; 257];
-    let mut symbols = [0u64; 256];
-    let mut frames = [0u64; 257];
+    let mut kinds = [0u8; 255];
+    let mut starts = [0u16; 255];
+    let mut lengths = [0u16; 255];
+    let mut numbers = [0u32; 255];
+    let mut counts = [0u64; 256];
+    let mut symbols = [0u64; 255];
+    let mut frames = [0u64; 256];
     let mut spare = [0u8; 512];
     read_with(
         text,
@@ -182,7 +182,7 @@ fn read_long(text: &[u8], list: &[u8], out: &mut [u8]) -> Reading
 pub fn read(text: &[u8], list: &[u8], out: &mut [u8]) -> Reading
     ensures { λ r. ⌜ readingOf r (now (out .exit)) ≡ readText (now (list .entry)) (now (text .entry)) (now (out .entry)) ⌝ }
 {
-    if text.len() <= 256 {
+    if text.len() <= 255 {
         return read_short(text, list, out);
     }
     read_long(text, list, out)

@@ -1,6 +1,8 @@
 // The rewriting: a query's bytes written anew, with guards after the conditions of its bindings.
-use copier::Written;
+mod guard;
+
 use grammar::Layout;
+use guard::Written;
 use kinds::Record;
 ghost use mathlib.Core.Path.{_≡_};
 ghost use mathlib.Core.List.{List, [], _∷_, _++_};
@@ -204,13 +206,13 @@ fn under(
 {
     let m = mask(masks, variable);
     let a = first_child(q);
-    let p = copier::open_guard(out, at, m);
+    let p = guard::open_guard(out, at, m);
     let x = kinds::tail(q, a);
     let y = kinds::tail_sizes(z, a);
     let w = condition(x, y, permits, places, masks, out, p, next, level);
     let e = w.at;
     let n = w.next;
-    copier::write_guard(out, e, permits, places, m, variable, n)
+    guard::write_guard(out, e, permits, places, m, variable, n)
 }
 
 // Writes so many RANGE records.
@@ -271,7 +273,7 @@ fn open_ranges(q: &[u8], left: usize, masks: &[u8], out: &mut [u8], at: usize) -
         out,
         at,
     );
-    copier::open_guard(out, p, mask(masks, kinds::byte(q, 1)))
+    guard::open_guard(out, p, mask(masks, kinds::byte(q, 1)))
 }
 
 // Writes the guards of so many RANGEs.
@@ -293,7 +295,7 @@ fn guard_ranges(
         return Written { at: at, next: next };
     }
     let v = kinds::byte(q, 1);
-    let w = copier::write_guard(out, at, permits, places, mask(masks, v), v, next);
+    let w = guard::write_guard(out, at, permits, places, mask(masks, v), v, next);
     let p = w.at;
     let n = w.next;
     let x = kinds::tail(q, kinds::record_length(1));

@@ -2,7 +2,7 @@
 use mathlib.Core.Path.{_≡_, refl, sym, ap, _∙_, subst}
 use mathlib.Core.Bool.{Bool, true, false}
 use mathlib.Core.List.{List, [], _∷_}
-use Prim.Native.Nat.{ℕ, suc, _+_, _≤_, _<_}
+use Prim.Native.Nat.{ℕ, suc, _+_, _%_, _≤_, _<_}
 use native.Mathlib.Omega.{arith}
 use lib.Dec.{eqb}
 use lib.IntN.{ℤ}
@@ -14,7 +14,7 @@ use Rattle.walks.specs.Walks.{walkOf}
 use Rattle.chains.specs.Chains.{bucketAt, Built, Outside}
 use Rattle.chains.proofs.Steps.{built-kept}
 use Rattle.branches.proofs.Writing.{sets-before, sets-at}
-use Rattle.seeks.specs.Keys.{Decides, Chain, Filling}
+use Rattle.seeks.specs.Keys.{Decides, onward, Chain, Filling}
 
 -- numbers behind those that are written
 pub sets-behind : (l t : List ℕ) (at i : ℕ) → at + length l ≤ i → getD (sets t at l) i 0 ≡ getD t i 0
@@ -41,10 +41,10 @@ four t i a b c d x y z w ex ey ez ew =
     let i₃ : i + 3 ≡ suc (suc (suc i)) = omega arith in
     rw (ex, ey, ez, ew, i₁, i₂, i₃)
 
-module _ (free end start f v p n a : ℕ) (t ws : List ℕ) (vs : List ℤ) (c h b : List ℕ) (walk : Walk)
-    (filling : Filling free t ws vs c) (eh : h ≡ sets c free (v ∷ p ∷ n ∷ a ∷ [])) (room : free + 4 ≤ length c) (ew : walk ≡ walkOf ws v)
+module _ (free end start f v p n a other w : ℕ) (t ws : List ℕ) (vs : List ℤ) (c h b : List ℕ) (walk : Walk)
+    (filling : Filling free t ws vs c) (eh : h ≡ sets c free (v ∷ p ∷ w ∷ a ∷ [])) (room : free + 4 ≤ length c) (ew : walk ≡ walkOf ws v)
     (built : Built (bucketAt vs ws walk a) (walk .count) (free + 4) b) (out : Outside (free + 4) (free + 4 + 1024 + walk .count) h b)
-    (ee : end ≡ free + 1028 + walk .count) (he : end ≤ 65535) (hs : start < 64) (lb : start < length b) (ef : f ≡ free) (decides : Decides t start v p n a) where
+    (ee : end ≡ free + 1028 + walk .count) (he : end ≤ 65535) (hs : start < 64) (lb : start < length b) (ef : f ≡ free) (whole : onward w ≡ other) (part : w % 256 ≡ n) (decides : Decides t start other v p n a) where
   abbrev c′ : List ℕ
   c′ = set b start f
 
@@ -53,16 +53,16 @@ module _ (free end start f v p n a : ℕ) (t ws : List ℕ) (vs : List ℤ) (c h
 
   -- what it was, before and behind the chain
   before : (i : ℕ) → i < free → (i ≡ start → ⊥) → getD c′ i 0 ≡ getD c i 0
-  before i l o = getD-set-other b start i f 0 o ∙ out i (λ x y. omega arith) ∙ ap (λ (y : List ℕ). getD y i 0) eh ∙ sets-before 0 (v ∷ p ∷ n ∷ a ∷ []) c free i l
+  before i l o = getD-set-other b start i f 0 o ∙ out i (λ x y. omega arith) ∙ ap (λ (y : List ℕ). getD y i 0) eh ∙ sets-before 0 (v ∷ p ∷ w ∷ a ∷ []) c free i l
 
   behind : (i : ℕ) → end ≤ i → getD c′ i 0 ≡ getD c i 0
-  behind i l = getD-set-other b start i f 0 (λ e. omega (arith, low)) ∙ out i (λ x y. omega arith) ∙ ap (λ (y : List ℕ). getD y i 0) eh ∙ sets-behind (v ∷ p ∷ n ∷ a ∷ []) c free i (omega arith)
+  behind i l = getD-set-other b start i f 0 (λ e. omega (arith, low)) ∙ out i (λ x y. omega arith) ∙ ap (λ (y : List ℕ). getD y i 0) eh ∙ sets-behind (v ∷ p ∷ w ∷ a ∷ []) c free i (omega arith)
 
   here : getD c′ start 0 ≡ free
   here = getD-set-same b start f 0 lb ∙ ef
 
-  headed : (j : ℕ) → j < 4 → getD c′ (free + j) 0 ≡ getD (v ∷ p ∷ n ∷ a ∷ []) j 0
-  headed j l = getD-set-other b start (free + j) f 0 (λ e. omega (arith, low)) ∙ out (free + j) (λ x y. omega arith) ∙ ap (λ (y : List ℕ). getD y (free + j) 0) eh ∙ sets-at 0 (v ∷ p ∷ n ∷ a ∷ []) c free j room l
+  headed : (j : ℕ) → j < 4 → getD c′ (free + j) 0 ≡ getD (v ∷ p ∷ w ∷ a ∷ []) j 0
+  headed j l = getD-set-other b start (free + j) f 0 (λ e. omega (arith, low)) ∙ out (free + j) (λ x y. omega arith) ∙ ap (λ (y : List ℕ). getD y (free + j) 0) eh ∙ sets-at 0 (v ∷ p ∷ w ∷ a ∷ []) c free j room l
 
   head₀ : getD c′ free 0 ≡ v
   head₀ = let z : free ≡ free + 0 = omega arith in ap (λ (i : ℕ). getD c′ i 0) z ∙ headed 0 (omega arith)
@@ -71,7 +71,7 @@ module _ (free end start f v p n a : ℕ) (t ws : List ℕ) (vs : List ℤ) (c h
   new : Chain t ws vs c′ start free
   new =
       record {
-        decides = rw (head₀, headed 1 (omega arith), headed 2 (omega arith), headed 3 (omega arith)) decides;
+        decides = rw (head₀, headed 1 (omega arith), headed 2 (omega arith), headed 3 (omega arith), whole, part) decides;
         built = rw (head₀, headed 3 (omega arith)) (subst (λ (x : Walk). Built (bucketAt vs ws x a) (x .count) (free + 4) c′) ew (built-kept (bucketAt vs ws walk a) (walk .count) (free + 4) b c′ (λ i x y. getD-set-other b start i f 0 (λ e. omega (arith, low))) built));
       }
 

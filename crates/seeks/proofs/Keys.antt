@@ -3,11 +3,12 @@ use mathlib.Core.Path.{_≡_, refl, sym, ap, ap₂, _∙_, subst}
 use mathlib.Core.Bool.{Bool, true, false, _&&_}
 use mathlib.Core.List.{List}
 use mathlib.Core.Option.{none, some}
-use Prim.Native.Nat.{ℕ, _+_, _*_, _≤_, _<_}
+use Prim.Native.Nat.{ℕ, _+_, _*_, _/_, _%_, _≤_, _<_}
 use native.Mathlib.Omega.{arith}
 use lib.IntN.{ℤ, pos, _*ℤ_, natAbs, one, *ℤ-one}
 use lib.Signed.{leZ}
 use lib.ListN.{getD}
+use borrow.Author.Tests.{lt-ltb, le-ltb}
 use Rattle.model.specs.Meaning as M
 use Rattle.model.specs.Meaning.{Assignment, Tuple, whole, compare}
 use Rattle.model.proofs.Tests.{clash}
@@ -17,15 +18,17 @@ use Rattle.walks.specs.declared.Walk.{Walk}
 use Rattle.walks.specs.Walks.{walkOf}
 use Rattle.branches.specs.Branches.{field, operand, branchHolds, next, runs}
 use Rattle.branches.proofs.Running.{runs-1, runs-step}
+use Rattle.model.specs.Lists.{update}
+use Rattle.evaluator.specs.Evaluation.{assigned}
 use Rattle.chains.specs.Chains.{same, bucketAt, Built}
 use Rattle.seeks.specs.declared.Key.{Key}
-use Rattle.seeks.specs.Keys.{Tells, Decides, Chain, Faithful}
-use Rattle.seeks.proofs.Steps.{left-fails, right-fails, start-fails}
+use Rattle.seeks.specs.Keys.{Tells, Decides, onward, Chain, Faithful}
+use Rattle.seeks.proofs.Steps.{left-fails, right-fails, branch-fails, start-fails}
 
 abbrev pub Bounded : Key → Type 0
-Bounded k = (k .place ≤ 65535) × (k .number ≤ 65535) × (k .attribute ≤ 65535)
+Bounded k = (k .place ≤ 65535) × (k .number ≤ 255) × (k .attribute ≤ 65535)
 
-pub no-key : {P : Type 0} (k : Key) → k ≡ record { place = 0; number = 0; attribute = 0 } → ((k .place ≡ 0 → ⊥) → P) × Bounded k
+pub no-key : {P : Type 0} (k : Key) → k ≡ record { place = 0; number = 0; attribute = 0; other = 0 } → ((k .place ≡ 0 → ⊥) → P) × Bounded k
 no-key k e =
     let a : k .place ≡ 0 = ap (λ (x : Key). x .place) e in
     let b : k .number ≡ 0 = ap (λ (x : Key). x .number) e in
@@ -67,12 +70,12 @@ module _ (t : List ℕ) (i v o a b c : ℕ) (eo : o ≡ getD t (8 * i) 0) (e1 : 
 abbrev pub Along : List ℕ → ℕ → ℕ → Type 0
 Along t s i = (xs : List ℤ) (q z ws : List ℕ) (vs m : List ℤ) (e : Assignment) → runs t xs q z ws vs m i e ≡ false → runs t xs q z ws vs m s e ≡ false
 
-module _ (t : List ℕ) (s i f : ℕ) (l : 2 ≤ i) (ef : f ≡ field t i 6) (e1 : f ≡ 1) (along : Along t s i) where
-  pub along-found : (v p n a : ℕ) → Tells t i v p n a → Decides t s v p n a
-  along-found v p n a tells xs q z ws vs m e row h = along xs q z ws vs m _ (start-fails t xs q z ws vs m i f _ l ef e1 (tells xs q z ws vs m e row h))
+module _ (t : List ℕ) (s i f : ℕ) (l : 2 ≤ i) (ef : f ≡ field t i 6) (along : Along t s i) where
+  pub along-found : (v p n a : ℕ) → Tells t i v p n a → Decides t s f v p n a
+  along-found v p n a tells xs q z ws vs m e row h k = along xs q z ws vs m _ (branch-fails t xs q z ws vs m i f _ l ef (tells xs q z ws vs m e row h) k)
 
-  pub along-next : (to : ℕ) → to ≡ field t i 5 → to < i → Along t s to
-  along-next to et g xs q z ws vs m e h = along xs q z ws vs m e (go (branchHolds t xs q z ws vs m i e) refl)
+  pub along-next : f ≡ 1 → (to : ℕ) → to ≡ field t i 5 → to < i → Along t s to
+  along-next e1 to et g xs q z ws vs m e h = along xs q z ws vs m e (go (branchHolds t xs q z ws vs m i e) refl)
     where
       go : (b : Bool) → branchHolds t xs q z ws vs m i e ≡ b → runs t xs q z ws vs m i e ≡ false
       go true p =
@@ -91,6 +94,21 @@ differs u x y ex e1 h =
     no true h = absurd (h refl)
     no false h = refl
 
+-- a branch and the number of a side in one
+pub onward-low : (m : ℕ) → m < 256 → 1 ≡ onward m
+onward-low m h = rw (lt-ltb m 256 h)
+
+pub onward-high : (m : ℕ) → 256 ≤ m → m / 256 ≡ onward m
+onward-high m h = rw (le-ltb m 256 h)
+
+pub marked-alone : (n o : ℕ) → n ≤ 255 → o ≡ 1 → (onward n ≡ o) × (n % 256 ≡ n) × (n ≤ 65535)
+marked-alone n o h e = (sym (onward-low n (omega arith)) ∙ sym e, omega arith, omega arith)
+
+pub marked : (n o : ℕ) → n ≤ 255 → 1 ≤ o → o ≤ 63 → (o ≡ 1 → ⊥) → (onward (n + 256 * o) ≡ o) × ((n + 256 * o) % 256 ≡ n) × (n + 256 * o ≤ 65535)
+marked n o h l k ne =
+    let w : (n + 256 * o) / 256 ≡ o = omega arith in
+    (sym (onward-high (n + 256 * o) (omega arith)) ∙ w, omega arith, omega arith)
+
 -- the chain of a table
 module _ (t ws : List ℕ) (vs : List ℤ) (chains : List ℕ) where
   pub chain-here : Faithful t ws vs chains → (s at v : ℕ) → (at ≡ 0 → ⊥) → ((at ≡ 0 → ⊥) → (s < 64) × ((at ≡ getD chains s 0) × (getD chains at 0 ≡ v))) → Chain t ws vs chains s at
@@ -102,5 +120,19 @@ module _ (t ws : List ℕ) (vs : List ℤ) (chains : List ℕ) where
     pub chain-built : (walk : Walk) → walk ≡ walkOf ws v → Built (bucketAt vs ws walk a) (walk .count) (at + 4) chains
     chain-built walk ew = rw (ew, ea, sym ev) (chain .built)
 
-    pub chain-decides : (p n : ℕ) → p ≡ getD chains (at + 1) 0 → n ≡ getD chains (at + 2) 0 → Decides t s v p n a
-    chain-decides p n ep en = rw (ep, en, ea, sym ev) (chain .decides)
+    pub chain-decides : (p m o : ℕ) → p ≡ getD chains (at + 1) 0 → m ≡ getD chains (at + 2) 0 → o ≡ onward m → Decides t s o v p (m % 256) a
+    chain-decides p m o ep em eo = rw (eo, ep, em, ea, sym ev) (chain .decides)
+
+    -- entered with a whole value
+    module _ (p m o : ℕ) (ep : p ≡ getD chains (at + 1) 0) (em : m ≡ getD chains (at + 2) 0) (eo : o ≡ onward m) (xs memo : List ℤ) (env : List ℕ) (x : Ratio)
+        (ex : valueOf x ≡ operand memo (getD t p 0) (getD t (p + 1) 0) (getD xs (m % 256) (pos 0)) (assigned vs env)) (e1 : x .denominator ≡ pos 1) where
+      pub chain-fails : (y : ℤ) → y ≡ x .numerator → (q z us : List ℕ) (row : Tuple) → (same (row a) y ≡ true → ⊥) → runs t xs q z us vs memo o (update (assigned vs env) v row) ≡ false → runs t xs q z us vs memo s (update (assigned vs env) v row) ≡ false
+      chain-fails y ey q z us row h =
+          chain-decides p m o ep em eo xs q z us vs memo (assigned vs env) row (differs (row a) x _ ex e1 (λ k. h (ap (same (row a)) ey ∙ k)))
+
+    -- the same where nothing leads on
+    pub chain-alone : (p m : ℕ) → p ≡ getD chains (at + 1) 0 → m ≡ getD chains (at + 2) 0 → m ≤ 255 → (xs memo : List ℤ) (env : List ℕ) (x : Ratio)
+        → valueOf x ≡ operand memo (getD t p 0) (getD t (p + 1) 0) (getD xs m (pos 0)) (assigned vs env) → x .denominator ≡ pos 1 → (y : ℤ) → y ≡ x .numerator → (q z us : List ℕ) (row : Tuple) → (same (row a) y ≡ true → ⊥) → runs t xs q z us vs memo s (update (assigned vs env) v row) ≡ false
+    chain-alone p m ep em l xs memo env x ex e1 y ey q z us row h =
+        let n : m ≡ m % 256 = omega arith in
+        chain-fails p m 1 ep em (onward-low m (omega arith)) xs memo env x (ex ∙ ap (λ (k : ℕ). operand memo (getD t p 0) (getD t (p + 1) 0) (getD xs k (pos 0)) (assigned vs env)) n) e1 y ey q z us row h (runs-1 t xs q z us vs memo (update (assigned vs env) v row))

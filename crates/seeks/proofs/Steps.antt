@@ -6,10 +6,10 @@ use mathlib.Core.Option.{none, some}
 use Prim.Native.Nat.{ℕ, _+_, _*_, _≤_, _<_}
 use native.Mathlib.Nat.{add-zero}
 use native.Mathlib.Omega.{arith}
-use lib.Dec.{eqb}
+use lib.Dec.{eqb, ltb}
 use lib.IntN.{ℤ, pos, _*ℤ_, natAbs, one, *ℤ-one}
 use lib.ListN.{getD}
-use borrow.Author.Tests.{eqb-true, eqb-false, ne-eqb, eq-eqb, lt-ltb}
+use borrow.Author.Tests.{eqb-true, eqb-false, ne-eqb, eq-eqb, lt-ltb, ltb-true, ltb-false}
 use Rattle.model.specs.Lists.{update}
 use Rattle.model.specs.Meaning as M
 use Rattle.model.specs.Meaning.{Assignment, Tuple, compare}
@@ -18,7 +18,7 @@ use Rattle.numbers.proofs.Laws.{value-some}
 use Rattle.numbers.specs.declared.Ratio.{Ratio}
 use Rattle.catalogue.specs.Layout.{tupleAt}
 use Rattle.branches.specs.Branches.{field, operand, holdsIn, branchHolds, next, runs}
-use Rattle.branches.proofs.Running.{runs-1, runs-step}
+use Rattle.branches.proofs.Running.{runs-1, runs-step, runs-stuck}
 use Rattle.seeks.specs.Probe.{sided, placed}
 
 -- one row more that fails
@@ -79,8 +79,17 @@ module _ (t : List ℕ) (xs : List ℤ) (q z ws : List ℕ) (vs m : List ℤ) (i
         ∙ ap₂ (compare o) (other a (field t i 2) (getD xs (2 * i) (pos 0)) ha ∙ sym (fixed p 1 a (getD xs (2 * i) (pos 0)) y hp ea hy)) (own b (field t i 4) (getD xs (2 * i + 1) (pos 0)) hb l ∙ ap (λ (n : ℕ). some (M.whole (row n))) (sym hc))
         ∙ h
 
--- what starts with a branch that fails, and leads to 1 where it fails
-pub start-fails : (t : List ℕ) (xs : List ℤ) (q z ws : List ℕ) (vs m : List ℤ) (i f : ℕ) (e : Assignment) → 2 ≤ i → f ≡ field t i 6 → f ≡ 1 → branchHolds t xs q z ws vs m i e ≡ false → runs t xs q z ws vs m i e ≡ false
-start-fails t xs q z ws vs m i f e l ef e1 h =
-    let n : next t xs q z ws vs m i e ≡ 1 = rw h (sym ef ∙ e1) in
-    runs-step t xs q z ws vs m i e l (omega (arith, n)) ∙ ap (λ (k : ℕ). runs t xs q z ws vs m k e) n ∙ runs-1 t xs q z ws vs m e
+-- what starts with a branch that fails, and leads where it fails to one from which nothing leads to 0; 1 is such a branch
+module _ (t : List ℕ) (xs : List ℤ) (q z ws : List ℕ) (vs m : List ℤ) (i f : ℕ) (e : Assignment) (l : 2 ≤ i) (ef : f ≡ field t i 6) where
+  pub branch-fails : branchHolds t xs q z ws vs m i e ≡ false → runs t xs q z ws vs m f e ≡ false → runs t xs q z ws vs m i e ≡ false
+  branch-fails h k = go (ltb f i) refl
+    where
+      n : next t xs q z ws vs m i e ≡ f
+      n = rw h (sym ef)
+
+      go : (b : Bool) → ltb f i ≡ b → runs t xs q z ws vs m i e ≡ false
+      go true p = runs-step t xs q z ws vs m i e l (omega (arith, n, ltb-true f i p)) ∙ ap (λ (k : ℕ). runs t xs q z ws vs m k e) n ∙ k
+      go false p = runs-stuck t xs q z ws vs m i e l (omega (arith, n, ltb-false f i p))
+
+  pub start-fails : f ≡ 1 → branchHolds t xs q z ws vs m i e ≡ false → runs t xs q z ws vs m i e ≡ false
+  start-fails e1 h = branch-fails h (ap (λ (k : ℕ). runs t xs q z ws vs m k e) e1 ∙ runs-1 t xs q z ws vs m e)

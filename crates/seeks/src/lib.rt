@@ -1,12 +1,13 @@
 // Rows of a variable that fail a condition are passed over: by the comparison of its first branch, in one short loop for which the side that does
 // not run with the rows is read once; or by a chain (specs/Keys).
+use chains::Entry;
 use numbers::Ratio;
 use walks::Walk;
 ghost use mathlib.Core.Path.{_≡_};
 ghost use mathlib.Core.Bool.{true, false};
 ghost use mathlib.Core.List.{List, [], _∷_};
 ghost use mathlib.Core.Option.{some};
-ghost use Prim.Native.Nat.{ℕ, _+_, _*_, _≤_, _<_};
+ghost use Prim.Native.Nat.{ℕ, _+_, _*_, _%_, _≤_, _<_};
 ghost use lib.IntN.{pos, natAbs, _*ℤ_};
 ghost use lib.ListN.{length, getD};
 ghost use lib.Seq.{sets};
@@ -16,7 +17,7 @@ ghost use Rattle.numbers.specs.Numbers.{valueOf, Small};
 ghost use Rattle.catalogue.specs.Layout.{tupleAt};
 ghost use Rattle.walks.specs.Walks.{walkOf, placeAt, Fits};
 ghost use Rattle.evaluator.specs.Evaluation.{assigned};
-ghost use Rattle.branches.specs.Branches.{branchHolds, runs};
+ghost use Rattle.branches.specs.Branches.{field, branchHolds, runs};
 ghost use Rattle.seeks.specs.Probe.{sided, placed};
 ghost use Rattle.seeks.specs.Keys as K;
 
@@ -143,28 +144,31 @@ pub fn pass(
     skip(t, xs, start, variable, walks, walk, values, memo, env, from)
 }
 
-// An equality that a row of a variable must meet: where its other side stands in a table, the number of that side, and the attribute. Place 0: none.
+// An equality that a row of a variable must meet: where its other side stands in a table, the number of that side, the attribute, and the branch
+// that a row may still lead from to 0 where it fails; 1 is no such branch. Place 0: none.
 struct Key {
     place: usize,
     number: usize,
     attribute: usize,
+    other: usize,
 }
 
 fn no_key() -> Key
-    ensures { λ r. ⌜ r ≡ record { place = 0; number = 0; attribute = 0 } ⌝ }
+    ensures { λ r. ⌜ r ≡ record { place = 0; number = 0; attribute = 0; other = 0 } ⌝ }
 {
     Key {
         place: 0,
         number: 0,
         attribute: 0,
+        other: 0,
     }
 }
 
 // Branch i, where it is such an equality.
 fn key_at(t: &[u16], i: usize, variable: u8) -> Key
     requires { ⌜ i < 64 ⌝ }
-    ensures { λ r. ⌜ ((r .place ≡ 0 → ⊥) → K.Tells (now (t .entry)) i variable (r .place) (r .number) (r .attribute)) ⌝ }
-    ensures { λ r. ⌜ (r .place ≤ 65535) × (r .number ≤ 65535) × (r .attribute ≤ 65535) ⌝ }
+    ensures { λ r. ⌜ ((r .place ≡ 0 → ⊥) → (r .other ≡ field (now (t .entry)) i 6) × K.Tells (now (t .entry)) i variable (r .place) (r .number) (r .attribute)) ⌝ }
+    ensures { λ r. ⌜ (r .place ≤ 65535) × (r .number ≤ 255) × (r .attribute ≤ 65535) ⌝ }
 {
     let p = 8 * i;
     if kinds::size_at(t, p) != 1 {
@@ -181,6 +185,7 @@ fn key_at(t: &[u16], i: usize, variable: u8) -> Key
             place: p + 3,
             number: 2 * i + 1,
             attribute: kinds::size_at(t, p + 2),
+            other: kinds::size_at(t, p + 6),
         };
     }
     if b == v {
@@ -188,6 +193,7 @@ fn key_at(t: &[u16], i: usize, variable: u8) -> Key
             place: p + 1,
             number: 2 * i,
             attribute: kinds::size_at(t, p + 4),
+            other: kinds::size_at(t, p + 6),
         };
     }
     no_key()
@@ -196,17 +202,17 @@ fn key_at(t: &[u16], i: usize, variable: u8) -> Key
 // The first such equality on the way from branch `start` along what holds, as far as each branch fails as a whole.
 fn key_of(t: &[u16], start: usize, variable: u8) -> Key
     requires { ⌜ start < 64 ⌝ }
-    ensures { λ r. ⌜ ((r .place ≡ 0 → ⊥) → K.Decides (now (t .entry)) start variable (r .place) (r .number) (r .attribute)) ⌝ }
-    ensures { λ r. ⌜ (r .place ≤ 65535) × (r .number ≤ 65535) × (r .attribute ≤ 65535) ⌝ }
+    ensures { λ r. ⌜ ((r .place ≡ 0 → ⊥) → K.Decides (now (t .entry)) start (r .other) variable (r .place) (r .number) (r .attribute)) ⌝ }
+    ensures { λ r. ⌜ (r .place ≤ 65535) × (r .number ≤ 255) × (r .attribute ≤ 65535) ⌝ }
 {
     let mut at = start;
     while 2 <= at {
-        if kinds::size_at(t, 8 * at + 6) != 1 {
-            return no_key();
-        }
         let key = key_at(t, at, variable);
         if key.place != 0 {
             return key;
+        }
+        if kinds::size_at(t, 8 * at + 6) != 1 {
+            return no_key();
         }
         let to = kinds::size_at(t, 8 * at + 5);
         if at <= to {
@@ -243,18 +249,72 @@ fn pays(rows: usize, end: usize, length: usize) -> bool
     end <= length
 }
 
+// The number of a side and a branch in one: the number alone where the branch is 1.
+fn mark(number: usize, other: usize) -> usize
+    requires { ⌜ (number ≤ 255) × (1 ≤ other) × (other ≤ 63) ⌝ }
+    ensures { λ r. ⌜ (K.onward r ≡ other) × (r % 256 ≡ number) × (r ≤ 65535) ⌝ }
+{
+    if other == 1 {
+        number
+    } else {
+        number + 256 * other
+    }
+}
+
+// The branch of such a number.
+fn onward(mark: usize) -> usize
+    ensures { λ r. ⌜ r ≡ K.onward mark ⌝ }
+{
+    if mark < 256 { 1 } else { mark / 256 }
+}
+
 // What a chain is for.
-fn head(chains: &mut [u16], at: usize, variable: u8, key: Key)
-    requires { ⌜ (at + 4 ≤ length (now chains)) × (at ≤ 65535) × (key .place ≤ 65535) × (key .number ≤ 65535) × (key .attribute ≤ 65535) ⌝ }
-    ensures { λ _. ⌜ now (chains .exit) ≡ sets (now (chains .entry)) at (variable ∷ key .place ∷ key .number ∷ key .attribute ∷ []) ⌝ }
+fn head(chains: &mut [u16], at: usize, variable: u8, number: usize, key: Key)
+    requires { ⌜ (at + 4 ≤ length (now chains)) × (at ≤ 65535) × (key .place ≤ 65535) × (number ≤ 65535) × (key .attribute ≤ 65535) ⌝ }
+    ensures { λ _. ⌜ now (chains .exit) ≡ sets (now (chains .entry)) at (variable ∷ key .place ∷ number ∷ key .attribute ∷ []) ⌝ }
 {
     chains[at] = wide(variable);
     chains[at + 1] = narrow(key.place);
-    chains[at + 2] = narrow(key.number);
+    chains[at + 2] = narrow(number);
     chains[at + 3] = narrow(key.attribute);
 }
 
-// A chain from place `free` on for the rows of a variable by the equality that leads from branch `start`, where there is one; the next free place.
+// A chain from place `free` on for the rows of a variable by the equality that leads from branch `start`, where there is one and a row that fails it
+// may lead on from branch `other`; the next free place.
+fn add_key(
+    t: &[u16],
+    start: usize,
+    variable: u8,
+    other: usize,
+    walks: &[u16],
+    values: &[i32],
+    chains: &mut [u16],
+    free: usize,
+) -> usize
+    requires { ⌜ (start < 64) × (1 ≤ other) × (other < 64) × K.Filling free (now t) (now walks) (now values) (now chains) ⌝ }
+    ensures { λ r. ⌜ K.Filling r (now (t .entry)) (now (walks .entry)) (now (values .entry)) (now (chains .exit)) ⌝ }
+{
+    let key = key_of(t, start, variable);
+    let attribute = key.attribute;
+    let walk = walks::walk_of(walks, variable);
+    let end = free + 1028 + walk.count;
+    if key.place == 0 {
+        return free;
+    }
+    if key.other != other {
+        return free;
+    }
+    if !pays(walk.count, end, chains.len()) {
+        return free;
+    }
+    head(chains, free, variable, mark(key.number, other), key);
+    chains::build(values, walks, walk, attribute, chains, free + 4);
+    chains[start] = narrow(free);
+    end
+}
+
+// Chains from place `free` on for the rows of a variable by the equality that leads from branch `start`, where there is one, or by two of which a row
+// must meet one; the next free place.
 pub fn add(
     t: &[u16],
     start: usize,
@@ -270,20 +330,23 @@ pub fn add(
     if 64 <= start {
         return free;
     }
+    let next = add_key(t, start, variable, 1, walks, values, chains, free);
+    if next != free {
+        return next;
+    }
     let key = key_of(t, start, variable);
-    let attribute = key.attribute;
-    let walk = walks::walk_of(walks, variable);
-    let end = free + 1028 + walk.count;
-    if key.place == 0 {
-        return free;
+    let other = key.other;
+    if other < 2 {
+        return next;
     }
-    if !pays(walk.count, end, chains.len()) {
-        return free;
+    if 64 <= other {
+        return next;
     }
-    head(chains, free, variable, key);
-    chains::build(values, walks, walk, attribute, chains, free + 4);
-    chains[start] = narrow(free);
-    end
+    let behind = add_key(t, other, variable, 1, walks, values, chains, next);
+    if behind == next {
+        return behind;
+    }
+    add_key(t, start, variable, other, walks, values, chains, behind)
 }
 
 fn byte_of(x: usize) -> u8
@@ -397,6 +460,84 @@ fn is_one(d: i64) -> bool
     numbers::ordered(1, d, 1)
 }
 
+fn nowhere() -> Entry
+    ensures { λ r. ⌜ r .at ≡ 0 ⌝ }
+{
+    Entry {
+        at: 0,
+        attribute: 0,
+        value: 0,
+    }
+}
+
+// How the chain for a variable by branch `start` is entered, where a row that fails its equality may lead on from branch `other`; place 0 where there
+// is none such, or the value that it is entered with is not whole.
+fn enter(
+    t: &[u16],
+    xs: &[i32],
+    start: usize,
+    variable: u8,
+    other: usize,
+    chains: &[u16],
+    values: &[i32],
+    memo: &[i64],
+    env: &[usize],
+) -> Entry
+    requires { ⌜ 256 ≤ length (now env) ⌝ }
+    ensures { λ r. ⌜ ((ws : List ℕ) → K.Faithful (now (t .entry)) ws (now (values .entry)) (now (chains .entry)) → (r .at ≡ 0 → ⊥) → K.Enters r (now (t .entry)) (now (xs .entry)) start other variable ws (now (values .entry)) (now (memo .entry)) (now (env .entry)) (now (chains .entry))) ⌝ }
+{
+    let at = chain_of(chains, start, variable);
+    if at == 0 {
+        return nowhere();
+    }
+    let mark = kinds::size_at(chains, at + 2);
+    if onward(mark) != other {
+        return nowhere();
+    }
+    let place = kinds::size_at(chains, at + 1);
+    let x = branches::side(t, place, xs, mark % 256, values, memo, env);
+    let value = x.numerator;
+    if !is_one(x.denominator) {
+        return nowhere();
+    }
+    let a = kinds::size_at(chains, at + 3);
+    Entry {
+        at: at + 4,
+        attribute: a,
+        value,
+    }
+}
+
+// The same as `pass` where a row must meet one of two equalities, by two chains.
+fn seek_either(
+    t: &[u16],
+    xs: &[i32],
+    start: usize,
+    other: usize,
+    variable: u8,
+    walks: &[u16],
+    walk: Walk,
+    chains: &[u16],
+    values: &[i32],
+    memo: &[i64],
+    env: &[usize],
+    from: usize,
+) -> usize
+    requires { ⌜ (256 ≤ length (now env)) × (start ≤ 65535) × Fits walk × (from ≤ walk .count) × (walk ≡ walkOf (now walks) variable) × K.Faithful (now t) (now walks) (now values) (now chains) ⌝ }
+    ensures { λ r. ⌜ (from ≤ r) × (r ≤ walk .count) ⌝ }
+    ensures { λ r. ⌜ ((q z ws : List ℕ) (j : ℕ) → from ≤ j → j < r → runs (now (t .entry)) (now (xs .entry)) q z ws (now (values .entry)) (now (memo .entry)) start (update (assigned (now (values .entry)) (now (env .entry))) variable (tupleAt (now (values .entry)) (placeAt (now (walks .entry)) walk j))) ≡ false) ⌝ }
+{
+    let one = enter(t, xs, start, variable, other, chains, values, memo, env);
+    let two = enter(t, xs, other, variable, 1, chains, values, memo, env);
+    if one.at == 0 {
+        return pass(t, xs, start, variable, walks, walk, values, memo, env, from);
+    }
+    if two.at == 0 {
+        return pass(t, xs, start, variable, walks, walk, values, memo, env, from);
+    }
+    chains::either(values, walks, walk, one, two, chains, from)
+}
+
 // The same as `pass`, by a chain where there is one and the value that it is entered with is whole.
 pub fn seek(
     t: &[u16],
@@ -420,8 +561,25 @@ pub fn seek(
         return pass(t, xs, start, variable, walks, walk, values, memo, env, from);
     }
     let place = kinds::size_at(chains, at + 1);
-    let number = kinds::size_at(chains, at + 2);
-    let x = branches::side(t, place, xs, number, values, memo, env);
+    let mark = kinds::size_at(chains, at + 2);
+    if 255 < mark {
+        let other = mark / 256;
+        return seek_either(
+            t,
+            xs,
+            start,
+            other,
+            variable,
+            walks,
+            walk,
+            chains,
+            values,
+            memo,
+            env,
+            from,
+        );
+    }
+    let x = branches::side(t, place, xs, mark, values, memo, env);
     let n = x.numerator;
     if !is_one(x.denominator) {
         return pass(t, xs, start, variable, walks, walk, values, memo, env, from);

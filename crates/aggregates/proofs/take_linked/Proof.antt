@@ -15,7 +15,7 @@ slice-aggregate-add-searches c = search needs
 
 -- src/lib.rt:146:5
 add-searches-requires : tie.Need-add-searches-requires
-add-searches-requires c κs = nothing _ _ _ _ (getD-same {A = ℕ} 4168 0)
+add-searches-requires c κs = nothing _ _ _ _ (getD-same {A = ℕ} 2116 0)
 
 -- src/lib.rt:153:9
 slice-aggregate-take : tie.Need-slice-aggregate-take

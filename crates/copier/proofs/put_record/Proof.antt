@@ -3,7 +3,7 @@ use mathlib.Core.Path.{ap, sym}
 use denote.Ref.{now}
 use Rattle.copier.specs.Copied.{recordBytes}
 use Rattle.copier.proofs.Sets.{wrote-as, wrote-nothing, room-as}
-use Rattle.copier.proofs.Copies.{unwritten}
+use Rattle.copier.proofs.Unwritten.{unwritten}
 use borrow.Author.Needs.{needs}
 use Rattle.copier.proofs.put_record.Statement.{statement}
 use Rattle.copier.proofs.put_record.Tie as tie

@@ -10,10 +10,10 @@ use Rattle.elaborate.proofs.elaborate.Statement.{statement}
 use Rattle.elaborate.proofs.elaborate.Tie as tie
 use Rattle.elaborate.proofs.elaborate.Reads as reads
 use Rattle.elaborate.proofs.elaborate.Lts as lts
-use Rattle.ahead.proofs.count.Reads as count-reads
-use Rattle.binds.proofs.bind.Reads as bind-reads
+use Rattle.elaborate.proofs.ahead.count.Reads as count-reads
+use Rattle.elaborate.proofs.binds.bind.Reads as bind-reads
 use Rattle.copier.proofs.put.Reads as put-reads
-use Rattle.loops.proofs.run.Reads as run-reads
+use Rattle.elaborate.proofs.loops.run.Reads as run-reads
 use Rattle.marks.proofs.main_place.Reads as main-place-reads
 use Rattle.marks.proofs.qualified.Reads as qualified-reads
 use Rattle.marks.proofs.unique.Reads as unique-reads

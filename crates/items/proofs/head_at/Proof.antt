@@ -16,7 +16,7 @@ use Rattle.items.proofs.head_item.Reads as head-item-reads
 use Rattle.items.proofs.less.Reads as less-reads
 use Rattle.kinds.proofs.byte.Reads as byte-reads
 use Rattle.marks.proofs.word.Reads as word-reads
-use Rattle.reach.proofs.seek.Reads as seek-reads
+use Rattle.items.proofs.reach.seek.Reads as seek-reads
 
 -- src/lib.rt:273:83
 add-seek : tie.Need-add-seek

@@ -12,7 +12,7 @@ use Rattle.items.proofs.use_at.Reads as reads
 use Rattle.items.proofs.use_at.Lts as lts
 use Rattle.items.proofs.use_item.Reads as use-item-reads
 use Rattle.marks.proofs.word.Reads as word-reads
-use Rattle.reach.proofs.seek.Reads as seek-reads
+use Rattle.items.proofs.reach.seek.Reads as seek-reads
 
 -- src/lib.rt:249:9
 seek-requires : tie.Need-seek-requires

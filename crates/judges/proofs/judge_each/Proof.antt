@@ -18,85 +18,95 @@ use Rattle.judges.proofs.mark_linked.Reads as mark-linked-reads
 use Rattle.judges.proofs.mark_rows.Reads as mark-rows-reads
 use Rattle.seeks.proofs.searches.Reads as searches-reads
 
--- src/lib.rt:411:9
+-- src/lib.rt:390:9
 end-of-requires : tie.Need-end-of-requires
 end-of-requires c κs = search needs
 
--- src/lib.rt:412:9
+-- src/lib.rt:391:9
 end-of-requires-2 : tie.Need-end-of-requires-2
 end-of-requires-2 c κs = search needs
 
--- src/lib.rt:413:57
+-- src/lib.rt:392:57
 slice-aggregate-compile : tie.Need-slice-aggregate-compile
 slice-aggregate-compile c = search needs
 
--- src/lib.rt:413:65
+-- src/lib.rt:392:65
 slice-aggregate-compile-2 : tie.Need-slice-aggregate-compile-2
 slice-aggregate-compile-2 c = search needs
 
--- src/lib.rt:413:9
+-- src/lib.rt:392:9
 compile-requires : tie.Need-compile-requires
-compile-requires c κs = (omega (arith, length-replicate {A = ℕ} 512 0), omega (arith, length-replicate 128 (pos 0)), omega arith, omega arith, omega arith, end-low (c .before .before .before .before .before .before .before .before .before .args .wanted) (c .before .before .before .end-of .result) (c .before .before .before .end-of .ensures), end-low (not (c .before .before .before .before .before .before .before .before .before .args .wanted)) (c .before .before .end-of2 .result) (c .before .before .end-of2 .ensures), omega arith, c .before .before .before .before .before .before .before .before .before .pre .1)
+compile-requires c κs =
+    let c₂ = c .before .before in let end-of2 = c₂ .end-of2 in
+    let c₃ = c₂ .before in let end-of = c₃ .end-of in
+    let c₈ = c₃ .before .before .before .before .before in let args = c₈ .args in let pre = c₈ .pre in
+    let wanted = args .wanted in
+    (omega (arith, length-replicate {A = ℕ} 512 0), omega (arith, length-replicate 128 (pos 0)), omega arith, omega arith, omega arith, end-low wanted (end-of .result) (end-of .ensures), end-low (not wanted) (end-of2 .result) (end-of2 .ensures), omega arith, pre .0)
 
--- src/lib.rt:414:24
+-- src/lib.rt:393:24
 slice-aggregate-searches : tie.Need-slice-aggregate-searches
 slice-aggregate-searches c = search needs
 
--- src/lib.rt:414:8
+-- src/lib.rt:393:8
 searches-requires : tie.Need-searches-requires
 searches-requires c κs = search needs
 
--- src/lib.rt:415:21
+-- src/lib.rt:394:21
 slice-aggregate-mark-linked : tie.Need-slice-aggregate-mark-linked
 slice-aggregate-mark-linked c = search needs
 
--- src/lib.rt:415:25
+-- src/lib.rt:394:25
 slice-aggregate-mark-linked-2 : tie.Need-slice-aggregate-mark-linked-2
 slice-aggregate-mark-linked-2 c = search needs
 
--- src/lib.rt:415:9
+-- src/lib.rt:394:9
 mark-linked-requires : tie.Need-mark-linked-requires
 mark-linked-requires c κs = search needs
 
--- src/lib.rt:416:9
+-- src/lib.rt:395:9
 same-length : tie.Need-same-length
 same-length c = search needs
 
--- src/lib.rt:416:9
-same-length-2 : tie.Need-same-length-2
-same-length-2 c = search needs
-
--- src/lib.rt:416:9
+-- src/lib.rt:395:9
 returns : tie.Need-returns
-returns c = (compiled-marks (c .before .before .before .before .before .before .before .before .before .before .before .before .before .before .compile .result) _ _ _ _ _ _ (now (c .before .before .before .before .before .before .before .before .before .before .before .before .before .before .before .before .before .before .before .before .before .before .before .before .args .q)) (now (c .before .before .before .before .before .before .before .before .before .before .before .before .before .before .before .before .before .before .before .before .before .before .before .before .args .z)) (now (c .before .before .before .before .before .before .before .before .before .before .before .before .before .before .before .before .before .before .before .before .before .before .before .before .args .walks)) (now (c .before .before .before .before .before .before .before .before .before .before .before .before .before .before .before .before .before .before .before .before .before .before .before .before .args .vs)) (now (c .before .before .before .before .before .before .before .before .before .before .before .before .before .before .before .before .before .before .before .before .before .before .before .before .args .memo)) (now (c .before .before .before .before .before .before .before .before .before .before .before .before .before .before .before .before .before .before .before .before .before .before .before .before .args .env)) (c .before .before .before .before .before .before .before .before .before .before .before .before .before .before .before .before .before .before .before .before .before .before .before .before .args .level) (c .before .before .before .before .before .before .before .before .before .before .before .before .before .before .before .before .before .before .before .before .before .before .before .before .args .walk) (c .before .before .before .before .before .before .before .before .before .before .before .before .before .before .before .before .before .before .before .before .before .before .before .before .args .wanted) _ (now (c .before .before .before .before .before .before .before .before .before .before .before .before .before .before .before .before .before .before .before .before .before .before .before .before .args .marks)) _ (c .before .before .before .before .before .before .before .before .before .before .before .before .before .before .compile .ensures .1) (c .before .before .before .before .before .before .before .before .before .before .before .before .before .before .before .before .before .before .end-of .ensures) (c .before .before .before .before .before .before .before .before .before .before .before .before .before .before .before .before .before .end-of2 .ensures) (c .before .before .before .before .mark-linked .ensures .0), c .before .before .before .before .mark-linked .ensures .1)
+returns c =
+    let c₁₁ = c .before .before .before .before .before .before .before .before .before .before .before in let compile = c₁₁ .compile in
+    let c₁₄ = c₁₁ .before .before .before in let end-of2 = c₁₄ .end-of2 in
+    let c₁₅ = c₁₄ .before in let end-of = c₁₅ .end-of in
+    let c₂₀ = c₁₅ .before .before .before .before .before in let args = c₂₀ .args in
+    compiled-marks (compile .result) _ _ _ _ _ _ (now (args .q)) (now (args .z)) (now (args .walks)) (now (args .vs)) (now (args .memo)) (args .level) (args .walk) (args .wanted) _ (now (args .marks)) _ (compile .ensures .1) (end-of .ensures) (end-of2 .ensures) (c .before .before .mark-linked .ensures)
 
--- src/lib.rt:420:9
+-- src/lib.rt:398:15
 slice-aggregate-mark-rows : tie.Need-slice-aggregate-mark-rows
 slice-aggregate-mark-rows c = search needs
 
--- src/lib.rt:421:9
+-- src/lib.rt:398:19
 slice-aggregate-mark-rows-2 : tie.Need-slice-aggregate-mark-rows-2
 slice-aggregate-mark-rows-2 c = search needs
 
--- src/lib.rt:426:9
+-- src/lib.rt:398:44
 slice-aggregate-mark-rows-3 : tie.Need-slice-aggregate-mark-rows-3
 slice-aggregate-mark-rows-3 c = search needs
 
--- src/lib.rt:419:5
+-- src/lib.rt:398:5
 mark-rows-requires : tie.Need-mark-rows-requires
-mark-rows-requires c κs = (c .before .before .before .before .before .before .before .before .before .before .before .before .before .before .before .before .before .before .before .before .pre .0, omega (arith, c .before .before .before .before .before .before .before .before .before .before .compile .ensures .0 .1), c .before .before .before .before .before .before .before .before .before .before .before .before .before .before .before .before .before .before .before .before .pre .2, c .before .before .before .before .before .before .before .before .before .before .before .before .before .before .before .before .before .before .before .before .pre .3, c .before .before .before .before .before .before .before .before .before .before .before .before .before .before .before .before .before .before .before .before .pre .4, nothing _ _ _ _ (getD-same {A = ℕ} 1 0) .faithful)
+mark-rows-requires c κs =
+    let c₉ = c .before .before .before .before .before .before .before .before .before in let compile = c₉ .compile in
+    let c₁₈ = c₉ .before .before .before .before .before .before .before .before .before in let pre = c₁₈ .pre in
+    (omega (arith, compile .ensures .0 .1), pre .1, pre .2, pre .3, nothing _ _ _ _ (getD-same {A = ℕ} 1 0) .faithful)
 
--- src/lib.rt:393:1
-same-length-3 : tie.Need-same-length-3
-same-length-3 c = search needs
+-- src/lib.rt:374:1
+same-length-2 : tie.Need-same-length-2
+same-length-2 c = search needs
 
--- src/lib.rt:393:1
-same-length-4 : tie.Need-same-length-4
-same-length-4 c = search needs
-
--- src/lib.rt:393:1
+-- src/lib.rt:374:1
 returns-2 : tie.Need-returns-2
-returns-2 c = (compiled-marks (c .before .before .before .before .before .before .before .before .before .before .before .before .before .before .before .compile .result) _ _ _ _ _ _ (now (c .before .before .before .before .before .before .before .before .before .before .before .before .before .before .before .before .before .before .before .before .before .before .before .before .before .args .q)) (now (c .before .before .before .before .before .before .before .before .before .before .before .before .before .before .before .before .before .before .before .before .before .before .before .before .before .args .z)) (now (c .before .before .before .before .before .before .before .before .before .before .before .before .before .before .before .before .before .before .before .before .before .before .before .before .before .args .walks)) (now (c .before .before .before .before .before .before .before .before .before .before .before .before .before .before .before .before .before .before .before .before .before .before .before .before .before .args .vs)) (now (c .before .before .before .before .before .before .before .before .before .before .before .before .before .before .before .before .before .before .before .before .before .before .before .before .before .args .memo)) (now (c .before .before .before .before .before .before .before .before .before .before .before .before .before .before .before .before .before .before .before .before .before .before .before .before .before .args .env)) (c .before .before .before .before .before .before .before .before .before .before .before .before .before .before .before .before .before .before .before .before .before .before .before .before .before .args .level) (c .before .before .before .before .before .before .before .before .before .before .before .before .before .before .before .before .before .before .before .before .before .before .before .before .before .args .walk) (c .before .before .before .before .before .before .before .before .before .before .before .before .before .before .before .before .before .before .before .before .before .before .before .before .before .args .wanted) _ (now (c .before .before .before .before .before .before .before .before .before .before .before .before .before .before .before .before .before .before .before .before .before .before .before .before .before .args .marks)) _ (c .before .before .before .before .before .before .before .before .before .before .before .before .before .before .before .compile .ensures .1) (c .before .before .before .before .before .before .before .before .before .before .before .before .before .before .before .before .before .before .before .end-of .ensures) (c .before .before .before .before .before .before .before .before .before .before .before .before .before .before .before .before .before .before .end-of2 .ensures) (c .before .before .before .before .mark-rows .ensures .0), c .before .before .before .before .mark-rows .ensures .1)
+returns-2 c =
+    let c₁₂ = c .before .before .before .before .before .before .before .before .before .before .before .before in let compile = c₁₂ .compile in
+    let c₁₅ = c₁₂ .before .before .before in let end-of2 = c₁₅ .end-of2 in
+    let c₁₆ = c₁₅ .before in let end-of = c₁₆ .end-of in
+    let c₂₁ = c₁₆ .before .before .before .before .before in let args = c₂₁ .args in
+    compiled-marks (compile .result) _ _ _ _ _ _ (now (args .q)) (now (args .z)) (now (args .walks)) (now (args .vs)) (now (args .memo)) (args .level) (args .walk) (args .wanted) _ (now (args .marks)) _ (compile .ensures .1) (end-of .ensures) (end-of2 .ensures) (c .before .before .mark-rows .ensures)
 
 pub judge-each-spec : {M : Type 1} → statement M
 judge-each-spec =
@@ -113,12 +123,10 @@ judge-each-spec =
     slice-aggregate-mark-linked-2
     mark-linked-requires
     same-length
-    same-length-2
     returns
     slice-aggregate-mark-rows
     slice-aggregate-mark-rows-2
     slice-aggregate-mark-rows-3
     mark-rows-requires
-    same-length-3
-    same-length-4
+    same-length-2
     returns-2)

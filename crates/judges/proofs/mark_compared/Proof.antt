@@ -113,7 +113,7 @@ returns-6 c =
     let c₁₉ = c₁₈ .before in let if1 = c₁₉ .if1 in
     let c₂₃ = c₁₉ .before .before .before .before in let args = c₂₃ .args in
     let values = now (args .values) in let memo = now (args .memo) in let q = now (args .q) in let z = now (args .z) in
-    (λ h ws e. marked-same (c₀ .mark-against .ensures .0 h) refl (λ i l. compared-is memo q (args .level) _ (not-zero (args .level) (if1 .left)) (read .ensures) _ _ _ _ _ _ _ _ _ (known-at .result .value) z (operator .given .1) (byte .ensures) (record-length .ensures .0) (size-at .ensures .0) (tail .ensures) (tail2 .ensures) (not-one (args .level) (if1 .left)) (read2 .ensures) (variable .given .1) (eq-zero _ (if2 .left)) (known-at .ensures .0 (not-no _ (if3 .left))) ws values e (args .walk) (args .wanted) i), c₀ .mark-against .ensures .1)
+    (λ h ws. marked-same (c₀ .mark-against .ensures .0 h) refl (λ i l. compared-is memo q (args .level) _ (not-zero (args .level) (if1 .left)) (read .ensures) _ _ _ _ _ _ _ _ _ (known-at .result .value) z (operator .given .1) (byte .ensures) (record-length .ensures .0) (size-at .ensures .0) (tail .ensures) (tail2 .ensures) (not-one (args .level) (if1 .left)) (read2 .ensures) (variable .given .1) (eq-zero _ (if2 .left)) (known-at .ensures .0 (not-no _ (if3 .left))) ws values (args .walk) (args .wanted) i), c₀ .mark-against .ensures .1)
 
 pub mark-compared-spec : {M : Type 1} → statement M
 mark-compared-spec =

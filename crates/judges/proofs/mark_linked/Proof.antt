@@ -9,31 +9,27 @@ use Rattle.judges.proofs.mark_linked.Lts as lts
 use Rattle.judges.proofs.mark_rows.Reads as mark-rows-reads
 use Rattle.seeks.proofs.add_searches.Reads as add-searches-reads
 
--- src/lib.rt:368:39
+-- src/lib.rt:362:39
 slice-aggregate-add-searches : tie.Need-slice-aggregate-add-searches
 slice-aggregate-add-searches c = search needs
 
--- src/lib.rt:368:5
+-- src/lib.rt:362:5
 add-searches-requires : tie.Need-add-searches-requires
 add-searches-requires c κs = nothing _ _ _ _ (getD-same {A = ℕ} 6220 0)
 
--- src/lib.rt:376:9
+-- src/lib.rt:363:42
 slice-aggregate-mark-rows : tie.Need-slice-aggregate-mark-rows
 slice-aggregate-mark-rows c = search needs
 
--- src/lib.rt:369:5
+-- src/lib.rt:363:5
 mark-rows-requires : tie.Need-mark-rows-requires
 mark-rows-requires c κs = search needs
 
--- src/lib.rt:350:1
+-- src/lib.rt:346:1
 same-length : tie.Need-same-length
 same-length c = search needs
 
--- src/lib.rt:350:1
-same-length-2 : tie.Need-same-length-2
-same-length-2 c = search needs
-
--- src/lib.rt:350:1
+-- src/lib.rt:346:1
 returns : tie.Need-returns
 returns c = search needs
 
@@ -46,5 +42,4 @@ mark-linked-spec =
     slice-aggregate-mark-rows
     mark-rows-requires
     same-length
-    same-length-2
     returns)

@@ -25,10 +25,10 @@ use Rattle.rewriter.proofs.+condition+conditions+term+terms+under.Lts-t
 use Rattle.rewriter.proofs.under.Reads as under
 use Rattle.rewriter.proofs.under.Kinds as under-kinds
 use Rattle.rewriter.proofs.+condition+conditions+term+terms+under.Lts-under as under-lts
-use Rattle.copier.proofs.open_guard.Reads as open-guard-reads
+use Rattle.rewriter.proofs.guard.open_guard.Reads as open-guard-reads
 use Rattle.copier.proofs.put.Reads as put-reads
 use Rattle.copier.proofs.put_record.Reads as put-record-reads
-use Rattle.copier.proofs.write_guard.Reads as write-guard-reads
+use Rattle.rewriter.proofs.guard.write_guard.Reads as write-guard-reads
 use Rattle.kinds.proofs.read.Reads as read-reads
 use Rattle.kinds.proofs.tail.Reads as tail-reads
 use Rattle.kinds.proofs.tail_sizes.Reads as tail-sizes-reads

@@ -10,7 +10,7 @@ use borrow.Fn.PlainCycle.{Measures, is, falls, and}
 use Rattle.rewriter.proofs.guard_ranges.Reads as guard-ranges
 use Rattle.rewriter.proofs.guard_ranges.Kinds as guard-ranges-kinds
 use Rattle.rewriter.proofs.+guard_ranges.Lts-guard_ranges as guard-ranges-lts
-use Rattle.copier.proofs.write_guard.Reads as write-guard-reads
+use Rattle.rewriter.proofs.guard.write_guard.Reads as write-guard-reads
 use Rattle.kinds.proofs.byte.Reads as byte-reads
 use Rattle.kinds.proofs.record_length.Reads as record-length-reads
 use Rattle.kinds.proofs.tail.Reads as tail-reads

@@ -12,7 +12,7 @@ use borrow.Fn.PlainCycle.{Measures, is, falls, and}
 use Rattle.rewriter.proofs.open_ranges.Reads as open-ranges
 use Rattle.rewriter.proofs.open_ranges.Kinds as open-ranges-kinds
 use Rattle.rewriter.proofs.+open_ranges.Lts-open_ranges as open-ranges-lts
-use Rattle.copier.proofs.open_guard.Reads as open-guard-reads
+use Rattle.rewriter.proofs.guard.open_guard.Reads as open-guard-reads
 use Rattle.kinds.proofs.byte.Reads as byte-reads
 use Rattle.kinds.proofs.record_length.Reads as record-length-reads
 use Rattle.kinds.proofs.tail.Reads as tail-reads

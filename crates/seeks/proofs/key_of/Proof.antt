@@ -17,71 +17,71 @@ Inv-loop t start variable at₀ at = (at ≤ start) × Along t start at
 abbrev μ-loop : tie.MeasureT-loop
 μ-loop t start variable at₀ at = at
 
--- src/lib.rt:194:5
+-- src/lib.rt:209:5
 loop-holds : tie.Need-loop-holds Inv-loop μ-loop
 loop-holds c = (omega arith, λ xs q z ws vs m e h. h)
 
--- src/lib.rt:195:30
-mul-size-at : tie.Need-mul-size-at Inv-loop μ-loop
-mul-size-at c = search needs
-
--- src/lib.rt:195:30
-add-size-at : tie.Need-add-size-at Inv-loop μ-loop
-add-size-at c = search needs
-
--- src/lib.rt:195:12
-size-at-requires : tie.Need-size-at-requires Inv-loop μ-loop
-size-at-requires c κs = search needs
-
--- src/lib.rt:196:13
-no-key-requires : tie.Need-no-key-requires Inv-loop μ-loop
-no-key-requires c κs = search needs
-
--- src/lib.rt:196:13
-returns : tie.Need-returns Inv-loop μ-loop
-returns c = no-key _ (c .no-key .ensures)
-
--- src/lib.rt:198:13
+-- src/lib.rt:210:13
 key-at-requires : tie.Need-key-at-requires Inv-loop μ-loop
 key-at-requires c κs = search needs
 
--- src/lib.rt:200:13
-returns-2 : tie.Need-returns-2 Inv-loop μ-loop
-returns-2 c = ((λ h. along-found (now (c .before .before .before .before .before .before .before .before .args .t)) (c .before .before .before .before .before .before .before .before .args .start) (c .before .before .before .before .before .before .loop .at) _ (c .before .before .before .before .before .loop-test .taken) (c .before .before .before .before .size-at .ensures .0) (c .before .before .before .if1 .left) (c .before .before .before .before .before .before .loop .inv .1) (c .before .before .before .before .before .before .before .before .args .variable) _ _ _ (c .before .before .key-at .ensures .0 h)), c .before .before .key-at .ensures .1)
+-- src/lib.rt:212:13
+returns : tie.Need-returns Inv-loop μ-loop
+returns c = ((λ h. along-found (now (c .before .before .before .before .before .before .args .t)) (c .before .before .before .before .before .before .args .start) (c .before .before .before .before .loop .at) _ (c .before .before .before .loop-test .taken) (c .before .before .key-at .ensures .0 h .0) (c .before .before .before .before .loop .inv .1) (c .before .before .before .before .before .before .args .variable) _ _ _ (c .before .before .key-at .ensures .0 h .1)), c .before .before .key-at .ensures .1)
 
--- src/lib.rt:202:36
+-- src/lib.rt:214:30
+mul-size-at : tie.Need-mul-size-at Inv-loop μ-loop
+mul-size-at c = search needs
+
+-- src/lib.rt:214:30
+add-size-at : tie.Need-add-size-at Inv-loop μ-loop
+add-size-at c = search needs
+
+-- src/lib.rt:214:12
+size-at-requires : tie.Need-size-at-requires Inv-loop μ-loop
+size-at-requires c κs = search needs
+
+-- src/lib.rt:215:13
+no-key-requires : tie.Need-no-key-requires Inv-loop μ-loop
+no-key-requires c κs = search needs
+
+-- src/lib.rt:215:13
+returns-2 : tie.Need-returns-2 Inv-loop μ-loop
+returns-2 c = no-key _ (c .no-key .ensures)
+
+-- src/lib.rt:217:36
 mul-size-at-2 : tie.Need-mul-size-at-2 Inv-loop μ-loop
 mul-size-at-2 c = search needs
 
--- src/lib.rt:202:36
+-- src/lib.rt:217:36
 add-size-at-2 : tie.Need-add-size-at-2 Inv-loop μ-loop
 add-size-at-2 c = search needs
 
--- src/lib.rt:202:13
+-- src/lib.rt:217:13
 size-at-requires-2 : tie.Need-size-at-requires-2 Inv-loop μ-loop
 size-at-requires-2 c κs = search needs
 
--- src/lib.rt:204:13
+-- src/lib.rt:219:13
 no-key-requires-2 : tie.Need-no-key-requires-2 Inv-loop μ-loop
 no-key-requires-2 c κs = search needs
 
--- src/lib.rt:204:13
+-- src/lib.rt:219:13
 returns-3 : tie.Need-returns-3 Inv-loop μ-loop
 returns-3 c = no-key _ (c .no-key2 .ensures)
 
--- src/lib.rt:194:5
+-- src/lib.rt:209:5
 loop-less : tie.Need-loop-less Inv-loop μ-loop
 loop-less c = search needs
 
--- src/lib.rt:194:5
+-- src/lib.rt:209:5
 loop-again : tie.Need-loop-again Inv-loop μ-loop
-loop-again c = (omega arith, along-next (now (c .before .before .before .before .before .before .before .before .before .before .args .t)) (c .before .before .before .before .before .before .before .before .before .before .args .start) (c .before .before .before .before .before .before .before .before .loop .at) _ (c .before .before .before .before .before .before .before .loop-test .taken) (c .before .before .before .before .before .before .size-at .ensures .0) (c .before .before .before .before .before .if1 .left) (c .before .before .before .before .before .before .before .before .loop .inv .1) _ (c .before .size-at2 .ensures .0) (omega (arith, c .if3 .left)))
+loop-again c = (omega arith, along-next (now (c .before .before .before .before .before .before .before .before .before .before .args .t)) (c .before .before .before .before .before .before .before .before .before .before .args .start) (c .before .before .before .before .before .before .before .before .loop .at) _ (c .before .before .before .before .before .before .before .loop-test .taken) (c .before .before .before .size-at .ensures .0) (c .before .before .before .before .before .before .before .before .loop .inv .1) (c .before .before .if2 .left) _ (c .before .size-at2 .ensures .0) (omega (arith, c .if3 .left)))
 
--- src/lib.rt:208:5
+-- src/lib.rt:223:5
 no-key-requires-3 : tie.Need-no-key-requires-3 Inv-loop μ-loop
 no-key-requires-3 c κs = search needs
 
--- src/lib.rt:188:1
+-- src/lib.rt:203:1
 returns-4 : tie.Need-returns-4 Inv-loop μ-loop
 returns-4 c = no-key _ (c .no-key3 .ensures)
 
@@ -92,12 +92,12 @@ key-of-spec =
     Inv-loop
     μ-loop
     loop-holds
+    key-at-requires
+    returns
     mul-size-at
     add-size-at
     size-at-requires
     no-key-requires
-    returns
-    key-at-requires
     returns-2
     mul-size-at-2
     add-size-at-2

@@ -1,0 +1,73 @@
+use Rattle.quel.specs.Writing.{often}
+use lib.Seq.{sets}
+use lib.ListN.{length}
+use Rattle.elaborate.proofs.opens.Often.{often-start, often-turn, often-done}
+use mathlib.Core.List.{List, []}
+use Prim.Native.Nat.{ℕ, _+_, _-_, _≤_, _<_}
+use mathlib.Core.Path.{_≡_, refl, sym, _∙_, ap}
+use denote.Ref.{now}
+use native.Mathlib.Omega.{arith}
+use borrow.Author.Needs.{needs}
+use Rattle.elaborate.proofs.opens.many.Statement.{statement}
+use Rattle.elaborate.proofs.opens.many.Tie as tie
+use Rattle.elaborate.proofs.opens.many.Reads as reads
+use Rattle.elaborate.proofs.opens.many.Lts as lts
+use Rattle.copier.proofs.put.Reads as put-reads
+
+abbrev Inv-loop : tie.InvT-loop
+Inv-loop out₀ at b n i₀ out i = (out ≡ sets out₀ at (often i b [])) × (length out ≡ length out₀) × (i ≤ n)
+
+abbrev μ-loop : tie.MeasureT-loop
+μ-loop out₀ at b n i₀ out i = n - i
+
+-- src/lib.rt:21:5
+loop-holds : tie.Need-loop-holds Inv-loop μ-loop
+loop-holds c = (often-start (now (c .before .args .out)) (c .before .args .at) (c .before .args .b), refl, omega arith)
+
+-- src/lib.rt:22:26
+add-put : tie.Need-add-put Inv-loop μ-loop
+add-put c = search needs
+
+-- src/lib.rt:22:9
+put-requires : tie.Need-put-requires Inv-loop μ-loop
+put-requires c κs = search needs
+
+-- src/lib.rt:23:9
+add-i : tie.Need-add-i Inv-loop μ-loop
+add-i c = search needs
+
+-- src/lib.rt:21:5
+loop-less : tie.Need-loop-less Inv-loop μ-loop
+loop-less c = search needs
+
+-- src/lib.rt:21:5
+loop-again : tie.Need-loop-again Inv-loop μ-loop
+loop-again c = (often-turn (now (c .before .before .before .before .before .before .before .args .out)) (c .before .before .before .before .before .loop .out) _ (c .before .before .before .before .before .before .before .args .at) (c .before .before .before .before .before .loop .i) (c .before .before .before .before .before .before .before .args .b) (c .before .before .before .before .before .loop .inv .0) (c .before .before .put .ensures .1), c .before .before .put .kept .0 ∙ c .before .before .before .before .before .loop .inv .1, omega arith)
+
+-- src/lib.rt:25:5
+add-result : tie.Need-add-result Inv-loop μ-loop
+add-result c = search needs
+
+-- src/lib.rt:15:1
+same-length : tie.Need-same-length Inv-loop μ-loop
+same-length c = c .before .loop .inv .1
+
+-- src/lib.rt:15:1
+returns : tie.Need-returns Inv-loop μ-loop
+returns c = (omega arith, often-done (now (c .before .before .before .args .out)) (c .before .loop .out) (c .before .before .before .args .at) (c .before .loop .i) (c .before .before .before .args .n) (c .before .before .before .args .b) (omega arith) (c .before .loop .inv .0))
+
+pub many-spec : {M : Type 1} → statement M
+many-spec =
+    tie.close
+    (tie.spec
+    Inv-loop
+    μ-loop
+    loop-holds
+    add-put
+    put-requires
+    add-i
+    loop-less
+    loop-again
+    add-result
+    same-length
+    returns)

@@ -1,0 +1,73 @@
+use Rattle.elaborate.proofs.turns.Laws.{open-most, record-most, write-all}
+use denote.Ref.{now}
+use native.Mathlib.Omega.{arith}
+use lib.ListN.{getD}
+use Prim.Native.Nat.{_+_}
+use Rattle.elaborate.specs.Counts.{orsIn, andsIn, signIn}
+use borrow.Author.Needs.{needs}
+use Rattle.elaborate.proofs.turns.write.Statement.{statement}
+use Rattle.elaborate.proofs.turns.write.Tie as tie
+use Rattle.elaborate.proofs.turns.write.Reads as reads
+use Rattle.elaborate.proofs.turns.write.Lts as lts
+use Rattle.elaborate.proofs.ahead.ands.Reads as ands-reads
+use Rattle.elaborate.proofs.ahead.operator.Reads as operator-reads
+use Rattle.elaborate.proofs.ahead.ors.Reads as ors-reads
+use Rattle.copier.proofs.put_record.Reads as put-record-reads
+use Rattle.elaborate.proofs.opens.open.Reads as open-reads
+
+-- src/lib.rt:54:9
+ors-requires : tie.Need-ors-requires
+ors-requires c κs = search needs
+
+-- src/lib.rt:55:9
+ands-requires : tie.Need-ands-requires
+ands-requires c κs = search needs
+
+-- src/lib.rt:56:33
+add-operator : tie.Need-add-operator
+add-operator c = search needs
+
+-- src/lib.rt:56:9
+operator-requires : tie.Need-operator-requires
+operator-requires c κs = search needs
+
+-- src/lib.rt:49:9
+open-requires : tie.Need-open-requires
+open-requires c κs = search needs
+
+-- src/lib.rt:58:5
+put-record-requires : tie.Need-put-record-requires
+put-record-requires c κs =
+    let c₄ = c .before .before .before .before in let operator = c₄ .operator in
+    let c₅ = c₄ .before in let ands = c₅ .ands in
+    let c₆ = c₅ .before in let ors = c₆ .ors in
+    let c₁₀ = c₆ .before .before .before .before in let args = c₁₀ .args in
+    omega (arith, c .before .before .before .«open» .ensures .0, ors .ensures, ands .ensures, open-most (args .mode) (args .kind) (ors .result) (ands .result) (operator .result), record-most (args .item))
+
+-- src/lib.rt:35:1
+same-length : tie.Need-same-length
+same-length c = search needs
+
+-- src/lib.rt:35:1
+returns : tie.Need-returns
+returns c =
+    let c₂ = c .before .before in let put-record = c₂ .put-record in
+    let c₇ = c₂ .before .before .before .before .before in let operator = c₇ .operator in
+    let c₈ = c₇ .before in let ands = c₈ .ands in
+    let c₉ = c₈ .before in let ors = c₉ .ors in
+    let c₁₃ = c₉ .before .before .before .before in let args = c₁₃ .args in
+    let counts = now (args .counts) in let i = args .i in
+    let w = write-all (now (args .out)) _ _ (args .at) _ _ (args .mode) (args .kind) (ors .result) (ands .result) (operator .result) (orsIn (getD counts i 0)) (andsIn (getD counts i 0)) (1 + signIn (getD counts (i + 1) 0)) (args .item) (ors .ensures) (ands .ensures) (omega (arith, operator .ensures)) (omega arith) (omega arith) (c .before .before .before .before .before .before .«open» .ensures .0) (c .before .before .before .before .before .before .«open» .ensures .1) (put-record .ensures .0) (put-record .ensures .1) in (w .0, (w .1, w .2))
+
+pub write-spec : {M : Type 1} → statement M
+write-spec =
+    tie.close
+    (tie.spec
+    ors-requires
+    ands-requires
+    add-operator
+    operator-requires
+    open-requires
+    put-record-requires
+    same-length
+    returns)

@@ -1,0 +1,45 @@
+use mathlib.Core.Path.{_≡_, sym, _∙_}
+use mathlib.Core.List.{List}
+use Prim.Native.Nat.{ℕ, _-_, _≤_, _<_}
+use native.Mathlib.Omega.{arith}
+use native.Mathlib.Nat.{sub-zero}
+use denote.Ref.{now}
+use lib.ListN.{length, take}
+use lib.Seq.{length-take-le, take-all}
+use borrow.Author.Needs.{needs}
+use Rattle.rewriter.proofs.guard.head.Statement.{statement}
+use Rattle.rewriter.proofs.guard.head.Tie as tie
+use Rattle.rewriter.proofs.guard.head.Reads as reads
+use Rattle.rewriter.proofs.guard.head.Lts as lts
+
+whole : (q : List ℕ) (n : ℕ) → length q < n → take (length q - 0) q ≡ take n q
+whole q n h = take-all (length q - 0) q (omega arith) ∙ sym (take-all n q (omega arith))
+
+slice-aggregate-result : tie.Need-slice-aggregate-result
+slice-aggregate-result c = sym (length-take-le (c .before .before .args .n) (now (c .before .before .args .q)) (c .before .if1 .taken))
+
+sub-result : tie.Need-sub-result
+sub-result c = search needs
+
+part-result-start : tie.Need-part-result-start
+part-result-start c = search needs
+
+part-result-end : tie.Need-part-result-end
+part-result-end c = search needs
+
+returns : tie.Need-returns
+returns c = search needs
+
+returns-2 : tie.Need-returns-2
+returns-2 c = whole (now (c .before .before .args .q)) (c .before .before .args .n) (c .before .if1 .left)
+
+pub head-spec : {M : Type 1} → statement M
+head-spec =
+    tie.close
+    (tie.spec
+    slice-aggregate-result
+    sub-result
+    part-result-start
+    part-result-end
+    returns
+    returns-2)

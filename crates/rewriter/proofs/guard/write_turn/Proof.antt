@@ -1,0 +1,61 @@
+use native.Mathlib.Omega.{arith}
+use denote.Ref.{now}
+use Rattle.copier.proofs.Turns.{turn-not, turn-first, turn-second, turn-done}
+use borrow.Author.Needs.{needs}
+use Rattle.rewriter.proofs.guard.write_turn.Statement.{statement}
+use Rattle.rewriter.proofs.guard.write_turn.Tie as tie
+use Rattle.rewriter.proofs.guard.write_turn.Reads as reads
+use Rattle.rewriter.proofs.guard.write_turn.Lts as lts
+use Rattle.rewriter.proofs.guard.copy_condition.Reads as copy-condition-reads
+use Rattle.rewriter.proofs.guard.put_unless.Reads as put-unless-reads
+use Rattle.scans.proofs.count_bindings.Reads as count-bindings-reads
+
+returns : tie.Need-returns
+returns c =
+    let c₃ = c .before .before .before in let args = c₃ .args in
+    turn-not (now (args .out)) (now (args .condition)) (args .at) (args .mask) (args .variable) (args .next) (c .if1 .taken)
+
+put-unless-requires : tie.Need-put-unless-requires
+put-unless-requires c κs =
+    let c₄ = c .before .before .before .before in let args = c₄ .args in let pre = c₄ .pre in
+    turn-first (now (args .condition)) (args .mask) (args .variable) (args .next) (c .before .if1 .left) (args .at) (pre .0)
+
+copy-condition-requires : tie.Need-copy-condition-requires
+copy-condition-requires c κs =
+    let c₃ = c .before .before .before in let put-unless = c₃ .put-unless in
+    let c₅ = c₃ .before .before in let if1 = c₅ .if1 in
+    let c₈ = c₅ .before .before .before in let args = c₈ .args in let pre = c₈ .pre in
+    turn-second (now (args .condition)) (args .mask) (args .variable) (args .next) (if1 .left) (now (args .out)) (args .at) _ _ (put-unless .ensures) (pre .0) (pre .1)
+
+count-bindings-requires : tie.Need-count-bindings-requires
+count-bindings-requires c κs = search needs
+
+add-t16 : tie.Need-add-t16
+add-t16 c =
+    let c₇ = c .before .before .before .before .before .before .before in let put-unless = c₇ .put-unless in
+    let c₉ = c₇ .before .before in let if1 = c₉ .if1 in
+    let c₁₂ = c₉ .before .before .before in let args = c₁₂ .args in let pre = c₁₂ .pre in
+    omega (arith, c .count-bindings .ensures, turn-second (now (args .condition)) (args .mask) (args .variable) (args .next) (if1 .left) (now (args .out)) (args .at) (put-unless .last .0) (put-unless .result) (put-unless .ensures) (pre .0) (pre .1) .1)
+
+same-length : tie.Need-same-length
+same-length c = search needs
+
+returns-2 : tie.Need-returns-2
+returns-2 c =
+    let c₃ = c .before .before .before in let copy-condition = c₃ .copy-condition in
+    let c₇ = c₃ .before .before .before .before in let put-unless = c₇ .put-unless in
+    let c₉ = c₇ .before .before in let if1 = c₉ .if1 in
+    let c₁₂ = c₉ .before .before .before in let args = c₁₂ .args in
+    turn-done (now (args .condition)) (args .mask) (args .variable) (args .next) (if1 .left) (now (args .out)) (args .at) _ _ (put-unless .ensures) _ _ _ (copy-condition .ensures) (c .count-bindings .ensures)
+
+pub write-turn-spec : {M : Type 1} → statement M
+write-turn-spec =
+    tie.close
+    (tie.spec
+    returns
+    put-unless-requires
+    copy-condition-requires
+    count-bindings-requires
+    add-t16
+    same-length
+    returns-2)
