@@ -82,5 +82,7 @@ clean:
 	rm -rf $(out)
 
 .PHONY: all check install clean needed
+# two rt at a time in one folder disturb each other
+.NOTPARALLEL:
 .SECONDARY:
 .DELETE_ON_ERROR:

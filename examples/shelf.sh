@@ -3,6 +3,6 @@
 set -eu
 cd "$(dirname "$0")/.."
 mkdir -p target/c
-rt staticlib waldumre_book >target/examples.log 2>&1 || { cat target/examples.log; exit 1; }
+make --silent target/staticlib/libwaldumre_book.a
 gcc -std=c11 -O1 -Iinclude examples/shelf/shelf.c target/staticlib/libwaldumre_book.a -o target/c/shelf
 target/c/shelf examples/shelf/store "$@"

@@ -66,7 +66,7 @@ extern "C" {
  * a sum: the deepest query as measured (117,000 and 256,000), and the tables for large relations
  * (43,000 for equal rows of an answer, 33,000 for equal rows of a range; for waldumre_ask 17,000 for
  * the permitted rows and as much for marks); to refuse 17,216 bytes of aggregates nested without end
- * waldumre_evaluate takes 434,000. waldumre_read_query takes at most 90,000, and waldumre_ask_text no
+ * waldumre_evaluate takes 434,000. waldumre_read_query takes at most 120,000, and waldumre_ask_text no
  * more than the larger of reader and ask.
  */
 #define WALDUMRE_STACK_BYTES 1048576

@@ -9,10 +9,8 @@ out=target/c
 room=$(mktemp -d)
 trap 'rm -rf "$room"' EXIT
 mkdir -p "$out"
-for name in waldumre waldumre_book; do
-  nice -n 5 rt staticlib "$name" >target/book.log 2>&1 || { cat target/book.log; exit 1; }
-done
 libraries=target/staticlib
+make --silent $libraries/libwaldumre.a $libraries/libwaldumre_book.a
 library=$libraries/libwaldumre_book.a
 
 # What the header says: one function, no variable, nothing needed but memcpy, memset and their like; and no name that both libraries export.

@@ -4,15 +4,13 @@
 set -eu
 cd "$(dirname "$0")/.."
 . tools/need.sh
-need rt cargo gcc
+need make rt cargo gcc
 ours=target/bin/program
 theirs=tests/target/release/program
 room=$(mktemp -d)
 trap 'rm -rf "$room"' EXIT
 
-# after rt ci this proves nothing again
-mkdir -p target
-rt check program >target/program.log 2>&1 || { cat target/program.log; exit 1; }
+make --silent "$ours"
 (cd tests && nice -n 5 cargo build --quiet --offline --release -p judge --bins)
 
 echo "conformance: the cases are those of the tool"
@@ -39,7 +37,7 @@ if conformance/run-texts.sh "$room/wrong" >"$room/said"; then echo "conformance:
 
 printf '#!/bin/sh\necho "refused 10"\n' >"$room/wrong"
 chmod +x "$room/wrong"
-if conformance/run.sh "$room/wrong" >"$room/said"; then echo "conformance: a program that refuses all passes"; exit 1; fi
+if conformance/run.sh --only 'catalogue-*' "$room/wrong" >"$room/said"; then echo "conformance: a program that refuses all passes"; exit 1; fi
 
 # What the runner says of a case that fails, of one by its name, of a program that hangs, and in TAP.
 says() { # what it prints for the arguments, all of it

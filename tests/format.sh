@@ -7,11 +7,9 @@ cd "$(dirname "$0")/.."
 need python3
 reader=${2:-}
 if [[ $# -eq 0 ]]; then
-  need rt gcc
-  mkdir -p target
-  # after rt ci this proves nothing again
-  nice -n 5 rt check program >target/program.log 2>&1 || { cat target/program.log; exit 1; }
+  need make rt gcc
   set -- target/bin/program
+  make --silent "$1"
   reader=target/c/read_text
   mkdir -p target/c
   gcc -std=c11 -O1 -Wall -Wextra -Werror -Iinclude tests/c/read_text.c "$(tools/library.sh)" -o "$reader"

@@ -22,22 +22,22 @@ case ${1:-} in
   *) echo "run.sh [--reference | --guard-last]" >&2; exit 2 ;;
 esac
 if [[ -z ${LIBRARY:-} ]]; then
-  need rt
-  "${nice[@]}" rt staticlib waldumre >"$out/library.log" 2>&1 || { cat "$out/library.log"; exit 1; }
-  LIBRARY=target/staticlib/libwaldumre.a
+  LIBRARY=$(tools/library.sh)
 fi
 cases=$out/cases
 "$out/release/draw" "${EACH:-30}" "${DRAWN:-250}" "$cases"
 gcc -std=c11 -O1 -g -Wall -Wextra -Werror -DASK="$ask" -Iinclude tests/secrecy/secrecy.c "$LIBRARY" -o "$out/secrecy"
 "$out/secrecy" plain "$cases"
 
-# What memcheck says of the first failures is in $out/memcheck.log.
-"${nice[@]}" valgrind --quiet --error-limit=no --log-file="$out/memcheck.log" "$out/secrecy" "${MODE:-memcheck}" "$cases" >"$out/reported"
+# What memcheck says of the first failures is in $out/memcheck.log. It runs beside callgrind.
+"${nice[@]}" valgrind --quiet --error-limit=no --log-file="$out/memcheck.log" "$out/secrecy" "${MODE:-memcheck}" "$cases" >"$out/reported" &
+memcheck=$!
 
 # Two parts of callgrind's file for each case: the first collection, the second.
 rm -f "$out/callgrind.out"
 "${nice[@]}" valgrind --quiet --tool=callgrind --toggle-collect="$ask" --combine-dumps=yes --callgrind-out-file="$out/callgrind.out" \
   "$out/secrecy" callgrind "$cases" >"$out/shapes"
+wait "$memcheck"
 awk '/^desc: Trigger: Client Request/ { wanted = 1 } /^(totals|summary):/ && wanted { print $2; wanted = 0 }' "$out/callgrind.out" >"$out/counts"
 if [[ $(wc -l <"$out/counts") != $((2 * $(wc -l <"$out/shapes"))) ]]; then echo "secrecy: callgrind has not counted every call"; exit 1; fi
 

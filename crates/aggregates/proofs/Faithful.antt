@@ -15,7 +15,7 @@ use Rattle.model.specs.Syntax.{Condition, Term, TRUE, FALSE, NOT, AND, OR, COMP
 use Rattle.model.specs.Meaning as M
 use Rattle.model.proofs.Lists.{every-append, every-join, every-map}
 use Rattle.model.proofs.Permitted.{Differ}
-use Rattle.model.specs.Meaning.{Tuple, Assignment, Rows, Value, aggregate, compare, holds, value}
+use Rattle.model.specs.Meaning.{Tuple, Assignment, Rows, Value, aggregate, compare, holds, value, holdsWith}
 use Rattle.model.specs.Scope.{Scope, nobody, rangeScope, boundOnce}
 use Rattle.model.proofs.Passed.{Scoped, ranges-differ}
 use Rattle.model.specs.Catalogue.{Shape}
@@ -24,7 +24,7 @@ use Rattle.model.proofs.Tests.{and-inv, or-no, not-yes, clash}
 use Rattle.numbers.specs.Numbers.{fraction}
 use Rattle.numbers.specs.Memo.{knows, recalled, remembered, numeratorAt, markAt, numeratorOf, markOf}
 use Rattle.numbers.proofs.Memo.{Keeps, keeps-aggregate}
-use Rattle.evaluator.specs.Recalled.{holdsBy, valueBy}
+use Rattle.numbers.specs.Recalled.{holdsBy, valueBy}
 use Rattle.aggregates.specs.Filled.{filledC, filledT, filledTs}
 
 -- what the memo knows of the aggregates of a condition is their value
@@ -45,7 +45,7 @@ module _ (m : List ℤ) (R : Rows) where
     FaithfulT (AGGREGATE f v r a c) = Faithful c × (knows m v ≡ true → (e : Assignment) → recalled m v ≡ value (AGGREGATE f v r a c) R e)
 
   mutual
-    unfolding Faithful holdsBy holds
+    unfolding Faithful holdsWith
 
     pub faithful-holds : (c : Condition) → Faithful c → (e : Assignment) → holdsBy m c R e ≡ holds c R e
     faithful-holds TRUE h e = refl
@@ -104,7 +104,7 @@ recalled-same m v x h k =
     ∙ k
 
 keeps-value : (f v r a : ℕ) (c : Condition) (R : Rows) (e : Assignment) → Keeps (value (AGGREGATE f v r a c) R e)
-unfolding holds
+unfolding holdsWith
 keeps-value f v r a c R e = keeps-aggregate f _
 
 -- v is no variable of these bindings

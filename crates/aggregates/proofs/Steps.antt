@@ -17,9 +17,10 @@ use Rattle.kinds.specs.declared.Record.the-variants as R
 use Rattle.numbers.specs.Memo.{remembered}
 use Rattle.sizes.specs.Decode.{first, second, conditionBy, termBy, nothing, decode, decodeT}
 use Rattle.sizes.specs.Parts.{targetsAt}
-use Rattle.evaluator.specs.Recalled.{valueBy}
+use Rattle.numbers.specs.Recalled.{valueBy}
 use Rattle.walks.specs.Walks.{rowsBy}
-use Rattle.evaluator.specs.Evaluation.{assigned, valueAt}
+use Rattle.evaluator.specs.Evaluation.{valueAt}
+use Rattle.walks.specs.Assigned.{assigned}
 use Rattle.aggregates.specs.Filled.{filledC, filledT, filledTs}
 
 module _ (S : Rows) (e : Assignment) (q z : List ℕ) (m : List ℤ) where

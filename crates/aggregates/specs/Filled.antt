@@ -4,7 +4,7 @@ use lib.IntN.{ℤ}
 use Rattle.model.specs.Syntax.{Condition, Term, TRUE, FALSE, NOT, AND, OR, COMPARE, SOME, CONSTANT, ATTRIBUTE, AGGREGATE}
 use Rattle.model.specs.Meaning.{Assignment, Rows}
 use Rattle.numbers.specs.Memo.{remembered}
-use Rattle.evaluator.specs.Recalled.{valueBy}
+use Rattle.numbers.specs.Recalled.{valueBy}
 
 unfoldable mutual
   pub filledC : Condition → Rows → Assignment → List ℤ → List ℤ

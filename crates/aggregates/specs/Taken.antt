@@ -6,13 +6,18 @@ use lib.IntN.{ℤ}
 use Rattle.model.specs.Lists.{update, filter}
 use Rattle.model.specs.Meaning.{Tuple, Assignment}
 use Rattle.walks.specs.Walks.{walked}
-use Rattle.evaluator.specs.Evaluation.{assigned}
+use Rattle.walks.specs.Assigned.{assigned}
+use Rattle.branches.specs.Branches.{runs}
 use Rattle.conjuncts.specs.Stages.{stageHolds}
 
 module _ (t : List ℕ) (xs : List ℤ) (q z ws : List ℕ) (vs m : List ℤ) where
   -- its two stages
   unfoldable pub bothHold : Assignment → Bool
   bothHold e = stageHolds t xs q z ws vs m 0 e && stageHolds t xs q z ws vs m 1 e
+
+  -- the same, the first from branch i on
+  unfoldable pub bothFrom : ℕ → Assignment → Bool
+  bothFrom i e = runs t xs q z ws vs m i e && stageHolds t xs q z ws vs m 1 e
 
   -- attribute a of the rows of variable v for which they hold
   unfoldable pub takenBy : List ℕ → ℕ → ℕ → List ℤ

@@ -11,9 +11,11 @@ ghost use Rattle.sizes.specs.Decode.{decode, decodeT};
 ghost use Rattle.sizes.specs.Parts.{targetsAt};
 ghost use Rattle.walks.specs.Walks.{rowsBy};
 ghost use Rattle.numbers.specs.Numbers.{valueOf, added, Small, Bounded, Accumulates};
-ghost use Rattle.evaluator.specs.Evaluation.{assigned, valueAt, valuesOn};
-ghost use Rattle.seeks.specs.Keys.{Faithful};
-ghost use Rattle.aggregates.specs.Taken.{bothHold, takenBy};
+ghost use Rattle.evaluator.specs.Evaluation.{valueAt, valuesOn};
+ghost use Rattle.walks.specs.Assigned.{assigned};
+ghost use Rattle.decide.specs.Keys.{Faithful};
+ghost use Rattle.aggregates.specs.Taken.{bothFrom, takenBy};
+ghost use Rattle.branches.specs.Branches.{runs};
 ghost use Rattle.aggregates.specs.Filled.{filledC, filledT, filledTs};
 
 // Whether a level can stand in a table of branches.
@@ -29,10 +31,11 @@ fn compiled(level: usize) -> bool
     true
 }
 
-// Whether the conjuncts hold of a table with no ranges, comparisons first.
-fn both(
+// Whether branch `start` leads to 0; no call where it is 0.
+fn leads(
     t: &[u16],
     xs: &[i32],
+    start: usize,
     q: &[u8],
     z: &[u16],
     walks: &[u16],
@@ -41,20 +44,47 @@ fn both(
     memo: &[i64],
     env: &mut [usize],
 ) -> bool
-    requires { ⌜ (256 ≤ length (now env)) × Faithful (now t) (now walks) (now vs) (now chains) ⌝ }
-    ensures { λ r. ⌜ r ≡ bothHold (now (t .entry)) (now (xs .entry)) (now (q .entry)) (now (z .entry)) (now (walks .entry)) (now (vs .entry)) (now (memo .entry)) (assigned (now (vs .entry)) (now (env .entry))) ⌝ }
+    requires { ⌜ (256 ≤ length (now env)) × (start ≤ 65535) × Faithful (now t) (now walks) (now vs) (now chains) ⌝ }
+    ensures { λ r. ⌜ r ≡ runs (now (t .entry)) (now (xs .entry)) (now (q .entry)) (now (z .entry)) (now (walks .entry)) (now (vs .entry))
+        (now (memo .entry)) start (assigned (now (vs .entry)) (now (env .entry))) ⌝ }
     ensures { λ _. ⌜ now (env .exit) ≡ now (env .entry) ⌝ }
 {
-    if !conjuncts::holds(t, xs, 0, q, z, walks, chains, vs, memo, env) {
+    if start == 0 {
+        return true;
+    }
+    decide::holds(t, xs, start, q, z, walks, chains, vs, memo, env)
+}
+
+// Whether the conjuncts hold of a table with no ranges, comparisons first, of which those before branch `next` do.
+fn both(
+    t: &[u16],
+    xs: &[i32],
+    next: usize,
+    q: &[u8],
+    z: &[u16],
+    walks: &[u16],
+    chains: &[u16],
+    vs: &[i32],
+    memo: &[i64],
+    env: &mut [usize],
+) -> bool
+    requires { ⌜ (256 ≤ length (now env)) × (next ≤ 65535) × Faithful (now t) (now walks) (now vs) (now chains) ⌝ }
+    ensures { λ r. ⌜ r ≡ bothFrom (now (t .entry)) (now (xs .entry)) (now (q .entry)) (now (z .entry)) (now (walks .entry)) (now (vs .entry))
+        (now (memo .entry)) next (assigned (now (vs .entry)) (now (env .entry))) ⌝ }
+    ensures { λ _. ⌜ now (env .exit) ≡ now (env .entry) ⌝ }
+{
+    if !leads(t, xs, next, q, z, walks, chains, vs, memo, env) {
         return false;
     }
-    conjuncts::holds(t, xs, 1, q, z, walks, chains, vs, memo, env)
+    let second = kinds::size_at(t, 1);
+    leads(t, xs, second, q, z, walks, chains, vs, memo, env)
 }
 
 // What was taken, and an attribute of the row at a place where the conjuncts hold.
 fn with_row(
     t: &[u16],
     xs: &[i32],
+    next: usize,
     q: &[u8],
     z: &[u16],
     walks: &[u16],
@@ -66,18 +96,19 @@ fn with_row(
     attribute: u8,
     taken: Accumulator,
 ) -> Accumulator
-    requires { ⌜ (256 ≤ length (now env)) × (taken .count < 65535) × Bounded taken × Faithful (now t) (now walks) (now vs) (now chains) ⌝ }
-    ensures { λ r. ⌜ r ≡ cond (bothHold (now (t .entry)) (now (xs .entry)) (now (q .entry)) (now (z .entry)) (now (walks .entry)) (now (vs .entry)) (now (memo .entry)) (assigned (now (vs .entry)) (now (env .entry)))) (added taken (getD (now (vs .entry)) (row + attribute) (pos 0))) taken ⌝ }
+    requires { ⌜ (256 ≤ length (now env)) × (next ≤ 65535) × (taken .count < 65535) × Bounded taken × Faithful (now t) (now walks) (now vs) (now chains) ⌝ }
+    ensures { λ r. ⌜ r ≡ cond (bothFrom (now (t .entry)) (now (xs .entry)) (now (q .entry)) (now (z .entry)) (now (walks .entry)) (now (vs .entry))
+        (now (memo .entry)) next (assigned (now (vs .entry)) (now (env .entry)))) (added taken (getD (now (vs .entry)) (row + attribute) (pos 0))) taken ⌝ }
     ensures { λ r. ⌜ Bounded r ⌝ }
     ensures { λ _. ⌜ now (env .exit) ≡ now (env .entry) ⌝ }
 {
-    if !both(t, xs, q, z, walks, chains, vs, memo, env) {
+    if !both(t, xs, next, q, z, walks, chains, vs, memo, env) {
         return taken;
     }
     numbers::add(taken, catalogue::cell(vs, row, attribute))
 }
 
-// The attribute of each row of the variable for which the conjuncts hold.
+// The attribute of each row of the variable for which the conjuncts hold. Its own rows have no chain.
 fn take(
     t: &[u16],
     xs: &[i32],
@@ -92,21 +123,32 @@ fn take(
     attribute: u8,
 ) -> Accumulator
     requires { ⌜ (256 ≤ length (now env)) × Faithful (now t) (now walks) (now vs) (now chains) ⌝ }
-    ensures { λ r. ⌜ Accumulates r (takenBy (now (t .entry)) (now (xs .entry)) (now (q .entry)) (now (z .entry)) (now (walks .entry)) (now (vs .entry)) (now (memo .entry)) (now (env .entry)) variable attribute) ⌝ }
+    ensures { λ r. ⌜ Accumulates r (takenBy (now (t .entry)) (now (xs .entry)) (now (q .entry)) (now (z .entry)) (now (walks .entry))
+        (now (vs .entry)) (now (memo .entry)) (now (env .entry)) variable attribute) ⌝ }
     ensures { λ r. ⌜ r .count ≤ 65535 ⌝ }
     ensures { λ _. ⌜ now (env .exit) ≡ now (env .entry) ⌝ }
 {
     let walk = walks::walk_of(walks, variable);
     let n = walk.count;
     let old = evaluator::place(env, variable);
+    let start = kinds::size_at(t, 0);
+    let none = [0u16; 1];
+    let cursor = decide::seeks::prepare(t, xs, start, variable, &none, vs, memo, env);
+    let next = cursor.next;
     let mut taken = numbers::empty();
-    let mut i = probes::ahead(t, xs, 0, variable, walks, walk, vs, memo, env, 0);
-    while i < n {
-        let row = walks::place(walks, walk, i);
+    let mut i = 0;
+    loop {
+        let j = decide::seeks::next_row(cursor, vs, walks, walk, &none, i);
+        if n <= j {
+            evaluator::set_place(env, variable, old);
+            return taken;
+        }
+        let row = walks::place(walks, walk, j);
         evaluator::set_place(env, variable, row);
         taken = with_row(
             t,
             xs,
+            next,
             q,
             z,
             walks,
@@ -118,10 +160,8 @@ fn take(
             attribute,
             taken,
         );
-        i = probes::ahead(t, xs, 0, variable, walks, walk, vs, memo, env, i + 1);
+        i = j + 1;
     }
-    evaluator::set_place(env, variable, old);
-    taken
 }
 
 // The same where the conjuncts ask for rows of other variables: those of the first that has eight or more are chained.
@@ -138,12 +178,13 @@ fn take_linked(
     attribute: u8,
 ) -> Accumulator
     requires { ⌜ 256 ≤ length (now env) ⌝ }
-    ensures { λ r. ⌜ Accumulates r (takenBy (now (t .entry)) (now (xs .entry)) (now (q .entry)) (now (z .entry)) (now (walks .entry)) (now (vs .entry)) (now (memo .entry)) (now (env .entry)) variable attribute) ⌝ }
+    ensures { λ r. ⌜ Accumulates r (takenBy (now (t .entry)) (now (xs .entry)) (now (q .entry)) (now (z .entry)) (now (walks .entry))
+        (now (vs .entry)) (now (memo .entry)) (now (env .entry)) variable attribute) ⌝ }
     ensures { λ r. ⌜ r .count ≤ 65535 ⌝ }
     ensures { λ _. ⌜ now (env .exit) ≡ now (env .entry) ⌝ }
 {
     let mut chains = [0u16; 2116];
-    seeks::add_searches(t, walks, vs, &mut chains, 64);
+    decide::seeks::add_searches(t, walks, vs, &mut chains, 64);
     take(
         t,
         xs,
@@ -172,14 +213,15 @@ fn gather(
     attribute: u8,
 ) -> Accumulator
     requires { ⌜ (256 ≤ length (now env)) × (level ≤ 65535) ⌝ }
-    ensures { λ r. ⌜ Accumulates r (valuesOn level (now (q .entry)) (now (z .entry)) (now (walks .entry)) (now (vs .entry)) (now (memo .entry)) (now (env .entry)) variable attribute) ⌝ }
+    ensures { λ r. ⌜ Accumulates r (valuesOn level (now (q .entry)) (now (z .entry)) (now (walks .entry)) (now (vs .entry)) (now (memo .entry))
+        (now (env .entry)) variable attribute) ⌝ }
     ensures { λ r. ⌜ r .count ≤ 65535 ⌝ }
     ensures { λ _. ⌜ now (env .exit) ≡ now (env .entry) ⌝ }
 {
     let mut t = [0u16; 512];
     let mut xs = [0i32; 128];
-    conjuncts::plan(q, z, 0, 0, level, q, 200, memo, &mut t, &mut xs);
-    if seeks::searches(&t, walks) {
+    conjuncts::plan(q, z, 0, 0, level, memo, &mut t, &mut xs);
+    if decide::seeks::searches(&t, walks) {
         return take_linked(&t, &xs, q, z, walks, vs, memo, env, variable, attribute);
     }
     let chains = [0u16; 1];
@@ -209,7 +251,8 @@ fn value(
     env: &mut [usize],
 ) -> Ratio
     requires { ⌜ 256 ≤ length (now env) ⌝ }
-    ensures { λ r. ⌜ valueOf r ≡ valueAt level (now (q .entry)) (now (z .entry)) (now (walks .entry)) (now (vs .entry)) (now (memo .entry)) (now (env .entry)) ⌝ }
+    ensures { λ r. ⌜ valueOf r ≡ valueAt level (now (q .entry)) (now (z .entry)) (now (walks .entry)) (now (vs .entry)) (now (memo .entry))
+        (now (env .entry)) ⌝ }
     ensures { λ r. ⌜ Small r ⌝ }
     ensures { λ _. ⌜ now (env .exit) ≡ now (env .entry) ⌝ }
 {
@@ -241,7 +284,8 @@ pub fn condition(
     memo: &mut [i64],
 )
     requires { ⌜ 256 ≤ length (now env) ⌝ }
-    ensures { λ _. ⌜ now (memo .exit) ≡ filledC (decode level (now (q .entry)) (now (z .entry))) (rowsBy (now (walks .entry)) (now (vs .entry))) (assigned (now (vs .entry)) (now (env .entry))) (now (memo .entry)) ⌝ }
+    ensures { λ _. ⌜ now (memo .exit) ≡ filledC (decode level (now (q .entry)) (now (z .entry))) (rowsBy (now (walks .entry)) (now (vs .entry)))
+        (assigned (now (vs .entry)) (now (env .entry))) (now (memo .entry)) ⌝ }
     ensures { λ _. ⌜ now (env .exit) ≡ now (env .entry) ⌝ }
 {
     if level == 0 {
@@ -288,7 +332,8 @@ fn term(
     memo: &mut [i64],
 )
     requires { ⌜ 256 ≤ length (now env) ⌝ }
-    ensures { λ _. ⌜ now (memo .exit) ≡ filledT (decodeT level (now (q .entry)) (now (z .entry))) (rowsBy (now (walks .entry)) (now (vs .entry))) (assigned (now (vs .entry)) (now (env .entry))) (now (memo .entry)) ⌝ }
+    ensures { λ _. ⌜ now (memo .exit) ≡ filledT (decodeT level (now (q .entry)) (now (z .entry))) (rowsBy (now (walks .entry)) (now (vs .entry)))
+        (assigned (now (vs .entry)) (now (env .entry))) (now (memo .entry)) ⌝ }
     ensures { λ _. ⌜ now (env .exit) ≡ now (env .entry) ⌝ }
 {
     if level == 0 {
@@ -323,7 +368,8 @@ pub fn targets(
     memo: &mut [i64],
 )
     requires { ⌜ 256 ≤ length (now env) ⌝ }
-    ensures { λ _. ⌜ now (memo .exit) ≡ filledTs (targetsAt left level (now (q .entry)) (now (z .entry))) (rowsBy (now (walks .entry)) (now (vs .entry))) (assigned (now (vs .entry)) (now (env .entry))) (now (memo .entry)) ⌝ }
+    ensures { λ _. ⌜ now (memo .exit) ≡ filledTs (targetsAt left level (now (q .entry)) (now (z .entry)))
+        (rowsBy (now (walks .entry)) (now (vs .entry))) (assigned (now (vs .entry)) (now (env .entry))) (now (memo .entry)) ⌝ }
     ensures { λ _. ⌜ now (env .exit) ≡ now (env .entry) ⌝ }
 {
     if left == 0 {

@@ -70,7 +70,8 @@ fn suits(columns: usize, cells: &[i64], offers: usize, display: usize) -> bool
 // Writes the book of an answer's cells, and returns whether there is one; where there is none the book is left as it was.
 pub fn write(columns: usize, cells: &[i64], offers: &mut [i64], display: &mut [u8]) -> bool
     ensures { λ r. ⌜ r ≡ fits columns (now (cells .entry)) (record { offers = now (offers .entry); display = now (display .entry) }) ⌝ }
-    ensures { λ r. ⌜ record { offers = now (offers .exit); display = now (display .exit) } ≡ cond r (bookOf (rowsIn (now (cells .entry)))) (record { offers = now (offers .entry); display = now (display .entry) }) ⌝ }
+    ensures { λ r. ⌜ record { offers = now (offers .exit); display = now (display .exit) }
+        ≡ cond r (bookOf (rowsIn (now (cells .entry)))) (record { offers = now (offers .entry); display = now (display .entry) }) ⌝ }
 {
     let good = suits(columns, cells, offers.len(), display.len());
     if !good {

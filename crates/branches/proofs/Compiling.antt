@@ -10,9 +10,9 @@ use lib.Seq.{sets}
 use borrow.Author.Tests.{ne-eqb, lt-ltb}
 use Rattle.model.specs.Lists.{update, any}
 use Rattle.model.specs.Syntax.{Condition, SOME}
-use Rattle.model.specs.Meaning.{Tuple, Assignment}
+use Rattle.model.specs.Meaning.{Tuple, Assignment, holdsWith}
 use Rattle.sizes.specs.Decode.{decode}
-use Rattle.evaluator.specs.Recalled.{holdsBy}
+use Rattle.numbers.specs.Recalled.{holdsBy}
 use Rattle.walks.specs.Walks.{walked, rowsBy}
 use Rattle.branches.specs.Branches.{field, holdsIn, branchHolds, next, runs}
 use Rattle.branches.specs.Compiled.{Compares, comparing, placing, Kept, Compiled}
@@ -101,7 +101,7 @@ module _ (k r met unmet v g : ℕ) (t t′ t″ : List ℕ) (xs xs′ : List ℤ
       as-is false = refl
 
   searches : (ws : List ℕ) (vs : List ℤ) (e : Assignment) → branchHolds t″ xs′ q z ws vs m (r + 1) e ≡ holdsBy m (SOME v g c) (rowsBy ws vs) e
-  unfolding branchHolds holdsIn holdsBy
+  unfolding branchHolds holdsIn holdsWith
   searches ws vs e =
       let l : r < r + 1 = omega arith in
       rw (at-search 0 (omega arith), at-search 1 (omega arith), at-search 2 (omega arith), lt-ltb r (r + 1) l, lt-ltb v 256 byte) (ap (λ (p : Tuple → Bool). any p (walked ws vs v)) (fun-ext λ x. inside ws vs (update e v x)))

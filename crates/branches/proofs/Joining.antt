@@ -12,14 +12,14 @@ use lib.Seq.{drop-drop, getD-drop}
 use borrow.Author.Tests.{ne-eqb}
 use Rattle.model.specs.Kinds.{Kind, kindOf, bodyLength}
 use Rattle.model.specs.Syntax.{Condition, NOT, AND, OR, SOME}
-use Rattle.model.specs.Meaning.{Assignment}
+use Rattle.model.specs.Meaning.{Assignment, holdsWith}
 use Rattle.kinds.specs.Tables.{recordLength}
 use Rattle.kinds.specs.Record.{filled, recordAt}
 use Rattle.kinds.proofs.Records.{whole-record}
 use Rattle.kinds.specs.declared.Record.{Record}
 use Rattle.kinds.specs.declared.Record.the-variants as R
 use Rattle.sizes.specs.Decode.{first, second, conditionBy, decode, decodeT}
-use Rattle.evaluator.specs.Recalled.{holdsBy}
+use Rattle.numbers.specs.Recalled.{holdsBy}
 use Rattle.walks.specs.Walks.{rowsBy}
 use Rattle.branches.specs.Branches.{runs}
 use Rattle.branches.specs.Compiled.{Compiled, node, joined, Parted, Searched}
@@ -110,7 +110,7 @@ falls-by l t h e = omega (arith, h)
 -- branches of the parts
 module _ (k met unmet : ℕ) (q z : List ℕ) (m : List ℤ) (c d w : Condition) (kind : ℕ) (ew : w ≡ joined kind c d) where
   pub joined-not : (r : ℕ) (t t′ : List ℕ) (xs xs′ : List ℤ) → kind ≡ 1 → Compiled k r unmet met t t′ xs xs′ q z m c → Compiled k r met unmet t t′ xs xs′ q z m w
-  unfolding holdsBy
+  unfolding holdsWith
   joined-not r t t′ xs xs′ h a =
       subst (Compiled k r met unmet t t′ xs xs′ q z m) (sym is-not)
       (record { kept = a .kept; means = λ ws vs e. a .means ws vs e ∙ turned (holdsBy m c (rowsBy ws vs) e) (runs t xs q z ws vs m met e) (runs t xs q z ws vs m unmet e) })
@@ -127,7 +127,7 @@ module _ (k met unmet : ℕ) (q z : List ℕ) (m : List ℤ) (c d w : Condition)
     back i ws vs e h = runs-kept k t t′ xs xs′ q z ws vs m (b .kept) i e h
 
     pub joined-and : kind ≡ 2 → Compiled (r + 1) s r unmet t′ t″ xs′ xs″ q z m c → Compiled k s met unmet t t″ xs xs″ q z m w
-    unfolding holdsBy
+    unfolding holdsWith
     joined-and h a =
         subst (Compiled k s met unmet t t″ xs xs″ q z m) (sym is-and)
         (record {
@@ -144,7 +144,7 @@ module _ (k met unmet : ℕ) (q z : List ℕ) (m : List ℤ) (c d w : Condition)
         both false y u v = refl
 
     pub joined-or : (kind ≡ 1 → ⊥) → (kind ≡ 2 → ⊥) → Compiled (r + 1) s met r t′ t″ xs′ xs″ q z m c → Compiled k s met unmet t t″ xs xs″ q z m w
-    unfolding holdsBy
+    unfolding holdsWith
     joined-or h g a =
         subst (Compiled k s met unmet t t″ xs xs″ q z m) (sym is-or)
         (record {

@@ -10,7 +10,7 @@ use lib.IntN.{ℤ, pos}
 use lib.ListN.{getD, drop}
 use borrow.Author.Tests.{lt-ltb, le-ltb}
 use Rattle.model.specs.Syntax.{Condition, Term, AGGREGATE}
-use Rattle.model.specs.Meaning.{whole, signed, compare}
+use Rattle.model.specs.Meaning.{whole, signed, compare, holdsWith}
 use Rattle.model.proofs.Tests.{clash, not-no}
 use Rattle.kinds.specs.Tables.{recordLength}
 use Rattle.kinds.specs.Record.{recordAt}
@@ -18,7 +18,7 @@ use Rattle.kinds.specs.declared.Record.{Record}
 use Rattle.kinds.specs.declared.Record.the-variants as R
 use Rattle.numbers.specs.Memo.{knows}
 use Rattle.sizes.specs.Decode.{first, second, conditionBy, termBy, decode, decodeT}
-use Rattle.evaluator.specs.Recalled.{holdsBy, valueBy}
+use Rattle.numbers.specs.Recalled.{holdsBy, valueBy}
 use Rattle.branches.specs.Compiled.{sideOf, Means, Compares}
 use Rattle.branches.specs.declared.Operand.{Operand}
 use Rattle.branches.specs.declared.Comparison.{Comparison}
@@ -29,7 +29,7 @@ unknown-means o m x h k R e = clash (sym h ∙ k)
 -- an aggregate that the memo knows
 pub recalled-means : (m : List ℤ) (v w : ℕ) (b : Bool) (o : Operand) → b ≡ knows m v → not b ≡ false → w ≡ v → v < 256
     → o ≡ record { known = true; variable = w + 256; attribute = 0; number = pos 0 } → (f r a : ℕ) (c : Condition) → Means o m (AGGREGATE f v r a c)
-unfolding holdsBy
+unfolding holdsWith
 recalled-means m v w b o eb h ew g eo f r a c k R e =
     let y = sym eb ∙ not-no b h in
     let low : 256 ≤ v + 256 = omega arith in
@@ -56,12 +56,12 @@ module _ (m : List ℤ) (q : List ℕ) (l : ℕ) (r : Record) (nz : l ≡ 0 → 
 
   module _ (o : Operand) where
     pub constant-means : (a b c d : ℕ) (x : ℤ) → r ≡ R.Constant a b c d → x ≡ signed a b c d → o ≡ record { known = true; variable = 512; attribute = 0; number = x } → (z : List ℕ) → Means o m (decodeT l q z)
-    unfolding holdsBy
+    unfolding holdsWith
     constant-means a b c d x h ex eo z k R e =
         ap (λ (t : Term). valueBy m t R e) (sym (term-is z) ∙ ap (λ (s : Record). termBy s (λ x y. decode (l - 1) x y) q z) h) ∙ ap (λ (y : ℤ). some (whole y)) (sym ex) ∙ ap (λ (w : Operand). sideOf m w e) (sym eo)
 
     pub attribute-means : (v a : ℕ) → v < 256 → r ≡ R.Attribute v a → o ≡ record { known = true; variable = v; attribute = a; number = pos 0 } → (z : List ℕ) → Means o m (decodeT l q z)
-    unfolding holdsBy
+    unfolding holdsWith
     attribute-means v a g h eo z k R e =
         ap (λ (t : Term). valueBy m t R e) (sym (term-is z) ∙ ap (λ (s : Record). termBy s (λ x y. decode (l - 1) x y) q z) h) ∙ sym (rw (lt-ltb v 256 g)) ∙ ap (λ (w : Operand). sideOf m w e) (sym eo)
 
@@ -71,7 +71,7 @@ module _ (m : List ℤ) (q : List ℕ) (l : ℕ) (r : Record) (nz : l ≡ 0 → 
   pub compares : (z : List ℕ) (o k a s : ℕ) (u w : List ℕ) (x : Comparison) (left right : Operand) → r ≡ R.Compare o → k ≡ getD q 0 0 → a ≡ recordLength k → s ≡ getD z a 0 → u ≡ drop a q → w ≡ drop (a + s) q
       → ((y : List ℕ) → Means left m (decodeT (l - 1) u y)) → ((y : List ℕ) → Means right m (decodeT (l - 1) w y)) → not (left .known) ≡ false → not (right .known) ≡ false
       → x ≡ record { operator = o; left = left; right = right } → Compares x m (decode l q z)
-  unfolding holdsBy
+  unfolding holdsWith
   compares z o k a s u w x left right h ek ea es eu ew hl hr kl kr ex nz′ R e =
       let at-first = ea ∙ ap recordLength ek in
       let at-second : a + s ≡ second q z = ap (λ n. a + n) es ∙ ap (λ n. n + getD z n 0) at-first in

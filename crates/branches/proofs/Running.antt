@@ -12,7 +12,7 @@ use Rattle.model.specs.Lists.{update, any}
 use Rattle.model.specs.Meaning.{Tuple, Assignment, compare}
 use Rattle.walks.specs.Walks.{walked, rowsBy}
 use Rattle.sizes.specs.Decode.{decode}
-use Rattle.evaluator.specs.Recalled.{holdsBy}
+use Rattle.numbers.specs.Recalled.{holdsBy}
 use Rattle.branches.specs.Branches.{field, operand, holdsIn, nextIn, branchHolds, next, leads, runs}
 use Rattle.branches.specs.Compiled.{Kept}
 

@@ -14,8 +14,8 @@ use Rattle.model.proofs.Tests.{not-yes, not-no}
 use Rattle.numbers.specs.Numbers.{valueOf}
 use Rattle.numbers.specs.Memo.{knows, recalled}
 use Rattle.numbers.specs.declared.Ratio.{Ratio}
-use Rattle.evaluator.specs.Evaluation.{assigned}
-use Rattle.evaluator.proofs.Steps.{getD-inside}
+use Rattle.walks.specs.Assigned.{assigned}
+use Rattle.walks.proofs.Assigned.{getD-inside}
 use Rattle.branches.specs.Branches.{field, recalledOr0, operand}
 
 -- what the memo has

@@ -12,7 +12,7 @@ use lib.ListN.{getD, drop}
 use Rattle.model.specs.Meaning.{Assignment, Value, whole, compare}
 use Rattle.numbers.specs.Memo.{knows, recalled}
 use Rattle.sizes.specs.Decode.{decode}
-use Rattle.evaluator.specs.Recalled.{holdsBy}
+use Rattle.numbers.specs.Recalled.{holdsBy}
 use Rattle.walks.specs.Walks.{walked, rowsBy}
 use Rattle.model.specs.Lists.{update, any}
 

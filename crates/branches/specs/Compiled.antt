@@ -11,7 +11,7 @@ use Rattle.model.specs.Meaning.{Assignment, Rows, Value, compare}
 use Rattle.kinds.specs.declared.Record.{Record}
 use Rattle.kinds.specs.declared.Record.the-variants as R
 use Rattle.sizes.specs.Decode.{decode}
-use Rattle.evaluator.specs.Recalled.{holdsBy, valueBy}
+use Rattle.numbers.specs.Recalled.{holdsBy, valueBy}
 use Rattle.walks.specs.Walks.{rowsBy}
 use Rattle.branches.specs.Branches.{operand, runs}
 use Rattle.branches.specs.declared.Operand.{Operand}

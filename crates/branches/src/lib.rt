@@ -13,7 +13,7 @@ ghost use Rattle.model.specs.Syntax.{Condition, AGGREGATE};
 ghost use Rattle.numbers.specs.Numbers.{valueOf, Small};
 ghost use Rattle.kinds.specs.Record.{recordAt};
 ghost use Rattle.sizes.specs.Decode.{decode, decodeT};
-ghost use Rattle.evaluator.specs.Evaluation.{assigned};
+ghost use Rattle.walks.specs.Assigned.{assigned};
 ghost use Rattle.branches.specs.Branches as B;
 ghost use Rattle.branches.specs.Compiled as C;
 
@@ -53,7 +53,8 @@ pub fn side(
     env: &[usize],
 ) -> Ratio
     requires { ⌜ (256 ≤ length (now env)) × (i ≤ 1048576) ⌝ }
-    ensures { λ r. ⌜ valueOf r ≡ B.operand (now (memo .entry)) (getD (now (t .entry)) i 0) (getD (now (t .entry)) (i + 1) 0) (getD (now (xs .entry)) j (pos 0)) (assigned (now (values .entry)) (now (env .entry))) ⌝ }
+    ensures { λ r. ⌜ valueOf r ≡ B.operand (now (memo .entry)) (getD (now (t .entry)) i 0) (getD (now (t .entry)) (i + 1) 0)
+        (getD (now (xs .entry)) j (pos 0)) (assigned (now (values .entry)) (now (env .entry))) ⌝ }
     ensures { λ r. ⌜ Small r ⌝ }
 {
     let v = kinds::size_at(t, i);
@@ -247,8 +248,10 @@ fn single(
     met: usize,
     unmet: usize,
 )
-    requires { ⌜ (8 * k + 8 ≤ length (now t)) × (2 * k + 2 ≤ length (now xs)) × (2 ≤ k) × (k < 64) × (met < k) × (unmet < k) × (place ≤ 65535) × (level ≤ 65535) ⌝ }
-    ensures { λ _. ⌜ C.Compiled k k met unmet (now (t .entry)) (now (t .exit)) (now (xs .entry)) (now (xs .exit)) (now (q .entry)) (now (z .entry)) (now (memo .entry)) (decode level (drop place (now (q .entry))) (drop place (now (z .entry)))) ⌝ }
+    requires { ⌜ (8 * k + 8 ≤ length (now t)) × (2 * k + 2 ≤ length (now xs)) × (2 ≤ k) × (k < 64) × (met < k) × (unmet < k) × (place ≤ 65535)
+        × (level ≤ 65535) ⌝ }
+    ensures { λ _. ⌜ C.Compiled k k met unmet (now (t .entry)) (now (t .exit)) (now (xs .entry)) (now (xs .exit)) (now (q .entry)) (now (z .entry))
+        (now (memo .entry)) (decode level (drop place (now (q .entry))) (drop place (now (z .entry)))) ⌝ }
 {
     let c = kinds::tail(q, place);
     let sizes = kinds::tail_sizes(z, place);
@@ -383,9 +386,11 @@ pub fn compile(
     met: usize,
     unmet: usize,
 ) -> usize
-    requires { ⌜ (8 * end ≤ length (now t)) × (2 * end ≤ length (now xs)) × (2 ≤ k) × (k < end) × (end ≤ 64) × (met < k) × (unmet < k) × (place ≤ 65535) × (level ≤ 65535) ⌝ }
+    requires { ⌜ (8 * end ≤ length (now t)) × (2 * end ≤ length (now xs)) × (2 ≤ k) × (k < end) × (end ≤ 64) × (met < k) × (unmet < k)
+        × (place ≤ 65535) × (level ≤ 65535) ⌝ }
     ensures { λ r. ⌜ (k ≤ r) × (r < end) ⌝ }
-    ensures { λ r. ⌜ C.Compiled k r met unmet (now (t .entry)) (now (t .exit)) (now (xs .entry)) (now (xs .exit)) (now (q .entry)) (now (z .entry)) (now (memo .entry)) (decode level (drop place (now (q .entry))) (drop place (now (z .entry)))) ⌝ }
+    ensures { λ r. ⌜ C.Compiled k r met unmet (now (t .entry)) (now (t .exit)) (now (xs .entry)) (now (xs .exit)) (now (q .entry)) (now (z .entry))
+        (now (memo .entry)) (decode level (drop place (now (q .entry))) (drop place (now (z .entry)))) ⌝ }
 {
     let x = parts_at(q, z, place, level, end - k);
     let kind = x.kind;

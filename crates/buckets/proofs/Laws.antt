@@ -2,29 +2,16 @@
 use mathlib.Core.Path.{_≡_, refl, sym, ap, ap₂, _∙_, subst}
 use mathlib.Core.Bool.{Bool, true, false, not, _&&_, _||_}
 use mathlib.Core.List.{List, [], _∷_}
-use Prim.Native.Nat.{ℕ, zero, suc, _+_, _-_, _%_, _≤_, _<_}
+use Prim.Native.Nat.{ℕ, zero, suc, _+_, _-_, _≤_, _<_}
 use native.Mathlib.Omega.{arith}
 use lib.Dec.{eqb}
-use lib.ListN.{length, getD, set, replicate, drop, drop-of-length-le}
-use lib.Seq.{drop-cons, getD-set-same, getD-set-other}
+use lib.ListN.{length, getD, set, replicate}
+use lib.Seq.{getD-set-same, getD-set-other}
 use borrow.Author.Tests.{eqb-true, eqb-false, eq-eqb, ne-eqb}
 use Rattle.model.specs.Lists.{any, all, filter, consIf, Every}
 use Rattle.model.proofs.Tests.{clash, and-inv}
 use Rattle.quel.specs.Results.{Word, sameWord}
-use Rattle.buckets.specs.Chains.{mixed, hashed, bucketOf, Chain, Held, Chained}
-
--- what is left of a word decides its hash
-pub hash-next : (w : List ℕ) (i h k : ℕ) → i < length w → k ≡ mixed h (getD w i 0) → hashed h (drop i w) ≡ hashed k (drop (i + 1) w)
-unfolding hashed
-hash-next w i h k l e = let s : i + 1 ≡ suc i = omega arith in rw (s, drop-cons w i 0 l, e)
-
-pub hash-end : (w : List ℕ) (i h : ℕ) → length w ≤ i → hashed h (drop i w) ≡ h
-unfolding hashed
-hash-end w i h l = rw (drop-of-length-le w {i = i} l)
-
-pub bucket-is : (w : List ℕ) (h : ℕ) → hashed 0 w ≡ h → bucketOf w ≡ h % 1024
-unfolding bucketOf
-bucket-is w h e = rw e
+use Rattle.buckets.specs.Chains.{Chain, Held, Chained}
 
 -- a list of one number
 pub cleared : (n h : ℕ) → getD {A = ℕ} (replicate n 0) h 0 ≡ 0
@@ -101,11 +88,11 @@ module _ (slot : ℕ → ℕ) where
   unfolding Chain Every filter
   held-none b heads nexts top z = record { chains = λ h _. z h; low = tt }
 
--- a walk along a chain: what is left of it decides
-pub record Walk (slot : ℕ → ℕ) (nexts : List ℕ) (q : ℕ → Bool) (top : ℕ) (xs : List ℕ) (link : ℕ) : Type 0 where
+-- a walk along a chain of places with P: what is left of it decides
+pub record Walk (slot : ℕ → ℕ) (nexts : List ℕ) (q : ℕ → Bool) (P : ℕ → Type 0) (xs : List ℕ) (link : ℕ) : Type 0 where
   pub rest : List ℕ
   pub chain : Chain slot nexts link rest
-  pub low : Every (λ (x : ℕ). x < top) rest
+  pub each : Every P rest
   pub same : any q xs ≡ any q rest
 
 any-filter : {A : Type 0} (p q : A → Bool) (xs : List A) → ((x : A) → q x ≡ true → p x ≡ true) → any q xs ≡ any q (filter p xs)
@@ -118,16 +105,16 @@ any-filter p q (x ∷ xs) f = ap (λ (t : Bool). q x || t) (any-filter p q xs f)
     go false true e g = clash (sym e ∙ f x g)
     go false false e g = refl
 
-module _ (slot : ℕ → ℕ) (nexts : List ℕ) (q : ℕ → Bool) (top : ℕ) (xs : List ℕ) where
-  pub walk-start : (b : ℕ → ℕ) (heads : List ℕ) (h link : ℕ) → h < 1024 → link ≡ getD heads h 0 → ((x : ℕ) → q x ≡ true → b x ≡ h) → Held b slot top heads nexts xs → Walk slot nexts q top xs link
-  walk-start b heads h link l e f k = record {
+module _ (slot : ℕ → ℕ) (nexts : List ℕ) (q : ℕ → Bool) (P : ℕ → Type 0) (xs : List ℕ) where
+  pub walk-start : (b : ℕ → ℕ) (top : ℕ) (heads : List ℕ) (h link : ℕ) → h < 1024 → link ≡ getD heads h 0 → ((x : ℕ) → q x ≡ true → b x ≡ h) → Held b slot top heads nexts xs → Every P xs → Walk slot nexts q P xs link
+  walk-start b top heads h link l e f k each = record {
     rest = filter (λ (x : ℕ). eqb (b x) h) xs;
     chain = subst (λ (n : ℕ). Chain slot nexts n (filter (λ (x : ℕ). eqb (b x) h) xs)) (sym e) (k .chains h l);
-    low = every-filter (λ (x : ℕ). x < top) _ xs (every-map xs (λ x p. p .0) (k .low));
+    each = every-filter P _ xs each;
     same = any-filter (λ (x : ℕ). eqb (b x) h) q xs (λ x t. eq-eqb (b x) h (f x t));
   }
 
-  pub walk-none : (link : ℕ) → link ≡ 0 → Walk slot nexts q top xs link → any q xs ≡ false
+  pub walk-none : (link : ℕ) → link ≡ 0 → Walk slot nexts q P xs link → any q xs ≡ false
   unfolding Chain any
   walk-none link z w = w .same ∙ go (w .rest) (w .chain)
     where
@@ -136,14 +123,14 @@ module _ (slot : ℕ → ℕ) (nexts : List ℕ) (q : ℕ → Bool) (top : ℕ) 
       go (y ∷ ys) c = absurd (omega (arith, c .0, z))
 
   -- at the place of a link
-  module _ (link at : ℕ) (l : link ≡ at + 1) (w : Walk slot nexts q top xs link) where
-    pub walk-low : (at < top) × (getD nexts (slot at) 0 ≤ at)
+  module _ (link at : ℕ) (l : link ≡ at + 1) (w : Walk slot nexts q P xs link) where
+    pub walk-low : P at × (getD nexts (slot at) 0 ≤ at)
     unfolding Chain Every
-    walk-low = go (w .rest) (w .chain) (w .low)
+    walk-low = go (w .rest) (w .chain) (w .each)
       where
-        go : (ys : List ℕ) → Chain slot nexts link ys → Every (λ (x : ℕ). x < top) ys → (at < top) × (getD nexts (slot at) 0 ≤ at)
+        go : (ys : List ℕ) → Chain slot nexts link ys → Every P ys → P at × (getD nexts (slot at) 0 ≤ at)
         go [] c e = absurd (omega (arith, c, l))
-        go (y ∷ ys) c e = let i : y ≡ at = omega (arith, c .0, l) in (omega (arith, e .0, i), subst (λ (z : ℕ). getD nexts (slot z) 0 ≤ z) i (c .1 .0))
+        go (y ∷ ys) c e = let i : y ≡ at = omega (arith, c .0, l) in (subst P i (e .0), subst (λ (z : ℕ). getD nexts (slot z) 0 ≤ z) i (c .1 .0))
 
     pub walk-here : q at ≡ true → any q xs ≡ true
     unfolding Chain any
@@ -153,20 +140,24 @@ module _ (slot : ℕ → ℕ) (nexts : List ℕ) (q : ℕ → Bool) (top : ℕ) 
         go [] c = absurd (omega (arith, c, l))
         go (y ∷ ys) c = let i : y ≡ at = omega (arith, c .0, l) in ap (λ (z : ℕ). q z || any q ys) i ∙ ap (λ (u : Bool). u || any q ys) t
 
-    pub walk-on : (to : ℕ) → q at ≡ false → to ≡ getD nexts (slot at) 0 → Walk slot nexts q top xs to
+    pub walk-on : (to : ℕ) → q at ≡ false → to ≡ getD nexts (slot at) 0 → Walk slot nexts q P xs to
     unfolding Chain Every any
-    walk-on to f e = go (w .rest) (w .chain) (w .low) (w .same)
+    walk-on to f e = go (w .rest) (w .chain) (w .each) (w .same)
       where
-        go : (ys : List ℕ) → Chain slot nexts link ys → Every (λ (x : ℕ). x < top) ys → any q xs ≡ any q ys → Walk slot nexts q top xs to
+        go : (ys : List ℕ) → Chain slot nexts link ys → Every P ys → any q xs ≡ any q ys → Walk slot nexts q P xs to
         go [] c d s = absurd (omega (arith, c, l))
         go (y ∷ ys) c d s =
             let i : y ≡ at = omega (arith, c .0, l) in
             record {
               rest = ys;
               chain = subst (λ (n : ℕ). Chain slot nexts n ys) (ap (λ (z : ℕ). getD nexts (slot z) 0) i ∙ sym e) (c .1 .1);
-              low = d .1;
+              each = d .1;
               same = s ∙ ap (λ (z : ℕ). q z || any q ys) i ∙ ap (λ (u : Bool). u || any q ys) f;
             }
+
+-- the places are below the top
+pub held-low : (b slot : ℕ → ℕ) (top : ℕ) (heads nexts xs : List ℕ) → Held b slot top heads nexts xs → Every (λ (x : ℕ). x < top) xs
+held-low b slot top heads nexts xs f = every-map xs (λ x p. p .0) (f .low)
 
 -- none of the places comes again, by what comes now and what comes later
 pub none-again : (xs : List ℕ) (here later left : ℕ → Bool) → ((x : ℕ) → left x ≡ (here x || later x))

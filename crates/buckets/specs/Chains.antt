@@ -1,23 +1,18 @@
 -- Places by the bucket of their words, in two tables: for each of 1,024 buckets its last place, and for each place, at its slot, the one before it there.
 -- A link is 0, or one more than a place.
-use Prim.Native.Nat.{ℕ, _+_, _*_, _%_, _≤_, _<_}
+use Prim.Native.Nat.{ℕ, _+_, _%_, _≤_, _<_}
 use mathlib.Core.Path.{_≡_}
 use mathlib.Core.List.{List, [], _∷_}
 use lib.Dec.{eqb}
 use lib.ListN.{getD}
 use Rattle.model.specs.Lists.{filter, Every}
-
--- one letter more
-abbrev pub mixed : ℕ → ℕ → ℕ
-mixed h b = (h * 31 + b) % 4294967296
-
-unfoldable pub hashed : ℕ → List ℕ → ℕ
-hashed h [] = h
-hashed h (x ∷ xs) = hashed (mixed h x) xs
+use Rattle.quel.specs.Results.{Word}
+use Rattle.tokens.specs.Spans.{capped}
+use Rattle.tokens.specs.Kinds.{codeOf}
 
 -- the bucket of a word
-unfoldable pub bucketOf : List ℕ → ℕ
-bucketOf w = hashed 0 w % 1024
+abbrev pub bucketOf : Word → ℕ
+bucketOf w = capped (codeOf w) % 1024
 
 -- a link leads through these places, from each one to a lower one
 unfoldable pub Chain : (ℕ → ℕ) → List ℕ → ℕ → List ℕ → Type 0

@@ -1,36 +1,14 @@
 // Words by their buckets, in two tables (specs/Chains): for each bucket the last place with a word of it, and for each place the one before it there.
 ghost use mathlib.Core.Path.{_≡_};
-ghost use Prim.Native.Nat.{_+_, _<_};
+ghost use Prim.Native.Nat.{_+_, _%_, _<_};
 ghost use lib.ListN.{length, getD, set};
-ghost use Rattle.buckets.specs.Chains.{mixed, hashed, bucketOf};
 
-fn wide(b: u8) -> usize
-    ensures { λ r. ⌜ (r ≡ b) × (r < 256) ⌝ }
-{
-    b as usize
-}
-
-// One letter more.
-fn mix(h: usize, b: u8) -> usize
-    requires { ⌜ h < 4294967296 ⌝ }
-    ensures { λ r. ⌜ r ≡ mixed h b ⌝ }
-    ensures { λ r. ⌜ r < 4294967296 ⌝ }
-{
-    (h * 31 + wide(b)) % 4294967296
-}
-
-// The bucket of a word, one of 1,024: any function of the word would do.
-pub fn bucket(word: &[u8]) -> usize
-    ensures { λ r. ⌜ r ≡ bucketOf (now (word .entry)) ⌝ }
+// The bucket of a word by its code, one of 1,024.
+pub fn bucket(code: u64) -> usize
+    ensures { λ r. ⌜ r ≡ code % 1024 ⌝ }
     ensures { λ r. ⌜ r < 1024 ⌝ }
 {
-    let mut h = 0;
-    let mut i = 0;
-    while i < word.len() {
-        h = mix(h, word[i]);
-        i += 1;
-    }
-    h % 1024
+    (code % 1024) as usize
 }
 
 fn narrow(x: usize) -> u16

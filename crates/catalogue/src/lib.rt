@@ -130,7 +130,7 @@ fn known(catalogue: &[u8], relation: u8) -> bool
 }
 
 // Check 10.
-pub fn fails_10(catalogue: &[u8]) -> bool
+fn fails_10(catalogue: &[u8]) -> bool
     ensures { λ r. ⌜ r ≡ fails10 (now (catalogue .entry)) ⌝ }
 {
     let n = count(catalogue);

@@ -1,6 +1,6 @@
 -- One row more in front of a chain, and one link further along it.
 use mathlib.Core.Path.{_≡_, refl, sym, ap, _∙_, transport}
-use mathlib.Core.Bool.{Bool, true, false, _&&_}
+use mathlib.Core.Bool.{Bool, true, false, _&&_, _||_}
 use mathlib.Core.List.{List}
 use Prim.Native.Nat.{ℕ, zero, suc, _+_, _-_, _/_, _%_, _≤_, _<_}
 use native.Mathlib.Nat.{le-antisymm}
@@ -12,7 +12,7 @@ use lib.ListN.{getD, length, set, length-set}
 use lib.Seq.{getD-set-same, getD-set-other}
 use borrow.Author.Tests.{eqb-true, eqb-false, ltb-true, ltb-false, leb-true, le-leb}
 use Rattle.rows.specs.Chains.{mixed}
-use Rattle.model.proofs.Tests.{clash, and-inv}
+use Rattle.model.proofs.Tests.{clash, and-inv, or-left, or-right, or-inv}
 use Rattle.chains.specs.Chains.{First, Passing, Built, Nexts, Outside, same, bucketOf, left}
 
 -- values that are the same are equal
@@ -114,6 +114,11 @@ module _ (k : ℕ → ℤ) (x : ℤ) where
       go zero f a b j h l = f .none refl j h (omega (arith, a refl))
       go (suc r) f a b j h l = f .least j h (omega (arith, b (omega arith)))
 
+  -- which has the value
+  pub found-has : (y : ℤ) → y ≡ x → (from n r i : ℕ) → First (λ (j : ℕ). same (k j) y ≡ true) from n r → (i ≤ n) × ((r ≡ 0 → i ≡ n) × (0 < r → i + 1 ≡ r)) → i < n → same (k i) x ≡ true
+  found-has y e from n zero i f w h = absurd (omega (arith, w .1 .0 refl))
+  found-has y e from n (suc r) i f w h = ap (λ (z : ℤ). same (k i) z) (sym e) ∙ f .here i (sym (w .1 .1 (omega arith)))
+
 -- a link leads further, or nowhere
 pub left-less : (n at to : ℕ) → 0 < at → at ≤ n → to ≤ n → (0 < to → at < to) → left n to < left n at
 unfolding left
@@ -197,6 +202,16 @@ module _ (k : ℕ → ℤ) (n at : ℕ) (table : List ℕ) (built : Built (λ (j
       transport (ap (λ (g : ℕ). First (λ (j : ℕ). bucketOf (k j) ≡ g) from n link) q)
       (transport (ap (λ (g : ℕ). First (λ (j : ℕ). bucketOf (k j) ≡ bucketOf (k (from - 1))) g n link) m) (transport (ap (λ (g : ℕ). First (λ (j : ℕ). bucketOf (k j) ≡ bucketOf (k (from - 1))) (from - 1 + 1) n g) (sym el)) (built .next (from - 1) (omega arith))))
 
+  -- by the place of the link
+  pub enters : (x y : ℤ) (p link from : ℕ) → y ≡ x → from ≤ n → (from ≡ 0 → p ≡ at + bucketOf y) × (0 < from → p ≡ at + 1024 + (from - 1)) → (0 < from → same (k (from - 1)) x ≡ true) → link ≡ getD table p 0 → First (λ (j : ℕ). bucketOf (k j) ≡ bucketOf y) from n link
+  enters x y p link from ey l w has el = go (eqb from 0) refl
+    where
+      go : (b : Bool) → eqb from 0 ≡ b → First (λ (j : ℕ). bucketOf (k j) ≡ bucketOf y) from n link
+      go true q = at-head y (bucketOf y) link from refl (bucket-low y) (el ∙ ap (λ (i : ℕ). getD table i 0) (w .0 (eqb-true from 0 q))) (eqb-true from 0 q)
+      go false q =
+          let h : 0 < from = omega (arith, eqb-false from 0 q) in
+          behind y (k (from - 1)) link from true h l refl (sym (ap (same (k (from - 1))) ey ∙ has h)) refl (el ∙ ap (λ (i : ℕ). getD table i 0) (w .1 h))
+
 -- a chain stays where its numbers stay
 pub built-kept : (b : ℕ → ℕ) (n at : ℕ) (c c′ : List ℕ) → ((i : ℕ) → at ≤ i → i < at + 1024 + n → getD c′ i 0 ≡ getD c i 0) → Built b n at c → Built b n at c′
 built-kept b n at c c′ k x =
@@ -235,6 +250,29 @@ module _ (k : ℕ → ℤ) (x : ℤ) where
       go : (b : Bool) → ltb to link ≡ b → ((from ≤ i) × (i ≤ to)) × ((j : ℕ) → from ≤ j → j < i → same (k j) x ≡ true → ⊥)
       go true q = let e = w .1 .1 .1 (ltb-true to link q) in ((omega (arith, e), w .0), λ j a b. p .least j a (omega (arith, e, ltb-true to link q)))
       go false q = let e = w .1 .1 .0 (omega arith) (ltb-false to link q) in ((omega (arith, e), w .0), λ j a b. p .least j a (omega (arith, e)))
+
+  -- which has the value, as the row of the link has
+  pub passing-has : (to link i : ℕ) → 0 < link → same (k (link - 1)) x ≡ true → (i ≤ to) × ((link ≡ 0 → i ≡ to) × ((0 < link → link ≤ to → i + 1 ≡ link) × (to < link → i ≡ to))) → i < to → same (k i) x ≡ true
+  passing-has to link i l h w b = go (ltb to link) refl
+    where
+      go : (b : Bool) → ltb to link ≡ b → same (k i) x ≡ true
+      go true q = absurd (omega (arith, w .1 .1 .1 (ltb-true to link q)))
+      go false q = let e : i ≡ link - 1 = omega (arith, w .1 .1 .0 l (ltb-false to link q)) in ap (λ (m : ℕ). same (k m) x) e ∙ h
+
+-- a value as the code has it
+pub with-value : (k : ℕ → ℤ) (x y : ℤ) → y ≡ x → (r to : ℕ) → (r < to → same (k r) y ≡ true) → r < to → same (k r) x ≡ true
+with-value k x y e r to f h = ap (λ (z : ℤ). same (k r) z) (sym e) ∙ f h
+
+-- the same for a row of two chains, of which the second was followed no further than to the row of the first
+pub one-has : (a b : Bool) (r to n : ℕ) → r ≤ to → (r < to → b ≡ true) → (to ≡ r → r < n → a ≡ true) → r < n → a || b ≡ true
+one-has a b r to n l f g h = go (ltb r to) refl
+  where
+    go : (c : Bool) → ltb r to ≡ c → a || b ≡ true
+    go true q = or-right a b (f (ltb-true r to q))
+    go false q = or-left a b (g (omega (arith, ltb-false r to q)) h)
+
+pub or-turn : (a b : Bool) → a || b ≡ true → b || a ≡ true
+or-turn a b h = or-inv a b h (λ k. or-right b a k) (λ k. or-left b a k)
 
 -- rows without the value, as the code has it
 pub without : (k : ℕ → ℤ) (x y : ℤ) → y ≡ x → (from r : ℕ) → ((j : ℕ) → from ≤ j → j < r → same (k j) y ≡ true → ⊥) → (j : ℕ) → from ≤ j → j < r → same (k j) x ≡ true → ⊥

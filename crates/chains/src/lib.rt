@@ -1,7 +1,7 @@
 // The rows of a walk by the bucket of one of their values: for each bucket its first row, for each row the next of its bucket (specs/Chains).
 use walks::Walk;
 ghost use mathlib.Core.Path.{_≡_};
-ghost use mathlib.Core.Bool.{true, false};
+ghost use mathlib.Core.Bool.{true, false, _||_};
 ghost use Prim.Native.Nat.{ℕ, _+_, _-_, _≤_, _<_};
 ghost use lib.ListN.{length, getD};
 ghost use Rattle.walks.specs.Walks.{Fits};
@@ -71,8 +71,11 @@ fn next_equal(
     nexts: usize,
     link: usize,
 ) -> usize
-    requires { ⌜ Fits walk × (nexts ≤ 131072) × (link ≤ walk .count) × C.Nexts (C.bucketAt (now values) (now walks) walk attribute) (walk .count) nexts (now chains) ⌝ }
-    ensures { λ r. ⌜ ((from : ℕ) → C.First (λ (j : ℕ). C.bucketAt (now (values .entry)) (now (walks .entry)) walk attribute j ≡ C.bucketOf x) from (walk .count) link → C.First (λ (j : ℕ). C.same (C.keyAt (now (values .entry)) (now (walks .entry)) walk attribute j) x ≡ true) from (walk .count) r) ⌝ }
+    requires { ⌜ Fits walk × (nexts ≤ 131072) × (link ≤ walk .count) × C.Nexts (C.bucketAt (now values) (now walks) walk attribute) (walk .count)
+        nexts (now chains) ⌝ }
+    ensures { λ r. ⌜ ((from : ℕ) → C.First (λ (j : ℕ). C.bucketAt (now (values .entry)) (now (walks .entry)) walk attribute j ≡ C.bucketOf x) from
+        (walk .count) link → C.First (λ (j : ℕ). C.same (C.keyAt (now (values .entry)) (now (walks .entry)) walk attribute j) x ≡ true) from
+        (walk .count) r) ⌝ }
 {
     let mut at = link;
     while 0 < at {
@@ -82,35 +85,6 @@ fn next_equal(
         at = kinds::size_at(chains, nexts + (at - 1));
     }
     0
-}
-
-// The first row from `from` on with the value x; where there is none, the count of rows. The chain is entered at its head, or behind a row with that value.
-pub fn find(
-    values: &[i32],
-    walks: &[u16],
-    walk: Walk,
-    attribute: usize,
-    x: i64,
-    chains: &[u16],
-    at: usize,
-    from: usize,
-) -> usize
-    requires { ⌜ Fits walk × (at ≤ 65539) × (from ≤ walk .count) × C.Built (C.bucketAt (now values) (now walks) walk attribute) (walk .count) at (now chains) ⌝ }
-    ensures { λ r. ⌜ (from ≤ r) × (r ≤ walk .count) ⌝ }
-    ensures { λ r. ⌜ ((j : ℕ) → from ≤ j → j < r → C.same (C.keyAt (now (values .entry)) (now (walks .entry)) walk attribute j) x ≡ true → ⊥) ⌝ }
-{
-    let nexts = at + 1024;
-    if from == 0 {
-        let link = kinds::size_at(chains, at + bucket(x));
-        let r = next_equal(values, walks, walk, attribute, x, chains, nexts, link);
-        return row_of(r, walk.count);
-    }
-    if !equal(key(values, walks, walk, attribute, from - 1), x) {
-        return from;
-    }
-    let link = kinds::size_at(chains, nexts + (from - 1));
-    let r = next_equal(values, walks, walk, attribute, x, chains, nexts, link);
-    row_of(r, walk.count)
 }
 
 // The row of a link.
@@ -128,6 +102,50 @@ pub struct Entry {
     pub value: i64,
 }
 
+// Where the link stands with which a chain is entered: at its head, or behind a row with the value.
+fn link_place(x: i64, at: usize, from: usize) -> usize
+    requires { ⌜ (at ≤ 65539) × (from ≤ 65535) ⌝ }
+    ensures { λ r. ⌜ (from ≡ 0 → r ≡ at + C.bucketOf x) × (0 < from → r ≡ at + 1024 + (from - 1)) ⌝ }
+{
+    if from == 0 {
+        at + bucket(x)
+    } else {
+        at + 1024 + (from - 1)
+    }
+}
+
+// The first row from `from` on that a chain has; where there is none, the count of rows. The row before `from` is one of the chain.
+pub fn follow(
+    values: &[i32],
+    walks: &[u16],
+    walk: Walk,
+    x: Entry,
+    chains: &[u16],
+    from: usize,
+) -> usize
+    requires { ⌜ Fits walk × (from ≤ walk .count) × C.Entered x (now values) (now walks) walk (now chains)
+        × (0 < from → C.same (C.keyAt (now values) (now walks) walk (x .attribute) (from - 1)) (x .value) ≡ true) ⌝ }
+    ensures { λ r. ⌜ (from ≤ r) × (r ≤ walk .count) ⌝ }
+    ensures { λ r. ⌜ ((j : ℕ) → from ≤ j → j < r → C.same (C.keyAt (now (values .entry)) (now (walks .entry)) walk (x .attribute) j) (x .value) ≡ true → ⊥) ⌝ }
+    ensures { λ r. ⌜ (r < walk .count → C.same (C.keyAt (now (values .entry)) (now (walks .entry)) walk (x .attribute) r) (x .value) ≡ true) ⌝ }
+{
+    let attribute = x.attribute;
+    let value = x.value;
+    let at = x.at;
+    let link = kinds::size_at(chains, link_place(value, at, from));
+    let r = next_equal(
+        values,
+        walks,
+        walk,
+        attribute,
+        value,
+        chains,
+        at + 1024,
+        link,
+    );
+    row_of(r, walk.count)
+}
+
 // The first row from `from` on and below `to` with the value x, by a look at each; `to` where there is none.
 fn look(
     values: &[i32],
@@ -141,6 +159,7 @@ fn look(
     requires { ⌜ Fits walk × (from ≤ to) × (to ≤ walk .count) ⌝ }
     ensures { λ r. ⌜ (from ≤ r) × (r ≤ to) ⌝ }
     ensures { λ r. ⌜ ((j : ℕ) → from ≤ j → j < r → C.same (C.keyAt (now (values .entry)) (now (walks .entry)) walk attribute j) x ≡ true → ⊥) ⌝ }
+    ensures { λ r. ⌜ (r < to → C.same (C.keyAt (now (values .entry)) (now (walks .entry)) walk attribute r) x ≡ true) ⌝ }
 {
     let mut j = from;
     while j < to {
@@ -173,7 +192,8 @@ fn enter(
     at: usize,
     from: usize,
 ) -> usize
-    requires { ⌜ Fits walk × (at ≤ 65539) × (from ≤ walk .count) × C.Built (C.bucketAt (now values) (now walks) walk attribute) (walk .count) at (now chains) ⌝ }
+    requires { ⌜ Fits walk × (at ≤ 65539) × (from ≤ walk .count) × C.Built (C.bucketAt (now values) (now walks) walk attribute) (walk .count) at
+        (now chains) ⌝ }
     ensures { λ r. ⌜ C.Passing (C.keyAt (now (values .entry)) (now (walks .entry)) walk attribute) x from (walk .count) r ⌝ }
 {
     let link = kinds::size_at(chains, at + bucket(x));
@@ -197,7 +217,8 @@ fn here(
     link: usize,
 ) -> bool
     requires { ⌜ Fits walk × (0 < link) × (link ≤ walk .count) ⌝ }
-    ensures { λ r. ⌜ (r ≡ true → from < link) × (r ≡ false → from < link → C.same (C.keyAt (now (values .entry)) (now (walks .entry)) walk attribute (link - 1)) x ≡ true → ⊥) ⌝ }
+    ensures { λ r. ⌜ (r ≡ true → (from < link) × (C.same (C.keyAt (now (values .entry)) (now (walks .entry)) walk attribute (link - 1)) x ≡ true))
+        × (r ≡ false → from < link → C.same (C.keyAt (now (values .entry)) (now (walks .entry)) walk attribute (link - 1)) x ≡ true → ⊥) ⌝ }
 {
     if link <= from {
         return false;
@@ -217,9 +238,11 @@ fn reach(
     from: usize,
     to: usize,
 ) -> usize
-    requires { ⌜ Fits walk × (at ≤ 65539) × (from ≤ to) × (to ≤ walk .count) × C.Built (C.bucketAt (now values) (now walks) walk attribute) (walk .count) at (now chains) ⌝ }
+    requires { ⌜ Fits walk × (at ≤ 65539) × (from ≤ to) × (to ≤ walk .count)
+        × C.Built (C.bucketAt (now values) (now walks) walk attribute) (walk .count) at (now chains) ⌝ }
     ensures { λ r. ⌜ (from ≤ r) × (r ≤ to) ⌝ }
     ensures { λ r. ⌜ ((j : ℕ) → from ≤ j → j < r → C.same (C.keyAt (now (values .entry)) (now (walks .entry)) walk attribute j) x ≡ true → ⊥) ⌝ }
+    ensures { λ r. ⌜ (r < to → C.same (C.keyAt (now (values .entry)) (now (walks .entry)) walk attribute r) x ≡ true) ⌝ }
 {
     let nexts = at + 1024;
     let mut link = enter(values, walks, walk, attribute, x, chains, at, from);
@@ -248,10 +271,15 @@ pub fn either(
     chains: &[u16],
     from: usize,
 ) -> usize
-    requires { ⌜ Fits walk × (from ≤ walk .count) × C.Entered one (now values) (now walks) walk (now chains) × C.Entered two (now values) (now walks) walk (now chains) ⌝ }
+    requires { ⌜ Fits walk × (from ≤ walk .count) × C.Entered one (now values) (now walks) walk (now chains)
+        × C.Entered two (now values) (now walks) walk (now chains) ⌝ }
     ensures { λ r. ⌜ (from ≤ r) × (r ≤ walk .count) ⌝ }
-    ensures { λ r. ⌜ ((j : ℕ) → from ≤ j → j < r → C.same (C.keyAt (now (values .entry)) (now (walks .entry)) walk (one .attribute) j) (one .value) ≡ true → ⊥) ⌝ }
-    ensures { λ r. ⌜ ((j : ℕ) → from ≤ j → j < r → C.same (C.keyAt (now (values .entry)) (now (walks .entry)) walk (two .attribute) j) (two .value) ≡ true → ⊥) ⌝ }
+    ensures { λ r. ⌜ ((j : ℕ) → from ≤ j → j < r → C.same (C.keyAt (now (values .entry)) (now (walks .entry)) walk (one .attribute) j) (one .value)
+        ≡ true → ⊥) ⌝ }
+    ensures { λ r. ⌜ ((j : ℕ) → from ≤ j → j < r → C.same (C.keyAt (now (values .entry)) (now (walks .entry)) walk (two .attribute) j) (two .value)
+        ≡ true → ⊥) ⌝ }
+    ensures { λ r. ⌜ (r < walk .count → C.same (C.keyAt (now (values .entry)) (now (walks .entry)) walk (one .attribute) r) (one .value) || C.same
+        (C.keyAt (now (values .entry)) (now (walks .entry)) walk (two .attribute) r) (two .value) ≡ true) ⌝ }
 {
     let a = one.attribute;
     let x = one.value;

@@ -76,7 +76,7 @@ module _ (sh : Shape) (limit l : ℕ) (σ : Scope) (q : List ℕ) (p : ℕ) (r :
     unreadT e t s h w d = never _ _ (sym (ap (answer (drop p q) (λ t. inScopeT sh limit t σ)) (ap (readTerm l) h ∙ read-encodeT t l s w d)) ∙ sym er ∙ e)
 
 -- the tree at a place is the one that is found there
-same-read : {A : Type 0} (a c : A) (r s : List ℕ) → ok a r ≡ ok c s → (a ≡ c) × (r ≡ s)
+pub same-read : {A : Type 0} (a c : A) (r s : List ℕ) → ok a r ≡ ok c s → (a ≡ c) × (r ≡ s)
 same-read a c r s h = (cc, cc)
 
 module _ {sh : Shape} {limit l : ℕ} {σ : Scope} {q : List ℕ} {p n : ℕ} {b : Bool} where

@@ -27,9 +27,9 @@ use Rattle.sizes.specs.declared.Size.the-variants as S
 use Rattle.sizes.specs.Measured.{Measured, leaves, accepts, childrenOf, childTerm, children, store, measured, conditionTable, termTable}
 use Rattle.sizes.proofs.Reader.{agree, condition-taken, term-taken}
 use Rattle.sizes.proofs.Steps.{zero-is, wrong, whole}
-use Rattle.scope.specs.Reach.{scopeOf, someInScope, aggregateInScope}
-use Rattle.scope.proofs.Steps.{known-below}
-use Rattle.scope.proofs.Tables.{scope-set, scope-one}
+use Rattle.conditions.specs.Reach.{scopeOf, someInScope, aggregateInScope}
+use Rattle.conditions.proofs.scope.Steps.{known-below}
+use Rattle.conditions.proofs.scope.Tables.{scope-set, scope-one}
 use Rattle.conditions.specs.declared.Reading.{Reading}
 use Rattle.conditions.specs.declared.Reading.the-variants.{Whole, Refused}
 use Rattle.conditions.specs.Answers.{answer, two, both, conditionReading, termReading, someReading, aggregateReading, conditionsReading, termsReading, twoMeasured, sizeOf, bytesOf, held, grown, kept}

@@ -10,7 +10,7 @@ use Rattle.model.specs.Scope.{Scope, inScope, inScopeT}
 use Rattle.sizes.specs.declared.Size.{Size}
 use Rattle.sizes.specs.declared.Size.the-variants as S
 use Rattle.sizes.specs.Measured.{Measured, store, children, measured}
-use Rattle.scope.specs.Reach.{someInScope, aggregateInScope}
+use Rattle.conditions.specs.Reach.{someInScope, aggregateInScope}
 use Rattle.conditions.specs.declared.Reading.{Reading}
 use Rattle.conditions.specs.declared.Reading.the-variants.{Whole, Refused}
 

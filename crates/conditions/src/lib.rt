@@ -1,12 +1,14 @@
 // The one reader of conditions and terms, of at most so many levels: sizes go into the table, and variables, relations and attributes are held to
 // their scope. What is out of scope is read on, so that the answer says both: whether it can be read, and whether it is in scope.
+pub mod scope;
+
 use kinds::Record;
 ghost use mathlib.Core.Path.{_≡_};
 ghost use mathlib.Core.Bool.{true, false};
 ghost use Prim.Native.Nat.{_+_, _≤_, _<_};
 ghost use lib.ListN.{length, drop};
 ghost use Rattle.sizes.specs.Measured.{store, leaves, conditionTable, termTable};
-ghost use Rattle.scope.specs.Reach.{scopeOf, shapeIn};
+ghost use Rattle.conditions.specs.Reach.{scopeOf, shapeIn};
 ghost use Rattle.conditions.specs.Answers.{held, grown, bytesOf, kept, conditionReading, termReading, someReading, aggregateReading, conditionsReading, termsReading, sizeOf, twoMeasured};
 
 pub enum Reading {
@@ -158,7 +160,8 @@ fn some(
     relation: u8,
 ) -> Reading
     requires { ⌜ (at ≤ length (now q)) × (limit ≤ length (now reach)) ⌝ }
-    ensures { λ r. ⌜ r ≡ someReading (shapeIn (now (catalogue .entry))) limit level (record { variable = variable; relation = relation }) (scopeOf (now (reach .entry))) (drop at (now (q .entry))) ⌝ }
+    ensures { λ r. ⌜ r ≡ someReading (shapeIn (now (catalogue .entry))) limit level (record { variable = variable; relation = relation })
+        (scopeOf (now (reach .entry))) (drop at (now (q .entry))) ⌝ }
     ensures { λ _. ⌜ now (z .exit) ≡ conditionTable level (now (q .entry)) at (now (z .entry)) ⌝ }
     ensures { λ _. ⌜ now (reach .exit) ≡ now (reach .entry) ⌝ }
 {
@@ -182,7 +185,8 @@ fn aggregate(
     attribute: u8,
 ) -> Reading
     requires { ⌜ at ≤ length (now q) ⌝ }
-    ensures { λ r. ⌜ r ≡ aggregateReading (shapeIn (now (catalogue .entry))) limit level (record { variable = variable; relation = relation }) attribute (drop at (now (q .entry))) ⌝ }
+    ensures { λ r. ⌜ r ≡ aggregateReading (shapeIn (now (catalogue .entry))) limit level (record { variable = variable; relation = relation })
+        attribute (drop at (now (q .entry))) ⌝ }
     ensures { λ _. ⌜ now (z .exit) ≡ conditionTable level (now (q .entry)) at (now (z .entry)) ⌝ }
 {
     let mut inner = [0u16; 256];

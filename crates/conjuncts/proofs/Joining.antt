@@ -10,18 +10,18 @@ use lib.ListN.{length, getD, drop, set}
 use lib.Seq.{getD-set-same, getD-set-other}
 use borrow.Author.Tests.{eqb-true, eqb-false, ltb-false}
 use Rattle.model.specs.Kinds.{kindOf, find, k-true}
+use Rattle.model.proofs.Lists.{first-at}
 use Rattle.model.specs.Lists.{any, contains}
 use Rattle.model.specs.Syntax.{Condition, TRUE, AND, Binding, variables}
-use Rattle.model.specs.Meaning.{Assignment}
+use Rattle.model.specs.Meaning.{Assignment, holdsWith}
 use Rattle.model.proofs.Tests.{and-true, or-no}
 use Rattle.kinds.specs.declared.Record.the-variants as R
 use Rattle.sizes.specs.Decode.{decode}
-use Rattle.evaluator.specs.Recalled.{holdsBy}
+use Rattle.numbers.specs.Recalled.{holdsBy}
 use Rattle.walks.specs.Walks.{rowsBy}
 use Rattle.branches.specs.Branches.{field, holdsIn, nextIn, leads, runs}
 use Rattle.branches.specs.Compiled.{Compiled, Parted}
 use Rattle.branches.specs.declared.Parts.{Parts}
-use Rattle.scans.proofs.Walk.{first-at}
 use Rattle.branches.proofs.Joining.{bare}
 use Rattle.branches.proofs.Operands.{condition-is}
 use Rattle.branches.proofs.Running.{runs-0, runs-1, runs-kept, holds-same}
@@ -137,7 +137,7 @@ module _ (k r s after : ℕ) (t t₁ t′ : List ℕ) (xs xs′ : List ℤ) (q z
 -- the second part of an AND, then the first
 -- TRUE leaves the table as it is
 pub joined-true : (k : ℕ) (t : List ℕ) (xs : List ℤ) (q z : List ℕ) (m : List ℤ) (c : Condition) (bs : List Binding) → Begun k t → c ≡ TRUE → Joined k t t xs xs q z m c bs
-unfolding holdsBy
+unfolding holdsWith
 joined-true k t xs q z m c bs b h =
     record {
       begun = b;
@@ -150,7 +150,7 @@ unfolding kindOf find
 true-there q place l b nz eb h z = sym (condition-is [] (drop place q) l R.True nz (sym (bare (drop place q) 15 k-true (first-at place q ∙ sym eb ∙ h) refl refl)) z)
 
 pub joined-both : (n r : ℕ) (t t₁ t₂ : List ℕ) (xs xs₁ xs₂ : List ℤ) (q z : List ℕ) (m : List ℤ) (c d : Condition) (bs : List Binding) → Joined n t t₁ xs xs₁ q z m d bs → Joined r t₁ t₂ xs₁ xs₂ q z m c bs → Joined r t t₂ xs xs₂ q z m (AND c d) bs
-unfolding holdsBy
+unfolding holdsWith
 joined-both n r t t₁ t₂ xs xs₁ xs₂ q z m c d bs a b =
     record {
       begun = b .begun;

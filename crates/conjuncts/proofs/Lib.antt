@@ -1,4 +1,3 @@
-pub mod Alike
 pub mod Stages
 pub mod Below
 pub mod Joining

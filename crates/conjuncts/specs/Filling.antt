@@ -1,14 +1,14 @@
 -- What the functions that fill the table promise.
 use Prim.Native.Nat.{ℕ, _<_}
 use mathlib.Core.Path.{_≡_}
-use mathlib.Core.Bool.{true, _&&_}
+use mathlib.Core.Bool.{_&&_}
 use mathlib.Core.List.{List}
 use lib.IntN.{ℤ}
 use lib.ListN.{length, getD, drop}
-use Rattle.model.specs.Lists.{contains}
-use Rattle.model.specs.Syntax.{Condition, Binding, variables}
+use Rattle.model.specs.Syntax.{Condition, Term, Binding}
 use Rattle.model.specs.Meaning.{Assignment, Rows}
-use Rattle.evaluator.specs.Recalled.{holdsBy}
+use Rattle.sizes.specs.Decode.{decode, decodeT}
+use Rattle.numbers.specs.Recalled.{holdsBy, valueBy}
 use Rattle.walks.specs.Walks.{rowsBy}
 use Rattle.conjuncts.specs.Stages.{stagesHold, Extends, Steady}
 
@@ -16,9 +16,13 @@ use Rattle.conjuncts.specs.Stages.{stagesHold, Extends, Steady}
 abbrev pub Stable : Condition → ℕ → List Binding → Type 0
 Stable c s bs = (m : List ℤ) (R : Rows) (e e′ : Assignment) → Extends (drop s bs) e e′ → holdsBy m c R e′ ≡ holdsBy m c R e
 
--- no variable of these ranges is in reach
-abbrev pub Unreached : List Binding → List ℕ → Type 0
-Unreached bs s = (w : ℕ) → contains w (variables bs) ≡ true → getD s w 0 ≡ 0
+abbrev pub StableT : Term → ℕ → List Binding → Type 0
+StableT t s bs = (m : List ℤ) (R : Rows) (e e′ : Assignment) → Extends (drop s bs) e e′ → valueBy m t R e′ ≡ valueBy m t R e
+
+-- nor does what bytes stand for, read as a condition or as a term
+pub record Settled (s l : ℕ) (q z : List ℕ) (bs : List Binding) : Type 0 where
+  pub condition : Stable (decode l q z) s bs
+  pub term : StableT (decodeT l q z) s bs
 
 -- the stages start below branch k
 abbrev pub Begun : ℕ → List ℕ → Type 0

@@ -9,7 +9,7 @@ use lib.ListN.{length, getD, drop}
 use Rattle.model.specs.Lists.{all, below, contains}
 use Rattle.model.specs.Syntax.{Condition, Binding, variables}
 use Rattle.model.specs.Meaning.{Assignment}
-use Rattle.evaluator.specs.Recalled.{holdsBy}
+use Rattle.numbers.specs.Recalled.{holdsBy}
 use Rattle.walks.specs.Walks.{rowsBy}
 use Rattle.branches.specs.Branches.{runs}
 

@@ -5,103 +5,82 @@ ghost use Prim.Native.Nat.{ℕ, _+_, _*_, _≤_, _<_};
 ghost use lib.IntN.{ℤ};
 ghost use lib.ListN.{length, getD, drop};
 ghost use mathlib.Core.List.{List};
-ghost use mathlib.Core.Bool.{true};
-ghost use Rattle.model.specs.Syntax.{TRUE};
+ghost use mathlib.Core.Bool.{true, false};
+ghost use Rattle.model.specs.Lists.{contains};
+ghost use Rattle.model.specs.Syntax.{TRUE, variables};
 ghost use Rattle.sizes.specs.Decode.{decode};
-ghost use Rattle.evaluator.specs.Evaluation.{assigned};
 ghost use Rattle.sizes.specs.Parts.{rangesAt};
-ghost use Rattle.seeks.specs.Keys.{Faithful};
 ghost use Rattle.conjuncts.specs.Stages as S;
 ghost use Rattle.conjuncts.specs.Filling as F;
 
-// Whether the conjuncts of a stage hold; a stage that has none starts at 0.
-pub fn holds(
-    t: &[u16],
-    xs: &[i32],
-    stage: usize,
-    q: &[u8],
-    z: &[u16],
-    walks: &[u16],
-    chains: &[u16],
-    values: &[i32],
-    memo: &[i64],
-    env: &mut [usize],
-) -> bool
-    requires { ⌜ (256 ≤ length (now env)) × Faithful (now t) (now walks) (now values) (now chains) ⌝ }
-    ensures { λ r. ⌜ r ≡ S.stageHolds (now (t .entry)) (now (xs .entry)) (now (q .entry)) (now (z .entry)) (now (walks .entry)) (now (values .entry)) (now (memo .entry)) stage (assigned (now (values .entry)) (now (env .entry))) ⌝ }
-    ensures { λ _. ⌜ now (env .exit) ≡ now (env .entry) ⌝ }
+// The last range that binds the variable, counted from 1; 0 where none does.
+fn range_of(q: &[u8], ranges: usize, variable: u8) -> usize
+    requires { ⌜ ranges ≤ 7 ⌝ }
+    ensures { λ r. ⌜ r ≤ ranges ⌝ }
+    ensures { λ r. ⌜ contains variable (variables (drop r (rangesAt ranges (now (q .entry))))) ≡ false ⌝ }
 {
-    let i = kinds::size_at(t, stage);
-    if i == 0 {
-        return true;
+    let mut n = ranges;
+    while n != 0 {
+        if kinds::byte(q, 3 * n - 2) == variable {
+            return n;
+        }
+        n = n - 1;
     }
-    decide::holds(t, xs, i, q, z, walks, chains, values, memo, env)
+    0
 }
 
-// How many of the RANGE variables must be bound for the condition that q starts with: the last ones leave reach as long as it stays in scope.
-fn stage(
-    ranges: &[u8],
-    left: usize,
-    q: &[u8],
-    z: &[u16],
-    level: usize,
-    catalogue: &[u8],
-    limit: u8,
-    reach: &mut [u16],
-) -> usize
-    requires { ⌜ 256 ≤ length (now reach) ⌝ }
-    ensures { λ r. ⌜ r ≤ left ⌝ }
-    ensures { λ r. ⌜ F.Stable (decode level (now (q .entry)) (now (z .entry))) r (rangesAt left (now (ranges .entry))) ⌝ }
-    ensures { λ r. ⌜ (r ≡ 0 → F.Unreached (rangesAt left (now (ranges .entry))) (now (reach .exit))) ⌝ }
+fn later(a: usize, b: usize) -> usize
+    ensures { λ r. ⌜ (a ≤ r) × (b ≤ r) × ((n : ℕ) → a ≤ n → b ≤ n → r ≤ n) ⌝ }
 {
-    if left == 0 {
+    if a < b { b } else { a }
+}
+
+// The last range whose variable is used at a place, counted from 1: how many ranges must be bound for what stands there, be it a condition or a
+// term. An aggregate in scope uses no range's variable. A child stands at most 65,540 bytes further on.
+fn stage(q: &[u8], z: &[u16], ranges: usize, place: usize, level: usize) -> usize
+    requires { ⌜ (ranges ≤ 7) × (place + 65540 * level ≤ 4611686018427387904) ⌝ }
+    ensures { λ r. ⌜ r ≤ ranges ⌝ }
+    ensures { λ r. ⌜ F.Settled r level (drop place (now (q .entry))) (drop place (now (z .entry))) (rangesAt ranges (now (q .entry))) ⌝ }
+{
+    if level == 0 {
         return 0;
     }
-    let rest = kinds::tail(ranges, kinds::record_length(1));
-    let n = stage(rest, left - 1, q, z, level, catalogue, limit, reach);
-    if n != 0 {
-        return n + 1;
+    let kind = kinds::byte(q, place);
+    if kind == 33 {
+        return range_of(q, ranges, kinds::byte(q, place + 1));
     }
-    scope::unbind(reach, kinds::byte(ranges, 1));
-    if scope::condition(q, z, catalogue, limit, reach, level) {
-        0
-    } else {
-        1
+    let n = kinds::child_conditions(kind) + kinds::child_terms(kind);
+    if n == 0 {
+        return 0;
     }
+    let l = level - 1;
+    let first = place + kinds::record_length(kind);
+    let a = stage(q, z, ranges, first, l);
+    if a == ranges {
+        return a;
+    }
+    if n == 1 {
+        return a;
+    }
+    let second = first + kinds::size_at(z, first);
+    later(a, stage(q, z, ranges, second, l))
 }
 
-// Whether there is one range at most, and the condition at a place is a comparison that starts with an attribute, so that no scope need be looked at.
-fn one_range(q: &[u8], ranges: usize, place: usize) -> bool
-    requires { ⌜ place ≤ 65535 ⌝ }
-{
-    if 1 < ranges {
-        return false;
-    }
-    kinds::byte(q, place + 2) == 33
-}
-
-// The same for the condition at a place of a query that starts with its RANGE records.
-fn stage_at(
-    q: &[u8],
-    z: &[u16],
-    ranges: usize,
-    place: usize,
-    level: usize,
-    catalogue: &[u8],
-    limit: u8,
-) -> usize
-    requires { ⌜ place ≤ 65535 ⌝ }
+// The same for the condition at a place. A comparison that begins with an attribute of the last range needs all of them: no more is looked at.
+fn stage_at(q: &[u8], z: &[u16], ranges: usize, place: usize, level: usize) -> usize
+    requires { ⌜ (ranges ≤ 7) × (place ≤ 65535) × (level ≤ 65535) ⌝ }
     ensures { λ r. ⌜ r ≤ ranges ⌝ }
     ensures { λ r. ⌜ F.Stable (decode level (drop place (now (q .entry))) (drop place (now (z .entry)))) r (rangesAt ranges (now (q .entry))) ⌝ }
 {
-    if one_range(q, ranges, place) {
-        return ranges;
+    if ranges == 0 {
+        return 0;
     }
-    let mut reach = [0u16; 256];
-    queries::bind_ranges(q, ranges, &mut reach);
-    let c = kinds::tail(q, place);
-    let sizes = kinds::tail_sizes(z, place);
-    stage(q, ranges, c, sizes, level, catalogue, limit, &mut reach)
+    if kinds::byte(q, place + 2) == 33 {
+        if kinds::byte(q, place + 3) == kinds::byte(q, 3 * ranges - 2) {
+            return ranges;
+        }
+    }
+    stage(q, z, ranges, place, level)
 }
 
 // The stage of the condition at a place, with so many ranges bound: comparisons come before other conditions. An OR that begins with one stands with
@@ -148,22 +127,22 @@ fn join(
     ranges: usize,
     place: usize,
     level: usize,
-    cb: &[u8],
-    limit: u8,
     memo: &[i64],
     t: &mut [u16],
     xs: &mut [i32],
     k: usize,
     end: usize,
 ) -> usize
-    requires { ⌜ (8 * end ≤ length (now t)) × (2 * end ≤ length (now xs)) × (2 ≤ k) × (k < end) × (end ≤ 64) × (ranges ≤ 7) × (place ≤ 65535) × (level ≤ 65535) × F.Begun k (now t) ⌝ }
+    requires { ⌜ (8 * end ≤ length (now t)) × (2 * end ≤ length (now xs)) × (2 ≤ k) × (k < end) × (end ≤ 64) × (ranges ≤ 7) × (place ≤ 65535)
+        × (level ≤ 65535) × F.Begun k (now t) ⌝ }
     ensures { λ r. ⌜ (k ≤ r) × (r ≤ end) ⌝ }
-    ensures { λ r. ⌜ F.Joined r (now (t .entry)) (now (t .exit)) (now (xs .entry)) (now (xs .exit)) (now (q .entry)) (now (z .entry)) (now (memo .entry)) (decode level (drop place (now (q .entry))) (drop place (now (z .entry)))) (rangesAt ranges (now (q .entry))) ⌝ }
+    ensures { λ r. ⌜ F.Joined r (now (t .entry)) (now (t .exit)) (now (xs .entry)) (now (xs .exit)) (now (q .entry)) (now (z .entry))
+        (now (memo .entry)) (decode level (drop place (now (q .entry))) (drop place (now (z .entry)))) (rangesAt ranges (now (q .entry))) ⌝ }
 {
     if always(q, place, level) {
         return k;
     }
-    let bound = stage_at(q, z, ranges, place, level, cb, limit);
+    let bound = stage_at(q, z, ranges, place, level);
     let s = stage_number(q, place, bound, t);
     let after = kinds::size_at(t, s);
     let r = branches::compile(q, z, place, level, memo, t, xs, k, end, after, 1);
@@ -178,28 +157,28 @@ fn split(
     ranges: usize,
     place: usize,
     level: usize,
-    cb: &[u8],
-    limit: u8,
     memo: &[i64],
     t: &mut [u16],
     xs: &mut [i32],
     k: usize,
     end: usize,
 ) -> usize
-    requires { ⌜ (8 * end ≤ length (now t)) × (2 * end ≤ length (now xs)) × (2 ≤ k) × (k < end) × (end ≤ 64) × (ranges ≤ 7) × (place ≤ 65535) × (level ≤ 65535) × F.Begun k (now t) ⌝ }
+    requires { ⌜ (8 * end ≤ length (now t)) × (2 * end ≤ length (now xs)) × (2 ≤ k) × (k < end) × (end ≤ 64) × (ranges ≤ 7) × (place ≤ 65535)
+        × (level ≤ 65535) × F.Begun k (now t) ⌝ }
     ensures { λ r. ⌜ (k ≤ r) × (r ≤ end) ⌝ }
-    ensures { λ r. ⌜ F.Joined r (now (t .entry)) (now (t .exit)) (now (xs .entry)) (now (xs .exit)) (now (q .entry)) (now (z .entry)) (now (memo .entry)) (decode level (drop place (now (q .entry))) (drop place (now (z .entry)))) (rangesAt ranges (now (q .entry))) ⌝ }
+    ensures { λ r. ⌜ F.Joined r (now (t .entry)) (now (t .exit)) (now (xs .entry)) (now (xs .exit)) (now (q .entry)) (now (z .entry))
+        (now (memo .entry)) (decode level (drop place (now (q .entry))) (drop place (now (z .entry)))) (rangesAt ranges (now (q .entry))) ⌝ }
 {
     let x = branches::parts_at(q, z, place, level, end - k);
     let first = x.first;
     let second = x.second;
     if x.kind != 2 {
-        return join(q, z, ranges, place, level, cb, limit, memo, t, xs, k, end);
+        return join(q, z, ranges, place, level, memo, t, xs, k, end);
     }
     let l = level - 1;
     let last = end - 1;
-    let n = split(q, z, ranges, second, l, cb, limit, memo, t, xs, k, last);
-    split(q, z, ranges, first, l, cb, limit, memo, t, xs, n, end)
+    let n = split(q, z, ranges, second, l, memo, t, xs, k, last);
+    split(q, z, ranges, first, l, memo, t, xs, n, end)
 }
 
 // The condition at a place of a query with so many RANGE records, in a cleared table of at most 62 branches.
@@ -209,27 +188,13 @@ pub fn plan(
     ranges: usize,
     condition: usize,
     level: usize,
-    catalogue: &[u8],
-    limit: u8,
     memo: &[i64],
     t: &mut [u16],
     xs: &mut [i32],
 )
     requires { ⌜ (512 ≤ length (now t)) × (128 ≤ length (now xs)) × (ranges ≤ 7) × (condition ≤ 65535) × (level ≤ 65535) × ((s : ℕ) → getD (now t) s 0 ≡ 0) ⌝ }
-    ensures { λ _. ⌜ ((ws : List ℕ) (vs : List ℤ) → S.Planned (now (t .exit)) (now (xs .exit)) (now (q .entry)) (now (z .entry)) ws vs (now (memo .entry)) (decode level (drop condition (now (q .entry))) (drop condition (now (z .entry)))) (rangesAt ranges (now (q .entry)))) ⌝ }
+    ensures { λ _. ⌜ ((ws : List ℕ) (vs : List ℤ) → S.Planned (now (t .exit)) (now (xs .exit)) (now (q .entry)) (now (z .entry)) ws vs
+        (now (memo .entry)) (decode level (drop condition (now (q .entry))) (drop condition (now (z .entry)))) (rangesAt ranges (now (q .entry)))) ⌝ }
 {
-    split(
-        q,
-        z,
-        ranges,
-        condition,
-        level,
-        catalogue,
-        limit,
-        memo,
-        t,
-        xs,
-        2,
-        64,
-    );
+    split(q, z, ranges, condition, level, memo, t, xs, 2, 64);
 }

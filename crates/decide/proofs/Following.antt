@@ -15,8 +15,9 @@ use Rattle.model.proofs.Tests.{not-yes, not-no}
 use Rattle.numbers.specs.Numbers.{valueOf}
 use Rattle.numbers.specs.Memo.{knows, recalled}
 use Rattle.numbers.specs.declared.Ratio.{Ratio}
-use Rattle.evaluator.specs.Evaluation.{assigned, holdsAt}
-use Rattle.evaluator.proofs.Steps.{getD-inside}
+use Rattle.evaluator.specs.Evaluation.{holdsAt}
+use Rattle.walks.specs.Assigned.{assigned}
+use Rattle.walks.proofs.Assigned.{getD-inside}
 use Rattle.branches.specs.Branches.{field, recalledOr0, operand, holdsIn, branchHolds, next, runs}
 use Rattle.branches.proofs.Running.{runs-0, runs-1, runs-step, runs-stuck}
 

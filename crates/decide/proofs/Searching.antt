@@ -2,7 +2,7 @@
 use Prim.Native.Nat.{ℕ, _+_, _-_, _*_, _≤_, _<_}
 use mathlib.Core.Bool.{Bool, true, false, cond}
 use mathlib.Core.List.{List}
-use mathlib.Core.Path.{_≡_, refl, sym, ap, _∙_}
+use mathlib.Core.Path.{_≡_, refl, sym, ap, _∙_, subst}
 use native.Mathlib.Nat.{add-zero}
 use native.Mathlib.Omega.{arith}
 use lib.IntN.{ℤ}
@@ -13,25 +13,32 @@ use Rattle.model.specs.Search.{Search, search}
 use Rattle.model.proofs.Search.{none-over, search-found}
 use Rattle.model.specs.Meaning.{Tuple}
 use Rattle.catalogue.specs.Layout.{tupleAt}
-use Rattle.walks.specs.Walks.{walked}
+use Rattle.walks.specs.Walks.{walkOf, walked}
 use Rattle.walks.proofs.Loops.{Failed}
-use Rattle.evaluator.specs.Evaluation.{assigned}
-use Rattle.evaluator.proofs.Steps.{assigned-set}
+use Rattle.walks.specs.Assigned.{assigned}
+use Rattle.walks.proofs.Assigned.{assigned-set}
 use Rattle.branches.specs.Branches.{field, holdsIn, branchHolds, next, runs}
-use Rattle.seeks.proofs.Places.{places-alike}
+use Rattle.decide.specs.Cursor.{stops, Ready, Prepared}
+use Rattle.decide.specs.declared.seeks.Cursor.{Cursor}
+use Rattle.walks.specs.declared.Walk.{Walk}
 
 module _ (t : List ℕ) (xs : List ℤ) (q z ws : List ℕ) (vs m : List ℤ) (inner v : ℕ) (e : List ℕ) where
   -- what is asked of a row
   abbrev pub asks : Tuple → Bool
   asks x = runs t xs q z ws vs m inner (update (assigned vs e) v x)
 
-  module _ (P : ℕ → ℕ) where
-    -- rows that were passed over with other places of v are no hits; P j is the place of row j
-    pub over : (d : List ℕ) (old i s : ℕ) → set d v old ≡ e → ((j : ℕ) → i ≤ j → j < s → runs t xs q z ws vs m inner (update (assigned vs d) v (tupleAt vs (P j))) ≡ false) → Failed P vs asks i → Failed P vs asks s
-    over d old i s hd h f = none-over (λ j. asks (tupleAt vs (P j))) i s f (λ j k l. ap (λ u. runs t xs q z ws vs m inner u) (sym (places-alike vs d e v old (tupleAt vs (P j)) hd)) ∙ h j k l)
+  -- rows that a cursor passes over are no hits, one that it stops at goes on from its branch; P j is the place of row j
+  module _ (c : Cursor) (chains : List ℕ) (made : Prepared c t xs inner v ws vs m e chains) (P : ℕ → ℕ) where
+    pub over : (i s : ℕ) → ((j : ℕ) → i ≤ j → j < s → stops c (tupleAt vs (P j)) ≡ false) → Failed P vs asks i → Failed P vs asks s
+    over i s h f = none-over (λ j. asks (tupleAt vs (P j))) i s f (λ j k l. made .fails q z ws (tupleAt vs (P j)) (h j k l))
 
-    pub tried : (y : List ℕ) (row i : ℕ) (b : Bool) → row ≡ P i → y ≡ set e v row → v < length e → b ≡ runs t xs q z ws vs m inner (assigned vs y) → asks (tupleAt vs (P i)) ≡ b
-    tried y row i b hr ey hv eb = sym (eb ∙ ap (λ u. runs t xs q z ws vs m inner u) (ap (assigned vs) ey ∙ assigned-set vs e v row hv ∙ ap (λ (p : ℕ). update (assigned vs e) v (tupleAt vs p)) hr))
+    pub tried : (y : List ℕ) (row i : ℕ) (b : Bool) → stops c (tupleAt vs (P i)) ≡ true → row ≡ P i → y ≡ set e v row → v < length e → b ≡ runs t xs q z ws vs m (c .next) (assigned vs y) → asks (tupleAt vs (P i)) ≡ b
+    tried y row i b h hr ey hv eb =
+        made .found q z ws (tupleAt vs (P i)) h
+        ∙ sym (eb ∙ ap (λ u. runs t xs q z ws vs m (c .next) u) (ap (assigned vs) ey ∙ assigned-set vs e v row hv ∙ ap (λ (p : ℕ). update (assigned vs e) v (tupleAt vs p)) hr))
+
+    pub ready-for : (w : Walk) → w ≡ walkOf ws v → Ready c vs ws w chains
+    ready-for w ew = subst (λ (x : Walk). Ready c vs ws x chains) (sym ew) (made .ready)
 
   -- a branch that asks for a row
   module _ (i : ℕ) (eo : getD t (8 * i) 0 ≡ 256) (en : inner ≡ getD t (8 * i + 2) 0) where

@@ -1,13 +1,15 @@
 // Whether a branch of a table leads to 0 (branches/specs/Branches). Comparisons are followed in one loop; where a branch asks for some row of a variable,
 // its rows are tried, those that cannot meet what is asked passed over.
+pub mod seeks;
+
 use walks::Walk;
 ghost use mathlib.Core.Path.{_≡_};
 ghost use mathlib.Core.Bool.{cond};
 ghost use Prim.Native.Nat.{_+_, _*_, _≤_, _<_};
 ghost use lib.ListN.{length, getD};
-ghost use Rattle.evaluator.specs.Evaluation.{assigned};
+ghost use Rattle.walks.specs.Assigned.{assigned};
 ghost use Rattle.branches.specs.Branches as B;
-ghost use Rattle.seeks.specs.Keys.{Faithful};
+ghost use Rattle.decide.specs.Keys.{Faithful};
 ghost use Rattle.walks.specs.Walks.{walkOf, walked};
 ghost use Rattle.model.specs.Lists.{update};
 ghost use Rattle.model.specs.Search as M;
@@ -31,7 +33,8 @@ fn branch(
     env: &mut [usize],
 ) -> bool
     requires { ⌜ (256 ≤ length (now env)) × (i ≤ 65535) × (getD (now t) (8 * i) 0 ≡ 256 → ⊥) ⌝ }
-    ensures { λ r. ⌜ r ≡ B.branchHolds (now (t .entry)) (now (xs .entry)) (now (q .entry)) (now (z .entry)) (now (walks .entry)) (now (values .entry)) (now (memo .entry)) i (assigned (now (values .entry)) (now (env .entry))) ⌝ }
+    ensures { λ r. ⌜ r ≡ B.branchHolds (now (t .entry)) (now (xs .entry)) (now (q .entry)) (now (z .entry)) (now (walks .entry))
+        (now (values .entry)) (now (memo .entry)) i (assigned (now (values .entry)) (now (env .entry))) ⌝ }
     ensures { λ _. ⌜ now (env .exit) ≡ now (env .entry) ⌝ }
 {
     let p = 8 * i;
@@ -61,7 +64,8 @@ fn next(
     env: &mut [usize],
 ) -> usize
     requires { ⌜ (256 ≤ length (now env)) × (i ≤ 65535) × (getD (now t) (8 * i) 0 ≡ 256 → ⊥) ⌝ }
-    ensures { λ r. ⌜ r ≡ B.next (now (t .entry)) (now (xs .entry)) (now (q .entry)) (now (z .entry)) (now (walks .entry)) (now (values .entry)) (now (memo .entry)) i (assigned (now (values .entry)) (now (env .entry))) ⌝ }
+    ensures { λ r. ⌜ r ≡ B.next (now (t .entry)) (now (xs .entry)) (now (q .entry)) (now (z .entry)) (now (walks .entry)) (now (values .entry))
+        (now (memo .entry)) i (assigned (now (values .entry)) (now (env .entry))) ⌝ }
     ensures { λ _. ⌜ now (env .exit) ≡ now (env .entry) ⌝ }
 {
     if branch(t, xs, i, q, z, walks, values, memo, env) {
@@ -83,7 +87,10 @@ fn run(
     env: &mut [usize],
 ) -> usize
     requires { ⌜ (256 ≤ length (now env)) × (start ≤ 65535) ⌝ }
-    ensures { λ r. ⌜ B.runs (now (t .entry)) (now (xs .entry)) (now (q .entry)) (now (z .entry)) (now (walks .entry)) (now (values .entry)) (now (memo .entry)) r (assigned (now (values .entry)) (now (env .entry))) ≡ B.runs (now (t .entry)) (now (xs .entry)) (now (q .entry)) (now (z .entry)) (now (walks .entry)) (now (values .entry)) (now (memo .entry)) start (assigned (now (values .entry)) (now (env .entry))) ⌝ }
+    ensures { λ r. ⌜ B.runs (now (t .entry)) (now (xs .entry)) (now (q .entry)) (now (z .entry)) (now (walks .entry)) (now (values .entry))
+        (now (memo .entry)) r (assigned (now (values .entry)) (now (env .entry)))
+        ≡ B.runs (now (t .entry)) (now (xs .entry)) (now (q .entry)) (now (z .entry)) (now (walks .entry)) (now (values .entry))
+        (now (memo .entry)) start (assigned (now (values .entry)) (now (env .entry))) ⌝ }
     ensures { λ r. ⌜ (r ≤ start) × (2 ≤ r → getD (now (t .entry)) (8 * r) 0 ≡ 256) ⌝ }
     ensures { λ _. ⌜ now (env .exit) ≡ now (env .entry) ⌝ }
 {
@@ -115,7 +122,8 @@ pub fn holds(
     env: &mut [usize],
 ) -> bool
     requires { ⌜ (256 ≤ length (now env)) × (start ≤ 65535) × Faithful (now t) (now walks) (now values) (now chains) ⌝ }
-    ensures { λ r. ⌜ r ≡ B.runs (now (t .entry)) (now (xs .entry)) (now (q .entry)) (now (z .entry)) (now (walks .entry)) (now (values .entry)) (now (memo .entry)) start (assigned (now (values .entry)) (now (env .entry))) ⌝ }
+    ensures { λ r. ⌜ r ≡ B.runs (now (t .entry)) (now (xs .entry)) (now (q .entry)) (now (z .entry)) (now (walks .entry)) (now (values .entry))
+        (now (memo .entry)) start (assigned (now (values .entry)) (now (env .entry))) ⌝ }
     ensures { λ _. ⌜ now (env .exit) ≡ now (env .entry) ⌝ }
 {
     let mut from = start;
@@ -167,50 +175,34 @@ fn first_row(
     env: &mut [usize],
 ) -> Search
     requires { ⌜ (256 ≤ length (now env)) × (start ≤ 65535) × Faithful (now t) (now walks) (now values) (now chains) ⌝ }
-    ensures { λ r. ⌜ record { found = r .found; tried = r .tried } ≡ M.search (λ x. B.runs (now (t .entry)) (now (xs .entry)) (now (q .entry)) (now (z .entry)) (now (walks .entry)) (now (values .entry)) (now (memo .entry)) start (update (assigned (now (values .entry)) (now (env .entry))) variable x)) (walked (now (walks .entry)) (now (values .entry)) variable) ⌝ }
+    ensures { λ r. ⌜ record { found = r .found; tried = r .tried } ≡ M.search
+        (λ x. B.runs (now (t .entry)) (now (xs .entry)) (now (q .entry)) (now (z .entry)) (now (walks .entry)) (now (values .entry))
+        (now (memo .entry)) start (update (assigned (now (values .entry)) (now (env .entry))) variable x))
+        (walked (now (walks .entry)) (now (values .entry)) variable) ⌝ }
     ensures { λ _. ⌜ now (env .exit) ≡ now (env .entry) ⌝ }
 {
     let walk = walks::walk_of(walks, variable);
     let n = walk.count;
     let old = evaluator::place(env, variable);
-    let mut j = seeks::seek(
-        t,
-        xs,
-        start,
-        variable,
-        walks,
-        walk,
-        chains,
-        values,
-        memo,
-        env,
-        0,
-    );
-    while j < n {
+    let cursor = seeks::prepare(t, xs, start, variable, chains, values, memo, env);
+    let next = cursor.next;
+    let mut i = 0;
+    loop {
+        let j = seeks::next_row(cursor, values, walks, walk, chains, i);
+        if n <= j {
+            evaluator::set_place(env, variable, old);
+            return Search {
+                found: false,
+                tried: n,
+            };
+        }
         evaluator::set_place(env, variable, walks::place(walks, walk, j));
-        if holds(t, xs, start, q, z, walks, chains, values, memo, env) {
+        if holds(t, xs, next, q, z, walks, chains, values, memo, env) {
             evaluator::set_place(env, variable, old);
             let tried = j + 1;
             return Search { found: true, tried };
         }
-        j = seeks::seek(
-            t,
-            xs,
-            start,
-            variable,
-            walks,
-            walk,
-            chains,
-            values,
-            memo,
-            env,
-            j + 1,
-        );
-    }
-    evaluator::set_place(env, variable, old);
-    Search {
-        found: false,
-        tried: n,
+        i = j + 1;
     }
 }
 
@@ -228,7 +220,8 @@ fn some_row(
     env: &mut [usize],
 ) -> bool
     requires { ⌜ (256 ≤ length (now env)) × (i ≤ 65535) × (getD (now t) (8 * i) 0 ≡ 256) × Faithful (now t) (now walks) (now values) (now chains) ⌝ }
-    ensures { λ r. ⌜ r ≡ B.branchHolds (now (t .entry)) (now (xs .entry)) (now (q .entry)) (now (z .entry)) (now (walks .entry)) (now (values .entry)) (now (memo .entry)) i (assigned (now (values .entry)) (now (env .entry))) ⌝ }
+    ensures { λ r. ⌜ r ≡ B.branchHolds (now (t .entry)) (now (xs .entry)) (now (q .entry)) (now (z .entry)) (now (walks .entry))
+        (now (values .entry)) (now (memo .entry)) i (assigned (now (values .entry)) (now (env .entry))) ⌝ }
     ensures { λ _. ⌜ now (env .exit) ≡ now (env .entry) ⌝ }
 {
     let inner = kinds::size_at(t, 8 * i + 2);

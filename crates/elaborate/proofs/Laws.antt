@@ -5,9 +5,9 @@ use mathlib.Core.List.{List, [], _∷_}
 use mathlib.Core.Option.{none}
 use mathlib.Core.Path.{_≡_, refl, sym, ap, ap₂, _∙_, subst}
 use native.Mathlib.Nat.{add-zero}
-use lib.ListN.{length}
+use lib.ListN.{length, take}
 use lib.Seq.{sets}
-use Rattle.quel.specs.Results.{Read, fail, ok, then, need, uniqueWords}
+use Rattle.quel.specs.Results.{Read, fail, ok, then, need, Word, hasWord, uniqueWords}
 use Rattle.quel.specs.Tokens.{Token}
 use Rattle.quel.specs.Names.{Entry}
 use Rattle.quel.specs.Elaboration.{Symbol, rangesOf}
@@ -16,12 +16,14 @@ use Rattle.quel.specs.Writing.{Written, before, loop}
 use Rattle.model.specs.Encoding.{encodeRanges}
 use Rattle.tokens.specs.Table.{Table}
 use Rattle.flat.specs.Flat.{uses, binders, mainOf, lastOf, bound, flatText}
-use Rattle.marks.specs.Places.{tokensFrom}
+use Rattle.marks.specs.Places.{tokensFrom, nameIn}
+use Rattle.marks.specs.Numbers.{Used}
+use Rattle.items.specs.Tables.{Slotted}
 use Rattle.elaborate.specs.After.{ended}
 use Rattle.elaborate.specs.declared.binds.Ranges.{Ranges}
 use Rattle.elaborate.specs.declared.binds.Ranges.the-variants as R
 use Rattle.elaborate.specs.declared.binds.Tally.{Tally}
-use Rattle.elaborate.specs.Tallies.{listing, boundFrom, symbolsIn, afterAll, Whole, Most}
+use Rattle.elaborate.specs.Tallies.{listing, boundFrom, symbolsIn, afterAll, Whole, Most, Slots}
 use Rattle.elaborate.specs.declared.End.{End}
 use Rattle.elaborate.specs.declared.End.the-variants as E
 use Rattle.elaborate.specs.Ends.{endBy, Ends, Last}
@@ -78,3 +80,11 @@ most k r s m e = subst (Most k) e m
 
 pub place-most : (at p : ℕ) (l : End) → Last at l → l ≡ E.Place p → p ≤ at + 32812591
 place-most at p l m e = subst (Last at) e m
+
+-- the slots after the RANGE list
+pub slots-are : (w : ℕ → Word) (ids cs slots : List ℕ) (r : Ranges) (s : Tally) → Slots w ids r cs slots → r ≡ R.Listed s → Slotted w ids (take (s .count) cs) slots
+slots-are w ids cs slots r s h e = subst (λ (x : Ranges). Slots w ids x cs slots) e h
+
+-- marks by where the targets begin
+pub used-from : (text : List ℕ) (t : Table) (ids marks : List ℕ) (m main : ℕ) → tokensFrom text t m ≡ mainOf (tokensFrom text t 0) → tokensFrom text t main ≡ mainOf (tokensFrom text t 0) → Used text t ids m marks → Used text t ids main marks
+used-from text t ids marks m main e f u = record { at = λ x. u .at x ∙ ap (λ (s : List Token). hasWord (nameIn text (t .kinds) (t .starts) (t .lengths) x) (uses 0 s)) (e ∙ sym f) }

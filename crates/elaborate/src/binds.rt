@@ -5,11 +5,16 @@ ghost use mathlib.Core.Path.{_≡_};
 ghost use mathlib.Core.Bool.{true, cond};
 ghost use mathlib.Core.List.{List};
 ghost use Prim.Native.Nat.{ℕ, _+_, _<_, _≤_};
-ghost use lib.ListN.{length, getD};
+ghost use lib.Dec.{eqb};
+ghost use lib.ListN.{length, getD, set, take};
+ghost use Rattle.quel.specs.Results.{Word};
 ghost use Rattle.quel.specs.Names.{Entry};
 ghost use Rattle.names.specs.Entries.{entries};
-ghost use Rattle.marks.specs.Places.{table};
-ghost use Rattle.elaborate.specs.Tallies.{Binds, Whole, Counts, Most};
+ghost use Rattle.names.specs.Search.{Indexed};
+ghost use Rattle.marks.specs.Places.{table, nameIn};
+ghost use Rattle.marks.specs.Numbers.{Used};
+ghost use Rattle.items.specs.Tables.{Same, Named, Slotted};
+ghost use Rattle.elaborate.specs.Tallies.{Binds, Whole, Counts, Most, Slots};
 
 // Whether a relation's parentheses are open, its number, how many symbols there are, the next variable's number, and where to write.
 pub struct Tally {
@@ -33,26 +38,44 @@ fn flag(b: bool) -> u8
     if b { 1 } else { 0 }
 }
 
+// Takes a name's slot, if it is free, for the symbol k.
+fn settle(slots: &mut [u16], x: usize, k: usize)
+    requires { ⌜ (x < length (now slots)) × (k < 4000) ⌝ }
+    ensures { λ _. ⌜ now (slots .exit) ≡ cond (eqb (getD (now (slots .entry)) x 0) 0) (set (now (slots .entry)) x (k + 1)) (now (slots .entry)) ⌝ }
+{
+    if slots[x] == 0 {
+        slots[x] = (k + 1) as u16;
+    }
+}
+
 // A symbol, at token i.
 fn symbol(
-    text: &[u8],
     kinds: &[u8],
-    starts: &[u16],
-    lengths: &[u16],
-    main: usize,
+    ids: &[u16],
+    marks: &[u8],
     symbols: &mut [u64],
+    slots: &mut [u16],
     out: &mut [u8],
     s: Tally,
     i: usize,
 ) -> Ranges
-    requires { ⌜ (i < length (now kinds)) × (length (now kinds) < 4000) × (s .count < length (now symbols)) × (s .n < 4000) × (s .at < 4611686018427387904) × (getD (now kinds) i 0 ≡ 0) × (s .inside ≡ true) ⌝ }
-    ensures { λ r. ⌜ ((es : List Entry) (ns : List ℕ) → Binds (now (text .entry)) (table (now (kinds .entry)) (now (starts .entry)) (now (lengths .entry)) ns) es main i s (now (symbols .entry)) (now (out .entry)) r (now (symbols .exit)) (now (out .exit))) ⌝ }
+    requires { ⌜ (i < length (now kinds)) × (length (now kinds) < 4000) × (s .count < length (now symbols)) × (s .n < 4000)
+        × (s .at < 4611686018427387904) × (s .count < 4000) × (getD (now kinds) i 0 ≡ 0) × (s .inside ≡ true)
+        × (getD (now ids) i 0 < length (now slots)) ⌝ }
+    ensures { λ r. ⌜ ((text ss ls ns : List ℕ) (es : List Entry) (main : ℕ)
+        → Used text (table (now (kinds .entry)) ss ls ns) (now (ids .entry)) main (now (marks .entry))
+        → Binds text (table (now (kinds .entry)) ss ls ns) es main i s (now (symbols .entry)) (now (out .entry)) r (now (symbols .exit))
+        (now (out .exit))) ⌝ }
     ensures { λ r. ⌜ Counts s r ⌝ }
+    ensures { λ r. ⌜ ((w : ℕ → Word) → Same w (now (ids .entry)) → Slotted w (now (ids .entry)) (take (s .count) (now (symbols .entry)))
+        (now (slots .entry)) → Slots w (now (ids .entry)) r (now (symbols .exit)) (now (slots .exit))) ⌝ }
 {
-    let used = marks::used(text, kinds, starts, lengths, main, i);
+    let x = kinds::size_at(ids, i);
+    let used = kinds::byte(marks, x) != 0;
     let v = (s.n % 256) as u8;
     let k = s.count;
     symbols[k] = frames::pack(flag(used), s.relation, v, i);
+    settle(slots, x, k);
     if !used {
         return Ranges::Listed(Tally {
             inside: true,
@@ -74,25 +97,34 @@ fn symbol(
 
 // A name: a relation's, or a symbol in its parentheses.
 fn name(
-    text: &[u8],
     kinds: &[u8],
-    starts: &[u16],
-    lengths: &[u16],
+    ids: &[u16],
+    numbers: &[u64],
     list: &[u8],
-    main: usize,
+    heads: &[u16],
+    nexts: &[u16],
+    marks: &[u8],
     symbols: &mut [u64],
+    slots: &mut [u16],
     out: &mut [u8],
     s: Tally,
     i: usize,
 ) -> Ranges
-    requires { ⌜ (i < length (now kinds)) × (length (now kinds) < 4000) × (s .count < length (now symbols)) × (s .n < 4000) × (s .at < 4611686018427387904) × (getD (now kinds) i 0 ≡ 0) ⌝ }
-    ensures { λ r. ⌜ ((ns : List ℕ) → Binds (now (text .entry)) (table (now (kinds .entry)) (now (starts .entry)) (now (lengths .entry)) ns) (entries (now (list .entry))) main i s (now (symbols .entry)) (now (out .entry)) r (now (symbols .exit)) (now (out .exit))) ⌝ }
+    requires { ⌜ (i < length (now kinds)) × (length (now kinds) < 4000) × (s .count < length (now symbols)) × (s .n < 4000)
+        × (s .at < 4611686018427387904) × (s .count < 4000) × (getD (now kinds) i 0 ≡ 0) ⌝ }
+    requires { ⌜ (getD (now ids) i 0 < length (now slots)) × (length (now nexts) ≤ 4096) × Indexed (now list) (now heads) (now nexts) ⌝ }
+    ensures { λ r. ⌜ ((text ss ls ns : List ℕ) (main : ℕ) → Named (nameIn text (now (kinds .entry)) ss ls) (now (ids .entry)) (now (numbers .entry))
+        → Used text (table (now (kinds .entry)) ss ls ns) (now (ids .entry)) main (now (marks .entry))
+        → Binds text (table (now (kinds .entry)) ss ls ns) (entries (now (list .entry))) main i s (now (symbols .entry)) (now (out .entry)) r
+        (now (symbols .exit)) (now (out .exit))) ⌝ }
     ensures { λ r. ⌜ Counts s r ⌝ }
+    ensures { λ r. ⌜ ((w : ℕ → Word) → Same w (now (ids .entry)) → Slotted w (now (ids .entry)) (take (s .count) (now (symbols .entry)))
+        (now (slots .entry)) → Slots w (now (ids .entry)) r (now (symbols .exit)) (now (slots .exit))) ⌝ }
 {
     if s.inside {
-        return symbol(text, kinds, starts, lengths, main, symbols, out, s, i);
+        return symbol(kinds, ids, marks, symbols, slots, out, s, i);
     }
-    let Found::At(r) = names::relation_named(list, marks::word(text, kinds, starts, lengths, i))
+    let Found::At(r) = names::relation_named(list, heads, nexts, items::code(ids, numbers, i))
     else {
         return Ranges::Refused;
     };
@@ -107,24 +139,46 @@ fn name(
 
 // Any token but RETRIEVE: ) closes a relation's parentheses.
 fn step(
-    text: &[u8],
     kinds: &[u8],
-    starts: &[u16],
-    lengths: &[u16],
+    ids: &[u16],
+    numbers: &[u64],
     list: &[u8],
-    main: usize,
+    heads: &[u16],
+    nexts: &[u16],
+    marks: &[u8],
     symbols: &mut [u64],
+    slots: &mut [u16],
     out: &mut [u8],
     s: Tally,
     i: usize,
 ) -> Ranges
-    requires { ⌜ (i < length (now kinds)) × (length (now kinds) < 4000) × (s .count < length (now symbols)) × (s .n < 4000) × (s .at < 4611686018427387904) × (getD (now kinds) i 0 ≡ 14 → ⊥) ⌝ }
-    ensures { λ r. ⌜ ((ns : List ℕ) → Binds (now (text .entry)) (table (now (kinds .entry)) (now (starts .entry)) (now (lengths .entry)) ns) (entries (now (list .entry))) main i s (now (symbols .entry)) (now (out .entry)) r (now (symbols .exit)) (now (out .exit))) ⌝ }
+    requires { ⌜ (i < length (now kinds)) × (length (now kinds) < 4000) × (s .count < length (now symbols)) × (s .n < 4000)
+        × (s .at < 4611686018427387904) × (s .count < 4000) × (getD (now kinds) i 0 ≡ 14 → ⊥) ⌝ }
+    requires { ⌜ (getD (now ids) i 0 < length (now slots)) × (length (now nexts) ≤ 4096) × Indexed (now list) (now heads) (now nexts) ⌝ }
+    ensures { λ r. ⌜ ((text ss ls ns : List ℕ) (main : ℕ) → Named (nameIn text (now (kinds .entry)) ss ls) (now (ids .entry)) (now (numbers .entry))
+        → Used text (table (now (kinds .entry)) ss ls ns) (now (ids .entry)) main (now (marks .entry))
+        → Binds text (table (now (kinds .entry)) ss ls ns) (entries (now (list .entry))) main i s (now (symbols .entry)) (now (out .entry)) r
+        (now (symbols .exit)) (now (out .exit))) ⌝ }
     ensures { λ r. ⌜ Counts s r ⌝ }
+    ensures { λ r. ⌜ ((w : ℕ → Word) → Same w (now (ids .entry)) → Slotted w (now (ids .entry)) (take (s .count) (now (symbols .entry)))
+        (now (slots .entry)) → Slots w (now (ids .entry)) r (now (symbols .exit)) (now (slots .exit))) ⌝ }
 {
     let kind = kinds[i];
     if kind == 0 {
-        return name(text, kinds, starts, lengths, list, main, symbols, out, s, i);
+        return name(
+            kinds,
+            ids,
+            numbers,
+            list,
+            heads,
+            nexts,
+            marks,
+            symbols,
+            slots,
+            out,
+            s,
+            i,
+        );
     }
     if kind == 21 {
         return Ranges::Listed(Tally {
@@ -138,20 +192,28 @@ fn step(
     Ranges::Listed(s)
 }
 
-// Fills the symbols of the RANGE list and writes its records; `main` is the place after RETRIEVE, the workspace's name and a colon.
+// Fills the symbols of the RANGE list and their slots, and writes its records; marks say which names are used.
 pub fn bind(
-    text: &[u8],
     kinds: &[u8],
-    starts: &[u16],
-    lengths: &[u16],
+    ids: &[u16],
+    numbers: &[u64],
     list: &[u8],
-    main: usize,
+    heads: &[u16],
+    nexts: &[u16],
+    marks: &[u8],
     symbols: &mut [u64],
+    slots: &mut [u16],
     out: &mut [u8],
 ) -> Ranges
-    requires { ⌜ (length (now kinds) < 4000) × (length (now kinds) ≤ length (now symbols)) ⌝ }
-    ensures { λ r. ⌜ ((ns : List ℕ) → Whole (now (text .entry)) (table (now (kinds .entry)) (now (starts .entry)) (now (lengths .entry)) ns) (entries (now (list .entry))) main (now (out .entry)) r (now (symbols .exit)) (now (out .exit))) ⌝ }
+    requires { ⌜ (length (now kinds) < 4000) × (length (now kinds) ≤ length (now symbols)) × (length (now kinds) < length (now slots))
+        × ((x : ℕ) → getD (now ids) x 0 ≤ length (now kinds)) × ((x : ℕ) → getD (now slots) x 0 ≡ 0) ⌝ }
+    requires { ⌜ (length (now nexts) ≤ 4096) × Indexed (now list) (now heads) (now nexts) ⌝ }
+    ensures { λ r. ⌜ ((text ss ls ns : List ℕ) (main : ℕ) → Named (nameIn text (now (kinds .entry)) ss ls) (now (ids .entry)) (now (numbers .entry))
+        → Used text (table (now (kinds .entry)) ss ls ns) (now (ids .entry)) main (now (marks .entry))
+        → Whole text (table (now (kinds .entry)) ss ls ns) (entries (now (list .entry))) main (now (out .entry)) r (now (symbols .exit))
+        (now (out .exit))) ⌝ }
     ensures { λ r. ⌜ Most (length (now (kinds .entry))) r ⌝ }
+    ensures { λ r. ⌜ ((w : ℕ → Word) → Same w (now (ids .entry)) → Slots w (now (ids .entry)) r (now (symbols .exit)) (now (slots .exit))) ⌝ }
 {
     let mut s = Tally {
         inside: false,
@@ -165,8 +227,20 @@ pub fn bind(
         if kinds[i] == 14 {
             return Ranges::Listed(s);
         }
-        let Ranges::Listed(t) = step(text, kinds, starts, lengths, list, main, symbols, out, s, i)
-        else {
+        let Ranges::Listed(t) = step(
+            kinds,
+            ids,
+            numbers,
+            list,
+            heads,
+            nexts,
+            marks,
+            symbols,
+            slots,
+            out,
+            s,
+            i,
+        ) else {
             return Ranges::Refused;
         };
         s = t;

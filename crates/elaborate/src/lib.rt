@@ -9,13 +9,18 @@ mod turns;
 
 use binds::Ranges;
 ghost use mathlib.Core.Path.{_≡_};
-ghost use Prim.Native.Nat.{_≤_, _<_};
-ghost use lib.ListN.{length};
+ghost use mathlib.Core.Bool.{true};
+ghost use mathlib.Core.List.{List};
+ghost use Prim.Native.Nat.{ℕ, _≤_, _<_};
+ghost use lib.ListN.{length, getD};
 ghost use Rattle.flat.specs.Flat.{flatText};
 ghost use Rattle.names.specs.Entries.{entries};
-ghost use Rattle.marks.specs.Places.{table, tokensFrom};
+ghost use Rattle.names.specs.Search.{Indexed};
+ghost use Rattle.marks.specs.Places.{table, tokensFrom, nameIn};
+ghost use Rattle.marks.specs.Numbers.{Numbered};
+ghost use Rattle.elaborate.specs.Counts.{Counted};
 ghost use Rattle.elaborate.specs.After.{ended};
-ghost use Rattle.elaborate.specs.Whole.{outcome};
+ghost use Rattle.elaborate.specs.Whole.{Prepared, Ready, outcome};
 
 // The place after what was written, or a name that is unknown or out of reach.
 pub enum End {
@@ -23,41 +28,70 @@ pub enum End {
     Refused,
 }
 
+// What is needed before records are written: the V's, ^'s and signs ahead, and marks of the names that are used. Whether no symbol is bound twice.
+pub fn prepare(kinds: &[u8], ids: &[u16], counts: &mut [u64], marks: &mut [u8]) -> bool
+    requires { ⌜ (length (now kinds) < 4000) × (length (now kinds) < length (now counts)) × (length (now kinds) < length (now marks))
+        × ((x : ℕ) → getD (now ids) x 0 ≤ length (now kinds)) × ((x : ℕ) → getD (now marks) x 0 ≡ 0) ⌝ }
+    ensures { λ r. ⌜ ((text ss ls ns : List ℕ) → Numbered (nameIn text (now (kinds .entry)) ss ls) (length (now (kinds .entry))) (now (ids .entry))
+        → Prepared text (table (now (kinds .entry)) ss ls ns) (now (ids .entry)) r (now (marks .exit))) ⌝ }
+    ensures { λ r. ⌜ (r ≡ true → Counted (now (kinds .entry)) (now (counts .exit))) ⌝ }
+{
+    if !marks::unique(kinds, ids) {
+        return false;
+    }
+    ahead::count(kinds, counts);
+    marks::uses(kinds, ids, marks::main_place(kinds), marks);
+    true
+}
+
 // Writes the records of all tokens, and says where they end, or refuses a name (51).
 pub fn elaborate(
-    text: &[u8],
     kinds: &[u8],
-    starts: &[u16],
-    lengths: &[u16],
-    numbers: &[u32],
+    ids: &[u16],
+    numbers: &[u64],
     list: &[u8],
-    counts: &mut [u64],
+    heads: &[u16],
+    nexts: &[u16],
+    counts: &[u64],
+    marks: &[u8],
     symbols: &mut [u64],
+    slots: &mut [u16],
     frames: &mut [u64],
     out: &mut [u8],
 ) -> End
-    requires { ⌜ (length (now kinds) < 4000) × (length (now kinds) < length (now counts)) × (length (now kinds) ≤ length (now symbols)) × (length (now kinds) < length (now frames)) ⌝ }
-    ensures { λ r. ⌜ ended (now (out .entry)) 0 (flatText (entries (now (list .entry))) (tokensFrom (now (text .entry)) (table (now (kinds .entry)) (now (starts .entry)) (now (lengths .entry)) (now (numbers .entry))) 0)) ≡ outcome r (now (out .exit)) ⌝ }
+    requires { ⌜ (length (now kinds) < 4000) × (length (now kinds) ≤ length (now symbols)) × (length (now kinds) < length (now slots))
+        × (length (now kinds) < length (now frames)) × ((x : ℕ) → getD (now ids) x 0 ≤ length (now kinds)) × ((x : ℕ) → getD (now slots) x 0 ≡ 0) ⌝ }
+    requires { ⌜ Counted (now kinds) (now counts) × (length (now nexts) ≤ 4096) × Indexed (now list) (now heads) (now nexts) ⌝ }
+    ensures { λ r. ⌜ ((text ss ls : List ℕ) → Ready text (table (now (kinds .entry)) ss ls (now (numbers .entry))) (now (ids .entry))
+        (now (marks .entry)) → ended (now (out .entry)) 0 (flatText (entries (now (list .entry)))
+        (tokensFrom text (table (now (kinds .entry)) ss ls (now (numbers .entry))) 0)) ≡ outcome r (now (out .exit))) ⌝ }
 {
-    if !marks::unique(text, kinds, starts, lengths) {
-        return End::Refused;
-    }
-    ahead::count(kinds, counts);
     let main = marks::main_place(kinds);
-    let Ranges::Listed(s) = binds::bind(text, kinds, starts, lengths, list, main, symbols, out)
-    else {
+    let Ranges::Listed(s) = binds::bind(
+        kinds,
+        ids,
+        numbers,
+        list,
+        heads,
+        nexts,
+        marks,
+        symbols,
+        slots,
+        out,
+    ) else {
         return End::Refused;
     };
     let k = s.count;
     let End::Place(at) = loops::run(
-        text,
         kinds,
-        starts,
-        lengths,
+        ids,
         numbers,
         list,
+        heads,
+        nexts,
         counts,
         &symbols[..k],
+        slots,
         frames,
         out,
         main,

@@ -12,26 +12,34 @@ ghost use Rattle.names.specs.Entries.{entries};
 ghost use Rattle.elaborate.specs.Counts.{Counted};
 ghost use Rattle.marks.specs.Places.{table, nameIn};
 ghost use Rattle.items.specs.Reach.{rangeSymbol};
+ghost use Rattle.items.specs.Tables.{Tables};
+ghost use Rattle.names.specs.Search.{Indexed};
 ghost use Rattle.elaborate.specs.Ends.{Ends, Last};
 
 // Writes the records of the tokens from `from` on, with the RANGE list's frame open and n the next variable's number.
 pub fn run(
-    text: &[u8],
     kinds: &[u8],
-    starts: &[u16],
-    lengths: &[u16],
-    numbers: &[u32],
+    ids: &[u16],
+    numbers: &[u64],
     list: &[u8],
+    heads: &[u16],
+    nexts: &[u16],
     counts: &[u64],
     symbols: &[u64],
+    slots: &[u16],
     frames: &mut [u64],
     out: &mut [u8],
     from: usize,
     at: usize,
     n: usize,
 ) -> End
-    requires { ⌜ (length (now kinds) < 4000) × (length (now kinds) < length (now frames)) × (from < 4003) × (n < 4000) × (at < 4611686018427387904) × Counted (now kinds) (now counts) ⌝ }
-    ensures { λ r. ⌜ Ends (now (text .entry)) (table (now (kinds .entry)) (now (starts .entry)) (now (lengths .entry)) (now (numbers .entry))) (entries (now (list .entry))) (map (rangeSymbol (nameIn (now (text .entry)) (now (kinds .entry)) (now (starts .entry)) (now (lengths .entry)))) (now (symbols .entry))) from at n (now (out .entry)) r (now (out .exit)) ⌝ }
+    requires { ⌜ (length (now kinds) < 4000) × (length (now kinds) < length (now frames)) × (from < 4003) × (n < 4000) × (at < 4611686018427387904)
+        × Counted (now kinds) (now counts) ⌝ }
+    requires { ⌜ (length (now nexts) ≤ 4096) × Indexed (now list) (now heads) (now nexts) ⌝ }
+    ensures { λ r. ⌜ ((text ss ls : List ℕ) → Tables (nameIn text (now (kinds .entry)) ss ls) (now (ids .entry)) (now (numbers .entry))
+        (now (symbols .entry)) (now (slots .entry)) → Ends text (table (now (kinds .entry)) ss ls (now (numbers .entry)))
+        (entries (now (list .entry))) (map (rangeSymbol (nameIn text (now (kinds .entry)) ss ls)) (now (symbols .entry))) from at n
+        (now (out .entry)) r (now (out .exit))) ⌝ }
     ensures { λ r. ⌜ Last at r ⌝ }
 {
     frames[0] = frames::pack(3, 0, 0, 0);
@@ -44,14 +52,15 @@ pub fn run(
     let mut i = from;
     while i < kinds.len() {
         let Next::Go(t) = turns::turn(
-            text,
             kinds,
-            starts,
-            lengths,
+            ids,
             numbers,
             list,
+            heads,
+            nexts,
             counts,
             symbols,
+            slots,
             frames,
             out,
             s,

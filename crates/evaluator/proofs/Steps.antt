@@ -18,7 +18,7 @@ use Rattle.model.specs.Search.{Search, search}
 use Rattle.model.proofs.Search.{search-found}
 use Rattle.model.proofs.Tests.{not-yes, not-no}
 use Rattle.model.specs.Syntax.{Condition, Term, TRUE, FALSE, NOT, AND, OR, COMPARE, SOME, CONSTANT, ATTRIBUTE, AGGREGATE}
-use Rattle.model.specs.Meaning.{Tuple, Assignment, Value, whole, signed, compare, aggregate}
+use Rattle.model.specs.Meaning.{Tuple, Assignment, Value, whole, signed, compare, aggregate, holdsWith}
 use Rattle.kinds.proofs.Record.{enum}
 use Rattle.kinds.specs.Tables.{recordLength}
 use Rattle.kinds.specs.Record.{recordAt}
@@ -30,33 +30,21 @@ use Rattle.numbers.proofs.Laws.{starts, continues, counts}
 use Rattle.catalogue.specs.Layout.{tupleAt}
 use Rattle.walks.specs.declared.Walk.{Walk}
 use Rattle.walks.specs.Walks.{walkOf, placeAt, walked, rowsBy, kept}
+use Rattle.walks.proofs.Assigned.{getD-inside, assigned-set}
 use Rattle.walks.proofs.Loops.{kept-start, kept-hit, kept-miss, kept-length}
 use Rattle.sizes.specs.Decode.{first, second, conditionBy, termBy, nothing, decode, decodeT}
 use Rattle.numbers.specs.Memo.{knows, recalled}
-use Rattle.evaluator.specs.Recalled.{holdsBy, valueBy}
-use Rattle.evaluator.specs.Evaluation.{assigned, holdsAt, valueAt, holdsOn, valuesOn}
-
--- within the list the default does not matter
-pub getD-inside : (xs : List ℕ) (i d f : ℕ) → i < length xs → getD xs i d ≡ getD xs i f
-getD-inside [] i d f h = absurd (omega arith)
-getD-inside (x ∷ xs) zero d f h = refl
-getD-inside (x ∷ xs) (suc i) d f h = getD-inside xs i d f (omega arith)
-
--- a variable's place set: the assignment with its tuple there
-pub assigned-set : (vs : List ℤ) (e : List ℕ) (v p : ℕ) → v < length e → assigned vs (set e v p) ≡ update (assigned vs e) v (tupleAt vs p)
-assigned-set vs e v p h = fun-ext λ w. go w (eqb w v) refl
-  where
-    go : (w : ℕ) (b : Bool) → eqb w v ≡ b → assigned vs (set e v p) w ≡ update (assigned vs e) v (tupleAt vs p) w
-    go w true k = rw k (ap (tupleAt vs) (ap (λ (i : ℕ). getD (set e v p) i (length vs)) (eqb-true w v k) ∙ getD-set-same e v p (length vs) h))
-    go w false k = rw k (ap (tupleAt vs) (getD-set-other e v w p (length vs) (eqb-false w v k)))
+use Rattle.numbers.specs.Recalled.{holdsBy, valueBy}
+use Rattle.evaluator.specs.Evaluation.{holdsAt, valueAt, holdsOn, valuesOn}
+use Rattle.walks.specs.Assigned.{assigned}
 
 module _ (ws : List ℕ) (vs m : List ℤ) (e q z : List ℕ) where
   pub holds-zero : (l : ℕ) → l ≡ 0 → false ≡ holdsAt l q z ws vs m e
-  unfolding holdsAt decode holdsBy
+  unfolding holdsAt decode holdsWith
   holds-zero l h = rw h
 
   pub value-zero : (l : ℕ) → l ≡ 0 → some (whole (pos 0)) ≡ valueAt l q z ws vs m e
-  unfolding valueAt decode holdsBy signed
+  unfolding valueAt decode holdsWith signed
   value-zero l h = rw h
 
   -- by the record that q starts with
@@ -78,12 +66,12 @@ module _ (ws : List ℕ) (vs m : List ℤ) (e q z : List ℕ) where
     at-first = ea ∙ ap recordLength ek
 
     pub true-is : r ≡ R.True → true ≡ holdsAt l q z ws vs m e
-    unfolding holdsBy
+    unfolding holdsWith
     true-is h = holds-is l R.True nz (sym h ∙ er)
 
     -- an aggregate that the memo knows
     pub known-is : (f v r′ t : ℕ) (u : Value) (b : Bool) → r ≡ R.Aggregate f v r′ t → b ≡ knows m v → b ≡ true → u ≡ recalled m v → u ≡ valueAt l q z ws vs m e
-    unfolding holdsBy
+    unfolding holdsWith
     known-is f v r′ t u b h ek f′ eu = let g = sym ek ∙ f′ in eu ∙ sym (rw g) ∙ value-is l (R.Aggregate f v r′ t) nz (sym h ∙ er)
 
     module _ (x y : List ℕ) (ex : x ≡ drop a q) (ey : y ≡ drop a z) where
@@ -96,25 +84,25 @@ module _ (ws : List ℕ) (vs m : List ℤ) (e q z : List ℕ) where
       childT = ap₂ (λ (u w : List ℕ). valueBy m (decodeT (l - 1) u w) (rowsBy ws vs) (assigned vs e)) (ex ∙ ap (λ n. drop n q) at-first) (ey ∙ ap (λ n. drop n z) at-first)
 
       pub not-is : (b : Bool) → r ≡ R.Not → b ≡ holdsAt (l - 1) x y ws vs m e → not b ≡ holdsAt l q z ws vs m e
-      unfolding holdsBy
+      unfolding holdsWith
       not-is b h eb = ap not (eb ∙ child) ∙ holds-is l R.Not nz (sym h ∙ er)
 
       pub and-no : (b : Bool) → r ≡ R.And → b ≡ holdsAt (l - 1) x y ws vs m e → not b ≡ true → false ≡ holdsAt l q z ws vs m e
-      unfolding holdsBy
+      unfolding holdsWith
       and-no b h eb f = let g = sym child ∙ sym eb ∙ not-yes b f in sym (rw g) ∙ holds-is l R.And nz (sym h ∙ er)
 
       pub or-yes : (b : Bool) → r ≡ R.Or → b ≡ holdsAt (l - 1) x y ws vs m e → b ≡ true → true ≡ holdsAt l q z ws vs m e
-      unfolding holdsBy
+      unfolding holdsWith
       or-yes b h eb f = let g = sym child ∙ sym eb ∙ f in sym (rw g) ∙ holds-is l R.Or nz (sym h ∙ er)
 
       pub some-is : (v r′ : ℕ) (b : Bool) (n : ℕ) → r ≡ R.Some v r′ → record { found = b; tried = n } ≡ search (holdsOn (l - 1) x y ws vs m e v) (walked ws vs v) → b ≡ holdsAt l q z ws vs m e
-      unfolding holdsBy holdsOn
+      unfolding holdsWith holdsOn
       some-is v r′ b n h eb =
           ap (λ (s : Search). s .found) eb ∙ search-found (holdsOn (l - 1) x y ws vs m e v) (walked ws vs v) ∙ ap₂ (λ (u w : List ℕ). any (λ t. holdsBy m (decode (l - 1) u w) (rowsBy ws vs) (update (assigned vs e) v t)) (walked ws vs v)) (ex ∙ ap (λ n. drop n q) at-first) (ey ∙ ap (λ n. drop n z) at-first)
           ∙ holds-is l (R.Some v r′) nz (sym h ∙ er)
 
       pub aggregate-is : (f v r′ t : ℕ) (u : Value) (b : Bool) → r ≡ R.Aggregate f v r′ t → b ≡ knows m v → b ≡ false → u ≡ aggregate f (valuesOn (l - 1) x y ws vs m e v t) → u ≡ valueAt l q z ws vs m e
-      unfolding holdsBy holdsOn valuesOn
+      unfolding holdsWith holdsOn valuesOn
       aggregate-is f v r′ t u b h ek f′ eu =
           let g = sym ek ∙ f′ in
           eu ∙ ap₂ (λ (i w : List ℕ). aggregate f (map (λ (s : Tuple). s t) (filter (λ s. holdsBy m (decode (l - 1) i w) (rowsBy ws vs) (update (assigned vs e) v s)) (walked ws vs v)))) (ex ∙ ap (λ n. drop n q) at-first) (ey ∙ ap (λ n. drop n z) at-first)
@@ -134,28 +122,28 @@ module _ (ws : List ℕ) (vs m : List ℤ) (e q z : List ℕ) where
         nextT = ap₂ (λ (i n : List ℕ). valueBy m (decodeT (l - 1) i n) (rowsBy ws vs) (assigned vs e)) (eu ∙ ap (λ n. drop n q) at-second) (ew ∙ ap (λ n. drop n z) at-second)
 
         pub and-yes : (c d : Bool) (e₁ : List ℕ) → r ≡ R.And → c ≡ holdsAt (l - 1) x y ws vs m e → not c ≡ false → e₁ ≡ e → d ≡ holdsAt (l - 1) u w ws vs m e₁ → d ≡ holdsAt l q z ws vs m e
-        unfolding holdsBy
+        unfolding holdsWith
         and-yes c d e₁ h ec f ee ed =
             let g = sym child ∙ sym ec ∙ not-no c f in
             ed ∙ ap (holdsAt (l - 1) u w ws vs m) ee ∙ next ∙ sym (rw g) ∙ holds-is l R.And nz (sym h ∙ er)
 
         pub or-no : (c d : Bool) (e₁ : List ℕ) → r ≡ R.Or → c ≡ holdsAt (l - 1) x y ws vs m e → c ≡ false → e₁ ≡ e → d ≡ holdsAt (l - 1) u w ws vs m e₁ → d ≡ holdsAt l q z ws vs m e
-        unfolding holdsBy
+        unfolding holdsWith
         or-no c d e₁ h ec f ee ed =
             let g = sym child ∙ sym ec ∙ f in
             ed ∙ ap (holdsAt (l - 1) u w ws vs m) ee ∙ next ∙ sym (rw g) ∙ holds-is l R.Or nz (sym h ∙ er)
 
         pub compare-is : (o : ℕ) (c d : Value) (e₁ : List ℕ) (t : Bool) → r ≡ R.Compare o → c ≡ valueAt (l - 1) x y ws vs m e → e₁ ≡ e → d ≡ valueAt (l - 1) u w ws vs m e₁ → t ≡ compare o c d → t ≡ holdsAt l q z ws vs m e
-        unfolding holdsBy
+        unfolding holdsWith
         compare-is o c d e₁ t h ec ee ed et =
             et ∙ ap₂ (compare o) (ec ∙ childT) (ed ∙ ap (valueAt (l - 1) u w ws vs m) ee ∙ nextT) ∙ holds-is l (R.Compare o) nz (sym h ∙ er)
 
   pub constant-is : (l a b c d : ℕ) (r : Record) (t : ℤ) → (l ≡ 0 → ⊥) → r ≡ recordAt q → r ≡ R.Constant a b c d → t ≡ signed a b c d → some (whole t) ≡ valueAt l q z ws vs m e
-  unfolding holdsBy
+  unfolding holdsWith
   constant-is l a b c d r t nz er h et = ap (λ (y : ℤ). some (whole y)) et ∙ value-is l (R.Constant a b c d) nz (sym h ∙ er)
 
   pub attribute-is : (l v a p : ℕ) (r : Record) (t : ℤ) → (l ≡ 0 → ⊥) → r ≡ recordAt q → r ≡ R.Attribute v a → v < length e → p ≡ getD e v 0 → t ≡ getD vs (p + a) (pos 0) → some (whole t) ≡ valueAt l q z ws vs m e
-  unfolding holdsBy
+  unfolding holdsWith
   attribute-is l v a p r t nz er h hv ep et = ap (λ (y : ℤ). some (whole y)) (et ∙ ap (λ n. getD vs (n + a) (pos 0)) (ep ∙ getD-inside e v 0 (length vs) hv)) ∙ value-is l (R.Attribute v a) nz (sym h ∙ er)
 
 -- other records are no condition, and no term
@@ -193,11 +181,11 @@ rest-term f q z R.Short h = refl
 
 module _ (ws : List ℕ) (vs m : List ℤ) (e q z : List ℕ) (l : ℕ) (r : Record) (nz : l ≡ 0 → ⊥) (er : r ≡ recordAt q) where
   pub no-condition : OneOf (0 ∷ 2 ∷ 8 ∷ 9 ∷ 10 ∷ 11 ∷ 12 ∷ 13 ∷ []) (tagOf (declared enum) r) → false ≡ holdsAt l q z ws vs m e
-  unfolding holdsBy
+  unfolding holdsWith
   no-condition h = sym (ap (λ (c : Condition). holdsBy m c (rowsBy ws vs) (assigned vs e)) (rest-condition (λ x y. decode (l - 1) x y) (λ x y. decodeT (l - 1) x y) q z r h)) ∙ holds-is ws vs m e q z l r nz er
 
   pub no-term : OneOf (0 ∷ 1 ∷ 2 ∷ 3 ∷ 4 ∷ 5 ∷ 6 ∷ 7 ∷ 11 ∷ 12 ∷ 13 ∷ []) (tagOf (declared enum) r) → some (whole (pos 0)) ≡ valueAt l q z ws vs m e
-  unfolding holdsBy signed
+  unfolding holdsWith signed
   no-term h = sym (ap (λ (t : Term). valueBy m t (rowsBy ws vs) (assigned vs e)) (rest-term (λ x y. decode (l - 1) x y) q z r h)) ∙ value-is ws vs m e q z l r nz er
 
 -- the places: the variable's own is put back at the end, so a loop keeps what they are with the old one back

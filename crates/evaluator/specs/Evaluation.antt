@@ -7,13 +7,10 @@ use lib.ListN.{length, getD}
 use Rattle.model.specs.Lists.{update, filter}
 use Rattle.model.specs.Meaning.{Tuple, Assignment, Value}
 use Rattle.catalogue.specs.Layout.{tupleAt}
+use Rattle.walks.specs.Assigned.{assigned}
 use Rattle.walks.specs.Walks.{walked, rowsBy}
 use Rattle.sizes.specs.Decode.{decode, decodeT}
-use Rattle.evaluator.specs.Recalled.{holdsBy, valueBy}
-
--- the assignment that the places stand for; a place past the values is an unbound variable's
-abbrev pub assigned : List ℤ → List ℕ → Assignment
-assigned vs e v = tupleAt vs (getD e v (length vs))
+use Rattle.numbers.specs.Recalled.{holdsBy, valueBy}
 
 -- the bytes q with the table of sizes z, read down to level l
 unfoldable pub holdsAt : ℕ → List ℕ → List ℕ → List ℕ → List ℤ → List ℤ → List ℕ → Bool

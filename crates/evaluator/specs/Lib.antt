@@ -1,2 +1,1 @@
-pub mod Recalled
 pub mod Evaluation

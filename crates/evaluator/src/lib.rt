@@ -101,7 +101,8 @@ pub fn term(
     env: &mut [usize],
 ) -> Ratio
     requires { ⌜ 256 ≤ length (now env) ⌝ }
-    ensures { λ r. ⌜ valueOf r ≡ valueAt level (now (q .entry)) (now (z .entry)) (now (walks .entry)) (now (vs .entry)) (now (memo .entry)) (now (env .entry)) ⌝ }
+    ensures { λ r. ⌜ valueOf r ≡ valueAt level (now (q .entry)) (now (z .entry)) (now (walks .entry)) (now (vs .entry)) (now (memo .entry))
+        (now (env .entry)) ⌝ }
     ensures { λ r. ⌜ Small r ⌝ }
     ensures { λ _. ⌜ now (env .exit) ≡ now (env .entry) ⌝ }
 {
@@ -141,7 +142,9 @@ fn some_row(
     variable: u8,
 ) -> Search
     requires { ⌜ 256 ≤ length (now env) ⌝ }
-    ensures { λ r. ⌜ record { found = r .found; tried = r .tried } ≡ search (holdsOn level (now (q .entry)) (now (z .entry)) (now (walks .entry)) (now (vs .entry)) (now (memo .entry)) (now (env .entry)) variable) (walked (now (walks .entry)) (now (vs .entry)) variable) ⌝ }
+    ensures { λ r. ⌜ record { found = r .found; tried = r .tried } ≡ search
+        (holdsOn level (now (q .entry)) (now (z .entry)) (now (walks .entry)) (now (vs .entry)) (now (memo .entry)) (now (env .entry)) variable)
+        (walked (now (walks .entry)) (now (vs .entry)) variable) ⌝ }
     ensures { λ _. ⌜ now (env .exit) ≡ now (env .entry) ⌝ }
 {
     let walk = walks::walk_of(walks, variable);
@@ -177,7 +180,8 @@ fn gather(
     attribute: u8,
 ) -> Accumulator
     requires { ⌜ 256 ≤ length (now env) ⌝ }
-    ensures { λ r. ⌜ Accumulates r (valuesOn level (now (q .entry)) (now (z .entry)) (now (walks .entry)) (now (vs .entry)) (now (memo .entry)) (now (env .entry)) variable attribute) ⌝ }
+    ensures { λ r. ⌜ Accumulates r (valuesOn level (now (q .entry)) (now (z .entry)) (now (walks .entry)) (now (vs .entry)) (now (memo .entry))
+        (now (env .entry)) variable attribute) ⌝ }
     ensures { λ r. ⌜ r .count ≤ 65535 ⌝ }
     ensures { λ _. ⌜ now (env .exit) ≡ now (env .entry) ⌝ }
 {

@@ -9,9 +9,10 @@ use lib.Dec.{eqb}
 use lib.ListN.{length, getD, drop, length-drop}
 use lib.Seq.{drop-drop, getD-drop}
 use Rattle.model.specs.Kinds.{k-range, kindOf, find}
+use Rattle.model.proofs.Lists.{first-at}
 use Rattle.model.specs.Syntax.{Binding, Term, CONSTANT, ATTRIBUTE, AGGREGATE}
 use Rattle.model.specs.Encoding.{Read, fail, ok, then, encodeRanges, encodeTargets, encodeT, readTerm, startsRange, startsTarget, readRanges, readTargets}
-use Rattle.model.proofs.Sizes.{sizeT, sizeTs, size-ranges, size-targets, size}
+use Rattle.model.proofs.Sizes.{sizeT, sizeTs, size-ranges, size-targets, size, drop-encodeT, drop-ranges}
 use Rattle.model.proofs.ReadingQueries.{ranges-inv, targets-inv}
 use Rattle.kinds.specs.Tables.{recordLength, ofKind}
 use Rattle.kinds.specs.Record.{recordAt}
@@ -24,7 +25,7 @@ use Rattle.grammar.specs.declared.Part.{Part}
 use Rattle.grammar.specs.declared.Part.the-variants as P
 use Rattle.grammar.specs.Sizes.{termSize}
 use Rattle.grammar.specs.Shapes.{isTarget, partRead, rangesPart, targetsPart}
-use Rattle.grammar.proofs.Reader.{took-term, sized, term-sized, same, drop-encodeT}
+use Rattle.grammar.proofs.Reader.{took-term, sized, term-sized, same}
 
 -- a part after n others that took a bytes
 abbrev pub beyond : ℕ → ℕ → Part → Part
@@ -40,11 +41,6 @@ beyond-zero (P.Read m b) = ap₂ P.Read (omega arith) (omega arith)
 beyond-zero P.Refused = refl
 
 -- RANGE records: bytes, rest, bound
-pub drop-ranges : (bs : List Binding) (r : List ℕ) → drop (3 * length bs) (encodeRanges bs r) ≡ r
-unfolding encodeRanges
-drop-ranges [] r = refl
-drop-ranges (b ∷ bs) r = let e : 3 * suc (length bs) ≡ suc (suc (suc (3 * length bs))) = omega arith in ap (λ n. drop n (1 ∷ b .variable ∷ b .relation ∷ encodeRanges bs r)) e ∙ drop-ranges bs r
-
 pub took-ranges : (f : ℕ) (q : List ℕ) (bs : List Binding) (r : List ℕ) → readRanges f q ≡ ok bs r → (length q ≡ 3 * length bs + length r) × (r ≡ drop (3 * length bs) q)
 took-ranges f q bs r h =
     let e = ranges-inv f q bs r h in
@@ -173,9 +169,6 @@ targets-more q h = rw (starts-target q ∙ h, readTargets, term-sized (length q)
         rw (← i .rest, targets-same (length q) (suc (length u)) u (omega (arith, term-some t)) (omega arith)) (all t u l (readTargets (suc (length u)) u) refl)
 
 -- the loops: what is left decides
-first-of : (q : List ℕ) (at : ℕ) → getD (drop at q) 0 0 ≡ getD q at 0
-first-of q at = getD-drop at q 0 0 ∙ ap (λ i. getD q i 0) (omega arith)
-
 pub begins : (f : List ℕ → Part) (q : List ℕ) → beyond 0 0 (f (drop 0 q)) ≡ f q
 begins f q = beyond-zero (f q)
 
@@ -185,11 +178,11 @@ ends at n s w e inv = ap₂ P.Read (omega arith) (omega arith) ∙ ap (beyond n 
 module _ (q : List ℕ) (at n : ℕ) (w : Part) (k : ℕ) (ek : k ≡ getD q at 0) where
   module _ (inv : beyond n at (rangesPart (drop at q)) ≡ w) where
     pub range-end : (k ≡ 1 → ⊥) → P.Read n at ≡ w
-    range-end h = ends at n (rangesPart (drop at q)) w (ranges-none (drop at q) (λ e. h (ek ∙ sym (first-of q at) ∙ e))) inv
+    range-end h = ends at n (rangesPart (drop at q)) w (ranges-none (drop at q) (λ e. h (ek ∙ sym (first-at at q) ∙ e))) inv
 
     module _ (h : k ≡ 1) (x : List ℕ) (r : Record) (ex : x ≡ drop at q) (er : r ≡ recordAt x) where
       one : getD (drop at q) 0 0 ≡ 1
-      one = first-of q at ∙ sym ek ∙ h
+      one = first-at at q ∙ sym ek ∙ h
 
       pub range-cut : ((v y : ℕ) → r ≡ R.Range v y → ⊥) → P.Refused ≡ w
       range-cut f = ap (beyond n at) (ranges-cut (drop at q) one (λ v y e. f v y (er ∙ ap recordAt ex ∙ e))) ∙ inv
@@ -208,7 +201,7 @@ module _ (q : List ℕ) (at n : ℕ) (w : Part) (k : ℕ) (ek : k ≡ getD q at 
 
   module _ (inv : beyond n at (targetsPart (drop at q)) ≡ w) (b : Bool) (eb : b ≡ isTarget k) where
     tests : isTarget (getD (drop at q) 0 0) ≡ b
-    tests = ap isTarget (first-of q at ∙ sym ek) ∙ sym eb
+    tests = ap isTarget (first-at at q ∙ sym ek) ∙ sym eb
 
     pub target-end : b ≡ false → P.Read n at ≡ w
     target-end h = ends at n (targetsPart (drop at q)) w (targets-none (drop at q) (tests ∙ h)) inv

@@ -9,41 +9,10 @@ use lib.Seq.{drop-drop}
 use Rattle.model.specs.Syntax.{Condition, Term, TRUE, FALSE, NOT, AND, OR, COMPARE, SOME, CONSTANT, ATTRIBUTE, AGGREGATE, WellFormed, WellFormedT}
 use Rattle.model.specs.Encoding.{encode, encodeT, Read, fail, ok, need, readCondition, readTerm}
 use Rattle.model.proofs.Reading.{read-encode, read-encodeT, read-inverse, read-inverseT, never}
-use Rattle.model.proofs.Sizes.{size, sizeT, size-encode, size-encodeT, levels-size, levels-sizeT}
+use Rattle.model.proofs.Sizes.{size, sizeT, size-encode, size-encodeT, levels-size, levels-sizeT, drop-encode, drop-encodeT}
 use Rattle.grammar.specs.declared.Size.{Size}
 use Rattle.grammar.specs.declared.Size.the-variants.{Bytes, Refused}
 use Rattle.grammar.specs.Sizes.{sizeRead, conditionSize, termSize}
-
--- a condition's bytes dropped
-mutual
-  unfolding size encode
-
-  pub drop-encode : (c : Condition) (r : List ℕ) → drop (size c) (encode c r) ≡ r
-  drop-encode TRUE r = refl
-  drop-encode FALSE r = refl
-  drop-encode (NOT c) r = drop-encode c r
-  drop-encode (AND c d) r = sym (drop-drop (size d) (size c) (encode c (encode d r))) ∙ ap (drop (size d)) (drop-encode c (encode d r)) ∙ drop-encode d r
-  drop-encode (OR c d) r = sym (drop-drop (size d) (size c) (encode c (encode d r))) ∙ ap (drop (size d)) (drop-encode c (encode d r)) ∙ drop-encode d r
-  drop-encode (COMPARE o s t) r =
-      ap (λ n. drop n (21 ∷ o ∷ encodeT s (encodeT t r))) (two (sizeT s + sizeT t))
-      ∙ sym (drop-drop (sizeT t) (sizeT s) (encodeT s (encodeT t r)))
-      ∙ ap (drop (sizeT t)) (drop-encodeT s (encodeT t r))
-      ∙ drop-encodeT t r
-    where
-      two : (n : ℕ) → 2 + n ≡ suc (suc n)
-      two n = omega arith
-  drop-encode (SOME v q c) r = ap (λ n. drop n (22 ∷ v ∷ q ∷ encode c r)) (three (size c)) ∙ drop-encode c r
-    where
-      three : (n : ℕ) → 3 + n ≡ suc (suc (suc n))
-      three n = omega arith
-
-  pub drop-encodeT : (t : Term) (r : List ℕ) → drop (sizeT t) (encodeT t r) ≡ r
-  drop-encodeT (CONSTANT a b c d) r = refl
-  drop-encodeT (ATTRIBUTE v a) r = refl
-  drop-encodeT (AGGREGATE f v q a c) r = ap (λ n. drop n (34 ∷ f ∷ v ∷ q ∷ a ∷ encode c r)) (five (size c)) ∙ drop-encode c r
-    where
-      five : (n : ℕ) → 5 + n ≡ suc (suc (suc (suc (suc n))))
-      five n = omega arith
 
 -- cut short after a test
 pub cut-short : {A : Type 0} (b : Bool) → need {B = A} b fail ≡ fail

@@ -11,7 +11,7 @@ use lib.Seq.{drop-drop}
 use Rattle.model.specs.Syntax.{Binding, Condition, TRUE, Term, Query}
 use Rattle.model.specs.Encoding.{Read, fail, ok, then, need, atEnd, readOr, queryOf, encode, encodeTargets, encodeRanges, encodeQuery, readCondition, readRanges, readTargets, readQuery, failed}
 use Rattle.model.specs.Checks.{Limits, fails30}
-use Rattle.model.proofs.Sizes.{size, sizeTs, size-targets}
+use Rattle.model.proofs.Sizes.{size, sizeTs, size-targets, drop-ranges}
 use Rattle.model.proofs.ReadingQueries.{query-inverse}
 use Rattle.grammar.specs.declared.Size.{Size}
 use Rattle.grammar.specs.declared.Size.the-variants.{Bytes, Refused}
@@ -24,7 +24,7 @@ use Rattle.grammar.specs.Sizes.{conditionSize}
 use Rattle.grammar.specs.Shapes.{partRead, rangesPart, targetsPart, layout, shapeRead, shapeOf, shapeWithin, fails30At, numberOf}
 use Rattle.grammar.proofs.Reader.{took-condition, sized, condition-sized}
 use Rattle.grammar.proofs.Bounds.{condition-within}
-use Rattle.grammar.proofs.Parts.{drop-ranges, drop-targets, took-ranges, took-targets, targets-same}
+use Rattle.grammar.proofs.Parts.{drop-targets, took-ranges, took-targets, targets-same}
 
 abbrev pub laid : ℕ → ℕ → ℕ → ℕ → Layout
 laid n m a b = record { ranges = n; targets = m; first = a; condition = a + b }

@@ -58,7 +58,9 @@ fn answer_many(
     answer: &mut [i64],
 ) -> plain::Reply
     requires { ⌜ Answerable layout 32 (now query) (now z) (now catalogue) × Bound (now catalogue) (now query) ⌝ }
-    ensures { λ r. ⌜ answerOf r (now (answer .exit)) ≡ give (length (queryOf (now (query .entry)) .targets)) (answers (queryOf (now (query .entry))) (givenRows (now (catalogue .entry)) (now (values .entry)) (now (list .entry)) (now (places .entry)) (now (masks .entry)))) (now (answer .entry)) ⌝ }
+    ensures { λ r. ⌜ answerOf r (now (answer .exit)) ≡ give (length (queryOf (now (query .entry)) .targets))
+        (answers (queryOf (now (query .entry))) (givenRows (now (catalogue .entry)) (now (values .entry)) (now (list .entry))
+        (now (places .entry)) (now (masks .entry)))) (now (answer .entry)) ⌝ }
 {
     let mut walks = [0u16; 8256];
     permitted::fill(query, list, places, masks, catalogue, values, &mut walks);
@@ -77,8 +79,11 @@ fn answer_few(
     masks: &[u8],
     answer: &mut [i64],
 ) -> plain::Reply
-    requires { ⌜ Answerable layout 32 (now query) (now z) (now catalogue) × Bound (now catalogue) (now query) × (all (tiny (now catalogue)) (flatBindings (now query)) ≡ true) ⌝ }
-    ensures { λ r. ⌜ answerOf r (now (answer .exit)) ≡ give (length (queryOf (now (query .entry)) .targets)) (answers (queryOf (now (query .entry))) (givenRows (now (catalogue .entry)) (now (values .entry)) (now (list .entry)) (now (places .entry)) (now (masks .entry)))) (now (answer .entry)) ⌝ }
+    requires { ⌜ Answerable layout 32 (now query) (now z) (now catalogue) × Bound (now catalogue) (now query)
+        × (all (tiny (now catalogue)) (flatBindings (now query)) ≡ true) ⌝ }
+    ensures { λ r. ⌜ answerOf r (now (answer .exit)) ≡ give (length (queryOf (now (query .entry)) .targets))
+        (answers (queryOf (now (query .entry))) (givenRows (now (catalogue .entry)) (now (values .entry)) (now (list .entry))
+        (now (places .entry)) (now (masks .entry)))) (now (answer .entry)) ⌝ }
 {
     let mut walks = [0u16; 192];
     permitted::fill(query, list, places, masks, catalogue, values, &mut walks);
@@ -97,7 +102,9 @@ fn answer_permitted(
     answer: &mut [i64],
 ) -> plain::Reply
     requires { ⌜ Answerable layout 32 (now query) (now z) (now catalogue) × Bound (now catalogue) (now query) ⌝ }
-    ensures { λ r. ⌜ answerOf r (now (answer .exit)) ≡ give (length (queryOf (now (query .entry)) .targets)) (answers (queryOf (now (query .entry))) (givenRows (now (catalogue .entry)) (now (values .entry)) (now (list .entry)) (now (places .entry)) (now (masks .entry)))) (now (answer .entry)) ⌝ }
+    ensures { λ r. ⌜ answerOf r (now (answer .exit)) ≡ give (length (queryOf (now (query .entry)) .targets))
+        (answers (queryOf (now (query .entry))) (givenRows (now (catalogue .entry)) (now (values .entry)) (now (list .entry))
+        (now (places .entry)) (now (masks .entry)))) (now (answer .entry)) ⌝ }
 {
     if permitted::few(query, catalogue) {
         return answer_few(
@@ -138,7 +145,8 @@ fn answer_query(
     answer: &mut [i64],
 ) -> Reply
     requires { ⌜ Checks32 layout (now catalogue) (now values) (now list) (now query) (now z) ⌝ }
-    ensures { λ r. ⌜ outcomeOf r (now (answer .exit)) (now (rewritten .exit)) ≡ ask (now (catalogue .entry)) (now (values .entry)) (now (list .entry)) (now (query .entry)) (now (rewritten .entry)) (now (answer .entry)) ⌝ }
+    ensures { λ r. ⌜ outcomeOf r (now (answer .exit)) (now (rewritten .exit))
+        ≡ ask (now (catalogue .entry)) (now (values .entry)) (now (list .entry)) (now (query .entry)) (now (rewritten .entry)) (now (answer .entry)) ⌝ }
 {
     let mut places = [0usize; 16];
     let mut masks = [0u8; 256];
@@ -182,7 +190,8 @@ fn ask_with(
     answer: &mut [i64],
 ) -> Reply
     requires { ⌜ 1024 ≤ length (now z) ⌝ }
-    ensures { λ r. ⌜ outcomeOf r (now (answer .exit)) (now (rewritten .exit)) ≡ ask (now (catalogue .entry)) (now (values .entry)) (now (list .entry)) (now (query .entry)) (now (rewritten .entry)) (now (answer .entry)) ⌝ }
+    ensures { λ r. ⌜ outcomeOf r (now (answer .exit)) (now (rewritten .exit))
+        ≡ ask (now (catalogue .entry)) (now (values .entry)) (now (list .entry)) (now (query .entry)) (now (rewritten .entry)) (now (answer .entry)) ⌝ }
 {
     let kept = catalogue::check(catalogue, values);
     if kept != 0 {
@@ -214,7 +223,8 @@ pub fn ask(
     rewritten: &mut [u8],
     answer: &mut [i64],
 ) -> Reply
-    ensures { λ r. ⌜ outcomeOf r (now (answer .exit)) (now (rewritten .exit)) ≡ ask (now (catalogue .entry)) (now (values .entry)) (now (list .entry)) (now (query .entry)) (now (rewritten .entry)) (now (answer .entry)) ⌝ }
+    ensures { λ r. ⌜ outcomeOf r (now (answer .exit)) (now (rewritten .exit))
+        ≡ ask (now (catalogue .entry)) (now (values .entry)) (now (list .entry)) (now (query .entry)) (now (rewritten .entry)) (now (answer .entry)) ⌝ }
 {
     let mut z = [0u16; 1024];
     ask_with(&mut z, catalogue, values, list, query, rewritten, answer)

@@ -26,7 +26,7 @@ use Rattle.scans.specs.declared.Bound.the-variants.{To, Nothing}
 use Rattle.scans.proofs.Walk.{flat-end}
 use Rattle.scans.proofs.Loops.{bindings-on}
 use Rattle.permits.specs.Applying.{appliesTo, barsFrom, usedBytes}
-use Rattle.permits.proofs.Finds.{applies-same, bars-same}
+use Rattle.guards.proofs.applying.Finds.{applies-same, bars-same}
 use Rattle.guards.specs.Filled.{placedFrom, verdictOf, maskUnlessBarred, maskFor, masked, bitOf}
 use Rattle.guards.specs.declared.Verdict.{Verdict}
 use Rattle.guards.specs.Counted.{servedBy, turnLength, lengthFrom, lengthBy}

@@ -1,5 +1,8 @@
 // What the rewriter is lent: where each permit's condition stands, and for each variable a mask of its applying permits.
 // Check 33 and the length of the rewritten query are read from the same tables, so that permits are applied once.
+mod applying;
+mod uses;
+
 use scans::Bound;
 ghost use mathlib.Core.Path.{_≡_};
 ghost use mathlib.Core.Bool.{_||_};
@@ -39,7 +42,7 @@ pub fn fill_places(list: &[u8], at: usize, k: usize, left: usize, places: &mut [
     }
     let rest = kinds::tail(list, at);
     put_place(places, 2 * k, at + 4);
-    let n = permits::size(rest);
+    let n = applying::size(rest);
     put_place(places, 2 * k + 1, n - 4);
     fill_places(list, at + n, k + 1, left - 1, places);
 }
@@ -74,10 +77,10 @@ fn standing(list: &[u8], left: u8, relation: u8, used: u16) -> Verdict
             barred: false,
         };
     }
-    let first = one_if(permits::applies(list, relation, used));
-    let bars = permits::bars(list, relation, used);
+    let first = one_if(applying::applies(list, relation, used));
+    let bars = applying::bars(list, relation, used);
     let rest = standing(
-        kinds::tail(list, permits::size(list)),
+        kinds::tail(list, applying::size(list)),
         left - 1,
         relation,
         used,
@@ -104,7 +107,7 @@ fn mask_for(query: &[u8], list: &[u8], catalogue: &[u8], variable: u8, relation:
     if !catalogue::stored(catalogue, relation) {
         return 0;
     }
-    let found = standing(list, 8, relation, scans::used_mask(query, variable));
+    let found = standing(list, 8, relation, uses::used_mask(query, variable));
     if found.barred {
         return 0;
     }
@@ -126,7 +129,8 @@ fn fill_mask(query: &[u8], list: &[u8], catalogue: &[u8], b: Bound, masks: &mut 
 
 // The masks of all variables that the query binds.
 pub fn fill_masks(query: &[u8], list: &[u8], catalogue: &[u8], masks: &mut [u8])
-    ensures { λ _. ⌜ now (masks .exit) ≡ masked (now (query .entry)) (now (list .entry)) (now (catalogue .entry)) (flatBindings (now (query .entry))) (now (masks .entry)) ⌝ }
+    ensures { λ _. ⌜ now (masks .exit) ≡ masked (now (query .entry)) (now (list .entry)) (now (catalogue .entry)) (flatBindings (now (query .entry)))
+        (now (masks .entry)) ⌝ }
 {
     let mut at = 0;
     while at < query.len() {

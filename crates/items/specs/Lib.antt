@@ -1,3 +1,4 @@
 pub mod Actions
 pub mod Puts
 pub mod Reach
+pub mod Tables

@@ -1,15 +1,15 @@
 // Which symbol a name stands for, where it stands.
 ghost use mathlib.Core.Path.{_≡_};
 ghost use mathlib.Core.Bool.{true, false, cond, not, _&&_};
-ghost use mathlib.Core.List.{map};
-ghost use Prim.Native.Nat.{_<_};
+ghost use mathlib.Core.List.{List, map};
+ghost use Prim.Native.Nat.{ℕ, _<_};
 ghost use lib.Dec.{eqb};
 ghost use lib.ListN.{getD};
-ghost use Rattle.quel.specs.Results.{sameWord};
+ghost use Rattle.quel.specs.Results.{Word, sameWord};
 ghost use Rattle.quel.specs.Elaboration.{symbolIn};
 ghost use Rattle.quel.specs.Writing.{inner};
-ghost use Rattle.marks.specs.Places.{nameIn};
 ghost use Rattle.items.specs.Reach.{modeIn, relationIn, variableIn, placeIn, rangeSymbol, reaches, knownBy, knownOf, hide};
+ghost use Rattle.items.specs.Tables.{Same, Tables};
 ghost use Rattle.items.specs.declared.reach.Known.the-variants as K;
 
 // A symbol's relation and variable, or its relation alone, or no symbol.
@@ -31,7 +31,7 @@ fn variable(c: u64) -> u8
     (c / 1024 % 256) as u8
 }
 
-fn entry(frames: &[u64], i: usize) -> u64
+pub(crate) fn entry(frames: &[u64], i: usize) -> u64
     ensures { λ r. ⌜ r ≡ getD (now (frames .entry)) i 0 ⌝ }
 {
     if i < frames.len() { frames[i] } else { 0 }
@@ -48,25 +48,15 @@ fn listed(c: u64) -> Known
 }
 
 // The name at x among the symbols of the RANGE list.
-fn seek_listed(
-    text: &[u8],
-    kinds: &[u8],
-    starts: &[u16],
-    lengths: &[u16],
-    symbols: &[u64],
-    x: usize,
-) -> Known
-    ensures { λ r. ⌜ r ≡ knownOf (symbolIn (nameIn (now (text .entry)) (now (kinds .entry)) (now (starts .entry)) (now (lengths .entry)) x) (map (rangeSymbol (nameIn (now (text .entry)) (now (kinds .entry)) (now (starts .entry)) (now (lengths .entry)))) (now (symbols .entry)))) ⌝ }
+fn seek_listed(ids: &[u16], symbols: &[u64], slots: &[u16], x: usize) -> Known
+    ensures { λ r. ⌜ ((w : ℕ → Word) (numbers : List ℕ) → Tables w (now (ids .entry)) numbers (now (symbols .entry)) (now (slots .entry)) → r
+        ≡ knownOf (symbolIn (w x) (map (rangeSymbol w) (now (symbols .entry))))) ⌝ }
 {
-    let mut i = 0;
-    while i < symbols.len() {
-        let c = symbols[i];
-        if marks::same_names(text, kinds, starts, lengths, (c / 262144) as usize, x) {
-            return listed(c);
-        }
-        i += 1;
+    let k = kinds::size_at(slots, kinds::size_at(ids, x));
+    if k == 0 {
+        return Known::Nothing;
     }
-    Known::Nothing
+    listed(entry(symbols, k - 1))
 }
 
 fn hidden(k: Known, crossed: bool) -> Known
@@ -83,13 +73,13 @@ fn hidden(k: Known, crossed: bool) -> Known
 }
 
 // Whether a frame binds the name at x.
-fn hits(text: &[u8], kinds: &[u8], starts: &[u16], lengths: &[u16], c: u64, x: usize) -> bool
-    ensures { λ r. ⌜ r ≡ not (eqb (modeIn c) 0) && sameWord (nameIn (now (text .entry)) (now (kinds .entry)) (now (starts .entry)) (now (lengths .entry)) (placeIn c)) (nameIn (now (text .entry)) (now (kinds .entry)) (now (starts .entry)) (now (lengths .entry)) x) ⌝ }
+fn hits(ids: &[u16], c: u64, x: usize) -> bool
+    ensures { λ r. ⌜ ((w : ℕ → Word) → Same w (now (ids .entry)) → r ≡ not (eqb (modeIn c) 0) && sameWord (w (placeIn c)) (w x)) ⌝ }
 {
     if c % 4 == 0 {
         return false;
     }
-    marks::same_names(text, kinds, starts, lengths, (c / 262144) as usize, x)
+    kinds::size_at(ids, (c / 262144) as usize) == kinds::size_at(ids, x)
 }
 
 fn crosses(c: u64, crossed: bool) -> bool
@@ -100,16 +90,15 @@ fn crosses(c: u64, crossed: bool) -> bool
 
 // What the name at x stands for in the innermost of so many frames.
 pub(crate) fn seek(
-    text: &[u8],
-    kinds: &[u8],
-    starts: &[u16],
-    lengths: &[u16],
+    ids: &[u16],
     symbols: &[u64],
+    slots: &[u16],
     frames: &[u64],
     depth: usize,
     x: usize,
 ) -> Known
-    ensures { λ r. ⌜ r ≡ knownOf (symbolIn (nameIn (now (text .entry)) (now (kinds .entry)) (now (starts .entry)) (now (lengths .entry)) x) (inner (reaches (nameIn (now (text .entry)) (now (kinds .entry)) (now (starts .entry)) (now (lengths .entry))) (map (rangeSymbol (nameIn (now (text .entry)) (now (kinds .entry)) (now (starts .entry)) (now (lengths .entry)))) (now (symbols .entry))) (now (frames .entry)) depth))) ⌝ }
+    ensures { λ r. ⌜ ((w : ℕ → Word) (numbers : List ℕ) → Tables w (now (ids .entry)) numbers (now (symbols .entry)) (now (slots .entry)) → r
+        ≡ knownOf (symbolIn (w x) (inner (reaches w (map (rangeSymbol w) (now (symbols .entry))) (now (frames .entry)) depth)))) ⌝ }
 {
     let mut j = depth;
     let mut crossed = false;
@@ -117,10 +106,10 @@ pub(crate) fn seek(
         j -= 1;
         let c = entry(frames, j);
         if c % 4 == 3 {
-            let k = seek_listed(text, kinds, starts, lengths, symbols, x);
+            let k = seek_listed(ids, symbols, slots, x);
             return hidden(k, crossed);
         }
-        if hits(text, kinds, starts, lengths, c, x) {
+        if hits(ids, c, x) {
             return hidden(Known::Variable(relation(c), variable(c)), crossed);
         }
         crossed = crosses(c, crossed);

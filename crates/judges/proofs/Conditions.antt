@@ -9,7 +9,7 @@ use lib.IntN.{ℤ}
 use lib.ListN.{length, getD, drop, replicate}
 use Rattle.model.specs.Lists.{update}
 use Rattle.model.specs.Syntax.{Condition}
-use Rattle.model.specs.Meaning.{Assignment}
+use Rattle.model.specs.Meaning.{Assignment, holdsWith}
 use Rattle.kinds.specs.Tables.{recordLength}
 use Rattle.kinds.specs.Record.{recordAt}
 use Rattle.kinds.specs.declared.Record.{Record}
@@ -17,11 +17,11 @@ use Rattle.kinds.specs.declared.Record.the-variants as R
 use Rattle.sizes.specs.Decode.{first, second, conditionBy, decode, decodeT}
 use Rattle.walks.specs.declared.Walk.{Walk}
 use Rattle.walks.specs.Walks.{rowsBy}
-use Rattle.evaluator.specs.Recalled.{holdsBy}
-use Rattle.evaluator.specs.Evaluation.{assigned}
+use Rattle.numbers.specs.Recalled.{holdsBy}
+use Rattle.walks.specs.Assigned.{assigned}
 use Rattle.branches.specs.Branches.{leads, runs}
 use Rattle.branches.specs.Compiled.{Compiled}
-use Rattle.aggregates.proofs.Taking.{getD-same}
+use Rattle.model.proofs.Lists.{getD-same}
 use Rattle.judges.specs.Marked.{Marked, turned, tupleOf, judgedOn, ranOn}
 use Rattle.judges.specs.Meets.{noPlaces}
 use Rattle.judges.proofs.Steps.{marked-same, marked-then}
@@ -108,27 +108,27 @@ module _ (q z ws : List ℕ) (vs m : List ℤ) (x : Walk) where
     snd i = holdsBy m (decode (l - 1) (drop (second q z) q) (drop (second q z) z)) (rowsBy ws vs) (update (assigned vs (noPlaces vs)) 0 (tupleOf vs x i))
 
     pub true-is : r ≡ R.True → (w : Bool) (i : ℕ) → w ≡ judgedOn l q z ws vs m x w i
-    unfolding holdsBy
+    unfolding holdsWith
     true-is h w i = turned-yes w ∙ sym (opened w i R.True h)
 
     pub not-is : r ≡ R.Not → (w : Bool) (i : ℕ) → one (l - 1) (not w) i ≡ judgedOn l q z ws vs m x w i
-    unfolding holdsBy judgedOn
+    unfolding holdsWith judgedOn
     not-is h w i = turned-turned w _ ∙ sym (opened w i R.Not h)
 
     pub and-is : r ≡ R.And → (w : Bool) → w ≡ true → (i : ℕ) → one (l - 1) true i && two (l - 1) true i ≡ judgedOn l q z ws vs m x w i
-    unfolding holdsBy judgedOn
+    unfolding holdsWith judgedOn
     and-is h w ew i = sym (ap (λ b. judgedOn l q z ws vs m x b i) ew ∙ opened true i R.And h)
 
     pub and-not : r ≡ R.And → (w : Bool) → w ≡ false → (i : ℕ) → one (l - 1) false i || two (l - 1) false i ≡ judgedOn l q z ws vs m x w i
-    unfolding holdsBy judgedOn
+    unfolding holdsWith judgedOn
     and-not h w ew i = sym (ap (λ b. judgedOn l q z ws vs m x b i) ew ∙ opened false i R.And h ∙ neither (fst i) (snd i))
 
     pub or-is : r ≡ R.Or → (w : Bool) → w ≡ true → (i : ℕ) → one (l - 1) true i || two (l - 1) true i ≡ judgedOn l q z ws vs m x w i
-    unfolding holdsBy judgedOn
+    unfolding holdsWith judgedOn
     or-is h w ew i = sym (ap (λ b. judgedOn l q z ws vs m x b i) ew ∙ opened true i R.Or h)
 
     pub or-not : r ≡ R.Or → (w : Bool) → w ≡ false → (i : ℕ) → one (l - 1) false i && two (l - 1) false i ≡ judgedOn l q z ws vs m x w i
-    unfolding holdsBy judgedOn
+    unfolding holdsWith judgedOn
     or-not h w ew i = sym (ap (λ b. judgedOn l q z ws vs m x b i) ew ∙ opened false i R.Or h ∙ neither-or (fst i) (snd i))
 
   pub under-first : (l : ℕ) (w : Bool) (i k a : ℕ) (x₁ y₁ : List ℕ) → k ≡ getD q 0 0 → a ≡ recordLength k → x₁ ≡ drop a q → y₁ ≡ drop a z → judgedOn l x₁ y₁ ws vs m x w i ≡ one l w i

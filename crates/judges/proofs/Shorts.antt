@@ -11,7 +11,7 @@ use Rattle.model.specs.Lists.{update}
 use Rattle.model.specs.Syntax.{Condition, COMPARE, ATTRIBUTE, CONSTANT, isOperator, WellFormed, levels}
 use Rattle.model.specs.Encoding.{ok, encode, readCondition}
 use Rattle.model.proofs.Reading.{read-encode}
-use Rattle.model.specs.Meaning.{Tuple, whole, signed, compare}
+use Rattle.model.specs.Meaning.{Tuple, whole, signed, compare, holdsWith}
 use Rattle.catalogue.specs.Layout.{attributesOf, rowsOf, baseOf}
 use Rattle.numbers.specs.declared.Ratio.{Ratio}
 use Rattle.numbers.specs.Numbers.{valueOf}
@@ -20,8 +20,9 @@ use Rattle.sizes.proofs.Decoding.{decode-is, condition-sized}
 use Rattle.walks.specs.declared.Walk.{Walk}
 use Rattle.walks.specs.Walks.{rowsBy}
 use Rattle.allrows.specs.Filled.{wholeOf}
-use Rattle.evaluator.specs.Recalled.{holdsBy}
-use Rattle.evaluator.specs.Evaluation.{assigned, holdsOn}
+use Rattle.numbers.specs.Recalled.{holdsBy}
+use Rattle.evaluator.specs.Evaluation.{holdsOn}
+use Rattle.walks.specs.Assigned.{assigned}
 use Rattle.aggregates.specs.Filled.{filledC}
 use Rattle.judges.specs.Marked.{Marked, Short, turned, tupleOf, judgedOn}
 use Rattle.judges.specs.Meets.{sizesOf, ownWalks, noPlaces, ownMemo, meetsBytes, rowOf}
@@ -60,7 +61,7 @@ module _ (q : List ℕ) (s : Short q) where
       decode-is 16 q c [] (sizesOf q) read-short (condition-sized 16 q 0 (replicate 256 0) c [] read-short (omega (arith, n, s .size)) (omega (arith, s .size)))
 
   meets-short : (cb : List ℕ) (vs : List ℤ) (x : Tuple) → meetsBytes cb vs q x ≡ compare (getD q 1 0) (some (whole (x (getD q 4 0)))) (some (whole (signed (getD q 6 0) (getD q 7 0) (getD q 8 0) (getD q 9 0))))
-  unfolding meetsBytes holdsOn holdsBy
+  unfolding meetsBytes holdsOn holdsWith
   meets-short cb vs x = ap (λ (d : Condition). holdsBy (ownMemo cb vs q) d (rowsBy (ownWalks cb q) vs) (update (assigned vs (noPlaces vs)) 0 x)) decoded
 
   pub short-marks : (vs : List ℤ) (x : Walk) (n : ℕ) (ms y : List ℕ) (o a b₀ b₁ b₂ b₃ : ℕ) (v : ℤ) (r : Ratio) → o ≡ getD q 1 0 → a ≡ getD q 4 0 → b₀ ≡ getD q 6 0 → b₁ ≡ getD q 7 0 → b₂ ≡ getD q 8 0 → b₃ ≡ getD q 9 0 → v ≡ signed b₀ b₁ b₂ b₃ → valueOf r ≡ some (whole v)

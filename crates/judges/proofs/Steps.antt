@@ -16,11 +16,11 @@ use borrow.Author.Tests.{eqb-true, eqb-false, ltb-true, ltb-false}
 use Rattle.model.specs.Lists.{update}
 use Rattle.catalogue.specs.Layout.{tupleAt}
 use Rattle.walks.specs.declared.Walk.{Walk}
-use Rattle.evaluator.specs.Evaluation.{assigned}
-use Rattle.evaluator.proofs.Steps.{assigned-set}
-use Rattle.seeks.proofs.Places.{places-alike}
+use Rattle.walks.specs.Assigned.{assigned}
+use Rattle.walks.proofs.Assigned.{assigned-set}
+use Rattle.decide.proofs.seeks.Places.{places-alike}
 use Rattle.branches.specs.Branches.{runs}
-use Rattle.aggregates.proofs.Taking.{getD-same}
+use Rattle.model.proofs.Lists.{getD-same}
 use Rattle.judges.specs.Meets.{noPlaces}
 use Rattle.judges.specs.Marked.{Bits, Marked, between, tupleOf, ranOn}
 

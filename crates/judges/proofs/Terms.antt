@@ -16,7 +16,7 @@ use lib.ListN.{length, getD, drop}
 use borrow.Author.Tests.{ne-eqb, ltb-true, ltb-false, lt-leb, le-leb}
 use Rattle.model.specs.Lists.{update}
 use Rattle.model.specs.Syntax.{Condition, Term}
-use Rattle.model.specs.Meaning.{Rows, Assignment, Tuple, whole, signed, compare}
+use Rattle.model.specs.Meaning.{Rows, Assignment, Tuple, whole, signed, compare, holdsWith}
 use Rattle.model.specs.Meaning as M
 use Rattle.model.proofs.Tests.{clash, not-no}
 use Rattle.kinds.specs.Tables.{recordLength}
@@ -30,8 +30,8 @@ use Rattle.numbers.specs.Memo.{knows, recalled}
 use Rattle.sizes.specs.Decode.{first, second, conditionBy, termBy, decode, decodeT}
 use Rattle.walks.specs.declared.Walk.{Walk}
 use Rattle.walks.specs.Walks.{rowsBy}
-use Rattle.evaluator.specs.Recalled.{holdsBy, valueBy}
-use Rattle.evaluator.specs.Evaluation.{assigned}
+use Rattle.numbers.specs.Recalled.{holdsBy, valueBy}
+use Rattle.walks.specs.Assigned.{assigned}
 use Rattle.judges.specs.Marked.{between, passes, turned, tupleOf, judgedOn}
 use Rattle.judges.specs.Meets.{noPlaces}
 use Rattle.judges.specs.declared.Test.{Test}
@@ -155,22 +155,22 @@ module _ (m : List ℤ) (q : List ℕ) (l : ℕ) (r : Record) (nz : l ≡ 0 → 
       go (suc k) h = rw (sub-one, er)
 
   pub constant-known : (k : Known) (x : Ratio) (y : ℤ) (a b c d : ℕ) → r ≡ R.Constant a b c d → y ≡ signed a b c d → valueOf x ≡ some (whole y) → k ≡ record { known = true; value = x } → (z : List ℕ) (R : Rows) (e : Assignment) → valueOf (k .value) ≡ valueBy m (decodeT l q z) R e
-  unfolding holdsBy
+  unfolding holdsWith
   constant-known k x y a b c d h ey ex ek z R e =
       ap (λ (u : Known). valueOf (u .value)) ek ∙ ex ∙ ap (λ n. some (whole n)) ey ∙ sym (ap (λ (t : Term). valueBy m t R e) (sym (term-is z) ∙ ap (λ (s : Record). termBy s (λ x y. decode (l - 1) x y) q z) h))
 
   pub aggregate-known : (x : Ratio) (f v s a : ℕ) → r ≡ R.Aggregate f v s a → knows m v ≡ true → valueOf x ≡ recalled m v → (z : List ℕ) (R : Rows) (e : Assignment) → valueOf x ≡ valueBy m (decodeT l q z) R e
-  unfolding holdsBy
+  unfolding holdsWith
   aggregate-known x f v s a h k ex z R e = ex ∙ sym (ap (λ (t : Term). valueBy m t R e) (sym (term-is z) ∙ ap (λ (s : Record). termBy s (λ x y. decode (l - 1) x y) q z) h) ∙ rw k)
 
   pub attribute-is : (v a : ℕ) → r ≡ R.Attribute v a → (z : List ℕ) (R : Rows) (e : Assignment) → valueBy m (decodeT l q z) R e ≡ some (whole (e v a))
-  unfolding holdsBy
+  unfolding holdsWith
   attribute-is v a h z R e = ap (λ (t : Term). valueBy m t R e) (sym (term-is z) ∙ ap (λ (s : Record). termBy s (λ x y. decode (l - 1) x y) q z) h)
 
   pub compared-is : (o k a s v at : ℕ) (u w : List ℕ) (y : Record) (x : Ratio) (z : List ℕ) → r ≡ R.Compare o → k ≡ getD q 0 0 → a ≡ recordLength k → s ≡ getD z a 0 → u ≡ drop a q → w ≡ drop (a + s) q → (l - 1 ≡ 0 → ⊥) → y ≡ recordAt u → y ≡ R.Attribute v at → v ≡ 0
       → ((z : List ℕ) (R : Rows) (e : Assignment) → valueOf x ≡ valueBy m (decodeT (l - 1) w z) R e)
       → (ws : List ℕ) (vs : List ℤ) (g : Walk) (wanted : Bool) (i : ℕ) → turned wanted (compare o (some (whole (tupleOf vs g i at))) (valueOf x)) ≡ judgedOn l q z ws vs m g wanted i
-  unfolding holdsBy judgedOn decode
+  unfolding holdsWith judgedOn decode
   compared-is o k a s v at u w y x z h ek ea es eu ew nz′ ey hy ev hx ws vs g wanted i =
       let R = rowsBy ws vs in
       let E : Assignment = update (assigned vs (noPlaces vs)) 0 (tupleOf vs g i) in

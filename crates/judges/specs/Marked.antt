@@ -13,8 +13,8 @@ use Rattle.catalogue.specs.Layout.{tupleAt}
 use Rattle.walks.specs.declared.Walk.{Walk}
 use Rattle.walks.specs.Walks.{rowsBy}
 use Rattle.sizes.specs.Decode.{decode}
-use Rattle.evaluator.specs.Recalled.{holdsBy}
-use Rattle.evaluator.specs.Evaluation.{assigned}
+use Rattle.numbers.specs.Recalled.{holdsBy}
+use Rattle.walks.specs.Assigned.{assigned}
 use Rattle.branches.specs.Branches.{runs}
 use Rattle.judges.specs.declared.Test.{Test}
 use Rattle.judges.specs.Meets.{noPlaces}

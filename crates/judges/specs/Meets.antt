@@ -11,7 +11,8 @@ use Rattle.sizes.specs.Measured.{conditionTable}
 use Rattle.walks.specs.Walks.{rowsBy}
 use Rattle.allrows.specs.Filled.{filledBy}
 use Rattle.sizes.specs.Decode.{decode}
-use Rattle.evaluator.specs.Evaluation.{assigned, holdsOn}
+use Rattle.evaluator.specs.Evaluation.{holdsOn}
+use Rattle.walks.specs.Assigned.{assigned}
 use Rattle.aggregates.specs.Filled.{filledC}
 
 -- the table of sizes of a condition's bytes, and the walks of its variables: all rows

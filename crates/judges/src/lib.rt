@@ -21,8 +21,8 @@ ghost use Rattle.numbers.specs.Numbers.{valueOf, Number, Small};
 ghost use Rattle.numbers.specs.Memo as Memo;
 ghost use Rattle.sizes.specs.Decode.{first, second, decodeT};
 ghost use Rattle.walks.specs.Walks.{Fits};
-ghost use Rattle.evaluator.specs.Recalled.{valueBy};
-ghost use Rattle.seeks.specs.Keys.{Faithful};
+ghost use Rattle.numbers.specs.Recalled.{valueBy};
+ghost use Rattle.decide.specs.Keys.{Faithful};
 ghost use Rattle.judges.specs.Marked as J;
 ghost use Rattle.judges.specs.Meets.{meetsBytes, rowOf};
 
@@ -85,7 +85,8 @@ fn scaled(a: i32, d: i64) -> i64
 
 // Marks the rows whose value passes a test; values are `width` apart.
 fn mark_passing(values: &[i32], from: usize, width: usize, n: usize, test: Test, marks: &mut [u8])
-    requires { ⌜ (n ≤ length (now marks)) × ((i : ℕ) → i < n → from + i * width < length (now values)) × (from ≤ 8589934592) × (width ≤ 65535) × (n ≤ 65535) × (natAbs (test .scale) ≤ 65535) × (natAbs (test .number) ≤ 140735340871680) × J.Bits (now marks) ⌝ }
+    requires { ⌜ (n ≤ length (now marks)) × ((i : ℕ) → i < n → from + i * width < length (now values)) × (from ≤ 8589934592) × (width ≤ 65535)
+        × (n ≤ 65535) × (natAbs (test .scale) ≤ 65535) × (natAbs (test .number) ≤ 140735340871680) × J.Bits (now marks) ⌝ }
     ensures { λ _. ⌜ J.Marked (λ i. J.passes test (getD (now (values .entry)) (from + i * width) (pos 0))) n (now (marks .entry)) (now (marks .exit)) ⌝ }
 {
     let above = test.above;
@@ -170,7 +171,8 @@ fn mark_against(
     marks: &mut [u8],
 ) -> bool
     requires { ⌜ (walk .count ≤ length (now marks)) × Fits walk × Small x × J.Bits (now marks) ⌝ }
-    ensures { λ r. ⌜ (r ≡ true → J.Marked (λ i. J.turned wanted (M.compare operator (some (M.whole (J.tupleOf (now (values .entry)) walk i attribute))) (valueOf x))) (walk .count) (now (marks .entry)) (now (marks .exit))) ⌝ }
+    ensures { λ r. ⌜ (r ≡ true → J.Marked (λ i. J.turned wanted (M.compare operator
+        (some (M.whole (J.tupleOf (now (values .entry)) walk i attribute))) (valueOf x))) (walk .count) (now (marks .entry)) (now (marks .exit))) ⌝ }
     ensures { λ r. ⌜ (r ≡ false → now (marks .exit) ≡ now (marks .entry)) ⌝ }
 {
     let base = walk.base;
@@ -217,7 +219,8 @@ fn unknown() -> Known
 
 // An aggregate, where the memo knows it.
 fn recalled(memo: &[i64], variable: u8) -> Known
-    ensures { λ k. ⌜ (k .known ≡ true → (Memo.knows (now (memo .entry)) variable ≡ true) × (valueOf (k .value) ≡ Memo.recalled (now (memo .entry)) variable)) ⌝ }
+    ensures { λ k. ⌜ (k .known ≡ true → (Memo.knows (now (memo .entry)) variable ≡ true)
+        × (valueOf (k .value) ≡ Memo.recalled (now (memo .entry)) variable)) ⌝ }
     ensures { λ k. ⌜ Small (k .value) ⌝ }
 {
     if !numbers::knows(memo, variable) {
@@ -228,7 +231,8 @@ fn recalled(memo: &[i64], variable: u8) -> Known
 
 // The term that q starts with: a number, or an aggregate.
 fn known_at(q: &[u8], level: usize, memo: &[i64]) -> Known
-    ensures { λ k. ⌜ (k .known ≡ true → (z : List ℕ) (R : Rows) (e : Assignment) → valueOf (k .value) ≡ valueBy (now (memo .entry)) (decodeT level (now (q .entry)) z) R e) ⌝ }
+    ensures { λ k. ⌜ (k .known ≡ true → (z : List ℕ) (R : Rows) (e : Assignment) → valueOf (k .value)
+        ≡ valueBy (now (memo .entry)) (decodeT level (now (q .entry)) z) R e) ⌝ }
     ensures { λ k. ⌜ Small (k .value) ⌝ }
 {
     if level == 0 {
@@ -253,7 +257,8 @@ fn mark_compared(
     marks: &mut [u8],
 ) -> bool
     requires { ⌜ (walk .count ≤ length (now marks)) × Fits walk × J.Bits (now marks) ⌝ }
-    ensures { λ r. ⌜ (r ≡ true → (ws : List ℕ) → J.Marked (J.judgedOn level (now (q .entry)) (now (z .entry)) ws (now (values .entry)) (now (memo .entry)) walk wanted) (walk .count) (now (marks .entry)) (now (marks .exit))) ⌝ }
+    ensures { λ r. ⌜ (r ≡ true → (ws : List ℕ) → J.Marked (J.judgedOn level (now (q .entry)) (now (z .entry)) ws (now (values .entry))
+        (now (memo .entry)) walk wanted) (walk .count) (now (marks .entry)) (now (marks .exit))) ⌝ }
     ensures { λ r. ⌜ (r ≡ false → now (marks .exit) ≡ now (marks .entry)) ⌝ }
 {
     if level < 2 {
@@ -329,7 +334,8 @@ fn mark_rows(
     marks: &mut [u8],
 )
     requires { ⌜ (start ≤ 65535) × Fits walk × (walk .count ≤ length (now marks)) × J.Bits (now marks) × Faithful (now t) (now walks) (now vs) (now chains) ⌝ }
-    ensures { λ _. ⌜ J.Marked (J.ranOn (now (t .entry)) (now (xs .entry)) start (now (q .entry)) (now (z .entry)) (now (walks .entry)) (now (vs .entry)) (now (memo .entry)) walk) (walk .count) (now (marks .entry)) (now (marks .exit)) ⌝ }
+    ensures { λ _. ⌜ J.Marked (J.ranOn (now (t .entry)) (now (xs .entry)) start (now (q .entry)) (now (z .entry)) (now (walks .entry))
+        (now (vs .entry)) (now (memo .entry)) walk) (walk .count) (now (marks .entry)) (now (marks .exit)) ⌝ }
 {
     let n = walk.count;
     let mut env = [vs.len(); 256];
@@ -356,10 +362,11 @@ fn mark_linked(
     marks: &mut [u8],
 )
     requires { ⌜ (start ≤ 65535) × Fits walk × (walk .count ≤ length (now marks)) × J.Bits (now marks) ⌝ }
-    ensures { λ _. ⌜ J.Marked (J.ranOn (now (t .entry)) (now (xs .entry)) start (now (q .entry)) (now (z .entry)) (now (walks .entry)) (now (vs .entry)) (now (memo .entry)) walk) (walk .count) (now (marks .entry)) (now (marks .exit)) ⌝ }
+    ensures { λ _. ⌜ J.Marked (J.ranOn (now (t .entry)) (now (xs .entry)) start (now (q .entry)) (now (z .entry)) (now (walks .entry))
+        (now (vs .entry)) (now (memo .entry)) walk) (walk .count) (now (marks .entry)) (now (marks .exit)) ⌝ }
 {
     let mut chains = [0u16; 6220];
-    seeks::add_searches(t, walks, vs, &mut chains, 64);
+    decide::seeks::add_searches(t, walks, vs, &mut chains, 64);
     mark_rows(t, xs, start, q, z, walks, &chains, walk, vs, memo, marks);
 }
 
@@ -383,14 +390,15 @@ fn judge_each(
     marks: &mut [u8],
 )
     requires { ⌜ (level ≤ 65535) × Fits walk × (walk .count ≤ length (now marks)) × J.Bits (now marks) ⌝ }
-    ensures { λ _. ⌜ J.Marked (J.judgedOn level (now (q .entry)) (now (z .entry)) (now (walks .entry)) (now (vs .entry)) (now (memo .entry)) walk wanted) (walk .count) (now (marks .entry)) (now (marks .exit)) ⌝ }
+    ensures { λ _. ⌜ J.Marked (J.judgedOn level (now (q .entry)) (now (z .entry)) (now (walks .entry)) (now (vs .entry)) (now (memo .entry)) walk
+        wanted) (walk .count) (now (marks .entry)) (now (marks .exit)) ⌝ }
 {
     let mut t = [0u16; 512];
     let mut xs = [0i32; 128];
     let met = end_of(wanted);
     let unmet = end_of(!wanted);
     let start = branches::compile(q, z, 0, level, memo, &mut t, &mut xs, 2, 64, met, unmet);
-    if seeks::searches(&t, walks) {
+    if decide::seeks::searches(&t, walks) {
         mark_linked(&t, &xs, start, q, z, walks, walk, vs, memo, marks);
         return;
     }
@@ -411,7 +419,8 @@ fn judge_leaf(
     marks: &mut [u8],
 )
     requires { ⌜ (level ≤ 65535) × Fits walk × (walk .count ≤ length (now marks)) × J.Bits (now marks) ⌝ }
-    ensures { λ _. ⌜ J.Marked (J.judgedOn level (now (q .entry)) (now (z .entry)) (now (walks .entry)) (now (vs .entry)) (now (memo .entry)) walk wanted) (walk .count) (now (marks .entry)) (now (marks .exit)) ⌝ }
+    ensures { λ _. ⌜ J.Marked (J.judgedOn level (now (q .entry)) (now (z .entry)) (now (walks .entry)) (now (vs .entry)) (now (memo .entry)) walk
+        wanted) (walk .count) (now (marks .entry)) (now (marks .exit)) ⌝ }
 {
     if mark_compared(q, z, level, memo, walk, vs, wanted, marks) {
         return;
@@ -432,7 +441,11 @@ fn judge_both(
     marks: &mut [u8],
 )
     requires { ⌜ (level ≤ 65534) × Fits walk × (walk .count ≤ 1024) × (walk .count ≤ length (now marks)) × J.Bits (now marks) ⌝ }
-    ensures { λ _. ⌜ J.Marked (λ i. J.judgedOn level (drop (first (now (q .entry))) (now (q .entry))) (drop (first (now (q .entry))) (now (z .entry))) (now (walks .entry)) (now (vs .entry)) (now (memo .entry)) walk wanted i && J.judgedOn level (drop (second (now (q .entry)) (now (z .entry))) (now (q .entry))) (drop (second (now (q .entry)) (now (z .entry))) (now (z .entry))) (now (walks .entry)) (now (vs .entry)) (now (memo .entry)) walk wanted i) (walk .count) (now (marks .entry)) (now (marks .exit)) ⌝ }
+    ensures { λ _. ⌜ J.Marked (λ i. J.judgedOn level (drop (first (now (q .entry))) (now (q .entry)))
+        (drop (first (now (q .entry))) (now (z .entry))) (now (walks .entry)) (now (vs .entry)) (now (memo .entry)) walk wanted i && J.judgedOn
+        level (drop (second (now (q .entry)) (now (z .entry))) (now (q .entry)))
+        (drop (second (now (q .entry)) (now (z .entry))) (now (z .entry))) (now (walks .entry)) (now (vs .entry)) (now (memo .entry)) walk wanted
+        i) (walk .count) (now (marks .entry)) (now (marks .exit)) ⌝ }
 {
     let mut others = [0u8; 1024];
     judge_two(q, z, level, walks, walk, vs, memo, !wanted, &mut others);
@@ -452,7 +465,11 @@ fn judge_two(
     marks: &mut [u8],
 )
     requires { ⌜ (level ≤ 65534) × Fits walk × (walk .count ≤ 1024) × (walk .count ≤ length (now marks)) × J.Bits (now marks) ⌝ }
-    ensures { λ _. ⌜ J.Marked (λ i. J.judgedOn level (drop (first (now (q .entry))) (now (q .entry))) (drop (first (now (q .entry))) (now (z .entry))) (now (walks .entry)) (now (vs .entry)) (now (memo .entry)) walk wanted i || J.judgedOn level (drop (second (now (q .entry)) (now (z .entry))) (now (q .entry))) (drop (second (now (q .entry)) (now (z .entry))) (now (z .entry))) (now (walks .entry)) (now (vs .entry)) (now (memo .entry)) walk wanted i) (walk .count) (now (marks .entry)) (now (marks .exit)) ⌝ }
+    ensures { λ _. ⌜ J.Marked (λ i. J.judgedOn level (drop (first (now (q .entry))) (now (q .entry)))
+        (drop (first (now (q .entry))) (now (z .entry))) (now (walks .entry)) (now (vs .entry)) (now (memo .entry)) walk wanted i || J.judgedOn
+        level (drop (second (now (q .entry)) (now (z .entry))) (now (q .entry)))
+        (drop (second (now (q .entry)) (now (z .entry))) (now (z .entry))) (now (walks .entry)) (now (vs .entry)) (now (memo .entry)) walk wanted
+        i) (walk .count) (now (marks .entry)) (now (marks .exit)) ⌝ }
 {
     let a = kinds::record_length(kinds::byte(q, 0));
     let b = a + kinds::size_at(z, a);
@@ -482,7 +499,8 @@ fn judge_at(
     marks: &mut [u8],
 )
     requires { ⌜ (level ≤ 65535) × Fits walk × (walk .count ≤ 1024) × (walk .count ≤ length (now marks)) × J.Bits (now marks) ⌝ }
-    ensures { λ _. ⌜ J.Marked (J.judgedOn level (now (q .entry)) (now (z .entry)) (now (walks .entry)) (now (vs .entry)) (now (memo .entry)) walk wanted) (walk .count) (now (marks .entry)) (now (marks .exit)) ⌝ }
+    ensures { λ _. ⌜ J.Marked (J.judgedOn level (now (q .entry)) (now (z .entry)) (now (walks .entry)) (now (vs .entry)) (now (memo .entry)) walk
+        wanted) (walk .count) (now (marks .entry)) (now (marks .exit)) ⌝ }
 {
     if level == 0 {
         judge_leaf(q, z, level, walks, walk, vs, memo, wanted, marks);
@@ -540,7 +558,8 @@ fn is_short(q: &[u8]) -> bool
 // The usual permit needs none of the tables.
 fn judge_short(q: &[u8], walk: Walk, values: &[i32], marks: &mut [u8]) -> bool
     requires { ⌜ (walk .count ≤ length (now marks)) × Fits walk × J.Bits (now marks) ⌝ }
-    ensures { λ r. ⌜ (r ≡ true → (cb : List ℕ) → J.Marked (λ i. meetsBytes cb (now (values .entry)) (now (q .entry)) (J.tupleOf (now (values .entry)) walk i)) (walk .count) (now (marks .entry)) (now (marks .exit))) ⌝ }
+    ensures { λ r. ⌜ (r ≡ true → (cb : List ℕ) → J.Marked (λ i. meetsBytes cb (now (values .entry)) (now (q .entry))
+        (J.tupleOf (now (values .entry)) walk i)) (walk .count) (now (marks .entry)) (now (marks .exit))) ⌝ }
     ensures { λ r. ⌜ (r ≡ false → now (marks .exit) ≡ now (marks .entry)) ⌝ }
 {
     if !is_short(q) {
@@ -559,7 +578,8 @@ fn judge_short(q: &[u8], walk: Walk, values: &[i32], marks: &mut [u8]) -> bool
 // Any condition, with its tables: at most 256 bytes and 16 levels, variables below 4. Its aggregates are evaluated once.
 fn judge_long(q: &[u8], catalogue: &[u8], values: &[i32], walk: Walk, marks: &mut [u8])
     requires { ⌜ (walk .count ≤ 1024) × (walk .count ≤ length (now marks)) × Fits walk × J.Bits (now marks) ⌝ }
-    ensures { λ _. ⌜ J.Marked (λ i. meetsBytes (now (catalogue .entry)) (now (values .entry)) (now (q .entry)) (J.tupleOf (now (values .entry)) walk i)) (walk .count) (now (marks .entry)) (now (marks .exit)) ⌝ }
+    ensures { λ _. ⌜ J.Marked (λ i. meetsBytes (now (catalogue .entry)) (now (values .entry)) (now (q .entry))
+        (J.tupleOf (now (values .entry)) walk i)) (walk .count) (now (marks .entry)) (now (marks .exit)) ⌝ }
 {
     let mut z = [0u16; 256];
     sizes::condition(q, &mut z, 0, 16);
@@ -574,7 +594,9 @@ fn judge_long(q: &[u8], catalogue: &[u8], values: &[i32], walk: Walk, marks: &mu
 // Marks the rows of a relation that meet the condition of a permit.
 pub fn judge(q: &[u8], catalogue: &[u8], values: &[i32], relation: u8, marks: &mut [u8])
     requires { ⌜ (rowsOf (now catalogue) relation ≤ 1024) × (rowsOf (now catalogue) relation ≤ length (now marks)) × J.Bits (now marks) ⌝ }
-    ensures { λ _. ⌜ J.Marked (λ i. meetsBytes (now (catalogue .entry)) (now (values .entry)) (now (q .entry)) (rowOf (now (catalogue .entry)) (now (values .entry)) relation i)) (rowsOf (now (catalogue .entry)) relation) (now (marks .entry)) (now (marks .exit)) ⌝ }
+    ensures { λ _. ⌜ J.Marked (λ i. meetsBytes (now (catalogue .entry)) (now (values .entry)) (now (q .entry))
+        (rowOf (now (catalogue .entry)) (now (values .entry)) relation i)) (rowsOf (now (catalogue .entry)) relation) (now (marks .entry))
+        (now (marks .exit)) ⌝ }
 {
     let walk = allrows::whole(catalogue, relation);
     if judge_short(q, walk, values, marks) {

@@ -1,21 +1,22 @@
 -- Names bound once: what is left of the tokens, against those before that bind a name.
 use Prim.Native.Nat.{ℕ, _+_, _≤_, _<_}
-use mathlib.Core.Bool.{Bool, true, false, not, cond, _&&_}
+use mathlib.Core.Bool.{Bool, true, false, not, cond, _&&_, _||_}
 use mathlib.Core.List.{List, [], _∷_}
-use mathlib.Core.Path.{_≡_, refl, sym, ap, _∙_, subst}
+use mathlib.Core.Path.{_≡_, refl, sym, ap, _∙_}
 use native.Mathlib.Omega.{arith}
 use lib.Dec.{eqb}
 use lib.ListN.{length, getD, set}
-use borrow.Author.Tests.{eqb-true, eqb-false, ne-eqb}
+use borrow.Author.Tests.{eqb-true, eqb-false, eq-eqb, ne-eqb}
 use Rattle.model.specs.Lists.{any, all}
 use Rattle.model.proofs.Tests.{and-true, clash}
 use Rattle.quel.specs.Results.{Word, sameWord, hasWord, uniqueWords}
 use Rattle.tokens.specs.Table.{Table}
 use Rattle.flat.specs.Flat.{binding, binders}
-use Rattle.buckets.specs.Chains.{bucketOf, Chained}
-use Rattle.buckets.proofs.Laws.{same-word, held-put, held-up, held-none, none-again, Walk, walk-start}
-use Rattle.marks.specs.Places.{table, tokensFrom, nameIn, partKind, boundPlace, bindsKind, boundWord, HeldAt, ChainedAt, boundBefore, Told}
+use Rattle.buckets.proofs.Laws.{none-again}
+use Rattle.marks.specs.Places.{table, tokensFrom, nameIn, partKind, boundPlace, bindsKind}
+use Rattle.marks.specs.Numbers.{Numbered, marked, Seen, Told}
 use Rattle.marks.proofs.Walks.{from-end, here, bound-from, binding-other}
+use Rattle.marks.proofs.Numbers.{mark-bound}
 
 -- the small functions
 module _ (ks : List ℕ) (i k : ℕ) (ek : k ≡ getD ks i 0) where
@@ -50,7 +51,7 @@ module _ (text : List ℕ) (t : Table) (p i : ℕ) (h : i < length (t .kinds)) w
   kind = getD (t .kinds) i 0
 
   abbrev said : ℕ → Word
-  said x = boundWord text (t .kinds) (t .starts) (t .lengths) x
+  said x = here text t (boundPlace (t .kinds) x)
 
   abbrev later : List Word
   later = binders (partKind kind p) (tokensFrom text t (i + 1))
@@ -72,7 +73,7 @@ module _ (text : List ℕ) (t : Table) (p i : ℕ) (h : i < length (t .kinds)) w
   once ws xs = uniqueWords ws && all (λ (x : ℕ). not (hasWord (said x) ws)) xs
 
   pub once-turn : (xs : List ℕ) → once (binders p (tokensFrom text t i)) xs
-      ≡ (cond (bindsKind kind p) (not (boundBefore text (t .kinds) (t .starts) (t .lengths) i xs)) true && once later (cond (bindsKind kind p) (i ∷ xs) xs))
+      ≡ (cond (bindsKind kind p) (not (any (λ (x : ℕ). sameWord (said x) (said i)) xs)) true && once later (cond (bindsKind kind p) (i ∷ xs) xs))
   unfolding uniqueWords hasWord any all
   once-turn xs = ap (λ (ws : List Word). once ws xs) binds-from ∙ go (bindsKind kind p)
     where
@@ -85,63 +86,77 @@ module _ (text : List ℕ) (t : Table) (p i : ℕ) (h : i < length (t .kinds)) w
       shuffle false false true d = refl
       shuffle false false false d = refl
 
-      go : (b : Bool) → once (cond b (said i ∷ later) later) xs ≡ (cond b (not (boundBefore text (t .kinds) (t .starts) (t .lengths) i xs)) true && once later (cond b (i ∷ xs) xs))
+      go : (b : Bool) → once (cond b (said i ∷ later) later) xs ≡ (cond b (not (any (λ (x : ℕ). sameWord (said x) (said i)) xs)) true && once later (cond b (i ∷ xs) xs))
       go true =
           ap (λ (d : Bool). (not (hasWord (said i) later) && uniqueWords later) && d)
           (none-again xs (λ x. sameWord (said x) (said i)) (λ x. hasWord (said x) later) (λ x. hasWord (said x) (said i ∷ later)) (λ x. refl))
-          ∙ shuffle (hasWord (said i) later) (uniqueWords later) (boundBefore text (t .kinds) (t .starts) (t .lengths) i xs) (all (λ (x : ℕ). not (hasWord (said x) later)) xs)
+          ∙ shuffle (hasWord (said i) later) (uniqueWords later) (any (λ (x : ℕ). sameWord (said x) (said i)) xs) (all (λ (x : ℕ). not (hasWord (said x) later)) xs)
       go false = refl
 
-module _ (text ks ss ls : List ℕ) where
-  abbrev pub onceFrom : ℕ → ℕ → List ℕ → List ℕ → Bool
-  onceFrom p i ns xs = let ws = binders p (tokensFrom text (table ks ss ls ns) i) in uniqueWords ws && all (λ (x : ℕ). not (hasWord (boundWord text ks ss ls x) ws)) xs
+module _ (text ks ss ls ns ids : List ℕ) where
+  abbrev t : Table
+  t = table ks ss ls ns
 
-  -- the loop at token i: some tokens before are chained
-  pub record Left (p i : ℕ) (heads nexts : List ℕ) : Type 0 where
+  abbrev onceFrom : ℕ → ℕ → List ℕ → Bool
+  onceFrom p i xs = let ws = binders p (tokensFrom text t i) in uniqueWords ws && all (λ (x : ℕ). not (hasWord (here text t (boundPlace ks x)) ws)) xs
+
+  -- the loop at token i: what some tokens before bind is marked
+  pub record Left (p i : ℕ) (seen : List ℕ) : Type 0 where
     pub places : List ℕ
-    pub held : HeldAt text ks ss ls i heads nexts places
-    pub same : (ns : List ℕ) → uniqueWords (binders 0 (tokensFrom text (table ks ss ls ns) 0)) ≡ onceFrom p i ns places
+    pub marks : Seen (here text t) ks ids seen places
+    pub same : uniqueWords (binders 0 (tokensFrom text t 0)) ≡ onceFrom p i places
 
-  pub left-start : (heads nexts : List ℕ) → ((h : ℕ) → getD heads h 0 ≡ 0) → Left 0 0 heads nexts
-  unfolding all
-  left-start heads nexts z = record { places = []; held = held-none (λ (x : ℕ). x) _ heads nexts 0 z; same = λ ns. sym (and-true _) }
+  pub left-start : (seen : List ℕ) → ((x : ℕ) → getD seen x 0 ≡ 0) → Left 0 0 seen
+  unfolding all any
+  left-start seen z = record { places = []; marks = record { at = λ x. ap (λ (v : ℕ). not (eqb v 0)) (z (getD ids x 0)) }; same = sym (and-true _) }
 
-  pub chained : (p i : ℕ) (heads nexts : List ℕ) → Left p i heads nexts → ChainedAt text ks ss ls i heads nexts
-  chained p i heads nexts f = record { places = f .places; held = f .held }
+  module _ (p i : ℕ) (seen after : List ℕ) (r : Bool) (l : i < length ks) (f : Left p i seen) (g : Numbered (here text t) (length ks) ids) (room : getD ids (boundPlace ks i) 0 < length seen) (k : Told ks ids seen i (bindsKind (getD ks i 0) p) after r) where
+    abbrev held : List ℕ
+    held = cond (bindsKind (getD ks i 0) p) (i ∷ f .places) (f .places)
 
-  module _ (p i : ℕ) (heads nexts heads′ nexts′ : List ℕ) (r : Bool) (l : i < length ks) (f : Left p i heads nexts) (k : Told text ks ss ls i (bindsKind (getD ks i 0) p) (f .places) heads′ nexts′ r) where
-    turned : (ns : List ℕ) → uniqueWords (binders 0 (tokensFrom text (table ks ss ls ns) 0)) ≡ (r && onceFrom (partKind (getD ks i 0) p) (i + 1) ns (cond (bindsKind (getD ks i 0) p) (i ∷ f .places) (f .places)))
-    turned ns = f .same ns ∙ once-turn text (table ks ss ls ns) p i l (f .places) ∙ ap (λ (b : Bool). b && onceFrom (partKind (getD ks i 0) p) (i + 1) ns (cond (bindsKind (getD ks i 0) p) (i ∷ f .places) (f .places))) (sym (k .says))
+    turned : uniqueWords (binders 0 (tokensFrom text t 0)) ≡ (r && onceFrom (partKind (getD ks i 0) p) (i + 1) held)
+    turned =
+        f .same ∙ once-turn text t p i l (f .places)
+        ∙ ap (λ (b : Bool). cond (bindsKind (getD ks i 0) p) (not b) true && onceFrom (partKind (getD ks i 0) p) (i + 1) held) (sym (f .marks .at (boundPlace ks i)))
+        ∙ ap (λ (b : Bool). b && onceFrom (partKind (getD ks i 0) p) (i + 1) held) (sym (k .says))
 
-    pub left-next : r ≡ true → (q : ℕ) → q ≡ partKind (getD ks i 0) p → Left q (i + 1) heads′ nexts′
+    pub left-next : r ≡ true → (q : ℕ) → q ≡ partKind (getD ks i 0) p → Left q (i + 1) after
+    unfolding any
     left-next e q eq = record {
-      places = cond (bindsKind (getD ks i 0) p) (i ∷ f .places) (f .places);
-      held = k .held e;
-      same = λ ns. turned ns ∙ ap (λ (b : Bool). b && onceFrom (partKind (getD ks i 0) p) (i + 1) ns (cond (bindsKind (getD ks i 0) p) (i ∷ f .places) (f .places))) e ∙ ap (λ (q : ℕ). onceFrom q (i + 1) ns (cond (bindsKind (getD ks i 0) p) (i ∷ f .places) (f .places))) (sym eq);
+      places = held;
+      marks = record { at = λ x. ap (λ (m : List ℕ). marked ids m x) (k .is e) ∙ go x (bindsKind (getD ks i 0) p) };
+      same = turned ∙ ap (λ (b : Bool). b && onceFrom (partKind (getD ks i 0) p) (i + 1) held) e ∙ ap (λ (q : ℕ). onceFrom q (i + 1) held) (sym eq);
     }
+      where
+        go : (x : ℕ) (b : Bool) → marked ids (cond b (set seen (getD ids (boundPlace ks i) 0) 1) seen) x ≡ any (λ (y : ℕ). sameWord (here text t (boundPlace ks y)) (here text t x)) (cond b (i ∷ f .places) (f .places))
+        go x true = mark-bound (here text t) (length ks) ids g seen (boundPlace ks i) room x ∙ ap (λ (b : Bool). sameWord (here text t (boundPlace ks i)) (here text t x) || b) (f .marks .at x)
+        go x false = f .marks .at x
 
-    pub left-twice : r ≡ false → (ns : List ℕ) → false ≡ uniqueWords (binders 0 (tokensFrom text (table ks ss ls ns) 0))
-    left-twice e ns = sym (turned ns ∙ ap (λ (b : Bool). b && onceFrom (partKind (getD ks i 0) p) (i + 1) ns (cond (bindsKind (getD ks i 0) p) (i ∷ f .places) (f .places))) e)
+    pub left-twice : r ≡ false → false ≡ uniqueWords (binders 0 (tokensFrom text t 0))
+    left-twice e = sym (turned ∙ ap (λ (b : Bool). b && onceFrom (partKind (getD ks i 0) p) (i + 1) held) e)
 
-  pub left-end : (p i : ℕ) (heads nexts : List ℕ) → length ks ≤ i → Left p i heads nexts → (ns : List ℕ) → true ≡ uniqueWords (binders 0 (tokensFrom text (table ks ss ls ns) 0))
+  pub left-end : (p i : ℕ) (seen : List ℕ) → length ks ≤ i → Left p i seen → true ≡ uniqueWords (binders 0 (tokensFrom text t 0))
   unfolding uniqueWords binders hasWord any all
-  left-end p i heads nexts l f ns = sym (f .same ns ∙ rw (from-end text (table ks ss ls ns) i l) (every (f .places)))
+  left-end p i seen l f = sym (f .same ∙ rw (from-end text t i l) (every (f .places)))
     where
       every : (xs : List ℕ) → all (λ (x : ℕ). true) xs ≡ true
       every [] = refl
       every (x ∷ xs) = every xs
 
-  -- the answer at a token that binds a name, or none
-  module _ (i : ℕ) (xs heads nexts : List ℕ) (f : HeldAt text ks ss ls i heads nexts xs) where
-    pub told-twice : boundBefore text ks ss ls i xs ≡ true → Told text ks ss ls i true xs heads nexts false
-    told-twice e = record { says = sym (ap not e); held = λ z. clash z }
+-- the answers at a token
+module _ (ks ids seen : List ℕ) (i : ℕ) (b : Bool) where
+  pub told-other : b ≡ false → Told ks ids seen i b seen true
+  told-other e = record { says = sym (ap (λ (b : Bool). cond b (not (marked ids seen (boundPlace ks i))) true) e); is = λ _. sym (ap (λ (b : Bool). cond b (set seen (getD ids (boundPlace ks i) 0) 1) seen) e) }
 
-    pub told-fresh : (h : ℕ) → h ≡ bucketOf (boundWord text ks ss ls i) → h < 1024 → 1024 ≤ length heads → i < length nexts → boundBefore text ks ss ls i xs ≡ false
-        → (heads′ nexts′ : List ℕ) → heads′ ≡ set heads h (i + 1) → nexts′ ≡ set nexts i (getD heads h 0) → Told text ks ss ls i true xs heads′ nexts′ true
-    told-fresh h eh lh room more e heads′ nexts′ e₁ e₂ = record { says = sym (ap not e); held = λ _. rw (e₁, e₂, eh) (held-put (λ (x : ℕ). x) (λ (x : ℕ). bucketOf (boundWord text ks ss ls x)) heads nexts xs i f (omega (arith, eh)) more (omega (arith, eh)) (i + 1) (omega arith) (omega arith)) }
+  module _ (e : b ≡ true) (z x : ℕ) (ez : z ≡ boundPlace ks i) (ex : x ≡ getD ids z 0) where
+    here-is : x ≡ getD ids (boundPlace ks i) 0
+    here-is = ex ∙ ap (λ (j : ℕ). getD ids j 0) ez
 
-    pub told-other : (b : Bool) → b ≡ false → Told text ks ss ls i b xs heads nexts true
-    told-other b e = record { says = sym (ap (λ (b : Bool). cond b (not (boundBefore text ks ss ls i xs)) true) e); held = λ _. rw e (held-up (λ (x : ℕ). x) _ heads nexts xs i (i + 1) (omega arith) (omega arith) f) }
+    mark-is : cond b (not (marked ids seen (boundPlace ks i))) true ≡ not (not (eqb (getD seen x 0) 0))
+    mark-is = ap (λ (b : Bool). cond b (not (marked ids seen (boundPlace ks i))) true) e ∙ ap (λ (j : ℕ). not (not (eqb (getD seen j 0) 0))) (sym here-is)
 
-  pub told-binds : (i : ℕ) (xs heads nexts : List ℕ) (r b : Bool) → true ≡ b → Told text ks ss ls i true xs heads nexts r → Told text ks ss ls i b xs heads nexts r
-  told-binds i xs heads nexts r b e f = subst (λ (b : Bool). Told text ks ss ls i b xs heads nexts r) e f
+    pub told-twice : (getD seen x 0 ≡ 0 → ⊥) → Told ks ids seen i b seen false
+    told-twice h = record { says = sym (mark-is ∙ ap (λ (t : Bool). not (not t)) (ne-eqb (getD seen x 0) 0 h)); is = λ t. clash t }
+
+    pub told-new : getD seen x 0 ≡ 0 → Told ks ids seen i b (set seen x 1) true
+    told-new h = record { says = sym (mark-is ∙ ap (λ (t : Bool). not (not t)) (eq-eqb (getD seen x 0) 0 h)); is = λ _. ap (λ (j : ℕ). set seen j 1) here-is ∙ sym (ap (λ (b : Bool). cond b (set seen (getD ids (boundPlace ks i) 0) 1) seen) e) }

@@ -17,7 +17,7 @@ use Rattle.quel.specs.Reader.{starts}
 use Rattle.quel.specs.Ahead.{wordAt, wordOf}
 use Rattle.tokens.specs.Table.{Table, tokenOf, wordIn, tokenAt, tokensAt}
 use Rattle.flat.specs.Flat.{outside, enter, deeper, shallower, uses, binding, opened, closed, binders, mainOf, colons, lastBy, lastOf}
-use Rattle.marks.specs.Places.{table, tokensFrom, nameIn, pointIn, depthKind, partKind, usesAt}
+use Rattle.marks.specs.Places.{table, tokensFrom, nameIn, pointIn, depthKind, partKind, useIn}
 use Rattle.marks.proofs.Steps.{uses-kind, binders-kind, main-kind, colons-kind, point-kind, word-kind}
 
 next : (i j : ℕ) → i + 1 + j ≡ i + suc j
@@ -100,14 +100,14 @@ module _ (text : List ℕ) (t : Table) (i : ℕ) (h : i < length (t .kinds)) whe
   unfolding tokenAt
   uses-from d = ap (uses d) (from-cons text t i h) ∙ uses-kind kind (wordIn text t i) (getD (t .numbers) i 0) d rest
 
-  -- a turn of the loop that seeks a use
-  pub use-turn : (d : ℕ) (x : Word) → hasWord x (uses d (tokensFrom text t i)) ≡ (usesAt text (t .kinds) (t .starts) (t .lengths) d i x || hasWord x (uses (depthKind kind d) rest))
-  unfolding usesAt depthKind
+  -- a turn of the loop that marks what is used
+  pub use-turn : (d : ℕ) (x : Word) → hasWord x (uses d (tokensFrom text t i)) ≡ ((useIn (t .kinds) d i && sameWord x (here text t i)) || hasWord x (uses (depthKind kind d) rest))
+  unfolding useIn depthKind
   use-turn d x = ap (hasWord x) (uses-from d) ∙ go (eqb kind 0) refl
     where
       go : (b : Bool) → eqb kind 0 ≡ b
           → hasWord x (cond b (cond (outside d && starts point rest) (wordIn text t i ∷ uses d rest) (uses d rest)) (uses (depthKind kind d) rest))
-          ≡ (usesAt text (t .kinds) (t .starts) (t .lengths) d i x || hasWord x (uses (depthKind kind d) rest))
+          ≡ ((useIn (t .kinds) d i && sameWord x (here text t i)) || hasWord x (uses (depthKind kind d) rest))
       go true e =
           let z = eqb-true kind 0 e in
           has-more x (wordIn text t i) (uses d rest) (outside d && starts point rest)
@@ -287,29 +287,19 @@ module _ (text ks ss ls : List ℕ) (i : ℕ) where
   unfolding pointIn
   point-past h = rw (le-ltb i (length ks) h)
 
-  module _ (k : ℕ) (ek : k ≡ getD ks i 0) (w : Word) where
-    pub use-other : (d : ℕ) → (k ≡ 0 → ⊥) → false ≡ usesAt text ks ss ls d i w
-    unfolding usesAt
-    use-other d h = rw (ne-eqb (getD ks i 0) 0 (λ e. h (ek ∙ e)))
+-- whether a token is a use
+module _ (ks : List ℕ) (i k d : ℕ) (ek : k ≡ getD ks i 0) where
+  pub use-other : (k ≡ 0 → ⊥) → false ≡ useIn ks d i
+  unfolding useIn
+  use-other h = rw (ne-eqb (getD ks i 0) 0 (λ e. h (ek ∙ e)))
 
-    pub use-inside : (d : ℕ) → k ≡ 0 → (d ≡ 0 → ⊥) → false ≡ usesAt text ks ss ls d i w
-    unfolding usesAt
-    use-inside d e h = rw (sym ek ∙ e, outside-pos d h)
+  pub use-inside : k ≡ 0 → (d ≡ 0 → ⊥) → false ≡ useIn ks d i
+  unfolding useIn
+  use-inside e h = rw (sym ek ∙ e, outside-pos d h)
 
-    pub use-value : (d : ℕ) → k ≡ 0 → d ≡ 0 → pointIn ks (i + 1) ≡ false → false ≡ usesAt text ks ss ls d i w
-    unfolding usesAt
-    use-value d e z h = rw (sym ek ∙ e, z, h)
-
-    pub use-there : (d : ℕ) → k ≡ 0 → d ≡ 0 → pointIn ks (i + 1) ≡ true → sameWord w (nameIn text ks ss ls i) ≡ usesAt text ks ss ls d i w
-    unfolding usesAt
-    use-there d e z h = rw (sym ek ∙ e, z, h)
-
--- what a search over the places keeps
-pub found-here : {a b : Bool} (c : Bool) → a ≡ (b || c) → b ≡ true → true ≡ a
-found-here c e h = sym (rw h at e)
-
-pub not-here : {a b c : Bool} → a ≡ (b || c) → b ≡ false → a ≡ c
-not-here e h = rw h at e
+  pub use-there : k ≡ 0 → d ≡ 0 → pointIn ks (i + 1) ≡ useIn ks d i
+  unfolding useIn
+  use-there e z = rw (sym ek ∙ e, z)
 
 module _ (text : List ℕ) (t : Table) (i : ℕ) (h : length (t .kinds) ≤ i) where
   pub no-use-left : (d : ℕ) (x : Word) → false ≡ hasWord x (uses d (tokensFrom text t i))

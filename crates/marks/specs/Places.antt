@@ -1,13 +1,10 @@
 -- A text's tokens from a place on, and what the code asks of one place.
 use Prim.Native.Nat.{ℕ, zero, suc, _+_, _-_}
-use mathlib.Core.Path.{_≡_}
-use mathlib.Core.Bool.{Bool, true, false, not, cond, _&&_}
-use mathlib.Core.List.{List, [], _∷_}
+use mathlib.Core.Bool.{Bool, true, false, cond, _&&_}
+use mathlib.Core.List.{List, []}
 use lib.Dec.{eqb, leb, ltb}
 use lib.ListN.{length, getD, take, drop}
-use Rattle.model.specs.Lists.{any}
-use Rattle.quel.specs.Results.{Word, sameWord}
-use Rattle.buckets.specs.Chains.{bucketOf, Held, Chained}
+use Rattle.quel.specs.Results.{Word}
 use Rattle.quel.specs.Tokens.{Token}
 use Rattle.tokens.specs.Table.{Table, tokensAt}
 use Rattle.flat.specs.Flat.{outside, enter, deeper, shallower, binding, opened, closed}
@@ -33,9 +30,9 @@ depthKind k d = cond (leb 2 k && leb k 6) (enter d) (cond (eqb k 20) (deeper d) 
 unfoldable pub partKind : ℕ → ℕ → ℕ
 partKind k p = cond (eqb k 14) 2 (cond (eqb k 20) (opened p) (cond (eqb k 21) (closed p) p))
 
--- whether the token at i uses the word w, at depth d
-unfoldable pub usesAt : List ℕ → List ℕ → List ℕ → List ℕ → ℕ → ℕ → Word → Bool
-usesAt text ks ss ls d i w = (eqb (getD ks i 0) 0 && (outside d && pointIn ks (i + 1))) && sameWord w (nameIn text ks ss ls i)
+-- whether the token at i, at depth d, is the X of an X.A outside all aggregates
+unfoldable pub useIn : List ℕ → ℕ → ℕ → Bool
+useIn ks d i = eqb (getD ks i 0) 0 && (outside d && pointIn ks (i + 1))
 
 -- the place of the name that the token at i binds: after SOME, or its own
 unfoldable pub boundPlace : List ℕ → ℕ → ℕ
@@ -44,23 +41,3 @@ boundPlace ks i = cond (eqb (getD ks i 0) 16) (i + 1) i
 -- whether a token of kind k binds a name
 unfoldable pub bindsKind : ℕ → ℕ → Bool
 bindsKind k p = cond (eqb k 16) true (eqb k 0 && binding p)
-
--- tokens that bind names, in chains by these
-module _ (text ks ss ls : List ℕ) where
-  abbrev pub boundWord : ℕ → Word
-  boundWord i = nameIn text ks ss ls (boundPlace ks i)
-
-  abbrev pub HeldAt : ℕ → List ℕ → List ℕ → List ℕ → Type 0
-  HeldAt i heads nexts xs = Held (λ (x : ℕ). bucketOf (boundWord x)) (λ (x : ℕ). x) i heads nexts xs
-
-  abbrev pub ChainedAt : ℕ → List ℕ → List ℕ → Type 0
-  ChainedAt i heads nexts = Chained (λ (x : ℕ). bucketOf (boundWord x)) (λ (x : ℕ). x) i heads nexts
-
-  -- whether one of the tokens xs binds the name that the token at i binds
-  abbrev pub boundBefore : ℕ → List ℕ → Bool
-  boundBefore i xs = any (λ (x : ℕ). sameWord (boundWord x) (boundWord i)) xs
-
-  -- the answer at token i: where it binds a name, none of the tokens xs does; it is then one of them
-  pub record Told (i : ℕ) (binds : Bool) (xs heads nexts : List ℕ) (r : Bool) : Type 0 where
-    pub says : r ≡ cond binds (not (boundBefore i xs)) true
-    pub held : r ≡ true → HeldAt (i + 1) heads nexts (cond binds (i ∷ xs) xs)

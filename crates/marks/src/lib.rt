@@ -1,21 +1,19 @@
-// A text's tokens by their places: names, which symbols are used and bound, where the targets begin.
+// A text's tokens by their places: a number for each name, which symbols are used and bound, where the targets begin.
 ghost use mathlib.Core.Path.{_≡_};
-ghost use mathlib.Core.Bool.{true, cond, _&&_};
+ghost use mathlib.Core.Bool.{cond, _&&_};
 ghost use mathlib.Core.List.{List, [], _∷_};
 ghost use Prim.Native.Nat.{ℕ, _+_, _<_, _≤_};
 ghost use lib.Dec.{leb};
-ghost use lib.ListN.{length, getD, take, drop};
-ghost use Rattle.quel.specs.Results.{sameWord, hasWord, uniqueWords};
-ghost use Rattle.flat.specs.Flat.{uses, binders, mainOf, lastOf};
+ghost use lib.ListN.{length, getD, take};
+ghost use Rattle.quel.specs.Results.{Word, sameWord, uniqueWords};
+ghost use Rattle.tokens.specs.Codes.{Spelt, Coded};
+ghost use Rattle.flat.specs.Flat.{binders, mainOf, lastOf};
 ghost use Rattle.flat.specs.Flat as F;
-ghost use Rattle.buckets.specs.Chains.{bucketOf};
-ghost use Rattle.marks.specs.Places.{table, tokensFrom, nameIn, pointIn, depthKind, partKind, usesAt, boundPlace, bindsKind, boundWord, HeldAt, ChainedAt, boundBefore, Told};
+ghost use Rattle.marks.specs.Places.{table, tokensFrom, nameIn, pointIn, useIn, depthKind, partKind, boundPlace, bindsKind};
+ghost use Rattle.marks.specs.Numbers.{Numbered, Numbering, Met, Seen, Told, Noted, Used};
 
-fn wide(x: u16) -> usize
-    ensures { λ r. ⌜ r ≡ x ⌝ }
-{
-    x as usize
-}
+// The code of every word of more than twelve letters.
+const LONG: u64 = 288_230_376_151_711_744;
 
 // The first n bytes, or all.
 fn head(q: &[u8], n: usize) -> &[u8]
@@ -25,7 +23,7 @@ fn head(q: &[u8], n: usize) -> &[u8]
 }
 
 // The name at a place; no letters where there is none.
-pub fn word<'a>(text: &'a [u8], kinds: &[u8], starts: &[u16], lengths: &[u16], i: usize) -> &'a [u8]
+fn word<'a>(text: &'a [u8], kinds: &[u8], starts: &[u16], lengths: &[u16], i: usize) -> &'a [u8]
     ensures { λ r. ⌜ now r ≡ nameIn (now (text .entry)) (now (kinds .entry)) (now (starts .entry)) (now (lengths .entry)) i ⌝ }
 {
     if kinds.len() <= i {
@@ -56,21 +54,198 @@ fn same(a: &[u8], b: &[u8]) -> bool
     true
 }
 
-// Whether two places have one name.
-pub fn same_names(
+// Whether two places with names have one name.
+fn same_names(
     text: &[u8],
     kinds: &[u8],
     starts: &[u16],
     lengths: &[u16],
+    numbers: &[u64],
     i: usize,
     j: usize,
 ) -> bool
-    ensures { λ r. ⌜ r ≡ sameWord (nameIn (now (text .entry)) (now (kinds .entry)) (now (starts .entry)) (now (lengths .entry)) i) (nameIn (now (text .entry)) (now (kinds .entry)) (now (starts .entry)) (now (lengths .entry)) j) ⌝ }
+    requires { ⌜ (i < length (now numbers)) × (j < length (now numbers))
+        × Spelt (nameIn (now text) (now kinds) (now starts) (now lengths) i) (getD (now numbers) i 0)
+        × Spelt (nameIn (now text) (now kinds) (now starts) (now lengths) j) (getD (now numbers) j 0) ⌝ }
+    ensures { λ r. ⌜ r ≡ sameWord (nameIn (now (text .entry)) (now (kinds .entry)) (now (starts .entry)) (now (lengths .entry)) i)
+        (nameIn (now (text .entry)) (now (kinds .entry)) (now (starts .entry)) (now (lengths .entry)) j) ⌝ }
 {
+    let code = numbers[i];
+    if numbers[j] != code {
+        return false;
+    }
+    if code < LONG {
+        return true;
+    }
     same(
         word(text, kinds, starts, lengths, i),
         word(text, kinds, starts, lengths, j),
     )
+}
+
+// The number of an earlier place with the name at i, 0 where there is none.
+fn earlier(
+    text: &[u8],
+    kinds: &[u8],
+    starts: &[u16],
+    lengths: &[u16],
+    numbers: &[u64],
+    heads: &[u16],
+    nexts: &[u16],
+    ids: &[u16],
+    i: usize,
+) -> usize
+    requires { ⌜ (i < length (now kinds)) × (length (now kinds) ≤ length (now numbers)) × (getD (now kinds) i 0 ≡ 0)
+        × Coded (now text) (table (now kinds) (now starts) (now lengths) (now numbers)) (length (now kinds))
+        × Numbering (nameIn (now text) (now kinds) (now starts) (now lengths)) i (now heads) (now nexts) (now ids) ⌝ }
+    ensures { λ r. ⌜ ((f : Numbering (nameIn (now (text .entry)) (now (kinds .entry)) (now (starts .entry)) (now (lengths .entry))) i
+        (now (heads .entry)) (now (nexts .entry)) (now (ids .entry)))
+        → Met (nameIn (now (text .entry)) (now (kinds .entry)) (now (starts .entry)) (now (lengths .entry))) (now (ids .entry)) i (f .places) r) ⌝ }
+{
+    let mut link = kinds::size_at(heads, buckets::bucket(numbers[i]));
+    while 0 < link {
+        let at = link - 1;
+        if same_names(text, kinds, starts, lengths, numbers, at, i) {
+            return kinds::size_at(ids, at);
+        }
+        link = kinds::size_at(nexts, at);
+    }
+    0
+}
+
+// The number of the token at i, if it is a name: that of an earlier place with the name, or one more than its own place.
+fn enter(
+    text: &[u8],
+    kinds: &[u8],
+    starts: &[u16],
+    lengths: &[u16],
+    numbers: &[u64],
+    heads: &mut [u16],
+    nexts: &mut [u16],
+    ids: &mut [u16],
+    i: usize,
+)
+    requires { ⌜ (i < length (now kinds)) × (length (now kinds) < 4000) × (length (now kinds) ≤ length (now numbers))
+        × Coded (now text) (table (now kinds) (now starts) (now lengths) (now numbers)) (length (now kinds)) ⌝ }
+    requires { ⌜ (1024 ≤ length (now heads)) × (i < length (now nexts)) × (i < length (now ids))
+        × Numbering (nameIn (now text) (now kinds) (now starts) (now lengths)) i (now heads) (now nexts) (now ids) ⌝ }
+    ensures { λ _. ⌜ Numbering (nameIn (now (text .entry)) (now (kinds .entry)) (now (starts .entry)) (now (lengths .entry))) (i + 1)
+        (now (heads .exit)) (now (nexts .exit)) (now (ids .exit)) ⌝ }
+{
+    if kinds[i] != 0 {
+        return;
+    }
+    let id = earlier(text, kinds, starts, lengths, numbers, heads, nexts, ids, i);
+    if id != 0 {
+        ids[i] = id as u16;
+        return;
+    }
+    buckets::put(heads, nexts, buckets::bucket(numbers[i]), i, i);
+    ids[i] = (i + 1) as u16;
+}
+
+// Numbers the names, with two tables for the first place of each.
+fn number_with(
+    text: &[u8],
+    kinds: &[u8],
+    starts: &[u16],
+    lengths: &[u16],
+    numbers: &[u64],
+    heads: &mut [u16],
+    nexts: &mut [u16],
+    ids: &mut [u16],
+)
+    requires { ⌜ (length (now kinds) < 4000) × (length (now kinds) ≤ length (now numbers))
+        × Coded (now text) (table (now kinds) (now starts) (now lengths) (now numbers)) (length (now kinds)) ⌝ }
+    requires { ⌜ (1024 ≤ length (now heads)) × (length (now kinds) ≤ length (now nexts)) × (length (now kinds) ≤ length (now ids))
+        × ((h : ℕ) → getD (now heads) h 0 ≡ 0) × ((h : ℕ) → getD (now ids) h 0 ≡ 0) ⌝ }
+    ensures { λ _. ⌜ Numbered (nameIn (now (text .entry)) (now (kinds .entry)) (now (starts .entry)) (now (lengths .entry)))
+        (length (now (kinds .entry))) (now (ids .exit)) ⌝ }
+{
+    let mut i = 0;
+    while i < kinds.len() {
+        enter(text, kinds, starts, lengths, numbers, heads, nexts, ids, i);
+        i += 1;
+    }
+}
+
+// Few tokens: the tables are small, and soon cleared.
+fn number_short(
+    text: &[u8],
+    kinds: &[u8],
+    starts: &[u16],
+    lengths: &[u16],
+    numbers: &[u64],
+    ids: &mut [u16],
+)
+    requires { ⌜ (length (now kinds) ≤ 256) × (length (now kinds) ≤ length (now numbers))
+        × Coded (now text) (table (now kinds) (now starts) (now lengths) (now numbers)) (length (now kinds)) ⌝ }
+    requires { ⌜ (length (now kinds) ≤ length (now ids)) × ((h : ℕ) → getD (now ids) h 0 ≡ 0) ⌝ }
+    ensures { λ _. ⌜ Numbered (nameIn (now (text .entry)) (now (kinds .entry)) (now (starts .entry)) (now (lengths .entry)))
+        (length (now (kinds .entry))) (now (ids .exit)) ⌝ }
+{
+    let mut heads = [0u16; 1024];
+    let mut nexts = [0u16; 256];
+    number_with(
+        text,
+        kinds,
+        starts,
+        lengths,
+        numbers,
+        &mut heads,
+        &mut nexts,
+        ids,
+    );
+}
+
+fn number_long(
+    text: &[u8],
+    kinds: &[u8],
+    starts: &[u16],
+    lengths: &[u16],
+    numbers: &[u64],
+    ids: &mut [u16],
+)
+    requires { ⌜ (length (now kinds) < 4000) × (length (now kinds) ≤ length (now numbers))
+        × Coded (now text) (table (now kinds) (now starts) (now lengths) (now numbers)) (length (now kinds)) ⌝ }
+    requires { ⌜ (length (now kinds) ≤ length (now ids)) × ((h : ℕ) → getD (now ids) h 0 ≡ 0) ⌝ }
+    ensures { λ _. ⌜ Numbered (nameIn (now (text .entry)) (now (kinds .entry)) (now (starts .entry)) (now (lengths .entry)))
+        (length (now (kinds .entry))) (now (ids .exit)) ⌝ }
+{
+    let mut heads = [0u16; 1024];
+    let mut nexts = [0u16; 4000];
+    number_with(
+        text,
+        kinds,
+        starts,
+        lengths,
+        numbers,
+        &mut heads,
+        &mut nexts,
+        ids,
+    );
+}
+
+// Numbers the names: two places have the same number where they have the same name, and 0 where they have none.
+pub fn number(
+    text: &[u8],
+    kinds: &[u8],
+    starts: &[u16],
+    lengths: &[u16],
+    numbers: &[u64],
+    ids: &mut [u16],
+)
+    requires { ⌜ (length (now kinds) < 4000) × (length (now kinds) ≤ length (now numbers))
+        × Coded (now text) (table (now kinds) (now starts) (now lengths) (now numbers)) (length (now kinds)) ⌝ }
+    requires { ⌜ (length (now kinds) ≤ length (now ids)) × ((h : ℕ) → getD (now ids) h 0 ≡ 0) ⌝ }
+    ensures { λ _. ⌜ Numbered (nameIn (now (text .entry)) (now (kinds .entry)) (now (starts .entry)) (now (lengths .entry)))
+        (length (now (kinds .entry))) (now (ids .exit)) ⌝ }
+{
+    if kinds.len() <= 256 {
+        number_short(text, kinds, starts, lengths, numbers, ids);
+        return;
+    }
+    number_long(text, kinds, starts, lengths, numbers, ids);
 }
 
 // Whether a point stands there.
@@ -126,18 +301,10 @@ fn depth(kind: u8, d: usize) -> usize
     }
 }
 
-// Whether the token at i uses the name at x: X.A outside all aggregates.
-fn uses_at(
-    text: &[u8],
-    kinds: &[u8],
-    starts: &[u16],
-    lengths: &[u16],
-    d: usize,
-    i: usize,
-    x: usize,
-) -> bool
+// Whether the token at i is the X of an X.A outside all aggregates.
+fn is_use(kinds: &[u8], d: usize, i: usize) -> bool
     requires { ⌜ i < 4000 ⌝ }
-    ensures { λ r. ⌜ r ≡ usesAt (now (text .entry)) (now (kinds .entry)) (now (starts .entry)) (now (lengths .entry)) d i (nameIn (now (text .entry)) (now (kinds .entry)) (now (starts .entry)) (now (lengths .entry)) x) ⌝ }
+    ensures { λ r. ⌜ r ≡ useIn (now (kinds .entry)) d i ⌝ }
 {
     if kinds::byte(kinds, i) != 0 {
         return false;
@@ -145,34 +312,35 @@ fn uses_at(
     if d != 0 {
         return false;
     }
-    if !is_point(kinds, i + 1) {
-        return false;
-    }
-    same_names(text, kinds, starts, lengths, x, i)
+    is_point(kinds, i + 1)
 }
 
-// Whether the tokens from a place on use the name at x outside all aggregates.
-pub fn used(
-    text: &[u8],
-    kinds: &[u8],
-    starts: &[u16],
-    lengths: &[u16],
-    from: usize,
-    x: usize,
-) -> bool
-    requires { ⌜ length (now kinds) < 4000 ⌝ }
-    ensures { λ r. ⌜ ((ns : List ℕ) → r ≡ hasWord (nameIn (now (text .entry)) (now (kinds .entry)) (now (starts .entry)) (now (lengths .entry)) x) (uses 0 (tokensFrom (now (text .entry)) (table (now (kinds .entry)) (now (starts .entry)) (now (lengths .entry)) ns) from))) ⌝ }
+// Marks the name at i, if it is used there.
+fn note(kinds: &[u8], ids: &[u16], used: &mut [u8], d: usize, i: usize)
+    requires { ⌜ (i < 4000) × (getD (now ids) i 0 < length (now used)) ⌝ }
+    ensures { λ _. ⌜ Noted (now (ids .entry)) (now (used .entry)) i (useIn (now (kinds .entry)) d i) (now (used .exit)) ⌝ }
+{
+    if !is_use(kinds, d, i) {
+        return;
+    }
+    let x = kinds::size_at(ids, i);
+    used[x] = 1;
+}
+
+// Marks, by their numbers, the names that tokens from a place on use outside all aggregates.
+pub fn uses(kinds: &[u8], ids: &[u16], from: usize, used: &mut [u8])
+    requires { ⌜ (length (now kinds) < 4000) × (length (now kinds) < length (now used)) × ((x : ℕ) → getD (now ids) x 0 ≤ length (now kinds))
+        × ((x : ℕ) → getD (now used) x 0 ≡ 0) ⌝ }
+    ensures { λ _. ⌜ ((text ss ls ns : List ℕ) → Numbered (nameIn text (now (kinds .entry)) ss ls) (length (now (kinds .entry))) (now (ids .entry))
+        → Used text (table (now (kinds .entry)) ss ls ns) (now (ids .entry)) from (now (used .exit))) ⌝ }
 {
     let mut i = from;
     let mut d = 0;
     while i < kinds.len() {
-        if uses_at(text, kinds, starts, lengths, d, i, x) {
-            return true;
-        }
+        note(kinds, ids, used, d, i);
         d = depth(kinds[i], d);
         i += 1;
     }
-    false
 }
 
 // Where symbols may be bound, after a token: 0 between the RANGE relations, 1 in their parentheses, 2 after RETRIEVE.
@@ -201,54 +369,6 @@ fn bound_place(kinds: &[u8], i: usize) -> usize
     }
 }
 
-// Whether a token of a bucket's chain binds the name that the token at i binds.
-fn known(
-    text: &[u8],
-    kinds: &[u8],
-    starts: &[u16],
-    lengths: &[u16],
-    heads: &[u16],
-    nexts: &[u16],
-    bucket: usize,
-    i: usize,
-) -> bool
-    requires { ⌜ (i < 4000) × (bucket < 1024) × (bucket ≡ bucketOf (boundWord (now text) (now kinds) (now starts) (now lengths) i)) × ChainedAt (now text) (now kinds) (now starts) (now lengths) i (now heads) (now nexts) ⌝ }
-    ensures { λ r. ⌜ ((xs : List ℕ) → HeldAt (now (text .entry)) (now (kinds .entry)) (now (starts .entry)) (now (lengths .entry)) i (now (heads .entry)) (now (nexts .entry)) xs → r ≡ boundBefore (now (text .entry)) (now (kinds .entry)) (now (starts .entry)) (now (lengths .entry)) i xs) ⌝ }
-{
-    let x = bound_place(kinds, i);
-    let mut link = kinds::size_at(heads, bucket);
-    while 0 < link {
-        let at = link - 1;
-        if same_names(text, kinds, starts, lengths, bound_place(kinds, at), x) {
-            return true;
-        }
-        link = kinds::size_at(nexts, at);
-    }
-    false
-}
-
-// Whether no token before binds the name that the token at i binds. It is chained then.
-fn fresh(
-    text: &[u8],
-    kinds: &[u8],
-    starts: &[u16],
-    lengths: &[u16],
-    heads: &mut [u16],
-    nexts: &mut [u16],
-    i: usize,
-) -> bool
-    requires { ⌜ (i < 4000) × (1024 ≤ length (now heads)) × (i < length (now nexts)) × ChainedAt (now text) (now kinds) (now starts) (now lengths) i (now heads) (now nexts) ⌝ }
-    ensures { λ r. ⌜ ((xs : List ℕ) → HeldAt (now (text .entry)) (now (kinds .entry)) (now (starts .entry)) (now (lengths .entry)) i (now (heads .entry)) (now (nexts .entry)) xs → Told (now (text .entry)) (now (kinds .entry)) (now (starts .entry)) (now (lengths .entry)) i true xs (now (heads .exit)) (now (nexts .exit)) r) ⌝ }
-{
-    let x = bound_place(kinds, i);
-    let h = buckets::bucket(word(text, kinds, starts, lengths, x));
-    if known(text, kinds, starts, lengths, heads, nexts, h, i) {
-        return false;
-    }
-    buckets::put(heads, nexts, h, i, i);
-    true
-}
-
 // Whether a token of a kind binds a name.
 fn binds(kind: u8, p: u8) -> bool
     ensures { λ r. ⌜ r ≡ bindsKind kind p ⌝ }
@@ -262,42 +382,33 @@ fn binds(kind: u8, p: u8) -> bool
     p == 1
 }
 
-// Whether the token at i binds no name, or one that no token before binds.
-fn once(
-    text: &[u8],
-    kinds: &[u8],
-    starts: &[u16],
-    lengths: &[u16],
-    heads: &mut [u16],
-    nexts: &mut [u16],
-    p: u8,
-    i: usize,
-) -> bool
-    requires { ⌜ (i < length (now kinds)) × (i < 4000) × (1024 ≤ length (now heads)) × (i < length (now nexts)) × ChainedAt (now text) (now kinds) (now starts) (now lengths) i (now heads) (now nexts) ⌝ }
-    ensures { λ r. ⌜ ((xs : List ℕ) → HeldAt (now (text .entry)) (now (kinds .entry)) (now (starts .entry)) (now (lengths .entry)) i (now (heads .entry)) (now (nexts .entry)) xs → Told (now (text .entry)) (now (kinds .entry)) (now (starts .entry)) (now (lengths .entry)) i (bindsKind (getD (now (kinds .entry)) i 0) p) xs (now (heads .exit)) (now (nexts .exit)) r) ⌝ }
+// Whether the token at i binds no name, or one that is not marked; it is marked then.
+fn once(kinds: &[u8], ids: &[u16], seen: &mut [u8], p: u8, i: usize) -> bool
+    requires { ⌜ (i < length (now kinds)) × (i < 4000) × ((x : ℕ) → getD (now ids) x 0 < length (now seen)) ⌝ }
+    ensures { λ r. ⌜ Told (now (kinds .entry)) (now (ids .entry)) (now (seen .entry)) i (bindsKind (getD (now (kinds .entry)) i 0) p) (now (seen .exit)) r ⌝ }
 {
     if !binds(kinds[i], p) {
         return true;
     }
-    fresh(text, kinds, starts, lengths, heads, nexts, i)
+    let x = kinds::size_at(ids, bound_place(kinds, i));
+    if seen[x] != 0 {
+        return false;
+    }
+    seen[x] = 1;
+    true
 }
 
-// All tokens, with two tables for those that bind names.
-fn unique_with(
-    text: &[u8],
-    kinds: &[u8],
-    starts: &[u16],
-    lengths: &[u16],
-    heads: &mut [u16],
-    nexts: &mut [u16],
-) -> bool
-    requires { ⌜ (length (now kinds) < 4000) × (1024 ≤ length (now heads)) × (length (now kinds) ≤ length (now nexts)) × ((h : ℕ) → getD (now heads) h 0 ≡ 0) ⌝ }
-    ensures { λ r. ⌜ ((ns : List ℕ) → r ≡ uniqueWords (binders 0 (tokensFrom (now (text .entry)) (table (now (kinds .entry)) (now (starts .entry)) (now (lengths .entry)) ns) 0))) ⌝ }
+// Whether no symbol is bound twice, with a table for the marks.
+fn unique_with(kinds: &[u8], ids: &[u16], seen: &mut [u8]) -> bool
+    requires { ⌜ (length (now kinds) < 4000) × (length (now kinds) < length (now seen)) × ((x : ℕ) → getD (now ids) x 0 ≤ length (now kinds))
+        × ((x : ℕ) → getD (now seen) x 0 ≡ 0) ⌝ }
+    ensures { λ r. ⌜ ((text ss ls ns : List ℕ) → Numbered (nameIn text (now (kinds .entry)) ss ls) (length (now (kinds .entry))) (now (ids .entry))
+        → r ≡ uniqueWords (binders 0 (tokensFrom text (table (now (kinds .entry)) ss ls ns) 0))) ⌝ }
 {
     let mut i = 0;
     let mut p = 0;
     while i < kinds.len() {
-        if !once(text, kinds, starts, lengths, heads, nexts, p, i) {
+        if !once(kinds, ids, seen, p, i) {
             return false;
         }
         p = part(kinds[i], p);
@@ -306,40 +417,41 @@ fn unique_with(
     true
 }
 
-// Few tokens: the tables are small, and soon cleared.
-fn unique_short(text: &[u8], kinds: &[u8], starts: &[u16], lengths: &[u16]) -> bool
-    requires { ⌜ length (now kinds) ≤ 256 ⌝ }
-    ensures { λ r. ⌜ ((ns : List ℕ) → r ≡ uniqueWords (binders 0 (tokensFrom (now (text .entry)) (table (now (kinds .entry)) (now (starts .entry)) (now (lengths .entry)) ns) 0))) ⌝ }
+fn unique_short(kinds: &[u8], ids: &[u16]) -> bool
+    requires { ⌜ (length (now kinds) ≤ 256) × ((x : ℕ) → getD (now ids) x 0 ≤ length (now kinds)) ⌝ }
+    ensures { λ r. ⌜ ((text ss ls ns : List ℕ) → Numbered (nameIn text (now (kinds .entry)) ss ls) (length (now (kinds .entry))) (now (ids .entry))
+        → r ≡ uniqueWords (binders 0 (tokensFrom text (table (now (kinds .entry)) ss ls ns) 0))) ⌝ }
 {
-    let mut heads = [0u16; 1024];
-    let mut nexts = [0u16; 256];
-    unique_with(text, kinds, starts, lengths, &mut heads, &mut nexts)
+    let mut seen = [0u8; 257];
+    unique_with(kinds, ids, &mut seen)
 }
 
-fn unique_long(text: &[u8], kinds: &[u8], starts: &[u16], lengths: &[u16]) -> bool
-    requires { ⌜ length (now kinds) < 4000 ⌝ }
-    ensures { λ r. ⌜ ((ns : List ℕ) → r ≡ uniqueWords (binders 0 (tokensFrom (now (text .entry)) (table (now (kinds .entry)) (now (starts .entry)) (now (lengths .entry)) ns) 0))) ⌝ }
+fn unique_long(kinds: &[u8], ids: &[u16]) -> bool
+    requires { ⌜ (length (now kinds) < 4000) × ((x : ℕ) → getD (now ids) x 0 ≤ length (now kinds)) ⌝ }
+    ensures { λ r. ⌜ ((text ss ls ns : List ℕ) → Numbered (nameIn text (now (kinds .entry)) ss ls) (length (now (kinds .entry))) (now (ids .entry))
+        → r ≡ uniqueWords (binders 0 (tokensFrom text (table (now (kinds .entry)) ss ls ns) 0))) ⌝ }
 {
-    let mut heads = [0u16; 1024];
-    let mut nexts = [0u16; 4000];
-    unique_with(text, kinds, starts, lengths, &mut heads, &mut nexts)
+    let mut seen = [0u8; 4000];
+    unique_with(kinds, ids, &mut seen)
 }
 
 // Whether no symbol is bound twice.
-pub fn unique(text: &[u8], kinds: &[u8], starts: &[u16], lengths: &[u16]) -> bool
-    requires { ⌜ length (now kinds) < 4000 ⌝ }
-    ensures { λ r. ⌜ ((ns : List ℕ) → r ≡ uniqueWords (binders 0 (tokensFrom (now (text .entry)) (table (now (kinds .entry)) (now (starts .entry)) (now (lengths .entry)) ns) 0))) ⌝ }
+pub fn unique(kinds: &[u8], ids: &[u16]) -> bool
+    requires { ⌜ (length (now kinds) < 4000) × ((x : ℕ) → getD (now ids) x 0 ≤ length (now kinds)) ⌝ }
+    ensures { λ r. ⌜ ((text ss ls ns : List ℕ) → Numbered (nameIn text (now (kinds .entry)) ss ls) (length (now (kinds .entry))) (now (ids .entry))
+        → r ≡ uniqueWords (binders 0 (tokensFrom text (table (now (kinds .entry)) ss ls ns) 0))) ⌝ }
 {
     if kinds.len() <= 256 {
-        return unique_short(text, kinds, starts, lengths);
+        return unique_short(kinds, ids);
     }
-    unique_long(text, kinds, starts, lengths)
+    unique_long(kinds, ids)
 }
 
 // Where the targets begin: after RETRIEVE, the workspace's name and a colon.
 pub fn main_place(kinds: &[u8]) -> usize
     requires { ⌜ length (now kinds) < 4000 ⌝ }
-    ensures { λ r. ⌜ ((text ss ls ns : List ℕ) → tokensFrom text (table (now (kinds .entry)) ss ls ns) r ≡ mainOf (tokensFrom text (table (now (kinds .entry)) ss ls ns) 0)) ⌝ }
+    ensures { λ r. ⌜ ((text ss ls ns : List ℕ) → tokensFrom text (table (now (kinds .entry)) ss ls ns) r
+        ≡ mainOf (tokensFrom text (table (now (kinds .entry)) ss ls ns) 0)) ⌝ }
     ensures { λ r. ⌜ r < 4003 ⌝ }
 {
     let mut i = 0;

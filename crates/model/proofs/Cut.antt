@@ -9,7 +9,7 @@ use lib.IntN.{ℤ, pos}
 use borrow.Author.Tests.{eqb-true}
 use Rattle.model.specs.Lists.{update, filter, any, concatMap, Every, present}
 use Rattle.model.specs.Syntax.{Condition, Term, TRUE, FALSE, NOT, AND, OR, COMPARE, SOME, CONSTANT, ATTRIBUTE, AGGREGATE, Binding, Use, Query, uses, usesT, usesQ}
-use Rattle.model.specs.Meaning.{Tuple, Assignment, Rows, whole, compare, aggregate, holds, value, assignments, unbound, withCell, targetRow, qualifying, rowsMet}
+use Rattle.model.specs.Meaning.{Tuple, Assignment, Rows, whole, compare, aggregate, holds, value, assignments, unbound, withCell, targetRow, qualifying, rowsMet, holdsWith, targetRowWith}
 use Rattle.model.proofs.Lists.{any-map, filter-map, concatMap-map, map-concatMap, every-append}
 
 -- a use is in S
@@ -41,7 +41,7 @@ module _ (S : ℕ → ℕ → Bool) where
 
   module _ (R : Rows) where
     mutual
-      unfolding holds uses Every cutRows cutAssignment
+      unfolding holdsWith uses Every cutRows cutAssignment
 
       pub cut-holds : (c : Condition) (e : Assignment) → Every (In S) (uses c) → holds c R e ≡ holds c (cutRows R) (cutAssignment e)
       cut-holds TRUE e u = refl
@@ -65,7 +65,7 @@ module _ (S : ℕ → ℕ → Bool) where
           ∙ ap (map (λ (x : Tuple). x a)) (sym (filter-map (masked (S v)) (λ x. holds c (cutRows R) (update (cutAssignment e) v x)) (R v r))))
 
     pub cut-row : (ts : List Term) (e : Assignment) → Every (In S) (concatMap usesT ts) → targetRow ts R e ≡ targetRow ts (cutRows R) (cutAssignment e)
-    unfolding targetRow concatMap
+    unfolding targetRowWith concatMap
     cut-row [] e u = refl
     cut-row (t ∷ ts) e u =
         let i = every-append (In S) (usesT t) (concatMap usesT ts) u in

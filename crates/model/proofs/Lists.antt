@@ -1,10 +1,12 @@
 -- Laws of the list functions.
 use Prim.Native.Nat.{ℕ, zero, suc, _+_}
-use native.Mathlib.Nat.{add-assoc}
+use native.Mathlib.Nat.{add-assoc, add-zero}
 use native.Mathlib.Omega.{arith}
 use mathlib.Core.Bool.{Bool, true, false, cond, _&&_, _||_}
 use mathlib.Core.List.{List, [], _∷_, _++_, map, map-append, append-assoc}
 use mathlib.Core.Path.{_≡_, refl, sym, _∙_, ap}
+use lib.ListN.{length, getD, drop, replicate}
+use lib.Seq.{getD-drop}
 use Rattle.model.specs.Lists.{consIf, filter, any, all, concatMap, total, backwards, Every}
 use Rattle.model.proofs.Tests.{and-inv, and-intro, or-inv, or-left, or-right, any-append}
 
@@ -178,3 +180,17 @@ pub map-backwards : {A B : Type 0} (f : A → B) (xs : List A) → map f (backwa
 unfolding backwards
 map-backwards f [] = refl
 map-backwards f (x ∷ xs) = map-append f (backwards xs) (x ∷ []) ∙ ap (λ l. l ++ (f x ∷ [])) (map-backwards f xs)
+
+-- a list of one value, past its end too
+pub getD-same : {A : Type 0} (n : ℕ) (k : A) (v : ℕ) → getD (replicate n k) v k ≡ k
+getD-same zero k v = refl
+getD-same (suc n) k zero = refl
+getD-same (suc n) k (suc v) = getD-same n k v
+
+-- the first number of a part
+pub first-at : (at : ℕ) (q : List ℕ) → getD (drop at q) 0 0 ≡ getD q at 0
+first-at at q = getD-drop at q 0 0 ∙ ap (λ (i : ℕ). getD q i 0) (add-zero at)
+
+pub nothing-left : {A : Type 0} (x : List A) → length x ≡ 0 → x ≡ []
+nothing-left [] h = refl
+nothing-left (a ∷ x) h = absurd (omega arith)

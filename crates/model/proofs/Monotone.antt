@@ -11,7 +11,7 @@ use lib.Signed.{leZ}
 use borrow.Author.Tests.{leb-true, le-leb}
 use Rattle.model.specs.Lists.{update, filter, any, all, present}
 use Rattle.model.specs.Syntax.{Condition, Term, TRUE, FALSE, NOT, AND, OR, COMPARE, SOME, CONSTANT, ATTRIBUTE, AGGREGATE, Binding, Query}
-use Rattle.model.specs.Meaning.{Tuple, Assignment, Rows, compare, holds, value, assignments, unbound, withCell, targetRow, sameRow, addRow, addRows, qualifying, rowsMet, answers}
+use Rattle.model.specs.Meaning.{Tuple, Assignment, Rows, compare, holds, value, assignments, unbound, withCell, targetRow, sameRow, addRow, addRows, qualifying, rowsMet, answers, valueWith, holdsWith, targetRowWith}
 use Rattle.model.specs.Demands.{noAggregate, positive, positiveQ, included}
 use Rattle.model.proofs.Tests.{clash, and-inv, and-intro, or-inv, or-left, or-right, or-false, or-assoc, any-append}
 use Rattle.model.proofs.Lists.{any-filter, any-map, any-weaken, any-concatMap, Within}
@@ -89,13 +89,13 @@ module _ (f : List ℤ → Bool) where
 -- two families of rows, the second with more
 module _ (R R′ : Rows) (more : (v r : ℕ) → Within (R v r) (R′ v r)) where
   plain-value : (t : Term) (e : Assignment) → noAggregate t ≡ true → value t R e ≡ value t R′ e
-  unfolding value noAggregate
+  unfolding valueWith noAggregate
   plain-value (CONSTANT a b c d) e n = refl
   plain-value (ATTRIBUTE v a) e n = refl
   plain-value (AGGREGATE f v r a c) e n = clash n
 
   plain-row : (ts : List Term) (e : Assignment) → all noAggregate ts ≡ true → targetRow ts R e ≡ targetRow ts R′ e
-  unfolding targetRow all
+  unfolding targetRowWith all
   plain-row [] e n = refl
   plain-row (t ∷ ts) e n =
       let i = and-inv (noAggregate t) (all noAggregate ts) n in
@@ -103,7 +103,7 @@ module _ (R R′ : Rows) (more : (v r : ℕ) → Within (R v r) (R′ v r)) wher
 
   -- a condition that holds goes on holding
   more-holds : (c : Condition) (e : Assignment) → positive c ≡ true → holds c R e ≡ true → holds c R′ e ≡ true
-  unfolding holds positive
+  unfolding holdsWith positive
   more-holds TRUE e n h = refl
   more-holds FALSE e n h = h
   more-holds (NOT c) e n h = clash n

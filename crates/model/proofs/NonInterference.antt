@@ -10,7 +10,7 @@ use lib.IntN.{ℤ, pos}
 use borrow.Author.Tests.{eq-eqb, eqb-true, eqb-false}
 use Rattle.model.specs.Lists.{update, consIf, filter, any, concatMap, contains, below, Every, present}
 use Rattle.model.specs.Syntax.{Condition, Term, TRUE, FALSE, NOT, AND, OR, COMPARE, SOME, CONSTANT, ATTRIBUTE, AGGREGATE, Binding, Use, Query, bindings, bindingsT, bindingsQ, usesQ}
-use Rattle.model.specs.Meaning.{Tuple, Assignment, Rows, whole, compare, aggregate, holds, value, assignments, unbound, withCell, targetRow, addRows, rowsMet, answers}
+use Rattle.model.specs.Meaning.{Tuple, Assignment, Rows, whole, compare, aggregate, holds, value, assignments, unbound, withCell, targetRow, addRows, rowsMet, answers, holdsWith, targetRowWith}
 use Rattle.model.specs.Catalogue.{Shape, allRows}
 use Rattle.model.specs.Permits.{usedOf, Guards, permitted, cut}
 use Rattle.model.specs.Rewriting.{rewriteQuery}
@@ -24,7 +24,7 @@ module _ (R R′ : Rows) where
   Agree b = R (b .variable) (b .relation) ≡ R′ (b .variable) (b .relation)
 
   mutual
-    unfolding holds bindings Every
+    unfolding holdsWith bindings Every
 
     pub same-holds : (c : Condition) (e : Assignment) → Every Agree (bindings c) → holds c R e ≡ holds c R′ e
     same-holds TRUE e h = refl
@@ -41,7 +41,7 @@ module _ (R R′ : Rows) where
     same-value (AGGREGATE f v r a c) e h = ap₂ (λ (p : Tuple → Bool) (l : List Tuple). aggregate f (map (λ (x : Tuple). x a) (filter p l))) (fun-ext λ x. same-holds c (update e v x) (h .1)) (h .0)
 
   pub same-row : (ts : List Term) (e : Assignment) → Every Agree (concatMap bindingsT ts) → targetRow ts R e ≡ targetRow ts R′ e
-  unfolding targetRow concatMap
+  unfolding targetRowWith concatMap
   same-row [] e h = refl
   same-row (t ∷ ts) e h =
       let i = every-append Agree (bindingsT t) (concatMap bindingsT ts) h in

@@ -9,7 +9,7 @@ use lib.IntN.{ℤ}
 use lib.ListN.{length}
 use Rattle.model.specs.Lists.{update, filter, any, concatMap, total, Every, present}
 use Rattle.model.specs.Syntax.{Condition, Term, TRUE, FALSE, NOT, AND, OR, COMPARE, SOME, CONSTANT, ATTRIBUTE, AGGREGATE, Binding, Query, bindings, bindingsT, bindingsQ}
-use Rattle.model.specs.Meaning.{Tuple, Assignment, Rows, whole, compare, aggregate, holds, value, assignments, unbound, withCell, targetRow, addRows, qualifying, rowsMet, answers}
+use Rattle.model.specs.Meaning.{Tuple, Assignment, Rows, whole, compare, aggregate, holds, value, assignments, unbound, withCell, targetRow, addRows, qualifying, rowsMet, answers, holdsWith, targetRowWith}
 use Rattle.model.specs.Catalogue.{Shape, allRows}
 use Rattle.model.specs.Permits.{Guard, free, only, Guards, meets, allowed, permitted}
 use Rattle.model.specs.Rewriting.{copyFor, disjunction, newIn, guarded, newFor, rewrite, rewriteT, rewriteTargets, guardRanges, rewriteQuery}
@@ -39,13 +39,13 @@ SaneGuard sh r (only cs) = Every (Sane sh r) cs
 
 module _ (sh : Shape) (D : ℕ → List Tuple) where
   pub disjunction-holds : (cs : List Condition) (r v n : ℕ) (e : Assignment) → Every (Sane sh r) cs → v < n → holds (disjunction cs v n) (allRows D) e ≡ any (λ c. meets D c (e v)) cs
-  unfolding disjunction holds any Every
+  unfolding disjunction holdsWith any Every
   disjunction-holds [] r v n e s l = refl
   disjunction-holds (c ∷ []) r v n e s l = copy-holds sh D c r v n e (s .0) l ∙ sym (or-false (meets D c (e v)))
   disjunction-holds (c ∷ d ∷ ds) r v n e s l = ap₂ _||_ (copy-holds sh D c r v n e (s .0) l) (disjunction-holds (d ∷ ds) r v (n + length (bindings c)) e (s .1) (omega arith))
 
   pub guarded-holds : (g : Guard) (r v n : ℕ) (c : Condition) (e : Assignment) → SaneGuard sh r g → v < n → holds (guarded g v n c) (allRows D) e ≡ holds c (allRows D) e && allowed D g (e v)
-  unfolding guarded allowed holds SaneGuard
+  unfolding guarded allowed holdsWith SaneGuard
   guarded-holds free r v n c e s l = sym (and-true (holds c (allRows D) e))
   guarded-holds (only cs) r v n c e s l = ap (λ b. holds c (allRows D) e && b) (disjunction-holds cs r v n e s l)
 
@@ -57,7 +57,7 @@ module _ (sh : Shape) (D : ℕ → List Tuple) where
 
   module _ (G : Guards) (sane : (v r : ℕ) → SaneGuard sh r (G v r)) where
     mutual
-      unfolding holds rewrite bindings permitted Every
+      unfolding holdsWith rewrite bindings permitted Every
 
       pub rewrite-holds : (c : Condition) (n : ℕ) (e : Assignment) → Every Low (bindings c) → 8 ≤ n → holds (rewrite G c n) (allRows D) e ≡ holds c (permitted D G) e
       rewrite-holds TRUE n e s h = refl
@@ -79,7 +79,7 @@ module _ (sh : Shape) (D : ℕ → List Tuple) where
           ∙ filter-filter (λ x. holds c (permitted D G) (update e v x)) (allowed D (G v r)) (D r))
 
     pub rewrite-row : (ts : List Term) (n : ℕ) (e : Assignment) → Every Low (concatMap bindingsT ts) → 8 ≤ n → targetRow (rewriteTargets G ts n) (allRows D) e ≡ targetRow ts (permitted D G) e
-    unfolding targetRow rewriteTargets concatMap
+    unfolding targetRowWith rewriteTargets concatMap
     rewrite-row [] n e s h = refl
     rewrite-row (t ∷ ts) n e s h =
         let i = every-append Low (bindingsT t) (concatMap bindingsT ts) s in

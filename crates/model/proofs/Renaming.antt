@@ -10,7 +10,7 @@ use lib.ListN.{length}
 use borrow.Author.Tests.{eq-eqb, ne-eqb, eqb-true, eqb-false}
 use Rattle.model.specs.Lists.{update, filter, any, contains, unique, indexOf, Every}
 use Rattle.model.specs.Syntax.{Condition, Term, TRUE, FALSE, NOT, AND, OR, COMPARE, SOME, CONSTANT, ATTRIBUTE, AGGREGATE, Binding, bindings, bindingsT, variables}
-use Rattle.model.specs.Meaning.{Tuple, Assignment, whole, compare, aggregate, holds, value, unbound}
+use Rattle.model.specs.Meaning.{Tuple, Assignment, whole, compare, aggregate, holds, value, unbound, holdsWith}
 use Rattle.model.specs.Catalogue.{Shape, allRows}
 use Rattle.model.specs.Permits.{meets}
 use Rattle.model.specs.Rewriting.{rename, renameT, newNumber, copyFor}
@@ -38,7 +38,7 @@ update-renamed ρ e e′ v x a h w = go (eqb w v) refl
 
 module _ (D : ℕ → List Tuple) (ρ : ℕ → ℕ) where
   mutual
-    unfolding holds rename bindings Every
+    unfolding holdsWith rename bindings Every
 
     pub rename-holds : (c : Condition) (e e′ : Assignment) → Every (Apart ρ) (bindings c) → ((w : ℕ) → e w ≡ e′ (ρ w)) → holds (rename ρ c) (allRows D) e′ ≡ holds c (allRows D) e
     rename-holds TRUE e e′ a h = refl

@@ -10,7 +10,7 @@ use lib.ListN.{length}
 use borrow.Author.Tests.{eq-eqb, ne-eqb, eqb-true, lt-ltb, ltb-true}
 use Rattle.model.specs.Lists.{update, filter, any, all}
 use Rattle.model.specs.Syntax.{Condition, Term, TRUE, FALSE, NOT, AND, OR, COMPARE, SOME, CONSTANT, ATTRIBUTE, AGGREGATE, Binding, bindings, bindingsT, Use, uses, usesT}
-use Rattle.model.specs.Meaning.{Tuple, Assignment, Rows, whole, compare, aggregate, holds, value}
+use Rattle.model.specs.Meaning.{Tuple, Assignment, Rows, whole, compare, aggregate, holds, value, holdsWith}
 use Rattle.model.specs.Catalogue.{Shape, attributesAt}
 use Rattle.model.specs.Scope.{Scope, nobody, knownAttribute, knownBinding, inScope, inScopeT}
 use Rattle.model.proofs.Tests.{clash, and-inv, and-intro}
@@ -98,7 +98,7 @@ alike-nobody e e′ w r k = let z : _≡_ {A = ℕ} 0 1 = cc in absurd (omega ar
 
 module _ (sh : Shape) (limit : ℕ) (R : Rows) where
   mutual
-    unfolding holds InScope
+    unfolding holdsWith InScope
 
     pub alike-holds : (c : Condition) (σ : Scope) (e e′ : Assignment) → InScope sh limit c σ → Alike σ e e′ → holds c R e ≡ holds c R e′
     alike-holds TRUE σ e e′ k h = refl

@@ -1,9 +1,10 @@
 -- How many bytes conditions and terms take.
 use Prim.Native.Nat.{ℕ, zero, suc, _+_, _*_, _≤_, max}
 use mathlib.Core.List.{List, [], _∷_}
-use mathlib.Core.Path.{_≡_}
+use mathlib.Core.Path.{_≡_, refl, sym, ap, _∙_}
 use native.Mathlib.Omega.{arith}
-use lib.ListN.{length}
+use lib.ListN.{length, drop}
+use lib.Seq.{drop-drop}
 use Rattle.model.specs.Syntax.{Condition, Term, TRUE, FALSE, NOT, AND, OR, COMPARE, SOME, CONSTANT, ATTRIBUTE, AGGREGATE, Binding, Query, levels, levelsT}
 use Rattle.model.specs.Encoding.{encode, encodeT, encodeTargets, encodeRanges, encodeQuery}
 
@@ -39,6 +40,36 @@ mutual
   size-encodeT (CONSTANT a b c d) r = omega arith
   size-encodeT (ATTRIBUTE v a) r = omega arith
   size-encodeT (AGGREGATE f v q a c) r = omega (arith, size-encode c r)
+
+-- what stands after the bytes
+mutual
+  unfolding size encode
+
+  pub drop-encode : (c : Condition) (r : List ℕ) → drop (size c) (encode c r) ≡ r
+  drop-encode TRUE r = refl
+  drop-encode FALSE r = refl
+  drop-encode (NOT c) r = drop-encode c r
+  drop-encode (AND c d) r = sym (drop-drop (size d) (size c) (encode c (encode d r))) ∙ ap (drop (size d)) (drop-encode c (encode d r)) ∙ drop-encode d r
+  drop-encode (OR c d) r = sym (drop-drop (size d) (size c) (encode c (encode d r))) ∙ ap (drop (size d)) (drop-encode c (encode d r)) ∙ drop-encode d r
+  drop-encode (COMPARE o s t) r =
+      let n : 2 + (sizeT s + sizeT t) ≡ suc (suc (sizeT s + sizeT t)) = omega arith in
+      ap (λ m. drop m (21 ∷ o ∷ encodeT s (encodeT t r))) n
+      ∙ sym (drop-drop (sizeT t) (sizeT s) (encodeT s (encodeT t r))) ∙ ap (drop (sizeT t)) (drop-encodeT s (encodeT t r)) ∙ drop-encodeT t r
+  drop-encode (SOME v q c) r =
+      let n : 3 + size c ≡ suc (suc (suc (size c))) = omega arith in
+      ap (λ m. drop m (22 ∷ v ∷ q ∷ encode c r)) n ∙ drop-encode c r
+
+  pub drop-encodeT : (t : Term) (r : List ℕ) → drop (sizeT t) (encodeT t r) ≡ r
+  drop-encodeT (CONSTANT a b c d) r = refl
+  drop-encodeT (ATTRIBUTE v a) r = refl
+  drop-encodeT (AGGREGATE f v q a c) r =
+      let n : 5 + size c ≡ suc (suc (suc (suc (suc (size c))))) = omega arith in
+      ap (λ m. drop m (34 ∷ f ∷ v ∷ q ∷ a ∷ encode c r)) n ∙ drop-encode c r
+
+pub drop-ranges : (bs : List Binding) (r : List ℕ) → drop (3 * length bs) (encodeRanges bs r) ≡ r
+unfolding encodeRanges
+drop-ranges [] r = refl
+drop-ranges (b ∷ bs) r = let e : 3 * suc (length bs) ≡ suc (suc (suc (3 * length bs))) = omega arith in ap (λ n. drop n (1 ∷ b .variable ∷ b .relation ∷ encodeRanges bs r)) e ∙ drop-ranges bs r
 
 -- a level is at least a byte
 mutual

@@ -9,7 +9,7 @@ use lib.IntN.{ℤ}
 use lib.ListN.{length}
 use Rattle.model.specs.Lists.{any, present, Every}
 use Rattle.model.specs.Syntax.{Term, Query}
-use Rattle.model.specs.Meaning.{Assignment, Rows, Value, cell, value, withCell, targetRow, sameRow, addRow, addRows, qualifying, rowsMet, answers}
+use Rattle.model.specs.Meaning.{Assignment, Rows, Value, cell, Known, unknown, valueWith, withCell, targetRow, sameRow, addRow, addRows, qualifying, rowsMet, answers, targetRowWith}
 use Rattle.model.proofs.Lists.{every-join}
 
 abbrev pub Wide : ℕ → List ℤ → Type 0
@@ -29,10 +29,10 @@ module _ (P : List ℤ → Type 0) where
   every-addRows rows [] h k = h
   every-addRows rows (x ∷ xs) h k = every-addRows (addRow rows x) xs (every-addRow rows x h (k .0)) (k .1)
 
-row-wide : (ts : List Term) (R : Rows) (e : Assignment) (x : List ℤ) → targetRow ts R e ≡ some x → length x ≡ length ts
-unfolding targetRow
-row-wide [] R e x h = let k : [] ≡ x = cc in sym (ap length k)
-row-wide (t ∷ ts) R e x h = go (value t R e) (targetRow ts R e) (λ row g. row-wide ts R e row g) h
+pub row-wide : (known : Known) (ts : List Term) (R : Rows) (e : Assignment) (x : List ℤ) → targetRowWith known ts R e ≡ some x → length x ≡ length ts
+unfolding targetRowWith
+row-wide known [] R e x h = let k : [] ≡ x = cc in sym (ap length k)
+row-wide known (t ∷ ts) R e x h = go (valueWith known t R e) (targetRowWith known ts R e) (λ row g. row-wide known ts R e row g) h
   where
     go : (v : Value) (row : Option (List ℤ)) → ((xs : List ℤ) → row ≡ some xs → length xs ≡ length ts) → withCell v row ≡ some x → length x ≡ suc (length ts)
     go none row g k = let z : _≡_ {A = ℕ} 0 1 = cc in absurd (omega arith)
@@ -50,7 +50,7 @@ present-every P f k (e ∷ es) = go (f e) refl (present-every P f k es)
 
 pub rows-wide : (q : Query) (R : Rows) → Every (Wide (length (q .targets))) (rowsMet q R)
 unfolding rowsMet
-rows-wide q R = present-every (Wide (length (q .targets))) (targetRow (q .targets) R) (λ e x h. row-wide (q .targets) R e x h) (qualifying q R)
+rows-wide q R = present-every (Wide (length (q .targets))) (targetRow (q .targets) R) (λ e x h. row-wide unknown (q .targets) R e x h) (qualifying q R)
 
 pub answers-wide : (q : Query) (R : Rows) → Every (Wide (length (q .targets))) (answers q R)
 unfolding answers Every

@@ -91,21 +91,39 @@ compare o none y = false
 compare o (some x) none = false
 compare o (some x) (some y) = ordered o x y
 
--- whether a condition holds, and the value of a term
-unfoldable mutual
-  pub holds : Condition → Rows → Assignment → Bool
-  holds TRUE R e = true
-  holds FALSE R e = false
-  holds (NOT c) R e = not (holds c R e)
-  holds (AND c d) R e = holds c R e && holds d R e
-  holds (OR c d) R e = holds c R e || holds d R e
-  holds (COMPARE o s t) R e = compare o (value s R e) (value t R e)
-  holds (SOME v r c) R e = any (λ x. holds c R (update e v x)) (R v r)
+-- what is known of aggregates before the rows are looked at, by their variables: nothing, but for code that keeps a value
+abbrev pub Known : Type 0
+Known = ℕ → Option Value
 
-  pub value : Term → Rows → Assignment → Value
-  value (CONSTANT a b c d) R e = some (whole (signed a b c d))
-  value (ATTRIBUTE v a) R e = some (whole (e v a))
-  value (AGGREGATE f v r a c) R e = aggregate f (map (λ (x : Tuple). x a) (filter (λ x. holds c R (update e v x)) (R v r)))
+abbrev pub unknown : Known
+unknown v = none
+
+abbrev pub knownOr : Option Value → Value → Value
+knownOr none x = x
+knownOr (some y) x = y
+
+-- whether a condition holds, and the value of a term
+module _ (known : Known) where
+  unfoldable mutual
+    pub holdsWith : Condition → Rows → Assignment → Bool
+    holdsWith TRUE R e = true
+    holdsWith FALSE R e = false
+    holdsWith (NOT c) R e = not (holdsWith c R e)
+    holdsWith (AND c d) R e = holdsWith c R e && holdsWith d R e
+    holdsWith (OR c d) R e = holdsWith c R e || holdsWith d R e
+    holdsWith (COMPARE o s t) R e = compare o (valueWith s R e) (valueWith t R e)
+    holdsWith (SOME v r c) R e = any (λ x. holdsWith c R (update e v x)) (R v r)
+
+    pub valueWith : Term → Rows → Assignment → Value
+    valueWith (CONSTANT a b c d) R e = some (whole (signed a b c d))
+    valueWith (ATTRIBUTE v a) R e = some (whole (e v a))
+    valueWith (AGGREGATE f v r a c) R e = knownOr (known v) (aggregate f (map (λ (x : Tuple). x a) (filter (λ x. holdsWith c R (update e v x)) (R v r))))
+
+abbrev pub holds : Condition → Rows → Assignment → Bool
+holds c R e = holdsWith unknown c R e
+
+abbrev pub value : Term → Rows → Assignment → Value
+value t R e = valueWith unknown t R e
 
 -- the odometer: first row first, the last RANGE fastest; with no RANGE, one assignment
 unfoldable pub assignments : List Binding → Rows → Assignment → List Assignment
@@ -122,9 +140,13 @@ withCell (some x) none = none
 withCell (some x) (some row) = some (cell x ∷ row)
 
 -- the cells of an assignment's targets; with a target that has no value it gives no row (document 02, change 2)
-unfoldable pub targetRow : List Term → Rows → Assignment → Option (List ℤ)
-targetRow [] R e = some []
-targetRow (t ∷ ts) R e = withCell (value t R e) (targetRow ts R e)
+module _ (known : Known) where
+  unfoldable pub targetRowWith : List Term → Rows → Assignment → Option (List ℤ)
+  targetRowWith [] R e = some []
+  targetRowWith (t ∷ ts) R e = withCell (valueWith known t R e) (targetRowWith ts R e)
+
+abbrev pub targetRow : List Term → Rows → Assignment → Option (List ℤ)
+targetRow ts R e = targetRowWith unknown ts R e
 
 unfoldable pub sameRow : List ℤ → List ℤ → Bool
 sameRow [] [] = true

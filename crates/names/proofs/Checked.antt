@@ -12,7 +12,10 @@ use Rattle.model.proofs.Tests.{and-inv}
 use Rattle.quel.specs.Results.{Word}
 use Rattle.quel.specs.Names.{isPadded}
 use Rattle.names.specs.Entries.{placeOf, widthOf, nameAt}
-use Rattle.names.specs.Search.{isNamed, seek, again, goodLetters, goodAt}
+use Rattle.names.specs.Search.{isNamed, seek, again, goodCode, goodAt}
+use Rattle.tokens.specs.Spans.{capped}
+use Rattle.tokens.specs.Kinds.{codeOf}
+use Rattle.tokens.proofs.Values.{above}
 use Rattle.names.proofs.Walk.{head-at, name-at, rest-at}
 use Rattle.names.proofs.Reading.{passes, passes-cons, passes-none}
 
@@ -21,20 +24,28 @@ pub padded-room : (x w : List ℕ) (at : ℕ) → isPadded w (drop at x) ≡ tru
 unfolding isPadded
 padded-room x w at h = omega (arith, leb-true 12 (length (drop at x)) (and-inv (leb 12 (length (drop at x))) _ h .0), length-drop at x)
 
-module _ (x : List ℕ) (at n : ℕ) (en : n ≡ goodLetters x at) where
+-- a code is not 0
+code-some : (w : Word) → 1 ≤ capped (codeOf w)
+code-some w = go (leb (codeOf w) 288230376151711744)
+  where
+    go : (b : Bool) → 1 ≤ cond b (codeOf w) 288230376151711744
+    go true = above 1 w
+    go false = omega arith
+
+module _ (x : List ℕ) (at n : ℕ) (en : n ≡ goodCode x at) where
   pub letters-none : n ≡ 0 → false ≡ isPadded (nameAt x at) (drop at x)
-  unfolding goodLetters isPadded
+  unfolding goodCode
   letters-none z = go (isPadded (nameAt x at) (drop at x)) refl (sym en ∙ z)
     where
-      go : (t : Bool) → isPadded (nameAt x at) (drop at x) ≡ t → cond t (length (nameAt x at)) 0 ≡ 0 → false ≡ t
-      go true h e = absurd (omega (arith, e, leb-true 1 (length (nameAt x at)) (and-inv _ _ (and-inv (leb 12 (length (drop at x))) _ h .1) .0)))
+      go : (t : Bool) → isPadded (nameAt x at) (drop at x) ≡ t → cond t (capped (codeOf (nameAt x at))) 0 ≡ 0 → false ≡ t
+      go true h e = absurd (omega (arith, e, code-some (nameAt x at)))
       go false h e = refl
 
-  pub letters-some : (n ≡ 0 → ⊥) → (true ≡ isPadded (nameAt x at) (drop at x)) × (n ≡ length (nameAt x at))
-  unfolding goodLetters
+  pub letters-some : (n ≡ 0 → ⊥) → (true ≡ isPadded (nameAt x at) (drop at x)) × (n ≡ capped (codeOf (nameAt x at)))
+  unfolding goodCode
   letters-some nz = go (isPadded (nameAt x at) (drop at x)) refl en
     where
-      go : (t : Bool) → isPadded (nameAt x at) (drop at x) ≡ t → n ≡ cond t (length (nameAt x at)) 0 → (true ≡ t) × (n ≡ length (nameAt x at))
+      go : (t : Bool) → isPadded (nameAt x at) (drop at x) ≡ t → n ≡ cond t (capped (codeOf (nameAt x at))) 0 → (true ≡ t) × (n ≡ capped (codeOf (nameAt x at)))
       go true h e = (refl, e)
       go false h e = absurd (nz e)
 

@@ -1,6 +1,5 @@
 pub mod Same
 pub mod Words
-pub mod Reserved
 pub mod Walk
 pub mod Finds
 pub mod Reading

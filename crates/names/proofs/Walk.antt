@@ -99,7 +99,7 @@ seek-end x at p y h e = drop-of-length-le x h ∙ sym (seek-none p) ∙ sym (ap 
 
 -- whether the record at a place has the name, by the outcomes of the tests
 module _ (x : List ℕ) (at b k q : ℕ) (w : Word) (eb : b ≡ getD x at 0) where
-  named-of : isNamed k q w (drop at x) ≡ (eqb b k && ((not (eqb k 81) || eqb (getD x (at + 1) 0) q) && sameWord (nameAt x (at + placeOf k)) w))
+  pub named-of : isNamed k q w (drop at x) ≡ (eqb b k && ((not (eqb k 81) || eqb (getD x (at + 1) 0) q) && sameWord (nameAt x (at + placeOf k)) w))
   unfolding isNamed
   named-of =
       ap₂ (λ (c d : ℕ). eqb c k && ((not (eqb k 81) || eqb d q) && sameWord (nameAt (drop at x) (placeOf k)) w)) (head-at x at ∙ sym eb) (getD-drop at x 1 0)

@@ -13,10 +13,17 @@ use borrow.Author.Tests.{eq-eqb, ne-eqb, le-leb, lt-leb, not-true, not-false}
 use Rattle.model.specs.Lists.{all}
 use Rattle.model.proofs.Tests.{clash}
 use Rattle.quel.specs.Results.{Word, sameWord}
-use Rattle.quel.specs.Tokens.{isLetter, run, isReserved}
+use Rattle.quel.specs.Tokens.{isLetter, run, reserved, isReserved}
 use Rattle.quel.specs.Names.{isPadded}
+use Rattle.tokens.specs.Spans.{capped}
+use Rattle.tokens.specs.Kinds.{codeOf, kindSpelled}
+use Rattle.tokens.specs.Codes.{Spelt}
+use Rattle.tokens.proofs.Places.{run-all, run-length}
+use Rattle.tokens.proofs.Values.{capped-low}
+use Rattle.tokens.proofs.Words.{same-number, reserved-kind}
+use Rattle.tokens.proofs.Codes.{code-small}
 use Rattle.names.specs.Entries.{nameAt}
-use Rattle.names.specs.Search.{goodLetters}
+use Rattle.names.specs.Search.{goodCode}
 
 pub letter-low : (b : ℕ) → b < 65 → false ≡ isLetter b
 letter-low b h = sym (rw (lt-leb 65 b h))
@@ -189,12 +196,51 @@ module _ (x : List ℕ) (at : ℕ) where
       pub padded-is : (r : Bool) (w : Word) → not s ≡ false → w ≡ nameAt x at → r ≡ isReserved w → not r ≡ isPadded (nameAt x at) rest
       padded-is r w f ew er = ap not (er ∙ ap isReserved ew) ∙ sym (padded-rest ∙ ap (λ (t : Bool). t && not (isReserved (nameAt x at))) (not-false s f))
 
--- a good name has letters
+-- the code of a good name
 module _ (x : List ℕ) (at : ℕ) where
-  pub letters-not : false ≡ isPadded (nameAt x at) (drop at x) → 0 ≡ goodLetters x at
-  unfolding goodLetters
-  letters-not h = ap (λ (t : Bool). cond t (length (nameAt x at)) 0) h
+  pub code-not : false ≡ isPadded (nameAt x at) (drop at x) → 0 ≡ goodCode x at
+  unfolding goodCode
+  code-not h = ap (λ (t : Bool). cond t (capped (codeOf (nameAt x at))) 0) h
 
-  pub letters-are : (n : ℕ) → n ≡ length (nameAt x at) → true ≡ isPadded (nameAt x at) (drop at x) → n ≡ goodLetters x at
-  unfolding goodLetters
-  letters-are n e h = e ∙ ap (λ (t : Bool). cond t (length (nameAt x at)) 0) h
+  pub code-is : (n : ℕ) → n ≡ capped (codeOf (nameAt x at)) → true ≡ isPadded (nameAt x at) (drop at x) → n ≡ goodCode x at
+  unfolding goodCode
+  code-is n e h = e ∙ ap (λ (t : Bool). cond t (capped (codeOf (nameAt x at))) 0) h
+
+take-most : (n : ℕ) (y : List ℕ) → length (take n y) ≤ n
+take-most zero [] = omega arith
+take-most zero (b ∷ y) = omega arith
+take-most (suc n) [] = omega arith
+take-most (suc n) (b ∷ y) = omega (arith, take-most n y)
+
+-- a name of the list, compared by its code
+module _ (x : List ℕ) (at : ℕ) where
+  name-letters : all isLetter (nameAt x at) ≡ true
+  unfolding nameAt
+  name-letters = run-all isLetter (take 12 (drop at x))
+
+  name-short : length (nameAt x at) ≤ 12
+  unfolding nameAt
+  name-short = omega (arith, run-length isLetter (take 12 (drop at x)), take-most 12 (drop at x))
+
+  pub same-code-as : (v c : ℕ) (w : Word) → v ≡ capped (codeOf (nameAt x at)) → Spelt w c → eqb v c ≡ sameWord (nameAt x at) w
+  same-code-as v c w ev s =
+      let l = code-small (nameAt x at) name-letters name-short in
+      ap₂ eqb (ev ∙ capped-low (codeOf (nameAt x at)) (omega arith)) (s .code) ∙ same-number (nameAt x at) w name-letters l (s .letters)
+
+  pub name-run : (y : List ℕ) → y ≡ take 12 (drop at x) → run isLetter y ≡ nameAt x at
+  unfolding nameAt
+  name-run y e = ap (run isLetter) e
+
+  reserved-as : (v k : ℕ) → v ≡ capped (codeOf (nameAt x at)) → k ≡ kindSpelled reserved v → not (eqb k 0) ≡ isReserved (nameAt x at)
+  reserved-as v k ev ek = ap (λ (n : ℕ). not (eqb n 0)) (ek ∙ ap (kindSpelled reserved) ev) ∙ reserved-kind (nameAt x at) name-letters
+
+  module _ (h : at + 12 ≤ length x) (n : ℕ) (en : n ≡ length (nameAt x at)) (nz : n ≡ 0 → ⊥) (s : Bool) (es : s ≡ all (λ b. eqb b 32) (drop n (take 12 (drop at x)))) (f : not s ≡ false)
+      (v k : ℕ) (ev : v ≡ capped (codeOf (nameAt x at))) (ek : k ≡ kindSpelled reserved v) where
+    padded-by : isPadded (nameAt x at) (drop at x) ≡ not (not (eqb k 0))
+    padded-by = sym (padded-is x at h n en nz s es (not (eqb k 0)) (nameAt x at) f refl (reserved-as v k ev ek))
+
+    pub padded-reserved : (k ≡ 0 → ⊥) → false ≡ isPadded (nameAt x at) (drop at x)
+    padded-reserved ne = sym (padded-by ∙ ap (λ (t : Bool). not (not t)) (ne-eqb k 0 ne))
+
+    pub padded-good : k ≡ 0 → true ≡ isPadded (nameAt x at) (drop at x)
+    padded-good z = sym (padded-by ∙ ap (λ (t : Bool). not (not t)) (eq-eqb k 0 z))

@@ -1,27 +1,29 @@
 -- How the code searches a name list: the bytes from the first record on that has a name.
-use Prim.Native.Nat.{ℕ, zero, suc, _+_, _-_, _/_}
+use Prim.Native.Nat.{ℕ, zero, suc, _+_, _*_, _-_, _/_, _≤_, _<_}
 use mathlib.Core.Path.{_≡_}
-use mathlib.Core.Bool.{Bool, true, not, cond, _&&_, _||_}
+use mathlib.Core.Bool.{Bool, true, false, not, cond, _&&_, _||_}
 use mathlib.Core.List.{List, [], _∷_}
 use lib.Dec.{eqb, leb, ltb}
 use lib.ListN.{length, getD, drop}
-use Rattle.model.specs.Lists.{any, all}
+use Rattle.model.specs.Lists.{any, all, Every}
 use Rattle.quel.specs.Results.{Word, sameWord}
 use Rattle.buckets.specs.Chains.{bucketOf, Held, Chained}
 use Rattle.quel.specs.Names.{isPadded}
+use Rattle.tokens.specs.Spans.{capped}
+use Rattle.tokens.specs.Kinds.{codeOf}
 use Rattle.names.specs.Entries.{placeOf, widthOf, nameAt}
 
--- how many letters a good name at a place has, 0 where none stands there
-unfoldable pub goodLetters : List ℕ → ℕ → ℕ
-goodLetters x i = cond (isPadded (nameAt x i) (drop i x)) (length (nameAt x i)) 0
+-- the code of a good name at a place, 0 where none stands there
+unfoldable pub goodCode : List ℕ → ℕ → ℕ
+goodCode x i = cond (isPadded (nameAt x i) (drop i x)) (capped (codeOf (nameAt x i))) 0
 
 -- the name of the record at a place
 abbrev pub nameOf : List ℕ → ℕ → Word
 nameOf x i = nameAt x (i + placeOf (getD x i 0))
 
--- how many letters a good record's name has, 0 where the one at a place is none
-unfoldable pub recordLetters : List ℕ → ℕ → ℕ
-recordLetters x i = let k = getD x i 0 in cond (leb 80 k && leb k 82) (goodLetters x (i + placeOf k)) 0
+-- the code of a good record's name, 0 where the one at a place is none
+unfoldable pub recordCode : List ℕ → ℕ → ℕ
+recordCode x i = let k = getD x i 0 in cond (leb 80 k && leb k 82) (goodCode x (i + placeOf k)) 0
 
 -- whether the record that x starts with has the kind k and the name w, and, an attribute, belongs to the relation q
 unfoldable pub isNamed : ℕ → ℕ → Word → List ℕ → Bool
@@ -71,8 +73,23 @@ module _ (x : List ℕ) where
   abbrev pub after : ℕ → ℕ
   after i = i + widthOf (getD x i 0)
 
+  -- the records at xs are all before a place, and none is named as another: a search ends at the one of them that has the name, or goes on there
+  pub record Index (at : ℕ) (xs : List ℕ) : Type 0 where
+    pub hit : Every (λ (i : ℕ). (k q : ℕ) (w : Word) → isNamed k q w (drop i x) ≡ true → seek (isNamed k q w) x ≡ drop i x) xs
+    pub none : (k q : ℕ) (w : Word) → any (λ (i : ℕ). isNamed k q w (drop i x)) xs ≡ false → seek (isNamed k q w) x ≡ seek (isNamed k q w) (drop at x)
+
   -- the answer at record i, with b the answer of all that is left: what it says of this record, and the records that are held to those after it
   pub record Told (i : ℕ) (xs heads nexts : List ℕ) (r : Bool) : Type 0 where
     pub places : List ℕ
     pub says : (b : Bool) → ((not (later i (after i)) && b) && apart xs i) ≡ (r && (b && apart places (after i)))
     pub held : r ≡ true → HeldIn (after i) heads nexts places
+    pub index : r ≡ true → i / 14 < length nexts → Index i xs → Index (after i) places
+
+  -- the whole list, chained as far as the table goes
+  pub record Indexed (heads nexts : List ℕ) : Type 0 where
+    pub places : List ℕ
+    pub top : ℕ
+    pub end : length x ≤ top
+    pub held : HeldIn top heads nexts places
+    pub inside : Every (λ (i : ℕ). i ≤ length x) places
+    pub index : length x ≤ 14 * length nexts → Index top places

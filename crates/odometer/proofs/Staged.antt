@@ -16,7 +16,7 @@ use Rattle.model.specs.Meaning.{Tuple, Assignment, Rows, assignments}
 use Rattle.model.proofs.Lists.{filter-concatMap, filter-const, every-join, every-map}
 use Rattle.model.proofs.Tests.{or-no, and-true}
 use Rattle.sizes.specs.Parts.{rangesAt}
-use Rattle.evaluator.specs.Recalled.{holdsBy}
+use Rattle.numbers.specs.Recalled.{holdsBy}
 use Rattle.walks.specs.Walks.{rowsBy}
 use Rattle.conjuncts.proofs.Below.{and-and, all-last}
 use Rattle.conjuncts.specs.Stages.{stageHolds, stagesHold, Extends, Steady, Planned}
@@ -150,9 +150,9 @@ planned-rows t xs q z ws vs m c bs p e =
     ∙ filter-same (λ a. depths (λ d. depthHolds t xs q z ws vs m d a) 0 (length bs)) (holdsBy m c (rowsBy ws vs)) (λ a. depths-all t xs q z ws vs m (length bs) a ∙ p .whole a) (assignments bs (rowsBy ws vs) e)
 
 -- what the odometer finds for a planned condition, from its start
-pub rows-planned : (p : Plan) (t : List ℕ) (xs : List ℤ) (q z ws : List ℕ) (vs m : List ℤ) (c : Condition) (ranges : List ℕ) → p .depth ≡ 0 → Planned t xs q z ws vs m c (rangesAt (p .left) ranges) → (e : Assignment)
-    → rowsFrom p t xs q z ws vs m ranges e ≡ rowsOf p q z ws vs m (filter (holdsBy m c (rowsBy ws vs)) (assignments (rangesAt (p .left) ranges) (rowsBy ws vs) e))
+pub rows-planned : (p : Plan) (t : List ℕ) (xs : List ℤ) (q z ws : List ℕ) (vs m : List ℤ) (c : Condition) → p .depth ≡ 0 → Planned t xs q z ws vs m c (rangesAt (p .left) q) → (e : Assignment)
+    → rowsFrom p t xs q z ws vs m e ≡ rowsOf p q z ws vs m (filter (holdsBy m c (rowsBy ws vs)) (assignments (rangesAt (p .left) q) (rowsBy ws vs) e))
 unfolding rowsFrom
-rows-planned p t xs q z ws vs m c ranges h w e =
-    ap (λ (d : ℕ). rowsOf p q z ws vs m (stagedFrom (depthHolds t xs q z ws vs m) d (rangesAt (p .left) ranges) (rowsBy ws vs) e)) h
-    ∙ ap (rowsOf p q z ws vs m) (planned-rows t xs q z ws vs m c (rangesAt (p .left) ranges) w e)
+rows-planned p t xs q z ws vs m c h w e =
+    ap (λ (d : ℕ). rowsOf p q z ws vs m (stagedFrom (depthHolds t xs q z ws vs m) d (rangesAt (p .left) (drop (3 * d) q)) (rowsBy ws vs) e)) h
+    ∙ ap (rowsOf p q z ws vs m) (planned-rows t xs q z ws vs m c (rangesAt (p .left) q) w e)

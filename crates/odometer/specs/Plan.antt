@@ -1,17 +1,17 @@
 -- The rows that a query's bytes give, read with the table of sizes.
-use Prim.Native.Nat.{ℕ, suc, _+_, _-_, _≤_, _<_}
+use Prim.Native.Nat.{ℕ, zero, suc, _+_, _-_, _*_, _≤_, _<_}
 use mathlib.Core.Path.{_≡_}
 use mathlib.Core.Bool.{Bool, true, false}
 use mathlib.Core.List.{List, [], _∷_, map}
 use mathlib.Core.Option.{Option, none, some}
-use lib.IntN.{ℤ}
-use lib.ListN.{getD, take, drop}
+use lib.IntN.{ℤ, pos}
+use lib.ListN.{getD, set, take, drop}
 use lib.Seq.{sets}
 use Rattle.model.specs.Lists.{update, concatMap, present}
 use Rattle.model.specs.Syntax.{Term}
-use Rattle.model.specs.Meaning.{Assignment, Rows, withCell}
-use Rattle.kinds.specs.Tables.{recordLength}
-use Rattle.evaluator.specs.Recalled.{valueBy}
+use Rattle.model.specs.Meaning.{Assignment, Rows, Value, cell, withCell, targetRowWith}
+use Rattle.numbers.specs.Recalled.{recall}
+use Rattle.branches.specs.Branches.{operand}
 use Rattle.rows.specs.Buffer.{Buffer, added}
 use Rattle.walks.specs.Walks.{walked, rowsBy}
 use Rattle.sizes.specs.Parts.{rangesAt, targetsAt}
@@ -23,10 +23,19 @@ pub record Bounds (p : Plan) : Type 0 where
   pub columns : p .columns ≤ 8
   pub ranges : p .depth + p .left < 65536
 
--- the model's targetRow, with the memo m
-unfoldable pub cellsBy : List ℤ → List Term → Rows → Assignment → Option (List ℤ)
-cellsBy m [] R e = some []
-cellsBy m (t ∷ ts) R e = withCell (valueBy m t R e) (cellsBy m ts R e)
+-- the cells of an assignment's targets, with the memo m
+abbrev pub cellsBy : List ℤ → List Term → Rows → Assignment → Option (List ℤ)
+cellsBy m ts R e = targetRowWith (recall m) ts R e
+
+-- the cells of n targets of a list, from target i on: two numbers for each, as for a side of a comparison
+unfoldable pub cellsIn : List ℤ → List ℕ → ℕ → ℕ → Assignment → Option (List ℤ)
+cellsIn m l zero i e = some []
+cellsIn m l (suc n) i e = withCell (operand m (getD l (2 * i) 0) (getD l (2 * i + 1) 0) (pos 0) e) (cellsIn m l n (suc i) e)
+
+-- whether there is a value, and that its cell stands at i in what was `row`
+abbrev pub Put : Bool → List ℤ → ℕ → List ℤ → Value → Type 0
+Put b row i after none = b ≡ false
+Put b row i after (some x) = (b ≡ true) × (after ≡ set row i (cell x))
 
 -- whether there are cells, and that they stand from place `at` on in what was `row`
 abbrev pub Written : Bool → List ℤ → ℕ → List ℤ → Option (List ℤ) → Type 0
@@ -50,12 +59,20 @@ rowBy p q z ws vs m e = cellsBy m (targetsAt (p .columns) (p .level) (drop (p .t
 abbrev pub rowsOf : Plan → List ℕ → List ℕ → List ℕ → List ℤ → List ℤ → List Assignment → List (List ℤ)
 rowsOf p q z ws vs m es = present (map (rowBy p q z ws vs m) es)
 
+-- where the targets are listed, the list has their values
+abbrev pub Listed : List ℕ → Plan → List ℕ → List ℕ → List ℤ → Type 0
+Listed l p q z m = p .listed ≡ true → (R : Rows) (e : Assignment) → cellsBy m (targetsAt (p .columns) (p .level) (drop (p .targets) q) (drop (p .targets) z)) R e ≡ cellsIn m l (p .columns) 0 e
+
+-- a RANGE record has three bytes; the second is its variable
+abbrev pub rangeVariable : List ℕ → ℕ → ℕ
+rangeVariable q d = getD q (3 * d + 1) 0
+
 module _ (p : Plan) (t : List ℕ) (xs : List ℤ) (q z ws : List ℕ) (vs m : List ℤ) where
   -- the rows of the ranges that are left
-  unfoldable pub rowsFrom : List ℕ → Assignment → List (List ℤ)
-  rowsFrom ranges e = rowsOf p q z ws vs m (stagedFrom (depthHolds t xs q z ws vs m) (p .depth) (rangesAt (p .left) ranges) (rowsBy ws vs) e)
+  unfoldable pub rowsFrom : Assignment → List (List ℤ)
+  rowsFrom e = rowsOf p q z ws vs m (stagedFrom (depthHolds t xs q z ws vs m) (p .depth) (rangesAt (p .left) (drop (3 * p .depth) q)) (rowsBy ws vs) e)
 
   -- the same with no test at this depth, for at least one range
-  unfoldable pub rowsBelow : List ℕ → Assignment → List (List ℤ)
-  rowsBelow ranges e = rowsOf p q z ws vs m
-      (concatMap (λ x. stagedFrom (depthHolds t xs q z ws vs m) (suc (p .depth)) (rangesAt (p .left - 1) (drop (recordLength 1) ranges)) (rowsBy ws vs) (update e (getD ranges 1 0) x)) (walked ws vs (getD ranges 1 0)))
+  unfoldable pub rowsBelow : Assignment → List (List ℤ)
+  rowsBelow e = rowsOf p q z ws vs m
+      (concatMap (λ x. stagedFrom (depthHolds t xs q z ws vs m) (suc (p .depth)) (rangesAt (p .left - 1) (drop (3 * suc (p .depth)) q)) (rowsBy ws vs) (update e (rangeVariable q (p .depth)) x)) (walked ws vs (rangeVariable q (p .depth))))

@@ -3,19 +3,22 @@
 use kinds::Record;
 use rows::Filled;
 ghost use mathlib.Core.Path.{_≡_};
-ghost use mathlib.Core.Bool.{true};
+ghost use mathlib.Core.Bool.{true, false};
 ghost use mathlib.Core.List.{List};
-ghost use Prim.Native.Nat.{ℕ, _≤_, _<_, _+_, _-_};
-ghost use lib.IntN.{ℤ};
-ghost use lib.ListN.{length, getD, drop};
+ghost use Prim.Native.Nat.{ℕ, _≤_, _<_, _+_, _-_, _*_};
+ghost use lib.IntN.{pos};
+ghost use lib.ListN.{length, getD, set};
+ghost use Rattle.model.specs.Meaning.{Assignment, Rows};
+ghost use Rattle.sizes.specs.Decode.{decodeT};
 ghost use Rattle.sizes.specs.Parts.{targetsAt};
-ghost use Rattle.rows.specs.Buffer.{addedAll};
+ghost use Rattle.rows.specs.Buffer.{addedAll, start};
 ghost use Rattle.rows.specs.Chains.{Linked};
 ghost use Rattle.walks.specs.Walks.{rowsBy};
-ghost use Rattle.seeks.specs.Keys.{Faithful};
-ghost use Rattle.evaluator.specs.Evaluation.{assigned};
-ghost use Rattle.odometer.specs.Staged.{depthHolds};
-ghost use Rattle.odometer.specs.Plan.{Bounds, cellsBy, Written, Cells, addedRow, rowBy, rowsFrom, rowsBelow};
+ghost use Rattle.decide.specs.Keys.{Faithful};
+ghost use Rattle.walks.specs.Assigned.{assigned};
+ghost use Rattle.numbers.specs.Recalled.{valueBy};
+ghost use Rattle.branches.specs.Branches.{operand, runs};
+ghost use Rattle.odometer.specs.Plan.{Bounds, cellsBy, cellsIn, Listed, Put, Written, Cells, addedRow, rowBy, rowsFrom, rowsBelow};
 
 // Chains for what is walked again and again: the ranges after the first, and the rows that a branch asks for.
 pub fn link(q: &[u8], ranges: usize, t: &[u16], walks: &[u16], values: &[i32], chains: &mut [u16])
@@ -27,19 +30,141 @@ pub fn link(q: &[u8], ranges: usize, t: &[u16], walks: &[u16], values: &[i32], c
     while d < ranges {
         let start = kinds::size_at(t, 2 * d + 2);
         let variable = kinds::byte(q, 3 * d + 1);
-        free = seeks::add(t, start, variable, walks, values, chains, free);
+        free = decide::seeks::add(t, start, variable, walks, values, chains, free);
         d += 1;
     }
-    seeks::add_searches(t, walks, values, chains, free);
+    decide::seeks::add_searches(t, walks, values, chains, free);
 }
 
-// Where a query's targets start, how many they are and how deep; how many ranges are left, and are bound.
+// Where a query's targets start, how many they are and how deep, and whether they are listed; how many ranges are left, and are bound.
 pub struct Plan {
     pub targets: usize,
     pub columns: usize,
     pub level: usize,
+    pub listed: bool,
     pub left: usize,
     pub depth: usize,
+}
+
+fn wide(x: u8) -> u16
+    ensures { λ r. ⌜ r ≡ x ⌝ }
+{
+    x as u16
+}
+
+// Target i of the list.
+fn put(list: &mut [u16], i: usize, variable: u16, attribute: u16)
+    requires { ⌜ (2 * i + 2 ≤ length (now list)) × (i < 8) ⌝ }
+    ensures { λ _. ⌜ now (list .exit) ≡ set (set (now (list .entry)) (2 * i) variable) (2 * i + 1) attribute ⌝ }
+{
+    let at = 2 * i;
+    list[at] = variable;
+    list[at + 1] = attribute;
+}
+
+// The term that q starts with as target i of the list, an attribute or, from variable 256 on, an aggregate that the memo knows; false for any other.
+fn list_target(q: &[u8], level: usize, memo: &[i64], list: &mut [u16], i: usize) -> bool
+    requires { ⌜ (2 * i + 2 ≤ length (now list)) × (i < 8) ⌝ }
+    ensures { λ r. ⌜ (r ≡ true → (z : List ℕ) (R : Rows) (e : Assignment) → valueBy (now (memo .entry)) (decodeT level (now (q .entry)) z) R e
+        ≡ operand (now (memo .entry)) (getD (now (list .exit)) (2 * i) 0) (getD (now (list .exit)) (2 * i + 1) 0) (pos 0) e) ⌝ }
+    ensures { λ _. ⌜ ((k : ℕ) → k < 2 * i → getD (now (list .exit)) k 0 ≡ getD (now (list .entry)) k 0) ⌝ }
+{
+    if level == 0 {
+        return false;
+    }
+    match kinds::read(q) {
+        Record::Attribute(variable, attribute) => {
+            put(list, i, wide(variable), wide(attribute));
+            true
+        }
+        Record::Aggregate(_, variable, _, _) => {
+            if !numbers::knows(memo, variable) {
+                return false;
+            }
+            put(list, i, wide(variable) + 256, 0);
+            true
+        }
+        _ => false,
+    }
+}
+
+// The targets that q starts with, in the list from target i on, so that no record is read again for each row; false where one cannot be listed.
+fn list_targets(
+    q: &[u8],
+    z: &[u16],
+    left: usize,
+    level: usize,
+    memo: &[i64],
+    list: &mut [u16],
+    i: usize,
+) -> bool
+    requires { ⌜ (2 * (i + left) ≤ length (now list)) × (i + left ≤ 8) ⌝ }
+    ensures { λ r. ⌜ (r ≡ true → (R : Rows) (e : Assignment) → cellsBy (now (memo .entry)) (targetsAt left level (now (q .entry)) (now (z .entry))) R
+        e ≡ cellsIn (now (memo .entry)) (now (list .exit)) left i e) ⌝ }
+    ensures { λ _. ⌜ ((k : ℕ) → k < 2 * i → getD (now (list .exit)) k 0 ≡ getD (now (list .entry)) k 0) ⌝ }
+{
+    if left == 0 {
+        return true;
+    }
+    if !list_target(q, level, memo, list, i) {
+        return false;
+    }
+    let n = kinds::size_at(z, 0);
+    let u = kinds::tail(q, n);
+    let v = kinds::tail_sizes(z, n);
+    list_targets(u, v, left - 1, level, memo, list, i + 1)
+}
+
+// Target i of the list into cell i of the row; false where it has no value.
+fn listed_cell(
+    list: &[u16],
+    i: usize,
+    vs: &[i32],
+    memo: &[i64],
+    env: &[usize],
+    row: &mut [i64],
+) -> bool
+    requires { ⌜ (256 ≤ length (now env)) × (i < length (now row)) × (i < 8) ⌝ }
+    ensures { λ r. ⌜ Put r (now (row .entry)) i (now (row .exit)) (operand (now (memo .entry)) (getD (now (list .entry)) (2 * i) 0)
+        (getD (now (list .entry)) (2 * i + 1) 0) (pos 0) (assigned (now (vs .entry)) (now (env .entry)))) ⌝ }
+{
+    let at = 2 * i;
+    let v = kinds::size_at(list, at);
+    if v < 256 {
+        let place = env[v];
+        row[i] = numbers::wide(catalogue::value(vs, place, kinds::size_at(list, at + 1)));
+        return true;
+    }
+    let x = branches::side(list, at, vs, vs.len(), vs, memo, env);
+    let d = x.denominator;
+    if d <= 0 {
+        return false;
+    }
+    row[i] = numbers::cell(x);
+    true
+}
+
+// The cells of the first n targets of the list.
+fn listed_cells(
+    list: &[u16],
+    n: usize,
+    vs: &[i32],
+    memo: &[i64],
+    env: &[usize],
+    row: &mut [i64],
+) -> bool
+    requires { ⌜ (256 ≤ length (now env)) × (n ≤ length (now row)) × (n ≤ 8) ⌝ }
+    ensures { λ r. ⌜ Written r (now (row .entry)) 0 (now (row .exit)) (cellsIn (now (memo .entry)) (now (list .entry)) n 0
+        (assigned (now (vs .entry)) (now (env .entry)))) ⌝ }
+{
+    let mut i = 0;
+    while i < n {
+        if !listed_cell(list, i, vs, memo, env, row) {
+            return false;
+        }
+        i += 1;
+    }
+    true
 }
 
 // The cells of the targets, from cell `at` of the row on; whether each target has a value, for without one there is no row.
@@ -56,7 +181,9 @@ fn targets(
     at: usize,
 ) -> bool
     requires { ⌜ (256 ≤ length (now env)) × (at + left ≤ length (now row)) ⌝ }
-    ensures { λ r. ⌜ Written r (now (row .entry)) at (now (row .exit)) (cellsBy (now (memo .entry)) (targetsAt left level (now (q .entry)) (now (z .entry))) (rowsBy (now (walks .entry)) (now (vs .entry))) (assigned (now (vs .entry)) (now (env .entry)))) ⌝ }
+    ensures { λ r. ⌜ Written r (now (row .entry)) at (now (row .exit)) (cellsBy (now (memo .entry))
+        (targetsAt left level (now (q .entry)) (now (z .entry))) (rowsBy (now (walks .entry)) (now (vs .entry)))
+        (assigned (now (vs .entry)) (now (env .entry)))) ⌝ }
     ensures { λ _. ⌜ now (env .exit) ≡ now (env .entry) ⌝ }
 {
     if left == 0 {
@@ -75,43 +202,9 @@ fn targets(
     targets(u, v, left - 1, level, walks, vs, memo, env, row, at + 1)
 }
 
-// The cells of targets that are all attributes, from place `start` of the query on; false where one is something else.
-fn attributes(
-    q: &[u8],
-    z: &[u16],
-    start: usize,
-    n: usize,
-    level: usize,
-    vs: &[i32],
-    env: &[usize],
-    row: &mut [i64],
-) -> bool
-    requires { ⌜ (256 ≤ length (now env)) × (n ≤ length (now row)) ⌝ }
-    ensures { λ r. ⌜ (r ≡ true → (m : List ℤ) (ws : List ℕ) → Written true (now (row .entry)) 0 (now (row .exit)) (cellsBy m (targetsAt n level (drop start (now (q .entry))) (drop start (now (z .entry)))) (rowsBy ws (now (vs .entry))) (assigned (now (vs .entry)) (now (env .entry))))) ⌝ }
-{
-    if level == 0 {
-        return false;
-    }
-    let mut p = start;
-    let mut i = 0;
-    while i < n {
-        if 65535 < p {
-            return false;
-        }
-        let Record::Attribute(variable, attribute) = kinds::read(kinds::tail(q, p)) else {
-            return false;
-        };
-        let place = evaluator::place(env, variable);
-        let cell = numbers::wide(catalogue::cell(vs, place, attribute));
-        row[i] = cell;
-        p += kinds::size_at(z, p);
-        i += 1;
-    }
-    true
-}
-
-// The cells of an assignment's row; whether each target has a value. Attributes, the usual targets, are read without the evaluator.
+// The cells of an assignment's row; whether each target has a value.
 fn cells(
+    list: &[u16],
     q: &[u8],
     z: &[u16],
     plan: Plan,
@@ -121,23 +214,25 @@ fn cells(
     env: &mut [usize],
     row: &mut [i64],
 ) -> bool
-    requires { ⌜ (256 ≤ length (now env)) × (plan .columns ≤ length (now row)) ⌝ }
-    ensures { λ r. ⌜ Cells r (plan .columns) (now (row .exit)) (rowBy plan (now (q .entry)) (now (z .entry)) (now (walks .entry)) (now (vs .entry)) (now (memo .entry)) (assigned (now (vs .entry)) (now (env .entry)))) ⌝ }
+    requires { ⌜ (256 ≤ length (now env)) × (plan .columns ≤ length (now row)) × (plan .columns ≤ 8) × Listed (now list) plan (now q) (now z) (now memo) ⌝ }
+    ensures { λ r. ⌜ Cells r (plan .columns) (now (row .exit)) (rowBy plan (now (q .entry)) (now (z .entry)) (now (walks .entry)) (now (vs .entry))
+        (now (memo .entry)) (assigned (now (vs .entry)) (now (env .entry)))) ⌝ }
     ensures { λ _. ⌜ now (env .exit) ≡ now (env .entry) ⌝ }
 {
-    let level = plan.level;
     let n = plan.columns;
-    let t = plan.targets;
-    if attributes(q, z, t, n, level, vs, env, row) {
-        return true;
+    let listed = plan.listed;
+    if listed {
+        return listed_cells(list, n, vs, memo, env, row);
     }
+    let t = plan.targets;
     let x = kinds::tail(q, t);
     let y = kinds::tail_sizes(z, t);
-    targets(x, y, n, level, walks, vs, memo, env, row, 0)
+    targets(x, y, n, plan.level, walks, vs, memo, env, row, 0)
 }
 
 // The row of one assignment, if each of its targets has a value.
 fn write(
+    list: &[u16],
     q: &[u8],
     z: &[u16],
     plan: Plan,
@@ -149,24 +244,28 @@ fn write(
     table: &mut [u16],
     state: Filled,
 ) -> Filled
-    requires { ⌜ (256 ≤ length (now env)) × (plan .columns ≤ 8) × Linked (plan .columns) (state .rows) (now answer) (now table) ⌝ }
-    ensures { λ r. ⌜ record { rows = r .rows; full = r .full; cells = now (answer .exit) } ≡ addedRow (record { rows = state .rows; full = state .full; cells = now (answer .entry) }) (rowBy plan (now (q .entry)) (now (z .entry)) (now (walks .entry)) (now (vs .entry)) (now (memo .entry)) (assigned (now (vs .entry)) (now (env .entry)))) ⌝ }
+    requires { ⌜ (256 ≤ length (now env)) × (plan .columns ≤ 8) × Linked (plan .columns) (state .rows) (now answer) (now table)
+        × Listed (now list) plan (now q) (now z) (now memo) ⌝ }
+    ensures { λ r. ⌜ record { rows = r .rows; full = r .full; cells = now (answer .exit) }
+        ≡ addedRow (record { rows = state .rows; full = state .full; cells = now (answer .entry) })
+        (rowBy plan (now (q .entry)) (now (z .entry)) (now (walks .entry)) (now (vs .entry)) (now (memo .entry))
+        (assigned (now (vs .entry)) (now (env .entry)))) ⌝ }
     ensures { λ _. ⌜ now (env .exit) ≡ now (env .entry) ⌝ }
     ensures { λ r. ⌜ Linked (plan .columns) (r .rows) (now (answer .exit)) (now (table .exit)) ⌝ }
 {
     let n = plan.columns;
     let mut row = [0i64; 8];
-    if !cells(q, z, plan, walks, vs, memo, env, &mut row) {
+    if !cells(list, q, z, plan, walks, vs, memo, env, &mut row) {
         return state;
     }
     rows::add_row(answer, table, state, &row[..n])
 }
 
-// Whether the conjuncts hold that are due at this depth, the cheap ones first.
-fn due(
-    plan: Plan,
+// Whether the branches from one on lead to 'holds'; 0 is that end, so that a stage with no conjunct costs no call.
+fn met(
     t: &[u16],
     xs: &[i32],
+    start: usize,
     q: &[u8],
     z: &[u16],
     walks: &[u16],
@@ -175,86 +274,44 @@ fn due(
     memo: &[i64],
     env: &mut [usize],
 ) -> bool
-    requires { ⌜ (256 ≤ length (now env)) × Bounds plan × Faithful (now t) (now walks) (now vs) (now chains) ⌝ }
-    ensures { λ r. ⌜ r ≡ depthHolds (now (t .entry)) (now (xs .entry)) (now (q .entry)) (now (z .entry)) (now (walks .entry)) (now (vs .entry)) (now (memo .entry)) (plan .depth) (assigned (now (vs .entry)) (now (env .entry))) ⌝ }
+    requires { ⌜ (256 ≤ length (now env)) × (start ≤ 65535) × Faithful (now t) (now walks) (now vs) (now chains) ⌝ }
+    ensures { λ r. ⌜ r ≡ runs (now (t .entry)) (now (xs .entry)) (now (q .entry)) (now (z .entry)) (now (walks .entry)) (now (vs .entry))
+        (now (memo .entry)) start (assigned (now (vs .entry)) (now (env .entry))) ⌝ }
     ensures { λ _. ⌜ now (env .exit) ≡ now (env .entry) ⌝ }
 {
-    let s = 2 * plan.depth;
-    if !conjuncts::holds(t, xs, s, q, z, walks, chains, vs, memo, env) {
-        return false;
+    if start == 0 {
+        return true;
     }
-    conjuncts::holds(t, xs, s + 1, q, z, walks, chains, vs, memo, env)
+    decide::holds(t, xs, start, q, z, walks, chains, vs, memo, env)
 }
 
 // The plan with one range more bound.
 fn deeper(plan: Plan) -> Plan
     requires { ⌜ Bounds plan × (1 ≤ plan .left) ⌝ }
-    ensures { λ r. ⌜ r ≡ record { targets = plan .targets; columns = plan .columns; level = plan .level; left = plan .left - 1; depth = plan .depth + 1 } ⌝ }
+    ensures { λ r. ⌜ r ≡ record {
+      targets = plan .targets;
+      columns = plan .columns;
+      level = plan .level;
+      listed = plan .listed;
+      left = plan .left -
+          1;
+      depth = plan .depth + 1;
+    } ⌝ }
     ensures { λ r. ⌜ Bounds r ⌝ }
 {
     Plan {
         targets: plan.targets,
         columns: plan.columns,
         level: plan.level,
+        listed: plan.listed,
         left: plan.left - 1,
         depth: plan.depth + 1,
     }
 }
 
-// All assignments of the RANGE records that are left. Once the answer is full nothing can change.
-pub fn run(
-    ranges: &[u8],
-    q: &[u8],
-    z: &[u16],
-    t: &[u16],
-    xs: &[i32],
-    plan: Plan,
-    walks: &[u16],
-    chains: &[u16],
-    vs: &[i32],
-    memo: &[i64],
-    env: &mut [usize],
-    answer: &mut [i64],
-    table: &mut [u16],
-    state: Filled,
-) -> Filled
-    requires { ⌜ (256 ≤ length (now env)) × Bounds plan × Linked (plan .columns) (state .rows) (now answer) (now table) × Faithful (now t) (now walks) (now vs) (now chains) ⌝ }
-    ensures { λ r. ⌜ record { rows = r .rows; full = r .full; cells = now (answer .exit) } ≡ addedAll (record { rows = state .rows; full = state .full; cells = now (answer .entry) }) (rowsFrom plan (now (t .entry)) (now (xs .entry)) (now (q .entry)) (now (z .entry)) (now (walks .entry)) (now (vs .entry)) (now (memo .entry)) (now (ranges .entry)) (assigned (now (vs .entry)) (now (env .entry)))) ⌝ }
-    ensures { λ _. ⌜ now (env .exit) ≡ now (env .entry) ⌝ }
-    ensures { λ r. ⌜ Linked (plan .columns) (r .rows) (now (answer .exit)) (now (table .exit)) ⌝ }
-{
-    let full = state.full;
-    if full {
-        return state;
-    }
-    if !due(plan, t, xs, q, z, walks, chains, vs, memo, env) {
-        return state;
-    }
-    let left = plan.left;
-    if left == 0 {
-        return write(q, z, plan, walks, vs, memo, env, answer, table, state);
-    }
-    each_row(
-        ranges,
-        q,
-        z,
-        t,
-        xs,
-        plan,
-        walks,
-        chains,
-        vs,
-        memo,
-        env,
-        answer,
-        table,
-        state,
-    )
-}
-
-// The variable of the first RANGE record on each of its rows that does not fail the first comparison due there.
+// The variable of the first RANGE record that is left on each row that its cursor stops at; once the answer is full nothing can change.
 fn each_row(
-    ranges: &[u8],
+    list: &[u16],
     q: &[u8],
     z: &[u16],
     t: &[u16],
@@ -269,36 +326,64 @@ fn each_row(
     table: &mut [u16],
     state: Filled,
 ) -> Filled
-    requires { ⌜ (256 ≤ length (now env)) × Bounds plan × (1 ≤ plan .left) × Linked (plan .columns) (state .rows) (now answer) (now table) × Faithful (now t) (now walks) (now vs) (now chains) ⌝ }
-    ensures { λ r. ⌜ record { rows = r .rows; full = r .full; cells = now (answer .exit) } ≡ addedAll (record { rows = state .rows; full = state .full; cells = now (answer .entry) }) (rowsBelow plan (now (t .entry)) (now (xs .entry)) (now (q .entry)) (now (z .entry)) (now (walks .entry)) (now (vs .entry)) (now (memo .entry)) (now (ranges .entry)) (assigned (now (vs .entry)) (now (env .entry)))) ⌝ }
+    requires { ⌜ (256 ≤ length (now env)) × Bounds plan × Linked (plan .columns) (state .rows) (now answer) (now table)
+        × Faithful (now t) (now walks) (now vs) (now chains) × Listed (now list) plan (now q) (now z) (now memo) × (1 ≤ plan .left) ⌝ }
+    ensures { λ r. ⌜ record { rows = r .rows; full = r .full; cells = now (answer .exit) }
+        ≡ addedAll (record { rows = state .rows; full = state .full; cells = now (answer .entry) })
+        (rowsBelow plan (now (t .entry)) (now (xs .entry)) (now (q .entry)) (now (z .entry)) (now (walks .entry)) (now (vs .entry))
+        (now (memo .entry)) (assigned (now (vs .entry)) (now (env .entry)))) ⌝ }
     ensures { λ _. ⌜ now (env .exit) ≡ now (env .entry) ⌝ }
     ensures { λ r. ⌜ Linked (plan .columns) (r .rows) (now (answer .exit)) (now (table .exit)) ⌝ }
 {
-    let variable = kinds::byte(ranges, 1);
-    let rest = kinds::tail(ranges, kinds::record_length(1));
+    let d = plan.depth;
+    let variable = kinds::byte(q, 3 * d + 1);
+    let start = kinds::size_at(t, 2 * d + 2);
+    let second = kinds::size_at(t, 2 * d + 3);
+    let cursor = decide::seeks::prepare(t, xs, start, variable, chains, vs, memo, env);
+    let next = cursor.next;
     let inner = deeper(plan);
+    let left = inner.left;
     let walk = walks::walk_of(walks, variable);
     let n = walk.count;
     let old = evaluator::place(env, variable);
-    let stage = 2 * inner.depth;
     let mut filled = state;
-    let mut i = probes::along(
-        t,
-        xs,
-        stage,
-        variable,
-        walks,
-        walk,
-        chains,
-        vs,
-        memo,
-        env,
-        0,
-    );
-    while i < n {
-        evaluator::set_place(env, variable, walks::place(walks, walk, i));
-        filled = run(
-            rest,
+    let mut i = 0;
+    loop {
+        let j = decide::seeks::next_row(cursor, vs, walks, walk, chains, i);
+        if n <= j {
+            evaluator::set_place(env, variable, old);
+            return filled;
+        }
+        i = j + 1;
+        let full = filled.full;
+        if full {
+            continue;
+        }
+        evaluator::set_place(env, variable, walks::place(walks, walk, j));
+        if !met(t, xs, next, q, z, walks, chains, vs, memo, env) {
+            continue;
+        }
+        if !met(t, xs, second, q, z, walks, chains, vs, memo, env) {
+            continue;
+        }
+        if left == 0 {
+            filled = write(
+                list,
+                q,
+                z,
+                inner,
+                walks,
+                vs,
+                memo,
+                env,
+                answer,
+                table,
+                filled,
+            );
+            continue;
+        }
+        filled = each_row(
+            list,
             q,
             z,
             t,
@@ -313,20 +398,125 @@ fn each_row(
             table,
             filled,
         );
-        i = probes::along(
-            t,
-            xs,
-            stage,
-            variable,
-            walks,
-            walk,
-            chains,
-            vs,
-            memo,
-            env,
-            i + 1,
-        );
     }
-    evaluator::set_place(env, variable, old);
-    filled
+}
+
+// With no RANGE there is one assignment, and its row is the answer.
+fn only(
+    q: &[u8],
+    z: &[u16],
+    plan: Plan,
+    walks: &[u16],
+    vs: &[i32],
+    memo: &[i64],
+    env: &mut [usize],
+    answer: &mut [i64],
+) -> Filled
+    requires { ⌜ (256 ≤ length (now env)) × (plan .columns ≤ 8) ⌝ }
+    ensures { λ r. ⌜ record { rows = r .rows; full = r .full; cells = now (answer .exit) }
+        ≡ addedRow (start (now (answer .entry))) (rowBy plan (now (q .entry)) (now (z .entry)) (now (walks .entry)) (now (vs .entry))
+        (now (memo .entry)) (assigned (now (vs .entry)) (now (env .entry)))) ⌝ }
+    ensures { λ _. ⌜ now (env .exit) ≡ now (env .entry) ⌝ }
+{
+    let n = plan.columns;
+    let t = plan.targets;
+    let x = kinds::tail(q, t);
+    let y = kinds::tail_sizes(z, t);
+    let mut row = [0i64; 8];
+    if !targets(x, y, n, plan.level, walks, vs, memo, env, &mut row, 0) {
+        return none();
+    }
+    rows::only_row(answer, &row[..n])
+}
+
+// The answer before the first row.
+fn none() -> Filled
+    ensures { λ r. ⌜ r ≡ record { rows = 0; full = false } ⌝ }
+{
+    Filled {
+        rows: 0,
+        full: false,
+    }
+}
+
+// The plan, and whether its targets are listed.
+fn with_list(plan: Plan, listed: bool) -> Plan
+    requires { ⌜ Bounds plan ⌝ }
+    ensures { λ r. ⌜ r ≡ record {
+      targets = plan .targets;
+      columns = plan .columns;
+      level = plan .level;
+      listed = listed;
+      left = plan .left;
+      depth =
+          plan .depth;
+    } ⌝ }
+    ensures { λ r. ⌜ Bounds r ⌝ }
+{
+    Plan {
+        targets: plan.targets,
+        columns: plan.columns,
+        level: plan.level,
+        listed,
+        left: plan.left,
+        depth: plan.depth,
+    }
+}
+
+// All assignments of the RANGE records. The targets are listed once it is known that there may be a row.
+pub fn run(
+    q: &[u8],
+    z: &[u16],
+    t: &[u16],
+    xs: &[i32],
+    plan: Plan,
+    walks: &[u16],
+    chains: &[u16],
+    vs: &[i32],
+    memo: &[i64],
+    env: &mut [usize],
+    answer: &mut [i64],
+    table: &mut [u16],
+) -> Filled
+    requires { ⌜ (256 ≤ length (now env)) × Bounds plan × Linked (plan .columns) 0 (now answer) (now table)
+        × Faithful (now t) (now walks) (now vs) (now chains) ⌝ }
+    ensures { λ r. ⌜ record { rows = r .rows; full = r .full; cells = now (answer .exit) }
+        ≡ addedAll (start (now (answer .entry))) (rowsFrom plan (now (t .entry)) (now (xs .entry)) (now (q .entry)) (now (z .entry))
+        (now (walks .entry)) (now (vs .entry)) (now (memo .entry)) (assigned (now (vs .entry)) (now (env .entry)))) ⌝ }
+{
+    let d = plan.depth;
+    let first = kinds::size_at(t, 2 * d);
+    if !met(t, xs, first, q, z, walks, chains, vs, memo, env) {
+        return none();
+    }
+    let second = kinds::size_at(t, 2 * d + 1);
+    if !met(t, xs, second, q, z, walks, chains, vs, memo, env) {
+        return none();
+    }
+    let left = plan.left;
+    if left == 0 {
+        return only(q, z, plan, walks, vs, memo, env, answer);
+    }
+    let mut list = [0u16; 16];
+    let x = kinds::tail(q, plan.targets);
+    let y = kinds::tail_sizes(z, plan.targets);
+    let listed = list_targets(x, y, plan.columns, plan.level, memo, &mut list, 0);
+    let all = with_list(plan, listed);
+    let state = none();
+    each_row(
+        &list,
+        q,
+        z,
+        t,
+        xs,
+        all,
+        walks,
+        chains,
+        vs,
+        memo,
+        env,
+        answer,
+        table,
+        state,
+    )
 }

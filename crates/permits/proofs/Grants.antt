@@ -11,6 +11,7 @@ use lib.ListN.{length, drop, take, set, replicate, length-drop}
 use lib.Seq.{drop-drop}
 use borrow.Author.Tests.{le-leb, leb-true, lt-ltb, le-ltb, ltb-false}
 use Rattle.model.specs.Lists.{any, all, unique, contains}
+use Rattle.model.proofs.Lists.{nothing-left}
 use Rattle.model.specs.Syntax.{Condition, Binding, Permit, WellFormed, WellFormedPs, bindings, variables, levels}
 use Rattle.model.specs.Encoding.{encode, encodePermit, encodePermits, ok, readCondition, permitsRead, permitsOf}
 use Rattle.model.specs.Catalogue.{Shape, shapeOf, catalogueOf}
@@ -34,14 +35,14 @@ use Rattle.catalogue.specs.Layout.{countOf, storedOf, attributesOf}
 use Rattle.catalogue.proofs.Reading.{shape-count}
 use Rattle.scans.specs.Flat.{flatBindings, storedIn}
 use Rattle.scans.proofs.Whole.{bindings-condition}
-use Rattle.scope.specs.Reach.{scopeOf, shapeIn, permitScope}
-use Rattle.scope.proofs.Shapes.{shape-is}
-use Rattle.scope.proofs.Tables.{scope-one}
+use Rattle.conditions.specs.Reach.{scopeOf, shapeIn, permitScope}
+use Rattle.conditions.proofs.scope.Shapes.{shape-is}
+use Rattle.conditions.proofs.scope.Tables.{scope-one}
 use Rattle.conditions.specs.declared.Reading.{Reading}
 use Rattle.conditions.specs.declared.Reading.the-variants as A
 use Rattle.conditions.specs.Answers.{conditionReading}
 use Rattle.conditions.proofs.Records.{Starts}
-use Rattle.conditions.proofs.Found.{Found, found, unread, the-condition}
+use Rattle.conditions.proofs.Found.{Found, found, unread, the-condition, same-read}
 use Rattle.permits.specs.Entries.{maskOf}
 use Rattle.permits.specs.Masks.{maskIn}
 use Rattle.permits.specs.declared.Grant.{Grant}
@@ -61,15 +62,11 @@ module _ (cb : List ℕ) (r m n : ℕ) (c w : ℕ) (ec : c ≡ countOf cb) (ew :
   named-is h a ea x ex = ex ∙ ap (λ i. maskIn i m) ea ∙ sym (ap (λ (b : Bool). b && maskIn n m) (lt-ltb r (countOf cb) (omega (arith, ec, ew))))
 
 -- a list of length 0
-nothing : {A : Type 0} (x : List A) → length x ≡ 0 → x ≡ []
-nothing [] e = refl
-nothing (a ∷ x) e = absurd (omega arith)
-
 -- what a condition binds
 module _ (c : List ℕ) (n : ℕ) (en : n ≡ length (flatBindings c)) where
   pub none-once : n ≡ 0 → true ≡ unique (0 ∷ variables (flatBindings c))
   unfolding unique contains any
-  none-once h = sym (ap (λ (bs : List Binding). unique (0 ∷ variables bs)) (nothing (flatBindings c) (omega (arith, en, h))))
+  none-once h = sym (ap (λ (bs : List Binding). unique (0 ∷ variables bs)) (nothing-left (flatBindings c) (omega (arith, en, h))))
 
   module _ (cb : List ℕ) (r : ℕ) (s : Bool) (es : s ≡ storedOf cb r) where
     pub stored-not : not s ≡ true → false ≡ (storedOf cb r && all (storedIn cb) (flatBindings c))
@@ -80,7 +77,7 @@ module _ (c : List ℕ) (n : ℕ) (en : n ≡ length (flatBindings c)) where
 
     pub stored-none : not s ≡ false → n ≡ 0 → true ≡ (storedOf cb r && all (storedIn cb) (flatBindings c))
     unfolding all
-    stored-none h e = stored-all h true (sym (ap (all (storedIn cb)) (nothing (flatBindings c) (omega (arith, en, e)))))
+    stored-none h e = stored-all h true (sym (ap (all (storedIn cb)) (nothing-left (flatBindings c) (omega (arith, en, e)))))
 
 -- the condition's scope: variable 0 alone
 pub in-permit : (sh : Shape) (r : ℕ) (t q : List ℕ) (x : Reading) → t ≡ set (replicate 256 0) 0 (r + 1) → x ≡ conditionReading sh 4 16 (scopeOf t) (drop 0 q) → x ≡ conditionReading sh 4 16 (permitScope r) q
@@ -185,20 +182,17 @@ module _ (cb list : List ℕ) (h10 : fails10 cb ≡ false) (p : ℕ) (inside : p
         permit-all h j i ei = reads i (ei ∙ sym (ap₂ (λ z w. z && (w && unique (0 ∷ variables (flatBindings u)))) (not-no v h) (not-no b j)))
 
 -- bytes are one permit and what follows it
-same-read : {A : Type 0} (a c : A) (r s : List ℕ) → ok a r ≡ ok c s → r ≡ s
-same-read a c r s h = cc
-
 permit-rest : (g h : Permit) (s u : List ℕ) → WellFormed (g .condition) → WellFormed (h .condition) → encodePermit g s ≡ encodePermit h u → s ≡ u
 unfolding encodePermit
 permit-rest g h s u w v e =
     let c = g .condition in let d = h .condition in let m = levels c + levels d in
-    same-read c d s u (sym (read-encode c m s w (omega arith)) ∙ ap (λ x. readCondition m (drop 4 x)) e ∙ read-encode d m u v (omega arith))
+    same-read c d s u (sym (read-encode c m s w (omega arith)) ∙ ap (λ x. readCondition m (drop 4 x)) e ∙ read-encode d m u v (omega arith)) .1
 
 -- the list
 module _ (sh : Shape) (list : List ℕ) (p k : ℕ) where
   pub list-end : length list ≤ p → ListRead sh list p k true true
   unfolding encodePermits WellFormedPs all
-  list-end h = record { permits = []; bytes = nothing (drop p list) (omega (arith, length-drop p list)); well = tt; count = omega arith; fits = refl; known = refl; stored = refl }
+  list-end h = record { permits = []; bytes = nothing-left (drop p list) (omega (arith, length-drop p list)); well = tt; count = omega arith; fits = refl; known = refl; stored = refl }
 
   module _ (some : p < length list) where
     first : {X : Type 0} (ps : List Permit) → drop p list ≡ encodePermits ps → WellFormedPs ps → all permitFits ps ≡ true → length ps ≤ k

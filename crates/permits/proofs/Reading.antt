@@ -14,10 +14,9 @@ use Rattle.model.specs.Encoding.{encode, encodeT, encodePermit, encodePermits, 
 use Rattle.model.specs.Permits.{mask}
 use Rattle.model.specs.Checks.{fails20}
 use Rattle.model.proofs.Tests.{clash, or-no}
-use Rattle.model.proofs.Sizes.{size, sizeT, size-encode}
+use Rattle.model.proofs.Sizes.{size, sizeT, size-encode, drop-encode}
 use Rattle.model.proofs.ReadingQueries.{permits-inverse}
 use Rattle.kinds.specs.Tables.{ofKind, recordLength}
-use Rattle.sizes.proofs.Reader.{drop-encode}
 use Rattle.permits.specs.Entries.{spanAfter, spanOf, Entry, conditionOf, sizeOf, maskOf, entryAt, entries}
 use Rattle.permits.proofs.Walk.{span-cons, entries-cons, entries-none}
 

@@ -9,6 +9,7 @@ use lib.Dec.{eqb}
 use lib.ListN.{length, getD, drop, length-drop, drop-of-length-le}
 use lib.Seq.{drop-drop, getD-drop}
 use borrow.Author.Tests.{eq-eqb, ne-eqb}
+use Rattle.model.proofs.Lists.{first-at}
 use Rattle.kinds.specs.Tables.{recordLength}
 use Rattle.kinds.proofs.Entries.{length-small}
 use Rattle.permits.specs.Entries.{spanAfter, spanOf, Entry, sizeOf, entryAt, entriesAfter, entries}
@@ -40,9 +41,6 @@ unfolding spanAfter spanOf
 span-permit [] l h = absurd (omega arith)
 span-permit (b ∷ q) l h = ap (λ (t : Bool). cond t 0 (suc (spanAfter (recordLength b - 1) q))) h
 
-head-at : (q : List ℕ) (at : ℕ) → getD (drop at q) 0 0 ≡ getD q at 0
-head-at q at = getD-drop at q 0 0 ∙ ap (λ (i : ℕ). getD q i 0) (add-zero at)
-
 -- one turn of the loop over the records of a condition
 module _ (q : List ℕ) (at b : ℕ) (h : at < length q) (eb : b ≡ getD q at 0) where
   left-some : 0 < length (drop at q)
@@ -50,12 +48,12 @@ module _ (q : List ℕ) (at b : ℕ) (h : at < length q) (eb : b ≡ getD q at 0
 
   pub span-on : (n w : ℕ) → (b ≡ 64 → ⊥) → n ≡ recordLength (getD q at 0) → at + spanOf (drop at q) ≡ w → at + n + spanOf (drop (at + n) q) ≡ w
   span-on n w ne en e =
-      let s : spanOf (drop at q) ≡ recordLength (getD (drop at q) 0 0) + spanOf (drop (recordLength (getD (drop at q) 0 0)) (drop at q)) = span-head (drop at q) left-some (ap (λ (x : ℕ). eqb x 64) (head-at q at ∙ sym eb) ∙ ne-eqb b 64 ne) in
-      let d : spanOf (drop (recordLength (getD (drop at q) 0 0)) (drop at q)) ≡ spanOf (drop (at + n) q) = ap spanOf (drop-drop (recordLength (getD (drop at q) 0 0)) at q ∙ ap (λ (m : ℕ). drop (at + m) q) (ap recordLength (head-at q at) ∙ sym en)) in
-      omega (arith, s, d, ap recordLength (head-at q at), en, e)
+      let s : spanOf (drop at q) ≡ recordLength (getD (drop at q) 0 0) + spanOf (drop (recordLength (getD (drop at q) 0 0)) (drop at q)) = span-head (drop at q) left-some (ap (λ (x : ℕ). eqb x 64) (first-at at q ∙ sym eb) ∙ ne-eqb b 64 ne) in
+      let d : spanOf (drop (recordLength (getD (drop at q) 0 0)) (drop at q)) ≡ spanOf (drop (at + n) q) = ap spanOf (drop-drop (recordLength (getD (drop at q) 0 0)) at q ∙ ap (λ (m : ℕ). drop (at + m) q) (ap recordLength (first-at at q) ∙ sym en)) in
+      omega (arith, s, d, ap recordLength (first-at at q), en, e)
 
   pub span-found : (w : ℕ) → b ≡ 64 → at + spanOf (drop at q) ≡ w → at ≡ w
-  span-found w eq e = omega (arith, span-permit (drop at q) left-some (ap (λ (x : ℕ). eqb x 64) (head-at q at ∙ sym eb) ∙ eq-eqb b 64 eq), e)
+  span-found w eq e = omega (arith, span-permit (drop at q) left-some (ap (λ (x : ℕ). eqb x 64) (first-at at q ∙ sym eb) ∙ eq-eqb b 64 eq), e)
 
 pub span-end : (q : List ℕ) (at w : ℕ) → length q ≤ at → at + spanOf (drop at q) ≡ w → at ≡ w
 unfolding spanAfter spanOf

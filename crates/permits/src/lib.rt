@@ -1,7 +1,7 @@
-// The permit list: its checks 20 to 23 from one reading, and which of its permits apply.
-// To find which apply permits are found by a flat walk: inside a condition no record has their kind.
+// The permit list: its checks 20 to 23, from one reading.
 use conditions::Reading;
 use kinds::Record;
+use scans::Bound;
 ghost use mathlib.Core.Path.{_≡_};
 ghost use mathlib.Core.Bool.{false, cond, not, _&&_, _||_};
 ghost use mathlib.Core.List.{_∷_};
@@ -14,41 +14,17 @@ ghost use Rattle.model.specs.Permits.{bit};
 ghost use Rattle.model.specs.Catalogue.{catalogueOf, shapeOf};
 ghost use Rattle.model.specs.Checks.{fails10, fails20, permitChecks, refusal};
 ghost use Rattle.catalogue.specs.Layout.{countOf, storedOf, attributesOf};
-ghost use Rattle.scans.specs.Flat.{flatBindings, storedIn};
-ghost use Rattle.scope.specs.Reach.{shapeIn, permitScope};
+ghost use Rattle.scans.specs.Flat.{flatBindings, storedIn, boundBy};
+ghost use Rattle.conditions.specs.Reach.{shapeIn, permitScope};
 ghost use Rattle.conditions.specs.Answers.{conditionReading};
-ghost use Rattle.permits.specs.Entries.{spanOf, sizeOf, maskOf, entryAt};
-ghost use Rattle.permits.specs.Applying as App;
+ghost use Rattle.permits.specs.Entries.{maskOf};
 ghost use Rattle.permits.specs.Masks as Lim;
 ghost use Rattle.permits.specs.Granted.{Granted, Listed};
-
-// How many bytes come before the next permit.
-fn span(q: &[u8]) -> usize
-    ensures { λ r. ⌜ r ≡ spanOf (now (q .entry)) ⌝ }
-    ensures { λ r. ⌜ r ≤ length (now (q .entry)) + 4 ⌝ }
-{
-    let mut at = 0;
-    while at < q.len() {
-        if kinds::byte(q, at) == 64 {
-            return at;
-        }
-        at += scans::step(q, at);
-    }
-    at
-}
 
 pub fn part(q: &[u8], n: usize) -> &[u8]
     ensures { λ r. ⌜ now r ≡ take n (now (q .entry)) ⌝ }
 {
     if n <= q.len() { &q[..n] } else { q }
-}
-
-// How many bytes the permit takes that a list starts with.
-pub fn size(list: &[u8]) -> usize
-    ensures { λ r. ⌜ r ≡ sizeOf (now (list .entry)) ⌝ }
-    ensures { λ r. ⌜ (4 ≤ r) × (r ≤ length (now (list .entry)) + 8) ⌝ }
-{
-    4 + span(kinds::tail(list, 4))
 }
 
 fn wide(x: u8) -> u16
@@ -71,67 +47,6 @@ fn has(mask: u16, attribute: u16) -> bool
     ensures { λ r. ⌜ r ≡ bit mask attribute ⌝ }
 {
     (mask >> attribute) & 1 == 1
-}
-
-// Whether the mask has a used attribute, or, where none is wanted, has it not.
-fn as_wanted(used: u16, mask: u16, wanted: bool, attribute: u16) -> bool
-    requires { ⌜ attribute < 16 ⌝ }
-    ensures { λ r. ⌜ r ≡ (not (bit used attribute) || App.agree wanted (bit mask attribute)) ⌝ }
-{
-    if !has(used, attribute) {
-        return true;
-    }
-    if wanted {
-        return has(mask, attribute);
-    }
-    !has(mask, attribute)
-}
-
-// Whether all used attributes are in the mask, or, where none is wanted, all outside it.
-fn all_used(used: u16, mask: u16, wanted: bool) -> bool
-    ensures { λ r. ⌜ r ≡ App.allUsed (λ a. bit used a) mask wanted ⌝ }
-{
-    let mut a: u16 = 0;
-    while a < 16 {
-        if !as_wanted(used, mask, wanted, a) {
-            return false;
-        }
-        a += 1;
-    }
-    true
-}
-
-// Whether the permit that a list starts with is NO ACCESS: a condition that starts with FALSE is that record alone.
-fn no_access(list: &[u8]) -> bool
-    ensures { λ r. ⌜ r ≡ App.noAccessAt (entryAt (now (list .entry))) ⌝ }
-{
-    kinds::byte(list, 4) == 17
-}
-
-// Whether the permit that a list starts with applies to a variable over the relation, of which these attributes are used.
-pub fn applies(list: &[u8], relation: u8, used: u16) -> bool
-    ensures { λ r. ⌜ r ≡ App.appliesTo (λ a. bit used a) relation (entryAt (now (list .entry))) ⌝ }
-{
-    if no_access(list) {
-        return false;
-    }
-    if kinds::byte(list, 1) != relation {
-        return false;
-    }
-    all_used(used, mask(list), true)
-}
-
-// Whether that permit bars the variable.
-pub fn bars(list: &[u8], relation: u8, used: u16) -> bool
-    ensures { λ r. ⌜ r ≡ App.barsFrom (λ a. bit used a) relation (entryAt (now (list .entry))) ⌝ }
-{
-    if !no_access(list) {
-        return false;
-    }
-    if relation != kinds::byte(list, 1) {
-        return false;
-    }
-    !all_used(used, mask(list), false)
 }
 
 fn has_if_known(mask: u16, attribute: u16, attributes: usize) -> bool
@@ -213,6 +128,29 @@ fn bound_once(condition: &[u8], bound: usize) -> bool
     scans::bound_once(condition, true)
 }
 
+fn over_stored(b: Bound, catalogue: &[u8]) -> bool
+    ensures { λ r. ⌜ r ≡ all (storedIn (now (catalogue .entry))) (boundBy b) ⌝ }
+{
+    let Bound::To(_, r) = b else {
+        return true;
+    };
+    catalogue::stored(catalogue, r)
+}
+
+// Whether all variables are bound to stored relations.
+fn all_stored(q: &[u8], catalogue: &[u8]) -> bool
+    ensures { λ r. ⌜ r ≡ all (storedIn (now (catalogue .entry))) (flatBindings (now (q .entry))) ⌝ }
+{
+    let mut at = 0;
+    while at < q.len() {
+        if !over_stored(scans::binding(q, at), catalogue) {
+            return false;
+        }
+        at += scans::step(q, at);
+    }
+    true
+}
+
 // Whether a relation, and those that a condition binds, are stored; so many are bound.
 fn stored(catalogue: &[u8], relation: u8, condition: &[u8], bound: usize) -> bool
     requires { ⌜ bound ≡ length (flatBindings (now condition)) ⌝ }
@@ -224,7 +162,7 @@ fn stored(catalogue: &[u8], relation: u8, condition: &[u8], bound: usize) -> boo
     if bound == 0 {
         return true;
     }
-    scans::all_stored(condition, catalogue)
+    all_stored(condition, catalogue)
 }
 
 // The condition that bytes start with, variable 0 being a row of the relation.
@@ -232,7 +170,7 @@ fn condition(bytes: &[u8], z: &mut [u16], catalogue: &[u8], relation: u8) -> Rea
     ensures { λ r. ⌜ r ≡ conditionReading (shapeIn (now (catalogue .entry))) 4 16 (permitScope relation) (now (bytes .entry)) ⌝ }
 {
     let mut reach = [0u16; 256];
-    scope::bind(&mut reach, 0, relation);
+    conditions::scope::bind(&mut reach, 0, relation);
     conditions::condition(bytes, z, 0, 16, catalogue, 4, &mut reach)
 }
 

@@ -16,7 +16,7 @@ use Rattle.model.specs.Checks.{fails10}
 use Rattle.model.specs.Permits.{meets}
 use Rattle.model.specs.Scope.{nobody}
 use Rattle.model.proofs.Tests.{and-inv}
-use Rattle.model.proofs.Lists.{every-map}
+use Rattle.model.proofs.Lists.{every-map, getD-same}
 use Rattle.model.proofs.Reading.{read-encode}
 use Rattle.model.proofs.Sizes.{size-encode}
 use Rattle.model.proofs.Renaming.{Sane}
@@ -33,10 +33,10 @@ use Rattle.sizes.proofs.Decoding.{decode-is, condition-sized}
 use Rattle.walks.specs.Walks.{rowsBy}
 use Rattle.allrows.specs.Filled.{filledBy}
 use Rattle.allrows.proofs.All.{filled-agree}
-use Rattle.evaluator.specs.Recalled.{holdsBy}
-use Rattle.evaluator.specs.Evaluation.{assigned, holdsOn}
+use Rattle.numbers.specs.Recalled.{holdsBy}
+use Rattle.evaluator.specs.Evaluation.{holdsOn}
+use Rattle.walks.specs.Assigned.{assigned}
 use Rattle.numbers.specs.Memo.{knows}
-use Rattle.aggregates.proofs.Taking.{getD-same}
 use Rattle.aggregates.specs.Filled.{filledC}
 use Rattle.aggregates.proofs.Faithful.{Unknown, faithful-holds, filled-faithful}
 use Rattle.plain.proofs.Memo.{none-bound}

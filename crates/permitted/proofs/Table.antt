@@ -14,7 +14,7 @@ use Rattle.model.specs.Lists.{all, contains, any, filter, below, unique, Every}
 use Rattle.model.specs.Syntax.{Binding, variables}
 use Rattle.model.specs.Meaning.{Tuple}
 use Rattle.model.proofs.Tests.{and-inv, or-no, not-yes, clash}
-use Rattle.model.proofs.Lists.{every-map, every-both, every-append, every-join, filter-map}
+use Rattle.model.proofs.Lists.{every-map, every-both, every-append, every-join, filter-map, getD-same}
 use Rattle.catalogue.specs.Layout.{tupleAt, tuplesIn, attributesOf, rowsOf, latestOf, baseOf}
 use Rattle.scans.specs.Flat.{boundBy}
 use Rattle.scans.specs.declared.Bound.{Bound}
@@ -24,7 +24,6 @@ use Rattle.walks.specs.Walks.{walkOf, placeAt, places, walked}
 use Rattle.allrows.specs.Filled.{written, wholeOf}
 use Rattle.allrows.proofs.Table.{written-length, written-outside, written-other, written-here}
 use Rattle.allrows.proofs.All.{walked-whole}
-use Rattle.aggregates.proofs.Taking.{getD-same}
 use Rattle.judges.specs.Meets.{rowOf}
 use Rattle.permitted.specs.Given.{meetsAny, rowsFor, numberAt, numbersFor, Listed, keyOf, entered, Has, Keyed, Given, Low, Stepped, tiny}
 

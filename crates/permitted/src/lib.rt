@@ -46,7 +46,9 @@ fn turn(
     marks: &mut [u8],
 )
     requires { ⌜ (k < 8) × (rowsOf (now catalogue) relation ≤ 1024) × (rowsOf (now catalogue) relation ≤ length (now marks)) × Bits (now marks) ⌝ }
-    ensures { λ _. ⌜ Marked (λ i. eqb (mask % 2) 1 && meetsBytes (now (catalogue .entry)) (now (values .entry)) (part (now (list .entry)) (now (places .entry)) k) (rowOf (now (catalogue .entry)) (now (values .entry)) relation i)) (rowsOf (now (catalogue .entry)) relation) (now (marks .entry)) (now (marks .exit)) ⌝ }
+    ensures { λ _. ⌜ Marked (λ i. eqb (mask % 2) 1 && meetsBytes (now (catalogue .entry)) (now (values .entry))
+        (part (now (list .entry)) (now (places .entry)) k) (rowOf (now (catalogue .entry)) (now (values .entry)) relation i))
+        (rowsOf (now (catalogue .entry)) relation) (now (marks .entry)) (now (marks .exit)) ⌝ }
 {
     if mask % 2 != 1 {
         return;
@@ -66,7 +68,9 @@ fn judge_all(
     marks: &mut [u8],
 )
     requires { ⌜ (rowsOf (now catalogue) relation ≤ 1024) × (rowsOf (now catalogue) relation ≤ length (now marks)) × Bits (now marks) ⌝ }
-    ensures { λ _. ⌜ Marked (λ i. G.meetsAny (now (catalogue .entry)) (now (values .entry)) (part (now (list .entry)) (now (places .entry))) mask (rowOf (now (catalogue .entry)) (now (values .entry)) relation i)) (rowsOf (now (catalogue .entry)) relation) (now (marks .entry)) (now (marks .exit)) ⌝ }
+    ensures { λ _. ⌜ Marked (λ i. G.meetsAny (now (catalogue .entry)) (now (values .entry)) (part (now (list .entry)) (now (places .entry))) mask
+        (rowOf (now (catalogue .entry)) (now (values .entry)) relation i)) (rowsOf (now (catalogue .entry)) relation) (now (marks .entry))
+        (now (marks .exit)) ⌝ }
 {
     let mut m = mask;
     let mut k: usize = 0;
@@ -102,7 +106,8 @@ fn number(latest: bool, n: usize, i: usize) -> usize
 // unless its row is marked: the way is the same for every row.
 fn collect(marks: &[u8], latest: bool, n: usize, walks: &mut [u16], start: usize) -> usize
     requires { ⌜ (n ≤ length (now marks)) × (n ≤ 65535) × (start + n ≤ length (now walks)) × (length (now walks) ≤ 65535) × Bits (now marks) ⌝ }
-    ensures { λ r. ⌜ G.Listed (filter (λ i. eqb (getD (now (marks .entry)) i 0) 1) (map (G.numberAt latest n) (below n))) start r (now (walks .entry)) (now (walks .exit)) ⌝ }
+    ensures { λ r. ⌜ G.Listed (filter (λ i. eqb (getD (now (marks .entry)) i 0) 1) (map (G.numberAt latest n) (below n))) start r
+        (now (walks .entry)) (now (walks .exit)) ⌝ }
     ensures { λ r. ⌜ (start ≤ r) × (r ≤ start + n) ⌝ }
 {
     let mut at = start;
@@ -128,8 +133,10 @@ fn list_by(
     walks: &mut [u16],
     start: usize,
 ) -> usize
-    requires { ⌜ (rowsOf (now catalogue) relation ≤ 1024) × (rowsOf (now catalogue) relation ≤ length (now marks)) × ((i : ℕ) → getD (now marks) i 0 ≡ 0) × (start + rowsOf (now catalogue) relation ≤ length (now walks)) × (length (now walks) ≤ 65535) ⌝ }
-    ensures { λ r. ⌜ G.Listed (G.numbersFor (now (catalogue .entry)) (now (values .entry)) (part (now (list .entry)) (now (places .entry))) mask relation) start r (now (walks .entry)) (now (walks .exit)) ⌝ }
+    requires { ⌜ (rowsOf (now catalogue) relation ≤ 1024) × (rowsOf (now catalogue) relation ≤ length (now marks))
+        × ((i : ℕ) → getD (now marks) i 0 ≡ 0) × (start + rowsOf (now catalogue) relation ≤ length (now walks)) × (length (now walks) ≤ 65535) ⌝ }
+    ensures { λ r. ⌜ G.Listed (G.numbersFor (now (catalogue .entry)) (now (values .entry)) (part (now (list .entry)) (now (places .entry))) mask
+        relation) start r (now (walks .entry)) (now (walks .exit)) ⌝ }
     ensures { λ r. ⌜ (start ≤ r) × (r ≤ start + rowsOf (now (catalogue .entry)) relation) ⌝ }
 {
     judge_all(list, places, mask, catalogue, values, relation, marks);
@@ -149,7 +156,8 @@ fn list_few(
     start: usize,
 ) -> usize
     requires { ⌜ (rowsOf (now catalogue) relation ≤ 16) × (start + rowsOf (now catalogue) relation ≤ length (now walks)) × (length (now walks) ≤ 65535) ⌝ }
-    ensures { λ r. ⌜ G.Listed (G.numbersFor (now (catalogue .entry)) (now (values .entry)) (part (now (list .entry)) (now (places .entry))) mask relation) start r (now (walks .entry)) (now (walks .exit)) ⌝ }
+    ensures { λ r. ⌜ G.Listed (G.numbersFor (now (catalogue .entry)) (now (values .entry)) (part (now (list .entry)) (now (places .entry))) mask
+        relation) start r (now (walks .entry)) (now (walks .exit)) ⌝ }
     ensures { λ r. ⌜ (start ≤ r) × (r ≤ start + rowsOf (now (catalogue .entry)) relation) ⌝ }
 {
     let mut marks = [0u8; 16];
@@ -177,7 +185,8 @@ fn list_many(
     start: usize,
 ) -> usize
     requires { ⌜ (rowsOf (now catalogue) relation ≤ 1024) × (start + rowsOf (now catalogue) relation ≤ length (now walks)) × (length (now walks) ≤ 65535) ⌝ }
-    ensures { λ r. ⌜ G.Listed (G.numbersFor (now (catalogue .entry)) (now (values .entry)) (part (now (list .entry)) (now (places .entry))) mask relation) start r (now (walks .entry)) (now (walks .exit)) ⌝ }
+    ensures { λ r. ⌜ G.Listed (G.numbersFor (now (catalogue .entry)) (now (values .entry)) (part (now (list .entry)) (now (places .entry))) mask
+        relation) start r (now (walks .entry)) (now (walks .exit)) ⌝ }
     ensures { λ r. ⌜ (start ≤ r) × (r ≤ start + rowsOf (now (catalogue .entry)) relation) ⌝ }
 {
     let mut marks = [0u8; 1024];
@@ -206,7 +215,8 @@ fn list_rows(
     start: usize,
 ) -> usize
     requires { ⌜ (rowsOf (now catalogue) relation ≤ 1024) × (start + rowsOf (now catalogue) relation ≤ length (now walks)) × (length (now walks) ≤ 65535) ⌝ }
-    ensures { λ r. ⌜ G.Listed (G.numbersFor (now (catalogue .entry)) (now (values .entry)) (part (now (list .entry)) (now (places .entry))) mask relation) start r (now (walks .entry)) (now (walks .exit)) ⌝ }
+    ensures { λ r. ⌜ G.Listed (G.numbersFor (now (catalogue .entry)) (now (values .entry)) (part (now (list .entry)) (now (places .entry))) mask
+        relation) start r (now (walks .entry)) (now (walks .exit)) ⌝ }
     ensures { λ r. ⌜ (start ≤ r) × (r ≤ start + rowsOf (now (catalogue .entry)) relation) ⌝ }
 {
     if catalogue::rows(catalogue, relation) <= 16 {
@@ -274,8 +284,12 @@ fn give_new(
     next: usize,
     walks: &mut [u16],
 ) -> usize
-    requires { ⌜ ((mask ≡ 0 → ⊥) × (variable < 8) × (rowsOf (now catalogue) relation ≤ 1024)) × ((next + rowsOf (now catalogue) relation ≤ length (now walks)) × (length (now walks) ≤ 65535)) × G.Keyed (now catalogue) (now values) (part (now list) (now places)) (now walks) next ⌝ }
-    ensures { λ r. ⌜ G.Stepped (now (catalogue .entry)) (now (values .entry)) (part (now (list .entry)) (now (places .entry))) variable (G.rowsFor (now (catalogue .entry)) (now (values .entry)) (part (now (list .entry)) (now (places .entry))) mask relation) (rowsOf (now (catalogue .entry)) relation) next r (now (walks .entry)) (now (walks .exit)) ⌝ }
+    requires { ⌜ ((mask ≡ 0 → ⊥) × (variable < 8) × (rowsOf (now catalogue) relation ≤ 1024))
+        × ((next + rowsOf (now catalogue) relation ≤ length (now walks)) × (length (now walks) ≤ 65535))
+        × G.Keyed (now catalogue) (now values) (part (now list) (now places)) (now walks) next ⌝ }
+    ensures { λ r. ⌜ G.Stepped (now (catalogue .entry)) (now (values .entry)) (part (now (list .entry)) (now (places .entry))) variable
+        (G.rowsFor (now (catalogue .entry)) (now (values .entry)) (part (now (list .entry)) (now (places .entry))) mask relation)
+        (rowsOf (now (catalogue .entry)) relation) next r (now (walks .entry)) (now (walks .exit)) ⌝ }
 {
     let end = list_rows(list, places, mask, catalogue, values, relation, walks, next);
     let all = allrows::whole(catalogue, relation);
@@ -308,8 +322,12 @@ fn give_listed(
     next: usize,
     walks: &mut [u16],
 ) -> usize
-    requires { ⌜ ((mask ≡ 0 → ⊥) × (variable < 8) × (rowsOf (now catalogue) relation ≤ 1024)) × ((next + rowsOf (now catalogue) relation ≤ length (now walks)) × (length (now walks) ≤ 65535)) × G.Keyed (now catalogue) (now values) (part (now list) (now places)) (now walks) next ⌝ }
-    ensures { λ r. ⌜ G.Stepped (now (catalogue .entry)) (now (values .entry)) (part (now (list .entry)) (now (places .entry))) variable (G.rowsFor (now (catalogue .entry)) (now (values .entry)) (part (now (list .entry)) (now (places .entry))) mask relation) (rowsOf (now (catalogue .entry)) relation) next r (now (walks .entry)) (now (walks .exit)) ⌝ }
+    requires { ⌜ ((mask ≡ 0 → ⊥) × (variable < 8) × (rowsOf (now catalogue) relation ≤ 1024))
+        × ((next + rowsOf (now catalogue) relation ≤ length (now walks)) × (length (now walks) ≤ 65535))
+        × G.Keyed (now catalogue) (now values) (part (now list) (now places)) (now walks) next ⌝ }
+    ensures { λ r. ⌜ G.Stepped (now (catalogue .entry)) (now (values .entry)) (part (now (list .entry)) (now (places .entry))) variable
+        (G.rowsFor (now (catalogue .entry)) (now (values .entry)) (part (now (list .entry)) (now (places .entry))) mask relation)
+        (rowsOf (now (catalogue .entry)) relation) next r (now (walks .entry)) (now (walks .exit)) ⌝ }
 {
     let key = key_of(relation, mask);
     let other = with_key(walks, key);
@@ -343,8 +361,12 @@ fn give(
     next: usize,
     walks: &mut [u16],
 ) -> usize
-    requires { ⌜ ((variable < 8) × (rowsOf (now catalogue) relation ≤ 1024)) × ((next + rowsOf (now catalogue) relation ≤ length (now walks)) × (length (now walks) ≤ 65535)) × G.Keyed (now catalogue) (now values) (part (now list) (now places)) (now walks) next ⌝ }
-    ensures { λ r. ⌜ G.Stepped (now (catalogue .entry)) (now (values .entry)) (part (now (list .entry)) (now (places .entry))) variable (G.rowsFor (now (catalogue .entry)) (now (values .entry)) (part (now (list .entry)) (now (places .entry))) mask relation) (rowsOf (now (catalogue .entry)) relation) next r (now (walks .entry)) (now (walks .exit)) ⌝ }
+    requires { ⌜ ((variable < 8) × (rowsOf (now catalogue) relation ≤ 1024))
+        × ((next + rowsOf (now catalogue) relation ≤ length (now walks)) × (length (now walks) ≤ 65535))
+        × G.Keyed (now catalogue) (now values) (part (now list) (now places)) (now walks) next ⌝ }
+    ensures { λ r. ⌜ G.Stepped (now (catalogue .entry)) (now (values .entry)) (part (now (list .entry)) (now (places .entry))) variable
+        (G.rowsFor (now (catalogue .entry)) (now (values .entry)) (part (now (list .entry)) (now (places .entry))) mask relation)
+        (rowsOf (now (catalogue .entry)) relation) next r (now (walks .entry)) (now (walks .exit)) ⌝ }
 {
     if mask == 0 {
         enter(walks, variable, allrows::whole(catalogue, relation), 0);
@@ -374,9 +396,14 @@ fn fill_one(
     next: usize,
     walks: &mut [u16],
 ) -> usize
-    requires { ⌜ ((v r : ℕ) → b ≡ To v r → ((v < 8) × (rowsOf (now catalogue) r ≤ 1024)) × ((next + rowsOf (now catalogue) r ≤ length (now walks)) × (length (now walks) ≤ 65535)) × G.Keyed (now catalogue) (now values) (part (now list) (now places)) (now walks) next) ⌝ }
+    requires { ⌜ ((v r : ℕ) → b ≡ To v r → ((v < 8) × (rowsOf (now catalogue) r ≤ 1024))
+        × ((next + rowsOf (now catalogue) r ≤ length (now walks)) × (length (now walks) ≤ 65535))
+        × G.Keyed (now catalogue) (now values) (part (now list) (now places)) (now walks) next) ⌝ }
     ensures { λ r. ⌜ (b ≡ Nothing → (r ≡ next) × (now (walks .exit) ≡ now (walks .entry))) ⌝ }
-    ensures { λ n. ⌜ ((v r : ℕ) → b ≡ To v r → G.Stepped (now (catalogue .entry)) (now (values .entry)) (part (now (list .entry)) (now (places .entry))) v (G.rowsFor (now (catalogue .entry)) (now (values .entry)) (part (now (list .entry)) (now (places .entry))) (getD (now (masks .entry)) v 0) r) (rowsOf (now (catalogue .entry)) r) next n (now (walks .entry)) (now (walks .exit))) ⌝ }
+    ensures { λ n. ⌜ ((v r : ℕ) → b ≡ To v r → G.Stepped (now (catalogue .entry)) (now (values .entry))
+        (part (now (list .entry)) (now (places .entry))) v (G.rowsFor (now (catalogue .entry)) (now (values .entry))
+        (part (now (list .entry)) (now (places .entry))) (getD (now (masks .entry)) v 0) r) (rowsOf (now (catalogue .entry)) r) next n
+        (now (walks .entry)) (now (walks .exit))) ⌝ }
 {
     let Bound::To(variable, relation) = b else {
         return next;
@@ -405,8 +432,12 @@ pub fn fill(
     values: &[i32],
     walks: &mut [u16],
 )
-    requires { ⌜ (unique (variables (flatBindings (now query))) ≡ true) × Every (G.Low (now catalogue) (G.mostIn (now walks))) (flatBindings (now query)) × (length (flatBindings (now query)) ≤ 8) × ((64 ≤ length (now walks)) × (length (now walks) ≤ 8256)) × ((i : ℕ) → getD (now walks) i 0 ≡ 0) ⌝ }
-    ensures { λ _. ⌜ Every (λ (b : Binding). walked (now (walks .exit)) (now (values .entry)) (b .variable) ≡ G.rowsFor (now (catalogue .entry)) (now (values .entry)) (part (now (list .entry)) (now (places .entry))) (getD (now (masks .entry)) (b .variable) 0) (b .relation)) (flatBindings (now (query .entry))) ⌝ }
+    requires { ⌜ (unique (variables (flatBindings (now query))) ≡ true)
+        × Every (G.Low (now catalogue) (G.mostIn (now walks))) (flatBindings (now query)) × (length (flatBindings (now query)) ≤ 8)
+        × ((64 ≤ length (now walks)) × (length (now walks) ≤ 8256)) × ((i : ℕ) → getD (now walks) i 0 ≡ 0) ⌝ }
+    ensures { λ _. ⌜ Every (λ (b : Binding). walked (now (walks .exit)) (now (values .entry)) (b .variable)
+        ≡ G.rowsFor (now (catalogue .entry)) (now (values .entry)) (part (now (list .entry)) (now (places .entry)))
+        (getD (now (masks .entry)) (b .variable) 0) (b .relation)) (flatBindings (now (query .entry))) ⌝ }
 {
     let mut next = 64;
     let mut at = 0;

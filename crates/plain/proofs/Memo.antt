@@ -9,7 +9,7 @@ use lib.ListN.{length, getD, drop, replicate, length-replicate, List·getD-eq-de
 use Rattle.model.specs.Lists.{Every}
 use Rattle.model.specs.Syntax.{Condition, Term, TRUE, FALSE, NOT, AND, OR, COMPARE, SOME, CONSTANT, ATTRIBUTE, AGGREGATE, Query}
 use Rattle.model.specs.Encoding.{queryOf}
-use Rattle.model.specs.Meaning.{Assignment, Rows, withCell, targetRow}
+use Rattle.model.specs.Meaning.{Assignment, Rows, withCell, targetRow, targetRowWith}
 use Rattle.model.specs.Catalogue.{catalogueOf, shapeOf}
 use Rattle.model.proofs.Passed.{Scoped, scoped}
 use Rattle.model.proofs.Tests.{clash}
@@ -18,16 +18,16 @@ use Rattle.grammar.specs.declared.Layout.{Layout}
 use Rattle.sizes.specs.Decode.{decode}
 use Rattle.sizes.specs.Parts.{targetsAt}
 use Rattle.walks.specs.Walks.{rowsBy}
-use Rattle.evaluator.specs.Evaluation.{assigned}
+use Rattle.walks.specs.Assigned.{assigned}
 use Rattle.odometer.specs.Plan.{cellsBy}
 use Rattle.aggregates.specs.Filled.{filledC, filledTs}
-use Rattle.aggregates.proofs.Taking.{getD-same}
+use Rattle.model.proofs.Lists.{getD-same}
 use Rattle.aggregates.proofs.Faithful.{Faithful, FaithfulT, FaithfulQ, faithful-value, faithful-holds, query-faithful}
 use Rattle.queries.specs.Parts.{queryAt}
 use Rattle.plain.specs.Reply.{memoOf, Answerable, Trusted, Unbound}
 
 cells-are : (m : List ℤ) (R : Rows) (ts : List Term) → Every (FaithfulT m R) ts → (e : Assignment) → cellsBy m ts R e ≡ targetRow ts R e
-unfolding cellsBy targetRow Every
+unfolding targetRowWith Every
 cells-are m R [] h e = refl
 cells-are m R (t ∷ ts) h e = ap₂ withCell (faithful-value m R t (h .0) e) (cells-are m R ts (h .1) e)
 

@@ -11,8 +11,8 @@ use Rattle.model.specs.Syntax.{Query}
 use Rattle.model.specs.Meaning.{Assignment, Rows, holds, targetRow, unbound}
 use Rattle.model.specs.Catalogue.{catalogueOf, shapeOf}
 use Rattle.model.specs.Checks.{Limits, fails10, fails32}
-use Rattle.evaluator.specs.Evaluation.{assigned}
-use Rattle.evaluator.specs.Recalled.{holdsBy}
+use Rattle.walks.specs.Assigned.{assigned}
+use Rattle.numbers.specs.Recalled.{holdsBy}
 use Rattle.odometer.specs.declared.Plan.{Plan}
 use Rattle.odometer.specs.Plan.{cellsBy}
 use Rattle.aggregates.specs.Filled.{filledC, filledTs}
@@ -30,7 +30,7 @@ replyOf columns s = record { number = cond (s .full) 41 0; rows = s .rows; colum
 
 -- the plan of a query of which no range is bound
 abbrev pub planOf : Layout → ℕ → Plan
-planOf y l = record { targets = y .first; columns = y .targets; level = l; left = y .ranges; depth = 0 }
+planOf y l = record { targets = y .first; columns = y .targets; level = l; listed = false; left = y .ranges; depth = 0 }
 
 -- the memo once each aggregate of the query has been evaluated, those of the targets first
 abbrev pub memoOf : Query → Rows → Assignment → List ℤ → List ℤ

@@ -13,7 +13,7 @@ ghost use Rattle.model.specs.Meaning.{answers};
 ghost use Rattle.model.specs.Catalogue.{catalogueOf, tuplesAt, allRows};
 ghost use Rattle.model.specs.Calls.{give, evaluate};
 ghost use Rattle.walks.specs.Walks.{rowsBy};
-ghost use Rattle.evaluator.specs.Evaluation.{assigned};
+ghost use Rattle.walks.specs.Assigned.{assigned};
 ghost use Rattle.queries.specs.Parts.{queryAt};
 ghost use Rattle.plain.specs.Reply.{answerOf, replyOf, planOf, memoOf, Answerable, Trusted, Unbound};
 
@@ -66,7 +66,8 @@ fn remember(
     memo: &mut [i64],
 )
     requires { ⌜ 256 ≤ length (now env) ⌝ }
-    ensures { λ _. ⌜ now (memo .exit) ≡ memoOf (queryAt layout level (now (q .entry)) (now (z .entry))) (rowsBy (now (walks .entry)) (now (values .entry))) (assigned (now (values .entry)) (now (env .entry))) (now (memo .entry)) ⌝ }
+    ensures { λ _. ⌜ now (memo .exit) ≡ memoOf (queryAt layout level (now (q .entry)) (now (z .entry)))
+        (rowsBy (now (walks .entry)) (now (values .entry))) (assigned (now (values .entry)) (now (env .entry))) (now (memo .entry)) ⌝ }
     ensures { λ _. ⌜ now (env .exit) ≡ now (env .entry) ⌝ }
 {
     let t = layout.first;
@@ -80,7 +81,7 @@ fn remember(
     aggregates::condition(u, v, level, walks, values, env, memo);
 }
 
-// All ranges are left to bind.
+// All ranges are left to bind, and no target is listed yet.
 fn plan_of(layout: Layout, level: usize) -> Plan
     ensures { λ r. ⌜ r ≡ planOf layout level ⌝ }
 {
@@ -88,18 +89,9 @@ fn plan_of(layout: Layout, level: usize) -> Plan
         targets: layout.first,
         columns: layout.targets,
         level,
+        listed: false,
         left: layout.ranges,
         depth: 0,
-    }
-}
-
-// The answer before the first row.
-fn no_rows() -> Filled
-    ensures { λ r. ⌜ r ≡ record { rows = 0; full = false } ⌝ }
-{
-    Filled {
-        rows: 0,
-        full: false,
     }
 }
 
@@ -119,17 +111,19 @@ fn answer_in(
     table: &mut [u16],
     chains: &mut [u16],
 ) -> Reply
-    requires { ⌜ Answerable layout level (now q) (now z) (now catalogue) × Trusted (now memo) (rowsBy (now walks) (now values)) (queryAt layout level (now q) (now z)) × Unbound (now values) (now env) × (length (now table) ≤ 65535) × ((i : ℕ) → getD (now table) i 0 ≡ 0) × ((i : ℕ) → getD (now chains) i 0 ≡ 0) ⌝ }
-    ensures { λ r. ⌜ answerOf r (now (answer .exit)) ≡ give (length (queryOf (now (q .entry)) .targets)) (answers (queryOf (now (q .entry))) (rowsBy (now (walks .entry)) (now (values .entry)))) (now (answer .entry)) ⌝ }
+    requires { ⌜ Answerable layout level (now q) (now z) (now catalogue)
+        × Trusted (now memo) (rowsBy (now walks) (now values)) (queryAt layout level (now q) (now z)) × Unbound (now values) (now env)
+        × (length (now table) ≤ 65535) × ((i : ℕ) → getD (now table) i 0 ≡ 0) × ((i : ℕ) → getD (now chains) i 0 ≡ 0) ⌝ }
+    ensures { λ r. ⌜ answerOf r (now (answer .exit)) ≡ give (length (queryOf (now (q .entry)) .targets))
+        (answers (queryOf (now (q .entry))) (rowsBy (now (walks .entry)) (now (values .entry)))) (now (answer .entry)) ⌝ }
 {
     let mut t = [0u16; 512];
     let mut xs = [0i32; 128];
     let n = layout.ranges;
     let c = layout.condition;
-    conjuncts::plan(q, z, n, c, level, catalogue, 200, memo, &mut t, &mut xs);
+    conjuncts::plan(q, z, n, c, level, memo, &mut t, &mut xs);
     odometer::link(q, n, &t, walks, values, chains);
     let state = odometer::run(
-        q,
         q,
         z,
         &t,
@@ -142,7 +136,6 @@ fn answer_in(
         env,
         answer,
         table,
-        no_rows(),
     );
     filled(state, layout.targets)
 }
@@ -161,8 +154,11 @@ fn answer_unlinked(
     answer: &mut [i64],
     table: &mut [u16],
 ) -> Reply
-    requires { ⌜ Answerable layout level (now q) (now z) (now catalogue) × Trusted (now memo) (rowsBy (now walks) (now values)) (queryAt layout level (now q) (now z)) × Unbound (now values) (now env) × (length (now table) ≤ 65535) × ((i : ℕ) → getD (now table) i 0 ≡ 0) ⌝ }
-    ensures { λ r. ⌜ answerOf r (now (answer .exit)) ≡ give (length (queryOf (now (q .entry)) .targets)) (answers (queryOf (now (q .entry))) (rowsBy (now (walks .entry)) (now (values .entry)))) (now (answer .entry)) ⌝ }
+    requires { ⌜ Answerable layout level (now q) (now z) (now catalogue)
+        × Trusted (now memo) (rowsBy (now walks) (now values)) (queryAt layout level (now q) (now z)) × Unbound (now values) (now env)
+        × (length (now table) ≤ 65535) × ((i : ℕ) → getD (now table) i 0 ≡ 0) ⌝ }
+    ensures { λ r. ⌜ answerOf r (now (answer .exit)) ≡ give (length (queryOf (now (q .entry)) .targets))
+        (answers (queryOf (now (q .entry))) (rowsBy (now (walks .entry)) (now (values .entry)))) (now (answer .entry)) ⌝ }
 {
     let mut chains = [0u16; 1];
     answer_in(
@@ -195,8 +191,11 @@ fn answer_linked(
     answer: &mut [i64],
     table: &mut [u16],
 ) -> Reply
-    requires { ⌜ Answerable layout level (now q) (now z) (now catalogue) × Trusted (now memo) (rowsBy (now walks) (now values)) (queryAt layout level (now q) (now z)) × Unbound (now values) (now env) × (length (now table) ≤ 65535) × ((i : ℕ) → getD (now table) i 0 ≡ 0) ⌝ }
-    ensures { λ r. ⌜ answerOf r (now (answer .exit)) ≡ give (length (queryOf (now (q .entry)) .targets)) (answers (queryOf (now (q .entry))) (rowsBy (now (walks .entry)) (now (values .entry)))) (now (answer .entry)) ⌝ }
+    requires { ⌜ Answerable layout level (now q) (now z) (now catalogue)
+        × Trusted (now memo) (rowsBy (now walks) (now values)) (queryAt layout level (now q) (now z)) × Unbound (now values) (now env)
+        × (length (now table) ≤ 65535) × ((i : ℕ) → getD (now table) i 0 ≡ 0) ⌝ }
+    ensures { λ r. ⌜ answerOf r (now (answer .exit)) ≡ give (length (queryOf (now (q .entry)) .targets))
+        (answers (queryOf (now (q .entry))) (rowsBy (now (walks .entry)) (now (values .entry)))) (now (answer .entry)) ⌝ }
 {
     let mut chains = [0u16; 4168];
     answer_in(
@@ -229,8 +228,11 @@ fn answer_chained(
     answer: &mut [i64],
     table: &mut [u16],
 ) -> Reply
-    requires { ⌜ Answerable layout level (now q) (now z) (now catalogue) × Trusted (now memo) (rowsBy (now walks) (now values)) (queryAt layout level (now q) (now z)) × Unbound (now values) (now env) × (length (now table) ≤ 65535) × ((i : ℕ) → getD (now table) i 0 ≡ 0) ⌝ }
-    ensures { λ r. ⌜ answerOf r (now (answer .exit)) ≡ give (length (queryOf (now (q .entry)) .targets)) (answers (queryOf (now (q .entry))) (rowsBy (now (walks .entry)) (now (values .entry)))) (now (answer .entry)) ⌝ }
+    requires { ⌜ Answerable layout level (now q) (now z) (now catalogue)
+        × Trusted (now memo) (rowsBy (now walks) (now values)) (queryAt layout level (now q) (now z)) × Unbound (now values) (now env)
+        × (length (now table) ≤ 65535) × ((i : ℕ) → getD (now table) i 0 ≡ 0) ⌝ }
+    ensures { λ r. ⌜ answerOf r (now (answer .exit)) ≡ give (length (queryOf (now (q .entry)) .targets))
+        (answers (queryOf (now (q .entry))) (rowsBy (now (walks .entry)) (now (values .entry)))) (now (answer .entry)) ⌝ }
 {
     let mut chains = [0u16; 16480];
     answer_in(
@@ -299,8 +301,11 @@ fn answer_walked(
     answer: &mut [i64],
     table: &mut [u16],
 ) -> Reply
-    requires { ⌜ Answerable layout level (now q) (now z) (now catalogue) × Trusted (now memo) (rowsBy (now walks) (now values)) (queryAt layout level (now q) (now z)) × Unbound (now values) (now env) × (length (now table) ≤ 65535) × ((i : ℕ) → getD (now table) i 0 ≡ 0) ⌝ }
-    ensures { λ r. ⌜ answerOf r (now (answer .exit)) ≡ give (length (queryOf (now (q .entry)) .targets)) (answers (queryOf (now (q .entry))) (rowsBy (now (walks .entry)) (now (values .entry)))) (now (answer .entry)) ⌝ }
+    requires { ⌜ Answerable layout level (now q) (now z) (now catalogue)
+        × Trusted (now memo) (rowsBy (now walks) (now values)) (queryAt layout level (now q) (now z)) × Unbound (now values) (now env)
+        × (length (now table) ≤ 65535) × ((i : ℕ) → getD (now table) i 0 ≡ 0) ⌝ }
+    ensures { λ r. ⌜ answerOf r (now (answer .exit)) ≡ give (length (queryOf (now (q .entry)) .targets))
+        (answers (queryOf (now (q .entry))) (rowsBy (now (walks .entry)) (now (values .entry)))) (now (answer .entry)) ⌝ }
 {
     let n = chained(q, layout.ranges, walks) + holding(q) / 2;
     if n == 0 {
@@ -361,8 +366,10 @@ fn answer_few(
     env: &mut [usize],
     answer: &mut [i64],
 ) -> Reply
-    requires { ⌜ Answerable layout level (now q) (now z) (now catalogue) × Trusted (now memo) (rowsBy (now walks) (now values)) (queryAt layout level (now q) (now z)) × Unbound (now values) (now env) ⌝ }
-    ensures { λ r. ⌜ answerOf r (now (answer .exit)) ≡ give (length (queryOf (now (q .entry)) .targets)) (answers (queryOf (now (q .entry))) (rowsBy (now (walks .entry)) (now (values .entry)))) (now (answer .entry)) ⌝ }
+    requires { ⌜ Answerable layout level (now q) (now z) (now catalogue)
+        × Trusted (now memo) (rowsBy (now walks) (now values)) (queryAt layout level (now q) (now z)) × Unbound (now values) (now env) ⌝ }
+    ensures { λ r. ⌜ answerOf r (now (answer .exit)) ≡ give (length (queryOf (now (q .entry)) .targets))
+        (answers (queryOf (now (q .entry))) (rowsBy (now (walks .entry)) (now (values .entry)))) (now (answer .entry)) ⌝ }
 {
     let mut table = [0u16; 1536];
     answer_walked(
@@ -393,8 +400,10 @@ fn answer_many(
     env: &mut [usize],
     answer: &mut [i64],
 ) -> Reply
-    requires { ⌜ Answerable layout level (now q) (now z) (now catalogue) × Trusted (now memo) (rowsBy (now walks) (now values)) (queryAt layout level (now q) (now z)) × Unbound (now values) (now env) ⌝ }
-    ensures { λ r. ⌜ answerOf r (now (answer .exit)) ≡ give (length (queryOf (now (q .entry)) .targets)) (answers (queryOf (now (q .entry))) (rowsBy (now (walks .entry)) (now (values .entry)))) (now (answer .entry)) ⌝ }
+    requires { ⌜ Answerable layout level (now q) (now z) (now catalogue)
+        × Trusted (now memo) (rowsBy (now walks) (now values)) (queryAt layout level (now q) (now z)) × Unbound (now values) (now env) ⌝ }
+    ensures { λ r. ⌜ answerOf r (now (answer .exit)) ≡ give (length (queryOf (now (q .entry)) .targets))
+        (answers (queryOf (now (q .entry))) (rowsBy (now (walks .entry)) (now (values .entry)))) (now (answer .entry)) ⌝ }
 {
     let mut table = [0u16; 20480];
     answer_walked(
@@ -442,8 +451,10 @@ fn answer_by(
     env: &mut [usize],
     answer: &mut [i64],
 ) -> Reply
-    requires { ⌜ Answerable layout level (now q) (now z) (now catalogue) × Trusted (now memo) (rowsBy (now walks) (now values)) (queryAt layout level (now q) (now z)) × Unbound (now values) (now env) ⌝ }
-    ensures { λ r. ⌜ answerOf r (now (answer .exit)) ≡ give (length (queryOf (now (q .entry)) .targets)) (answers (queryOf (now (q .entry))) (rowsBy (now (walks .entry)) (now (values .entry)))) (now (answer .entry)) ⌝ }
+    requires { ⌜ Answerable layout level (now q) (now z) (now catalogue)
+        × Trusted (now memo) (rowsBy (now walks) (now values)) (queryAt layout level (now q) (now z)) × Unbound (now values) (now env) ⌝ }
+    ensures { λ r. ⌜ answerOf r (now (answer .exit)) ≡ give (length (queryOf (now (q .entry)) .targets))
+        (answers (queryOf (now (q .entry))) (rowsBy (now (walks .entry)) (now (values .entry)))) (now (answer .entry)) ⌝ }
 {
     let room = answer.len();
     let most = most_rows(q, layout.ranges, walks);
@@ -489,7 +500,8 @@ fn answer_filled(
     answer: &mut [i64],
 ) -> Reply
     requires { ⌜ Answerable layout level (now q) (now z) (now catalogue) × Unbound (now values) (now env) ⌝ }
-    ensures { λ r. ⌜ answerOf r (now (answer .exit)) ≡ give (length (queryOf (now (q .entry)) .targets)) (answers (queryOf (now (q .entry))) (rowsBy (now (walks .entry)) (now (values .entry)))) (now (answer .entry)) ⌝ }
+    ensures { λ r. ⌜ answerOf r (now (answer .exit)) ≡ give (length (queryOf (now (q .entry)) .targets))
+        (answers (queryOf (now (q .entry))) (rowsBy (now (walks .entry)) (now (values .entry)))) (now (answer .entry)) ⌝ }
 {
     let mut memo = [0i64; 512];
     remember(q, z, layout, level, walks, values, env, &mut memo);
@@ -542,7 +554,8 @@ pub fn answer_query(
     answer: &mut [i64],
 ) -> Reply
     requires { ⌜ Answerable layout level (now q) (now z) (now catalogue) ⌝ }
-    ensures { λ r. ⌜ answerOf r (now (answer .exit)) ≡ give (length (queryOf (now (q .entry)) .targets)) (answers (queryOf (now (q .entry))) (rowsBy (now (walks .entry)) (now (values .entry)))) (now (answer .entry)) ⌝ }
+    ensures { λ r. ⌜ answerOf r (now (answer .exit)) ≡ give (length (queryOf (now (q .entry)) .targets))
+        (answers (queryOf (now (q .entry))) (rowsBy (now (walks .entry)) (now (values .entry)))) (now (answer .entry)) ⌝ }
 {
     let mut env = [values.len(); 256];
     let h = holding(q);
@@ -601,7 +614,8 @@ fn answer_all(
     answer: &mut [i64],
 ) -> Reply
     requires { ⌜ Answerable layout level (now q) (now z) (now catalogue) ⌝ }
-    ensures { λ r. ⌜ answerOf r (now (answer .exit)) ≡ give (length (queryOf (now (q .entry)) .targets)) (answers (queryOf (now (q .entry))) (allRows (tuplesAt (catalogueOf (now (catalogue .entry))) (now (values .entry))))) (now (answer .entry)) ⌝ }
+    ensures { λ r. ⌜ answerOf r (now (answer .exit)) ≡ give (length (queryOf (now (q .entry)) .targets))
+        (answers (queryOf (now (q .entry))) (allRows (tuplesAt (catalogueOf (now (catalogue .entry))) (now (values .entry))))) (now (answer .entry)) ⌝ }
 {
     let mut walks = [0u16; 2048];
     allrows::fill(q, catalogue, &mut walks);

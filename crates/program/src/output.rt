@@ -75,7 +75,8 @@ fn wide(x: u8) -> u64
 fn unread(catalogue: &[u8]) -> u64
     ensures { λ r. ⌜ r ≡ O.unread (now (catalogue .entry)) ⌝ }
 {
-    if catalogue::fails_10(catalogue) {
+    let none = [0i32; 1];
+    if catalogue::check(catalogue, &none) == 10 {
         10
     } else {
         11
@@ -97,7 +98,8 @@ fn respond_with(
     requires { ⌜ now rewritten ≡ replicate 17216 0 ⌝ }
     requires { ⌜ now answer ≡ replicate 4096 (pos 0) ⌝ }
     ensures { λ r. ⌜ r ≡ length (O.output (now (catalogue .entry)) (now (file .entry)) (now (permits .entry)) (now (question .entry))) ⌝ }
-    ensures { λ _. ⌜ now (out .exit) ≡ sets (now (out .entry)) 0 (O.output (now (catalogue .entry)) (now (file .entry)) (now (permits .entry)) (now (question .entry))) ⌝ }
+    ensures { λ _. ⌜ now (out .exit) ≡ sets (now (out .entry)) 0 (O.output (now (catalogue .entry)) (now (file .entry)) (now (permits .entry))
+        (now (question .entry))) ⌝ }
     ensures { λ r. ⌜ r ≤ 470000 ⌝ }
 {
     if unreadable(file) {
@@ -130,7 +132,8 @@ pub fn respond(
     requires { ⌜ 470000 ≤ length (now out) ⌝ }
     ensures { λ r. ⌜ Counts r (now (out .exit)) ⌝ }
     ensures { λ r. ⌜ take r (now (out .exit)) ≡ O.output (now (catalogue .entry)) (now (file .entry)) (now (permits .entry)) (now (question .entry)) ⌝ }
-    ensures { λ _. ⌜ now (out .exit) ≡ sets (now (out .entry)) 0 (O.output (now (catalogue .entry)) (now (file .entry)) (now (permits .entry)) (now (question .entry))) ⌝ }
+    ensures { λ _. ⌜ now (out .exit) ≡ sets (now (out .entry)) 0 (O.output (now (catalogue .entry)) (now (file .entry)) (now (permits .entry))
+        (now (question .entry))) ⌝ }
 {
     let mut values = [0i32; 8192];
     let mut rewritten = [0u8; 17216];

@@ -8,13 +8,12 @@ use lib.Seq.{drop-drop}
 use Rattle.model.specs.Syntax.{Term, CONSTANT, ATTRIBUTE, AGGREGATE, Binding, Query, WellFormed, WellFormedT, Targets, WellFormedQ, levels, levelsTs, levelsQ}
 use Rattle.model.specs.Encoding.{encode, encodeT, encodeTargets, encodeRanges, encodeQuery, ok, readCondition, readTerm}
 use Rattle.model.proofs.Reading.{read-encode, read-encodeT}
-use Rattle.model.proofs.Sizes.{size, sizeT, sizeTs}
+use Rattle.model.proofs.Sizes.{size, sizeT, sizeTs, drop-encodeT, drop-ranges}
 use Rattle.sizes.specs.declared.Size.{Size}
 use Rattle.sizes.specs.declared.Size.the-variants.{Bytes}
 use Rattle.sizes.specs.Decode.{decode}
 use Rattle.sizes.specs.Measured.{Measured, leaves, onward, conditionTable, termSize, termTable}
 use Rattle.sizes.proofs.Sized.{SizedT, sized-headT, Agree}
-use Rattle.sizes.proofs.Reader.{drop-encodeT}
 use Rattle.sizes.proofs.Decoding.{decode-encode, decode-encodeT, condition-before, condition-sized, term-size, term-rest, term-length, term-before, term-sized, sized-keptT}
 use Rattle.sizes.specs.Parts.{targetsAt, rangesAt}
 use Rattle.model.specs.Kinds.{find, kindOf}
@@ -68,11 +67,6 @@ module _ (l : ℕ) (q : List ℕ) (short : length q < 65536) where
           subst (TermsSized ts) (sym (drop-drop (sizeT t) p (targetsMeasured (length ts) l q (p + sizeT t) y .table))) (i .sized),
         );
       })
-
-drop-ranges : (bs : List Binding) (r : List ℕ) → drop (3 * length bs) (encodeRanges bs r) ≡ r
-unfolding encodeRanges
-drop-ranges [] r = refl
-drop-ranges (b ∷ bs) r = let e : 3 * suc (length bs) ≡ suc (suc (suc (3 * length bs))) = omega arith in ap (λ k. drop k (1 ∷ b .variable ∷ b .relation ∷ encodeRanges bs r)) e ∙ drop-ranges bs r
 
 pub ranges-decoded : (bs : List Binding) (r : List ℕ) → rangesAt (length bs) (encodeRanges bs r) ≡ bs
 unfolding rangesAt encodeRanges recordLength ofKind kindOf find

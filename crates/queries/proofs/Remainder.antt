@@ -6,6 +6,7 @@ use Prim.Native.Nat.{ℕ, _+_, _-_, _*_, _≤_, _<_}
 use native.Mathlib.Omega.{arith}
 use lib.ListN.{length, getD, drop, length-drop}
 use Rattle.model.specs.Syntax.{Term, Query, Targets, levels, levelsQ}
+use Rattle.model.proofs.Lists.{nothing-left}
 use Rattle.model.specs.Encoding.{encode, encodeTargets, ok, readQuery}
 use Rattle.model.specs.Catalogue.{Shape}
 use Rattle.model.specs.Scope.{Scope}
@@ -26,10 +27,6 @@ use Rattle.queries.specs.declared.Run.the-variants as T
 use Rattle.queries.specs.declared.Found.the-variants.{Whole, Refused}
 use Rattle.queries.specs.Found.{Targeted, Standing, Leads, TargetsFound, RestFound, Rest}
 use Rattle.queries.proofs.Targeting.{target-byte, byte-at}
-
-nothing-left : (r : List ℕ) → length r ≡ 0 → r ≡ []
-nothing-left [] h = refl
-nothing-left (x ∷ r) h = absurd (omega arith)
 
 module _ (sh : Shape) (limit l : ℕ) (σ : Scope) (q : List ℕ) (r : ℕ) (z w : List ℕ) where
   -- no query with so many RANGE records, at most 8 targets and l levels is there

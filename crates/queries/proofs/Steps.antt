@@ -13,8 +13,8 @@ use Rattle.model.specs.Catalogue.{Shape}
 use Rattle.model.specs.Scope.{Scope, nobody, knownBinding, rangeScope}
 use Rattle.model.proofs.Tests.{not-yes, not-no}
 use Rattle.kinds.specs.Tables.{recordLength}
-use Rattle.scope.specs.Reach.{scopeOf}
-use Rattle.scope.proofs.Tables.{scope-set}
+use Rattle.conditions.specs.Reach.{scopeOf}
+use Rattle.conditions.proofs.scope.Tables.{scope-set}
 use Rattle.sizes.specs.Parts.{rangesAt}
 use Rattle.queries.specs.Parts.{reachOn}
 

@@ -21,7 +21,7 @@ use Rattle.sizes.specs.declared.Size.the-variants.{Bytes}
 use Rattle.sizes.specs.Measured.{Measured, onward, termSize, termTable}
 use Rattle.sizes.specs.Parts.{rangesAt}
 use Rattle.sizes.proofs.Decoding.{term-size}
-use Rattle.scope.proofs.Steps.{and-stop, and-go}
+use Rattle.conditions.proofs.scope.Steps.{and-stop, and-go}
 use Rattle.conditions.specs.declared.Reading.{Reading}
 use Rattle.conditions.specs.declared.Reading.the-variants as A
 use Rattle.conditions.specs.Answers.{termReading}

@@ -20,9 +20,9 @@ use Rattle.kinds.specs.Tables.{recordLength}
 use Rattle.sizes.specs.Parts.{rangesAt}
 use Rattle.scans.specs.Flat.{flatBindings}
 use Rattle.scans.proofs.Whole.{bindings-query, once-query}
-use Rattle.scope.specs.Reach.{scopeOf, shapeIn}
-use Rattle.scope.proofs.Shapes.{shape-is}
-use Rattle.scope.proofs.Tables.{scope-blank}
+use Rattle.conditions.specs.Reach.{scopeOf, shapeIn}
+use Rattle.conditions.proofs.scope.Shapes.{shape-is}
+use Rattle.conditions.proofs.scope.Tables.{scope-blank}
 use Rattle.grammar.specs.declared.Layout.{Layout}
 use Rattle.grammar.specs.declared.Shape.{Shape as Form}
 use Rattle.grammar.specs.declared.Shape.the-variants.{WellFormed, NotWellFormed}

@@ -11,7 +11,7 @@ ghost use Rattle.model.specs.Lists.{all, unique};
 ghost use Rattle.model.specs.Syntax.{variables};
 ghost use Rattle.model.specs.Scope.{knownBinding};
 ghost use Rattle.scans.specs.Flat.{flatBindings};
-ghost use Rattle.scope.specs.Reach.{scopeOf, shapeIn};
+ghost use Rattle.conditions.specs.Reach.{scopeOf, shapeIn};
 ghost use Rattle.sizes.specs.Parts.{rangesAt};
 ghost use Rattle.model.specs.Catalogue.{catalogueOf, shapeOf};
 ghost use Rattle.model.specs.Checks.{fails10, queryChecks, refusal};
@@ -41,7 +41,7 @@ fn ranges_known(ranges: &[u8], left: usize, catalogue: &[u8], limit: u8) -> bool
     }
     let variable = kinds::byte(ranges, 1);
     let relation = kinds::byte(ranges, 2);
-    if !scope::known(catalogue, limit, variable, relation) {
+    if !conditions::scope::known(catalogue, limit, variable, relation) {
         return false;
     }
     ranges_known(
@@ -53,7 +53,7 @@ fn ranges_known(ranges: &[u8], left: usize, catalogue: &[u8], limit: u8) -> bool
 }
 
 // Puts the variables of so many RANGE records in reach.
-pub fn bind_ranges(ranges: &[u8], left: usize, reach: &mut [u16])
+fn bind_ranges(ranges: &[u8], left: usize, reach: &mut [u16])
     requires { ⌜ 256 ≤ length (now reach) ⌝ }
     ensures { λ _. ⌜ scopeOf (now (reach .exit)) ≡ reachOn (rangesAt left (now (ranges .entry))) (scopeOf (now (reach .entry))) ⌝ }
 {
@@ -67,7 +67,7 @@ pub fn bind_ranges(ranges: &[u8], left: usize, reach: &mut [u16])
     );
     let variable = kinds::byte(ranges, 1);
     let relation = kinds::byte(ranges, 2);
-    scope::bind(reach, variable, relation);
+    conditions::scope::bind(reach, variable, relation);
 }
 
 fn wide(x: u8) -> usize
@@ -109,7 +109,8 @@ fn targets(
     reach: &[u16],
 ) -> Run
     requires { ⌜ at ≤ length (now q) ⌝ }
-    ensures { λ r. ⌜ TargetsFound r (shapeIn (now (catalogue .entry))) limit level (scopeOf (now (reach .entry))) (now (q .entry)) at left (now (z .entry)) (now (z .exit)) ⌝ }
+    ensures { λ r. ⌜ TargetsFound r (shapeIn (now (catalogue .entry))) limit level (scopeOf (now (reach .entry))) (now (q .entry)) at left
+        (now (z .entry)) (now (z .exit)) ⌝ }
     ensures { λ r. ⌜ Leads r level (now (q .entry)) at left ⌝ }
     ensures { λ _. ⌜ drop (length (now (q .entry))) (now (z .exit)) ≡ drop (length (now (q .entry))) (now (z .entry)) ⌝ }
 {
@@ -159,7 +160,8 @@ fn rest(
     reach: &mut [u16],
 ) -> Found
     requires { ⌜ (ranges ≤ 4) × (limit ≤ length (now reach)) ⌝ }
-    ensures { λ r. ⌜ Rest r (shapeIn (now (catalogue .entry))) limit level (scopeOf (now (reach .entry))) (now (q .entry)) ranges (now (z .entry)) (now (z .exit)) ⌝ }
+    ensures { λ r. ⌜ Rest r (shapeIn (now (catalogue .entry))) limit level (scopeOf (now (reach .entry))) (now (q .entry)) ranges (now (z .entry))
+        (now (z .exit)) ⌝ }
     ensures { λ _. ⌜ drop (length (now (q .entry))) (now (z .exit)) ≡ drop (length (now (q .entry))) (now (z .entry)) ⌝ }
 {
     let first = 3 * ranges;

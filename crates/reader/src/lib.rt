@@ -2,10 +2,16 @@
 use elaborate::End;
 use tokens::Outcome;
 ghost use mathlib.Core.Path.{_≡_};
-ghost use Prim.Native.Nat.{_≤_, _<_};
-ghost use lib.ListN.{length};
+ghost use mathlib.Core.Bool.{true};
+ghost use mathlib.Core.List.{List};
+ghost use Prim.Native.Nat.{ℕ, _≤_, _<_};
+ghost use lib.ListN.{length, getD};
 ghost use Rattle.quel.specs.ReadText.{readText};
+ghost use Rattle.tokens.specs.Codes.{Coded};
+ghost use Rattle.names.specs.Search.{Indexed};
 ghost use Rattle.marks.specs.Places.{table};
+ghost use Rattle.elaborate.specs.Counts.{Counted};
+ghost use Rattle.elaborate.specs.Whole.{Ready};
 ghost use Rattle.reader.specs.Readings.{recordsOf, readingOf, writing};
 
 // A text outside the grammar; a name, or the name list; records longer than the buffer.
@@ -30,30 +36,40 @@ fn refused(number: u8) -> Reading
 // The records of all tokens, or 51 for a name and 52 for their length. They are written into a draft first, so that a buffer that is too short is not
 // touched; where they are longer than that they are made twice.
 fn write(
-    text: &[u8],
     kinds: &[u8],
-    starts: &[u16],
-    lengths: &[u16],
-    numbers: &[u32],
+    ids: &[u16],
+    numbers: &[u64],
     list: &[u8],
-    counts: &mut [u64],
+    heads: &[u16],
+    nexts: &[u16],
+    counts: &[u64],
+    marks: &[u8],
     symbols: &mut [u64],
+    slots: &mut [u16],
+    again: &mut [u16],
     frames: &mut [u64],
     draft: &mut [u8],
     out: &mut [u8],
 ) -> Reading
-    requires { ⌜ (length (now kinds) < 4000) × (length (now kinds) < length (now counts)) × (length (now kinds) ≤ length (now symbols)) × (length (now kinds) < length (now frames)) × (length (now draft) ≤ 2048) ⌝ }
-    ensures { λ r. ⌜ readingOf r (now (out .exit)) ≡ writing (recordsOf (now (text .entry)) (table (now (kinds .entry)) (now (starts .entry)) (now (lengths .entry)) (now (numbers .entry))) (now (list .entry))) (now (out .entry)) ⌝ }
+    requires { ⌜ (length (now kinds) < 4000) × (length (now kinds) ≤ length (now symbols)) × (length (now kinds) < length (now slots))
+        × (length (now kinds) < length (now again)) × (length (now kinds) < length (now frames)) × (length (now draft) ≤ 2048) ⌝ }
+    requires { ⌜ ((x : ℕ) → getD (now ids) x 0 ≤ length (now kinds)) × ((x : ℕ) → getD (now slots) x 0 ≡ 0) × ((x : ℕ) → getD (now again) x 0 ≡ 0)
+        × Counted (now kinds) (now counts) × (length (now nexts) ≤ 4096) × Indexed (now list) (now heads) (now nexts) ⌝ }
+    ensures { λ r. ⌜ ((text ss ls : List ℕ) → Ready text (table (now (kinds .entry)) ss ls (now (numbers .entry))) (now (ids .entry))
+        (now (marks .entry)) → readingOf r (now (out .exit)) ≡ writing
+        (recordsOf text (table (now (kinds .entry)) ss ls (now (numbers .entry))) (now (list .entry))) (now (out .entry))) ⌝ }
 {
     let End::Place(length) = elaborate::elaborate(
-        text,
         kinds,
-        starts,
-        lengths,
+        ids,
         numbers,
         list,
+        heads,
+        nexts,
         counts,
+        marks,
         symbols,
+        slots,
         frames,
         draft,
     ) else {
@@ -67,18 +83,71 @@ fn write(
         return Reading { number: 0, length };
     }
     elaborate::elaborate(
-        text,
         kinds,
-        starts,
-        lengths,
+        ids,
         numbers,
         list,
+        heads,
+        nexts,
         counts,
+        marks,
         symbols,
+        again,
         frames,
         out,
     );
     Reading { number: 0, length }
+}
+
+// The names of a text that the grammar has: numbered, bound once, and looked up.
+fn resolve(
+    text: &[u8],
+    kinds: &[u8],
+    starts: &[u16],
+    lengths: &[u16],
+    numbers: &[u64],
+    list: &[u8],
+    heads: &[u16],
+    nexts: &[u16],
+    ids: &mut [u16],
+    counts: &mut [u64],
+    marks: &mut [u8],
+    symbols: &mut [u64],
+    slots: &mut [u16],
+    again: &mut [u16],
+    frames: &mut [u64],
+    draft: &mut [u8],
+    out: &mut [u8],
+) -> Reading
+    requires { ⌜ (length (now kinds) < 4000) × (length (now kinds) ≤ length (now symbols)) × (length (now kinds) < length (now slots))
+        × (length (now kinds) < length (now again)) × (length (now kinds) < length (now frames)) × (length (now draft) ≤ 2048) ⌝ }
+    requires { ⌜ (length (now kinds) ≤ length (now numbers)) × (length (now kinds) ≤ length (now ids)) × (length (now kinds) < length (now counts))
+        × (length (now kinds) < length (now marks)) × Coded (now text) (table (now kinds) (now starts) (now lengths) (now numbers))
+        (length (now kinds)) × ((x : ℕ) → getD (now ids) x 0 ≡ 0) × ((x : ℕ) → getD (now marks) x 0 ≡ 0) × ((x : ℕ) → getD (now slots) x 0 ≡ 0)
+        × ((x : ℕ) → getD (now again) x 0 ≡ 0) × (length (now nexts) ≤ 4096) × Indexed (now list) (now heads) (now nexts) ⌝ }
+    ensures { λ r. ⌜ readingOf r (now (out .exit)) ≡ writing (recordsOf (now (text .entry))
+        (table (now (kinds .entry)) (now (starts .entry)) (now (lengths .entry)) (now (numbers .entry))) (now (list .entry))) (now (out .entry)) ⌝ }
+{
+    marks::number(text, kinds, starts, lengths, numbers, ids);
+    if !elaborate::prepare(kinds, ids, counts, marks) {
+        return refused(NAMES);
+    }
+    write(
+        kinds,
+        ids,
+        numbers,
+        list,
+        heads,
+        nexts,
+        counts,
+        marks,
+        symbols,
+        slots,
+        again,
+        frames,
+        draft,
+        out,
+    )
 }
 
 // 50 for the text alone, 51 for the name list, then its names; the tables are lent.
@@ -88,15 +157,27 @@ fn read_with(
     kinds: &mut [u8],
     starts: &mut [u16],
     lengths: &mut [u16],
-    numbers: &mut [u32],
+    numbers: &mut [u64],
+    heads: &mut [u16],
+    nexts: &mut [u16],
+    ids: &mut [u16],
     counts: &mut [u64],
+    marks: &mut [u8],
     symbols: &mut [u64],
+    slots: &mut [u16],
+    again: &mut [u16],
     frames: &mut [u64],
     spare: &mut [u8],
     out: &mut [u8],
 ) -> Reading
-    requires { ⌜ (length (now text) ≤ 2000 → (length (now text) ≤ length (now kinds)) × (length (now text) ≤ length (now starts)) × (length (now text) ≤ length (now lengths)) × (length (now text) ≤ length (now numbers))) ⌝ }
-    requires { ⌜ (length (now text) ≤ 2000 → (length (now text) < length (now counts)) × (length (now text) ≤ length (now symbols)) × (length (now text) < length (now frames))) × (length (now spare) ≤ 2048) ⌝ }
+    requires { ⌜ (length (now text) ≤ 2000 → (length (now text) ≤ length (now kinds)) × (length (now text) ≤ length (now starts))
+        × (length (now text) ≤ length (now lengths)) × (length (now text) ≤ length (now numbers))) ⌝ }
+    requires { ⌜ (length (now text) ≤ 2000 → (length (now text) ≤ length (now ids)) × (length (now text) < length (now counts))
+        × (length (now text) < length (now marks)) × (length (now text) ≤ length (now symbols)) × (length (now text) < length (now slots))
+        × (length (now text) < length (now again)) × (length (now text) < length (now frames))) × (length (now spare) ≤ 2048)
+        × (1024 ≤ length (now heads)) × (length (now nexts) ≤ 4096) ⌝ }
+    requires { ⌜ ((x : ℕ) → getD (now heads) x 0 ≡ 0) × ((x : ℕ) → getD (now ids) x 0 ≡ 0) × ((x : ℕ) → getD (now marks) x 0 ≡ 0)
+        × ((x : ℕ) → getD (now slots) x 0 ≡ 0) × ((x : ℕ) → getD (now again) x 0 ≡ 0) ⌝ }
     ensures { λ r. ⌜ readingOf r (now (out .exit)) ≡ readText (now (list .entry)) (now (text .entry)) (now (out .entry)) ⌝ }
 {
     let Outcome::Tokens(n) = tokens::cut(text, kinds, starts, lengths, numbers) else {
@@ -105,25 +186,31 @@ fn read_with(
     if !syntax::accepted(kinds, n) {
         return refused(GRAMMAR);
     }
-    if !names::listed(list) {
+    if !names::listed(list, heads, nexts) {
         return refused(NAMES);
     }
-    write(
+    resolve(
         text,
         &kinds[..n],
         starts,
         lengths,
         numbers,
         list,
+        heads,
+        nexts,
+        ids,
         counts,
+        marks,
         symbols,
+        slots,
+        again,
         frames,
         spare,
         out,
     )
 }
 
-// A short text: its tables are small, none over 2,048 bytes, and soon cleared.
+// A short text and a short list: the tables are small, none over 2,048 bytes, and soon cleared.
 fn read_short(text: &[u8], list: &[u8], out: &mut [u8]) -> Reading
     requires { ⌜ length (now text) ≤ 255 ⌝ }
     ensures { λ r. ⌜ readingOf r (now (out .exit)) ≡ readText (now (list .entry)) (now (text .entry)) (now (out .entry)) ⌝ }
@@ -131,9 +218,15 @@ fn read_short(text: &[u8], list: &[u8], out: &mut [u8]) -> Reading
     let mut kinds = [0u8; 255];
     let mut starts = [0u16; 255];
     let mut lengths = [0u16; 255];
-    let mut numbers = [0u32; 255];
+    let mut numbers = [0u64; 255];
+    let mut heads = [0u16; 1024];
+    let mut nexts = [0u16; 256];
+    let mut ids = [0u16; 255];
     let mut counts = [0u64; 256];
+    let mut marks = [0u8; 256];
     let mut symbols = [0u64; 255];
+    let mut slots = [0u16; 256];
+    let mut again = [0u16; 256];
     let mut frames = [0u64; 256];
     let mut spare = [0u8; 512];
     read_with(
@@ -143,24 +236,36 @@ fn read_short(text: &[u8], list: &[u8], out: &mut [u8]) -> Reading
         &mut starts,
         &mut lengths,
         &mut numbers,
+        &mut heads,
+        &mut nexts,
+        &mut ids,
         &mut counts,
+        &mut marks,
         &mut symbols,
+        &mut slots,
+        &mut again,
         &mut frames,
         &mut spare,
         out,
     )
 }
 
-// A text of any length.
+// A text and a list of any length.
 fn read_long(text: &[u8], list: &[u8], out: &mut [u8]) -> Reading
     ensures { λ r. ⌜ readingOf r (now (out .exit)) ≡ readText (now (list .entry)) (now (text .entry)) (now (out .entry)) ⌝ }
 {
     let mut kinds = [0u8; 2000];
     let mut starts = [0u16; 2000];
     let mut lengths = [0u16; 2000];
-    let mut numbers = [0u32; 2000];
+    let mut numbers = [0u64; 2000];
+    let mut heads = [0u16; 1024];
+    let mut nexts = [0u16; 4096];
+    let mut ids = [0u16; 2000];
     let mut counts = [0u64; 2001];
+    let mut marks = [0u8; 2001];
     let mut symbols = [0u64; 2000];
+    let mut slots = [0u16; 2001];
+    let mut again = [0u16; 2001];
     let mut frames = [0u64; 2001];
     let mut spare = [0u8; 2048];
     read_with(
@@ -170,19 +275,36 @@ fn read_long(text: &[u8], list: &[u8], out: &mut [u8]) -> Reading
         &mut starts,
         &mut lengths,
         &mut numbers,
+        &mut heads,
+        &mut nexts,
+        &mut ids,
         &mut counts,
+        &mut marks,
         &mut symbols,
+        &mut slots,
+        &mut again,
         &mut frames,
         &mut spare,
         out,
     )
 }
 
+// Whether the tables for short texts and lists will do.
+fn is_short(text: &[u8], list: &[u8]) -> bool
+    ensures { λ r. ⌜ (r ≡ true → length (now (text .entry)) ≤ 255) ⌝ }
+{
+    if list.len() <= 3584 {
+        text.len() <= 255
+    } else {
+        false
+    }
+}
+
 // Reads a text: for every input what the definition gives. A refusal leaves the buffer as it was.
 pub fn read(text: &[u8], list: &[u8], out: &mut [u8]) -> Reading
     ensures { λ r. ⌜ readingOf r (now (out .exit)) ≡ readText (now (list .entry)) (now (text .entry)) (now (out .entry)) ⌝ }
 {
-    if text.len() <= 255 {
+    if is_short(text, list) {
         return read_short(text, list, out);
     }
     read_long(text, list, out)

@@ -155,7 +155,8 @@ fn write_turn(
     next: usize,
 ) -> Written
     requires { ⌜ (at + length (turnBytes mask (now condition) variable next) < 9223372036854775808) × (next + turnNew mask (now condition) < 256) ⌝ }
-    ensures { λ r. ⌜ (r .at ≡ at + length (turnBytes mask (now (condition .entry)) variable next)) × (r .next ≡ next + turnNew mask (now (condition .entry))) ⌝ }
+    ensures { λ r. ⌜ (r .at ≡ at + length (turnBytes mask (now (condition .entry)) variable next))
+        × (r .next ≡ next + turnNew mask (now (condition .entry))) ⌝ }
     ensures { λ _. ⌜ now (out .exit) ≡ sets (now (out .entry)) at (turnBytes mask (now (condition .entry)) variable next) ⌝ }
 {
     if mask % 2 != 1 {
@@ -179,8 +180,10 @@ pub fn write_guard(
     variable: u8,
     next: usize,
 ) -> Written
-    requires { ⌜ (at + length (guardBytes mask (part (now permits) (now places)) variable next) < 9223372036854775808) × (next + guardNew mask (part (now permits) (now places)) < 256) ⌝ }
-    ensures { λ r. ⌜ (r .at ≡ at + length (guardBytes mask (part (now (permits .entry)) (now (places .entry))) variable next)) × (r .next ≡ next + guardNew mask (part (now (permits .entry)) (now (places .entry)))) ⌝ }
+    requires { ⌜ (at + length (guardBytes mask (part (now permits) (now places)) variable next) < 9223372036854775808)
+        × (next + guardNew mask (part (now permits) (now places)) < 256) ⌝ }
+    ensures { λ r. ⌜ (r .at ≡ at + length (guardBytes mask (part (now (permits .entry)) (now (places .entry))) variable next))
+        × (r .next ≡ next + guardNew mask (part (now (permits .entry)) (now (places .entry)))) ⌝ }
     ensures { λ _. ⌜ now (out .exit) ≡ sets (now (out .entry)) at (guardBytes mask (part (now (permits .entry)) (now (places .entry))) variable next) ⌝ }
 {
     let mut m = mask;

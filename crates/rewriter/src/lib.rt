@@ -65,9 +65,13 @@ fn condition(
     next: usize,
     level: usize,
 ) -> Written
-    requires { ⌜ Room at next (conditionBytes (now masks) (part (now permits) (now places)) level (now q) (now z) next) (conditionNew (now masks) (part (now permits) (now places)) level (now q) (now z)) ⌝ }
-    ensures { λ r. ⌜ After at next (conditionBytes (now (masks .entry)) (part (now (permits .entry)) (now (places .entry))) level (now (q .entry)) (now (z .entry)) next) (conditionNew (now (masks .entry)) (part (now (permits .entry)) (now (places .entry))) level (now (q .entry)) (now (z .entry))) (r .at) (r .next) ⌝ }
-    ensures { λ _. ⌜ now (out .exit) ≡ sets (now (out .entry)) at (conditionBytes (now (masks .entry)) (part (now (permits .entry)) (now (places .entry))) level (now (q .entry)) (now (z .entry)) next) ⌝ }
+    requires { ⌜ Room at next (conditionBytes (now masks) (part (now permits) (now places)) level (now q) (now z) next)
+        (conditionNew (now masks) (part (now permits) (now places)) level (now q) (now z)) ⌝ }
+    ensures { λ r. ⌜ After at next (conditionBytes (now (masks .entry)) (part (now (permits .entry)) (now (places .entry))) level (now (q .entry))
+        (now (z .entry)) next) (conditionNew (now (masks .entry)) (part (now (permits .entry)) (now (places .entry))) level (now (q .entry))
+        (now (z .entry))) (r .at) (r .next) ⌝ }
+    ensures { λ _. ⌜ now (out .exit) ≡ sets (now (out .entry)) at (conditionBytes (now (masks .entry))
+        (part (now (permits .entry)) (now (places .entry))) level (now (q .entry)) (now (z .entry)) next) ⌝ }
 {
     if level == 0 {
         return leaf(out, at, next, Record::False);
@@ -113,9 +117,13 @@ fn term(
     next: usize,
     level: usize,
 ) -> Written
-    requires { ⌜ Room at next (termBytes (now masks) (part (now permits) (now places)) level (now q) (now z) next) (termNew (now masks) (part (now permits) (now places)) level (now q) (now z)) ⌝ }
-    ensures { λ r. ⌜ After at next (termBytes (now (masks .entry)) (part (now (permits .entry)) (now (places .entry))) level (now (q .entry)) (now (z .entry)) next) (termNew (now (masks .entry)) (part (now (permits .entry)) (now (places .entry))) level (now (q .entry)) (now (z .entry))) (r .at) (r .next) ⌝ }
-    ensures { λ _. ⌜ now (out .exit) ≡ sets (now (out .entry)) at (termBytes (now (masks .entry)) (part (now (permits .entry)) (now (places .entry))) level (now (q .entry)) (now (z .entry)) next) ⌝ }
+    requires { ⌜ Room at next (termBytes (now masks) (part (now permits) (now places)) level (now q) (now z) next)
+        (termNew (now masks) (part (now permits) (now places)) level (now q) (now z)) ⌝ }
+    ensures { λ r. ⌜ After at next (termBytes (now (masks .entry)) (part (now (permits .entry)) (now (places .entry))) level (now (q .entry))
+        (now (z .entry)) next) (termNew (now (masks .entry)) (part (now (permits .entry)) (now (places .entry))) level (now (q .entry))
+        (now (z .entry))) (r .at) (r .next) ⌝ }
+    ensures { λ _. ⌜ now (out .exit) ≡ sets (now (out .entry)) at (termBytes (now (masks .entry)) (part (now (permits .entry)) (now (places .entry)))
+        level (now (q .entry)) (now (z .entry)) next) ⌝ }
 {
     if level == 0 {
         return leaf(out, at, next, Record::Constant(0, 0, 0, 0));
@@ -143,9 +151,16 @@ fn conditions(
     next: usize,
     level: usize,
 ) -> Written
-    requires { ⌜ Room at next (bothBytes (conditionBytes (now masks) (part (now permits) (now places)) level) (conditionNew (now masks) (part (now permits) (now places)) level) (now q) (now z) next) (bothNew (conditionNew (now masks) (part (now permits) (now places)) level) (now q) (now z)) ⌝ }
-    ensures { λ r. ⌜ After at next (bothBytes (conditionBytes (now (masks .entry)) (part (now (permits .entry)) (now (places .entry))) level) (conditionNew (now (masks .entry)) (part (now (permits .entry)) (now (places .entry))) level) (now (q .entry)) (now (z .entry)) next) (bothNew (conditionNew (now (masks .entry)) (part (now (permits .entry)) (now (places .entry))) level) (now (q .entry)) (now (z .entry))) (r .at) (r .next) ⌝ }
-    ensures { λ _. ⌜ now (out .exit) ≡ sets (now (out .entry)) at (bothBytes (conditionBytes (now (masks .entry)) (part (now (permits .entry)) (now (places .entry))) level) (conditionNew (now (masks .entry)) (part (now (permits .entry)) (now (places .entry))) level) (now (q .entry)) (now (z .entry)) next) ⌝ }
+    requires { ⌜ Room at next (bothBytes (conditionBytes (now masks) (part (now permits) (now places)) level)
+        (conditionNew (now masks) (part (now permits) (now places)) level) (now q) (now z) next)
+        (bothNew (conditionNew (now masks) (part (now permits) (now places)) level) (now q) (now z)) ⌝ }
+    ensures { λ r. ⌜ After at next (bothBytes (conditionBytes (now (masks .entry)) (part (now (permits .entry)) (now (places .entry))) level)
+        (conditionNew (now (masks .entry)) (part (now (permits .entry)) (now (places .entry))) level) (now (q .entry)) (now (z .entry)) next)
+        (bothNew (conditionNew (now (masks .entry)) (part (now (permits .entry)) (now (places .entry))) level) (now (q .entry)) (now (z .entry)))
+        (r .at) (r .next) ⌝ }
+    ensures { λ _. ⌜ now (out .exit) ≡ sets (now (out .entry)) at (bothBytes
+        (conditionBytes (now (masks .entry)) (part (now (permits .entry)) (now (places .entry))) level)
+        (conditionNew (now (masks .entry)) (part (now (permits .entry)) (now (places .entry))) level) (now (q .entry)) (now (z .entry)) next) ⌝ }
 {
     let a = first_child(q);
     let b = second_child(q, z);
@@ -171,9 +186,16 @@ fn terms(
     next: usize,
     level: usize,
 ) -> Written
-    requires { ⌜ Room at next (bothBytes (termBytes (now masks) (part (now permits) (now places)) level) (termNew (now masks) (part (now permits) (now places)) level) (now q) (now z) next) (bothNew (termNew (now masks) (part (now permits) (now places)) level) (now q) (now z)) ⌝ }
-    ensures { λ r. ⌜ After at next (bothBytes (termBytes (now (masks .entry)) (part (now (permits .entry)) (now (places .entry))) level) (termNew (now (masks .entry)) (part (now (permits .entry)) (now (places .entry))) level) (now (q .entry)) (now (z .entry)) next) (bothNew (termNew (now (masks .entry)) (part (now (permits .entry)) (now (places .entry))) level) (now (q .entry)) (now (z .entry))) (r .at) (r .next) ⌝ }
-    ensures { λ _. ⌜ now (out .exit) ≡ sets (now (out .entry)) at (bothBytes (termBytes (now (masks .entry)) (part (now (permits .entry)) (now (places .entry))) level) (termNew (now (masks .entry)) (part (now (permits .entry)) (now (places .entry))) level) (now (q .entry)) (now (z .entry)) next) ⌝ }
+    requires { ⌜ Room at next (bothBytes (termBytes (now masks) (part (now permits) (now places)) level)
+        (termNew (now masks) (part (now permits) (now places)) level) (now q) (now z) next)
+        (bothNew (termNew (now masks) (part (now permits) (now places)) level) (now q) (now z)) ⌝ }
+    ensures { λ r. ⌜ After at next (bothBytes (termBytes (now (masks .entry)) (part (now (permits .entry)) (now (places .entry))) level)
+        (termNew (now (masks .entry)) (part (now (permits .entry)) (now (places .entry))) level) (now (q .entry)) (now (z .entry)) next)
+        (bothNew (termNew (now (masks .entry)) (part (now (permits .entry)) (now (places .entry))) level) (now (q .entry)) (now (z .entry)))
+        (r .at) (r .next) ⌝ }
+    ensures { λ _. ⌜ now (out .exit) ≡ sets (now (out .entry)) at (bothBytes
+        (termBytes (now (masks .entry)) (part (now (permits .entry)) (now (places .entry))) level)
+        (termNew (now (masks .entry)) (part (now (permits .entry)) (now (places .entry))) level) (now (q .entry)) (now (z .entry)) next) ⌝ }
 {
     let a = first_child(q);
     let b = second_child(q, z);
@@ -200,9 +222,13 @@ fn under(
     level: usize,
     variable: u8,
 ) -> Written
-    requires { ⌜ Room at next (underBytes (now masks) (part (now permits) (now places)) variable level (now q) (now z) next) (underNew (now masks) (part (now permits) (now places)) variable level (now q) (now z)) ⌝ }
-    ensures { λ r. ⌜ After at next (underBytes (now (masks .entry)) (part (now (permits .entry)) (now (places .entry))) variable level (now (q .entry)) (now (z .entry)) next) (underNew (now (masks .entry)) (part (now (permits .entry)) (now (places .entry))) variable level (now (q .entry)) (now (z .entry))) (r .at) (r .next) ⌝ }
-    ensures { λ _. ⌜ now (out .exit) ≡ sets (now (out .entry)) at (underBytes (now (masks .entry)) (part (now (permits .entry)) (now (places .entry))) variable level (now (q .entry)) (now (z .entry)) next) ⌝ }
+    requires { ⌜ Room at next (underBytes (now masks) (part (now permits) (now places)) variable level (now q) (now z) next)
+        (underNew (now masks) (part (now permits) (now places)) variable level (now q) (now z)) ⌝ }
+    ensures { λ r. ⌜ After at next (underBytes (now (masks .entry)) (part (now (permits .entry)) (now (places .entry))) variable level
+        (now (q .entry)) (now (z .entry)) next) (underNew (now (masks .entry)) (part (now (permits .entry)) (now (places .entry))) variable level
+        (now (q .entry)) (now (z .entry))) (r .at) (r .next) ⌝ }
+    ensures { λ _. ⌜ now (out .exit) ≡ sets (now (out .entry)) at (underBytes (now (masks .entry))
+        (part (now (permits .entry)) (now (places .entry))) variable level (now (q .entry)) (now (z .entry)) next) ⌝ }
 {
     let m = mask(masks, variable);
     let a = first_child(q);
@@ -241,9 +267,14 @@ fn targets(
     next: usize,
     level: usize,
 ) -> Written
-    requires { ⌜ Room at next (targetsBytes (now masks) (part (now permits) (now places)) (targetsAt left level (now q) (now z)) next) (targetsNew (now masks) (part (now permits) (now places)) (targetsAt left level (now q) (now z))) ⌝ }
-    ensures { λ r. ⌜ After at next (targetsBytes (now (masks .entry)) (part (now (permits .entry)) (now (places .entry))) (targetsAt left level (now (q .entry)) (now (z .entry))) next) (targetsNew (now (masks .entry)) (part (now (permits .entry)) (now (places .entry))) (targetsAt left level (now (q .entry)) (now (z .entry)))) (r .at) (r .next) ⌝ }
-    ensures { λ _. ⌜ now (out .exit) ≡ sets (now (out .entry)) at (targetsBytes (now (masks .entry)) (part (now (permits .entry)) (now (places .entry))) (targetsAt left level (now (q .entry)) (now (z .entry))) next) ⌝ }
+    requires { ⌜ Room at next (targetsBytes (now masks) (part (now permits) (now places)) (targetsAt left level (now q) (now z)) next)
+        (targetsNew (now masks) (part (now permits) (now places)) (targetsAt left level (now q) (now z))) ⌝ }
+    ensures { λ r. ⌜ After at next (targetsBytes (now (masks .entry)) (part (now (permits .entry)) (now (places .entry)))
+        (targetsAt left level (now (q .entry)) (now (z .entry))) next)
+        (targetsNew (now (masks .entry)) (part (now (permits .entry)) (now (places .entry)))
+        (targetsAt left level (now (q .entry)) (now (z .entry)))) (r .at) (r .next) ⌝ }
+    ensures { λ _. ⌜ now (out .exit) ≡ sets (now (out .entry)) at (targetsBytes (now (masks .entry))
+        (part (now (permits .entry)) (now (places .entry))) (targetsAt left level (now (q .entry)) (now (z .entry))) next) ⌝ }
 {
     if left == 0 {
         return Written { at: at, next: next };
@@ -287,9 +318,13 @@ fn guard_ranges(
     at: usize,
     next: usize,
 ) -> Written
-    requires { ⌜ Room at next (rangeGuards (now masks) (part (now permits) (now places)) (rangesAt left (now q)) next) (newOf (now masks) (part (now permits) (now places)) (rangesAt left (now q))) ⌝ }
-    ensures { λ r. ⌜ After at next (rangeGuards (now (masks .entry)) (part (now (permits .entry)) (now (places .entry))) (rangesAt left (now (q .entry))) next) (newOf (now (masks .entry)) (part (now (permits .entry)) (now (places .entry))) (rangesAt left (now (q .entry)))) (r .at) (r .next) ⌝ }
-    ensures { λ _. ⌜ now (out .exit) ≡ sets (now (out .entry)) at (rangeGuards (now (masks .entry)) (part (now (permits .entry)) (now (places .entry))) (rangesAt left (now (q .entry))) next) ⌝ }
+    requires { ⌜ Room at next (rangeGuards (now masks) (part (now permits) (now places)) (rangesAt left (now q)) next)
+        (newOf (now masks) (part (now permits) (now places)) (rangesAt left (now q))) ⌝ }
+    ensures { λ r. ⌜ After at next (rangeGuards (now (masks .entry)) (part (now (permits .entry)) (now (places .entry)))
+        (rangesAt left (now (q .entry))) next) (newOf (now (masks .entry)) (part (now (permits .entry)) (now (places .entry)))
+        (rangesAt left (now (q .entry)))) (r .at) (r .next) ⌝ }
+    ensures { λ _. ⌜ now (out .exit) ≡ sets (now (out .entry)) at (rangeGuards (now (masks .entry))
+        (part (now (permits .entry)) (now (places .entry))) (rangesAt left (now (q .entry))) next) ⌝ }
 {
     if left == 0 {
         return Written { at: at, next: next };
@@ -313,9 +348,12 @@ pub fn rewrite_query(
     masks: &[u8],
     out: &mut [u8],
 ) -> usize
-    requires { ⌜ Room 0 8 (queryBytes (now masks) (part (now permits) (now places)) (queryAt layout level (now q) (now z))) (queryNew (now masks) (part (now permits) (now places)) (queryAt layout level (now q) (now z))) ⌝ }
-    ensures { λ r. ⌜ r ≡ length (queryBytes (now (masks .entry)) (part (now (permits .entry)) (now (places .entry))) (queryAt layout level (now (q .entry)) (now (z .entry)))) ⌝ }
-    ensures { λ _. ⌜ now (out .exit) ≡ sets (now (out .entry)) 0 (queryBytes (now (masks .entry)) (part (now (permits .entry)) (now (places .entry))) (queryAt layout level (now (q .entry)) (now (z .entry)))) ⌝ }
+    requires { ⌜ Room 0 8 (queryBytes (now masks) (part (now permits) (now places)) (queryAt layout level (now q) (now z)))
+        (queryNew (now masks) (part (now permits) (now places)) (queryAt layout level (now q) (now z))) ⌝ }
+    ensures { λ r. ⌜ r ≡ length (queryBytes (now (masks .entry)) (part (now (permits .entry)) (now (places .entry)))
+        (queryAt layout level (now (q .entry)) (now (z .entry)))) ⌝ }
+    ensures { λ _. ⌜ now (out .exit) ≡ sets (now (out .entry)) 0 (queryBytes (now (masks .entry)) (part (now (permits .entry)) (now (places .entry)))
+        (queryAt layout level (now (q .entry)) (now (z .entry)))) ⌝ }
 {
     let r = layout.ranges;
     let k = layout.targets;

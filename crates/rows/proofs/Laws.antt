@@ -3,7 +3,7 @@ use mathlib.Core.Path.{_≡_, refl, sym, ap, ap₂, _∙_}
 use mathlib.Core.Bool.{Bool, true, false, not, cond}
 use mathlib.Core.List.{List, [], _∷_, _++_, map, append-nil, append-assoc}
 use Prim.Native.Nat.{ℕ, _+_, _-_, _*_, _/_, _≤_, _<_, min}
-use native.Mathlib.Nat.{mul-le-mul, le-refl, div-mul-le-self}
+use native.Mathlib.Nat.{mul-le-mul, le-refl, div-mul-le-self, zero-mul}
 use native.Mathlib.Omega.{arith}
 use lib.Dec.{ltb, leb}
 use lib.IntN.{ℤ}
@@ -51,9 +51,17 @@ unfolding addedAll
 added-append b [] ys = refl
 added-append b (x ∷ xs) ys = added-append (added b x) xs ys
 
-pub added-more : (b : Buffer) (xs : List (List ℤ)) (x : List ℤ) → addedAll b (xs ++ (x ∷ [])) ≡ added (addedAll b xs) x
-unfolding addedAll
-added-more b xs x = added-append b xs (x ∷ [])
+-- one row only
+module _ (c x : List ℤ) where
+  none-stored : stored 0 c x ≡ false
+  unfolding storedRows any
+  none-stored = refl
+
+  pub only-over : length c / length x ≤ 0 → record { rows = 0; full = true; cells = c } ≡ added (start c) x
+  only-over h = added-over 0 false c x refl none-stored h
+
+  pub only-laid : (d : List ℤ) → 0 < length c / length x → d ≡ over c 0 x → record { rows = 1; full = false; cells = d } ≡ added (start c) x
+  only-laid d h e = ap (λ (l : List ℤ). record { rows = 1; full = false; cells = l }) (e ∙ ap (λ (n : ℕ). over c n x) (sym (zero-mul (length x)))) ∙ added-laid 0 false c x refl none-stored h
 
 -- once 41 is certain, later rows change nothing
 pub full-stays : (b : Buffer) (xs : List (List ℤ)) → b .full ≡ true → addedAll b xs ≡ b
@@ -214,23 +222,3 @@ module _ (w : ℕ) where
   given xs c h =
       give-is (addRows [] xs) c
       ∙ ap (answerOf w) (sym (added-rows xs [] c tt h) ∙ ap (λ (b : Buffer). addedAll b xs) (none-yet c))
-
--- the rows of a query all have a cell for each target
-pub whole-rows : {A : Type 0} (w : ℕ) (f : A → List ℤ) → ((a : A) → length (f a) ≡ w) → (ys : List A) → Every (λ (x : List ℤ). length x ≡ w) (map f ys)
-unfolding Every
-whole-rows w f h [] = tt
-whole-rows w f h (y ∷ ys) = (h y, whole-rows w f h ys)
-
--- the lent slice keeps its length
-pub added-length : (b : Buffer) (x : List ℤ) → length (added b x .cells) ≡ length (b .cells)
-unfolding added
-added-length b x = go (b .full) (stored (b .rows) (b .cells) x) (ltb (b .rows) (length (b .cells) / length x)) refl
-  where
-    go : (f s t : Bool) → ltb (b .rows) (length (b .cells) / length x) ≡ t → length (cond f b (cond s b (cond t (record { rows = b .rows + 1; full = false; cells = over (b .cells) (b .rows * length x) x }) (record { rows = b .rows; full = true; cells = b .cells }))) .cells) ≡ length (b .cells)
-    go true s t e = refl
-    go false true t e = refl
-    go false false false e = refl
-    go false false true e =
-        let h = row-room (b .rows) (length x) (length (b .cells)) (ltb-true _ _ e) in
-        length-append (take (b .rows * length x) (b .cells) ++ x) (drop (b .rows * length x + length x) (b .cells))
-        ∙ rw (length-append (take (b .rows * length x) (b .cells)) x, length-take (b .rows * length x) (b .cells), length-drop (b .rows * length x + length x) (b .cells)) (omega (arith, h))

@@ -5,7 +5,7 @@ ghost use Prim.Native.Nat.{ℕ, _+_, _-_, _*_, _/_, _≤_, _<_, min};
 ghost use lib.ListN.{length, take, drop};
 ghost use lib.Signed.{leZ, mag};
 ghost use Rattle.model.specs.Meaning.{sameRow};
-ghost use Rattle.rows.specs.Buffer.{sought, over, added};
+ghost use Rattle.rows.specs.Buffer.{sought, over, added, start};
 ghost use Rattle.rows.specs.Chains.{mixed, hashed, headsOf, nextsOf, bucketOf, Chained, Linked};
 
 // How many rows are stored, and whether a distinct row did not fit.
@@ -154,7 +154,8 @@ fn least(a: usize, b: usize) -> usize
 // one that is found is the first, and its number tells how many a walk would have tried.
 fn chained(answer: &[i64], table: &[u16], rows: usize, row: &[i64], bucket: usize) -> Search
     requires { ⌜ Linked (length (now row)) rows (now answer) (now table) × (bucket ≡ bucketOf (length (now table)) (now row)) ⌝ }
-    ensures { λ r. ⌜ record { found = r .found; tried = r .tried } ≡ sought (min rows (nextsOf (length (now (table .entry))))) (now (answer .entry)) (now (row .entry)) ⌝ }
+    ensures { λ r. ⌜ record { found = r .found; tried = r .tried } ≡ sought (min rows (nextsOf (length (now (table .entry))))) (now (answer .entry))
+        (now (row .entry)) ⌝ }
 {
     let first = heads(table.len());
     let mut link = kinds::size_at(table, bucket);
@@ -206,7 +207,9 @@ fn narrow(x: usize) -> u16
 // Row n at the front of its bucket's chain, where the table has room for it.
 fn link(table: &mut [u16], n: usize, bucket: usize)
     requires { ⌜ (length (now table) ≤ 65535) × (bucket < headsOf (length (now table))) ⌝ }
-    ensures { λ _. ⌜ ((b : ℕ → ℕ) → b n ≡ bucket → Chained b (headsOf (length (now (table .entry)))) (min n (nextsOf (length (now (table .entry))))) (now (table .entry)) → Chained b (headsOf (length (now (table .entry)))) (min (n + 1) (nextsOf (length (now (table .entry))))) (now (table .exit))) ⌝ }
+    ensures { λ _. ⌜ ((b : ℕ → ℕ) → b n ≡ bucket → Chained b (headsOf (length (now (table .entry)))) (min n (nextsOf (length (now (table .entry)))))
+        (now (table .entry)) → Chained b (headsOf (length (now (table .entry)))) (min (n + 1) (nextsOf (length (now (table .entry)))))
+        (now (table .exit))) ⌝ }
 {
     if nexts(table.len()) <= n {
         return;
@@ -220,7 +223,8 @@ fn link(table: &mut [u16], n: usize, bucket: usize)
 // One row more: dropped where an equal one is stored; where it does not fit, 41 is certain and nothing is written.
 pub fn add_row(answer: &mut [i64], table: &mut [u16], state: Filled, row: &[i64]) -> Filled
     requires { ⌜ Linked (length (now row)) (state .rows) (now answer) (now table) ⌝ }
-    ensures { λ r. ⌜ record { rows = r .rows; full = r .full; cells = now (answer .exit) } ≡ added (record { rows = state .rows; full = state .full; cells = now (answer .entry) }) (now (row .entry)) ⌝ }
+    ensures { λ r. ⌜ record { rows = r .rows; full = r .full; cells = now (answer .exit) }
+        ≡ added (record { rows = state .rows; full = state .full; cells = now (answer .entry) }) (now (row .entry)) ⌝ }
     ensures { λ r. ⌜ Linked (length (now (row .entry))) (r .rows) (now (answer .exit)) (now (table .exit)) ⌝ }
 {
     let rows = state.rows;
@@ -240,6 +244,23 @@ pub fn add_row(answer: &mut [i64], table: &mut [u16], state: Filled, row: &[i64]
     link(table, rows, h);
     Filled {
         rows: rows + 1,
+        full: false,
+    }
+}
+
+// The one row of an answer.
+pub fn only_row(answer: &mut [i64], row: &[i64]) -> Filled
+    ensures { λ r. ⌜ record { rows = r .rows; full = r .full; cells = now (answer .exit) } ≡ added (start (now (answer .entry))) (now (row .entry)) ⌝ }
+{
+    if capacity(answer.len(), row.len()) == 0 {
+        return Filled {
+            rows: 0,
+            full: true,
+        };
+    }
+    append(answer, 0, row);
+    Filled {
+        rows: 1,
         full: false,
     }
 }

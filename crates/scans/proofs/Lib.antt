@@ -2,6 +2,5 @@ pub mod Walk
 pub mod Silent
 pub mod Whole
 pub mod Lists
-pub mod Masks
 pub mod Finds
 pub mod Loops

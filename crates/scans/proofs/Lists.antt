@@ -10,6 +10,7 @@ use lib.Seq.{getD-set-same, getD-set-other}
 use borrow.Author.Tests.{eqb-true, eqb-false}
 use mir.Val.{boolByte}
 use Rattle.model.specs.Lists.{all, any, contains, unique, consIf}
+use Rattle.model.proofs.Lists.{getD-same}
 use Rattle.scans.specs.Flat.{seenIn, fresh}
 
 pub all-join : {A : Type 0} (t : A → Bool) (xs ys : List A) → all t (xs ++ ys) ≡ all t xs && all t ys
@@ -64,18 +65,13 @@ fresh-step s v xs h =
     go false b c d = refl
 
 -- nothing is marked at first
-blank : (n v : ℕ) → _≡_ {A = ℕ} (getD (replicate n 0) v 0) 0
-blank zero v = refl
-blank (suc n) zero = refl
-blank (suc n) (suc v) = blank n v
-
 pub fresh-blank : (n : ℕ) (xs : List ℕ) → fresh (replicate n 0) xs ≡ unique xs
 unfolding fresh all
 fresh-blank n xs = ap (λ (b : Bool). b && unique xs) (go xs)
   where
     go : (ys : List ℕ) → all (λ x. not (seenIn (replicate n 0) x)) ys ≡ true
     go [] = refl
-    go (y ∷ ys) = rw (blank n y) (go ys)
+    go (y ∷ ys) = rw (getD-same {A = ℕ} n 0 y) (go ys)
 
 -- a table that starts with variable 0 marked, or not
 pub fresh-start : (zero : Bool) (xs : List ℕ) → fresh (set (replicate 256 0) 0 (boolByte zero)) xs ≡ unique (consIf zero 0 xs)

@@ -1,21 +1,17 @@
--- One turn of a loop over the records: what was left, by what the record at hand binds or uses and what is left after it.
+-- One turn of a loop over the records: what was left, by what the record at hand binds and what is left after it.
 use mathlib.Core.Path.{_≡_, refl, sym, ap, _∙_}
-use mathlib.Core.Bool.{Bool, true, false, not, _&&_, _||_}
+use mathlib.Core.Bool.{Bool, true, false, not, _&&_}
 use mathlib.Core.List.{List, _++_, map-append}
-use Prim.Native.Nat.{ℕ, _+_, _^_, _<_, _≤_}
-use native.Mathlib.Nat.{zero-div}
+use Prim.Native.Nat.{ℕ, _+_, _<_, _≤_}
 use native.Mathlib.Omega.{arith}
 use borrow.Author.Tests.{not-true, not-false}
 use lib.ListN.{length, getD, drop, length-append}
-use Rattle.model.specs.Lists.{all, any, unique}
-use Rattle.model.specs.Syntax.{Binding, Use, variables}
-use Rattle.model.specs.Permits.{bit}
-use Rattle.model.proofs.Tests.{or-false, any-append}
+use Rattle.model.specs.Lists.{all, unique}
+use Rattle.model.specs.Syntax.{Binding, variables}
 use Rattle.kinds.specs.Tables.{recordLength}
 use Rattle.kinds.specs.Record.{recordAt}
-use Rattle.scans.specs.Flat.{bindingOf, useOf, flatBindings, flatUses, usedIn, boundBy, usedBy, fresh}
+use Rattle.scans.specs.Flat.{bindingOf, flatBindings, boundBy, fresh}
 use Rattle.scans.specs.declared.Bound.{Bound}
-use Rattle.scans.specs.declared.Used.{Used}
 use Rattle.scans.proofs.Walk.{flat-step, flat-end}
 use Rattle.scans.proofs.Lists.{all-join}
 
@@ -59,24 +55,3 @@ module _ (q : List ℕ) (at : ℕ) (h : length q ≤ at) where
   pub fresh-end : (s : List ℕ) (w : Bool) → fresh s (variables (flatBindings (drop at q))) ≡ w → true ≡ w
   unfolding fresh all unique
   fresh-end s w e = ap (λ (l : List Binding). fresh s (variables l)) (sym (flat-end bindingOf q at h)) ∙ e
-
-  pub used-end : (v a m : ℕ) (w : Bool) → (bit m a || usedIn (flatUses (drop at q)) v a) ≡ w → bit m a ≡ w
-  unfolding usedIn any
-  used-end v a m w e = sym (or-false (bit m a)) ∙ ap (λ (l : List Use). bit m a || usedIn l v a) (sym (flat-end useOf q at h)) ∙ e
-
-pub used-start : (w : Bool) (a : ℕ) → (bit 0 a || w) ≡ w
-unfolding bit
-used-start w a = rw (zero-div (2 ^ a))
-
-pub used-on : (q : List ℕ) (at n : ℕ) → at < length q → n ≡ recordLength (getD q at 0) → (u : Used) → usedBy u ≡ useOf (recordAt (drop at q)) → (v a m m′ : ℕ) (w : Bool) → bit m′ a ≡ (bit m a || usedIn (usedBy u) v a) → (bit m a || usedIn (flatUses (drop at q)) v a) ≡ w → (bit m′ a || usedIn (flatUses (drop (at + n) q)) v a) ≡ w
-unfolding usedIn
-used-on q at n h en u eu v a m m′ w em e =
-    let rest : List Use = flatUses (drop (at + n) q) in
-    ap (λ (t : Bool). t || usedIn rest v a) em
-    ∙ assoc (bit m a) (usedIn (usedBy u) v a) (usedIn rest v a)
-    ∙ ap (λ (t : Bool). bit m a || t) (sym (any-append _ (usedBy u) rest) ∙ ap (λ (l : List Use). usedIn (l ++ rest) v a) eu ∙ ap (λ (l : List Use). usedIn l v a) (sym (flat-step useOf q at n h en)))
-    ∙ e
-  where
-    assoc : (x y z : Bool) → ((x || y) || z) ≡ (x || (y || z))
-    assoc true y z = refl
-    assoc false y z = refl

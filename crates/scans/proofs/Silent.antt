@@ -9,12 +9,12 @@ use lib.Dec.{eqb, leb}
 use lib.ListN.{length, getD, drop}
 use borrow.Author.Tests.{eqb-true}
 use Rattle.model.specs.Kinds.{Kind, k-range, k-true, k-false, k-not, k-and, k-or, k-compare, k-some, k-constant, k-attribute, k-aggregate, k-permit, kinds, code, bodyLength, find, kindOf}
+use Rattle.model.proofs.Lists.{first-at}
 use Rattle.kinds.specs.Record.{filled, within, recordAt}
 use Rattle.kinds.specs.declared.Record.{Record}
 use Rattle.kinds.specs.declared.Record.the-variants as R
 use Rattle.kinds.proofs.Entries.{of-none, of-some}
 use Rattle.scans.specs.Flat.{bindingOf, useOf}
-use Rattle.scans.proofs.Walk.{first-at}
 
 find-code : (b : ℕ) (xs : List Kind) (x : Kind) → find b xs ≡ some x → b ≡ code x
 unfolding find

@@ -7,14 +7,12 @@ use native.Mathlib.Omega.{arith}
 use lib.ListN.{length, getD, drop, length-drop, drop-of-length-le}
 use lib.Seq.{drop-drop, getD-drop}
 use Rattle.model.specs.Lists.{concatMap}
+use Rattle.model.proofs.Lists.{first-at}
 use Rattle.kinds.specs.Tables.{recordLength}
 use Rattle.kinds.specs.Record.{recordAt}
 use Rattle.kinds.specs.declared.Record.{Record}
 use Rattle.kinds.proofs.Entries.{length-small}
 use Rattle.scans.specs.Flat.{recordsAfter, recordsOf, flat}
-
-pub first-at : (at : ℕ) (q : List ℕ) → getD (drop at q) 0 0 ≡ getD q at 0
-first-at at q = getD-drop at q 0 0 ∙ ap (λ (i : ℕ). getD q i 0) (add-zero at)
 
 after-is : (n : ℕ) (q : List ℕ) → recordsAfter n q ≡ recordsOf (drop n q)
 unfolding recordsAfter recordsOf

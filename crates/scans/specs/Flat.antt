@@ -14,8 +14,6 @@ use Rattle.kinds.specs.declared.Record.{Record}
 use Rattle.kinds.specs.declared.Record.the-variants as R
 use Rattle.scans.specs.declared.Bound.{Bound}
 use Rattle.scans.specs.declared.Bound.the-variants as B
-use Rattle.scans.specs.declared.Used.{Used}
-use Rattle.scans.specs.declared.Used.the-variants as U
 
 -- the records, after so many bytes that belong to the one before
 unfoldable pub recordsAfter : ℕ → List ℕ → List Record
@@ -82,10 +80,6 @@ usedIn us v a = any (λ (u : Use). eqb (u .variable) v && eqb (u .attribute) a) 
 abbrev pub boundBy : Bound → List Binding
 boundBy (B.To v r) = record { variable = v; relation = r } ∷ []
 boundBy B.Nothing = []
-
-abbrev pub usedBy : Used → List Use
-usedBy (U.Of v a) = record { variable = v; attribute = a } ∷ []
-usedBy U.Nothing = []
 
 -- a table of marked numbers
 abbrev pub seenIn : List ℕ → ℕ → Bool

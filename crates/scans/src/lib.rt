@@ -2,16 +2,15 @@
 // so that a walk from record to record meets them all, at any depth, with no recursion.
 use kinds::Record;
 ghost use mathlib.Core.Path.{_≡_};
-ghost use mathlib.Core.Bool.{false, _&&_, _||_};
+ghost use mathlib.Core.Bool.{false, _&&_};
 ghost use mathlib.Core.List.{List, _++_};
-ghost use Prim.Native.Nat.{ℕ, _≤_, _<_};
+ghost use Prim.Native.Nat.{ℕ, _≤_};
 ghost use lib.ListN.{length, drop, getD};
-ghost use Rattle.model.specs.Lists.{all, unique, consIf};
+ghost use Rattle.model.specs.Lists.{unique, consIf};
 ghost use Rattle.model.specs.Syntax.{variables};
-ghost use Rattle.model.specs.Permits.{bit};
 ghost use Rattle.kinds.specs.Record.{recordAt};
 ghost use Rattle.kinds.specs.Tables.{recordLength};
-ghost use Rattle.scans.specs.Flat.{bindingOf, useOf, flatBindings, flatUses, storedIn, boundBy, usedBy, fresh, usedIn};
+ghost use Rattle.scans.specs.Flat.{bindingOf, flatBindings, boundBy, fresh};
 
 pub enum Bound {
     // variable, relation
@@ -19,29 +18,13 @@ pub enum Bound {
     Nothing,
 }
 
-pub enum Used {
-    // variable, attribute
-    Of(u8, u8),
-    Nothing,
-}
-
-// The kinds that bind a variable, and those that use one: most records need not be read.
+// The kinds that bind a variable: most records need not be read.
 fn may_bind(kind: u8) -> bool
     ensures { λ r. ⌜ (r ≡ false → (kind ≡ 1 → ⊥) × (kind ≡ 22 → ⊥) × (kind ≡ 34 → ⊥)) ⌝ }
 {
     match kind {
         1 => true,
         22 => true,
-        34 => true,
-        _ => false,
-    }
-}
-
-fn may_use(kind: u8) -> bool
-    ensures { λ r. ⌜ (r ≡ false → (kind ≡ 33 → ⊥) × (kind ≡ 34 → ⊥)) ⌝ }
-{
-    match kind {
-        33 => true,
         34 => true,
         _ => false,
     }
@@ -59,20 +42,6 @@ pub fn binding(q: &[u8], at: usize) -> Bound
         Record::Some(v, r) => Bound::To(v, r),
         Record::Aggregate(_, v, r, _) => Bound::To(v, r),
         _ => Bound::Nothing,
-    }
-}
-
-// What the record at a place uses.
-fn usage(q: &[u8], at: usize) -> Used
-    ensures { λ r. ⌜ usedBy r ≡ useOf (recordAt (drop at (now (q .entry)))) ⌝ }
-{
-    if !may_use(kinds::byte(q, at)) {
-        return Used::Nothing;
-    }
-    match kinds::read(kinds::tail(q, at)) {
-        Record::Attribute(v, a) => Used::Of(v, a),
-        Record::Aggregate(_, v, _, a) => Used::Of(v, a),
-        _ => Used::Nothing,
     }
 }
 
@@ -113,29 +82,6 @@ fn wide(x: u8) -> usize
     x as usize
 }
 
-fn stored(b: Bound, catalogue: &[u8]) -> bool
-    ensures { λ r. ⌜ r ≡ all (storedIn (now (catalogue .entry))) (boundBy b) ⌝ }
-{
-    let Bound::To(_, r) = b else {
-        return true;
-    };
-    catalogue::stored(catalogue, r)
-}
-
-// Whether all variables are bound to stored relations.
-pub fn all_stored(q: &[u8], catalogue: &[u8]) -> bool
-    ensures { λ r. ⌜ r ≡ all (storedIn (now (catalogue .entry))) (flatBindings (now (q .entry))) ⌝ }
-{
-    let mut at = 0;
-    while at < q.len() {
-        if !stored(binding(q, at), catalogue) {
-            return false;
-        }
-        at += step(q, at);
-    }
-    true
-}
-
 // Marks a bound variable, unless it is marked already.
 fn mark(seen: &mut [u8], b: Bound) -> bool
     requires { ⌜ length (now seen) ≡ 256 ⌝ }
@@ -174,33 +120,4 @@ pub fn bound_once(q: &[u8], zero: bool) -> bool
     let mut seen = [0u8; 256];
     seen[0] = zero as u8;
     all_fresh(q, &mut seen)
-}
-
-// The mask with a use of the variable added.
-fn add(mask: u16, u: Used, variable: u8) -> u16
-    ensures { λ r. ⌜ ((a : ℕ) → a < 16 → bit r a ≡ (bit mask a || usedIn (usedBy u) variable a)) ⌝ }
-{
-    let Used::Of(v, a) = u else {
-        return mask;
-    };
-    if v != variable {
-        return mask;
-    }
-    if 16 <= a {
-        return mask;
-    }
-    mask | (1 << (a as u16))
-}
-
-// S of a variable: bit a is set where attribute a is used of it.
-pub fn used_mask(q: &[u8], variable: u8) -> u16
-    ensures { λ r. ⌜ ((a : ℕ) → a < 16 → bit r a ≡ usedIn (flatUses (now (q .entry))) variable a) ⌝ }
-{
-    let mut mask: u16 = 0;
-    let mut at = 0;
-    while at < q.len() {
-        mask = add(mask, usage(q, at), variable);
-        at += step(q, at);
-    }
-    mask
 }

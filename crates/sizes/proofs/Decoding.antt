@@ -12,7 +12,7 @@ use Rattle.model.specs.Kinds.{kindOf, find, k-true, k-false, k-not, k-and, k-or
 use Rattle.model.specs.Syntax.{Condition, Term, TRUE, FALSE, NOT, AND, OR, COMPARE, SOME, CONSTANT, ATTRIBUTE, AGGREGATE, levels, levelsT}
 use Rattle.model.specs.Encoding.{encode, encodeT, Read, fail, ok, readCondition, readTerm}
 use Rattle.model.proofs.Reading.{read-encode, read-encodeT, read-inverse, read-inverseT}
-use Rattle.model.proofs.Sizes.{size, sizeT, size-encode, size-encodeT}
+use Rattle.model.proofs.Sizes.{size, sizeT, size-encode, size-encodeT, drop-encode, drop-encodeT}
 use Rattle.kinds.specs.Tables.{ofKind, recordLength}
 use Rattle.kinds.specs.Record.{recordAt}
 use Rattle.kinds.specs.declared.Record.{Record}
@@ -22,7 +22,7 @@ use Rattle.sizes.specs.declared.Size.{Size}
 use Rattle.sizes.specs.declared.Size.the-variants.{Bytes, Refused}
 use Rattle.sizes.specs.Measured.{Measured, leaves, measured, sizeRead, conditionSize, termSize, conditionTable, termTable}
 use Rattle.sizes.specs.Decode.{first, second, conditionBy, termBy, nothing, decode, decodeT}
-use Rattle.sizes.proofs.Reader.{drop-encode, drop-encodeT, agree}
+use Rattle.sizes.proofs.Reader.{agree}
 use Rattle.sizes.proofs.Marks.{marks, marksT, measured-is, measured-isT, drop-suc, drop-two}
 use Rattle.sizes.proofs.Sized.{Sized, SizedT, sized-head, sized-headT, sized-same, sized-sameT, Agree, agree-drop, marks-length, marks-lengthT, marks-before, marks-beforeT, marks-after, marks-afterT, marks-sized, marks-sizedT}
 

@@ -11,7 +11,7 @@ use lib.Seq.{drop-drop, getD-drop, getD-set-same, getD-set-other, drop-set-lt}
 use Rattle.model.specs.Kinds.{kindOf, find, k-true, k-false, k-not, k-and, k-or, k-compare, k-some, k-constant, k-attribute, k-aggregate}
 use Rattle.model.specs.Syntax.{Condition, Term, TRUE, FALSE, NOT, AND, OR, COMPARE, SOME, CONSTANT, ATTRIBUTE, AGGREGATE, WellFormed, WellFormedT, levels, levelsT}
 use Rattle.model.specs.Encoding.{encode, encodeT}
-use Rattle.model.proofs.Sizes.{size, sizeT}
+use Rattle.model.proofs.Sizes.{size, sizeT, drop-encode, drop-encodeT}
 use Rattle.kinds.specs.Tables.{ofKind, conditionsOf, termsOf, recordLength}
 use Rattle.kinds.specs.Record.{recordAt}
 use Rattle.kinds.specs.declared.Record.{Record}
@@ -20,7 +20,6 @@ use Rattle.kinds.proofs.Records.{whole-record}
 use Rattle.sizes.specs.declared.Size.{Size}
 use Rattle.sizes.specs.declared.Size.the-variants.{Bytes, Refused}
 use Rattle.sizes.specs.Measured.{accepts, childrenOf, childTerm, store, Measured, leaves, onward, children, stored, measured}
-use Rattle.sizes.proofs.Reader.{drop-encode, drop-encodeT}
 
 -- the table afterwards, p being the place of the first byte
 unfoldable mutual

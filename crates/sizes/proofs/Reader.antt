@@ -14,7 +14,7 @@ use Rattle.model.specs.Kinds.{Kind, k-range, k-true, k-false, k-not, k-and, k-o
 use Rattle.model.specs.Syntax.{Condition, Term, TRUE, FALSE, NOT, AND, OR, COMPARE, SOME, CONSTANT, ATTRIBUTE, AGGREGATE, isOperator, isFunction}
 use Rattle.model.specs.Encoding.{encode, encodeT, Read, fail, ok, then, byte, need, conditionBody, termBody, onKind, readCondition, readTerm}
 use Rattle.model.proofs.Reading.{find-inv, read-inverse, read-inverseT}
-use Rattle.model.proofs.Sizes.{size, sizeT, size-encode, size-encodeT}
+use Rattle.model.proofs.Sizes.{size, sizeT, size-encode, size-encodeT, drop-encode, drop-encodeT}
 use Rattle.kinds.specs.Tables.{ofKind, conditionsOf, termsOf, recordLength}
 use Rattle.kinds.specs.Record.{recordAt, within, filled}
 use Rattle.kinds.specs.declared.Record.{Record}
@@ -24,31 +24,6 @@ use Rattle.kinds.proofs.Records.{whole-record, short-record}
 use Rattle.sizes.specs.declared.Size.{Size}
 use Rattle.sizes.specs.declared.Size.the-variants.{Bytes, Refused}
 use Rattle.sizes.specs.Measured.{sizeRead, conditionSize, termSize, accepts, childrenOf, childTerm, Measured, leaves, onward, children, stored, store, measured, conditionTable, termTable}
-
--- the bytes of a condition, and what stands after them
-mutual
-  unfolding size encode
-
-  pub drop-encode : (c : Condition) (r : List ℕ) → drop (size c) (encode c r) ≡ r
-  drop-encode TRUE r = refl
-  drop-encode FALSE r = refl
-  drop-encode (NOT c) r = drop-encode c r
-  drop-encode (AND c d) r = sym (drop-drop (size d) (size c) (encode c (encode d r))) ∙ ap (drop (size d)) (drop-encode c (encode d r)) ∙ drop-encode d r
-  drop-encode (OR c d) r = sym (drop-drop (size d) (size c) (encode c (encode d r))) ∙ ap (drop (size d)) (drop-encode c (encode d r)) ∙ drop-encode d r
-  drop-encode (COMPARE o s t) r =
-      let n : 2 + (sizeT s + sizeT t) ≡ suc (suc (sizeT s + sizeT t)) = omega arith in
-      ap (λ m. drop m (21 ∷ o ∷ encodeT s (encodeT t r))) n
-      ∙ sym (drop-drop (sizeT t) (sizeT s) (encodeT s (encodeT t r))) ∙ ap (drop (sizeT t)) (drop-encodeT s (encodeT t r)) ∙ drop-encodeT t r
-  drop-encode (SOME v q c) r =
-      let n : 3 + size c ≡ suc (suc (suc (size c))) = omega arith in
-      ap (λ m. drop m (22 ∷ v ∷ q ∷ encode c r)) n ∙ drop-encode c r
-
-  pub drop-encodeT : (t : Term) (r : List ℕ) → drop (sizeT t) (encodeT t r) ≡ r
-  drop-encodeT (CONSTANT a b c d) r = refl
-  drop-encodeT (ATTRIBUTE v a) r = refl
-  drop-encodeT (AGGREGATE f v q a c) r =
-      let n : 5 + size c ≡ suc (suc (suc (suc (suc (size c))))) = omega arith in
-      ap (λ m. drop m (34 ∷ f ∷ v ∷ q ∷ a ∷ encode c r)) n ∙ drop-encode c r
 
 -- a reader takes its bytes from the front
 pub record Taken (q r : List ℕ) : Type 0 where
@@ -226,12 +201,6 @@ is-condition l q x p z y r ex e =
     let w : leaves r y ≡ measured l false (drop p q) p z = e ∙ ap (λ v. measured l false v p z) ex in
     (ap (λ (m : Measured). m .size) w ∙ agree l .0 (drop p q) p z, ap (λ (m : Measured). m .table) w)
 
-pub is-term : (l : ℕ) (q x : List ℕ) (p : ℕ) (z y : List ℕ) (r : Size) → x ≡ drop p q → leaves r y ≡ measured l true x p z → (r ≡ termSize l (drop p q)) × (y ≡ termTable l q p z)
-unfolding termSize termTable
-is-term l q x p z y r ex e =
-    let w : leaves r y ≡ measured l true (drop p q) p z = e ∙ ap (λ v. measured l true v p z) ex in
-    (ap (λ (m : Measured). m .size) w ∙ agree l .1 (drop p q) p z, ap (λ (m : Measured). m .table) w)
-
 -- nothing stands past the end
 empty : (l : ℕ) (t : Bool) (p : ℕ) (z : List ℕ) → measured l t [] p z ≡ leaves Refused z
 unfolding measured recordAt
@@ -240,9 +209,6 @@ empty (suc l) t p z = refl
 
 pub past-condition : (l : ℕ) (q : List ℕ) (p : ℕ) (z : List ℕ) → length q < p → (Refused ≡ conditionSize l (drop p q)) × (z ≡ conditionTable l q p z)
 past-condition l q p z h = is-condition l q [] p z z Refused (sym (drop-of-length-le q (le-of-lt h))) (sym (empty l false p z))
-
-pub past-term : (l : ℕ) (q : List ℕ) (p : ℕ) (z : List ℕ) → length q < p → (Refused ≡ termSize l (drop p q)) × (z ≡ termTable l q p z)
-past-term l q p z h = is-term l q [] p z z Refused (sym (drop-of-length-le q (le-of-lt h))) (sym (empty l true p z))
 
 -- a part and its place stay within the bytes
 pub part-room : (q x : List ℕ) (p : ℕ) → x ≡ drop p q → p ≤ length q → length q < 9223372036854775808 → p + length x < 9223372036854775808

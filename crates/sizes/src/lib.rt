@@ -3,7 +3,7 @@ use kinds::Record;
 ghost use mathlib.Core.Path.{_≡_};
 ghost use Prim.Native.Nat.{_+_, _≤_, _<_};
 ghost use lib.ListN.{length, drop};
-ghost use Rattle.sizes.specs.Measured.{accepts, Leaf, childrenOf, childTerm, store, measured, leaves, sizeOr0, conditionSize, termSize, conditionTable, termTable};
+ghost use Rattle.sizes.specs.Measured.{accepts, Leaf, childrenOf, childTerm, store, measured, leaves, sizeOr0, conditionSize, conditionTable};
 
 pub enum Size {
     Bytes(usize),
@@ -122,15 +122,4 @@ pub fn condition(q: &[u8], z: &mut [u16], at: usize, level: usize) -> Size
         return Size::Refused;
     }
     measure(kinds::tail(q, at), z, at, level, false)
-}
-
-// The term that starts at a place of q.
-pub fn term(q: &[u8], z: &mut [u16], at: usize, level: usize) -> Size
-    ensures { λ r. ⌜ r ≡ termSize level (drop at (now (q .entry))) ⌝ }
-    ensures { λ _. ⌜ now (z .exit) ≡ termTable level (now (q .entry)) at (now (z .entry)) ⌝ }
-{
-    if q.len() < at {
-        return Size::Refused;
-    }
-    part(kinds::tail(q, at), z, at, level, true)
 }

@@ -8,13 +8,14 @@ use native.Mathlib.Numerals.{add-one}
 use lib.Dec.{leb}
 use lib.ListN.{length, getD, take, drop, set, length-drop, drop-of-length-le}
 use lib.Seq.{getD-set-same, getD-set-other, drop-drop}
-use borrow.Author.Tests.{le-leb, lt-leb}
+use borrow.Author.Tests.{leb-true, leb-false, le-leb, lt-leb}
 use Rattle.model.proofs.Tests.{clash}
 use Rattle.quel.specs.Results.{Read, fail, ok, then, need}
 use Rattle.quel.specs.Tokens.{Token, isBlank, past, token, tokensFrom, tokens}
 use Rattle.quel.specs.Lexical.{first, Spelled}
 use Rattle.quel.proofs.Results.{never}
 use Rattle.quel.proofs.Lexical.{spelled-cut, cut-spelled}
+use Rattle.tokens.specs.Codes.{Spelt, Coded}
 use Rattle.tokens.specs.Table.{Table, tokenOf, wordIn, tokenAt, tokensAt}
 use Rattle.tokens.specs.Pieces.{leading, stands, Leads, readOf}
 use Rattle.tokens.specs.declared.Piece.the-variants as P
@@ -91,6 +92,27 @@ module _ (text K S L N : List ℕ) (n k a m v : ℕ) where
   unfolding tokenAt wordIn
   added h₁ h₂ h₃ h₄ = rw (getD-set-same K n k 0 h₁, getD-set-same S n a 0 h₂, getD-set-same L n m 0 h₃, getD-set-same N n v 0 h₄)
 
+  module _ (h₁ : n < length K) (h₂ : n < length S) (h₃ : n < length L) (h₄ : n < length N) (c : Coded text old n) (p : k ≡ 0 → Spelt (take m (drop a text)) v × (1 ≤ length (take m (drop a text)))) where
+    last-coded : k ≡ 0 → Spelt (wordIn text new n) (getD (set N n v) n 0) × (1 ≤ length (wordIn text new n))
+    unfolding wordIn
+    last-coded z = rw (getD-set-same S n a 0 h₂, getD-set-same L n m 0 h₃, getD-set-same N n v 0 h₄) (p z)
+
+    coded-at : (i : ℕ) → i < n + 1 → (x : Bool) → leb n i ≡ x → getD (set K n k) i 0 ≡ 0 → Spelt (wordIn text new i) (getD (set N n v) i 0) × (1 ≤ length (wordIn text new i))
+    unfolding wordIn
+    coded-at i l true e z =
+        let q : n ≡ i = omega (arith, leb-true n i e) in
+        subst (λ (j : ℕ). Spelt (wordIn text new j) (getD (set N n v) j 0) × (1 ≤ length (wordIn text new j))) q (last-coded (sym (getD-set-same K n k 0 h₁) ∙ (ap (λ (j : ℕ). getD (set K n k) j 0) q ∙ z)))
+    coded-at i l false e z =
+        let q = leb-false n i e in
+        rw (
+          getD-set-other S n i a 0 (λ e. omega arith),
+          getD-set-other L n i m 0 (λ e. omega arith),
+          getD-set-other N n i v 0 (λ e. omega arith),
+        ) (c .spelt i q (sym (getD-set-other K n i k 0 (λ e. omega arith)) ∙ z))
+
+    coded-more : Coded text new (n + 1)
+    coded-more = record { spelt = λ i l z. coded-at i l (leb n i) refl z }
+
   more : (i j : ℕ) → i + j ≡ n → tokensAt text new i (suc j) ≡ tokensAt text old i j ++ (tokenAt text new n ∷ [])
   unfolding tokensAt
   more i zero e = ap (λ (x : ℕ). tokenAt text new x ∷ []) (omega arith)
@@ -114,6 +136,10 @@ pub record Held (text K S L N : List ℕ) (at n : ℕ) : Type 0 where
   pub word : first isBlank (drop at text) ≡ false
   pub behind : n ≤ at
   pub inside : at ≤ length text
+  pub coded : Coded text (record { kinds = K; starts = S; lengths = L; numbers = N }) n
+
+pub none-coded : (text : List ℕ) (t : Table) → Coded text t 0
+none-coded text t = record { spelt = λ i l z. absurd (omega arith) }
 
 pub held-start : (text K S L N : List ℕ) (at : ℕ) → drop at text ≡ past isBlank text → at ≤ length text → Held text K S L N at 0
 unfolding tokensAt
@@ -122,6 +148,7 @@ held-start text K S L N at e h = record {
   word = rw e (past-first isBlank text);
   behind = omega arith;
   inside = h;
+  coded = none-coded text (record { kinds = K; starts = S; lengths = L; numbers = N });
 }
 
 pub too-long : (text : List ℕ) → 2000 < length text → tokens text ≡ fail
@@ -161,6 +188,7 @@ module _ (text K S L N : List ℕ) (at n : ℕ) (h : Held text K S L N at n) (sh
         word = rw e (past-first isBlank (drop (at + m) text));
         behind = omega (arith, h .behind, p .fits .0);
         inside = i;
+        coded = coded-more text K S L N n k at m v h₁ h₂ h₃ h₄ (h .coded) (p .names);
       }
         where
           turned : before (tokenOf k (take m (drop at text)) v) (lex (drop (at + m) text)) ≡ lex (drop at text)

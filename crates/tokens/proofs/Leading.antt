@@ -12,6 +12,7 @@ use Rattle.quel.specs.Results.{Read, fail, ok, found}
 use Rattle.quel.specs.Tokens.{Token, wordIn, reserved, signIn, signs, isLetter, isDigit, run, past, decimal, plain, negative, withEqual, token}
 use Rattle.quel.specs.Lexical.{first}
 use Rattle.tokens.specs.Spans.{within, positional, capped}
+use Rattle.tokens.specs.Codes.{Spelt}
 use Rattle.tokens.specs.Table.{tokenOf}
 use Rattle.tokens.specs.Kinds.{codeOf, kindSpelled, signKind}
 use Rattle.tokens.specs.Pieces.{leading, stands, Leads, Opens, Single, afterFirst}
@@ -31,10 +32,11 @@ unfolding token run past
 letter-leads [] h = clash h
 letter-leads (b ∷ r) h = rw h
 
-pub word-reads : (s : List ℕ) (v k n : ℕ) → first isLetter s ≡ true → v ≡ capped (codeOf (run isLetter s)) → k ≡ kindSpelled reserved v → n ≡ length (run isLetter s) → Leads (P.Found k n 0) s
+pub word-reads : (s : List ℕ) (v k n : ℕ) → first isLetter s ≡ true → v ≡ capped (codeOf (run isLetter s)) → k ≡ kindSpelled reserved v → n ≡ length (run isLetter s) → Leads (P.Found k n v) s
 word-reads s v k n h e₀ e₁ e₂ = record {
-  says = rw (e₁, e₀, e₂, take-run isLetter s, drop-run isLetter s, word-token (run isLetter s) 0 (run-all isLetter s)) (sym (letter-leads s h));
+  says = rw (e₁, e₀, e₂, take-run isLetter s, drop-run isLetter s, word-token (run isLetter s) (capped (codeOf (run isLetter s))) (run-all isLetter s)) (sym (letter-leads s h));
   fits = (omega (arith, some-run isLetter s h), omega (arith, run-length isLetter s));
+  names = λ z. subst (λ (w : List ℕ). Spelt w v × (1 ≤ length w)) (sym (ap (λ (m : ℕ). take m s) e₂ ∙ take-run isLetter s)) (record { letters = run-all isLetter s; code = e₀ }, some-run isLetter s h);
 }
 
 digit-leads : (s : List ℕ) → first isDigit s ≡ true → leading s ≡ plain (run isDigit s) (past isDigit s)
@@ -44,7 +46,7 @@ digit-leads (b ∷ r) h = let i = within-bounds 48 57 b h in rw (lt-leb 65 b (om
 
 -- the value of digits
 module _ (ds : List ℕ) (v : ℕ) (e : v ≡ capped (positional 10 48 0 ds)) where
-  value-small : v < 1099511627776 → decimal 0 ds ≡ v
+  value-small : v < 288230376151711744 → decimal 0 ds ≡ v
   value-small h = sym (decimals 0 ds) ∙ capped-exact (positional 10 48 0 ds) v (sym e) h
 
   value-large : v ≤ decimal 0 ds
@@ -53,13 +55,14 @@ module _ (ds : List ℕ) (v : ℕ) (e : v ≡ capped (positional 10 48 0 ds)) wh
 module _ (s : List ℕ) (v n : ℕ) (h : first isDigit s ≡ true) (e : v ≡ capped (positional 10 48 0 (run isDigit s))) where
   pub number-refused : 2147483647 < v → Leads P.Refused s
   unfolding plain
-  number-refused l = record { says = sym (digit-leads s h ∙ rw (lt-leb (decimal 0 (run isDigit s)) 2147483647 (omega (arith, value-large (run isDigit s) v e)))); fits = tt }
+  number-refused l = record { says = sym (digit-leads s h ∙ rw (lt-leb (decimal 0 (run isDigit s)) 2147483647 (omega (arith, value-large (run isDigit s) v e)))); fits = tt; names = tt }
 
   pub number-reads : n ≡ length (run isDigit s) → v ≤ 2147483647 → Leads (P.Found 1 n v) s
   unfolding plain tokenOf
   number-reads f l = record {
     says = rw (f, drop-run isDigit s, digit-leads s h, value-small (run isDigit s) v e (omega arith), le-leb v 2147483647 l);
     fits = (omega (arith, some-run isDigit s h), omega (arith, run-length isDigit s));
+    names = λ z. absurd (omega arith);
   }
 
 -- after a minus
@@ -73,12 +76,12 @@ module _ (b : ℕ) (r : List ℕ) (h : within 45 45 b ≡ true) where
 
   pub no-digits : length (run isDigit r) ≡ 0 → Leads P.Refused (b ∷ r)
   unfolding negative
-  no-digits e = record { says = sym (minus-leads ∙ rw (lt-leb 1 (length (run isDigit r)) (omega arith))); fits = tt }
+  no-digits e = record { says = sym (minus-leads ∙ rw (lt-leb 1 (length (run isDigit r)) (omega arith))); fits = tt; names = tt }
 
   module _ (v : ℕ) (e : v ≡ capped (positional 10 48 0 (run isDigit r))) where
     pub minus-refused : 2147483648 < v → Leads P.Refused (b ∷ r)
     unfolding negative
-    minus-refused l = record { says = sym (minus-leads ∙ (rw (lt-leb (decimal 0 (run isDigit r)) 2147483648 (omega (arith, value-large (run isDigit r) v e))) (go (leb 1 (length (run isDigit r)))))); fits = tt }
+    minus-refused l = record { says = sym (minus-leads ∙ (rw (lt-leb (decimal 0 (run isDigit r)) 2147483648 (omega (arith, value-large (run isDigit r) v e))) (go (leb 1 (length (run isDigit r)))))); fits = tt; names = tt }
       where
         go : (x : Bool) → Rattle.quel.specs.Results.need {S = List ℕ} (x && false) (ok (Rattle.quel.specs.Tokens.number ((4294967296 - decimal 0 (run isDigit r)) % 4294967296)) (past isDigit r)) ≡ fail
         go true = refl
@@ -89,26 +92,27 @@ module _ (b : ℕ) (r : List ℕ) (h : within 45 45 b ≡ true) where
     minus-reads n u f g k l = record {
       says = rw (f, g, drop-run isDigit r, minus-leads, value-small (run isDigit r) v e (omega arith), le-leb 1 (length (run isDigit r)) k, le-leb v 2147483648 l);
       fits = (omega arith, omega (arith, run-length isDigit r));
+      names = λ z. absurd (omega arith);
     }
 
 -- < and >
 pub opens-less : (b : ℕ) (r : List ℕ) → within 60 60 b ≡ true → Opens 9 (b ∷ r)
 unfolding token tokenOf
-opens-less b r h = let e = eqb-true b 60 (sym (only 60 b) ∙ h) in record { some = omega arith; small = omega arith; reads = λ w v n m. rw e }
+opens-less b r h = let e = eqb-true b 60 (sym (only 60 b) ∙ h) in record { some = omega arith; some-kind = omega arith; small = omega arith; reads = λ w v n m. rw e }
 
 pub opens-more : (b : ℕ) (r : List ℕ) → within 62 62 b ≡ true → Opens 11 (b ∷ r)
 unfolding token tokenOf
-opens-more b r h = let e = eqb-true b 62 (sym (only 62 b) ∙ h) in record { some = omega arith; small = omega arith; reads = λ w v n m. rw e }
+opens-more b r h = let e = eqb-true b 62 (sym (only 62 b) ∙ h) in record { some = omega arith; some-kind = omega arith; small = omega arith; reads = λ w v n m. rw e }
 
 pub equal-reads : (k b : ℕ) (r : List ℕ) → Opens k (b ∷ r) → first (within 61 61) r ≡ true → Leads (P.Found (k + 1) 2 0) (b ∷ r)
 unfolding withEqual
 equal-reads k b [] o h = clash h
-equal-reads k b (c ∷ r) o h = record { says = sym (o .reads [] (b ∷ c ∷ []) 0 0 ∙ rw (sym (only 61 c) ∙ h)); fits = (omega arith, omega arith) }
+equal-reads k b (c ∷ r) o h = record { says = sym (o .reads [] (b ∷ c ∷ []) 0 0 ∙ rw (sym (only 61 c) ∙ h)); fits = (omega arith, omega arith); names = λ z. absurd (omega arith) }
 
 pub alone-reads : (k b : ℕ) (r : List ℕ) → Opens k (b ∷ r) → first (within 61 61) r ≡ false → Leads (P.Found k 1 0) (b ∷ r)
 unfolding withEqual
-alone-reads k b [] o h = record { says = sym (o .reads (b ∷ []) [] 0 0); fits = (omega arith, omega arith) }
-alone-reads k b (c ∷ r) o h = record { says = sym (o .reads (b ∷ []) [] 0 0 ∙ rw (sym (only 61 c) ∙ h)); fits = (omega arith, omega arith) }
+alone-reads k b [] o h = record { says = sym (o .reads (b ∷ []) [] 0 0); fits = (omega arith, omega arith); names = λ z. absurd (omega (arith, o .some-kind)) }
+alone-reads k b (c ∷ r) o h = record { says = sym (o .reads (b ∷ []) [] 0 0 ∙ rw (sym (only 61 c) ∙ h)); fits = (omega arith, omega arith); names = λ z. absurd (omega (arith, o .some-kind)) }
 
 -- a sign of one byte
 module _ (b : ℕ) (r : List ℕ) (s : Single (b ∷ r)) where
@@ -117,10 +121,10 @@ module _ (b : ℕ) (r : List ℕ) (s : Single (b ∷ r)) where
   single-leads = rw (s .no-letter, s .no-digit, sym (only 45 b) ∙ s .no-minus, sym (only 60 b) ∙ s .no-less, sym (only 62 b) ∙ s .no-more)
 
   pub single-refused : (k : ℕ) → k ≡ signKind signs b → k ≡ 0 → Leads P.Refused (b ∷ r)
-  single-refused k e z = record { says = sym (single-leads ∙ (sym (sign-token b [] 0 r) ∙ rw (sym e ∙ z))); fits = tt }
+  single-refused k e z = record { says = sym (single-leads ∙ (sym (sign-token b [] 0 r) ∙ rw (sym e ∙ z))); fits = tt; names = tt }
 
   pub single-reads : (k : ℕ) → k ≡ signKind signs b → (k ≡ 0 → ⊥) → Leads (P.Found k 1 0) (b ∷ r)
-  single-reads k e z = record { says = sym (single-leads ∙ (sym (sign-token b (b ∷ []) 0 r) ∙ rw (sym e, ne-eqb k 0 z))); fits = (omega arith, omega arith) }
+  single-reads k e z = record { says = sym (single-leads ∙ (sym (sign-token b (b ∷ []) 0 r) ∙ rw (sym e, ne-eqb k 0 z))); fits = (omega arith, omega arith); names = λ y. absurd (z y) }
 
 -- at a place of a text
 module _ (text : List ℕ) (at : ℕ) where

@@ -14,7 +14,7 @@ use Rattle.tokens.proofs.Values.{capped-low, capped-le, capped-digit}
 pub record Reached (text : List ℕ) (at low high base start end value : ℕ) : Type 0 where
   pub ends : end + length (run (within low high) (drop end text)) ≡ at + length (run (within low high) (drop at text))
   pub spells : capped (positional base low value (run (within low high) (drop end text))) ≡ capped (positional base low start (run (within low high) (drop at text)))
-  pub small : value ≤ 1099511627776
+  pub small : value ≤ 288230376151711744
   pub inside : end ≤ length text
 
 module _ (text : List ℕ) (at low high base start : ℕ) (b : 1 ≤ base) (end value : ℕ) (h : Reached text at low high base start end value) where

@@ -16,7 +16,7 @@ use Rattle.tokens.specs.Kinds.{codeOf}
 use Rattle.tokens.proofs.Places.{within-bounds}
 
 abbrev limit : ℕ
-limit = 1099511627776
+limit = 288230376151711744
 
 pub capped-top : (n : ℕ) → limit ≤ n → capped n ≡ limit
 capped-top n h = go (leb n limit) refl
@@ -67,7 +67,7 @@ decimals n [] = refl
 decimals n (d ∷ ds) = decimals (10 * n + (d - 48)) ds
 
 -- letters as digits
-above : (n : ℕ) (w : List ℕ) → n ≤ positional 26 65 n w
+pub above : (n : ℕ) (w : List ℕ) → n ≤ positional 26 65 n w
 unfolding positional
 above n [] = omega arith
 above n (b ∷ w) = omega (arith, above (26 * n + (b - 65)) w)

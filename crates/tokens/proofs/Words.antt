@@ -1,6 +1,6 @@
 -- The kind of a word or a sign is that of its token.
 use Prim.Native.Nat.{ℕ, zero, suc, _+_, _-_, _≤_, _<_}
-use mathlib.Core.Bool.{Bool, true, false, cond, _&&_}
+use mathlib.Core.Bool.{Bool, true, false, not, cond, _&&_, _||_}
 use mathlib.Core.List.{List, [], _∷_, _++_}
 use mathlib.Core.Option.{Option, none, some}
 use mathlib.Core.Path.{_≡_, refl, sym, _∙_, ap, ap₂, subst}
@@ -8,10 +8,10 @@ use native.Mathlib.Omega.{arith}
 use lib.Dec.{eqb, leb}
 use lib.ListN.{getD}
 use borrow.Author.Tests.{eqb-true, eq-eqb, ne-eqb}
-use Rattle.model.specs.Lists.{all, Every}
+use Rattle.model.specs.Lists.{any, all, Every}
 use Rattle.model.proofs.Tests.{clash, and-inv}
 use Rattle.quel.specs.Results.{Read, fail, ok, found, Word, sameWord}
-use Rattle.quel.specs.Tokens.{Token, name, wordIn, reserved, signIn, signs, isLetter}
+use Rattle.quel.specs.Tokens.{Token, name, wordIn, reserved, isReserved, signIn, signs, isLetter}
 use Rattle.tokens.specs.Spans.{positional, capped}
 use Rattle.tokens.specs.Table.{tokenOf}
 use Rattle.tokens.specs.Kinds.{kindOf, codeOf, kindSpelled, signKind}
@@ -37,11 +37,11 @@ record Fixed (t : Token) : Type 0 where
 
 record Spelling (p : Word × Token) : Type 0 where
   letters : all isLetter (p .0) ≡ true
-  small : codeOf (p .0) < 1099511627776
+  small : codeOf (p .0) < 288230376151711744
   token : Fixed (p .1)
 
 -- numbers are compared as words are
-same-number : (p w : Word) → all isLetter p ≡ true → codeOf p < 1099511627776 → all isLetter w ≡ true → eqb (codeOf p) (capped (codeOf w)) ≡ sameWord p w
+pub same-number : (p w : Word) → all isLetter p ≡ true → codeOf p < 288230376151711744 → all isLetter w ≡ true → eqb (codeOf p) (capped (codeOf w)) ≡ sameWord p w
 same-number p w a h b = go (sameWord p w) refl
   where
     go : (x : Bool) → sameWord p w ≡ x → eqb (codeOf p) (capped (codeOf w)) ≡ x
@@ -92,6 +92,21 @@ all-spelled = (
     ),
   ),
 )
+
+-- a word of the table has a kind other than 0
+kind-of : (ps : List (Word × Token)) → Every Spelling ps → (w : Word) → all isLetter w ≡ true → not (eqb (kindSpelled ps (capped (codeOf w))) 0) ≡ any (λ (p : Word × Token). sameWord (p .0) w) ps
+unfolding kindSpelled Every any
+kind-of [] ev w a = refl
+kind-of (p ∷ ps) ev w a = rw (same-number (p .0) w (ev .0 .letters) (ev .0 .small) a) (go (sameWord (p .0) w) (kind-of ps (ev .1) w a))
+  where
+    go : (x : Bool) → not (eqb (kindSpelled ps (capped (codeOf w))) 0) ≡ any (λ (p : Word × Token). sameWord (p .0) w) ps
+        → not (eqb (cond x (kindOf (p .1)) (kindSpelled ps (capped (codeOf w)))) 0) ≡ (x || any (λ (p : Word × Token). sameWord (p .0) w) ps)
+    go true h = let k = ev .0 .token .some-kind in rw (ne-eqb (kindOf (p .1)) 0 (λ e. omega arith))
+    go false h = h
+
+pub reserved-kind : (w : Word) → all isLetter w ≡ true → not (eqb (kindSpelled reserved (capped (codeOf w))) 0) ≡ isReserved w
+unfolding isReserved
+reserved-kind w a = kind-of reserved all-spelled w a
 
 pub word-token : (w : Word) (n : ℕ) → all isLetter w ≡ true → tokenOf (kindSpelled reserved (capped (codeOf w))) w n ≡ wordIn reserved w
 word-token = spells reserved all-spelled

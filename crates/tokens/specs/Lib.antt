@@ -1,4 +1,5 @@
 pub mod Table
+pub mod Codes
 pub mod Kinds
 pub mod Spans
 pub mod Pieces

@@ -8,6 +8,7 @@ use Rattle.quel.specs.Results.{Read, fail, ok}
 use Rattle.quel.specs.Tokens.{less, atMost, more, atLeast, Token, sign, isLetter, isDigit, token, withEqual}
 use Rattle.quel.specs.Lexical.{first}
 use Rattle.tokens.specs.Spans.{within}
+use Rattle.tokens.specs.Codes.{Spelt}
 use Rattle.tokens.specs.Table.{Table, tokenOf, tokensAt}
 use Rattle.tokens.specs.declared.Piece.{Piece}
 use Rattle.tokens.specs.declared.Piece.the-variants as P
@@ -29,9 +30,15 @@ abbrev pub Fits : Piece → List ℕ → Type 0
 Fits (P.Found k n v) s = (1 ≤ n) × (n ≤ length s)
 Fits P.Refused s = Unit {0}
 
+-- a name with its code
+abbrev pub Names : Piece → List ℕ → Type 0
+Names (P.Found k n v) s = k ≡ 0 → Spelt (take n s) v × (1 ≤ length (take n s))
+Names P.Refused s = Unit {0}
+
 pub record Leads (p : Piece) (s : List ℕ) : Type 0 where
   pub says : stands p s ≡ leading s
   pub fits : Fits p s
+  pub names : Names p s
 
 -- < with 9 and 10, > with 11 and 12
 abbrev pub afterFirst : List ℕ → List ℕ
@@ -40,6 +47,7 @@ afterFirst (b ∷ bs) = bs
 
 pub record Opens (k : ℕ) (s : List ℕ) : Type 0 where
   pub some : 1 ≤ length s
+  pub some-kind : 1 ≤ k
   pub small : k ≤ 11
   pub reads : (w v : List ℕ) (n m : ℕ) → leading s ≡ withEqual (tokenOf k w n) (tokenOf (k + 1) v m) (afterFirst s)
 

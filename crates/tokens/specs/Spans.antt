@@ -13,6 +13,6 @@ unfoldable pub positional : ℕ → ℕ → ℕ → List ℕ → ℕ
 positional base low n [] = n
 positional base low n (b ∷ bs) = positional base low (base * n + (b - low)) bs
 
--- at most 2^40
+-- at most 2^58: above the code of every word of up to twelve letters
 abbrev pub capped : ℕ → ℕ
-capped n = cond (leb n 1099511627776) n 1099511627776
+capped n = cond (leb n 288230376151711744) n 288230376151711744

@@ -6,11 +6,12 @@ ghost use lib.ListN.{length, drop};
 ghost use Rattle.quel.specs.Tokens.{reserved, signs, isBlank, isLetter, isDigit, past, run, tokens};
 ghost use Rattle.quel.specs.Lexical.{first};
 ghost use Rattle.tokens.specs.Spans.{within, positional, capped};
-ghost use Rattle.tokens.specs.Kinds.{kindSpelled, signKind};
+ghost use Rattle.tokens.specs.Kinds.{codeOf, kindSpelled, signKind};
 ghost use Rattle.tokens.specs.Pieces.{Leads, Opens, Single, readOf, counted};
+ghost use Rattle.tokens.specs.Codes.{Coded};
 
-// Numbers that bytes spell are held up to here: above every reserved word and every constant.
-const LIMIT: u64 = 1_099_511_627_776;
+// Numbers that bytes spell are held up to here: above every word of up to twelve letters, and every constant.
+const LIMIT: u64 = 288_230_376_151_711_744;
 
 fn wide(b: u8) -> u64
     ensures { λ r. ⌜ r ≡ b ⌝ }
@@ -20,7 +21,7 @@ fn wide(b: u8) -> u64
 
 // One digit more, up to the limit.
 fn grown(n: u64, base: u64, digit: u8) -> u64
-    requires { ⌜ (n ≤ 1099511627776) × (base ≤ 26) ⌝ }
+    requires { ⌜ (n ≤ 288230376151711744) × (base ≤ 26) ⌝ }
     ensures { λ r. ⌜ r ≡ capped (base * n + digit) ⌝ }
 {
     let m = base * n + wide(digit);
@@ -45,9 +46,9 @@ fn passes(text: &[u8], i: usize, low: u8, high: u8) -> bool
 }
 
 // A stretch of bytes from low to high: where it ends, and the number that they spell after a start.
-struct Span {
-    end: usize,
-    value: u64,
+pub struct Span {
+    pub end: usize,
+    pub value: u64,
 }
 
 fn stretch(text: &[u8], at: usize, low: u8, high: u8, base: u64, start: u64) -> Span
@@ -64,8 +65,16 @@ fn stretch(text: &[u8], at: usize, low: u8, high: u8, base: u64, start: u64) -> 
     Span { end, value }
 }
 
+// How many letters stand in front, and their code.
+pub fn spelling(word: &[u8]) -> Span
+    ensures { λ r. ⌜ r .end ≡ length (run isLetter (now (word .entry))) ⌝ }
+    ensures { λ r. ⌜ r .value ≡ capped (codeOf (run isLetter (now (word .entry)))) ⌝ }
+{
+    stretch(word, 0, 65, 90, 26, 1)
+}
+
 // The kind of the word that spells a number, 0 for a name. RANGE RETRIEVE NOT SOME IN V COUNT SUM AVE MAX MIN
-fn word_kind(value: u64) -> u8
+pub fn word_kind(value: u64) -> u8
     ensures { λ r. ⌜ r ≡ kindSpelled reserved value ⌝ }
 {
     match value {
@@ -104,7 +113,7 @@ fn sign_kind(b: u8) -> u8
 
 // What begins at a place: a token's kind, how many bytes it has, and its number; or no token.
 enum Piece {
-    Found(u8, usize, u32),
+    Found(u8, usize, u64),
     Refused,
 }
 
@@ -114,7 +123,8 @@ fn word(text: &[u8], at: usize) -> Piece
 {
     let s = stretch(text, at, 65, 90, 26, 1);
     let end = s.end;
-    Piece::Found(word_kind(s.value), end - at, 0)
+    let code = s.value;
+    Piece::Found(word_kind(code), end - at, code)
 }
 
 fn number(text: &[u8], at: usize) -> Piece
@@ -127,7 +137,7 @@ fn number(text: &[u8], at: usize) -> Piece
     if 2147483647 < value {
         return Piece::Refused;
     }
-    Piece::Found(1, end - at, value as u32)
+    Piece::Found(1, end - at, value)
 }
 
 // A minus, with digits straight after it.
@@ -145,7 +155,7 @@ fn negative(text: &[u8], at: usize) -> Piece
     if 2147483648 < value {
         return Piece::Refused;
     }
-    Piece::Found(1, end - at, ((4294967296 - value) % 4294967296) as u32)
+    Piece::Found(1, end - at, (4294967296 - value) % 4294967296)
 }
 
 // < or >, with the = straight after it, if there is one. The kind is that of the sign alone.
@@ -235,16 +245,28 @@ pub enum Outcome {
     Refused,
 }
 
-// The tokens of a text of at most 2,000 bytes, into arrays: kinds, where words start, how long they are, and numbers.
+// The tokens of a text of at most 2,000 bytes, into arrays: kinds, where words start, how long they are, and numbers; that of a name is its code.
 pub fn cut(
     text: &[u8],
     kinds: &mut [u8],
     starts: &mut [u16],
     lengths: &mut [u16],
-    numbers: &mut [u32],
+    numbers: &mut [u64],
 ) -> Outcome
-    requires { ⌜ (length (now text) ≤ 2000 → (length (now text) ≤ length (now kinds)) × (length (now text) ≤ length (now starts)) × (length (now text) ≤ length (now lengths)) × (length (now text) ≤ length (now numbers))) ⌝ }
-    ensures { λ r. ⌜ readOf r (now (text .entry)) (record { kinds = now (kinds .exit); starts = now (starts .exit); lengths = now (lengths .exit); numbers = now (numbers .exit) }) ≡ tokens (now (text .entry)) ⌝ }
+    requires { ⌜ (length (now text) ≤ 2000 → (length (now text) ≤ length (now kinds)) × (length (now text) ≤ length (now starts))
+        × (length (now text) ≤ length (now lengths)) × (length (now text) ≤ length (now numbers))) ⌝ }
+    ensures { λ r. ⌜ readOf r (now (text .entry)) (record {
+      kinds = now (kinds .exit);
+      starts = now (starts .exit);
+      lengths = now (lengths .exit);
+      numbers = now (numbers .exit);
+    }) ≡ tokens (now (text .entry)) ⌝ }
+    ensures { λ r. ⌜ Coded (now (text .entry)) (record {
+      kinds = now (kinds .exit);
+      starts = now (starts .exit);
+      lengths = now (lengths .exit);
+      numbers = now (numbers .exit);
+    }) (counted r) ⌝ }
     ensures { λ r. ⌜ (counted r ≤ 2000) × (counted r ≤ length (now (text .entry))) ⌝ }
 {
     if 2000 < text.len() {

@@ -50,7 +50,8 @@ pub extern "C" fn waldumre_ask(
     rewritten: &mut [u8],
     answer: &mut [i64],
 ) -> Outcome
-    ensures { λ r. ⌜ outcomeOf r (now (answer .exit)) (now (rewritten .exit)) ≡ ask (now (catalogue .entry)) (now (values .entry)) (now (permits .entry)) (now (query .entry)) (now (rewritten .entry)) (now (answer .entry)) ⌝ }
+    ensures { λ r. ⌜ outcomeOf r (now (answer .exit)) (now (rewritten .exit))
+        ≡ ask (now (catalogue .entry)) (now (values .entry)) (now (permits .entry)) (now (query .entry)) (now (rewritten .entry)) (now (answer .entry)) ⌝ }
 {
     let r = guarded::ask(catalogue, values, permits, query, rewritten, answer);
     Outcome {
@@ -92,7 +93,9 @@ pub extern "C" fn waldumre_ask_text(
     rewritten: &mut [u8],
     answer: &mut [i64],
 ) -> Outcome
-    ensures { λ r. ⌜ textOutcomeOf r (now (answer .exit)) (now (rewritten .exit)) (now (records .exit)) ≡ askText (now (catalogue .entry)) (now (values .entry)) (now (permits .entry)) (now (text .entry)) (now (names .entry)) (now (records .entry)) (now (rewritten .entry)) (now (answer .entry)) ⌝ }
+    ensures { λ r. ⌜ textOutcomeOf r (now (answer .exit)) (now (rewritten .exit)) (now (records .exit))
+        ≡ askText (now (catalogue .entry)) (now (values .entry)) (now (permits .entry)) (now (text .entry)) (now (names .entry))
+        (now (records .entry)) (now (rewritten .entry)) (now (answer .entry)) ⌝ }
 {
     let read = reader::read(text, names, records);
     let number = read.number;

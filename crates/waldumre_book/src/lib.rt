@@ -37,7 +37,10 @@ pub extern "C" fn waldumre_label_book(
     offers: &mut [i64],
     display: &mut [u8],
 ) -> Outcome
-    ensures { λ r. ⌜ bookOutcomeOf r (now (answer .exit)) (now (rewritten .exit)) (record { offers = now (offers .exit); display = now (display .exit) }) ≡ labelBook (now (catalogue .entry)) (now (values .entry)) (now (permits .entry)) (now (query .entry)) (now (rewritten .entry)) (now (answer .entry)) (record { offers = now (offers .entry); display = now (display .entry) }) ⌝ }
+    ensures { λ r. ⌜ bookOutcomeOf r (now (answer .exit)) (now (rewritten .exit))
+        (record { offers = now (offers .exit); display = now (display .exit) })
+        ≡ labelBook (now (catalogue .entry)) (now (values .entry)) (now (permits .entry)) (now (query .entry)) (now (rewritten .entry))
+        (now (answer .entry)) (record { offers = now (offers .entry); display = now (display .entry) }) ⌝ }
 {
     let r = guarded::ask(catalogue, values, permits, query, rewritten, answer);
     let number = r.number;

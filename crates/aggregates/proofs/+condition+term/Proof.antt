@@ -2,9 +2,10 @@ use mathlib.Core.List.{List}
 use Prim.Native.Nat.{_+_}
 use lib.ListN.{length}
 use Rattle.sizes.specs.Decode.{decodeT}
-use Rattle.evaluator.specs.Recalled.{valueBy}
+use Rattle.numbers.specs.Recalled.{valueBy}
 use Rattle.walks.specs.Walks.{rowsBy}
-use Rattle.evaluator.specs.Evaluation.{assigned, valueAt}
+use Rattle.evaluator.specs.Evaluation.{valueAt}
+use Rattle.walks.specs.Assigned.{assigned}
 use Rattle.aggregates.proofs.Steps.{none-left, none-leftT, not-is, some-is, and-is, or-is, compare-is, no-aggregate, no-term, aggregate-is, term-is}
 use borrow.Author.Needs.{needs}
 use native.Mathlib.Omega.{arith}

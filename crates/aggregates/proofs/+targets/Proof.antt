@@ -4,7 +4,7 @@ use mathlib.Core.Path.{_≡_, refl, sym, ap, _∙_}
 use denote.Ref.{now}
 use lib.ListN.{length}
 use Rattle.walks.specs.Walks.{rowsBy}
-use Rattle.evaluator.specs.Evaluation.{assigned}
+use Rattle.walks.specs.Assigned.{assigned}
 use Rattle.aggregates.proofs.Steps.{targets-none, targets-more}
 use Prim.Native.Nat.{ℕ, _<_}
 use borrow.Fn.Kinds.{In}

@@ -7,15 +7,12 @@ use Rattle.aggregates.proofs.compiled.Tie as tie
 use Rattle.aggregates.proofs.compiled.Reads as reads
 use Rattle.aggregates.proofs.compiled.Lts as lts
 
--- src/lib.rt:23:9
 returns : tie.Need-returns
 returns c = λ h. clash h
 
--- src/lib.rt:26:9
 returns-2 : tie.Need-returns-2
 returns-2 c = λ h. clash h
 
--- src/lib.rt:19:1
 returns-3 : tie.Need-returns-3
 returns-3 c = λ h. (omega (arith, c .before .if1 .left), omega (arith, c .if2 .left))
 

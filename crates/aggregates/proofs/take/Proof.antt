@@ -1,13 +1,18 @@
-use Rattle.aggregates.proofs.Taking.{meets, take-first, take-next, take-all}
-use Rattle.evaluator.proofs.Steps.{places-start, places-on, places-back, places-length, taken-few}
-use Rattle.walks.specs.Walks.{placeAt, kept}
-use Rattle.numbers.specs.Numbers.{Accumulates}
-use lib.ListN.{length, set, length-set}
-use Prim.Native.Nat.{ℕ, _+_, _-_, _≤_}
-use mathlib.Core.Path.{_≡_, refl, ap, _∙_}
-use native.Mathlib.Omega.{arith}
 use borrow.Author.Needs.{needs}
+use Rattle.model.proofs.Lists.{getD-same}
+use Rattle.aggregates.proofs.Taking.{meets, taken-over, take-next, ready-for, take-all}
+use Rattle.decide.proofs.seeks.Filling.{nothing}
+use Rattle.decide.specs.Cursor.{stops}
+use Rattle.evaluator.proofs.Steps.{places-start, places-on, places-back, places-length, taken-start, taken-few}
+use Rattle.walks.specs.Walks.{placeAt, kept}
+use Rattle.catalogue.specs.Layout.{tupleAt}
+use Rattle.numbers.specs.Numbers.{Accumulates}
 use denote.Ref.{now}
+use lib.ListN.{length, set, length-set, replicate}
+use Prim.Native.Nat.{ℕ, _+_, _-_, _≤_, _<_}
+use native.Mathlib.Omega.{arith}
+use mathlib.Core.Bool.{true}
+use mathlib.Core.Path.{_≡_, refl, ap, _∙_}
 use Rattle.aggregates.proofs.take.Statement.{statement}
 use Rattle.aggregates.proofs.take.Tie as tie
 use Rattle.aggregates.proofs.take.Reads as reads
@@ -15,113 +20,72 @@ use Rattle.aggregates.proofs.take.Lts as lts
 use Rattle.aggregates.proofs.with_row.Reads as with-row-reads
 use Rattle.evaluator.proofs.place.Reads as place-reads
 use Rattle.evaluator.proofs.set_place.Reads as set-place-reads
+use Rattle.kinds.proofs.size_at.Reads as size-at-reads
 use Rattle.numbers.proofs.empty.Reads as empty-reads
-use Rattle.probes.proofs.ahead.Reads as ahead-reads
+use Rattle.decide.proofs.seeks.next_row.Reads as next-row-reads
+use Rattle.decide.proofs.seeks.prepare.Reads as prepare-reads
 use Rattle.walks.proofs.place.Reads as place-reads′
 use Rattle.walks.proofs.walk_of.Reads as walk-of-reads
 
 abbrev Inv-loop : tie.InvT-loop
-Inv-loop t xs q z walks chains vs memo env₀ variable attribute walk n old taken₀ i₀ env taken i = (set env variable old ≡ env₀) × Accumulates taken (kept vs (meets t xs q z walks vs memo env₀ variable) attribute (placeAt walks walk) i) × (i ≤ n) × (length env ≡ length env₀)
+Inv-loop t xs q z walks chains vs memo env₀ variable attribute walk n old start none cursor next taken₀ i₀ env taken i = (set env variable old ≡ env₀) × Accumulates taken (kept vs (meets t xs q z walks vs memo env₀ variable) attribute (placeAt walks walk) i) × (i ≤ n) × (length env ≡ length env₀) × (0 < i → stops cursor (tupleAt vs (placeAt walks walk (i - 1))) ≡ true)
 
 abbrev μ-loop : tie.MeasureT-loop
-μ-loop t xs q z walks chains vs memo env₀ variable attribute walk n old taken₀ i₀ env taken i = n - i
+μ-loop t xs q z walks chains vs memo env₀ variable attribute walk n old start none cursor next taken₀ i₀ env taken i = n - i
 
--- src/lib.rt:99:9
 walk-of-requires : tie.Need-walk-of-requires Inv-loop μ-loop
 walk-of-requires c κs = search needs
 
--- src/lib.rt:101:9
 place-requires : tie.Need-place-requires Inv-loop μ-loop
 place-requires c κs = search needs
 
--- src/lib.rt:102:9
+size-at-requires : tie.Need-size-at-requires Inv-loop μ-loop
+size-at-requires c κs = search needs
+
+slice-aggregate-prepare : tie.Need-slice-aggregate-prepare Inv-loop μ-loop
+slice-aggregate-prepare c = search needs
+
+prepare-requires : tie.Need-prepare-requires Inv-loop μ-loop
+prepare-requires c κs = (c .before .before .before .before .before .before .before .before .before .before .before .before .pre .0, c .before .before .size-at .ensures .1)
+
 empty-requires : tie.Need-empty-requires Inv-loop μ-loop
 empty-requires c κs = search needs
 
--- src/lib.rt:103:9
-ahead-requires : tie.Need-ahead-requires Inv-loop μ-loop
-ahead-requires c κs =
-    let c₄ = c .before .before .before .before in let walk-of = c₄ .walk-of in
-    let c₁₁ = c₄ .before .before .before .before .before .before .before in let pre = c₁₁ .pre in
-    (pre .0, walk-of .ensures .1, omega arith)
-
--- src/lib.rt:104:5
 loop-holds : tie.Need-loop-holds Inv-loop μ-loop
-loop-holds c = let place = c .before .before .before .place in
-    let walk-of = c .before .before .before .before .before .walk-of in
-    let args = c .before .before .before .before .before .before .before .before .before .before .before .before .args in
-    let env = now (args .env) in let q = now (args .q) in let walks = now (args .walks) in let z = now (args .z) in let variable = args .variable in
-    ((places-start env variable (place .result) (place .ensures)), take-first (now (args .t)) (now (args .xs)) q z walks (now (args .vs)) (now (args .memo)) env variable (args .attribute) (placeAt walks (walk-of .result)) (place .result) (c .ahead .result) _ (places-start env variable (place .result) (place .ensures)) (c .before .before .empty .ensures) (c .ahead .ensures .1 q z walks), c .ahead .ensures .0 .1, refl)
+loop-holds c = (places-start (now (c .before .before .before .before .before .before .before .before .before .before .before .before .before .before .args .env)) (c .before .before .before .before .before .before .before .before .before .before .before .before .before .before .args .variable) (c .before .before .before .before .before .place .result) (c .before .before .before .before .before .place .ensures), taken-start (placeAt (now (c .before .before .before .before .before .before .before .before .before .before .before .before .before .before .args .walks)) (c .before .before .before .before .before .before .before .walk-of .result)) (now (c .before .before .before .before .before .before .before .before .before .before .before .before .before .before .args .vs)) (meets (now (c .before .before .before .before .before .before .before .before .before .before .before .before .before .before .args .t)) (now (c .before .before .before .before .before .before .before .before .before .before .before .before .before .before .args .xs)) (now (c .before .before .before .before .before .before .before .before .before .before .before .before .before .before .args .q)) (now (c .before .before .before .before .before .before .before .before .before .before .before .before .before .before .args .z)) (now (c .before .before .before .before .before .before .before .before .before .before .before .before .before .before .args .walks)) (now (c .before .before .before .before .before .before .before .before .before .before .before .before .before .before .args .vs)) (now (c .before .before .before .before .before .before .before .before .before .before .before .before .before .before .args .memo)) (now (c .before .before .before .before .before .before .before .before .before .before .before .before .before .before .args .env)) (c .before .before .before .before .before .before .before .before .before .before .before .before .before .before .args .variable)) (c .before .before .before .before .before .before .before .before .before .before .before .before .before .before .args .attribute) _ (c .empty .ensures), omega arith, refl, λ h. absurd (omega arith))
 
--- src/lib.rt:105:13
-place-requires-2 : tie.Need-place-requires-2 Inv-loop μ-loop
-place-requires-2 c κs = (c .before .before .before .before .before .before .before .walk-of .ensures .1, omega (arith, c .before .before .before .before .before .before .before .walk-of .ensures .1 .count, c .loop-test .taken))
+slice-aggregate-next-row : tie.Need-slice-aggregate-next-row Inv-loop μ-loop
+slice-aggregate-next-row c = search needs
 
--- src/lib.rt:106:9
+next-row-requires : tie.Need-next-row-requires Inv-loop μ-loop
+next-row-requires c κs = (c .before .before .before .before .before .before .before .before .before .walk-of .ensures .1, c .before .loop .inv .2, ready-for (now (c .before .before .before .before .before .before .before .before .before .before .before .before .before .before .before .before .args .t)) (now (c .before .before .before .before .before .before .before .before .before .before .before .before .before .before .before .before .args .xs)) (now (c .before .before .before .before .before .before .before .before .before .before .before .before .before .before .before .before .args .q)) (now (c .before .before .before .before .before .before .before .before .before .before .before .before .before .before .before .before .args .z)) (now (c .before .before .before .before .before .before .before .before .before .before .before .before .before .before .before .before .args .walks)) (now (c .before .before .before .before .before .before .before .before .before .before .before .before .before .before .before .before .args .vs)) (now (c .before .before .before .before .before .before .before .before .before .before .before .before .before .before .before .before .args .memo)) (now (c .before .before .before .before .before .before .before .before .before .before .before .before .before .before .before .before .args .env)) (c .before .before .before .before .before .before .before .before .before .before .before .before .before .before .before .before .args .variable) (c .before .before .before .before .before .before .before .before .before .before .before .before .before .before .before .before .args .attribute) (placeAt (now (c .before .before .before .before .before .before .before .before .before .before .before .before .before .before .before .before .args .walks)) (c .before .before .before .before .before .before .before .before .before .walk-of .result)) (c .before .before .before .prepare .result) (c .before .before .before .before .before .before .size-at .result) (replicate 1 0) (c .before .before .before .before .before .before .size-at .ensures .0) (c .before .before .before .prepare .ensures (now (c .before .before .before .before .before .before .before .before .before .before .before .before .before .before .before .before .args .walks)) (nothing (now (c .before .before .before .before .before .before .before .before .before .before .before .before .before .before .before .before .args .t)) (now (c .before .before .before .before .before .before .before .before .before .before .before .before .before .before .before .before .args .walks)) (now (c .before .before .before .before .before .before .before .before .before .before .before .before .before .before .before .before .args .vs)) (replicate 1 0) (getD-same {A = ℕ} 1 0) .faithful)) (c .before .before .before .before .before .before .before .before .before .walk-of .result) (c .before .before .before .before .before .before .before .before .before .walk-of .ensures .0), c .before .loop .inv .4)
+
 set-place-requires : tie.Need-set-place-requires Inv-loop μ-loop
 set-place-requires c κs = search needs
 
--- src/lib.rt:107:9
-with-row-requires : tie.Need-with-row-requires Inv-loop μ-loop
-with-row-requires c κs = let set-place = c .before .before .before .set-place in
-    let place2 = c .before .before .before .before .before .place2 in
-    let loop-test = c .before .before .before .before .before .before .loop-test in
-    let loop = c .before .before .before .before .before .before .before .loop in
-    let walk-of = c .before .before .before .before .before .before .before .before .before .before .before .before .before .walk-of in
-    let args = c .before .before .before .before .before .before .before .before .before .before .before .before .before .before .before .before .before .before .before .before .args in let pre = c .before .before .before .before .before .before .before .before .before .before .before .before .before .before .before .before .before .before .before .before .pre in
-    let vs = now (args .vs) in let walks = now (args .walks) in let variable = args .variable in
-    (omega (arith, pre .0, loop .inv .3, ap length (set-place .ensures), length-set (loop .env) variable (place2 .result)), omega (arith, taken-few (placeAt walks (walk-of .result)) vs (meets (now (args .t)) (now (args .xs)) (now (args .q)) (now (args .z)) walks vs (now (args .memo)) (now (args .env)) variable) (args .attribute) (loop .i) (loop .taken) (loop .inv .1) (loop .i) (omega arith), loop-test .taken, walk-of .ensures .1 .count), loop .inv .1 .bounded, pre .1)
-
--- src/lib.rt:121:75
-add-ahead : tie.Need-add-ahead Inv-loop μ-loop
-add-ahead c = let loop-test = c .before .before .before .before .before .before .before .before .before .before .loop-test in
-    let walk-of = c .before .before .before .before .before .before .before .before .before .before .before .before .before .before .before .before .before .walk-of in
-    omega (arith, walk-of .ensures .1 .count, loop-test .taken)
-
--- src/lib.rt:121:9
-ahead-requires-2 : tie.Need-ahead-requires-2 Inv-loop μ-loop
-ahead-requires-2 c κs = let with-row = c .before .before .before .with-row in
-    let set-place = c .before .before .before .before .before .before .before .set-place in
-    let place2 = c .before .before .before .before .before .before .before .before .before .place2 in
-    let loop-test = c .before .before .before .before .before .before .before .before .before .before .loop-test in
-    let loop = c .before .before .before .before .before .before .before .before .before .before .before .loop in
-    let place = c .before .before .before .before .before .before .before .before .before .before .before .before .before .before .before .place in
-    let walk-of = c .before .before .before .before .before .before .before .before .before .before .before .before .before .before .before .before .before .walk-of in
-    let args = c .before .before .before .before .before .before .before .before .before .before .before .before .before .before .before .before .before .before .before .before .before .before .before .before .args in let pre = c .before .before .before .before .before .before .before .before .before .before .before .before .before .before .before .before .before .before .before .before .before .before .before .before .pre in
-    (omega (arith, pre .0, places-length (loop .env) (now (args .env)) _ (args .variable) (place .result) (place2 .result) (loop .inv .0) (set-place .ensures) _ (with-row .ensures .1 .1) (loop .inv .3)), walk-of .ensures .1, omega (arith, loop-test .taken))
-
--- src/lib.rt:104:5
-loop-less : tie.Need-loop-less Inv-loop μ-loop
-loop-less c = omega (arith, c .ahead2 .ensures .0 .0, c .before .before .before .before .before .before .before .before .before .before .before .loop-test .taken)
-
--- src/lib.rt:104:5
-loop-again : tie.Need-loop-again Inv-loop μ-loop
-loop-again c = let with-row = c .before .before .before .before .with-row in
-    let set-place = c .before .before .before .before .before .before .before .before .set-place in
-    let place2 = c .before .before .before .before .before .before .before .before .before .before .place2 in
-    let loop = c .before .before .before .before .before .before .before .before .before .before .before .before .loop in
-    let place = c .before .before .before .before .before .before .before .before .before .before .before .before .before .before .before .before .place in
-    let walk-of = c .before .before .before .before .before .before .before .before .before .before .before .before .before .before .before .before .before .before .walk-of in
-    let args = c .before .before .before .before .before .before .before .before .before .before .before .before .before .before .before .before .before .before .before .before .before .before .before .before .before .args in let good = c .before .before .before .before .before .before .before .before .before .before .before .before .before .before .before .before .before .before .before .before .before .before .before .before .before .good in let pre = c .before .before .before .before .before .before .before .before .before .before .before .before .before .before .before .before .before .before .before .before .before .before .before .before .before .pre in
-    let env = now (args .env) in let q = now (args .q) in let walks = now (args .walks) in let z = now (args .z) in let variable = args .variable in
-    (places-back (loop .env) env _ variable (place .result) (place2 .result) (loop .inv .0) (set-place .ensures) _ (with-row .ensures .1 .1), take-next (now (args .t)) (now (args .xs)) q z walks (now (args .vs)) (now (args .memo)) env variable (args .attribute) (placeAt walks (walk-of .result)) _ _ (place .result) (loop .i) (c .ahead2 .result) (place2 .result) (loop .taken) _ (place2 .ensures) (places-on (loop .env) env _ variable (place .result) (place2 .result) (loop .inv .0) (set-place .ensures)) (omega (arith, pre .0, good)) (with-row .ensures .1 .1) (places-back (loop .env) env _ variable (place .result) (place2 .result) (loop .inv .0) (set-place .ensures) _ refl) (c .ahead2 .ensures .0 .0) (loop .inv .1) (with-row .ensures .0) (with-row .ensures .1 .0) (c .ahead2 .ensures .1 q z walks), c .ahead2 .ensures .0 .1, places-length (loop .env) env _ variable (place .result) (place2 .result) (loop .inv .0) (set-place .ensures) _ (with-row .ensures .1 .1) (loop .inv .3))
-
--- src/lib.rt:123:5
-set-place-requires-2 : tie.Need-set-place-requires-2 Inv-loop μ-loop
-set-place-requires-2 c κs = search needs
-
--- src/lib.rt:81:1
 same-length : tie.Need-same-length Inv-loop μ-loop
 same-length c = search needs
 
--- src/lib.rt:81:1
 returns : tie.Need-returns Inv-loop μ-loop
-returns c = let loop-test = c .before .before .before .before .loop-test in
-    let loop = c .before .before .before .before .before .loop in
-    let walk-of = c .before .before .before .before .before .before .before .before .before .before .before .walk-of in
-    let args = c .before .before .before .before .before .before .before .before .before .before .before .before .before .before .before .before .before .before .args in
-    let env = now (args .env) in let memo = now (args .memo) in let q = now (args .q) in let vs = now (args .vs) in let walks = now (args .walks) in let xs = now (args .xs) in let z = now (args .z) in let attribute = args .attribute in let variable = args .variable in
-    (take-all (now (args .t)) xs q z walks vs memo env variable attribute (loop .i) (walk-of .result) _ (walk-of .ensures .0) (omega (arith, loop-test .left, loop .inv .2)) (loop .inv .1), (omega (arith, taken-few (placeAt walks (walk-of .result)) vs (meets (now (args .t)) xs q z walks vs memo env variable) attribute (loop .i) (loop .taken) (loop .inv .1) (loop .i) (omega arith), loop .inv .2, walk-of .ensures .1 .count), c .before .before .set-place2 .ensures ∙ loop .inv .0))
+returns c = (take-all (now (c .before .before .before .before .before .before .before .before .before .before .before .before .before .before .before .before .before .before .before .before .before .before .args .t)) (now (c .before .before .before .before .before .before .before .before .before .before .before .before .before .before .before .before .before .before .before .before .before .before .args .xs)) (now (c .before .before .before .before .before .before .before .before .before .before .before .before .before .before .before .before .before .before .before .before .before .before .args .q)) (now (c .before .before .before .before .before .before .before .before .before .before .before .before .before .before .before .before .before .before .before .before .before .before .args .z)) (now (c .before .before .before .before .before .before .before .before .before .before .before .before .before .before .before .before .before .before .before .before .before .before .args .walks)) (now (c .before .before .before .before .before .before .before .before .before .before .before .before .before .before .before .before .before .before .before .before .before .before .args .vs)) (now (c .before .before .before .before .before .before .before .before .before .before .before .before .before .before .before .before .before .before .before .before .before .before .args .memo)) (now (c .before .before .before .before .before .before .before .before .before .before .before .before .before .before .before .before .before .before .before .before .before .before .args .env)) (c .before .before .before .before .before .before .before .before .before .before .before .before .before .before .before .before .before .before .before .before .before .before .args .variable) (c .before .before .before .before .before .before .before .before .before .before .before .before .before .before .before .before .before .before .before .before .before .before .args .attribute) (c .before .before .before .before .before .next-row .result) (c .before .before .before .before .before .before .before .before .before .before .before .before .before .before .before .walk-of .result) _ (c .before .before .before .before .before .before .before .before .before .before .before .before .before .before .before .walk-of .ensures .0) (omega (arith, c .before .before .before .before .if1 .taken, c .before .before .before .before .before .next-row .ensures .0 .1)) (taken-over (now (c .before .before .before .before .before .before .before .before .before .before .before .before .before .before .before .before .before .before .before .before .before .before .args .t)) (now (c .before .before .before .before .before .before .before .before .before .before .before .before .before .before .before .before .before .before .before .before .before .before .args .xs)) (now (c .before .before .before .before .before .before .before .before .before .before .before .before .before .before .before .before .before .before .before .before .before .before .args .q)) (now (c .before .before .before .before .before .before .before .before .before .before .before .before .before .before .before .before .before .before .before .before .before .before .args .z)) (now (c .before .before .before .before .before .before .before .before .before .before .before .before .before .before .before .before .before .before .before .before .before .before .args .walks)) (now (c .before .before .before .before .before .before .before .before .before .before .before .before .before .before .before .before .before .before .before .before .before .before .args .vs)) (now (c .before .before .before .before .before .before .before .before .before .before .before .before .before .before .before .before .before .before .before .before .before .before .args .memo)) (now (c .before .before .before .before .before .before .before .before .before .before .before .before .before .before .before .before .before .before .before .before .before .before .args .env)) (c .before .before .before .before .before .before .before .before .before .before .before .before .before .before .before .before .before .before .before .before .before .before .args .variable) (c .before .before .before .before .before .before .before .before .before .before .before .before .before .before .before .before .before .before .before .before .before .before .args .attribute) (placeAt (now (c .before .before .before .before .before .before .before .before .before .before .before .before .before .before .before .before .before .before .before .before .before .before .args .walks)) (c .before .before .before .before .before .before .before .before .before .before .before .before .before .before .before .walk-of .result)) (c .before .before .before .before .before .before .before .before .before .prepare .result) (c .before .before .before .before .before .before .before .before .before .before .before .before .size-at .result) (replicate 1 0) (c .before .before .before .before .before .before .before .before .before .before .before .before .size-at .ensures .0) (c .before .before .before .before .before .before .before .before .before .prepare .ensures (now (c .before .before .before .before .before .before .before .before .before .before .before .before .before .before .before .before .before .before .before .before .before .before .args .walks)) (nothing (now (c .before .before .before .before .before .before .before .before .before .before .before .before .before .before .before .before .before .before .before .before .before .before .args .t)) (now (c .before .before .before .before .before .before .before .before .before .before .before .before .before .before .before .before .before .before .before .before .before .before .args .walks)) (now (c .before .before .before .before .before .before .before .before .before .before .before .before .before .before .before .before .before .before .before .before .before .before .args .vs)) (replicate 1 0) (getD-same {A = ℕ} 1 0) .faithful)) (c .before .before .before .before .before .before .before .loop .i) (c .before .before .before .before .before .next-row .result) (c .before .before .before .before .before .before .before .loop .taken) (c .before .before .before .before .before .next-row .ensures .0 .0) (c .before .before .before .before .before .next-row .ensures .1 .0) (c .before .before .before .before .before .before .before .loop .inv .1)), (omega (arith, taken-few (placeAt (now (c .before .before .before .before .before .before .before .before .before .before .before .before .before .before .before .before .before .before .before .before .before .before .args .walks)) (c .before .before .before .before .before .before .before .before .before .before .before .before .before .before .before .walk-of .result)) (now (c .before .before .before .before .before .before .before .before .before .before .before .before .before .before .before .before .before .before .before .before .before .before .args .vs)) (meets (now (c .before .before .before .before .before .before .before .before .before .before .before .before .before .before .before .before .before .before .before .before .before .before .args .t)) (now (c .before .before .before .before .before .before .before .before .before .before .before .before .before .before .before .before .before .before .before .before .before .before .args .xs)) (now (c .before .before .before .before .before .before .before .before .before .before .before .before .before .before .before .before .before .before .before .before .before .before .args .q)) (now (c .before .before .before .before .before .before .before .before .before .before .before .before .before .before .before .before .before .before .before .before .before .before .args .z)) (now (c .before .before .before .before .before .before .before .before .before .before .before .before .before .before .before .before .before .before .before .before .before .before .args .walks)) (now (c .before .before .before .before .before .before .before .before .before .before .before .before .before .before .before .before .before .before .before .before .before .before .args .vs)) (now (c .before .before .before .before .before .before .before .before .before .before .before .before .before .before .before .before .before .before .before .before .before .before .args .memo)) (now (c .before .before .before .before .before .before .before .before .before .before .before .before .before .before .before .before .before .before .before .before .before .before .args .env)) (c .before .before .before .before .before .before .before .before .before .before .before .before .before .before .before .before .before .before .before .before .before .before .args .variable)) (c .before .before .before .before .before .before .before .before .before .before .before .before .before .before .before .before .before .before .before .before .before .before .args .attribute) (c .before .before .before .before .before .next-row .result) (c .before .before .before .before .before .before .before .loop .taken) (taken-over (now (c .before .before .before .before .before .before .before .before .before .before .before .before .before .before .before .before .before .before .before .before .before .before .args .t)) (now (c .before .before .before .before .before .before .before .before .before .before .before .before .before .before .before .before .before .before .before .before .before .before .args .xs)) (now (c .before .before .before .before .before .before .before .before .before .before .before .before .before .before .before .before .before .before .before .before .before .before .args .q)) (now (c .before .before .before .before .before .before .before .before .before .before .before .before .before .before .before .before .before .before .before .before .before .before .args .z)) (now (c .before .before .before .before .before .before .before .before .before .before .before .before .before .before .before .before .before .before .before .before .before .before .args .walks)) (now (c .before .before .before .before .before .before .before .before .before .before .before .before .before .before .before .before .before .before .before .before .before .before .args .vs)) (now (c .before .before .before .before .before .before .before .before .before .before .before .before .before .before .before .before .before .before .before .before .before .before .args .memo)) (now (c .before .before .before .before .before .before .before .before .before .before .before .before .before .before .before .before .before .before .before .before .before .before .args .env)) (c .before .before .before .before .before .before .before .before .before .before .before .before .before .before .before .before .before .before .before .before .before .before .args .variable) (c .before .before .before .before .before .before .before .before .before .before .before .before .before .before .before .before .before .before .before .before .before .before .args .attribute) (placeAt (now (c .before .before .before .before .before .before .before .before .before .before .before .before .before .before .before .before .before .before .before .before .before .before .args .walks)) (c .before .before .before .before .before .before .before .before .before .before .before .before .before .before .before .walk-of .result)) (c .before .before .before .before .before .before .before .before .before .prepare .result) (c .before .before .before .before .before .before .before .before .before .before .before .before .size-at .result) (replicate 1 0) (c .before .before .before .before .before .before .before .before .before .before .before .before .size-at .ensures .0) (c .before .before .before .before .before .before .before .before .before .prepare .ensures (now (c .before .before .before .before .before .before .before .before .before .before .before .before .before .before .before .before .before .before .before .before .before .before .args .walks)) (nothing (now (c .before .before .before .before .before .before .before .before .before .before .before .before .before .before .before .before .before .before .before .before .before .before .args .t)) (now (c .before .before .before .before .before .before .before .before .before .before .before .before .before .before .before .before .before .before .before .before .before .before .args .walks)) (now (c .before .before .before .before .before .before .before .before .before .before .before .before .before .before .before .before .before .before .before .before .before .before .args .vs)) (replicate 1 0) (getD-same {A = ℕ} 1 0) .faithful)) (c .before .before .before .before .before .before .before .loop .i) (c .before .before .before .before .before .next-row .result) (c .before .before .before .before .before .before .before .loop .taken) (c .before .before .before .before .before .next-row .ensures .0 .0) (c .before .before .before .before .before .next-row .ensures .1 .0) (c .before .before .before .before .before .before .before .loop .inv .1)) (c .before .before .before .before .before .next-row .result) (omega arith), c .before .before .before .before .before .next-row .ensures .0 .1, c .before .before .before .before .before .before .before .before .before .before .before .before .before .before .before .walk-of .ensures .1 .count), c .before .before .set-place .ensures ∙ c .before .before .before .before .before .before .before .loop .inv .0))
+
+place-requires-2 : tie.Need-place-requires-2 Inv-loop μ-loop
+place-requires-2 c κs = (c .before .before .before .before .before .before .before .before .before .before .before .walk-of .ensures .1, omega (arith, c .before .before .before .before .before .before .before .before .before .before .before .walk-of .ensures .1 .count, c .if1 .left))
+
+set-place-requires-2 : tie.Need-set-place-requires-2 Inv-loop μ-loop
+set-place-requires-2 c κs = search needs
+
+with-row-requires : tie.Need-with-row-requires Inv-loop μ-loop
+with-row-requires c κs = (omega (arith, c .before .before .before .before .before .before .before .before .before .before .before .before .before .before .before .before .before .before .before .before .before .before .before .before .pre .0, c .before .before .before .before .before .before .before .before .before .loop .inv .3, ap length (c .before .before .before .set-place2 .ensures), length-set (c .before .before .before .before .before .before .before .before .before .loop .env) (c .before .before .before .before .before .before .before .before .before .before .before .before .before .before .before .before .before .before .before .before .before .before .before .before .args .variable) (c .before .before .before .before .before .place2 .result)), omega (arith, (c .before .before .before .before .before .before .before .before .before .before .before .prepare .ensures (now (c .before .before .before .before .before .before .before .before .before .before .before .before .before .before .before .before .before .before .before .before .before .before .before .before .args .walks)) (nothing (now (c .before .before .before .before .before .before .before .before .before .before .before .before .before .before .before .before .before .before .before .before .before .before .before .before .args .t)) (now (c .before .before .before .before .before .before .before .before .before .before .before .before .before .before .before .before .before .before .before .before .before .before .before .before .args .walks)) (now (c .before .before .before .before .before .before .before .before .before .before .before .before .before .before .before .before .before .before .before .before .before .before .before .before .args .vs)) (replicate 1 0) (getD-same {A = ℕ} 1 0) .faithful)) .low, c .before .before .before .before .before .before .before .before .before .before .before .before .before .before .size-at .ensures .1), omega (arith, taken-few (placeAt (now (c .before .before .before .before .before .before .before .before .before .before .before .before .before .before .before .before .before .before .before .before .before .before .before .before .args .walks)) (c .before .before .before .before .before .before .before .before .before .before .before .before .before .before .before .before .before .walk-of .result)) (now (c .before .before .before .before .before .before .before .before .before .before .before .before .before .before .before .before .before .before .before .before .before .before .before .before .args .vs)) (meets (now (c .before .before .before .before .before .before .before .before .before .before .before .before .before .before .before .before .before .before .before .before .before .before .before .before .args .t)) (now (c .before .before .before .before .before .before .before .before .before .before .before .before .before .before .before .before .before .before .before .before .before .before .before .before .args .xs)) (now (c .before .before .before .before .before .before .before .before .before .before .before .before .before .before .before .before .before .before .before .before .before .before .before .before .args .q)) (now (c .before .before .before .before .before .before .before .before .before .before .before .before .before .before .before .before .before .before .before .before .before .before .before .before .args .z)) (now (c .before .before .before .before .before .before .before .before .before .before .before .before .before .before .before .before .before .before .before .before .before .before .before .before .args .walks)) (now (c .before .before .before .before .before .before .before .before .before .before .before .before .before .before .before .before .before .before .before .before .before .before .before .before .args .vs)) (now (c .before .before .before .before .before .before .before .before .before .before .before .before .before .before .before .before .before .before .before .before .before .before .before .before .args .memo)) (now (c .before .before .before .before .before .before .before .before .before .before .before .before .before .before .before .before .before .before .before .before .before .before .before .before .args .env)) (c .before .before .before .before .before .before .before .before .before .before .before .before .before .before .before .before .before .before .before .before .before .before .before .before .args .variable)) (c .before .before .before .before .before .before .before .before .before .before .before .before .before .before .before .before .before .before .before .before .before .before .before .before .args .attribute) (c .before .before .before .before .before .before .before .next-row .result) (c .before .before .before .before .before .before .before .before .before .loop .taken) (taken-over (now (c .before .before .before .before .before .before .before .before .before .before .before .before .before .before .before .before .before .before .before .before .before .before .before .before .args .t)) (now (c .before .before .before .before .before .before .before .before .before .before .before .before .before .before .before .before .before .before .before .before .before .before .before .before .args .xs)) (now (c .before .before .before .before .before .before .before .before .before .before .before .before .before .before .before .before .before .before .before .before .before .before .before .before .args .q)) (now (c .before .before .before .before .before .before .before .before .before .before .before .before .before .before .before .before .before .before .before .before .before .before .before .before .args .z)) (now (c .before .before .before .before .before .before .before .before .before .before .before .before .before .before .before .before .before .before .before .before .before .before .before .before .args .walks)) (now (c .before .before .before .before .before .before .before .before .before .before .before .before .before .before .before .before .before .before .before .before .before .before .before .before .args .vs)) (now (c .before .before .before .before .before .before .before .before .before .before .before .before .before .before .before .before .before .before .before .before .before .before .before .before .args .memo)) (now (c .before .before .before .before .before .before .before .before .before .before .before .before .before .before .before .before .before .before .before .before .before .before .before .before .args .env)) (c .before .before .before .before .before .before .before .before .before .before .before .before .before .before .before .before .before .before .before .before .before .before .before .before .args .variable) (c .before .before .before .before .before .before .before .before .before .before .before .before .before .before .before .before .before .before .before .before .before .before .before .before .args .attribute) (placeAt (now (c .before .before .before .before .before .before .before .before .before .before .before .before .before .before .before .before .before .before .before .before .before .before .before .before .args .walks)) (c .before .before .before .before .before .before .before .before .before .before .before .before .before .before .before .before .before .walk-of .result)) (c .before .before .before .before .before .before .before .before .before .before .before .prepare .result) (c .before .before .before .before .before .before .before .before .before .before .before .before .before .before .size-at .result) (replicate 1 0) (c .before .before .before .before .before .before .before .before .before .before .before .before .before .before .size-at .ensures .0) (c .before .before .before .before .before .before .before .before .before .before .before .prepare .ensures (now (c .before .before .before .before .before .before .before .before .before .before .before .before .before .before .before .before .before .before .before .before .before .before .before .before .args .walks)) (nothing (now (c .before .before .before .before .before .before .before .before .before .before .before .before .before .before .before .before .before .before .before .before .before .before .before .before .args .t)) (now (c .before .before .before .before .before .before .before .before .before .before .before .before .before .before .before .before .before .before .before .before .before .before .before .before .args .walks)) (now (c .before .before .before .before .before .before .before .before .before .before .before .before .before .before .before .before .before .before .before .before .before .before .before .before .args .vs)) (replicate 1 0) (getD-same {A = ℕ} 1 0) .faithful)) (c .before .before .before .before .before .before .before .before .before .loop .i) (c .before .before .before .before .before .before .before .next-row .result) (c .before .before .before .before .before .before .before .before .before .loop .taken) (c .before .before .before .before .before .before .before .next-row .ensures .0 .0) (c .before .before .before .before .before .before .before .next-row .ensures .1 .0) (c .before .before .before .before .before .before .before .before .before .loop .inv .1)) (c .before .before .before .before .before .before .before .next-row .result) (omega arith), c .before .before .before .before .before .before .if1 .left, c .before .before .before .before .before .before .before .before .before .before .before .before .before .before .before .before .before .walk-of .ensures .1 .count), c .before .before .before .before .before .before .before .before .before .loop .inv .1 .bounded, c .before .before .before .before .before .before .before .before .before .before .before .before .before .before .before .before .before .before .before .before .before .before .before .before .pre .1)
+
+add-i : tie.Need-add-i Inv-loop μ-loop
+add-i c = omega (arith, c .before .before .before .before .before .before .before .before .before .before .before .before .before .before .before .before .before .before .before .before .walk-of .ensures .1 .count, c .before .before .before .before .before .before .before .before .before .if1 .left)
+
+loop-less : tie.Need-loop-less Inv-loop μ-loop
+loop-less c = omega (arith, c .before .before .before .before .before .before .before .before .before .before .next-row .ensures .0 .0, c .before .before .before .before .before .before .before .before .before .if1 .left)
+
+loop-again : tie.Need-loop-again Inv-loop μ-loop
+loop-again c = (places-back (c .before .before .before .before .before .before .before .before .before .before .before .before .loop .env) (now (c .before .before .before .before .before .before .before .before .before .before .before .before .before .before .before .before .before .before .before .before .before .before .before .before .before .before .before .args .env)) _ (c .before .before .before .before .before .before .before .before .before .before .before .before .before .before .before .before .before .before .before .before .before .before .before .before .before .before .before .args .variable) (c .before .before .before .before .before .before .before .before .before .before .before .before .before .before .before .before .before .before .place .result) (c .before .before .before .before .before .before .before .before .place2 .result) (c .before .before .before .before .before .before .before .before .before .before .before .before .loop .inv .0) (c .before .before .before .before .before .before .set-place2 .ensures) _ (c .before .before .with-row .ensures .1 .1), take-next (now (c .before .before .before .before .before .before .before .before .before .before .before .before .before .before .before .before .before .before .before .before .before .before .before .before .before .before .before .args .t)) (now (c .before .before .before .before .before .before .before .before .before .before .before .before .before .before .before .before .before .before .before .before .before .before .before .before .before .before .before .args .xs)) (now (c .before .before .before .before .before .before .before .before .before .before .before .before .before .before .before .before .before .before .before .before .before .before .before .before .before .before .before .args .q)) (now (c .before .before .before .before .before .before .before .before .before .before .before .before .before .before .before .before .before .before .before .before .before .before .before .before .before .before .before .args .z)) (now (c .before .before .before .before .before .before .before .before .before .before .before .before .before .before .before .before .before .before .before .before .before .before .before .before .before .before .before .args .walks)) (now (c .before .before .before .before .before .before .before .before .before .before .before .before .before .before .before .before .before .before .before .before .before .before .before .before .before .before .before .args .vs)) (now (c .before .before .before .before .before .before .before .before .before .before .before .before .before .before .before .before .before .before .before .before .before .before .before .before .before .before .before .args .memo)) (now (c .before .before .before .before .before .before .before .before .before .before .before .before .before .before .before .before .before .before .before .before .before .before .before .before .before .before .before .args .env)) (c .before .before .before .before .before .before .before .before .before .before .before .before .before .before .before .before .before .before .before .before .before .before .before .before .before .before .before .args .variable) (c .before .before .before .before .before .before .before .before .before .before .before .before .before .before .before .before .before .before .before .before .before .before .before .before .before .before .before .args .attribute) (placeAt (now (c .before .before .before .before .before .before .before .before .before .before .before .before .before .before .before .before .before .before .before .before .before .before .before .before .before .before .before .args .walks)) (c .before .before .before .before .before .before .before .before .before .before .before .before .before .before .before .before .before .before .before .before .walk-of .result)) (c .before .before .before .before .before .before .before .before .before .before .before .before .before .before .prepare .result) (c .before .before .before .before .before .before .before .before .before .before .before .before .before .before .before .before .before .size-at .result) (replicate 1 0) (c .before .before .before .before .before .before .before .before .before .before .before .before .before .before .before .before .before .size-at .ensures .0) (c .before .before .before .before .before .before .before .before .before .before .before .before .before .before .prepare .ensures (now (c .before .before .before .before .before .before .before .before .before .before .before .before .before .before .before .before .before .before .before .before .before .before .before .before .before .before .before .args .walks)) (nothing (now (c .before .before .before .before .before .before .before .before .before .before .before .before .before .before .before .before .before .before .before .before .before .before .before .before .before .before .before .args .t)) (now (c .before .before .before .before .before .before .before .before .before .before .before .before .before .before .before .before .before .before .before .before .before .before .before .before .before .before .before .args .walks)) (now (c .before .before .before .before .before .before .before .before .before .before .before .before .before .before .before .before .before .before .before .before .before .before .before .before .before .before .before .args .vs)) (replicate 1 0) (getD-same {A = ℕ} 1 0) .faithful)) _ (c .before .before .before .before .before .before .before .before .before .before .next-row .result) (c .before .before .before .before .before .before .before .before .place2 .result) (c .before .before .before .before .before .before .before .before .before .before .before .before .loop .taken) _ (c .before .before .before .before .before .before .before .before .before .before .next-row .ensures .1 .1 (c .before .before .before .before .before .before .before .before .before .if1 .left)) (c .before .before .before .before .before .before .before .before .place2 .ensures) (places-on (c .before .before .before .before .before .before .before .before .before .before .before .before .loop .env) (now (c .before .before .before .before .before .before .before .before .before .before .before .before .before .before .before .before .before .before .before .before .before .before .before .before .before .before .before .args .env)) _ (c .before .before .before .before .before .before .before .before .before .before .before .before .before .before .before .before .before .before .before .before .before .before .before .before .before .before .before .args .variable) (c .before .before .before .before .before .before .before .before .before .before .before .before .before .before .before .before .before .before .place .result) (c .before .before .before .before .before .before .before .before .place2 .result) (c .before .before .before .before .before .before .before .before .before .before .before .before .loop .inv .0) (c .before .before .before .before .before .before .set-place2 .ensures)) (omega (arith, c .before .before .before .before .before .before .before .before .before .before .before .before .before .before .before .before .before .before .before .before .before .before .before .before .before .before .before .pre .0, c .before .before .before .before .before .before .before .before .before .before .before .before .before .before .before .before .before .before .before .before .before .before .before .before .before .before .before .good)) (taken-over (now (c .before .before .before .before .before .before .before .before .before .before .before .before .before .before .before .before .before .before .before .before .before .before .before .before .before .before .before .args .t)) (now (c .before .before .before .before .before .before .before .before .before .before .before .before .before .before .before .before .before .before .before .before .before .before .before .before .before .before .before .args .xs)) (now (c .before .before .before .before .before .before .before .before .before .before .before .before .before .before .before .before .before .before .before .before .before .before .before .before .before .before .before .args .q)) (now (c .before .before .before .before .before .before .before .before .before .before .before .before .before .before .before .before .before .before .before .before .before .before .before .before .before .before .before .args .z)) (now (c .before .before .before .before .before .before .before .before .before .before .before .before .before .before .before .before .before .before .before .before .before .before .before .before .before .before .before .args .walks)) (now (c .before .before .before .before .before .before .before .before .before .before .before .before .before .before .before .before .before .before .before .before .before .before .before .before .before .before .before .args .vs)) (now (c .before .before .before .before .before .before .before .before .before .before .before .before .before .before .before .before .before .before .before .before .before .before .before .before .before .before .before .args .memo)) (now (c .before .before .before .before .before .before .before .before .before .before .before .before .before .before .before .before .before .before .before .before .before .before .before .before .before .before .before .args .env)) (c .before .before .before .before .before .before .before .before .before .before .before .before .before .before .before .before .before .before .before .before .before .before .before .before .before .before .before .args .variable) (c .before .before .before .before .before .before .before .before .before .before .before .before .before .before .before .before .before .before .before .before .before .before .before .before .before .before .before .args .attribute) (placeAt (now (c .before .before .before .before .before .before .before .before .before .before .before .before .before .before .before .before .before .before .before .before .before .before .before .before .before .before .before .args .walks)) (c .before .before .before .before .before .before .before .before .before .before .before .before .before .before .before .before .before .before .before .before .walk-of .result)) (c .before .before .before .before .before .before .before .before .before .before .before .before .before .before .prepare .result) (c .before .before .before .before .before .before .before .before .before .before .before .before .before .before .before .before .before .size-at .result) (replicate 1 0) (c .before .before .before .before .before .before .before .before .before .before .before .before .before .before .before .before .before .size-at .ensures .0) (c .before .before .before .before .before .before .before .before .before .before .before .before .before .before .prepare .ensures (now (c .before .before .before .before .before .before .before .before .before .before .before .before .before .before .before .before .before .before .before .before .before .before .before .before .before .before .before .args .walks)) (nothing (now (c .before .before .before .before .before .before .before .before .before .before .before .before .before .before .before .before .before .before .before .before .before .before .before .before .before .before .before .args .t)) (now (c .before .before .before .before .before .before .before .before .before .before .before .before .before .before .before .before .before .before .before .before .before .before .before .before .before .before .before .args .walks)) (now (c .before .before .before .before .before .before .before .before .before .before .before .before .before .before .before .before .before .before .before .before .before .before .before .before .before .before .before .args .vs)) (replicate 1 0) (getD-same {A = ℕ} 1 0) .faithful)) (c .before .before .before .before .before .before .before .before .before .before .before .before .loop .i) (c .before .before .before .before .before .before .before .before .before .before .next-row .result) (c .before .before .before .before .before .before .before .before .before .before .before .before .loop .taken) (c .before .before .before .before .before .before .before .before .before .before .next-row .ensures .0 .0) (c .before .before .before .before .before .before .before .before .before .before .next-row .ensures .1 .0) (c .before .before .before .before .before .before .before .before .before .before .before .before .loop .inv .1)) (c .before .before .with-row .ensures .0) (c .before .before .with-row .ensures .1 .0), omega (arith, c .before .before .before .before .before .before .before .before .before .if1 .left), places-length (c .before .before .before .before .before .before .before .before .before .before .before .before .loop .env) (now (c .before .before .before .before .before .before .before .before .before .before .before .before .before .before .before .before .before .before .before .before .before .before .before .before .before .before .before .args .env)) _ (c .before .before .before .before .before .before .before .before .before .before .before .before .before .before .before .before .before .before .before .before .before .before .before .before .before .before .before .args .variable) (c .before .before .before .before .before .before .before .before .before .before .before .before .before .before .before .before .before .before .place .result) (c .before .before .before .before .before .before .before .before .place2 .result) (c .before .before .before .before .before .before .before .before .before .before .before .before .loop .inv .0) (c .before .before .before .before .before .before .set-place2 .ensures) _ (c .before .before .with-row .ensures .1 .1) (c .before .before .before .before .before .before .before .before .before .before .before .before .loop .inv .3), λ h. (let e : c .before .before .before .before .before .before .before .before .before .before .next-row .result + 1 - 1 ≡ c .before .before .before .before .before .before .before .before .before .before .next-row .result = omega arith in ap (λ (i : ℕ). stops (c .before .before .before .before .before .before .before .before .before .before .before .before .before .before .prepare .result) (tupleAt (now (c .before .before .before .before .before .before .before .before .before .before .before .before .before .before .before .before .before .before .before .before .before .before .before .before .before .before .before .args .vs)) ((placeAt (now (c .before .before .before .before .before .before .before .before .before .before .before .before .before .before .before .before .before .before .before .before .before .before .before .before .before .before .before .args .walks)) (c .before .before .before .before .before .before .before .before .before .before .before .before .before .before .before .before .before .before .before .before .walk-of .result)) i))) e) ∙ c .before .before .before .before .before .before .before .before .before .before .next-row .ensures .1 .1 (c .before .before .before .before .before .before .before .before .before .if1 .left))
 
 pub take-spec : {M : Type 1} → statement M
 take-spec =
@@ -131,16 +95,19 @@ take-spec =
     μ-loop
     walk-of-requires
     place-requires
+    size-at-requires
+    slice-aggregate-prepare
+    prepare-requires
     empty-requires
-    ahead-requires
     loop-holds
-    place-requires-2
+    slice-aggregate-next-row
+    next-row-requires
     set-place-requires
-    with-row-requires
-    add-ahead
-    ahead-requires-2
-    loop-less
-    loop-again
-    set-place-requires-2
     same-length
-    returns)
+    returns
+    place-requires-2
+    set-place-requires-2
+    with-row-requires
+    add-i
+    loop-less
+    loop-again)

@@ -22,51 +22,9 @@ use Rattle.numbers.proofs.finish.Reads as finish-reads
 use Rattle.numbers.proofs.knows.Reads as knows-reads
 use Rattle.numbers.proofs.recall.Reads as recall-reads
 
--- src/lib.rt:150:9
-compiled-requires : tie.Need-compiled-requires
-compiled-requires c κs = search needs
-
--- src/lib.rt:151:9
-term-requires : tie.Need-term-requires
-term-requires c κs = search needs
-
--- src/lib.rt:151:9
-same-length : tie.Need-same-length
-same-length c = search needs
-
--- src/lib.rt:151:9
-returns : tie.Need-returns
-returns c = search needs
-
--- src/lib.rt:153:70
-read-requires : tie.Need-read-requires
-read-requires c κs = search needs
-
--- src/lib.rt:153:27
-enum-known-function : tie.Need-enum-known-function
-enum-known-function c = search needs
-
--- src/lib.rt:154:9
-term-requires-2 : tie.Need-term-requires-2
-term-requires-2 c κs = search needs
-
--- src/lib.rt:154:9
-same-length-2 : tie.Need-same-length-2
-same-length-2 c = search needs
-
--- src/lib.rt:154:9
-returns-2 : tie.Need-returns-2
-returns-2 c = search needs
-
--- src/lib.rt:156:8
-knows-requires : tie.Need-knows-requires
-knows-requires c κs = search needs
-
--- src/lib.rt:157:9
 recall-requires : tie.Need-recall-requires
 recall-requires c κs = sym (c .before .knows .ensures) ∙ c .if2 .taken
 
--- src/lib.rt:157:9
 returns-3 : tie.Need-returns-3
 returns-3 c =
     let c₄ = c .before .before .before .before in let function = c₄ .function in
@@ -76,30 +34,12 @@ returns-3 c =
     let c₁₃ = c₈ .before .before .before .before .before in let args = c₁₃ .args in
     (c .recall .ensures .0 ∙ (known-is (now (args .walks)) (now (args .vs)) (now (args .memo)) (now (args .env)) (now (args .q)) (now (args .z)) (args .level) _ _ _ (nonzero _ (compiled .ensures (not-no _ (if1 .left)) .0)) refl refl (read .ensures) _ _ _ _ _ _ (function .given .1) (c .before .before .knows .ensures) (c .before .if2 .taken) refl), (c .recall .ensures .1, refl))
 
--- src/lib.rt:159:34
-byte-requires : tie.Need-byte-requires
-byte-requires c κs = search needs
-
--- src/lib.rt:159:9
-record-length-requires : tie.Need-record-length-requires
-record-length-requires c κs = search needs
-
--- src/lib.rt:160:9
-tail-requires : tie.Need-tail-requires
-tail-requires c κs = search needs
-
--- src/lib.rt:161:9
-tail-sizes-requires : tie.Need-tail-sizes-requires
-tail-sizes-requires c κs = search needs
-
--- src/lib.rt:162:13
 sub-l : tie.Need-sub-l
 sub-l c =
     let c₁₀ = c .before .before .before .before .before .before .before .before .before .before in let if1 = c₁₀ .if1 in
     let c₁₁ = c₁₀ .before in let compiled = c₁₁ .compiled in
     compiled .ensures (not-no _ (if1 .left)) .0
 
--- src/lib.rt:163:9
 gather-requires : tie.Need-gather-requires
 gather-requires c κs =
     let c₁₁ = c .before .before .before .before .before .before .before .before .before .before .before in let if1 = c₁₁ .if1 in
@@ -107,15 +47,6 @@ gather-requires c κs =
     let c₁₇ = c₁₂ .before .before .before .before .before in let pre = c₁₇ .pre in
     (pre, omega (arith, compiled .ensures (not-no _ (if1 .left)) .1))
 
--- src/lib.rt:164:5
-finish-requires : tie.Need-finish-requires
-finish-requires c κs = search needs
-
--- src/lib.rt:136:1
-same-length-3 : tie.Need-same-length-3
-same-length-3 c = search needs
-
--- src/lib.rt:136:1
 returns-4 : tie.Need-returns-4
 returns-4 c =
     let c₃ = c .before .before .before in let gather = c₃ .gather in
@@ -136,24 +67,24 @@ pub value-spec : {M : Type 1} → statement M
 value-spec =
     tie.close
     (tie.spec
-    compiled-requires
-    term-requires
-    same-length
-    returns
-    read-requires
-    enum-known-function
-    term-requires-2
-    same-length-2
-    returns-2
-    knows-requires
+    (λ c κs. search needs)
+    (λ c κs. search needs)
+    (λ c. search needs)
+    (λ c. search needs)
+    (λ c κs. search needs)
+    (λ c. search needs)
+    (λ c κs. search needs)
+    (λ c. search needs)
+    (λ c. search needs)
+    (λ c κs. search needs)
     recall-requires
     returns-3
-    byte-requires
-    record-length-requires
-    tail-requires
-    tail-sizes-requires
+    (λ c κs. search needs)
+    (λ c κs. search needs)
+    (λ c κs. search needs)
+    (λ c κs. search needs)
     sub-l
     gather-requires
-    finish-requires
-    same-length-3
+    (λ c κs. search needs)
+    (λ c. search needs)
     returns-4)

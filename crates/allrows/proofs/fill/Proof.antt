@@ -21,39 +21,30 @@ Inv-loop query catalogue walks₀ at₀ walks at = (filledBy catalogue (flatBind
 abbrev μ-loop : tie.MeasureT-loop
 μ-loop query catalogue walks₀ at₀ walks at = length query - at
 
--- src/lib.rt:76:5
 loop-holds : tie.Need-loop-holds Inv-loop μ-loop
 loop-holds c = (refl, refl)
 
--- src/lib.rt:77:29
 binding-requires : tie.Need-binding-requires Inv-loop μ-loop
 binding-requires c κs = search needs
 
--- src/lib.rt:77:9
 fill-one-requires : tie.Need-fill-one-requires Inv-loop μ-loop
 fill-one-requires c κs = search needs
 
--- src/lib.rt:78:15
 step-requires : tie.Need-step-requires Inv-loop μ-loop
 step-requires c κs = search needs
 
--- src/lib.rt:78:9
 add-at : tie.Need-add-at Inv-loop μ-loop
 add-at c = search needs
 
--- src/lib.rt:76:5
 loop-less : tie.Need-loop-less Inv-loop μ-loop
 loop-less c = search needs
 
--- src/lib.rt:76:5
 loop-again : tie.Need-loop-again Inv-loop μ-loop
 loop-again c = (filled-on (now (c .before .before .before .before .before .before .before .before .before .before .before .args .catalogue)) (now (c .before .before .before .before .before .before .before .before .before .before .before .args .query)) (c .before .before .before .before .before .before .before .loop .at) (c .step .result) (c .before .before .before .before .before .before .loop-test .taken) (c .step .ensures .0) (c .before .before .before .before .before .binding .result) (c .before .before .before .before .before .binding .ensures) _ _ _ (c .before .before .before .fill-one .ensures) (c .before .before .before .before .before .before .before .loop .inv .0), c .before .before .before .fill-one .kept .1 .1 .0 ∙ c .before .before .before .before .before .before .before .loop .inv .1)
 
--- src/lib.rt:72:1
 same-length : tie.Need-same-length Inv-loop μ-loop
 same-length c = search needs
 
--- src/lib.rt:72:1
 returns : tie.Need-returns Inv-loop μ-loop
 returns c = filled-end (now (c .before .before .before .before .before .args .catalogue)) (now (c .before .before .before .before .before .args .query)) (c .before .loop .at) (c .loop-test .left) _ _ (c .before .loop .inv .0)
 

@@ -8,9 +8,6 @@ use Rattle.allrows.proofs.start_of.Reads as reads
 use Rattle.allrows.proofs.start_of.Lts as lts
 use Rattle.catalogue.proofs.latest.Reads as latest-reads
 
-latest-requires : tie.Need-latest-requires
-latest-requires c κs = search needs
-
 returns : tie.Need-returns
 returns c = (start-last _ _ (c .if1 .taken) (c .before .latest .ensures), omega arith)
 
@@ -18,4 +15,4 @@ returns-2 : tie.Need-returns-2
 returns-2 c = (start-first _ _ (c .if1 .left) (c .before .latest .ensures), omega arith)
 
 pub start-of-spec : {M : Type 1} → statement M
-start-of-spec = tie.close (tie.spec latest-requires returns returns-2)
+start-of-spec = tie.close (tie.spec (λ c κs. search needs) returns returns-2)

@@ -11,21 +11,6 @@ use Rattle.catalogue.proofs.base.Reads as base-reads
 use Rattle.catalogue.proofs.rows.Reads as rows-reads
 use Rattle.allrows.proofs.start_of.Reads as start-of-reads
 
--- src/lib.rt:51:9
-rows-requires : tie.Need-rows-requires
-rows-requires c κs = search needs
-
--- src/lib.rt:52:9
-base-requires : tie.Need-base-requires
-base-requires c κs = search needs
-
--- src/lib.rt:53:9
-attributes-requires : tie.Need-attributes-requires
-attributes-requires c κs = search needs
-
-start-of-requires : tie.Need-start-of-requires
-start-of-requires c κs = search needs
-
 returns : tie.Need-returns
 returns c =
     let c₁ = c .before in let c₂ = c₁ .before in let c₃ = c₂ .before in let top = c₃ .before .before in
@@ -35,4 +20,4 @@ returns c =
     )
 
 pub whole-spec : {M : Type 1} → statement M
-whole-spec = tie.close (tie.spec rows-requires base-requires attributes-requires start-of-requires returns)
+whole-spec = tie.close (tie.spec (λ c κs. search needs) (λ c κs. search needs) (λ c κs. search needs) (λ c κs. search needs) returns)

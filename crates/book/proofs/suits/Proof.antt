@@ -12,9 +12,6 @@ returns-2 c = rw (eq-eqb (c .before .before .args .columns) 3 (c .before .if1 .l
 returns-3 : tie.Need-returns-3
 returns-3 c = rw (eq-eqb (c .before .before .before .args .columns) 3 (c .before .before .if1 .left), eq-eqb (c .before .before .before .args .offers) 500 (c .before .if2 .left), ne-eqb (c .before .before .before .args .display) 3500 (c .if3 .taken))
 
-all-in-range-requires : tie.Need-all-in-range-requires
-all-in-range-requires c κs = search needs
-
 returns-4 : tie.Need-returns-4
 returns-4 c =
     let c₃ = c .before .before .before in let if1 = c₃ .if1 in
@@ -22,4 +19,4 @@ returns-4 c =
     rw (eq-eqb (args .columns) 3 (if1 .left), eq-eqb (args .offers) 500 (c .before .before .if2 .left), eq-eqb (args .display) 3500 (c .before .if3 .left)) (c .all-in-range .ensures)
 
 pub suits-spec : {M : Type 1} → statement M
-suits-spec = tie.close (tie.spec returns returns-2 returns-3 all-in-range-requires returns-4)
+suits-spec = tie.close (tie.spec returns returns-2 returns-3 (λ c κs. search needs) returns-4)

@@ -5,17 +5,8 @@ use borrow.Author.Needs.{needs}
 use Rattle.book.proofs.write.Statement.{statement}
 use Rattle.book.proofs.write.Tie as tie
 
-suits-requires : tie.Need-suits-requires
-suits-requires c κs = search needs
-
 returns : tie.Need-returns
 returns c = kept (c .before .before .before .args .columns) (now (c .before .before .before .args .cells)) (record { offers = (now (c .before .before .before .args .offers)); display = (now (c .before .before .before .args .display)) }) (c .before .suits .result) (c .before .suits .ensures) (not-true _ (c .if1 .taken))
-
-blank-offers-requires : tie.Need-blank-offers-requires
-blank-offers-requires c κs = search needs
-
-blank-display-requires : tie.Need-blank-display-requires
-blank-display-requires c κs = search needs
 
 fill-requires : tie.Need-fill-requires
 fill-requires c κs =
@@ -26,12 +17,6 @@ fill-requires c κs =
     let c₁₂ = c₁₀ .before .before in let args = c₁₂ .args in
     let cells = now (args .cells) in let columns = args .columns in
     (in-range columns cells (record { offers = (now (args .offers)); display = (now (args .display)) }) (suits .result) (suits .ensures) (not-false _ (if1 .left)), blank columns cells (record { offers = (now (args .offers)); display = (now (args .display)) }) (suits .result) (suits .ensures) (not-false _ (if1 .left)) _ _ (blank-offers .ensures) (blank-display .ensures))
-
-same-length : tie.Need-same-length
-same-length c = search needs
-
-same-length-2 : tie.Need-same-length-2
-same-length-2 c = search needs
 
 returns-2 : tie.Need-returns-2
 returns-2 c =
@@ -45,11 +30,11 @@ pub write-spec : {M : Type 1} → statement M
 write-spec =
     tie.close
     (tie.spec
-    suits-requires
+    (λ c κs. search needs)
     returns
-    blank-offers-requires
-    blank-display-requires
+    (λ c κs. search needs)
+    (λ c κs. search needs)
     fill-requires
-    same-length
-    same-length-2
+    (λ c. search needs)
+    (λ c. search needs)
     returns-2)

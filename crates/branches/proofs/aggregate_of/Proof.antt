@@ -7,22 +7,10 @@ use borrow.Author.Needs.{needs}
 use Rattle.branches.proofs.aggregate_of.Statement.{statement}
 use Rattle.branches.proofs.aggregate_of.Tie as tie
 
-knows-requires : tie.Need-knows-requires
-knows-requires c κs = search needs
-
-unknown-requires : tie.Need-unknown-requires
-unknown-requires c κs = search needs
-
 returns : tie.Need-returns
 returns c =
     let args = c .before .before .before .args in
     λ f r a d. unknown-means (c .unknown .result) (now (args .memo)) (AGGREGATE f (args .variable) r a d) (c .unknown .ensures)
-
-wide-requires : tie.Need-wide-requires
-wide-requires c κs = search needs
-
-add-t6 : tie.Need-add-t6
-add-t6 c = search needs
 
 returns-2 : tie.Need-returns-2
 returns-2 c =
@@ -33,4 +21,4 @@ returns-2 c =
 
 pub aggregate-of-spec : {M : Type 1} → statement M
 aggregate-of-spec =
-    tie.close (tie.spec knows-requires unknown-requires returns wide-requires add-t6 returns-2)
+    tie.close (tie.spec (λ c κs. search needs) (λ c κs. search needs) returns (λ c κs. search needs) (λ c. search needs) returns-2)

@@ -6,14 +6,8 @@ use borrow.Author.Needs.{needs}
 use Rattle.branches.proofs.attribute_of.Statement.{statement}
 use Rattle.branches.proofs.attribute_of.Tie as tie
 
-wide-requires : tie.Need-wide-requires
-wide-requires c κs = search needs
-
-wide-requires-2 : tie.Need-wide-requires-2
-wide-requires-2 c κs = search needs
-
 returns : tie.Need-returns
 returns c = ap₂ (λ (v a : ℕ). record { known = true; variable = v; attribute = a; number = pos 0 }) (c .before .wide .ensures) (c .wide2 .ensures)
 
 pub attribute-of-spec : {M : Type 1} → statement M
-attribute-of-spec = tie.close (tie.spec wide-requires wide-requires-2 returns)
+attribute-of-spec = tie.close (tie.spec (λ c κs. search needs) (λ c κs. search needs) returns)

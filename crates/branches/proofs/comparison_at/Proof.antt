@@ -5,88 +5,25 @@ use borrow.Author.Needs.{needs}
 use Rattle.branches.proofs.comparison_at.Statement.{statement}
 use Rattle.branches.proofs.comparison_at.Tie as tie
 
-unknown-requires : tie.Need-unknown-requires
-unknown-requires c κs = search needs
-
-unknown-requires-2 : tie.Need-unknown-requires-2
-unknown-requires-2 c κs = search needs
-
-compared-requires : tie.Need-compared-requires
-compared-requires c κs = search needs
-
 returns : tie.Need-returns
 returns c =
     let c₆ = c .before .before .before .before .before .before in let args = c₆ .args in
     no-comparison (now (args .memo)) (decode (args .level) (now (args .q)) (now (args .z))) (c .compared .result) _ _ (c .compared .ensures)
-
-read-requires : tie.Need-read-requires
-read-requires c κs = search needs
-
-enum-known-operator : tie.Need-enum-known-operator
-enum-known-operator c = search needs
-
-unknown-requires-3 : tie.Need-unknown-requires-3
-unknown-requires-3 c κs = search needs
-
-unknown-requires-4 : tie.Need-unknown-requires-4
-unknown-requires-4 c κs = search needs
-
-compared-requires-2 : tie.Need-compared-requires-2
-compared-requires-2 c κs = search needs
 
 returns-2 : tie.Need-returns-2
 returns-2 c =
     let c₈ = c .before .before .before .before .before .before .before .before in let args = c₈ .args in
     no-comparison (now (args .memo)) (decode (args .level) (now (args .q)) (now (args .z))) (c .compared2 .result) _ _ (c .compared2 .ensures)
 
-byte-requires : tie.Need-byte-requires
-byte-requires c κs = search needs
-
-record-length-requires : tie.Need-record-length-requires
-record-length-requires c κs = search needs
-
-size-at-requires : tie.Need-size-at-requires
-size-at-requires c κs = search needs
-
-add-b : tie.Need-add-b
-add-b c = search needs
-
-tail-requires : tie.Need-tail-requires
-tail-requires c κs = search needs
-
-sub-operand-at : tie.Need-sub-operand-at
-sub-operand-at c = search needs
-
-operand-at-requires : tie.Need-operand-at-requires
-operand-at-requires c κs = search needs
-
-tail-requires-2 : tie.Need-tail-requires-2
-tail-requires-2 c κs = search needs
-
-sub-operand-at-2 : tie.Need-sub-operand-at-2
-sub-operand-at-2 c = search needs
-
-operand-at-requires-2 : tie.Need-operand-at-requires-2
-operand-at-requires-2 c κs = search needs
-
-compared-requires-3 : tie.Need-compared-requires-3
-compared-requires-3 c κs = search needs
-
 returns-3 : tie.Need-returns-3
 returns-3 c =
     let c₁₇ = c .before .before .before .before .before .before .before .before .before .before .before .before .before .before .before .before .before in let args = c₁₇ .args in
     no-comparison (now (args .memo)) (decode (args .level) (now (args .q)) (now (args .z))) (c .compared3 .result) _ _ (c .compared3 .ensures)
 
-compared-requires-4 : tie.Need-compared-requires-4
-compared-requires-4 c κs = search needs
-
 returns-4 : tie.Need-returns-4
 returns-4 c =
     let c₁₉ = c .before .before .before .before .before .before .before .before .before .before .before .before .before .before .before .before .before .before .before in let args = c₁₉ .args in
     no-comparison (now (args .memo)) (decode (args .level) (now (args .q)) (now (args .z))) (c .compared4 .result) _ _ (c .compared4 .ensures)
-
-compared-requires-5 : tie.Need-compared-requires-5
-compared-requires-5 c κs = search needs
 
 returns-5 : tie.Need-returns-5
 returns-5 c =
@@ -108,29 +45,29 @@ pub comparison-at-spec : {M : Type 1} → statement M
 comparison-at-spec =
     tie.close
     (tie.spec
-    unknown-requires
-    unknown-requires-2
-    compared-requires
+    (λ c κs. search needs)
+    (λ c κs. search needs)
+    (λ c κs. search needs)
     returns
-    read-requires
-    enum-known-operator
-    unknown-requires-3
-    unknown-requires-4
-    compared-requires-2
+    (λ c κs. search needs)
+    (λ c. search needs)
+    (λ c κs. search needs)
+    (λ c κs. search needs)
+    (λ c κs. search needs)
     returns-2
-    byte-requires
-    record-length-requires
-    size-at-requires
-    add-b
-    tail-requires
-    sub-operand-at
-    operand-at-requires
-    tail-requires-2
-    sub-operand-at-2
-    operand-at-requires-2
-    compared-requires-3
+    (λ c κs. search needs)
+    (λ c κs. search needs)
+    (λ c κs. search needs)
+    (λ c. search needs)
+    (λ c κs. search needs)
+    (λ c. search needs)
+    (λ c κs. search needs)
+    (λ c κs. search needs)
+    (λ c. search needs)
+    (λ c κs. search needs)
+    (λ c κs. search needs)
     returns-3
-    compared-requires-4
+    (λ c κs. search needs)
     returns-4
-    compared-requires-5
+    (λ c κs. search needs)
     returns-5)

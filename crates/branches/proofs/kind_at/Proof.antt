@@ -6,9 +6,6 @@ use denote.Ref.{now}
 use Rattle.model.specs.Kinds.{kindOf, find, k-not, k-and, k-or}
 use Rattle.branches.proofs.Joining.{bare}
 
-byte-requires : tie.Need-byte-requires
-byte-requires c κs = search needs
-
 returns : tie.Need-returns
 unfolding kindOf find
 returns c = λ _. bare (now (c .before .before .before .args .q)) 17 k-not (sym (c .before .byte .ensures) ∙ c .match .keys1) refl refl
@@ -25,4 +22,4 @@ returns-4 : tie.Need-returns-4
 returns-4 c = λ h. absurd (h refl)
 
 pub kind-at-spec : {M : Type 1} → statement M
-kind-at-spec = tie.close (tie.spec byte-requires returns returns-2 returns-3 returns-4)
+kind-at-spec = tie.close (tie.spec (λ c κs. search needs) returns returns-2 returns-3 returns-4)

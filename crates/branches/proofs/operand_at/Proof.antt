@@ -9,38 +9,8 @@ use borrow.Author.Needs.{needs}
 use Rattle.branches.proofs.operand_at.Statement.{statement}
 use Rattle.branches.proofs.operand_at.Tie as tie
 
-unknown-requires : tie.Need-unknown-requires
-unknown-requires c κs = search needs
-
 returns : tie.Need-returns
 returns c = λ z. unknown-means (c .unknown .result) (now (c .before .before .before .args .memo)) (decodeT (c .before .before .before .args .level) (now (c .before .before .before .args .q)) z) (c .unknown .ensures)
-
-read-requires : tie.Need-read-requires
-read-requires c κs = search needs
-
-enum-known-a : tie.Need-enum-known-a
-enum-known-a c = search needs
-
-constant-requires : tie.Need-constant-requires
-constant-requires c κs = search needs
-
-number-of-requires : tie.Need-number-of-requires
-number-of-requires c κs = search needs
-
-enum-known-variable : tie.Need-enum-known-variable
-enum-known-variable c = search needs
-
-attribute-of-requires : tie.Need-attribute-of-requires
-attribute-of-requires c κs = search needs
-
-enum-known-variable-2 : tie.Need-enum-known-variable-2
-enum-known-variable-2 c = search needs
-
-aggregate-of-requires : tie.Need-aggregate-of-requires
-aggregate-of-requires c κs = search needs
-
-unknown-requires-2 : tie.Need-unknown-requires-2
-unknown-requires-2 c κs = search needs
 
 returns-2 : tie.Need-returns-2
 returns-2 c =
@@ -74,17 +44,17 @@ pub operand-at-spec : {M : Type 1} → statement M
 operand-at-spec =
     tie.close
     (tie.spec
-    unknown-requires
+    (λ c κs. search needs)
     returns
-    read-requires
-    enum-known-a
-    constant-requires
-    number-of-requires
-    enum-known-variable
-    attribute-of-requires
-    enum-known-variable-2
-    aggregate-of-requires
-    unknown-requires-2
+    (λ c κs. search needs)
+    (λ c. search needs)
+    (λ c κs. search needs)
+    (λ c κs. search needs)
+    (λ c. search needs)
+    (λ c κs. search needs)
+    (λ c. search needs)
+    (λ c κs. search needs)
+    (λ c κs. search needs)
     returns-2
     returns-3
     returns-4

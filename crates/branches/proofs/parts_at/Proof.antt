@@ -5,53 +5,20 @@ use native.Mathlib.Omega.{arith}
 use denote.Ref.{now}
 use Rattle.branches.proofs.Joining.{no-parts, parted}
 
-parts-of-requires : tie.Need-parts-of-requires
-parts-of-requires c κs = search needs
-
 returns : tie.Need-returns
 returns c =
     let c₄ = c .before .before .before .before in let args = c₄ .args in
     no-parts (c .parts-of .result) (args .room) (args .level) (args .place) (now (args .q)) (now (args .z)) (c .parts-of .ensures)
-
-tail-requires : tie.Need-tail-requires
-tail-requires c κs = search needs
-
-kind-at-requires : tie.Need-kind-at-requires
-kind-at-requires c κs = search needs
-
-parts-of-requires-2 : tie.Need-parts-of-requires-2
-parts-of-requires-2 c κs = search needs
 
 returns-2 : tie.Need-returns-2
 returns-2 c =
     let c₇ = c .before .before .before .before .before .before .before in let args = c₇ .args in
     no-parts (c .parts-of2 .result) (args .room) (args .level) (args .place) (now (args .q)) (now (args .z)) (c .parts-of2 .ensures)
 
-byte-requires : tie.Need-byte-requires
-byte-requires c κs = search needs
-
-record-length-requires : tie.Need-record-length-requires
-record-length-requires c κs = search needs
-
-add-first : tie.Need-add-first
-add-first c = search needs
-
-size-at-requires : tie.Need-size-at-requires
-size-at-requires c κs = search needs
-
-add-second : tie.Need-add-second
-add-second c = search needs
-
-parts-of-requires-3 : tie.Need-parts-of-requires-3
-parts-of-requires-3 c κs = search needs
-
 returns-3 : tie.Need-returns-3
 returns-3 c =
     let c₁₁ = c .before .before .before .before .before .before .before .before .before .before .before in let args = c₁₁ .args in
     no-parts (c .parts-of3 .result) (args .room) (args .level) (args .place) (now (args .q)) (now (args .z)) (c .parts-of3 .ensures)
-
-parts-of-requires-4 : tie.Need-parts-of-requires-4
-parts-of-requires-4 c κs = search needs
 
 returns-4 : tie.Need-returns-4
 returns-4 c =
@@ -64,16 +31,10 @@ returns-4 c =
     let c₁₂ = c₉ .before .before .before in let args = c₁₂ .args in
     parted (c .parts-of4 .result) (args .room) (args .level) (args .place) (now (args .q)) (now (args .z)) _ (kind-at .result) (byte .result) (record-length .result) (size-at .result) (if1 .left) (tail .ensures) (kind-at .ensures) (byte .ensures) (record-length .ensures .0) (size-at .ensures .0) (c .before .before .if3 .left) (c .parts-of4 .ensures) (λ g. absurd (omega (arith, g, c .before .if4 .taken)))
 
-parts-of-requires-5 : tie.Need-parts-of-requires-5
-parts-of-requires-5 c κs = search needs
-
 returns-5 : tie.Need-returns-5
 returns-5 c =
     let c₁₃ = c .before .before .before .before .before .before .before .before .before .before .before .before .before in let args = c₁₃ .args in
     no-parts (c .parts-of5 .result) (args .room) (args .level) (args .place) (now (args .q)) (now (args .z)) (c .parts-of5 .ensures)
-
-parts-of-requires-6 : tie.Need-parts-of-requires-6
-parts-of-requires-6 c κs = search needs
 
 returns-6 : tie.Need-returns-6
 returns-6 c =
@@ -91,22 +52,22 @@ pub parts-at-spec : {M : Type 1} → statement M
 parts-at-spec =
     tie.close
     (tie.spec
-    parts-of-requires
+    (λ c κs. search needs)
     returns
-    tail-requires
-    kind-at-requires
-    parts-of-requires-2
+    (λ c κs. search needs)
+    (λ c κs. search needs)
+    (λ c κs. search needs)
     returns-2
-    byte-requires
-    record-length-requires
-    add-first
-    size-at-requires
-    add-second
-    parts-of-requires-3
+    (λ c κs. search needs)
+    (λ c κs. search needs)
+    (λ c. search needs)
+    (λ c κs. search needs)
+    (λ c. search needs)
+    (λ c κs. search needs)
     returns-3
-    parts-of-requires-4
+    (λ c κs. search needs)
     returns-4
-    parts-of-requires-5
+    (λ c κs. search needs)
     returns-5
-    parts-of-requires-6
+    (λ c κs. search needs)
     returns-6)

@@ -7,12 +7,6 @@ use borrow.Author.Needs.{needs}
 use Rattle.branches.proofs.recalled.Statement.{statement}
 use Rattle.branches.proofs.recalled.Tie as tie
 
-knows-requires : tie.Need-knows-requires
-knows-requires c κs = search needs
-
-whole-requires : tie.Need-whole-requires
-whole-requires c κs = search needs
-
 returns : tie.Need-returns
 returns c =
     let args = c .before .before .before .args in
@@ -35,4 +29,4 @@ returns-2 c =
 
 pub recalled-spec : {M : Type 1} → statement M
 recalled-spec =
-    tie.close (tie.spec knows-requires whole-requires returns recall-requires returns-2)
+    tie.close (tie.spec (λ c κs. search needs) (λ c κs. search needs) returns recall-requires returns-2)

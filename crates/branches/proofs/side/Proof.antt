@@ -8,27 +8,6 @@ use borrow.Author.Needs.{needs}
 use Rattle.branches.proofs.side.Statement.{statement}
 use Rattle.branches.proofs.side.Tie as tie
 
-size-at-requires : tie.Need-size-at-requires
-size-at-requires c κs = search needs
-
-mul-row : tie.Need-mul-row
-mul-row c = search needs
-
-shared-slice-read-row : tie.Need-shared-slice-read-row
-shared-slice-read-row c = search needs
-
-add-size-at : tie.Need-add-size-at
-add-size-at c = search needs
-
-size-at-requires-2 : tie.Need-size-at-requires-2
-size-at-requires-2 c κs = search needs
-
-value-requires : tie.Need-value-requires
-value-requires c κs = search needs
-
-whole-requires : tie.Need-whole-requires
-whole-requires c κs = search needs
-
 returns : tie.Need-returns
 returns c =
     let args = c .before .before .before .before .before .before .before .before .args in
@@ -39,12 +18,6 @@ returns c =
     let value = c .before .value in
     (side-attribute (now (args .t)) (now (args .env)) (now (args .xs)) (now (args .values)) (now (args .memo)) (args .i) (args .j) (size-at .result) (c .whole .result) (size-at .ensures .0) (getD (now (args .env)) (size-at .result) 0) (size-at2 .result) _ (if1 .taken) (pre .0) refl (size-at2 .ensures .0) (toZ-ofZ {w = w32} (record { sfits = value .ok }) ∙ value .ensures) (c .whole .ensures .0), c .whole .ensures .1)
 
-byte-of-requires : tie.Need-byte-of-requires
-byte-of-requires c κs = search needs
-
-recalled-requires : tie.Need-recalled-requires
-recalled-requires c κs = search needs
-
 returns-2 : tie.Need-returns-2
 returns-2 c =
     let args = c .before .before .before .before .before .before .before .args in
@@ -53,12 +26,6 @@ returns-2 c =
     let if2 = c .before .before .if2 in
     let byte-of = c .before .byte-of in
     (side-memo (now (args .t)) (now (args .env)) (now (args .xs)) (now (args .values)) (now (args .memo)) (args .i) (args .j) (size-at .result) (c .recalled .result) (size-at .ensures .0) (byte-of .result) (if1 .left) (if2 .taken) (byte-of .ensures) (c .recalled .ensures .0), c .recalled .ensures .1)
-
-number-requires : tie.Need-number-requires
-number-requires c κs = search needs
-
-whole-requires-2 : tie.Need-whole-requires-2
-whole-requires-2 c κs = search needs
 
 returns-3 : tie.Need-returns-3
 returns-3 c =
@@ -73,17 +40,17 @@ pub side-spec : {M : Type 1} → statement M
 side-spec =
     tie.close
     (tie.spec
-    size-at-requires
-    mul-row
-    shared-slice-read-row
-    add-size-at
-    size-at-requires-2
-    value-requires
-    whole-requires
+    (λ c κs. search needs)
+    (λ c. search needs)
+    (λ c. search needs)
+    (λ c. search needs)
+    (λ c κs. search needs)
+    (λ c κs. search needs)
+    (λ c κs. search needs)
     returns
-    byte-of-requires
-    recalled-requires
+    (λ c κs. search needs)
+    (λ c κs. search needs)
     returns-2
-    number-requires
-    whole-requires-2
+    (λ c κs. search needs)
+    (λ c κs. search needs)
     returns-3)

@@ -7,27 +7,6 @@ use borrow.Author.Needs.{needs}
 use Rattle.branches.proofs.single.Statement.{statement}
 use Rattle.branches.proofs.single.Tie as tie
 
-tail-requires : tie.Need-tail-requires
-tail-requires c κs = search needs
-
-tail-sizes-requires : tie.Need-tail-sizes-requires
-tail-sizes-requires c κs = search needs
-
-comparison-at-requires : tie.Need-comparison-at-requires
-comparison-at-requires c κs = search needs
-
-narrow-requires : tie.Need-narrow-requires
-narrow-requires c κs = search needs
-
-narrow-requires-2 : tie.Need-narrow-requires-2
-narrow-requires-2 c κs = search needs
-
-write-requires : tie.Need-write-requires
-write-requires c κs = search needs
-
-same-length : tie.Need-same-length
-same-length c = search needs
-
 returns : tie.Need-returns
 returns c =
     let args = c .before .before .before .before .before .before .before .before .before .before .before .before .before .args in
@@ -36,21 +15,6 @@ returns c =
     let narrow2 = c .before .before .before .narrow2 in
     let write = c .before .before .write in
     placed (args .k) (args .met) (args .unmet) (now (args .t)) (write .last .0) (now (args .xs)) (now (args .q)) (now (args .z)) (now (args .memo)) (args .place) (args .level) _ _ (narrow .ensures) (narrow2 .ensures) (write .ensures) (pre .0) (pre .2) (pre .4) (pre .5)
-
-from-byte-requires : tie.Need-from-byte-requires
-from-byte-requires c κs = search needs
-
-write-requires-2 : tie.Need-write-requires-2
-write-requires-2 c κs = search needs
-
-write-numbers-requires : tie.Need-write-numbers-requires
-write-numbers-requires c κs = search needs
-
-same-length-2 : tie.Need-same-length-2
-same-length-2 c = search needs
-
-same-length-3 : tie.Need-same-length-3
-same-length-3 c = search needs
 
 returns-2 : tie.Need-returns-2
 returns-2 c =
@@ -71,17 +35,17 @@ pub single-spec : {M : Type 1} → statement M
 single-spec =
     tie.close
     (tie.spec
-    tail-requires
-    tail-sizes-requires
-    comparison-at-requires
-    narrow-requires
-    narrow-requires-2
-    write-requires
-    same-length
+    (λ c κs. search needs)
+    (λ c κs. search needs)
+    (λ c κs. search needs)
+    (λ c κs. search needs)
+    (λ c κs. search needs)
+    (λ c κs. search needs)
+    (λ c. search needs)
     returns
-    from-byte-requires
-    write-requires-2
-    write-numbers-requires
-    same-length-2
-    same-length-3
+    (λ c κs. search needs)
+    (λ c κs. search needs)
+    (λ c κs. search needs)
+    (λ c. search needs)
+    (λ c. search needs)
     returns-2)

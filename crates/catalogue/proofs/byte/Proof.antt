@@ -6,12 +6,6 @@ use borrow.Author.Needs.{needs}
 use Rattle.catalogue.proofs.byte.Statement.{statement}
 use Rattle.catalogue.proofs.byte.Tie as tie
 
-shared-slice-read-wide : tie.Need-shared-slice-read-wide
-shared-slice-read-wide c = search needs
-
-wide-requires : tie.Need-wide-requires
-wide-requires c κs = search needs
-
 returns : tie.Need-returns
 returns c = (c .wide .ensures, omega (arith, c .wide .ensures, c .before .before .before .shared-slice-known .given (c .before .before .before .before .args .i)))
 
@@ -19,4 +13,4 @@ returns-2 : tie.Need-returns-2
 returns-2 c = (sym (List·getD-eq-default (now (c .before .before .args .bytes)) 0 (c .if1 .left)), omega arith)
 
 pub byte-spec : {M : Type 1} → statement M
-byte-spec = tie.close (tie.spec shared-slice-read-wide wide-requires returns returns-2)
+byte-spec = tie.close (tie.spec (λ c. search needs) (λ c κs. search needs) returns returns-2)

@@ -13,14 +13,8 @@ use Rattle.catalogue.proofs.cell.Lts as lts
 use Rattle.catalogue.proofs.value.Reads as value-reads
 use Rattle.catalogue.proofs.wide.Reads as wide-reads
 
-wide-requires : tie.Need-wide-requires
-wide-requires c κs = search needs
-
-value-requires : tie.Need-value-requires
-value-requires c κs = search needs
-
 returns : tie.Need-returns
 returns c = toZ-ofZ {w = w32} (record { sfits = c .value .ok }) ∙ c .value .ensures ∙ ap (λ (k : ℕ). getD (now (c .before .before .args .values)) ((c .before .before .args .row) + k) (pos 0)) (c .before .wide .ensures)
 
 pub cell-spec : {M : Type 1} → statement M
-cell-spec = tie.close (tie.spec wide-requires value-requires returns)
+cell-spec = tie.close (tie.spec (λ c κs. search needs) (λ c κs. search needs) returns)

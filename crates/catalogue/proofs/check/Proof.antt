@@ -6,14 +6,8 @@ use borrow.Author.Needs.{needs}
 use Rattle.catalogue.proofs.check.Statement.{statement}
 use Rattle.catalogue.proofs.check.Tie as tie
 
-fails-10-requires : tie.Need-fails-10-requires
-fails-10-requires c κs = search needs
-
 returns : tie.Need-returns
 returns c = sym (check-10 (now (c .before .before .before .args .catalogue)) (now (c .before .before .before .args .values)) (sym (c .before .fails-10 .ensures) ∙ c .if1 .taken))
-
-total-requires : tie.Need-total-requires
-total-requires c κs = search needs
 
 returns-2 : tie.Need-returns-2
 returns-2 c =
@@ -32,4 +26,4 @@ returns-3 c =
     sym (check-none (now (args .catalogue)) (now (args .values)) (sym (fails-10 .ensures) ∙ if1 .left) (omega (arith, total .ensures)))
 
 pub check-spec : {M : Type 1} → statement M
-check-spec = tie.close (tie.spec fails-10-requires returns total-requires returns-2 returns-3)
+check-spec = tie.close (tie.spec (λ c κs. search needs) returns (λ c κs. search needs) returns-2 returns-3)

@@ -35,9 +35,6 @@ module _ (c : List ℕ) (r : ℕ) where
   rows-decide : 48 ≤ kindOf c r → kindOf c r ≤ 50 → 1 ≤ attributesOf c r → attributesOf c r ≤ 16 → leb (rowsOf c r) 1024 ≡ knownOf c r
   rows-decide l h k m = sym (rw (kinds l h, le-leb 1 (attributesOf c r) k, le-leb (attributesOf c r) 16 m))
 
-kind-requires : tie.Need-kind-requires
-kind-requires c κs = search needs
-
 returns : tie.Need-returns
 returns c = below-kinds (now (c .before .before .before .args .catalogue)) (c .before .before .before .args .relation) (omega (arith, c .before .kind .ensures))
 
@@ -46,9 +43,6 @@ returns-2 c =
     let args = c .before .before .before .before .args in
     let kind = c .before .before .kind in
     above-kinds (now (args .catalogue)) (args .relation) (omega (arith, kind .ensures))
-
-attributes-requires : tie.Need-attributes-requires
-attributes-requires c κs = search needs
 
 returns-3 : tie.Need-returns-3
 returns-3 c =
@@ -70,9 +64,6 @@ returns-4 c =
     let attributes = attributes in
     many-attributes (now (args .catalogue)) (args .relation) (omega (arith, kind .ensures, attributes .ensures .0)) (omega (arith, kind .ensures, attributes .ensures .0)) (omega (arith, kind .ensures, attributes .ensures .0)) (omega (arith, kind .ensures, attributes .ensures .0))
 
-rows-requires : tie.Need-rows-requires
-rows-requires c κs = search needs
-
 returns-5 : tie.Need-returns-5
 returns-5 c =
     let args = c .before .before .before .before .before .before .before .before .args in
@@ -87,11 +78,11 @@ pub known-spec : {M : Type 1} → statement M
 known-spec =
     tie.close
     (tie.spec
-    kind-requires
+    (λ c κs. search needs)
     returns
     returns-2
-    attributes-requires
+    (λ c κs. search needs)
     returns-3
     returns-4
-    rows-requires
+    (λ c κs. search needs)
     returns-5)

@@ -5,11 +5,8 @@ use borrow.Author.Needs.{needs}
 use Rattle.catalogue.proofs.latest.Statement.{statement}
 use Rattle.catalogue.proofs.latest.Tie as tie
 
-kind-requires : tie.Need-kind-requires
-kind-requires c κs = search needs
-
 returns : tie.Need-returns
 returns c = ap (λ (k : ℕ). eqb k 50) (c .kind .ensures)
 
 pub latest-spec : {M : Type 1} → statement M
-latest-spec = tie.close (tie.spec kind-requires returns)
+latest-spec = tie.close (tie.spec (λ c κs. search needs) returns)

@@ -6,11 +6,8 @@ use borrow.Author.Needs.{needs}
 use Rattle.catalogue.proofs.stored.Statement.{statement}
 use Rattle.catalogue.proofs.stored.Tie as tie
 
-kind-requires : tie.Need-kind-requires
-kind-requires c κs = search needs
-
 returns : tie.Need-returns
 returns c = ap (λ (k : ℕ). not (eqb k 49)) (c .kind .ensures)
 
 pub stored-spec : {M : Type 1} → statement M
-stored-spec = tie.close (tie.spec kind-requires returns)
+stored-spec = tie.close (tie.spec (λ c κs. search needs) returns)

@@ -15,24 +15,6 @@ use Rattle.catalogue.proofs.value.Tie as tie
 in-part : (vs : List ℤ) (row i : ℕ) → getD (take (length vs - row) (drop row vs)) i (pos 0) ≡ getD vs (row + i) (pos 0)
 in-part vs row i = ap (λ (l : List ℤ). getD l i (pos 0)) (take-all (length vs - row) (drop row vs) (simp length-drop (omega arith))) ∙ getD-drop row vs i (pos 0)
 
-mul-part : tie.Need-mul-part
-mul-part c = search needs
-
-sub-part : tie.Need-sub-part
-sub-part c = search needs
-
-part-part-start : tie.Need-part-part-start
-part-part-start c = search needs
-
-part-part-end : tie.Need-part-part-end
-part-part-end c = search needs
-
-mul-result : tie.Need-mul-result
-mul-result c = search needs
-
-shared-slice-copy-out-result : tie.Need-shared-slice-copy-out-result
-shared-slice-copy-out-result c = search needs
-
 returns : tie.Need-returns
 returns c = let args = c .before .before .before .before .args in toZ-ofZ {w = w32} (record { sfits = c .result .given }) ∙ in-part (now (args .values)) (args .row) (args .i)
 
@@ -48,12 +30,12 @@ pub value-spec : {M : Type 1} → statement M
 value-spec =
     tie.close
     (tie.spec
-    mul-part
-    sub-part
-    part-part-start
-    part-part-end
-    mul-result
-    shared-slice-copy-out-result
+    (λ c. search needs)
+    (λ c. search needs)
+    (λ c. search needs)
+    (λ c. search needs)
+    (λ c. search needs)
+    (λ c. search needs)
     returns
     returns-2
     returns-3)

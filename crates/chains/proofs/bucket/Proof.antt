@@ -11,13 +11,8 @@ use Rattle.chains.proofs.bucket.Reads as reads
 use Rattle.chains.proofs.bucket.Lts as lts
 use Rattle.rows.proofs.mix.Reads as mix-reads
 
--- src/lib.rt:15:5
-mix-requires : tie.Need-mix-requires
-mix-requires c κs = search needs
-
--- src/lib.rt:11:1
 returns : tie.Need-returns
 returns c = is-bucket (c .before .args .x) _ (c .mix .ensures .0 ∙ ap (λ (z : ℤ). mixed 0 z) (toZ-ofZ {w = w64} (c .before .fits .x)))
 
 pub bucket-spec : {M : Type 1} → statement M
-bucket-spec = tie.close (tie.spec mix-requires returns)
+bucket-spec = tie.close (tie.spec (λ c κs. search needs) returns)

@@ -24,83 +24,63 @@ Inv-loop values walks walk attribute chains₀ at nexts i₀ chains i = (i ≤ w
 abbrev μ-loop : tie.MeasureT-loop
 μ-loop values walks walk attribute chains₀ at nexts i₀ chains i = i
 
--- src/lib.rt:52:17
 add-nexts : tie.Need-add-nexts Inv-loop μ-loop
 add-nexts c = search needs
 
--- src/lib.rt:54:5
 loop-holds : tie.Need-loop-holds Inv-loop μ-loop
 loop-holds c = (omega arith, refl, linked-none _ _ _ _ (c .before .before .pre .2), λ j o. refl)
 
--- src/lib.rt:55:65
 sub-key : tie.Need-sub-key Inv-loop μ-loop
 sub-key c = search needs
 
--- src/lib.rt:55:29
 key-requires : tie.Need-key-requires Inv-loop μ-loop
 key-requires c κs = search needs
 
--- src/lib.rt:55:22
 bucket-requires : tie.Need-bucket-requires Inv-loop μ-loop
 bucket-requires c κs = search needs
 
--- src/lib.rt:55:17
 add-h : tie.Need-add-h Inv-loop μ-loop
 add-h c = search needs
 
--- src/lib.rt:56:20
 mul-link : tie.Need-mul-link Inv-loop μ-loop
 mul-link c = search needs
 
--- src/lib.rt:56:20
 slice-read-link : tie.Need-slice-read-link Inv-loop μ-loop
 slice-read-link c = search needs
 
--- src/lib.rt:57:25
 sub-chains : tie.Need-sub-chains Inv-loop μ-loop
 sub-chains c = search needs
 
--- src/lib.rt:57:16
 add-chains : tie.Need-add-chains Inv-loop μ-loop
 add-chains c = search needs
 
--- src/lib.rt:57:9
 mul-chains : tie.Need-mul-chains Inv-loop μ-loop
 mul-chains c = search needs
 
--- src/lib.rt:57:9
 slice-write-chains : tie.Need-slice-write-chains Inv-loop μ-loop
 slice-write-chains c = search needs
 
--- src/lib.rt:58:21
 narrow-requires : tie.Need-narrow-requires Inv-loop μ-loop
 narrow-requires c κs = search needs
 
--- src/lib.rt:58:9
 mul-chains-2 : tie.Need-mul-chains-2 Inv-loop μ-loop
 mul-chains-2 c = search needs
 
--- src/lib.rt:58:9
 slice-write-chains-2 : tie.Need-slice-write-chains-2 Inv-loop μ-loop
 slice-write-chains-2 c = omega (arith, c .before .before .bucket .ensures .1, c .before .before .before .before .before .loop .inv .1, c .before .before .before .before .before .before .before .before .pre .1, c .before .before .before .before .before .loop .inv .0, length-set (c .before .before .before .before .before .loop .chains) ((c .before .before .before .before .before .before .before .before .args .at) + 1024 + (c .before .before .before .before .before .loop .i - 1)) (getD (c .before .before .before .before .before .loop .chains) ((c .before .before .before .before .before .before .before .before .args .at) + c .before .before .bucket .result) 0))
 
--- src/lib.rt:59:9
 sub-i : tie.Need-sub-i Inv-loop μ-loop
 sub-i c = search needs
 
--- src/lib.rt:54:5
 loop-less : tie.Need-loop-less Inv-loop μ-loop
 loop-less c = search needs
 
--- src/lib.rt:54:5
 loop-again : tie.Need-loop-again Inv-loop μ-loop
 loop-again c = (omega arith, lengths ((c .before .before .before .before .before .before .before .before .args .at) + 1024 + (c .before .before .before .before .before .loop .i - 1)) ((c .before .before .before .before .before .before .before .before .args .at) + c .before .before .bucket .result) (getD (c .before .before .before .before .before .loop .chains) ((c .before .before .before .before .before .before .before .before .args .at) + c .before .before .bucket .result) 0) (c .narrow .result) _ (c .before .before .before .before .before .loop .chains) (c .before .before .before .before .before .loop .inv .1), linked-turn (C.bucketAt (now (c .before .before .before .before .before .before .before .before .args .values)) (now (c .before .before .before .before .before .before .before .before .args .walks)) (c .before .before .before .before .before .before .before .before .args .walk) (c .before .before .before .before .before .before .before .before .args .attribute)) (c .before .before .before .before .before .loop .i) _ (c .before .before .before .before .before .before .before .before .args .at) _ _ _ _ (c .before .before .before .before .loop-test .taken) (c .before .before .before .before .before .loop .inv .0) (ap (λ (m : ℕ). (c .before .before .before .before .before .before .before .before .args .at) + m) (c .before .before .bucket .ensures .0 ∙ ap C.bucketOf (toZ-ofZ {w = w64} (record { sfits = c .before .before .before .key .ok }) ∙ c .before .before .before .key .ensures))) (bucket-low (C.keyAt (now (c .before .before .before .before .before .before .before .before .args .values)) (now (c .before .before .before .before .before .before .before .before .args .walks)) (c .before .before .before .before .before .before .before .before .args .walk) (c .before .before .before .before .before .before .before .before .args .attribute) (c .before .before .before .before .before .loop .i - 1))) refl (c .narrow .ensures) (omega (arith, c .before .before .before .before .before .loop .inv .1, c .before .before .before .before .before .before .before .before .pre .1)) (c .before .before .before .before .before .loop .inv .2), λ j o. outside-turn (c .before .before .before .before .before .loop .i) _ (c .before .before .before .before .before .before .before .before .args .at) ((c .before .before .before .before .before .before .before .before .args .at) + c .before .before .bucket .result) (getD (c .before .before .before .before .before .loop .chains) ((c .before .before .before .before .before .before .before .before .args .at) + c .before .before .bucket .result) 0) (c .narrow .result) (c .before .before .before .before .before .loop .chains) (c .before .before .before .before .loop-test .taken) (c .before .before .before .before .before .loop .inv .0) (omega arith) (omega (arith, c .before .before .bucket .ensures .1)) j o ∙ c .before .before .before .before .before .loop .inv .3 j o)
 
--- src/lib.rt:40:1
 same-length : tie.Need-same-length Inv-loop μ-loop
 same-length c = search needs
 
--- src/lib.rt:40:1
 returns : tie.Need-returns Inv-loop μ-loop
 returns c = (linked-all _ _ _ _ _ (omega arith) (c .before .loop .inv .2), c .before .loop .inv .3)
 

@@ -17,25 +17,11 @@ use Rattle.chains.proofs.here.Lts as lts
 use Rattle.chains.proofs.equal.Reads as equal-reads
 use Rattle.chains.proofs.key.Reads as key-reads
 
--- src/lib.rt:203:9
 returns : tie.Need-returns
 returns c = ((λ e. clash e), (λ e l h. omega (arith, c .if1 .taken)))
 
--- src/lib.rt:205:47
-sub-key : tie.Need-sub-key
-sub-key c = search needs
-
--- src/lib.rt:205:11
-key-requires : tie.Need-key-requires
-key-requires c κs = search needs
-
--- src/lib.rt:205:5
-equal-requires : tie.Need-equal-requires
-equal-requires c κs = search needs
-
--- src/lib.rt:190:1
 returns-2 : tie.Need-returns-2
-returns-2 c = ((λ e. omega (arith, c .before .before .if1 .left)), (λ e l h. clash (sym (sym h ∙ ap (λ (z : ℤ). C.same ((C.keyAt (now (c .before .before .before .before .args .values)) (now (c .before .before .before .before .args .walks)) (c .before .before .before .before .args .walk) (c .before .before .before .before .args .attribute)) ((c .before .before .before .before .args .link) - 1)) z) (sym (toZ-ofZ {w = w64} (c .before .before .before .before .fits .x))) ∙ ap (λ (z : ℤ). C.same z (toZ w64 (ofZ w64 (c .before .before .before .before .args .x)))) (sym (toZ-ofZ {w = w64} (record { sfits = c .before .key .ok }) ∙ c .before .key .ensures)) ∙ sym (c .equal .ensures) ∙ e))))
+returns-2 c = ((λ e. (omega (arith, c .before .before .if1 .left), ap (λ (z : ℤ). C.same ((C.keyAt (now (c .before .before .before .before .args .values)) (now (c .before .before .before .before .args .walks)) (c .before .before .before .before .args .walk) (c .before .before .before .before .args .attribute)) ((c .before .before .before .before .args .link) - 1)) z) (sym (toZ-ofZ {w = w64} (c .before .before .before .before .fits .x))) ∙ ap (λ (z : ℤ). C.same z (toZ w64 (ofZ w64 (c .before .before .before .before .args .x)))) (sym (toZ-ofZ {w = w64} (record { sfits = c .before .key .ok }) ∙ c .before .key .ensures)) ∙ sym (c .equal .ensures) ∙ e)), (λ e l h. clash (sym (sym h ∙ ap (λ (z : ℤ). C.same ((C.keyAt (now (c .before .before .before .before .args .values)) (now (c .before .before .before .before .args .walks)) (c .before .before .before .before .args .walk) (c .before .before .before .before .args .attribute)) ((c .before .before .before .before .args .link) - 1)) z) (sym (toZ-ofZ {w = w64} (c .before .before .before .before .fits .x))) ∙ ap (λ (z : ℤ). C.same z (toZ w64 (ofZ w64 (c .before .before .before .before .args .x)))) (sym (toZ-ofZ {w = w64} (record { sfits = c .before .key .ok }) ∙ c .before .key .ensures)) ∙ sym (c .equal .ensures) ∙ e))))
 
 pub here-spec : {M : Type 1} → statement M
-here-spec = tie.close (tie.spec returns sub-key key-requires equal-requires returns-2)
+here-spec = tie.close (tie.spec returns (λ c. search needs) (λ c κs. search needs) (λ c κs. search needs) returns-2)

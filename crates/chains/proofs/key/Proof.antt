@@ -16,21 +16,8 @@ use Rattle.catalogue.proofs.value.Reads as value-reads
 use Rattle.numbers.proofs.wide.Reads as wide-reads
 use Rattle.walks.proofs.place.Reads as place-reads
 
--- src/lib.rt:29:44
-place-requires : tie.Need-place-requires
-place-requires c κs = search needs
-
--- src/lib.rt:29:19
-value-requires : tie.Need-value-requires
-value-requires c κs = search needs
-
--- src/lib.rt:29:5
-wide-requires : tie.Need-wide-requires
-wide-requires c κs = search needs
-
--- src/lib.rt:25:1
 returns : tie.Need-returns
 returns c = let e : c .before .before .place .result ≡ placeAt (now (c .before .before .before .before .args .walks)) (c .before .before .before .before .args .walk) (c .before .before .before .before .args .i) = c .before .before .place .ensures in toZ-ofZ {w = w64} (record { sfits = c .wide .ok }) ∙ c .wide .ensures .0 ∙ toZ-ofZ {w = w32} (record { sfits = c .before .value .ok }) ∙ c .before .value .ensures ∙ ap (λ (n : ℕ). getD (now (c .before .before .before .before .args .values)) (n + (c .before .before .before .before .args .attribute)) (pos 0)) e
 
 pub key-spec : {M : Type 1} → statement M
-key-spec = tie.close (tie.spec place-requires value-requires wide-requires returns)
+key-spec = tie.close (tie.spec (λ c κs. search needs) (λ c κs. search needs) (λ c κs. search needs) returns)

@@ -24,47 +24,36 @@ Inv-loop values walks walk attribute x chains nexts link at₀ at = (at ≤ walk
 abbrev μ-loop : tie.MeasureT-loop
 μ-loop values walks walk attribute x chains nexts link at₀ at = C.left (walk .count) at
 
--- src/lib.rt:78:5
 loop-holds : tie.Need-loop-holds Inv-loop μ-loop
 loop-holds c = (c .before .before .pre .2, λ from f. passed-start (C.keyAt (now (c .before .before .args .values)) (now (c .before .before .args .walks)) (c .before .before .args .walk) (c .before .before .args .attribute)) (toZ w64 (ofZ w64 (c .before .before .args .x))) from _ _ f)
 
--- src/lib.rt:79:54
 sub-key : tie.Need-sub-key Inv-loop μ-loop
 sub-key c = search needs
 
--- src/lib.rt:79:18
 key-requires : tie.Need-key-requires Inv-loop μ-loop
 key-requires c κs = search needs
 
--- src/lib.rt:79:12
 equal-requires : tie.Need-equal-requires Inv-loop μ-loop
 equal-requires c κs = search needs
 
--- src/lib.rt:80:13
 returns : tie.Need-returns Inv-loop μ-loop
 returns c = turned (C.keyAt (now (c .before .before .before .before .before .before .before .args .values)) (now (c .before .before .before .before .before .before .before .args .walks)) (c .before .before .before .before .before .before .before .args .walk) (c .before .before .before .before .before .before .before .args .attribute)) (c .before .before .before .before .before .before .before .args .x) (toZ w64 (ofZ w64 (c .before .before .before .before .before .before .before .args .x))) (toZ-ofZ {w = w64} (c .before .before .before .before .before .before .before .fits .x)) _ _ _ (λ from f. passed-here (C.keyAt (now (c .before .before .before .before .before .before .before .args .values)) (now (c .before .before .before .before .before .before .before .args .walks)) (c .before .before .before .before .before .before .before .args .walk) (c .before .before .before .before .before .before .before .args .attribute)) (toZ w64 (ofZ w64 (c .before .before .before .before .before .before .before .args .x))) from _ (c .before .before .before .before .loop .at) _ _ (c .before .before .before .before .loop .inv .1 from f) (c .before .before .before .loop-test .taken) (c .before .before .before .before .loop .inv .0) (toZ-ofZ {w = w64} (record { sfits = c .before .before .key .ok }) ∙ c .before .before .key .ensures) (c .before .equal .ensures) (c .if1 .taken))
 
--- src/lib.rt:82:46
 sub-size-at : tie.Need-sub-size-at Inv-loop μ-loop
 sub-size-at c = search needs
 
--- src/lib.rt:82:37
 add-size-at : tie.Need-add-size-at Inv-loop μ-loop
 add-size-at c = search needs
 
--- src/lib.rt:82:9
 size-at-requires : tie.Need-size-at-requires Inv-loop μ-loop
 size-at-requires c κs = search needs
 
--- src/lib.rt:78:5
 loop-less : tie.Need-loop-less Inv-loop μ-loop
 loop-less c = let f = (c .before .before .before .before .before .before .before .before .pre .3 (c .before .before .before .before .before .loop .at - 1) (omega (arith, c .before .before .before .before .loop-test .taken, c .before .before .before .before .before .loop .inv .0))) in let e = c .size-at .ensures .0 in left-less _ (c .before .before .before .before .before .loop .at) _ (c .before .before .before .before .loop-test .taken) (c .before .before .before .before .before .loop .inv .0) (omega (arith, e, f .high)) (λ h. omega (arith, e, f .low (omega (arith, e))))
 
--- src/lib.rt:78:5
 loop-again : tie.Need-loop-again Inv-loop μ-loop
 loop-again c = let f = (c .before .before .before .before .before .before .before .before .pre .3 (c .before .before .before .before .before .loop .at - 1) (omega (arith, c .before .before .before .before .loop-test .taken, c .before .before .before .before .before .loop .inv .0))) in let e = c .size-at .ensures .0 in (omega (arith, e, f .high), λ from g. passed-step (C.keyAt (now (c .before .before .before .before .before .before .before .before .args .values)) (now (c .before .before .before .before .before .before .before .before .args .walks)) (c .before .before .before .before .before .before .before .before .args .walk) (c .before .before .before .before .before .before .before .before .args .attribute)) (toZ w64 (ofZ w64 (c .before .before .before .before .before .before .before .before .args .x))) from _ (c .before .before .before .before .before .loop .at - 1) (c .before .before .before .before .before .loop .at) _ _ _ (omega (arith, c .before .before .before .before .loop-test .taken)) (c .before .before .before .before .before .loop .inv .1 from g) (toZ-ofZ {w = w64} (record { sfits = c .before .before .before .key .ok }) ∙ c .before .before .before .key .ensures) (c .before .before .equal .ensures) (c .before .if1 .left) (rw e f))
 
--- src/lib.rt:64:1
 returns-2 : tie.Need-returns-2 Inv-loop μ-loop
 returns-2 c = turned (C.keyAt (now (c .before .before .before .before .args .values)) (now (c .before .before .before .before .args .walks)) (c .before .before .before .before .args .walk) (c .before .before .before .before .args .attribute)) (c .before .before .before .before .args .x) (toZ w64 (ofZ w64 (c .before .before .before .before .args .x))) (toZ-ofZ {w = w64} (c .before .before .before .before .fits .x)) _ _ _ (λ from f. passed-none (C.keyAt (now (c .before .before .before .before .args .values)) (now (c .before .before .before .before .args .walks)) (c .before .before .before .before .args .walk) (c .before .before .before .before .args .attribute)) (toZ w64 (ofZ w64 (c .before .before .before .before .args .x))) from _ (c .before .loop .at) (c .before .loop .inv .1 from f) (omega (arith, c .loop-test .left)))
 

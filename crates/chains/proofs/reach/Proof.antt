@@ -9,7 +9,7 @@ use mir.Facts.{toZ-ofZ}
 use Rattle.chains.specs.Chains as C
 use mathlib.Core.Bool.{true}
 use borrow.Author.Needs.{needs}
-use Rattle.chains.proofs.Steps.{passing-step, passing-here, without}
+use Rattle.chains.proofs.Steps.{passing-step, passing-here, passing-has, without, with-value}
 use Rattle.chains.proofs.reach.Statement.{statement}
 use Rattle.chains.proofs.reach.Tie as tie
 use Rattle.chains.proofs.reach.Reads as reads
@@ -26,65 +26,50 @@ Inv-loop values walks walk attribute x chains at from to nexts link₀ left₀ l
 abbrev μ-loop : tie.MeasureT-loop
 μ-loop values walks walk attribute x chains at from to nexts link₀ left₀ link left = left
 
--- src/lib.rt:224:17
 add-nexts : tie.Need-add-nexts Inv-loop μ-loop
 add-nexts c = search needs
 
--- src/lib.rt:225:9
 enter-requires : tie.Need-enter-requires Inv-loop μ-loop
 enter-requires c κs = (c .before .before .pre .0, c .before .before .pre .1, omega (arith, c .before .before .pre .2, c .before .before .pre .3), c .before .before .pre .4)
 
--- src/lib.rt:227:5
 loop-holds : tie.Need-loop-holds Inv-loop μ-loop
 loop-holds c = c .enter .ensures
 
--- src/lib.rt:229:13
 returns : tie.Need-returns Inv-loop μ-loop
-returns c = ((c .before .before .before .before .before .before .pre .2, omega arith), without (C.keyAt (now (c .before .before .before .before .before .before .args .values)) (now (c .before .before .before .before .before .before .args .walks)) (c .before .before .before .before .before .before .args .walk) (c .before .before .before .before .before .before .args .attribute)) (c .before .before .before .before .before .before .args .x) (toZ w64 (ofZ w64 (c .before .before .before .before .before .before .args .x))) (toZ-ofZ {w = w64} (c .before .before .before .before .before .before .fits .x)) (c .before .before .before .before .before .before .args .from) _ (λ j a b. c .before .before .loop .inv .none (c .if1 .taken) j a (omega (arith, b, c .before .before .before .before .before .before .pre .3))))
+returns c = ((c .before .before .before .before .before .before .pre .2, omega arith), (without (C.keyAt (now (c .before .before .before .before .before .before .args .values)) (now (c .before .before .before .before .before .before .args .walks)) (c .before .before .before .before .before .before .args .walk) (c .before .before .before .before .before .before .args .attribute)) (c .before .before .before .before .before .before .args .x) (toZ w64 (ofZ w64 (c .before .before .before .before .before .before .args .x))) (toZ-ofZ {w = w64} (c .before .before .before .before .before .before .fits .x)) (c .before .before .before .before .before .before .args .from) _ (λ j a b. c .before .before .loop .inv .none (c .if1 .taken) j a (omega (arith, b, c .before .before .before .before .before .before .pre .3))), λ h. absurd (omega arith)))
 
--- src/lib.rt:231:12
 here-requires : tie.Need-here-requires Inv-loop μ-loop
 here-requires c κs = (c .before .before .before .before .before .before .pre .0, omega (arith, c .if1 .left), c .before .before .loop .inv .high)
 
--- src/lib.rt:232:13
 row-before-requires : tie.Need-row-before-requires Inv-loop μ-loop
 row-before-requires c κs = search needs
 
--- src/lib.rt:232:13
 returns-2 : tie.Need-returns-2 Inv-loop μ-loop
-returns-2 c = let h = passing-here (C.keyAt (now (c .before .before .before .before .before .before .before .before .before .args .values)) (now (c .before .before .before .before .before .before .before .before .before .args .walks)) (c .before .before .before .before .before .before .before .before .before .args .walk) (c .before .before .before .before .before .before .before .before .before .args .attribute)) (toZ w64 (ofZ w64 (c .before .before .before .before .before .before .before .before .before .args .x))) (c .before .before .before .before .before .before .before .before .before .args .from) _ (c .before .before .before .before .before .before .before .before .before .args .to) _ _ (c .before .before .before .before .before .loop .inv) (c .before .before .here .ensures .0 (c .before .if2 .taken)) (c .before .before .before .before .before .before .before .before .before .pre .2) (c .row-before .ensures) in (h .0, without (C.keyAt (now (c .before .before .before .before .before .before .before .before .before .args .values)) (now (c .before .before .before .before .before .before .before .before .before .args .walks)) (c .before .before .before .before .before .before .before .before .before .args .walk) (c .before .before .before .before .before .before .before .before .before .args .attribute)) (c .before .before .before .before .before .before .before .before .before .args .x) (toZ w64 (ofZ w64 (c .before .before .before .before .before .before .before .before .before .args .x))) (toZ-ofZ {w = w64} (c .before .before .before .before .before .before .before .before .before .fits .x)) (c .before .before .before .before .before .before .before .before .before .args .from) _ (h .1))
+returns-2 c = let h = passing-here (C.keyAt (now (c .before .before .before .before .before .before .before .before .before .args .values)) (now (c .before .before .before .before .before .before .before .before .before .args .walks)) (c .before .before .before .before .before .before .before .before .before .args .walk) (c .before .before .before .before .before .before .before .before .before .args .attribute)) (toZ w64 (ofZ w64 (c .before .before .before .before .before .before .before .before .before .args .x))) (c .before .before .before .before .before .before .before .before .before .args .from) _ (c .before .before .before .before .before .before .before .before .before .args .to) _ _ (c .before .before .before .before .before .loop .inv) (c .before .before .here .ensures .0 (c .before .if2 .taken) .0) (c .before .before .before .before .before .before .before .before .before .pre .2) (c .row-before .ensures) in (h .0, (without (C.keyAt (now (c .before .before .before .before .before .before .before .before .before .args .values)) (now (c .before .before .before .before .before .before .before .before .before .args .walks)) (c .before .before .before .before .before .before .before .before .before .args .walk) (c .before .before .before .before .before .before .before .before .before .args .attribute)) (c .before .before .before .before .before .before .before .before .before .args .x) (toZ w64 (ofZ w64 (c .before .before .before .before .before .before .before .before .before .args .x))) (toZ-ofZ {w = w64} (c .before .before .before .before .before .before .before .before .before .fits .x)) (c .before .before .before .before .before .before .before .before .before .args .from) _ (h .1), with-value (C.keyAt (now (c .before .before .before .before .before .before .before .before .before .args .values)) (now (c .before .before .before .before .before .before .before .before .before .args .walks)) (c .before .before .before .before .before .before .before .before .before .args .walk) (c .before .before .before .before .before .before .before .before .before .args .attribute)) (c .before .before .before .before .before .before .before .before .before .args .x) (toZ w64 (ofZ w64 (c .before .before .before .before .before .before .before .before .before .args .x))) (toZ-ofZ {w = w64} (c .before .before .before .before .before .before .before .before .before .fits .x)) _ (c .before .before .before .before .before .before .before .before .before .args .to) (passing-has (C.keyAt (now (c .before .before .before .before .before .before .before .before .before .args .values)) (now (c .before .before .before .before .before .before .before .before .before .args .walks)) (c .before .before .before .before .before .before .before .before .before .args .walk) (c .before .before .before .before .before .before .before .before .before .args .attribute)) (toZ w64 (ofZ w64 (c .before .before .before .before .before .before .before .before .before .args .x))) (c .before .before .before .before .before .before .before .before .before .args .to) (c .before .before .before .before .before .loop .link) _ (omega (arith, c .before .before .before .if1 .left)) (c .before .before .here .ensures .0 (c .before .if2 .taken) .1) (c .row-before .ensures))))
 
--- src/lib.rt:234:48
 sub-size-at : tie.Need-sub-size-at Inv-loop μ-loop
 sub-size-at c = search needs
 
--- src/lib.rt:234:39
 add-size-at : tie.Need-add-size-at Inv-loop μ-loop
 add-size-at c = search needs
 
--- src/lib.rt:234:9
 size-at-requires : tie.Need-size-at-requires Inv-loop μ-loop
 size-at-requires c κs = search needs
 
--- src/lib.rt:235:9
 sub-left : tie.Need-sub-left Inv-loop μ-loop
 sub-left c = search needs
 
--- src/lib.rt:227:5
 loop-less : tie.Need-loop-less Inv-loop μ-loop
 loop-less c = search needs
 
--- src/lib.rt:227:5
 loop-again : tie.Need-loop-again Inv-loop μ-loop
 loop-again c = let f = c .before .before .before .before .before .before .before .before .before .pre .4 .next (c .before .before .before .before .before .loop .link - 1) (omega (arith, c .before .before .before .before .before .loop .inv .high, c .before .before .before .if1 .left)) in let e = c .size-at .ensures .0 in passing-step (C.keyAt (now (c .before .before .before .before .before .before .before .before .before .args .values)) (now (c .before .before .before .before .before .before .before .before .before .args .walks)) (c .before .before .before .before .before .before .before .before .before .args .walk) (c .before .before .before .before .before .before .before .before .before .args .attribute)) (toZ w64 (ofZ w64 (c .before .before .before .before .before .before .before .before .before .args .x))) (c .before .before .before .before .before .before .before .before .before .args .from) _ (c .before .before .before .before .before .loop .link - 1) (c .before .before .before .before .before .loop .link) _ (omega (arith, c .before .before .before .if1 .left)) (c .before .before .before .before .before .loop .inv) (λ l. c .before .before .here .ensures .1 (c .before .if2 .left) l) (rw e f)
 
--- src/lib.rt:237:5
 look-requires : tie.Need-look-requires Inv-loop μ-loop
 look-requires c κs = (c .before .before .before .before .before .pre .0, c .before .before .before .before .before .pre .2, c .before .before .before .before .before .pre .3)
 
--- src/lib.rt:209:1
 returns-3 : tie.Need-returns-3 Inv-loop μ-loop
-returns-3 c = (c .look .ensures .0, without (C.keyAt (now (c .before .before .before .before .before .before .args .values)) (now (c .before .before .before .before .before .before .args .walks)) (c .before .before .before .before .before .before .args .walk) (c .before .before .before .before .before .before .args .attribute)) (c .before .before .before .before .before .before .args .x) (toZ w64 (ofZ w64 (c .before .before .before .before .before .before .args .x))) (toZ-ofZ {w = w64} (c .before .before .before .before .before .before .fits .x)) (c .before .before .before .before .before .before .args .from) _ (c .look .ensures .1))
+returns-3 c = (c .look .ensures .0, (without (C.keyAt (now (c .before .before .before .before .before .before .args .values)) (now (c .before .before .before .before .before .before .args .walks)) (c .before .before .before .before .before .before .args .walk) (c .before .before .before .before .before .before .args .attribute)) (c .before .before .before .before .before .before .args .x) (toZ w64 (ofZ w64 (c .before .before .before .before .before .before .args .x))) (toZ-ofZ {w = w64} (c .before .before .before .before .before .before .fits .x)) (c .before .before .before .before .before .before .args .from) _ (c .look .ensures .1 .0), with-value (C.keyAt (now (c .before .before .before .before .before .before .args .values)) (now (c .before .before .before .before .before .before .args .walks)) (c .before .before .before .before .before .before .args .walk) (c .before .before .before .before .before .before .args .attribute)) (c .before .before .before .before .before .before .args .x) (toZ w64 (ofZ w64 (c .before .before .before .before .before .before .args .x))) (toZ-ofZ {w = w64} (c .before .before .before .before .before .before .fits .x)) _ (c .before .before .before .before .before .before .args .to) (c .look .ensures .1 .1)))
 
 pub reach-spec : {M : Type 1} → statement M
 reach-spec =

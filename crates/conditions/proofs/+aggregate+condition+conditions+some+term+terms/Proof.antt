@@ -2,8 +2,8 @@ use native.Mathlib.Omega.{arith}
 use mathlib.Core.Path.{_≡_, refl, sym, ap, _∙_}
 use lib.ListN.{length}
 use denote.Ref.{now}
-use Rattle.scope.specs.Reach.{shapeIn, scopeOf}
-use Rattle.scope.proofs.Steps.{put-back}
+use Rattle.conditions.specs.Reach.{shapeIn, scopeOf}
+use Rattle.conditions.proofs.scope.Steps.{put-back}
 use Rattle.conditions.specs.Answers.{bytesOf}
 use Rattle.conditions.proofs.Parts.{same-sized}
 use Rattle.conditions.proofs.Records.{not-room, both-room, compare-room, some-room, aggregate-room}
@@ -38,12 +38,12 @@ use Rattle.kinds.proofs.tail.Reads as tail-reads
 use Rattle.conditions.proofs.also.Reads as also-reads
 use Rattle.conditions.proofs.leaf.Reads as leaf-reads
 use Rattle.conditions.proofs.parent.Reads as parent-reads
-use Rattle.scope.proofs.attribute.Reads as attribute-reads
-use Rattle.scope.proofs.bind.Reads as bind-reads
-use Rattle.scope.proofs.entry.Reads as entry-reads
-use Rattle.scope.proofs.has.Reads as has-reads
-use Rattle.scope.proofs.known.Reads as known-reads
-use Rattle.scope.proofs.put.Reads as put-reads
+use Rattle.conditions.proofs.scope.attribute.Reads as attribute-reads
+use Rattle.conditions.proofs.scope.bind.Reads as bind-reads
+use Rattle.conditions.proofs.scope.entry.Reads as entry-reads
+use Rattle.conditions.proofs.scope.has.Reads as has-reads
+use Rattle.conditions.proofs.scope.known.Reads as known-reads
+use Rattle.conditions.proofs.scope.put.Reads as put-reads
 use Rattle.conditions.proofs.+aggregate+condition+conditions+some+term+terms.{statement}
 use Rattle.conditions.proofs.+aggregate+condition+conditions+some+term+terms.Tie.{close}
 

@@ -5,15 +5,6 @@ use Rattle.conditions.proofs.also.Tie as tie
 use Rattle.conditions.proofs.also.Reads as reads
 use Rattle.conditions.proofs.also.Lts as lts
 
-enum-known-r : tie.Need-enum-known-r
-enum-known-r c = search needs
-
-enum-told : tie.Need-enum-told
-enum-told c = search needs
-
-returns : tie.Need-returns
-returns c = search needs
-
 returns-2 : tie.Need-returns-2
 returns-2 c = also-not _ _ _ _ (c .before .before .r .given .1) (c .if1 .taken)
 
@@ -21,4 +12,4 @@ returns-3 : tie.Need-returns-3
 returns-3 c = also-yes _ _ _ _ (c .before .before .r .given .1) (c .if1 .left)
 
 pub also-spec : {M : Type 1} → statement M
-also-spec = tie.close (tie.spec enum-known-r enum-told returns returns-2 returns-3)
+also-spec = tie.close (tie.spec (λ c. search needs) (λ c. search needs) (λ c. search needs) returns-2 returns-3)

@@ -20,14 +20,14 @@ use Rattle.conjuncts.proofs.join.Reads as join-reads
 use Rattle.conjuncts.proofs.+split.{statement}
 use Rattle.conjuncts.proofs.+split.Tie.{close}
 
-abbrev μ-split : Measures 6 split-kinds.ps ℕ
+abbrev μ-split : Measures 5 split-kinds.ps ℕ
 μ-split κs a = a .1 .1 .1 .1 .0
 
-abbrev split-at : ℕ → In 6 split-kinds.ps
-split-at t = and 6 split-kinds.ps (is 6 split-kinds.ps μ-split t) split.Pre
+abbrev split-at : ℕ → In 5 split-kinds.ps
+split-at t = and 5 split-kinds.ps (is 5 split-kinds.ps μ-split t) split.Pre
 
-abbrev split-below : ℕ → In 6 split-kinds.ps
-split-below t = and 6 split-kinds.ps (falls 6 split-kinds.ps _<_ μ-split t) split.Pre
+abbrev split-below : ℕ → In 5 split-kinds.ps
+split-below t = and 5 split-kinds.ps (falls 5 split-kinds.ps _<_ μ-split t) split.Pre
 
 abbrev split-claims : ℕ → split-lts.Claims
 split-claims t = (parts-at-reads.Asked, parts-at-reads.Learnt, join-reads.Asked, join-reads.Learnt, split-below t, split.Post)
@@ -51,9 +51,8 @@ split-returns : (t : ℕ) → split-lts.Need-returns (split-claims t) (split-at 
 split-returns t c = c .before .before .before .join .ensures
 
 split-sub-l : (t : ℕ) → split-lts.Need-sub-l (split-claims t) (split-at t) split.Post
-split-sub-l t c =
-    let c₂ = c .before .before in let parts-at = c₂ .parts-at in
-    let c₇ = c₂ .before .before .before .before .before in let args = c₇ .args in
+split-sub-l t c = let parts-at = c .before .before .parts-at in
+    let args = c .before .before .before .before .before .before .args in
     let level = args .level in
     positive level ((parts (parts-at .result) ((args .end) - (args .k)) level (args .place) (now (args .q)) (now (args .z)) (parts-at .ensures) (c .if1 .left)) .deep)
 
@@ -61,19 +60,17 @@ split-sub-last : (t : ℕ) → split-lts.Need-sub-last (split-claims t) (split-a
 split-sub-last t c = search needs
 
 split-split-requires : (t : ℕ) → split-lts.Need-split-requires (split-claims t) (split-at t) split.Post
-split-split-requires t c κs =
-    let c₂ = c .before .before in let if1 = c₂ .if1 in
-    let c₄ = c₂ .before .before in let parts-at = c₄ .parts-at in
-    let c₉ = c₄ .before .before .before .before .before in let args = c₉ .args in let pre = c₉ .pre in
+split-split-requires t c κs = let if1 = c .before .before .if1 in
+    let parts-at = c .before .before .before .before .parts-at in
+    let args = c .before .before .before .before .before .before .before .before .args in let pre = c .before .before .before .before .before .before .before .before .pre in
     let q = now (args .q) in let z = now (args .z) in let end = args .end in let k = args .k in let level = args .level in let place = args .place in
     (falls-by level t ((parts (parts-at .result) (end - k) level place q z (parts-at .ensures) (if1 .left)) .deep) (pre .0), (omega (arith, pre .1 .0), omega (arith, pre .1 .1), pre .1 .2, omega (arith, and-room (parts-at .result) (end - k) level place q z (parts-at .ensures) (if1 .left), pre .1 .3), omega (arith, pre .1 .4), pre .1 .5, (parts (parts-at .result) (end - k) level place q z (parts-at .ensures) (if1 .left)) .second, omega (arith, pre .1 .7), pre .1 .8))
 
 split-split-requires-2 : (t : ℕ) → split-lts.Need-split-requires-2 (split-claims t) (split-at t) split.Post
-split-split-requires-2 t c κs =
-    let c₅ = c .before .before .before .before .before in let split = c₅ .split in
-    let c₈ = c₅ .before .before .before in let if1 = c₈ .if1 in
-    let c₁₀ = c₈ .before .before in let parts-at = c₁₀ .parts-at in
-    let c₁₅ = c₁₀ .before .before .before .before .before in let args = c₁₅ .args in let pre = c₁₅ .pre in
+split-split-requires-2 t c κs = let split = c .before .before .before .before .before .split in
+    let if1 = c .before .before .before .before .before .before .before .before .if1 in
+    let parts-at = c .before .before .before .before .before .before .before .before .before .before .parts-at in
+    let args = c .before .before .before .before .before .before .before .before .before .before .before .before .before .before .args in let pre = c .before .before .before .before .before .before .before .before .before .before .before .before .before .before .pre in
     let q = now (args .q) in let z = now (args .z) in let end = args .end in let k = args .k in let level = args .level in let place = args .place in
     (falls-by level t ((parts (parts-at .result) (end - k) level place q z (parts-at .ensures) (if1 .left)) .deep) (pre .0), (omega (arith, pre .1 .0, split .kept), omega (arith, pre .1 .1, split .kept), omega (arith, pre .1 .2, split .ensures .0 .0), omega (arith, split .ensures .0 .1, and-room (parts-at .result) (end - k) level place q z (parts-at .ensures) (if1 .left), pre .1 .3), pre .1 .4, pre .1 .5, (parts (parts-at .result) (end - k) level place q z (parts-at .ensures) (if1 .left)) .first, omega (arith, pre .1 .7), split .ensures .1 .begun))
 
@@ -84,14 +81,13 @@ split-same-length-4 : (t : ℕ) → split-lts.Need-same-length-4 (split-claims t
 split-same-length-4 t c = search needs
 
 split-returns-2 : (t : ℕ) → split-lts.Need-returns-2 (split-claims t) (split-at t) split.Post
-split-returns-2 t c =
-    let c₃ = c .before .before .before in let split2 = c₃ .split2 in
-    let c₉ = c₃ .before .before .before .before .before .before in let split = c₉ .split in
-    let c₁₂ = c₉ .before .before .before in let if1 = c₁₂ .if1 in
-    let c₁₄ = c₁₂ .before .before in let parts-at = c₁₄ .parts-at in
-    let c₁₉ = c₁₄ .before .before .before .before .before in let args = c₁₉ .args in
+split-returns-2 t c = let split2 = c .before .before .before .split2 in
+    let split = c .before .before .before .before .before .before .before .before .before .split in
+    let if1 = c .before .before .before .before .before .before .before .before .before .before .before .before .if1 in
+    let parts-at = c .before .before .before .before .before .before .before .before .before .before .before .before .before .before .parts-at in
+    let args = c .before .before .before .before .before .before .before .before .before .before .before .before .before .before .before .before .before .before .args in
     let memo = now (args .memo) in let q = now (args .q) in let xs = now (args .xs) in let z = now (args .z) in let level = args .level in let ranges = args .ranges in
-    ((omega (arith, split .ensures .0 .0, split2 .ensures .0 .0), split2 .ensures .0 .1), subst (λ (d : Condition). Joined (split2 .result) (now (args .t)) (split2 .last .1 .1 .1 .1 .1 .1 .1 .1 .0) xs (split2 .last .1 .1 .1 .1 .1 .1 .1 .1 .1 .0) q z memo d (rangesAt ranges q)) (sym (and-whole (parts-at .result) ((args .end) - (args .k)) level (args .place) q z (parts-at .ensures) (if1 .left))) (joined-both (split .result) (split2 .result) (now (args .t)) (split .last .1 .1 .1 .1 .1 .1 .1 .1 .0) (split2 .last .1 .1 .1 .1 .1 .1 .1 .1 .0) xs (split .last .1 .1 .1 .1 .1 .1 .1 .1 .1 .0) (split2 .last .1 .1 .1 .1 .1 .1 .1 .1 .1 .0) q z memo (decode (level - 1) (drop (parts-at .result .first) q) (drop (parts-at .result .first) z)) (decode (level - 1) (drop (parts-at .result .second) q) (drop (parts-at .result .second) z)) (rangesAt ranges q) (split .ensures .1) (split2 .ensures .1)))
+    ((omega (arith, split .ensures .0 .0, split2 .ensures .0 .0), split2 .ensures .0 .1), subst (λ (d : Condition). Joined (split2 .result) (now (args .t)) (split2 .last .1 .1 .1 .1 .1 .1 .0) xs (split2 .last .1 .1 .1 .1 .1 .1 .1 .0) q z memo d (rangesAt ranges q)) (sym (and-whole (parts-at .result) ((args .end) - (args .k)) level (args .place) q z (parts-at .ensures) (if1 .left))) (joined-both (split .result) (split2 .result) (now (args .t)) (split .last .1 .1 .1 .1 .1 .1 .0) (split2 .last .1 .1 .1 .1 .1 .1 .0) xs (split .last .1 .1 .1 .1 .1 .1 .1 .0) (split2 .last .1 .1 .1 .1 .1 .1 .1 .0) q z memo (decode (level - 1) (drop (parts-at .result .first) q) (drop (parts-at .result .first) z)) (decode (level - 1) (drop (parts-at .result .second) q) (drop (parts-at .result .second) z)) (rangesAt ranges q) (split .ensures .1) (split2 .ensures .1)))
 
 pub +split-spec : {M : Type 1} → statement M
 +split-spec = close μ-split λ t. split-lts.spec (split-claims t)

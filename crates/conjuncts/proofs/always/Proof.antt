@@ -9,13 +9,10 @@ use Rattle.conjuncts.proofs.Joining.{true-there}
 returns : tie.Need-returns
 returns c = λ h. clash h
 
-byte-requires : tie.Need-byte-requires
-byte-requires c κs = search needs
-
 returns-2 : tie.Need-returns-2
 returns-2 c =
     let args = c .before .before .before .args in
     λ h. true-there (now (args .q)) (args .place) (args .level) (c .byte .result) (c .before .if1 .left) (c .byte .ensures) (eqb-true (c .byte .result) 16 h)
 
 pub always-spec : {M : Type 1} → statement M
-always-spec = tie.close (tie.spec returns byte-requires returns-2)
+always-spec = tie.close (tie.spec returns (λ c κs. search needs) returns-2)

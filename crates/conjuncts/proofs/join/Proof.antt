@@ -19,66 +19,23 @@ use Rattle.conjuncts.proofs.stage_at.Reads as stage-at-reads
 use Rattle.conjuncts.proofs.stage_number.Reads as stage-number-reads
 use Rattle.kinds.proofs.size_at.Reads as size-at-reads
 
--- src/lib.rt:163:8
-always-requires : tie.Need-always-requires
-always-requires c κs = search needs
-
--- src/lib.rt:164:9
 returns : tie.Need-returns
-returns c = let args = c .before .before .before .before .before .before .args in let pre = c .before .before .before .before .before .before .pre in
+returns c = let args = c .before .before .before .before .before .args in let pre = c .before .before .before .before .before .pre in
     let q = now (args .q) in let z = now (args .z) in let place = args .place in
     ((le-refl _, omega (arith, pre .3)), joined-true (args .k) (now (args .t)) (now (args .xs)) q z (now (args .memo)) (decode (args .level) (drop place q) (drop place z)) (rangesAt (args .ranges) q) (pre .8) (c .before .always .ensures (c .if1 .taken) (drop place z)))
 
--- src/lib.rt:166:9
-stage-at-requires : tie.Need-stage-at-requires
-stage-at-requires c κs = search needs
-
--- src/lib.rt:167:9
-stage-number-requires : tie.Need-stage-number-requires
-stage-number-requires c κs = search needs
-
--- src/lib.rt:168:9
-size-at-requires : tie.Need-size-at-requires
-size-at-requires c κs = search needs
-
--- src/lib.rt:169:9
 compile-requires : tie.Need-compile-requires
 compile-requires c κs = let stage-number = c .before .before .before .before .stage-number in
     let stage-at = c .before .before .before .before .before .before .stage-at in
-    let pre = c .before .before .before .before .before .before .before .before .before .before .before .before .before .pre in
+    let pre = c .before .before .before .before .before .before .before .before .before .before .before .before .pre in
     (pre .0, pre .1, pre .2, pre .3, pre .4, omega (arith, c .before .before .size-at .ensures .0, pre .8 (stage-number .result) (omega (arith, stage-number .ensures .1, stage-at .ensures .0, pre .5))), omega (arith, pre .2), pre .6, pre .7)
 
--- src/lib.rt:170:12
-narrow-requires : tie.Need-narrow-requires
-narrow-requires c κs = search needs
-
--- src/lib.rt:170:5
-mul-t : tie.Need-mul-t
-mul-t c = search needs
-
--- src/lib.rt:170:5
-slice-write-t : tie.Need-slice-write-t
-slice-write-t c = search needs
-
--- src/lib.rt:171:5
-add-result : tie.Need-add-result
-add-result c = search needs
-
--- src/lib.rt:145:1
-same-length : tie.Need-same-length
-same-length c = search needs
-
--- src/lib.rt:145:1
-same-length-2 : tie.Need-same-length-2
-same-length-2 c = search needs
-
--- src/lib.rt:145:1
 returns-2 : tie.Need-returns-2
 returns-2 c = let compile = c .before .before .before .before .compile in
     let size-at = c .before .before .before .before .before .before .before .size-at in
     let stage-number = c .before .before .before .before .before .before .before .before .before .stage-number in
     let stage-at = c .before .before .before .before .before .before .before .before .before .before .before .stage-at in
-    let args = c .before .before .before .before .before .before .before .before .before .before .before .before .before .before .before .before .before .before .args in let pre = c .before .before .before .before .before .before .before .before .before .before .before .before .before .before .before .before .before .before .pre in
+    let args = c .before .before .before .before .before .before .before .before .before .before .before .before .before .before .before .before .before .args in let pre = c .before .before .before .before .before .before .before .before .before .before .before .before .before .before .before .before .before .pre in
     let q = now (args .q) in let z = now (args .z) in let place = args .place in let ranges = args .ranges in
     ((omega (arith, compile .ensures .0 .0), omega (arith, compile .ensures .0 .1)), joined (args .k) (compile .result) (stage-number .result) (size-at .result) (now (args .t)) (compile .last .1 .1 .1 .1 .1 .0) _ (now (args .xs)) (compile .last .1 .1 .1 .1 .1 .1 .0) q z (now (args .memo)) (decode (args .level) (drop place q) (drop place z)) (rangesAt ranges q) (compile .ensures .1) (size-at .ensures .0) (ap (set (compile .last .1 .1 .1 .1 .1 .0) (stage-number .result)) (c .narrow .ensures)) (pre .2) (compile .ensures .0 .0) (omega (arith, compile .kept .1 .1 .1 .1 .1 .0, pre .0, pre .2, pre .3)) (pre .8) (omega (arith, (length-ranges ranges q), pre .5)) (stage-at .result) (omega (arith, (length-ranges ranges q), stage-at .ensures .0)) (stage-number .ensures .0) (stage-number .ensures .1) (stage-at .ensures .1))
 
@@ -86,16 +43,16 @@ pub join-spec : {M : Type 1} → statement M
 join-spec =
     tie.close
     (tie.spec
-    always-requires
+    (λ c κs. search needs)
     returns
-    stage-at-requires
-    stage-number-requires
-    size-at-requires
+    (λ c κs. search needs)
+    (λ c κs. search needs)
+    (λ c κs. search needs)
     compile-requires
-    narrow-requires
-    mul-t
-    slice-write-t
-    add-result
-    same-length
-    same-length-2
+    (λ c κs. search needs)
+    (λ c. search needs)
+    (λ c. search needs)
+    (λ c. search needs)
+    (λ c. search needs)
+    (λ c. search needs)
     returns-2)

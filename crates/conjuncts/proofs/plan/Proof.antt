@@ -13,21 +13,15 @@ use Rattle.conjuncts.proofs.split.Reads as split-reads
 
 split-requires : tie.Need-split-requires
 split-requires c κs =
-    let c₆ = c .before .before .before .before .before .before in let args = c₆ .args in let pre = c₆ .pre in
+    let c₅ = c .before .before .before .before .before in let args = c₅ .args in let pre = c₅ .pre in
     (omega (arith, pre .0), omega (arith, pre .1), omega arith, omega arith, omega arith, pre .2, pre .3, pre .4, cleared-begun (now (args .t)) (pre .5))
-
-same-length : tie.Need-same-length
-same-length c = search needs
-
-same-length-2 : tie.Need-same-length-2
-same-length-2 c = search needs
 
 returns : tie.Need-returns
 returns c =
     let c₃ = c .before .before .before in let split = c₃ .split in
-    let c₁₀ = c₃ .before .before .before .before .before .before .before in let args = c₁₀ .args in let pre = c₁₀ .pre in
+    let c₉ = c₃ .before .before .before .before .before .before in let args = c₉ .args in let pre = c₉ .pre in
     let q = now (args .q) in let z = now (args .z) in let condition = args .condition in
-    λ ws vs. planned (now (args .t)) (pre .5) (now (args .xs)) q z ws vs (now (args .memo)) (split .result) (split .last .1 .1 .1 .1 .1 .1 .1 .1 .0) (split .last .1 .1 .1 .1 .1 .1 .1 .1 .1 .0) (decode (args .level) (drop condition q) (drop condition z)) (rangesAt (args .ranges) q) (split .ensures .1)
+    λ ws vs. planned (now (args .t)) (pre .5) (now (args .xs)) q z ws vs (now (args .memo)) (split .result) (split .last .1 .1 .1 .1 .1 .1 .0) (split .last .1 .1 .1 .1 .1 .1 .1 .0) (decode (args .level) (drop condition q) (drop condition z)) (rangesAt (args .ranges) q) (split .ensures .1)
 
 pub plan-spec : {M : Type 1} → statement M
-plan-spec = tie.close (tie.spec split-requires same-length same-length-2 returns)
+plan-spec = tie.close (tie.spec split-requires (λ c. search needs) (λ c. search needs) returns)

@@ -2,7 +2,7 @@ use Rattle.decide.proofs.Following.{follow-stuck, follow-on, follow-end
 use Rattle.decide.proofs.Searching as S
 use Rattle.branches.specs.Branches.{runs}
 use Rattle.evaluator.proofs.Steps.{places-start, places-on, places-back, places-length}
-use Rattle.evaluator.specs.Evaluation.{assigned}
+use Rattle.walks.specs.Assigned.{assigned}
 use Rattle.walks.specs.Walks.{placeAt, walked}
 use Rattle.model.proofs.Search.{none-start, none-next}
 use Rattle.walks.proofs.Loops.{Failed, walked-hit, walked-none}
@@ -11,7 +11,9 @@ use borrow.Author.Needs.{needs}
 use denote.Ref.{now}
 use lib.ListN.{length, set, length-set}
 use native.Mathlib.Omega.{arith}
-use mathlib.Core.Path.{_≡_, refl, sym, ap, _∙_}
+use mathlib.Core.Path.{_≡_, refl, sym, ap, _∙_, subst}
+use mathlib.Core.Bool.{true}
+use Rattle.decide.specs.Cursor.{stops}
 use Prim.Native.Nat.{_+_, _*_, _-_, _≤_}
 use Prim.Native.Nat.{ℕ, _<_}
 use borrow.Fn.Kinds.{In}
@@ -31,7 +33,8 @@ use Rattle.decide.proofs.way.Reads as way-reads
 use Rattle.evaluator.proofs.place.Reads as place-reads
 use Rattle.evaluator.proofs.set_place.Reads as set-place-reads
 use Rattle.kinds.proofs.size_at.Reads as size-at-reads
-use Rattle.seeks.proofs.seek.Reads as seek-reads
+use Rattle.decide.proofs.seeks.next_row.Reads as next-row-reads
+use Rattle.decide.proofs.seeks.prepare.Reads as prepare-reads
 use Rattle.walks.proofs.place.Reads as place-reads′
 use Rattle.walks.proofs.walk_of.Reads as walk-of-reads
 use Rattle.decide.proofs.+first_row+holds+some_row.{statement}
@@ -67,7 +70,7 @@ some-row-below t =
     and 9 some-row-kinds.ps (falls 9 some-row-kinds.ps _<_ μ-some-row t) some-row.Pre
 
 abbrev first-row-claims : ℕ → first-row-lts.Claims
-first-row-claims t = (walk-of-reads.Asked, walk-of-reads.Learnt, place-reads.Asked, place-reads.Learnt, seek-reads.Asked, seek-reads.Learnt, place-reads′.Asked, place-reads′.Learnt, set-place-reads.Asked, set-place-reads.Learnt, holds-below t, holds.Post)
+first-row-claims t = (walk-of-reads.Asked, walk-of-reads.Learnt, place-reads.Asked, place-reads.Learnt, prepare-reads.Asked, prepare-reads.Learnt, next-row-reads.Asked, next-row-reads.Learnt, set-place-reads.Asked, set-place-reads.Learnt, place-reads′.Asked, place-reads′.Learnt, holds-below t, holds.Post)
 
 abbrev holds-claims : ℕ → holds-lts.Claims
 holds-claims t = (run-reads.Asked, run-reads.Learnt, some-row-below t, some-row.Post, way-reads.Asked, way-reads.Learnt)
@@ -76,10 +79,10 @@ abbrev some-row-claims : ℕ → some-row-lts.Claims
 some-row-claims t = (size-at-reads.Asked, size-at-reads.Learnt, byte-of-reads.Asked, byte-of-reads.Learnt, first-row-below t, first-row.Post)
 
 abbrev first-row-Inv-loop : first-row-lts.InvT-loop
-first-row-Inv-loop t xs start variable q z walks chains values memo env₀ walk n old j₀ env j = (set env variable old ≡ env₀) × Failed (placeAt walks walk) values (S.asks t xs q z walks values memo start variable env₀) j × (j ≤ n) × (length env ≡ length env₀)
+first-row-Inv-loop t xs start variable q z walks chains values memo env₀ walk n old cursor next i₀ env i = (set env variable old ≡ env₀) × Failed (placeAt walks walk) values (S.asks t xs q z walks values memo start variable env₀) i × (i ≤ n) × (length env ≡ length env₀) × (0 < i → stops cursor (tupleAt values (placeAt walks walk (i - 1))) ≡ true)
 
 abbrev first-row-μ-loop : first-row-lts.MeasureT-loop
-first-row-μ-loop t xs start variable q z walks chains values memo env₀ walk n old j₀ env j = n - j
+first-row-μ-loop t xs start variable q z walks chains values memo env₀ walk n old cursor next i₀ env i = n - i
 
 first-row-walk-of-requires : (t : ℕ) → first-row-lts.Need-walk-of-requires (first-row-claims t) (first-row-at t) first-row.Post first-row-Inv-loop first-row-μ-loop
 first-row-walk-of-requires t c κs = search needs
@@ -87,109 +90,53 @@ first-row-walk-of-requires t c κs = search needs
 first-row-place-requires : (t : ℕ) → first-row-lts.Need-place-requires (first-row-claims t) (first-row-at t) first-row.Post first-row-Inv-loop first-row-μ-loop
 first-row-place-requires t c κs = search needs
 
-first-row-seek-requires : (t : ℕ) → first-row-lts.Need-seek-requires (first-row-claims t) (first-row-at t) first-row.Post first-row-Inv-loop first-row-μ-loop
-first-row-seek-requires t c κs =
-    let c₃ = c .before .before .before in let walk-of = c₃ .walk-of in
-    let c₁₀ = c₃ .before .before .before .before .before .before .before in let pre = c₁₀ .pre in
-    (pre .1 .0, pre .1 .1, walk-of .ensures .1, omega arith, walk-of .ensures .0, pre .1 .2)
+first-row-prepare-requires : (t : ℕ) → first-row-lts.Need-prepare-requires (first-row-claims t) (first-row-at t) first-row.Post first-row-Inv-loop first-row-μ-loop
+first-row-prepare-requires t c κs = (c .before .before .before .before .before .before .before .before .before .before .pre .1 .0, c .before .before .before .before .before .before .before .before .before .before .pre .1 .1)
 
 first-row-loop-holds : (t : ℕ) → first-row-lts.Need-loop-holds (first-row-claims t) (first-row-at t) first-row.Post first-row-Inv-loop first-row-μ-loop
-first-row-loop-holds t c =
-    let c₂ = c .before .before in let place = c₂ .place in
-    let c₄ = c₂ .before .before in let walk-of = c₄ .walk-of in
-    let c₁₁ = c₄ .before .before .before .before .before .before .before in let args = c₁₁ .args in
-    let env = now (args .env) in let memo = now (args .memo) in let q = now (args .q) in let values = now (args .values) in let walks = now (args .walks) in let xs = now (args .xs) in let z = now (args .z) in let start = args .start in let variable = args .variable in
-    (places-start env variable (place .result) (place .ensures), S.over (now (args .t)) xs q z walks values memo start variable env (placeAt walks (walk-of .result)) env (place .result) 0 (c .seek .result) (places-start env variable (place .result) (place .ensures)) (c .seek .ensures .1 q z walks) (none-start (λ j. (S.asks (now (args .t)) xs q z walks values memo start variable env) (tupleAt values ((placeAt walks (walk-of .result)) j)))), c .seek .ensures .0 .1, refl)
+first-row-loop-holds t c = (places-start (now (c .before .before .before .before .before .before .before .before .before .before .before .args .env)) (c .before .before .before .before .before .before .before .before .before .before .before .args .variable) (c .before .before .place .result) (c .before .before .place .ensures), none-start (λ j. S.asks (now (c .before .before .before .before .before .before .before .before .before .before .before .args .t)) (now (c .before .before .before .before .before .before .before .before .before .before .before .args .xs)) (now (c .before .before .before .before .before .before .before .before .before .before .before .args .q)) (now (c .before .before .before .before .before .before .before .before .before .before .before .args .z)) (now (c .before .before .before .before .before .before .before .before .before .before .before .args .walks)) (now (c .before .before .before .before .before .before .before .before .before .before .before .args .values)) (now (c .before .before .before .before .before .before .before .before .before .before .before .args .memo)) (c .before .before .before .before .before .before .before .before .before .before .before .args .start) (c .before .before .before .before .before .before .before .before .before .before .before .args .variable) (now (c .before .before .before .before .before .before .before .before .before .before .before .args .env)) (tupleAt (now (c .before .before .before .before .before .before .before .before .before .before .before .args .values)) ((placeAt (now (c .before .before .before .before .before .before .before .before .before .before .before .args .walks)) (c .before .before .before .before .walk-of .result)) j))), omega arith, refl, λ h. absurd (omega arith))
 
-first-row-place-requires-2 : (t : ℕ) → first-row-lts.Need-place-requires-2 (first-row-claims t) (first-row-at t) first-row.Post first-row-Inv-loop first-row-μ-loop
-first-row-place-requires-2 t c κs =
-    let c₇ = c .before .before .before .before .before .before .before in let walk-of = c₇ .walk-of in
-    (walk-of .ensures .1, omega (arith, walk-of .ensures .1 .count, c .before .loop-test .taken))
+first-row-next-row-requires : (t : ℕ) → first-row-lts.Need-next-row-requires (first-row-claims t) (first-row-at t) first-row.Post first-row-Inv-loop first-row-μ-loop
+first-row-next-row-requires t c κs = (c .before .before .before .before .before .walk-of .ensures .1, c .loop .inv .2, S.ready-for (now (c .before .before .before .before .before .before .before .before .before .before .before .before .args .t)) (now (c .before .before .before .before .before .before .before .before .before .before .before .before .args .xs)) (now (c .before .before .before .before .before .before .before .before .before .before .before .before .args .q)) (now (c .before .before .before .before .before .before .before .before .before .before .before .before .args .z)) (now (c .before .before .before .before .before .before .before .before .before .before .before .before .args .walks)) (now (c .before .before .before .before .before .before .before .before .before .before .before .before .args .values)) (now (c .before .before .before .before .before .before .before .before .before .before .before .before .args .memo)) (c .before .before .before .before .before .before .before .before .before .before .before .before .args .start) (c .before .before .before .before .before .before .before .before .before .before .before .before .args .variable) (now (c .before .before .before .before .before .before .before .before .before .before .before .before .args .env)) (c .before .prepare .result) (now (c .before .before .before .before .before .before .before .before .before .before .before .before .args .chains)) (c .before .prepare .ensures (now (c .before .before .before .before .before .before .before .before .before .before .before .before .args .walks)) (c .before .before .before .before .before .before .before .before .before .before .before .before .pre .1 .2)) (placeAt (now (c .before .before .before .before .before .before .before .before .before .before .before .before .args .walks)) (c .before .before .before .before .before .walk-of .result)) (c .before .before .before .before .before .walk-of .result) (c .before .before .before .before .before .walk-of .ensures .0), c .loop .inv .4)
 
 first-row-set-place-requires : (t : ℕ) → first-row-lts.Need-set-place-requires (first-row-claims t) (first-row-at t) first-row.Post first-row-Inv-loop first-row-μ-loop
 first-row-set-place-requires t c κs = search needs
-
-first-row-holds-requires : (t : ℕ) → first-row-lts.Need-holds-requires (first-row-claims t) (first-row-at t) first-row.Post first-row-Inv-loop first-row-μ-loop
-first-row-holds-requires t c κs =
-    let c₃ = c .before .before .before in let set-place = c₃ .set-place in
-    let c₄ = c₃ .before in let place2 = c₄ .place2 in
-    let c₇ = c₄ .before .before .before in let loop = c₇ .loop in
-    let c₁₉ = c₇ .before .before .before .before .before .before .before .before .before .before .before .before in let args = c₁₉ .args in let pre = c₁₉ .pre in
-    (omega (arith, pre .0), (omega (arith, pre .1 .0, loop .inv .3, ap length (set-place .ensures), length-set (loop .env) (args .variable) (place2 .result)), pre .1 .1, pre .1 .2))
-
-first-row-set-place-requires-2 : (t : ℕ) → first-row-lts.Need-set-place-requires-2 (first-row-claims t) (first-row-at t) first-row.Post first-row-Inv-loop first-row-μ-loop
-first-row-set-place-requires-2 t c κs = search needs
-
-first-row-add-tried : (t : ℕ) → first-row-lts.Need-add-tried (first-row-claims t) (first-row-at t) first-row.Post first-row-Inv-loop first-row-μ-loop
-first-row-add-tried t c =
-    let c₁₄ = c .before .before .before .before .before .before .before .before .before .before .before .before .before .before in let loop-test = c₁₄ .loop-test in
-    let c₂₀ = c₁₄ .before .before .before .before .before .before in let walk-of = c₂₀ .walk-of in
-    omega (arith, walk-of .ensures .1 .count, loop-test .taken)
 
 first-row-same-length : (t : ℕ) → first-row-lts.Need-same-length (first-row-claims t) (first-row-at t) first-row.Post first-row-Inv-loop first-row-μ-loop
 first-row-same-length t c = search needs
 
 first-row-returns : (t : ℕ) → first-row-lts.Need-returns (first-row-claims t) (first-row-at t) first-row.Post first-row-Inv-loop first-row-μ-loop
-first-row-returns t c =
-    let c₄ = c .before .before .before .before in let if1 = c₄ .if1 in
-    let c₇ = c₄ .before .before .before in let holds = c₇ .holds in
-    let c₁₁ = c₇ .before .before .before .before in let set-place = c₁₁ .set-place in
-    let c₁₂ = c₁₁ .before in let place2 = c₁₂ .place2 in
-    let c₁₄ = c₁₂ .before .before in let loop-test = c₁₄ .loop-test in
-    let c₁₅ = c₁₄ .before in let loop = c₁₅ .loop in
-    let c₁₈ = c₁₅ .before .before .before in let place = c₁₈ .place in
-    let c₂₀ = c₁₈ .before .before in let walk-of = c₂₀ .walk-of in
-    let c₂₇ = c₂₀ .before .before .before .before .before .before .before in let args = c₂₇ .args in let good = c₂₇ .good in let pre = c₂₇ .pre in
-    let env = now (args .env) in let memo = now (args .memo) in let q = now (args .q) in let values = now (args .values) in let walks = now (args .walks) in let xs = now (args .xs) in let z = now (args .z) in let start = args .start in let variable = args .variable in
-    (sym (walked-hit (S.asks (now (args .t)) xs q z walks values memo start variable env) walks values variable (walk-of .result) (walk-of .ensures .0) (loop .j) (loop-test .taken) (loop .inv .1) (S.tried (now (args .t)) xs q z walks values memo start variable env (placeAt walks (walk-of .result)) _ (place2 .result) (loop .j) (holds .result) (place2 .ensures) (places-on (loop .env) env _ variable (place .result) (place2 .result) (loop .inv .0) (set-place .ensures)) (omega (arith, pre .1 .0, good .1 .1 .1 .0)) (holds .ensures .0) ∙ if1 .taken)), c .before .before .set-place2 .ensures ∙ places-back (loop .env) env _ variable (place .result) (place2 .result) (loop .inv .0) (set-place .ensures) _ (holds .ensures .1))
+first-row-returns t c = (sym (walked-none (S.asks (now (c .before .before .before .before .before .before .before .before .before .before .before .before .before .before .before .before .before .before .args .t)) (now (c .before .before .before .before .before .before .before .before .before .before .before .before .before .before .before .before .before .before .args .xs)) (now (c .before .before .before .before .before .before .before .before .before .before .before .before .before .before .before .before .before .before .args .q)) (now (c .before .before .before .before .before .before .before .before .before .before .before .before .before .before .before .before .before .before .args .z)) (now (c .before .before .before .before .before .before .before .before .before .before .before .before .before .before .before .before .before .before .args .walks)) (now (c .before .before .before .before .before .before .before .before .before .before .before .before .before .before .before .before .before .before .args .values)) (now (c .before .before .before .before .before .before .before .before .before .before .before .before .before .before .before .before .before .before .args .memo)) (c .before .before .before .before .before .before .before .before .before .before .before .before .before .before .before .before .before .before .args .start) (c .before .before .before .before .before .before .before .before .before .before .before .before .before .before .before .before .before .before .args .variable) (now (c .before .before .before .before .before .before .before .before .before .before .before .before .before .before .before .before .before .before .args .env))) (now (c .before .before .before .before .before .before .before .before .before .before .before .before .before .before .before .before .before .before .args .walks)) (now (c .before .before .before .before .before .before .before .before .before .before .before .before .before .before .before .before .before .before .args .values)) (c .before .before .before .before .before .before .before .before .before .before .before .before .before .before .before .before .before .before .args .variable) (c .before .before .before .before .before .before .before .before .before .before .before .walk-of .result) (c .before .before .before .before .before .before .before .before .before .before .before .walk-of .ensures .0) (let e : c .before .before .before .before .before .next-row .result ≡ c .before .before .before .before .before .before .before .before .before .before .before .walk-of .result .count = omega (arith, c .before .before .before .before .if1 .taken, c .before .before .before .before .before .next-row .ensures .0 .1) in subst (Failed (placeAt (now (c .before .before .before .before .before .before .before .before .before .before .before .before .before .before .before .before .before .before .args .walks)) (c .before .before .before .before .before .before .before .before .before .before .before .walk-of .result)) (now (c .before .before .before .before .before .before .before .before .before .before .before .before .before .before .before .before .before .before .args .values)) (S.asks (now (c .before .before .before .before .before .before .before .before .before .before .before .before .before .before .before .before .before .before .args .t)) (now (c .before .before .before .before .before .before .before .before .before .before .before .before .before .before .before .before .before .before .args .xs)) (now (c .before .before .before .before .before .before .before .before .before .before .before .before .before .before .before .before .before .before .args .q)) (now (c .before .before .before .before .before .before .before .before .before .before .before .before .before .before .before .before .before .before .args .z)) (now (c .before .before .before .before .before .before .before .before .before .before .before .before .before .before .before .before .before .before .args .walks)) (now (c .before .before .before .before .before .before .before .before .before .before .before .before .before .before .before .before .before .before .args .values)) (now (c .before .before .before .before .before .before .before .before .before .before .before .before .before .before .before .before .before .before .args .memo)) (c .before .before .before .before .before .before .before .before .before .before .before .before .before .before .before .before .before .before .args .start) (c .before .before .before .before .before .before .before .before .before .before .before .before .before .before .before .before .before .before .args .variable) (now (c .before .before .before .before .before .before .before .before .before .before .before .before .before .before .before .before .before .before .args .env)))) e (S.over (now (c .before .before .before .before .before .before .before .before .before .before .before .before .before .before .before .before .before .before .args .t)) (now (c .before .before .before .before .before .before .before .before .before .before .before .before .before .before .before .before .before .before .args .xs)) (now (c .before .before .before .before .before .before .before .before .before .before .before .before .before .before .before .before .before .before .args .q)) (now (c .before .before .before .before .before .before .before .before .before .before .before .before .before .before .before .before .before .before .args .z)) (now (c .before .before .before .before .before .before .before .before .before .before .before .before .before .before .before .before .before .before .args .walks)) (now (c .before .before .before .before .before .before .before .before .before .before .before .before .before .before .before .before .before .before .args .values)) (now (c .before .before .before .before .before .before .before .before .before .before .before .before .before .before .before .before .before .before .args .memo)) (c .before .before .before .before .before .before .before .before .before .before .before .before .before .before .before .before .before .before .args .start) (c .before .before .before .before .before .before .before .before .before .before .before .before .before .before .before .before .before .before .args .variable) (now (c .before .before .before .before .before .before .before .before .before .before .before .before .before .before .before .before .before .before .args .env)) (c .before .before .before .before .before .before .before .prepare .result) (now (c .before .before .before .before .before .before .before .before .before .before .before .before .before .before .before .before .before .before .args .chains)) (c .before .before .before .before .before .before .before .prepare .ensures (now (c .before .before .before .before .before .before .before .before .before .before .before .before .before .before .before .before .before .before .args .walks)) (c .before .before .before .before .before .before .before .before .before .before .before .before .before .before .before .before .before .before .pre .1 .2)) (placeAt (now (c .before .before .before .before .before .before .before .before .before .before .before .before .before .before .before .before .before .before .args .walks)) (c .before .before .before .before .before .before .before .before .before .before .before .walk-of .result)) (c .before .before .before .before .before .before .loop .i) (c .before .before .before .before .before .next-row .result) (c .before .before .before .before .before .next-row .ensures .1 .0) (c .before .before .before .before .before .before .loop .inv .1)))), c .before .before .set-place .ensures ∙ c .before .before .before .before .before .before .loop .inv .0)
 
-first-row-add-seek : (t : ℕ) → first-row-lts.Need-add-seek (first-row-claims t) (first-row-at t) first-row.Post first-row-Inv-loop first-row-μ-loop
-first-row-add-seek t c =
-    let c₁₁ = c .before .before .before .before .before .before .before .before .before .before .before in let loop-test = c₁₁ .loop-test in
-    let c₁₇ = c₁₁ .before .before .before .before .before .before in let walk-of = c₁₇ .walk-of in
-    omega (arith, walk-of .ensures .1 .count, loop-test .taken)
+first-row-place-requires-2 : (t : ℕ) → first-row-lts.Need-place-requires-2 (first-row-claims t) (first-row-at t) first-row.Post first-row-Inv-loop first-row-μ-loop
+first-row-place-requires-2 t c κs = (c .before .before .before .before .before .before .before .before .walk-of .ensures .1, omega (arith, c .before .before .before .before .before .before .before .before .walk-of .ensures .1 .count, c .before .if1 .left))
 
-first-row-seek-requires-2 : (t : ℕ) → first-row-lts.Need-seek-requires-2 (first-row-claims t) (first-row-at t) first-row.Post first-row-Inv-loop first-row-μ-loop
-first-row-seek-requires-2 t c κs =
-    let c₄ = c .before .before .before .before in let holds = c₄ .holds in
-    let c₈ = c₄ .before .before .before .before in let set-place = c₈ .set-place in
-    let c₉ = c₈ .before in let place2 = c₉ .place2 in
-    let c₁₁ = c₉ .before .before in let loop-test = c₁₁ .loop-test in
-    let c₁₂ = c₁₁ .before in let loop = c₁₂ .loop in
-    let c₁₅ = c₁₂ .before .before .before in let place = c₁₅ .place in
-    let c₁₇ = c₁₅ .before .before in let walk-of = c₁₇ .walk-of in
-    let c₂₄ = c₁₇ .before .before .before .before .before .before .before in let args = c₂₄ .args in let pre = c₂₄ .pre in
-    (omega (arith, pre .1 .0, places-length (loop .env) (now (args .env)) _ (args .variable) (place .result) (place2 .result) (loop .inv .0) (set-place .ensures) _ (holds .ensures .1) (loop .inv .3)), pre .1 .1, walk-of .ensures .1, omega (arith, loop-test .taken), walk-of .ensures .0, pre .1 .2)
+first-row-set-place-requires-2 : (t : ℕ) → first-row-lts.Need-set-place-requires-2 (first-row-claims t) (first-row-at t) first-row.Post first-row-Inv-loop first-row-μ-loop
+first-row-set-place-requires-2 t c κs = search needs
 
-first-row-loop-less : (t : ℕ) → first-row-lts.Need-loop-less (first-row-claims t) (first-row-at t) first-row.Post first-row-Inv-loop first-row-μ-loop
-first-row-loop-less t c = omega (arith, c .seek2 .ensures .0 .0, c .before .before .before .before .before .before .before .before .before .before .before .before .loop-test .taken)
-
-first-row-loop-again : (t : ℕ) → first-row-lts.Need-loop-again (first-row-claims t) (first-row-at t) first-row.Post first-row-Inv-loop first-row-μ-loop
-first-row-loop-again t c =
-    let c₅ = c .before .before .before .before .before in let holds = c₅ .holds in
-    let c₉ = c₅ .before .before .before .before in let set-place = c₉ .set-place in
-    let c₁₀ = c₉ .before in let place2 = c₁₀ .place2 in
-    let c₁₃ = c₁₀ .before .before .before in let loop = c₁₃ .loop in
-    let c₁₆ = c₁₃ .before .before .before in let place = c₁₆ .place in
-    let c₁₈ = c₁₆ .before .before in let walk-of = c₁₈ .walk-of in
-    let c₂₅ = c₁₈ .before .before .before .before .before .before .before in let args = c₂₅ .args in let good = c₂₅ .good in let pre = c₂₅ .pre in
-    let env = now (args .env) in let memo = now (args .memo) in let q = now (args .q) in let values = now (args .values) in let walks = now (args .walks) in let xs = now (args .xs) in let z = now (args .z) in let start = args .start in let variable = args .variable in
-    (places-back (loop .env) env _ variable (place .result) (place2 .result) (loop .inv .0) (set-place .ensures) _ (holds .ensures .1), S.over (now (args .t)) xs q z walks values memo start variable env (placeAt walks (walk-of .result)) (holds .last .1 .1 .1 .1 .1 .1 .1 .1 .1 .0) (place .result) (loop .j + 1) (c .seek2 .result) (places-back (loop .env) env _ variable (place .result) (place2 .result) (loop .inv .0) (set-place .ensures) _ (holds .ensures .1)) (c .seek2 .ensures .1 q z walks) (none-next (λ j. (S.asks (now (args .t)) xs q z walks values memo start variable env) (tupleAt values ((placeAt walks (walk-of .result)) j))) (loop .j) (loop .inv .1) (S.tried (now (args .t)) xs q z walks values memo start variable env (placeAt walks (walk-of .result)) _ (place2 .result) (loop .j) (holds .result) (place2 .ensures) (places-on (loop .env) env _ variable (place .result) (place2 .result) (loop .inv .0) (set-place .ensures)) (omega (arith, pre .1 .0, good .1 .1 .1 .0)) (holds .ensures .0) ∙ c .before .before .if1 .left)), c .seek2 .ensures .0 .1, places-length (loop .env) env _ variable (place .result) (place2 .result) (loop .inv .0) (set-place .ensures) _ (holds .ensures .1) (loop .inv .3))
+first-row-holds-requires : (t : ℕ) → first-row-lts.Need-holds-requires (first-row-claims t) (first-row-at t) first-row.Post first-row-Inv-loop first-row-μ-loop
+first-row-holds-requires t c κs = (omega (arith, c .before .before .before .before .before .before .before .before .before .before .before .before .before .before .before .before .before .before .before .before .pre .0, c .before .before .before .before .before .before .before .before .before .prepare .ensures (now (c .before .before .before .before .before .before .before .before .before .before .before .before .before .before .before .before .before .before .before .before .args .walks)) (c .before .before .before .before .before .before .before .before .before .before .before .before .before .before .before .before .before .before .before .before .pre .1 .2) .low), (omega (arith, c .before .before .before .before .before .before .before .before .before .before .before .before .before .before .before .before .before .before .before .before .pre .1 .0, c .before .before .before .before .before .before .before .before .loop .inv .3, ap length (c .before .before .before .set-place2 .ensures), length-set (c .before .before .before .before .before .before .before .before .loop .env) (c .before .before .before .before .before .before .before .before .before .before .before .before .before .before .before .before .before .before .before .before .args .variable) (c .before .before .before .before .place2 .result)), omega (arith, c .before .before .before .before .before .before .before .before .before .before .before .before .before .before .before .before .before .before .before .before .pre .1 .1, c .before .before .before .before .before .before .before .before .before .prepare .ensures (now (c .before .before .before .before .before .before .before .before .before .before .before .before .before .before .before .before .before .before .before .before .args .walks)) (c .before .before .before .before .before .before .before .before .before .before .before .before .before .before .before .before .before .before .before .before .pre .1 .2) .low), c .before .before .before .before .before .before .before .before .before .before .before .before .before .before .before .before .before .before .before .before .pre .1 .2))
 
 first-row-set-place-requires-3 : (t : ℕ) → first-row-lts.Need-set-place-requires-3 (first-row-claims t) (first-row-at t) first-row.Post first-row-Inv-loop first-row-μ-loop
 first-row-set-place-requires-3 t c κs = search needs
+
+first-row-add-tried : (t : ℕ) → first-row-lts.Need-add-tried (first-row-claims t) (first-row-at t) first-row.Post first-row-Inv-loop first-row-μ-loop
+first-row-add-tried t c = omega (arith, c .before .before .before .before .before .before .before .before .before .before .before .before .before .before .before .before .before .before .before .before .before .walk-of .ensures .1 .count, c .before .before .before .before .before .before .before .before .before .before .before .before .before .before .if1 .left)
 
 first-row-same-length-2 : (t : ℕ) → first-row-lts.Need-same-length-2 (first-row-claims t) (first-row-at t) first-row.Post first-row-Inv-loop first-row-μ-loop
 first-row-same-length-2 t c = search needs
 
 first-row-returns-2 : (t : ℕ) → first-row-lts.Need-returns-2 (first-row-claims t) (first-row-at t) first-row.Post first-row-Inv-loop first-row-μ-loop
-first-row-returns-2 t c =
-    let c₄ = c .before .before .before .before in let loop-test = c₄ .loop-test in
-    let c₅ = c₄ .before in let loop = c₅ .loop in
-    let c₁₀ = c₅ .before .before .before .before .before in let walk-of = c₁₀ .walk-of in
-    let c₁₇ = c₁₀ .before .before .before .before .before .before .before in let args = c₁₇ .args in
-    let values = now (args .values) in let walks = now (args .walks) in let variable = args .variable in
-    (sym (walked-none (S.asks (now (args .t)) (now (args .xs)) (now (args .q)) (now (args .z)) walks values (now (args .memo)) (args .start) variable (now (args .env))) walks values variable (walk-of .result) (walk-of .ensures .0) (λ j k. loop .inv .1 j (omega (arith, loop-test .left)))), c .before .before .set-place3 .ensures ∙ loop .inv .0)
+first-row-returns-2 t c = (sym (walked-hit (S.asks (now (c .before .before .before .before .before .before .before .before .before .before .before .before .before .before .before .before .before .before .before .before .before .before .before .before .before .before .before .before .args .t)) (now (c .before .before .before .before .before .before .before .before .before .before .before .before .before .before .before .before .before .before .before .before .before .before .before .before .before .before .before .before .args .xs)) (now (c .before .before .before .before .before .before .before .before .before .before .before .before .before .before .before .before .before .before .before .before .before .before .before .before .before .before .before .before .args .q)) (now (c .before .before .before .before .before .before .before .before .before .before .before .before .before .before .before .before .before .before .before .before .before .before .before .before .before .before .before .before .args .z)) (now (c .before .before .before .before .before .before .before .before .before .before .before .before .before .before .before .before .before .before .before .before .before .before .before .before .before .before .before .before .args .walks)) (now (c .before .before .before .before .before .before .before .before .before .before .before .before .before .before .before .before .before .before .before .before .before .before .before .before .before .before .before .before .args .values)) (now (c .before .before .before .before .before .before .before .before .before .before .before .before .before .before .before .before .before .before .before .before .before .before .before .before .before .before .before .before .args .memo)) (c .before .before .before .before .before .before .before .before .before .before .before .before .before .before .before .before .before .before .before .before .before .before .before .before .before .before .before .before .args .start) (c .before .before .before .before .before .before .before .before .before .before .before .before .before .before .before .before .before .before .before .before .before .before .before .before .before .before .before .before .args .variable) (now (c .before .before .before .before .before .before .before .before .before .before .before .before .before .before .before .before .before .before .before .before .before .before .before .before .before .before .before .before .args .env))) (now (c .before .before .before .before .before .before .before .before .before .before .before .before .before .before .before .before .before .before .before .before .before .before .before .before .before .before .before .before .args .walks)) (now (c .before .before .before .before .before .before .before .before .before .before .before .before .before .before .before .before .before .before .before .before .before .before .before .before .before .before .before .before .args .values)) (c .before .before .before .before .before .before .before .before .before .before .before .before .before .before .before .before .before .before .before .before .before .before .before .before .before .before .before .before .args .variable) (c .before .before .before .before .before .before .before .before .before .before .before .before .before .before .before .before .before .before .before .before .before .walk-of .result) (c .before .before .before .before .before .before .before .before .before .before .before .before .before .before .before .before .before .before .before .before .before .walk-of .ensures .0) (c .before .before .before .before .before .before .before .before .before .before .before .before .before .before .before .next-row .result) (c .before .before .before .before .before .before .before .before .before .before .before .before .before .before .if1 .left) (S.over (now (c .before .before .before .before .before .before .before .before .before .before .before .before .before .before .before .before .before .before .before .before .before .before .before .before .before .before .before .before .args .t)) (now (c .before .before .before .before .before .before .before .before .before .before .before .before .before .before .before .before .before .before .before .before .before .before .before .before .before .before .before .before .args .xs)) (now (c .before .before .before .before .before .before .before .before .before .before .before .before .before .before .before .before .before .before .before .before .before .before .before .before .before .before .before .before .args .q)) (now (c .before .before .before .before .before .before .before .before .before .before .before .before .before .before .before .before .before .before .before .before .before .before .before .before .before .before .before .before .args .z)) (now (c .before .before .before .before .before .before .before .before .before .before .before .before .before .before .before .before .before .before .before .before .before .before .before .before .before .before .before .before .args .walks)) (now (c .before .before .before .before .before .before .before .before .before .before .before .before .before .before .before .before .before .before .before .before .before .before .before .before .before .before .before .before .args .values)) (now (c .before .before .before .before .before .before .before .before .before .before .before .before .before .before .before .before .before .before .before .before .before .before .before .before .before .before .before .before .args .memo)) (c .before .before .before .before .before .before .before .before .before .before .before .before .before .before .before .before .before .before .before .before .before .before .before .before .before .before .before .before .args .start) (c .before .before .before .before .before .before .before .before .before .before .before .before .before .before .before .before .before .before .before .before .before .before .before .before .before .before .before .before .args .variable) (now (c .before .before .before .before .before .before .before .before .before .before .before .before .before .before .before .before .before .before .before .before .before .before .before .before .before .before .before .before .args .env)) (c .before .before .before .before .before .before .before .before .before .before .before .before .before .before .before .before .before .prepare .result) (now (c .before .before .before .before .before .before .before .before .before .before .before .before .before .before .before .before .before .before .before .before .before .before .before .before .before .before .before .before .args .chains)) (c .before .before .before .before .before .before .before .before .before .before .before .before .before .before .before .before .before .prepare .ensures (now (c .before .before .before .before .before .before .before .before .before .before .before .before .before .before .before .before .before .before .before .before .before .before .before .before .before .before .before .before .args .walks)) (c .before .before .before .before .before .before .before .before .before .before .before .before .before .before .before .before .before .before .before .before .before .before .before .before .before .before .before .before .pre .1 .2)) (placeAt (now (c .before .before .before .before .before .before .before .before .before .before .before .before .before .before .before .before .before .before .before .before .before .before .before .before .before .before .before .before .args .walks)) (c .before .before .before .before .before .before .before .before .before .before .before .before .before .before .before .before .before .before .before .before .before .walk-of .result)) (c .before .before .before .before .before .before .before .before .before .before .before .before .before .before .before .before .loop .i) (c .before .before .before .before .before .before .before .before .before .before .before .before .before .before .before .next-row .result) (c .before .before .before .before .before .before .before .before .before .before .before .before .before .before .before .next-row .ensures .1 .0) (c .before .before .before .before .before .before .before .before .before .before .before .before .before .before .before .before .loop .inv .1)) (S.tried (now (c .before .before .before .before .before .before .before .before .before .before .before .before .before .before .before .before .before .before .before .before .before .before .before .before .before .before .before .before .args .t)) (now (c .before .before .before .before .before .before .before .before .before .before .before .before .before .before .before .before .before .before .before .before .before .before .before .before .before .before .before .before .args .xs)) (now (c .before .before .before .before .before .before .before .before .before .before .before .before .before .before .before .before .before .before .before .before .before .before .before .before .before .before .before .before .args .q)) (now (c .before .before .before .before .before .before .before .before .before .before .before .before .before .before .before .before .before .before .before .before .before .before .before .before .before .before .before .before .args .z)) (now (c .before .before .before .before .before .before .before .before .before .before .before .before .before .before .before .before .before .before .before .before .before .before .before .before .before .before .before .before .args .walks)) (now (c .before .before .before .before .before .before .before .before .before .before .before .before .before .before .before .before .before .before .before .before .before .before .before .before .before .before .before .before .args .values)) (now (c .before .before .before .before .before .before .before .before .before .before .before .before .before .before .before .before .before .before .before .before .before .before .before .before .before .before .before .before .args .memo)) (c .before .before .before .before .before .before .before .before .before .before .before .before .before .before .before .before .before .before .before .before .before .before .before .before .before .before .before .before .args .start) (c .before .before .before .before .before .before .before .before .before .before .before .before .before .before .before .before .before .before .before .before .before .before .before .before .before .before .before .before .args .variable) (now (c .before .before .before .before .before .before .before .before .before .before .before .before .before .before .before .before .before .before .before .before .before .before .before .before .before .before .before .before .args .env)) (c .before .before .before .before .before .before .before .before .before .before .before .before .before .before .before .before .before .prepare .result) (now (c .before .before .before .before .before .before .before .before .before .before .before .before .before .before .before .before .before .before .before .before .before .before .before .before .before .before .before .before .args .chains)) (c .before .before .before .before .before .before .before .before .before .before .before .before .before .before .before .before .before .prepare .ensures (now (c .before .before .before .before .before .before .before .before .before .before .before .before .before .before .before .before .before .before .before .before .before .before .before .before .before .before .before .before .args .walks)) (c .before .before .before .before .before .before .before .before .before .before .before .before .before .before .before .before .before .before .before .before .before .before .before .before .before .before .before .before .pre .1 .2)) (placeAt (now (c .before .before .before .before .before .before .before .before .before .before .before .before .before .before .before .before .before .before .before .before .before .before .before .before .before .before .before .before .args .walks)) (c .before .before .before .before .before .before .before .before .before .before .before .before .before .before .before .before .before .before .before .before .before .walk-of .result)) _ (c .before .before .before .before .before .before .before .before .before .before .before .before .place2 .result) (c .before .before .before .before .before .before .before .before .before .before .before .before .before .before .before .next-row .result) (c .before .before .before .before .before .before .before .holds .result) (c .before .before .before .before .before .before .before .before .before .before .before .before .before .before .before .next-row .ensures .1 .1 (c .before .before .before .before .before .before .before .before .before .before .before .before .before .before .if1 .left)) (c .before .before .before .before .before .before .before .before .before .before .before .before .place2 .ensures) (places-on (c .before .before .before .before .before .before .before .before .before .before .before .before .before .before .before .before .loop .env) (now (c .before .before .before .before .before .before .before .before .before .before .before .before .before .before .before .before .before .before .before .before .before .before .before .before .before .before .before .before .args .env)) _ (c .before .before .before .before .before .before .before .before .before .before .before .before .before .before .before .before .before .before .before .before .before .before .before .before .before .before .before .before .args .variable) (c .before .before .before .before .before .before .before .before .before .before .before .before .before .before .before .before .before .before .before .place .result) (c .before .before .before .before .before .before .before .before .before .before .before .before .place2 .result) (c .before .before .before .before .before .before .before .before .before .before .before .before .before .before .before .before .loop .inv .0) (c .before .before .before .before .before .before .before .before .before .before .before .set-place2 .ensures)) (omega (arith, c .before .before .before .before .before .before .before .before .before .before .before .before .before .before .before .before .before .before .before .before .before .before .before .before .before .before .before .before .pre .1 .0, c .before .before .before .before .before .before .before .before .before .before .before .before .before .before .before .before .before .before .before .before .before .before .before .before .before .before .before .before .good .1 .1 .1 .0)) (c .before .before .before .before .before .before .before .holds .ensures .0) ∙ c .before .before .before .before .if2 .taken)), c .before .before .set-place3 .ensures ∙ places-back (c .before .before .before .before .before .before .before .before .before .before .before .before .before .before .before .before .loop .env) (now (c .before .before .before .before .before .before .before .before .before .before .before .before .before .before .before .before .before .before .before .before .before .before .before .before .before .before .before .before .args .env)) _ (c .before .before .before .before .before .before .before .before .before .before .before .before .before .before .before .before .before .before .before .before .before .before .before .before .before .before .before .before .args .variable) (c .before .before .before .before .before .before .before .before .before .before .before .before .before .before .before .before .before .before .before .place .result) (c .before .before .before .before .before .before .before .before .before .before .before .before .place2 .result) (c .before .before .before .before .before .before .before .before .before .before .before .before .before .before .before .before .loop .inv .0) (c .before .before .before .before .before .before .before .before .before .before .before .set-place2 .ensures) _ (c .before .before .before .before .before .before .before .holds .ensures .1))
+
+first-row-add-i : (t : ℕ) → first-row-lts.Need-add-i (first-row-claims t) (first-row-at t) first-row.Post first-row-Inv-loop first-row-μ-loop
+first-row-add-i t c = omega (arith, c .before .before .before .before .before .before .before .before .before .before .before .before .before .before .before .before .before .walk-of .ensures .1 .count, c .before .before .before .before .before .before .before .before .before .before .if1 .left)
+
+first-row-loop-less : (t : ℕ) → first-row-lts.Need-loop-less (first-row-claims t) (first-row-at t) first-row.Post first-row-Inv-loop first-row-μ-loop
+first-row-loop-less t c = omega (arith, c .before .before .before .before .before .before .before .before .before .before .before .next-row .ensures .0 .0, c .before .before .before .before .before .before .before .before .before .before .if1 .left)
+
+first-row-loop-again : (t : ℕ) → first-row-lts.Need-loop-again (first-row-claims t) (first-row-at t) first-row.Post first-row-Inv-loop first-row-μ-loop
+first-row-loop-again t c = (places-back (c .before .before .before .before .before .before .before .before .before .before .before .before .loop .env) (now (c .before .before .before .before .before .before .before .before .before .before .before .before .before .before .before .before .before .before .before .before .before .before .before .before .args .env)) _ (c .before .before .before .before .before .before .before .before .before .before .before .before .before .before .before .before .before .before .before .before .before .before .before .before .args .variable) (c .before .before .before .before .before .before .before .before .before .before .before .before .before .before .before .place .result) (c .before .before .before .before .before .before .before .before .place2 .result) (c .before .before .before .before .before .before .before .before .before .before .before .before .loop .inv .0) (c .before .before .before .before .before .before .before .set-place2 .ensures) _ (c .before .before .before .holds .ensures .1), none-next (λ j. S.asks (now (c .before .before .before .before .before .before .before .before .before .before .before .before .before .before .before .before .before .before .before .before .before .before .before .before .args .t)) (now (c .before .before .before .before .before .before .before .before .before .before .before .before .before .before .before .before .before .before .before .before .before .before .before .before .args .xs)) (now (c .before .before .before .before .before .before .before .before .before .before .before .before .before .before .before .before .before .before .before .before .before .before .before .before .args .q)) (now (c .before .before .before .before .before .before .before .before .before .before .before .before .before .before .before .before .before .before .before .before .before .before .before .before .args .z)) (now (c .before .before .before .before .before .before .before .before .before .before .before .before .before .before .before .before .before .before .before .before .before .before .before .before .args .walks)) (now (c .before .before .before .before .before .before .before .before .before .before .before .before .before .before .before .before .before .before .before .before .before .before .before .before .args .values)) (now (c .before .before .before .before .before .before .before .before .before .before .before .before .before .before .before .before .before .before .before .before .before .before .before .before .args .memo)) (c .before .before .before .before .before .before .before .before .before .before .before .before .before .before .before .before .before .before .before .before .before .before .before .before .args .start) (c .before .before .before .before .before .before .before .before .before .before .before .before .before .before .before .before .before .before .before .before .before .before .before .before .args .variable) (now (c .before .before .before .before .before .before .before .before .before .before .before .before .before .before .before .before .before .before .before .before .before .before .before .before .args .env)) (tupleAt (now (c .before .before .before .before .before .before .before .before .before .before .before .before .before .before .before .before .before .before .before .before .before .before .before .before .args .values)) ((placeAt (now (c .before .before .before .before .before .before .before .before .before .before .before .before .before .before .before .before .before .before .before .before .before .before .before .before .args .walks)) (c .before .before .before .before .before .before .before .before .before .before .before .before .before .before .before .before .before .walk-of .result)) j))) (c .before .before .before .before .before .before .before .before .before .before .before .next-row .result) (S.over (now (c .before .before .before .before .before .before .before .before .before .before .before .before .before .before .before .before .before .before .before .before .before .before .before .before .args .t)) (now (c .before .before .before .before .before .before .before .before .before .before .before .before .before .before .before .before .before .before .before .before .before .before .before .before .args .xs)) (now (c .before .before .before .before .before .before .before .before .before .before .before .before .before .before .before .before .before .before .before .before .before .before .before .before .args .q)) (now (c .before .before .before .before .before .before .before .before .before .before .before .before .before .before .before .before .before .before .before .before .before .before .before .before .args .z)) (now (c .before .before .before .before .before .before .before .before .before .before .before .before .before .before .before .before .before .before .before .before .before .before .before .before .args .walks)) (now (c .before .before .before .before .before .before .before .before .before .before .before .before .before .before .before .before .before .before .before .before .before .before .before .before .args .values)) (now (c .before .before .before .before .before .before .before .before .before .before .before .before .before .before .before .before .before .before .before .before .before .before .before .before .args .memo)) (c .before .before .before .before .before .before .before .before .before .before .before .before .before .before .before .before .before .before .before .before .before .before .before .before .args .start) (c .before .before .before .before .before .before .before .before .before .before .before .before .before .before .before .before .before .before .before .before .before .before .before .before .args .variable) (now (c .before .before .before .before .before .before .before .before .before .before .before .before .before .before .before .before .before .before .before .before .before .before .before .before .args .env)) (c .before .before .before .before .before .before .before .before .before .before .before .before .before .prepare .result) (now (c .before .before .before .before .before .before .before .before .before .before .before .before .before .before .before .before .before .before .before .before .before .before .before .before .args .chains)) (c .before .before .before .before .before .before .before .before .before .before .before .before .before .prepare .ensures (now (c .before .before .before .before .before .before .before .before .before .before .before .before .before .before .before .before .before .before .before .before .before .before .before .before .args .walks)) (c .before .before .before .before .before .before .before .before .before .before .before .before .before .before .before .before .before .before .before .before .before .before .before .before .pre .1 .2)) (placeAt (now (c .before .before .before .before .before .before .before .before .before .before .before .before .before .before .before .before .before .before .before .before .before .before .before .before .args .walks)) (c .before .before .before .before .before .before .before .before .before .before .before .before .before .before .before .before .before .walk-of .result)) (c .before .before .before .before .before .before .before .before .before .before .before .before .loop .i) (c .before .before .before .before .before .before .before .before .before .before .before .next-row .result) (c .before .before .before .before .before .before .before .before .before .before .before .next-row .ensures .1 .0) (c .before .before .before .before .before .before .before .before .before .before .before .before .loop .inv .1)) (S.tried (now (c .before .before .before .before .before .before .before .before .before .before .before .before .before .before .before .before .before .before .before .before .before .before .before .before .args .t)) (now (c .before .before .before .before .before .before .before .before .before .before .before .before .before .before .before .before .before .before .before .before .before .before .before .before .args .xs)) (now (c .before .before .before .before .before .before .before .before .before .before .before .before .before .before .before .before .before .before .before .before .before .before .before .before .args .q)) (now (c .before .before .before .before .before .before .before .before .before .before .before .before .before .before .before .before .before .before .before .before .before .before .before .before .args .z)) (now (c .before .before .before .before .before .before .before .before .before .before .before .before .before .before .before .before .before .before .before .before .before .before .before .before .args .walks)) (now (c .before .before .before .before .before .before .before .before .before .before .before .before .before .before .before .before .before .before .before .before .before .before .before .before .args .values)) (now (c .before .before .before .before .before .before .before .before .before .before .before .before .before .before .before .before .before .before .before .before .before .before .before .before .args .memo)) (c .before .before .before .before .before .before .before .before .before .before .before .before .before .before .before .before .before .before .before .before .before .before .before .before .args .start) (c .before .before .before .before .before .before .before .before .before .before .before .before .before .before .before .before .before .before .before .before .before .before .before .before .args .variable) (now (c .before .before .before .before .before .before .before .before .before .before .before .before .before .before .before .before .before .before .before .before .before .before .before .before .args .env)) (c .before .before .before .before .before .before .before .before .before .before .before .before .before .prepare .result) (now (c .before .before .before .before .before .before .before .before .before .before .before .before .before .before .before .before .before .before .before .before .before .before .before .before .args .chains)) (c .before .before .before .before .before .before .before .before .before .before .before .before .before .prepare .ensures (now (c .before .before .before .before .before .before .before .before .before .before .before .before .before .before .before .before .before .before .before .before .before .before .before .before .args .walks)) (c .before .before .before .before .before .before .before .before .before .before .before .before .before .before .before .before .before .before .before .before .before .before .before .before .pre .1 .2)) (placeAt (now (c .before .before .before .before .before .before .before .before .before .before .before .before .before .before .before .before .before .before .before .before .before .before .before .before .args .walks)) (c .before .before .before .before .before .before .before .before .before .before .before .before .before .before .before .before .before .walk-of .result)) _ (c .before .before .before .before .before .before .before .before .place2 .result) (c .before .before .before .before .before .before .before .before .before .before .before .next-row .result) (c .before .before .before .holds .result) (c .before .before .before .before .before .before .before .before .before .before .before .next-row .ensures .1 .1 (c .before .before .before .before .before .before .before .before .before .before .if1 .left)) (c .before .before .before .before .before .before .before .before .place2 .ensures) (places-on (c .before .before .before .before .before .before .before .before .before .before .before .before .loop .env) (now (c .before .before .before .before .before .before .before .before .before .before .before .before .before .before .before .before .before .before .before .before .before .before .before .before .args .env)) _ (c .before .before .before .before .before .before .before .before .before .before .before .before .before .before .before .before .before .before .before .before .before .before .before .before .args .variable) (c .before .before .before .before .before .before .before .before .before .before .before .before .before .before .before .place .result) (c .before .before .before .before .before .before .before .before .place2 .result) (c .before .before .before .before .before .before .before .before .before .before .before .before .loop .inv .0) (c .before .before .before .before .before .before .before .set-place2 .ensures)) (omega (arith, c .before .before .before .before .before .before .before .before .before .before .before .before .before .before .before .before .before .before .before .before .before .before .before .before .pre .1 .0, c .before .before .before .before .before .before .before .before .before .before .before .before .before .before .before .before .before .before .before .before .before .before .before .before .good .1 .1 .1 .0)) (c .before .before .before .holds .ensures .0) ∙ c .if2 .left), omega (arith, c .before .before .before .before .before .before .before .before .before .before .if1 .left), places-length (c .before .before .before .before .before .before .before .before .before .before .before .before .loop .env) (now (c .before .before .before .before .before .before .before .before .before .before .before .before .before .before .before .before .before .before .before .before .before .before .before .before .args .env)) _ (c .before .before .before .before .before .before .before .before .before .before .before .before .before .before .before .before .before .before .before .before .before .before .before .before .args .variable) (c .before .before .before .before .before .before .before .before .before .before .before .before .before .before .before .place .result) (c .before .before .before .before .before .before .before .before .place2 .result) (c .before .before .before .before .before .before .before .before .before .before .before .before .loop .inv .0) (c .before .before .before .before .before .before .before .set-place2 .ensures) _ (c .before .before .before .holds .ensures .1) (c .before .before .before .before .before .before .before .before .before .before .before .before .loop .inv .3), λ h. (let e : c .before .before .before .before .before .before .before .before .before .before .before .next-row .result + 1 - 1 ≡ c .before .before .before .before .before .before .before .before .before .before .before .next-row .result = omega arith in ap (λ (i : ℕ). stops (c .before .before .before .before .before .before .before .before .before .before .before .before .before .prepare .result) (tupleAt (now (c .before .before .before .before .before .before .before .before .before .before .before .before .before .before .before .before .before .before .before .before .before .before .before .before .args .values)) ((placeAt (now (c .before .before .before .before .before .before .before .before .before .before .before .before .before .before .before .before .before .before .before .before .before .before .before .before .args .walks)) (c .before .before .before .before .before .before .before .before .before .before .before .before .before .before .before .before .before .walk-of .result)) i))) e) ∙ c .before .before .before .before .before .before .before .before .before .before .before .next-row .ensures .1 .1 (c .before .before .before .before .before .before .before .before .before .before .if1 .left))
 
 abbrev holds-Inv-loop : holds-lts.InvT-loop
 holds-Inv-loop t xs start q z walks chains values memo env₀ from₀ env from = (runs t xs q z walks values memo from (assigned values env₀) ≡ runs t xs q z walks values memo start (assigned values env₀)) × (env ≡ env₀) × (from ≤ start) × (length env ≡ length env₀)
@@ -201,47 +148,42 @@ holds-loop-holds : (t : ℕ) → holds-lts.Need-loop-holds (holds-claims t) (hol
 holds-loop-holds t c = (refl, refl, omega arith, refl)
 
 holds-run-requires : (t : ℕ) → holds-lts.Need-run-requires (holds-claims t) (holds-at t) holds.Post holds-Inv-loop holds-μ-loop
-holds-run-requires t c κs =
-    let c₁ = c .before in let loop = c₁ .loop in
-    let c₈ = c₁ .before .before .before .before .before .before .before in let pre = c₈ .pre in
+holds-run-requires t c κs = let loop = c .before .loop in
+    let pre = c .before .before .before .before .before .before .before .before .pre in
     (omega (arith, pre .1 .0, loop .inv .3), omega (arith, pre .1 .1, loop .inv .2))
 
 holds-same-length : (t : ℕ) → holds-lts.Need-same-length (holds-claims t) (holds-at t) holds.Post holds-Inv-loop holds-μ-loop
 holds-same-length t c = search needs
 
 holds-returns : (t : ℕ) → holds-lts.Need-returns (holds-claims t) (holds-at t) holds.Post holds-Inv-loop holds-μ-loop
-holds-returns t c =
-    let c₃ = c .before .before .before in let run = c₃ .run in
-    let c₅ = c₃ .before .before in let loop = c₅ .loop in
-    let c₁₂ = c₅ .before .before .before .before .before .before .before in let args = c₁₂ .args in
+holds-returns t c = let run = c .before .before .before .run in
+    let loop = c .before .before .before .before .before .loop in
+    let args = c .before .before .before .before .before .before .before .before .before .before .before .before .args in
     let env = now (args .env) in let memo = now (args .memo) in let q = now (args .q) in let values = now (args .values) in let walks = now (args .walks) in let xs = now (args .xs) in let z = now (args .z) in let start = args .start in
     (follow-end (now (args .t)) xs q z walks values memo env (run .result) start (c .if1 .taken) (S.moved (now (args .t)) xs q z walks values memo env (loop .env) (run .result) (loop .from) start (loop .inv .1) (run .ensures .0) (loop .inv .0)), run .ensures .1 .1 ∙ loop .inv .1)
 
 holds-some-row-requires : (t : ℕ) → holds-lts.Need-some-row-requires (holds-claims t) (holds-at t) holds.Post holds-Inv-loop holds-μ-loop
-holds-some-row-requires t c κs =
-    let c₄ = c .before .before .before .before in let run = c₄ .run in
-    let c₆ = c₄ .before .before in let loop = c₆ .loop in
-    let c₁₃ = c₆ .before .before .before .before .before .before .before in let pre = c₁₃ .pre in
+holds-some-row-requires t c κs = let run = c .before .before .before .before .run in
+    let loop = c .before .before .before .before .before .before .loop in
+    let pre = c .before .before .before .before .before .before .before .before .before .before .before .before .before .pre in
     (omega (arith, pre .0, run .ensures .1 .0 .0, loop .inv .2), (omega (arith, pre .1 .0, loop .inv .3, ap length (run .ensures .1 .1)), omega (arith, pre .1 .1, run .ensures .1 .0 .0, loop .inv .2), run .ensures .1 .0 .1 (omega (arith, c .before .if1 .left)), pre .1 .2))
 
 holds-way-requires : (t : ℕ) → holds-lts.Need-way-requires (holds-claims t) (holds-at t) holds.Post holds-Inv-loop holds-μ-loop
-holds-way-requires t c κs =
-    let c₇ = c .before .before .before .before .before .before .before in let run = c₇ .run in
-    let c₉ = c₇ .before .before in let loop = c₉ .loop in
-    let c₁₆ = c₉ .before .before .before .before .before .before .before in let pre = c₁₆ .pre in
+holds-way-requires t c κs = let run = c .before .before .before .before .before .before .before .run in
+    let loop = c .before .before .before .before .before .before .before .before .before .loop in
+    let pre = c .before .before .before .before .before .before .before .before .before .before .before .before .before .before .before .before .pre in
     omega (arith, pre .1 .1, run .ensures .1 .0 .0, loop .inv .2)
 
 holds-same-length-2 : (t : ℕ) → holds-lts.Need-same-length-2 (holds-claims t) (holds-at t) holds.Post holds-Inv-loop holds-μ-loop
 holds-same-length-2 t c = search needs
 
 holds-returns-2 : (t : ℕ) → holds-lts.Need-returns-2 (holds-claims t) (holds-at t) holds.Post holds-Inv-loop holds-μ-loop
-holds-returns-2 t c =
-    let c₁ = c .before in let way = c₁ .way in
-    let c₄ = c₁ .before .before .before in let some-row = c₄ .some-row in
-    let c₆ = c₄ .before .before in let if1 = c₆ .if1 in
-    let c₉ = c₆ .before .before .before in let run = c₉ .run in
-    let c₁₁ = c₉ .before .before in let loop = c₁₁ .loop in
-    let c₁₈ = c₁₁ .before .before .before .before .before .before .before in let args = c₁₈ .args in
+holds-returns-2 t c = let way = c .before .way in
+    let some-row = c .before .before .before .before .some-row in
+    let if1 = c .before .before .before .before .before .before .if1 in
+    let run = c .before .before .before .before .before .before .before .before .before .run in
+    let loop = c .before .before .before .before .before .before .before .before .before .before .before .loop in
+    let args = c .before .before .before .before .before .before .before .before .before .before .before .before .before .before .before .before .before .before .args in
     let env = now (args .env) in let memo = now (args .memo) in let q = now (args .q) in let values = now (args .values) in let walks = now (args .walks) in let xs = now (args .xs) in let z = now (args .z) in let start = args .start in
     (follow-stuck (now (args .t)) xs q z walks values memo env (run .result) start (way .result) _ (run .ensures .1 .1 ∙ loop .inv .1) (omega (arith, if1 .left)) (S.way-next (now (args .t)) xs q z walks values memo (run .last .1 .1 .1 .1 .1 .1 .1 .1 .0) (run .result) (way .result) (some-row .result) (way .ensures .0) (some-row .ensures .0)) (S.moved (now (args .t)) xs q z walks values memo env (loop .env) (run .result) (loop .from) start (loop .inv .1) (run .ensures .0) (loop .inv .0)) (c .if2 .taken), some-row .ensures .1 ∙ (run .ensures .1 .1 ∙ loop .inv .1))
 
@@ -249,13 +191,12 @@ holds-loop-less : (t : ℕ) → holds-lts.Need-loop-less (holds-claims t) (holds
 holds-loop-less t c = omega (arith, c .if2 .left, c .before .before .before .before .before .before .before .before .before .run .ensures .1 .0 .0)
 
 holds-loop-again : (t : ℕ) → holds-lts.Need-loop-again (holds-claims t) (holds-at t) holds.Post holds-Inv-loop holds-μ-loop
-holds-loop-again t c =
-    let c₁ = c .before in let way = c₁ .way in
-    let c₄ = c₁ .before .before .before in let some-row = c₄ .some-row in
-    let c₆ = c₄ .before .before in let if1 = c₆ .if1 in
-    let c₉ = c₆ .before .before .before in let run = c₉ .run in
-    let c₁₁ = c₉ .before .before in let loop = c₁₁ .loop in
-    let c₁₈ = c₁₁ .before .before .before .before .before .before .before in let args = c₁₈ .args in
+holds-loop-again t c = let way = c .before .way in
+    let some-row = c .before .before .before .before .some-row in
+    let if1 = c .before .before .before .before .before .before .if1 in
+    let run = c .before .before .before .before .before .before .before .before .before .run in
+    let loop = c .before .before .before .before .before .before .before .before .before .before .before .loop in
+    let args = c .before .before .before .before .before .before .before .before .before .before .before .before .before .before .before .before .before .before .args in
     let env = now (args .env) in let memo = now (args .memo) in let q = now (args .q) in let values = now (args .values) in let walks = now (args .walks) in let xs = now (args .xs) in let z = now (args .z) in let start = args .start in
     (follow-on (now (args .t)) xs q z walks values memo env (run .result) start (way .result) _ (run .ensures .1 .1 ∙ loop .inv .1) (omega (arith, if1 .left)) (S.way-next (now (args .t)) xs q z walks values memo (run .last .1 .1 .1 .1 .1 .1 .1 .1 .0) (run .result) (way .result) (some-row .result) (way .ensures .0) (some-row .ensures .0)) (S.moved (now (args .t)) xs q z walks values memo env (loop .env) (run .result) (loop .from) start (loop .inv .1) (run .ensures .0) (loop .inv .0)) (omega (arith, c .if2 .left)), some-row .ensures .1 ∙ (run .ensures .1 .1 ∙ loop .inv .1), omega (arith, c .if2 .left, run .ensures .1 .0 .0, loop .inv .2), ap length (some-row .ensures .1 ∙ (run .ensures .1 .1 ∙ loop .inv .1)))
 
@@ -269,9 +210,8 @@ some-row-size-at-requires : (t : ℕ) → some-row-lts.Need-size-at-requires (so
 some-row-size-at-requires t c κs = search needs
 
 some-row-returns : (t : ℕ) → some-row-lts.Need-returns (some-row-claims t) (some-row-at t) some-row.Post
-some-row-returns t c =
-    let c₁ = c .before in let size-at = c₁ .size-at in
-    let c₈ = c₁ .before .before .before .before .before .before .before in let args = c₈ .args in let pre = c₈ .pre in
+some-row-returns t c = let size-at = c .before .size-at in
+    let args = c .before .before .before .before .before .before .before .before .args in let pre = c .before .before .before .before .before .before .before .before .pre in
     (S.some-stuck (now (args .t)) (now (args .xs)) (now (args .q)) (now (args .z)) (now (args .walks)) (now (args .values)) (now (args .memo)) (size-at .result) 0 (now (args .env)) (args .i) (pre .1 .2) (size-at .ensures .0) (c .if1 .taken), refl)
 
 some-row-mul-size-at-2 : (t : ℕ) → some-row-lts.Need-mul-size-at-2 (some-row-claims t) (some-row-at t) some-row.Post
@@ -284,34 +224,31 @@ some-row-size-at-requires-2 : (t : ℕ) → some-row-lts.Need-size-at-requires-2
 some-row-size-at-requires-2 t c κs = search needs
 
 some-row-returns-2 : (t : ℕ) → some-row-lts.Need-returns-2 (some-row-claims t) (some-row-at t) some-row.Post
-some-row-returns-2 t c =
-    let c₁ = c .before in let size-at2 = c₁ .size-at2 in
-    let c₃ = c₁ .before .before in let size-at = c₃ .size-at in
-    let c₁₀ = c₃ .before .before .before .before .before .before .before in let args = c₁₀ .args in let pre = c₁₀ .pre in
+some-row-returns-2 t c = let size-at2 = c .before .size-at2 in
+    let size-at = c .before .before .before .size-at in
+    let args = c .before .before .before .before .before .before .before .before .before .before .args in let pre = c .before .before .before .before .before .before .before .before .before .before .pre in
     (S.some-high (now (args .t)) (now (args .xs)) (now (args .q)) (now (args .z)) (now (args .walks)) (now (args .values)) (now (args .memo)) (size-at .result) 0 (now (args .env)) (args .i) (pre .1 .2) (size-at .ensures .0) (size-at2 .result) (size-at2 .ensures .0) (omega (arith, c .before .before .if1 .left)) (c .if2 .taken), refl)
 
 some-row-byte-of-requires : (t : ℕ) → some-row-lts.Need-byte-of-requires (some-row-claims t) (some-row-at t) some-row.Post
 some-row-byte-of-requires t c κs = omega (arith, c .if2 .left)
 
 some-row-first-row-requires : (t : ℕ) → some-row-lts.Need-first-row-requires (some-row-claims t) (some-row-at t) some-row.Post
-some-row-first-row-requires t c κs =
-    let c₄ = c .before .before .before .before in let if1 = c₄ .if1 in
-    let c₅ = c₄ .before in let size-at = c₅ .size-at in
-    let c₁₂ = c₅ .before .before .before .before .before .before .before in let pre = c₁₂ .pre in
+some-row-first-row-requires t c κs = let if1 = c .before .before .before .before .if1 in
+    let size-at = c .before .before .before .before .before .size-at in
+    let pre = c .before .before .before .before .before .before .before .before .before .before .before .before .pre in
     (omega (arith, pre .0, if1 .left), (pre .1 .0, size-at .ensures .1, pre .1 .3))
 
 some-row-same-length : (t : ℕ) → some-row-lts.Need-same-length (some-row-claims t) (some-row-at t) some-row.Post
 some-row-same-length t c = search needs
 
 some-row-returns-3 : (t : ℕ) → some-row-lts.Need-returns-3 (some-row-claims t) (some-row-at t) some-row.Post
-some-row-returns-3 t c =
-    let c₂ = c .before .before in let first-row = c₂ .first-row in
-    let c₄ = c₂ .before .before in let byte-of = c₄ .byte-of in
-    let c₅ = c₄ .before in let if2 = c₅ .if2 in
-    let c₆ = c₅ .before in let size-at2 = c₆ .size-at2 in
-    let c₇ = c₆ .before in let if1 = c₇ .if1 in
-    let c₈ = c₇ .before in let size-at = c₈ .size-at in
-    let c₁₅ = c₈ .before .before .before .before .before .before .before in let args = c₁₅ .args in let pre = c₁₅ .pre in
+some-row-returns-3 t c = let first-row = c .before .before .first-row in
+    let byte-of = c .before .before .before .before .byte-of in
+    let if2 = c .before .before .before .before .before .if2 in
+    let size-at2 = c .before .before .before .before .before .before .size-at2 in
+    let if1 = c .before .before .before .before .before .before .before .if1 in
+    let size-at = c .before .before .before .before .before .before .before .before .size-at in
+    let args = c .before .before .before .before .before .before .before .before .before .before .before .before .before .before .before .args in let pre = c .before .before .before .before .before .before .before .before .before .before .before .before .before .before .before .pre in
     (S.some-is (now (args .t)) (now (args .xs)) (now (args .q)) (now (args .z)) (now (args .walks)) (now (args .values)) (now (args .memo)) (size-at .result) (byte-of .result) (now (args .env)) (args .i) (pre .1 .2) (size-at .ensures .0) _ _ (byte-of .ensures ∙ size-at2 .ensures .0) (omega (arith, if1 .left)) (omega (arith, byte-of .ensures, if2 .left)) (first-row .ensures .0), first-row .ensures .1)
 
 pub +first-row+holds+some-row-spec : {M : Type 1} → statement M
@@ -322,22 +259,22 @@ pub +first-row+holds+some-row-spec : {M : Type 1} → statement M
     first-row-μ-loop
     (first-row-walk-of-requires t)
     (first-row-place-requires t)
-    (first-row-seek-requires t)
+    (first-row-prepare-requires t)
     (first-row-loop-holds t)
-    (first-row-place-requires-2 t)
+    (first-row-next-row-requires t)
     (first-row-set-place-requires t)
-    (first-row-holds-requires t)
-    (first-row-set-place-requires-2 t)
-    (first-row-add-tried t)
     (first-row-same-length t)
     (first-row-returns t)
-    (first-row-add-seek t)
-    (first-row-seek-requires-2 t)
-    (first-row-loop-less t)
-    (first-row-loop-again t)
+    (first-row-place-requires-2 t)
+    (first-row-set-place-requires-2 t)
+    (first-row-holds-requires t)
     (first-row-set-place-requires-3 t)
+    (first-row-add-tried t)
     (first-row-same-length-2 t)
-    (first-row-returns-2 t))
+    (first-row-returns-2 t)
+    (first-row-add-i t)
+    (first-row-loop-less t)
+    (first-row-loop-again t))
     (λ t. holds-lts.spec (holds-claims t)
     (holds-at t)
     holds.Post

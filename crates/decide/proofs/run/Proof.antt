@@ -3,7 +3,7 @@ use mathlib.Core.Path.{_≡_, refl, sym, ap, _∙_}
 use native.Mathlib.Omega.{arith}
 use lib.ListN.{length}
 use denote.Ref.{now}
-use Rattle.evaluator.specs.Evaluation.{assigned}
+use Rattle.walks.specs.Assigned.{assigned}
 use Rattle.branches.specs.Branches.{runs}
 use Rattle.branches.proofs.Running.{runs-1}
 use Rattle.decide.proofs.Following.{follow-stuck, follow-on}
@@ -21,51 +21,39 @@ Inv-loop t xs start q z walks values memo env₀ at₀ env at = (runs t xs q z w
 abbrev μ-loop : tie.MeasureT-loop
 μ-loop t xs start q z walks values memo env₀ at₀ env at = at
 
--- src/lib.rt:83:5
 loop-holds : tie.Need-loop-holds Inv-loop μ-loop
 loop-holds c = (refl, refl, omega arith, refl)
 
--- src/lib.rt:84:30
 mul-size-at : tie.Need-mul-size-at Inv-loop μ-loop
 mul-size-at c = search needs
 
--- src/lib.rt:84:12
 size-at-requires : tie.Need-size-at-requires Inv-loop μ-loop
 size-at-requires c κs = search needs
 
--- src/lib.rt:85:13
 same-length : tie.Need-same-length Inv-loop μ-loop
 same-length c = search needs
 
--- src/lib.rt:85:13
 returns : tie.Need-returns Inv-loop μ-loop
 returns c = (c .before .before .before .loop .inv .0, ((c .before .before .before .loop .inv .2, λ h. sym (c .before .size-at .ensures .0) ∙ c .if1 .taken), c .before .before .before .loop .inv .1))
 
--- src/lib.rt:87:13
 next-requires : tie.Need-next-requires Inv-loop μ-loop
 next-requires c κs = (omega (arith, c .before .before .before .before .before .before .before .before .before .before .pre .0, c .before .before .before .before .loop .inv .3), omega (arith, c .before .before .before .before .before .before .before .before .before .before .pre .1, c .before .before .before .before .loop .inv .2), λ e. c .before .if1 .left (c .before .before .size-at .ensures .0 ∙ e))
 
--- src/lib.rt:89:13
 same-length-2 : tie.Need-same-length-2 Inv-loop μ-loop
 same-length-2 c = search needs
 
--- src/lib.rt:89:13
 returns-2 : tie.Need-returns-2 Inv-loop μ-loop
 returns-2 c = (runs-1 (now (c .before .before .before .before .before .before .before .before .before .before .before .before .before .before .args .t)) (now (c .before .before .before .before .before .before .before .before .before .before .before .before .before .before .args .xs)) (now (c .before .before .before .before .before .before .before .before .before .before .before .before .before .before .args .q)) (now (c .before .before .before .before .before .before .before .before .before .before .before .before .before .before .args .z)) (now (c .before .before .before .before .before .before .before .before .before .before .before .before .before .before .args .walks)) (now (c .before .before .before .before .before .before .before .before .before .before .before .before .before .before .args .values)) (now (c .before .before .before .before .before .before .before .before .before .before .before .before .before .before .args .memo)) _ ∙ follow-stuck (now (c .before .before .before .before .before .before .before .before .before .before .before .before .before .before .args .t)) (now (c .before .before .before .before .before .before .before .before .before .before .before .before .before .before .args .xs)) (now (c .before .before .before .before .before .before .before .before .before .before .before .before .before .before .args .q)) (now (c .before .before .before .before .before .before .before .before .before .before .before .before .before .before .args .z)) (now (c .before .before .before .before .before .before .before .before .before .before .before .before .before .before .args .walks)) (now (c .before .before .before .before .before .before .before .before .before .before .before .before .before .before .args .values)) (now (c .before .before .before .before .before .before .before .before .before .before .before .before .before .before .args .memo)) (now (c .before .before .before .before .before .before .before .before .before .before .before .before .before .before .args .env)) (c .before .before .before .before .before .before .before .before .loop .at) (c .before .before .before .before .before .before .before .before .before .before .before .before .before .before .args .start) (c .before .before .before .next .result) (c .before .before .before .before .before .before .before .before .loop .env) (c .before .before .before .before .before .before .before .before .loop .inv .1) (c .before .before .before .before .before .before .before .loop-test .taken) (c .before .before .before .next .ensures .0) (c .before .before .before .before .before .before .before .before .loop .inv .0) (c .if2 .taken), ((omega (arith, c .before .before .before .before .before .before .before .loop-test .taken, c .before .before .before .before .before .before .before .before .loop .inv .2), λ h. absurd (omega arith)), c .before .before .before .next .ensures .1 ∙ c .before .before .before .before .before .before .before .before .loop .inv .1))
 
--- src/lib.rt:83:5
 loop-less : tie.Need-loop-less Inv-loop μ-loop
 loop-less c = search needs
 
--- src/lib.rt:83:5
 loop-again : tie.Need-loop-again Inv-loop μ-loop
 loop-again c = (follow-on (now (c .before .before .before .before .before .before .before .before .before .before .before .before .before .before .args .t)) (now (c .before .before .before .before .before .before .before .before .before .before .before .before .before .before .args .xs)) (now (c .before .before .before .before .before .before .before .before .before .before .before .before .before .before .args .q)) (now (c .before .before .before .before .before .before .before .before .before .before .before .before .before .before .args .z)) (now (c .before .before .before .before .before .before .before .before .before .before .before .before .before .before .args .walks)) (now (c .before .before .before .before .before .before .before .before .before .before .before .before .before .before .args .values)) (now (c .before .before .before .before .before .before .before .before .before .before .before .before .before .before .args .memo)) (now (c .before .before .before .before .before .before .before .before .before .before .before .before .before .before .args .env)) (c .before .before .before .before .before .before .before .before .loop .at) (c .before .before .before .before .before .before .before .before .before .before .before .before .before .before .args .start) (c .before .before .before .next .result) (c .before .before .before .before .before .before .before .before .loop .env) (c .before .before .before .before .before .before .before .before .loop .inv .1) (c .before .before .before .before .before .before .before .loop-test .taken) (c .before .before .before .next .ensures .0) (c .before .before .before .before .before .before .before .before .loop .inv .0) (c .if2 .left), c .before .before .before .next .ensures .1 ∙ c .before .before .before .before .before .before .before .before .loop .inv .1, omega (arith, c .if2 .left, c .before .before .before .before .before .before .before .before .loop .inv .2), ap length (c .before .before .before .next .ensures .1 ∙ c .before .before .before .before .before .before .before .before .loop .inv .1))
 
--- src/lib.rt:66:1
 same-length-3 : tie.Need-same-length-3 Inv-loop μ-loop
 same-length-3 c = search needs
 
--- src/lib.rt:66:1
 returns-3 : tie.Need-returns-3 Inv-loop μ-loop
 returns-3 c = (c .before .loop .inv .0, ((c .before .loop .inv .2, λ h. absurd (omega (arith, c .loop-test .left, h))), c .before .loop .inv .1))
 

@@ -9,7 +9,9 @@ use native.Mathlib.Numerals.{add-one}
 use lib.Dec.{eqb, leb}
 use lib.ListN.{length, drop, getD, set, length-append}
 use lib.Seq.{sets}
-use borrow.Author.Tests.{ne-eqb}
+use borrow.Author.Tests.{eqb-true, ne-eqb, leb-true, lt-leb}
+use native.Mathlib.Nat.{add-zero}
+use Rattle.model.proofs.Tests.{and-inv}
 use Rattle.quel.specs.Results.{Read, fail, ok, Word}
 use Rattle.quel.specs.Tokens.{Token, key, point}
 use Rattle.quel.specs.Reader.{starts}
@@ -241,6 +243,19 @@ module _ (text : List ℕ) (t : Table) (cs : List ℕ) (cd : Counted (t .kinds) 
           ap (ended d at) (turn-put it (sym item-is ∙ e))
           ∙ ended-before d at (bytesHere m ++ recordBytes it) (onward it)
           ∙ rw (ep, et, el, eτ, eo, act-is, ek, eb)
+
+-- a token that writes nothing
+pub quiet-parts : (m a : ℕ) → (leb 3 m && eqb a 0) ≡ true → (3 ≤ m) × (a ≡ 0)
+quiet-parts m a e = let i = and-inv (leb 3 m) (eqb a 0) e in (leb-true 3 m (i .0), eqb-true a 0 (i .1))
+
+pub quiet-open : (m k o a s : ℕ) → 3 ≤ m → openBytes m k o a s ≡ []
+unfolding often
+quiet-open m k o a s h = rw (ne-eqb m 0 (λ e. omega arith), lt-leb m 1 (omega arith), lt-leb m 2 (omega arith))
+
+pub quiet-write : (d : List ℕ) (at m k o a s : ℕ) → 3 ≤ m → (at ≡ at + length (openBytes m k o a s ++ recordBytes R.Short)) × (d ≡ sets d at (openBytes m k o a s ++ recordBytes R.Short))
+quiet-write d at m k o a s h =
+    let e = quiet-open m k o a s h in
+    (sym (ap (λ (l : List ℕ). at + length (l ++ [])) e ∙ add-zero at), sym (ap (λ (l : List ℕ). sets d at (l ++ [])) e))
 
 -- records that open frames
 abbrev itemBy : (Record → ℕ) → ℕ → Item → ℕ

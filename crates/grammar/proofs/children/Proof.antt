@@ -6,16 +6,10 @@ use native.Mathlib.Omega.{arith}
 use Rattle.kinds.specs.Tables.{conditionsOf}
 use Rattle.kinds.proofs.Entries.{children-small}
 
-child-conditions-requires : tie.Need-child-conditions-requires
-child-conditions-requires c κs = search needs
-
-wide-requires : tie.Need-wide-requires
-wide-requires c κs = search needs
-
 returns : tie.Need-returns
 returns c =
     let e : c .wide .result ≡ conditionsOf (c .before .before .args .kind) = c .wide .ensures .0 ∙ c .before .child-conditions .ensures in
     (e, omega (arith, children-small (c .before .before .args .kind)))
 
 pub children-spec : {M : Type 1} → statement M
-children-spec = tie.close (tie.spec child-conditions-requires wide-requires returns)
+children-spec = tie.close (tie.spec (λ c κs. search needs) (λ c κs. search needs) returns)

@@ -6,11 +6,8 @@ use denote.Ref.{now}
 use Rattle.grammar.specs.Sizes.{conditionSize}
 use Rattle.grammar.proofs.Pending.{many-one}
 
-conditions-requires : tie.Need-conditions-requires
-conditions-requires c κs = search needs
-
 returns : tie.Need-returns
 returns c = c .conditions .ensures ∙ many-one conditionSize (now (c .before .before .args .q))
 
 pub condition-spec : {M : Type 1} → statement M
-condition-spec = tie.close (tie.spec conditions-requires returns)
+condition-spec = tie.close (tie.spec (λ c κs. search needs) returns)

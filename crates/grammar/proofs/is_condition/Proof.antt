@@ -43,12 +43,6 @@ other (R.Permit a b x) h = refl
 other R.Unknown h = refl
 other R.Short h = refl
 
-enum-known-r : tie.Need-enum-known-r
-enum-known-r c = search needs
-
-is-operator-requires : tie.Need-is-operator-requires
-is-operator-requires c κs = search needs
-
 returns : tie.Need-returns
 returns c = taken (c .before .args .r) (c .match .keys1)
 
@@ -60,4 +54,4 @@ returns-3 c = other (c .before .args .r) (c .match .keys3)
 
 pub is-condition-spec : {M : Type 1} → statement M
 is-condition-spec =
-    tie.close (tie.spec enum-known-r is-operator-requires returns returns-2 returns-3)
+    tie.close (tie.spec (λ c. search needs) (λ c κs. search needs) returns returns-2 returns-3)

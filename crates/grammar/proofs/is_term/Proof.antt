@@ -43,12 +43,6 @@ other (R.Permit a b x) h = refl
 other R.Unknown h = refl
 other R.Short h = refl
 
-enum-known-r : tie.Need-enum-known-r
-enum-known-r c = search needs
-
-is-function-requires : tie.Need-is-function-requires
-is-function-requires c κs = search needs
-
 returns : tie.Need-returns
 returns c = taken (c .before .args .r) (c .match .keys1)
 
@@ -59,4 +53,4 @@ returns-3 : tie.Need-returns-3
 returns-3 c = other (c .before .args .r) (c .match .keys3)
 
 pub is-term-spec : {M : Type 1} → statement M
-is-term-spec = tie.close (tie.spec enum-known-r is-function-requires returns returns-2 returns-3)
+is-term-spec = tie.close (tie.spec (λ c. search needs) (λ c κs. search needs) returns returns-2 returns-3)

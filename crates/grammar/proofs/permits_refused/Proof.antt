@@ -23,9 +23,6 @@ tested : (l : List ℕ) (r : Bool) → length l ≤ 2048 → r ≡ not (failed (
 unfolding fails20
 tested l r h e = rw (le-ltb 2048 (length l) h) (ap not e ∙ double (failed (permitsRead l)))
 
-permits-requires : tie.Need-permits-requires
-permits-requires c κs = search needs
-
 returns : tie.Need-returns
 returns c = too-long (now (c .before .before .args .list)) (c .if1 .taken)
 
@@ -33,4 +30,4 @@ returns-2 : tie.Need-returns-2
 returns-2 c = tested (now (c .before .before .before .args .list)) (c .permits .result) (c .before .if1 .left) (c .permits .ensures)
 
 pub permits-refused-spec : {M : Type 1} → statement M
-permits-refused-spec = tie.close (tie.spec permits-requires returns returns-2)
+permits-refused-spec = tie.close (tie.spec (λ c κs. search needs) returns returns-2)

@@ -5,29 +5,8 @@ use native.Mathlib.Omega.{arith}
 use denote.Ref.{now}
 use Rattle.grammar.proofs.Whole.{no-ranges, no-targets, two-fit, none-targeted, no-condition, three-fit, more-bytes, no-byte-more}
 
-ranges-requires : tie.Need-ranges-requires
-ranges-requires c κs = search needs
-
-enum-known-n : tie.Need-enum-known-n
-enum-known-n c = search needs
-
-enum-told : tie.Need-enum-told
-enum-told c = search needs
-
 returns : tie.Need-returns
 returns c = no-ranges (now (c .before .before .before .before .args .q)) (c .before .before .ranges .result) (c .before .before .ranges .ensures) (c .enum-told .given .1)
-
-tail-requires : tie.Need-tail-requires
-tail-requires c κs = search needs
-
-targets-requires : tie.Need-targets-requires
-targets-requires c κs = search needs
-
-enum-known-m : tie.Need-enum-known-m
-enum-known-m c = search needs
-
-enum-told-2 : tie.Need-enum-told-2
-enum-told-2 c = search needs
 
 returns-2 : tie.Need-returns-2
 returns-2 c =
@@ -57,18 +36,6 @@ add-tail c =
     let c₉ = c₇ .before .before in let ranges = c₉ .ranges in
     let c₁₁ = c₉ .before .before in let args = c₁₁ .args in
     omega (arith, two-fit (now (args .q)) (ranges .result) (ranges .ensures) (n .given .0 .0) (n .given .0 .1 .0) (n .given .1) (now (tail .result)) (targets .result) (tail .ensures) (targets .ensures) (m .given .0 .0) (m .given .0 .1 .0) (m .given .1))
-
-tail-requires-2 : tie.Need-tail-requires-2
-tail-requires-2 c κs = search needs
-
-condition-requires : tie.Need-condition-requires
-condition-requires c κs = search needs
-
-enum-known-c : tie.Need-enum-known-c
-enum-known-c c = search needs
-
-enum-told-3 : tie.Need-enum-told-3
-enum-told-3 c = search needs
 
 returns-4 : tie.Need-returns-4
 returns-4 c =
@@ -121,9 +88,6 @@ returns-5 c =
     let c₁₇ = c₁₅ .before .before in let args = c₁₇ .args in
     more-bytes (now (args .q)) (ranges .result) (ranges .ensures) (n .given .0 .0) (n .given .0 .1 .0) (n .given .1) (now (tail .result)) (targets .result) (tail .ensures) (targets .ensures) (m .given .0 .0) (m .given .0 .1 .0) (m .given .1) (if1 .left) (now (tail2 .result)) (condition .result) (tail2 .ensures) (condition .ensures) (c′ .given .0 .0) (c′ .given .1) (c .if2 .taken)
 
-add-t13 : tie.Need-add-t13
-add-t13 c = search needs
-
 returns-6 : tie.Need-returns-6
 returns-6 c =
     let c₂ = c .before .before in let c′ = c₂ .c in
@@ -142,24 +106,24 @@ pub query-spec : {M : Type 1} → statement M
 query-spec =
     tie.close
     (tie.spec
-    ranges-requires
-    enum-known-n
-    enum-told
+    (λ c κs. search needs)
+    (λ c. search needs)
+    (λ c. search needs)
     returns
-    tail-requires
-    targets-requires
-    enum-known-m
-    enum-told-2
+    (λ c κs. search needs)
+    (λ c κs. search needs)
+    (λ c. search needs)
+    (λ c. search needs)
     returns-2
     returns-3
     add-tail
-    tail-requires-2
-    condition-requires
-    enum-known-c
-    enum-told-3
+    (λ c κs. search needs)
+    (λ c κs. search needs)
+    (λ c. search needs)
+    (λ c. search needs)
     returns-4
     add-if2
     add-if2-2
     returns-5
-    add-t13
+    (λ c. search needs)
     returns-6)

@@ -22,28 +22,10 @@ use Rattle.guards.proofs.fill_places.Reads as fill-places-reads
 use Rattle.guards.proofs.rewritten_length.Reads as rewritten-length-reads
 use Rattle.rewriter.proofs.rewrite_query.Reads as rewrite-query-reads
 
-slice-aggregate-fill-places : tie.Need-slice-aggregate-fill-places
-slice-aggregate-fill-places c = search needs
-
 fill-places-requires : tie.Need-fill-places-requires
 fill-places-requires c κs =
     let c₆ = c .before .before .before .before .before .before in let args = c₆ .args in let pre = c₆ .pre in
     (omega arith, omega arith, short-list (now (args .catalogue)) (now (args .values)) (now (args .list)) (now (args .query)) (now (args .rewritten)) (now (args .answer)) (pre .kept) (pre .permits) (pre .query))
-
-slice-aggregate-fill-masks : tie.Need-slice-aggregate-fill-masks
-slice-aggregate-fill-masks c = search needs
-
-fill-masks-requires : tie.Need-fill-masks-requires
-fill-masks-requires c κs = search needs
-
-slice-aggregate-all-served : tie.Need-slice-aggregate-all-served
-slice-aggregate-all-served c = search needs
-
-all-served-requires : tie.Need-all-served-requires
-all-served-requires c κs = search needs
-
-refused-requires : tie.Need-refused-requires
-refused-requires c κs = search needs
 
 returns : tie.Need-returns
 returns c =
@@ -53,12 +35,6 @@ returns c =
     let c₁₅ = c₈ .before .before .before .before .before .before .before in let args = c₁₅ .args in let pre = c₁₅ .pre in
     refused-33 (now (args .catalogue)) (now (args .values)) (now (args .list)) (now (args .query)) (now (args .rewritten)) (now (args .answer)) (pre .kept) (pre .permits) (pre .query) _ _ (fill-places .ensures) (fill-masks .ensures) (all-served .result) (all-served .ensures) (c .before .if1 .taken) _ (c .refused .ensures)
 
-slice-aggregate-rewritten-length : tie.Need-slice-aggregate-rewritten-length
-slice-aggregate-rewritten-length c = search needs
-
-slice-aggregate-rewritten-length-2 : tie.Need-slice-aggregate-rewritten-length-2
-slice-aggregate-rewritten-length-2 c = search needs
-
 rewritten-length-requires : tie.Need-rewritten-length-requires
 rewritten-length-requires c κs =
     let c₆ = c .before .before .before .before .before .before in let fill-masks = c₆ .fill-masks in
@@ -66,9 +42,6 @@ rewritten-length-requires c κs =
     let c₁₆ = c₉ .before .before .before .before .before .before .before in let args = c₁₆ .args in let pre = c₁₆ .pre in
     let answer = now (args .answer) in let catalogue = now (args .catalogue) in let list = now (args .list) in let query = now (args .query) in let rewritten = now (args .rewritten) in let values = now (args .values) in
     (short-query catalogue values list query rewritten answer (pre .kept) (pre .permits) (pre .query), short-places catalogue values list query rewritten answer (pre .kept) (pre .permits) (pre .query) _ _ (fill-places .ensures) (fill-masks .ensures))
-
-refused-requires-2 : tie.Need-refused-requires-2
-refused-requires-2 c κs = search needs
 
 returns-2 : tie.Need-returns-2
 returns-2 c =
@@ -78,12 +51,6 @@ returns-2 c =
     let c₁₂ = c₉ .before .before .before in let fill-places = c₁₂ .fill-places in
     let c₁₉ = c₁₂ .before .before .before .before .before .before .before in let args = c₁₉ .args in let pre = c₁₉ .pre in
     refused-40 (now (args .catalogue)) (now (args .values)) (now (args .list)) (now (args .query)) (now (args .rewritten)) (now (args .answer)) (pre .kept) (pre .permits) (pre .query) _ _ (fill-places .ensures) (fill-masks .ensures) (all-served .result) (all-served .ensures) (if1 .left) _ (c .before .before .rewritten-length .ensures) (c .before .if2 .taken) _ (c .refused2 .ensures)
-
-slice-aggregate-rewrite-query : tie.Need-slice-aggregate-rewrite-query
-slice-aggregate-rewrite-query c = search needs
-
-slice-aggregate-rewrite-query-2 : tie.Need-slice-aggregate-rewrite-query-2
-slice-aggregate-rewrite-query-2 c = search needs
 
 rewrite-query-requires : tie.Need-rewrite-query-requires
 rewrite-query-requires c κs =
@@ -97,12 +64,6 @@ rewrite-query-requires c κs =
     let catalogue = now (args .catalogue) in let list = now (args .list) in let query = now (args .query) in let z = now (args .z) in let layout = args .layout in
     roomy layout catalogue list query z _ (writable catalogue (now (args .values)) list query (now (args .rewritten)) (now (args .answer)) (pre .kept) (pre .permits) (pre .query) _ _ (fill-places .ensures) (fill-masks .ensures) (all-served .result) (all-served .ensures) (if1 .left) _ (rewritten-length .ensures) (if2 .left) layout z (pre .ready)) _ _ (omega arith) (omega arith) _ _ (fill-places .ensures) (fill-masks .ensures)
 
-slice-aggregate-answer-permitted : tie.Need-slice-aggregate-answer-permitted
-slice-aggregate-answer-permitted c = search needs
-
-slice-aggregate-answer-permitted-2 : tie.Need-slice-aggregate-answer-permitted-2
-slice-aggregate-answer-permitted-2 c = search needs
-
 answer-permitted-requires : tie.Need-answer-permitted-requires
 answer-permitted-requires c κs =
     let c₉ = c .before .before .before .before .before .before .before .before .before in let if2 = c₉ .if2 in
@@ -115,12 +76,6 @@ answer-permitted-requires c κs =
     let catalogue = now (args .catalogue) in let list = now (args .list) in let query = now (args .query) in let z = now (args .z) in let layout = args .layout in
     let able = writable catalogue (now (args .values)) (now (args .list)) query (now (args .rewritten)) (now (args .answer)) (pre .kept) (pre .permits) (pre .query) _ _ (fill-places .ensures) (fill-masks .ensures) (all-served .result) (all-served .ensures) (if1 .left) _ (rewritten-length .ensures) (if2 .left) layout z (pre .ready) in
     (answerable layout catalogue query z (able .catalogue) (pre .query) (pre .laid) (pre .ready), binds layout catalogue list query z _ able (replicate {A = ℕ} 16 0) (replicate {A = ℕ} 256 0) (omega (arith, length-replicate {A = ℕ} 16 0)) (omega (arith, length-replicate {A = ℕ} 256 0)))
-
-same-length : tie.Need-same-length
-same-length c = search needs
-
-same-length-2 : tie.Need-same-length-2
-same-length-2 c = search needs
 
 returns-3 : tie.Need-returns-3
 returns-3 c =
@@ -139,25 +94,25 @@ pub answer-query-spec : {M : Type 1} → statement M
 answer-query-spec =
     tie.close
     (tie.spec
-    slice-aggregate-fill-places
+    (λ c. search needs)
     fill-places-requires
-    slice-aggregate-fill-masks
-    fill-masks-requires
-    slice-aggregate-all-served
-    all-served-requires
-    refused-requires
+    (λ c. search needs)
+    (λ c κs. search needs)
+    (λ c. search needs)
+    (λ c κs. search needs)
+    (λ c κs. search needs)
     returns
-    slice-aggregate-rewritten-length
-    slice-aggregate-rewritten-length-2
+    (λ c. search needs)
+    (λ c. search needs)
     rewritten-length-requires
-    refused-requires-2
+    (λ c κs. search needs)
     returns-2
-    slice-aggregate-rewrite-query
-    slice-aggregate-rewrite-query-2
+    (λ c. search needs)
+    (λ c. search needs)
     rewrite-query-requires
-    slice-aggregate-answer-permitted
-    slice-aggregate-answer-permitted-2
+    (λ c. search needs)
+    (λ c. search needs)
     answer-permitted-requires
-    same-length
-    same-length-2
+    (λ c. search needs)
+    (λ c. search needs)
     returns-3)

@@ -16,12 +16,6 @@ use Rattle.guarded.proofs.check_permits.Reads as check-permits-reads
 use Rattle.guarded.proofs.refused.Reads as refused-reads
 use Rattle.queries.proofs.check.Reads as check-reads′
 
-check-requires : tie.Need-check-requires
-check-requires c κs = search needs
-
-refused-requires : tie.Need-refused-requires
-refused-requires c κs = search needs
-
 returns : tie.Need-returns
 returns c =
     let c₈ = c .before .before .before .before .before .before .before .before in let args = c₈ .args in
@@ -31,9 +25,6 @@ check-permits-requires : tie.Need-check-permits-requires
 check-permits-requires c κs =
     let c₇ = c .before .before .before .before .before .before .before in let args = c₇ .args in
     catalogue-passes (now (args .catalogue)) (now (args .values)) (now (args .list)) (now (args .query)) (now (args .rewritten)) (now (args .answer)) (sym (c .before .check .ensures) ∙ c .if1 .left)
-
-refused-requires-2 : tie.Need-refused-requires-2
-refused-requires-2 c κs = search needs
 
 returns-2 : tie.Need-returns-2
 returns-2 c =
@@ -49,15 +40,6 @@ check-requires-2 c κs =
     let c₁₀ = c₄ .before .before .before .before .before .before in let args = c₁₀ .args in let pre = c₁₀ .pre in
     (catalogue-passes (now (args .catalogue)) (now (args .values)) (now (args .list)) (now (args .query)) (now (args .rewritten)) (now (args .answer)) (sym (check .ensures) ∙ if1 .left), (λ h. omega (arith, pre)), omega arith)
 
-enum-known-n : tie.Need-enum-known-n
-enum-known-n c = search needs
-
-refused-requires-3 : tie.Need-refused-requires-3
-refused-requires-3 c κs = search needs
-
-enum-known-layout : tie.Need-enum-known-layout
-enum-known-layout c = search needs
-
 answer-query-requires : tie.Need-answer-query-requires
 answer-query-requires c κs =
     let c₄ = c .before .before .before .before in let layout = c₄ .layout in
@@ -68,9 +50,6 @@ answer-query-requires c κs =
     let c₁₃ = c₁₂ .before in let check = c₁₃ .check in
     let c₁₉ = c₁₃ .before .before .before .before .before .before in let args = c₁₉ .args in
     record { kept = (sym (check .ensures) ∙ if1 .left); permits = (sym (check-permits .ensures) ∙ if2 .left); query = sym (sym (ap numberOf (layout .given .1)) ∙ check2 .ensures .0); ready = (subst (λ (r : Checked). Ready r 32 (now (args .query)) (check2 .last .1 .1 .1 .0)) (layout .given .1) (check2 .ensures .1 .0)) .1; laid = (subst (λ (r : Checked). Ready r 32 (now (args .query)) (check2 .last .1 .1 .1 .0)) (layout .given .1) (check2 .ensures .1 .0)) .0 }
-
-same-length : tie.Need-same-length
-same-length c = search needs
 
 returns-3 : tie.Need-returns-3
 returns-3 c =
@@ -84,36 +63,24 @@ returns-3 c =
     let query = now (args .query) in
     refused-query (now (args .catalogue)) (now (args .values)) (now (args .list)) query (now (args .rewritten)) (now (args .answer)) (sym (check .ensures) ∙ if1 .left) (sym (check-permits .ensures) ∙ if2 .left) _ _ (sym (ap numberOf (n .given .1)) ∙ check2 .ensures .0) (subst (λ (r : Checked). Ready r 32 query (check2 .last .1 .1 .1 .0)) (n .given .1) (check2 .ensures .1 .0)) (c .refused3 .ensures)
 
-same-length-2 : tie.Need-same-length-2
-same-length-2 c = search needs
-
-same-length-3 : tie.Need-same-length-3
-same-length-3 c = search needs
-
-same-length-4 : tie.Need-same-length-4
-same-length-4 c = search needs
-
-returns-4 : tie.Need-returns-4
-returns-4 c = search needs
-
 pub ask-with-spec : {M : Type 1} → statement M
 ask-with-spec =
     tie.close
     (tie.spec
-    check-requires
-    refused-requires
+    (λ c κs. search needs)
+    (λ c κs. search needs)
     returns
     check-permits-requires
-    refused-requires-2
+    (λ c κs. search needs)
     returns-2
     check-requires-2
-    enum-known-n
-    refused-requires-3
-    enum-known-layout
+    (λ c. search needs)
+    (λ c κs. search needs)
+    (λ c. search needs)
     answer-query-requires
-    same-length
+    (λ c. search needs)
     returns-3
-    same-length-2
-    same-length-3
-    same-length-4
-    returns-4)
+    (λ c. search needs)
+    (λ c. search needs)
+    (λ c. search needs)
+    (λ c. search needs))

@@ -10,7 +10,7 @@ use Rattle.guards.proofs.fill_places.Kinds as fill-places-kinds
 use Rattle.guards.proofs.+fill_places.Lts-fill_places as fill-places-lts
 use Rattle.guards.proofs.put_place.Reads as put-place-reads
 use Rattle.kinds.proofs.tail.Reads as tail-reads
-use Rattle.permits.proofs.size.Reads as size-reads
+use Rattle.guards.proofs.applying.size.Reads as size-reads
 use Rattle.guards.proofs.+fill_places.{statement}
 use Rattle.guards.proofs.+fill_places.Tie.{close}
 

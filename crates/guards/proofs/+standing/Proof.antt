@@ -12,9 +12,9 @@ use Rattle.guards.proofs.+standing.Lts-standing as standing-lts
 use Rattle.guards.proofs.either.Reads as either-reads
 use Rattle.guards.proofs.one_if.Reads as one-if-reads
 use Rattle.kinds.proofs.tail.Reads as tail-reads
-use Rattle.permits.proofs.applies.Reads as applies-reads
-use Rattle.permits.proofs.bars.Reads as bars-reads
-use Rattle.permits.proofs.size.Reads as size-reads
+use Rattle.guards.proofs.applying.applies.Reads as applies-reads
+use Rattle.guards.proofs.applying.bars.Reads as bars-reads
+use Rattle.guards.proofs.applying.size.Reads as size-reads
 use Rattle.guards.proofs.+standing.{statement}
 use Rattle.guards.proofs.+standing.Tie.{close}
 

@@ -9,20 +9,8 @@ use Rattle.guards.proofs.binding_length.Lts as lts
 use Rattle.guards.proofs.guard_length.Reads as guard-length-reads
 use Rattle.guards.proofs.mask_at.Reads as mask-at-reads
 
-enum-known-b : tie.Need-enum-known-b
-enum-known-b c = search needs
-
-enum-told : tie.Need-enum-told
-enum-told c = search needs
-
 returns : tie.Need-returns
 returns c = (length-none (now (c .before .before .before .before .args .places)) (now (c .before .before .before .before .args .masks)) (c .before .before .before .before .args .b) (c .enum-told .given .1), omega arith)
-
-mask-at-requires : tie.Need-mask-at-requires
-mask-at-requires c κs = search needs
-
-guard-length-requires : tie.Need-guard-length-requires
-guard-length-requires c κs = search needs
 
 returns-2 : tie.Need-returns-2
 returns-2 c =
@@ -33,4 +21,4 @@ returns-2 c =
 pub binding-length-spec : {M : Type 1} → statement M
 binding-length-spec =
     tie.close
-    (tie.spec enum-known-b enum-told returns mask-at-requires guard-length-requires returns-2)
+    (tie.spec (λ c. search needs) (λ c. search needs) returns (λ c κs. search needs) (λ c κs. search needs) returns-2)

@@ -11,25 +11,10 @@ use Rattle.guards.proofs.fill_mask.Lts as lts
 use Rattle.guards.proofs.mask_for.Reads as mask-for-reads
 use Rattle.guards.proofs.put_mask.Reads as put-mask-reads
 
-enum-known-b : tie.Need-enum-known-b
-enum-known-b c = search needs
-
-enum-told : tie.Need-enum-told
-enum-told c = search needs
-
 returns : tie.Need-returns
 returns c =
     let c₆ = c .before .before .before .before .before .before in let args = c₆ .args in
     masked-none (now (args .query)) (now (args .list)) (now (args .catalogue)) (args .b) (now (args .masks)) (c .enum-told .given .1)
-
-mask-for-requires : tie.Need-mask-for-requires
-mask-for-requires c κs = search needs
-
-put-mask-requires : tie.Need-put-mask-requires
-put-mask-requires c κs = search needs
-
-same-length : tie.Need-same-length
-same-length c = search needs
 
 returns-2 : tie.Need-returns-2
 returns-2 c =
@@ -42,10 +27,10 @@ pub fill-mask-spec : {M : Type 1} → statement M
 fill-mask-spec =
     tie.close
     (tie.spec
-    enum-known-b
-    enum-told
+    (λ c. search needs)
+    (λ c. search needs)
     returns
-    mask-for-requires
-    put-mask-requires
-    same-length
+    (λ c κs. search needs)
+    (λ c κs. search needs)
+    (λ c. search needs)
     returns-2)

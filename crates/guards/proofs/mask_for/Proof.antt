@@ -4,19 +4,10 @@ use Rattle.guards.proofs.Steps.{mask-free, mask-barred, mask-is}
 use Rattle.guards.proofs.mask_for.Statement.{statement}
 use Rattle.guards.proofs.mask_for.Tie as tie
 
-stored-requires : tie.Need-stored-requires
-stored-requires c κs = search needs
-
 returns : tie.Need-returns
 returns c =
     let stored = c .before .stored in let args = c .before .before .before .before .before .args in
     mask-free (now (args .query)) (now (args .list)) (now (args .catalogue)) (args .variable) (args .relation) (stored .result) (stored .ensures) (c .if1 .taken)
-
-used-mask-requires : tie.Need-used-mask-requires
-used-mask-requires c κs = search needs
-
-standing-requires : tie.Need-standing-requires
-standing-requires c κs = search needs
 
 returns-2 : tie.Need-returns-2
 returns-2 c =
@@ -31,4 +22,4 @@ returns-3 c =
 pub mask-for-spec : {M : Type 1} → statement M
 mask-for-spec =
     tie.close
-    (tie.spec stored-requires returns used-mask-requires standing-requires returns-2 returns-3)
+    (tie.spec (λ c κs. search needs) returns (λ c κs. search needs) (λ c κs. search needs) returns-2 returns-3)

@@ -7,17 +7,8 @@ use Rattle.guards.proofs.put_mask.Tie as tie
 use Rattle.guards.proofs.put_mask.Reads as reads
 use Rattle.guards.proofs.put_mask.Lts as lts
 
-slice-write-masks : tie.Need-slice-write-masks
-slice-write-masks c = search needs
-
-same-length : tie.Need-same-length
-same-length c = search needs
-
-returns : tie.Need-returns
-returns c = search needs
-
 returns-2 : tie.Need-returns-2
 returns-2 c = sym (set-out (now (c .before .args .masks)) (c .before .args .variable) (c .before .args .x) (c .if1 .left))
 
 pub put-mask-spec : {M : Type 1} → statement M
-put-mask-spec = tie.close (tie.spec slice-write-masks same-length returns returns-2)
+put-mask-spec = tie.close (tie.spec (λ c. search needs) (λ c. search needs) (λ c. search needs) returns-2)

@@ -8,17 +8,8 @@ use Rattle.guards.proofs.served.Lts as lts
 use Rattle.catalogue.proofs.stored.Reads as stored-reads
 use Rattle.guards.proofs.mask_at.Reads as mask-at-reads
 
-enum-known-b : tie.Need-enum-known-b
-enum-known-b c = search needs
-
-enum-told : tie.Need-enum-told
-enum-told c = search needs
-
 returns : tie.Need-returns
 returns c = served-none (now (c .before .before .before .before .args .catalogue)) (now (c .before .before .before .before .args .masks)) (c .before .before .before .before .args .b) (c .enum-told .given .1)
-
-stored-requires : tie.Need-stored-requires
-stored-requires c κs = search needs
 
 returns-2 : tie.Need-returns-2
 returns-2 c =
@@ -26,9 +17,6 @@ returns-2 c =
     let c₃ = c₁ .before .before in let b = c₃ .b in
     let c₇ = c₃ .before .before .before .before in let args = c₇ .args in
     served-free (now (args .catalogue)) (now (args .masks)) (args .b) _ _ (b .given .1) (stored .result) (stored .ensures) (c .if1 .taken)
-
-mask-at-requires : tie.Need-mask-at-requires
-mask-at-requires c κs = search needs
 
 returns-3 : tie.Need-returns-3
 returns-3 c =
@@ -40,4 +28,4 @@ returns-3 c =
 pub served-spec : {M : Type 1} → statement M
 served-spec =
     tie.close
-    (tie.spec enum-known-b enum-told returns stored-requires returns-2 mask-at-requires returns-3)
+    (tie.spec (λ c. search needs) (λ c. search needs) returns (λ c κs. search needs) returns-2 (λ c κs. search needs) returns-3)

@@ -12,9 +12,6 @@ use Rattle.guards.proofs.length_at.Reads as length-at-reads
 returns : tie.Need-returns
 returns c = (turn-not (now (c .before .before .args .places)) (c .before .before .args .mask) (c .before .before .args .k) (c .if1 .taken), omega arith)
 
-length-at-requires : tie.Need-length-at-requires
-length-at-requires c κs = search needs
-
 add-result : tie.Need-add-result
 add-result c = record { fits = omega (arith, c .length-at .ensures, c .before .before .before .pre .1 .short (2 * (c .before .before .before .args .k) + 1)) }
 
@@ -25,4 +22,4 @@ returns-2 c =
     (turn-is (now (args .places)) (args .mask) k _ (c .before .if1 .left) (c .length-at .ensures), omega (arith, c .length-at .ensures, pre .1 .short (2 * k + 1)))
 
 pub turn-length-spec : {M : Type 1} → statement M
-turn-length-spec = tie.close (tie.spec returns length-at-requires add-result returns-2)
+turn-length-spec = tie.close (tie.spec returns (λ c κs. search needs) add-result returns-2)

@@ -7,8 +7,8 @@ use mathlib.Core.Path.{_≡_, refl, sym, ap, _∙_}
 use native.Mathlib.Omega.{arith}
 use native.Mathlib.Numerals.{add-one}
 use lib.Dec.{eqb}
-use lib.ListN.{length, getD, set, drop, drop-of-length-le}
-use lib.Seq.{drop-cons, getD-set-same, getD-set-other}
+use lib.ListN.{length, getD, set}
+use lib.Seq.{getD-set-same, getD-set-other}
 use borrow.Author.Tests.{ne-eqb, eqb-true, eqb-false}
 use Rattle.quel.specs.Results.{Word, sameWord}
 use Rattle.quel.specs.Elaboration.{Symbol, symbolIn, headOnly}
@@ -16,32 +16,9 @@ use Rattle.quel.specs.Writing.{Reaches, inner, around}
 use Rattle.items.specs.declared.reach.Known.{Known}
 use Rattle.items.specs.declared.reach.Known.the-variants as K
 use Rattle.items.specs.Reach.{modeIn, relationIn, variableIn, placeIn, rangeSymbol, headSymbol, onto, reaches, knownBy, knownOf, hide}
+use Rattle.items.specs.Tables.{symbolAt, Tables}
 
 module _ (w : ℕ → Word) (x : Word) where
-  -- one symbol of the RANGE list more
-  pub listed-turn : (cs : List ℕ) (i : ℕ) → i < length cs
-      → knownOf (symbolIn x (map (rangeSymbol w) (drop i cs)))
-      ≡ cond (sameWord (w (placeIn (getD cs i 0))) x) (cond (eqb (modeIn (getD cs i 0)) 0) (K.Head (relationIn (getD cs i 0))) (K.Variable (relationIn (getD cs i 0)) (variableIn (getD cs i 0))))
-      (knownOf (symbolIn x (map (rangeSymbol w) (drop (i + 1) cs))))
-  unfolding symbolIn rangeSymbol
-  listed-turn cs i h =
-      ap (λ (l : List ℕ). knownOf (symbolIn x (map (rangeSymbol w) l))) (drop-cons cs i 0 h ∙ ap (λ (j : ℕ). getD cs i 0 ∷ drop j cs) (sym (add-one i)))
-      ∙ go (sameWord (w (placeIn (getD cs i 0))) x)
-    where
-      mode : (b : Bool) (r v : ℕ) → knownBy r (cond b none (some v)) ≡ cond b (K.Head r) (K.Variable r v)
-      mode true r v = refl
-      mode false r v = refl
-
-      go : (b : Bool) → knownOf (elim b [ true ↦ some (rangeSymbol w (getD cs i 0)) | false ↦ symbolIn x (map (rangeSymbol w) (drop (i + 1) cs)) ])
-          ≡ cond b (cond (eqb (modeIn (getD cs i 0)) 0) (K.Head (relationIn (getD cs i 0))) (K.Variable (relationIn (getD cs i 0)) (variableIn (getD cs i 0))))
-          (knownOf (symbolIn x (map (rangeSymbol w) (drop (i + 1) cs))))
-      go true = mode (eqb (modeIn (getD cs i 0)) 0) (relationIn (getD cs i 0)) (variableIn (getD cs i 0))
-      go false = refl
-
-  pub listed-end : (cs : List ℕ) (i : ℕ) → length cs ≤ i → K.Nothing ≡ knownOf (symbolIn x (map (rangeSymbol w) (drop i cs)))
-  unfolding symbolIn
-  listed-end cs i h = rw (drop-of-length-le cs {i = i} h)
-
   -- past an aggregate's head
   known-hidden : (ρ : List Symbol) → knownOf (symbolIn x (map headOnly ρ)) ≡ hide true (knownOf (symbolIn x ρ))
   unfolding symbolIn
@@ -76,6 +53,24 @@ module _ (w : ℕ → Word) (x : Word) where
           ≡ cond (not b && sameWord (w (placeIn c)) x) (K.Variable (relationIn c) (variableIn c)) (hide (eqb (modeIn c) 2) (knownOf (symbolIn x ρ)))
       zero-or true e = ap (λ (m : ℕ). hide (eqb m 2) (knownOf (symbolIn x ρ))) (sym (eqb-true (modeIn c) 0 e))
       zero-or false e = first (sameWord (w (placeIn c)) x)
+
+-- what a slot says
+module _ (w : ℕ → Word) (x : ℕ) (ids numbers symbols slots : List ℕ) (t : Tables w ids numbers symbols slots) (k : ℕ) (ek : k ≡ getD slots (getD ids x 0) 0) where
+  slot-is : knownOf (symbolIn (w x) (map (rangeSymbol w) symbols)) ≡ knownOf (symbolAt w symbols k)
+  slot-is = ap knownOf (t .slotted .at x ∙ ap (symbolAt w symbols) (sym ek))
+
+  pub slot-none : k ≡ 0 → K.Nothing ≡ knownOf (symbolIn (w x) (map (rangeSymbol w) symbols))
+  slot-none z = sym (slot-is ∙ ap (λ (n : ℕ). knownOf (symbolAt w symbols n)) z)
+
+  pub slot-some : (k ≡ 0 → ⊥) → (c : ℕ) → c ≡ getD symbols (k - 1) 0 → cond (eqb (modeIn c) 0) (K.Head (relationIn c)) (K.Variable (relationIn c) (variableIn c)) ≡ knownOf (symbolIn (w x) (map (rangeSymbol w) symbols))
+  unfolding rangeSymbol
+  slot-some h c ec =
+      let e : k ≡ suc (k - 1) = omega arith in
+      sym (slot-is ∙ ap (λ (n : ℕ). knownOf (symbolAt w symbols n)) e ∙ ap (λ (n : ℕ). knownOf (some (rangeSymbol w n))) (sym ec) ∙ mode (eqb (modeIn c) 0))
+    where
+      mode : (b : Bool) → knownBy (relationIn c) (cond b none (some (variableIn c))) ≡ cond b (K.Head (relationIn c)) (K.Variable (relationIn c) (variableIn c))
+      mode true = refl
+      mode false = refl
 
 pub hide-more : (a b : Bool) (k : Known) → hide a (hide b k) ≡ hide (cond b true a) k
 hide-more false false k = refl

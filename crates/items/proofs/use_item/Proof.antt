@@ -1,9 +1,15 @@
-use Rattle.quel.specs.Names.{attributeNamed, relationNamed, valueNamed}
-use Rattle.names.specs.Entries.{entries}
-use Rattle.items.specs.Actions.{useBy, headBy, someBy, valueBy, constantBy, useItem, headItem}
+use native.Mathlib.Omega.{arith}
 use denote.Ref.{now}
-use mathlib.Core.Path.{_≡_, refl, sym, ap, _∙_}
-use borrow.Author.Tests.{eq-eqb, ne-eqb, le-leb, lt-leb}
+use mathlib.Core.Path.{_≡_, refl, sym, ap, ap₂, subst, _∙_}
+use Prim.Native.Nat.{ℕ, _+_, _-_, _≤_, _<_}
+use mathlib.Core.List.{List, []}
+use lib.ListN.{length, getD}
+use mathlib.Core.Option.{Option}
+use Rattle.names.specs.Entries.{entries}
+use Rattle.quel.specs.Names.{relationNamed, attributeNamed, valueNamed}
+use Rattle.quel.specs.Results.{Word}
+use Rattle.items.specs.Actions.{useBy, headBy, someBy, valueBy, useItem, headItem}
+use Prim.Native.Nat.{_%_}
 use borrow.Author.Needs.{needs}
 use Rattle.items.proofs.use_item.Statement.{statement}
 use Rattle.items.proofs.use_item.Tie as tie
@@ -11,42 +17,23 @@ use Rattle.items.proofs.use_item.Reads as reads
 use Rattle.items.proofs.use_item.Lts as lts
 use Rattle.items.proofs.attribute_item.Reads as attribute-item-reads
 
--- src/lib.rt:168:25
-enum-known-known : tie.Need-enum-known-known
-enum-known-known c = search needs
-
--- src/lib.rt:168:34
-attribute-item-requires : tie.Need-attribute-item-requires
-attribute-item-requires c κs = search needs
-
--- src/lib.rt:169:27
-enum-told : tie.Need-enum-told
-enum-told c = search needs
-
--- src/lib.rt:170:27
-enum-told-2 : tie.Need-enum-told-2
-enum-told-2 c = search needs
-
--- src/lib.rt:164:1
 returns : tie.Need-returns
-returns c = c .attribute-item .ensures ∙ sym (ap (useItem (entries (now (c .before .before .before .before .before .before .args .list))) (now (c .before .before .before .before .before .before .args .attribute))) (c .before .before .known .given .1))
+returns c = λ z s. c .attribute-item .ensures z s ∙ sym (ap (useItem (entries (now (c .before .before .before .before .before .before .before .args .list))) z) (c .before .before .known .given .1))
 
--- src/lib.rt:164:1
 returns-2 : tie.Need-returns-2
-returns-2 c = search needs
+returns-2 c = λ z s. sym (ap (useItem (entries (now (c .before .before .before .before .before .args .list))) z) (c .enum-told .given .1))
 
--- src/lib.rt:164:1
 returns-3 : tie.Need-returns-3
-returns-3 c = search needs
+returns-3 c = λ z s. sym (ap (useItem (entries (now (c .before .before .before .before .before .args .list))) z) (c .enum-told2 .given .1))
 
 pub use-item-spec : {M : Type 1} → statement M
 use-item-spec =
     tie.close
     (tie.spec
-    enum-known-known
-    attribute-item-requires
-    enum-told
-    enum-told-2
+    (λ c. search needs)
+    (λ c κs. search needs)
+    (λ c. search needs)
+    (λ c. search needs)
     returns
     returns-2
     returns-3)

@@ -8,11 +8,6 @@ use Rattle.judges.proofs.at_most.Tie as tie
 use Rattle.judges.proofs.at_most.Reads as reads
 use Rattle.judges.proofs.at_most.Lts as lts
 
--- src/lib.rt:43:1
-returns : tie.Need-returns
-returns c = search needs
-
--- src/lib.rt:43:1
 returns-2 : tie.Need-returns-2
 returns-2 c =
     let args = c .before .args in
@@ -20,4 +15,4 @@ returns-2 c =
     test-is leZ (args .a) (args .b) (fits .a) (fits .b) ∙ sym (ap (λ (b : Bool). b || leZ (args .a) (args .b)) (c .if1 .left))
 
 pub at-most-spec : {M : Type 1} → statement M
-at-most-spec = tie.close (tie.spec returns returns-2)
+at-most-spec = tie.close (tie.spec (λ c. search needs) returns-2)

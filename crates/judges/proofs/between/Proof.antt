@@ -12,23 +12,6 @@ use Rattle.judges.proofs.at_most.Reads as at-most-reads
 use Rattle.judges.proofs.both.Reads as both-reads
 use Rattle.judges.proofs.turned.Reads as turned-reads
 
--- src/lib.rt:58:9
-at-most-requires : tie.Need-at-most-requires
-at-most-requires c κs = search needs
-
--- src/lib.rt:59:9
-at-most-requires-2 : tie.Need-at-most-requires-2
-at-most-requires-2 c κs = search needs
-
--- src/lib.rt:60:20
-both-requires : tie.Need-both-requires
-both-requires c κs = search needs
-
--- src/lib.rt:60:5
-turned-requires : tie.Need-turned-requires
-turned-requires c κs = search needs
-
--- src/lib.rt:55:1
 returns : tie.Need-returns
 returns c =
     let c₄ = c .before .before .before .before in let args = c₄ .args in let fits = c₄ .fits in
@@ -40,4 +23,4 @@ returns c =
 
 pub between-spec : {M : Type 1} → statement M
 between-spec =
-    tie.close (tie.spec at-most-requires at-most-requires-2 both-requires turned-requires returns)
+    tie.close (tie.spec (λ c κs. search needs) (λ c κs. search needs) (λ c κs. search needs) (λ c κs. search needs) returns)

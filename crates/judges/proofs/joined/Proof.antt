@@ -6,13 +6,8 @@ use Rattle.judges.proofs.joined.Reads as reads
 use Rattle.judges.proofs.joined.Lts as lts
 use Rattle.judges.proofs.flag.Reads as flag-reads
 
--- src/lib.rt:60:11
-flag-requires : tie.Need-flag-requires
-flag-requires c κs = search needs
-
--- src/lib.rt:56:1
 returns : tie.Need-returns
 returns c = joined-is (c .before .args .old) (c .flag .result) (c .before .args .b) (c .before .pre) (c .flag .ensures)
 
 pub joined-spec : {M : Type 1} → statement M
-joined-spec = tie.close (tie.spec flag-requires returns)
+joined-spec = tie.close (tie.spec (λ c κs. search needs) returns)

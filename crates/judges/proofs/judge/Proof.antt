@@ -15,31 +15,15 @@ use Rattle.allrows.proofs.whole.Reads as whole-reads
 use Rattle.judges.proofs.judge_long.Reads as judge-long-reads
 use Rattle.judges.proofs.judge_short.Reads as judge-short-reads
 
--- src/lib.rt:560:9
-whole-requires : tie.Need-whole-requires
-whole-requires c κs = search needs
-
--- src/lib.rt:561:8
 judge-short-requires : tie.Need-judge-short-requires
 judge-short-requires c κs = (omega (arith, ap (λ (w : Walk). w .count) (c .before .whole .ensures .0), c .before .before .before .before .before .pre .1), c .before .whole .ensures .1, c .before .before .before .before .before .pre .2)
 
--- src/lib.rt:562:9
-same-length : tie.Need-same-length
-same-length c = search needs
-
--- src/lib.rt:562:9
 returns : tie.Need-returns
 returns c = whole-marks (now (c .before .before .before .before .before .before .before .before .before .args .catalogue)) (now (c .before .before .before .before .before .before .before .before .before .args .values)) (now (c .before .before .before .before .before .before .before .before .before .args .q)) (c .before .before .before .before .before .before .before .before .before .args .relation) (c .before .before .before .before .before .whole .result) (now (c .before .before .before .before .before .before .before .before .before .args .marks)) _ (c .before .before .before .before .before .whole .ensures .0) (c .before .before .before .judge-short .ensures .0 (c .if1 .taken) (now (c .before .before .before .before .before .before .before .before .before .args .catalogue)))
 
--- src/lib.rt:564:5
 judge-long-requires : tie.Need-judge-long-requires
 judge-long-requires c κs = (omega (arith, ap (λ (w : Walk). w .count) (c .before .before .before .before .before .before .whole .ensures .0), c .before .before .before .before .before .before .before .before .before .before .pre .0), omega (arith, ap (λ (w : Walk). w .count) (c .before .before .before .before .before .before .whole .ensures .0), c .before .before .before .before .before .before .before .before .before .before .pre .1, ap length (c .before .before .before .before .judge-short .ensures .1 (c .before .if1 .left))), c .before .before .before .before .before .before .whole .ensures .1, subst Bits (sym (c .before .before .before .before .judge-short .ensures .1 (c .before .if1 .left))) (c .before .before .before .before .before .before .before .before .before .before .pre .2))
 
--- src/lib.rt:556:1
-same-length-2 : tie.Need-same-length-2
-same-length-2 c = search needs
-
--- src/lib.rt:556:1
 returns-2 : tie.Need-returns-2
 returns-2 c = whole-marks (now (c .before .before .before .before .before .before .before .before .before .before .before .before .before .args .catalogue)) (now (c .before .before .before .before .before .before .before .before .before .before .before .before .before .args .values)) (now (c .before .before .before .before .before .before .before .before .before .before .before .before .before .args .q)) (c .before .before .before .before .before .before .before .before .before .before .before .before .before .args .relation) (c .before .before .before .before .before .before .before .before .before .whole .result) (now (c .before .before .before .before .before .before .before .before .before .before .before .before .before .args .marks)) _ (c .before .before .before .before .before .before .before .before .before .whole .ensures .0) (marked-from (c .before .before .before .before .before .before .before .judge-short .ensures .1 (c .before .before .before .before .if1 .left)) (c .before .before .judge-long .ensures))
 
@@ -47,10 +31,10 @@ pub judge-spec : {M : Type 1} → statement M
 judge-spec =
     tie.close
     (tie.spec
-    whole-requires
+    (λ c κs. search needs)
     judge-short-requires
-    same-length
+    (λ c. search needs)
     returns
     judge-long-requires
-    same-length-2
+    (λ c. search needs)
     returns-2)

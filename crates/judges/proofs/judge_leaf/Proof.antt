@@ -12,19 +12,9 @@ use Rattle.judges.proofs.judge_leaf.Lts as lts
 use Rattle.judges.proofs.judge_each.Reads as judge-each-reads
 use Rattle.judges.proofs.mark_compared.Reads as mark-compared-reads
 
--- src/lib.rt:416:8
-mark-compared-requires : tie.Need-mark-compared-requires
-mark-compared-requires c κs = search needs
-
--- src/lib.rt:417:9
-same-length : tie.Need-same-length
-same-length c = search needs
-
--- src/lib.rt:417:9
 returns : tie.Need-returns
 returns c = c .before .before .before .mark-compared .ensures .0 (c .if1 .taken) (now (c .before .before .before .before .before .before .before .before .before .args .walks))
 
--- src/lib.rt:419:5
 judge-each-requires : tie.Need-judge-each-requires
 judge-each-requires c κs =
     let c₁ = c .before in let if1 = c₁ .if1 in
@@ -32,11 +22,6 @@ judge-each-requires c κs =
     let c₁₀ = c₄ .before .before .before .before .before .before in let pre = c₁₀ .pre in
     (pre .0, pre .1, omega (arith, pre .2, ap length (mark-compared .ensures .1 (if1 .left))), subst Bits (sym (mark-compared .ensures .1 (if1 .left))) (pre .3))
 
--- src/lib.rt:402:1
-same-length-2 : tie.Need-same-length-2
-same-length-2 c = search needs
-
--- src/lib.rt:402:1
 returns-2 : tie.Need-returns-2
 returns-2 c = marked-from (c .before .before .before .before .before .before .before .mark-compared .ensures .1 (c .before .before .before .before .if1 .left)) (c .before .before .judge-each .ensures)
 
@@ -44,9 +29,9 @@ pub judge-leaf-spec : {M : Type 1} → statement M
 judge-leaf-spec =
     tie.close
     (tie.spec
-    mark-compared-requires
-    same-length
+    (λ c κs. search needs)
+    (λ c. search needs)
     returns
     judge-each-requires
-    same-length-2
+    (λ c. search needs)
     returns-2)

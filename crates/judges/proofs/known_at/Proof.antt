@@ -17,59 +17,19 @@ use Rattle.kinds.proofs.constant.Reads as constant-reads
 use Rattle.kinds.proofs.read.Reads as read-reads
 use Rattle.numbers.proofs.whole.Reads as whole-reads
 
--- src/lib.rt:208:9
-unknown-requires : tie.Need-unknown-requires
-unknown-requires c κs = search needs
-
--- src/lib.rt:208:9
 returns : tie.Need-returns
 returns c = (nothing-known (c .unknown .result) (c .unknown .ensures .0), c .unknown .ensures .1)
 
--- src/lib.rt:210:11
-read-requires : tie.Need-read-requires
-read-requires c κs = search needs
-
--- src/lib.rt:211:26
-enum-known-a : tie.Need-enum-known-a
-enum-known-a c = search needs
-
--- src/lib.rt:211:62
-constant-requires : tie.Need-constant-requires
-constant-requires c κs = search needs
-
--- src/lib.rt:211:47
-whole-requires : tie.Need-whole-requires
-whole-requires c κs = search needs
-
--- src/lib.rt:211:41
-found-requires : tie.Need-found-requires
-found-requires c κs = search needs
-
--- src/lib.rt:212:30
-enum-known-variable : tie.Need-enum-known-variable
-enum-known-variable c = search needs
-
--- src/lib.rt:212:49
-recalled-requires : tie.Need-recalled-requires
-recalled-requires c κs = search needs
-
--- src/lib.rt:213:14
-unknown-requires-2 : tie.Need-unknown-requires-2
-unknown-requires-2 c κs = search needs
-
--- src/lib.rt:203:1
 returns-2 : tie.Need-returns-2
 returns-2 c =
     let c₁ = c .before in let c₂ = c₁ .before in let c₄ = c₂ .before .before in let c₆ = c₄ .before .before in let c₇ = c₆ .before in let args = c₇ .before .before .args in
     (λ h. constant-known (now (args .memo)) (now (args .q)) (args .level) _ (c₇ .if1 .left) (c₆ .read .ensures) (c .found .result) (c₁ .whole .result) _ _ _ _ _ (c₄ .a .given .1) (toZ-ofZ {w = w32} (record { sfits = c₂ .constant .ok }) ∙ c₂ .constant .ensures .0) (c₁ .whole .ensures .0) (c .found .ensures), subst (λ (k : Known). Small (k .value)) (sym (c .found .ensures)) (c₁ .whole .ensures .1))
 
--- src/lib.rt:203:1
 returns-3 : tie.Need-returns-3
 returns-3 c =
     let c₂ = c .before .before in let c₄ = c₂ .before .before in let c₅ = c₄ .before in let args = c₅ .before .before .args in
     (λ h. let k = c .recalled .ensures .0 h in aggregate-known (now (args .memo)) (now (args .q)) (args .level) _ (c₅ .if1 .left) (c₄ .read .ensures) (c .recalled .result .value) _ _ _ _ (c₂ .variable .given .1) (k .0) (k .1), c .recalled .ensures .1)
 
--- src/lib.rt:203:1
 returns-4 : tie.Need-returns-4
 returns-4 c = (nothing-known (c .unknown2 .result) (c .unknown2 .ensures .0), c .unknown2 .ensures .1)
 
@@ -77,16 +37,16 @@ pub known-at-spec : {M : Type 1} → statement M
 known-at-spec =
     tie.close
     (tie.spec
-    unknown-requires
+    (λ c κs. search needs)
     returns
-    read-requires
-    enum-known-a
-    constant-requires
-    whole-requires
-    found-requires
-    enum-known-variable
-    recalled-requires
-    unknown-requires-2
+    (λ c κs. search needs)
+    (λ c. search needs)
+    (λ c κs. search needs)
+    (λ c κs. search needs)
+    (λ c κs. search needs)
+    (λ c. search needs)
+    (λ c κs. search needs)
+    (λ c κs. search needs)
     returns-2
     returns-3
     returns-4)

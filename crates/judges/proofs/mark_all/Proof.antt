@@ -19,31 +19,24 @@ Inv-loop n marks₀ i₀ marks i = (i ≤ n) × Marked (λ i. true) i marks₀ m
 abbrev μ-loop : tie.MeasureT-loop
 μ-loop n marks₀ i₀ marks i = n - i
 
--- src/lib.rt:261:5
 loop-holds : tie.Need-loop-holds Inv-loop μ-loop
 loop-holds c = (omega arith, marked-none _ (now (c .args .marks)))
 
--- src/lib.rt:262:9
 slice-write-marks : tie.Need-slice-write-marks Inv-loop μ-loop
 slice-write-marks c = search needs
 
--- src/lib.rt:263:9
 add-i : tie.Need-add-i Inv-loop μ-loop
 add-i c = search needs
 
--- src/lib.rt:261:5
 loop-less : tie.Need-loop-less Inv-loop μ-loop
 loop-less c = search needs
 
--- src/lib.rt:261:5
 loop-again : tie.Need-loop-again Inv-loop μ-loop
 loop-again c = let loop = c .before .loop in let args = c .before .before .args in let pre = c .before .before .pre in (omega (arith, c .loop-test .taken), marked-next _ (loop .i) (now (args .marks)) (loop .marks) 1 (omega (arith, c .loop-test .taken, pre)) (loop .inv .1) refl)
 
--- src/lib.rt:256:1
 same-length : tie.Need-same-length Inv-loop μ-loop
 same-length c = search needs
 
--- src/lib.rt:256:1
 returns : tie.Need-returns Inv-loop μ-loop
 returns c = let loop = c .before .loop in marked-same (loop .inv .1) (omega (arith, loop .inv .0, c .loop-test .left)) (λ i h. refl)
 

@@ -16,86 +16,27 @@ use Rattle.kinds.proofs.record_length.Reads as record-length-reads
 use Rattle.kinds.proofs.size_at.Reads as size-at-reads
 use Rattle.kinds.proofs.tail.Reads as tail-reads
 
--- src/lib.rt:233:9
 returns : tie.Need-returns
 returns c = (λ h. clash h, λ h. refl)
 
--- src/lib.rt:235:37
-read-requires : tie.Need-read-requires
-read-requires c κs = search needs
-
--- src/lib.rt:235:25
-enum-known-operator : tie.Need-enum-known-operator
-enum-known-operator c = search needs
-
--- src/lib.rt:236:9
 returns-2 : tie.Need-returns-2
 returns-2 c = (λ h. clash h, λ h. refl)
 
--- src/lib.rt:238:34
-byte-requires : tie.Need-byte-requires
-byte-requires c κs = search needs
-
--- src/lib.rt:238:9
-record-length-requires : tie.Need-record-length-requires
-record-length-requires c κs = search needs
-
--- src/lib.rt:239:62
-tail-requires : tie.Need-tail-requires
-tail-requires c κs = search needs
-
--- src/lib.rt:239:50
-read-requires-2 : tie.Need-read-requires-2
-read-requires-2 c κs = search needs
-
--- src/lib.rt:239:27
-enum-known-variable : tie.Need-enum-known-variable
-enum-known-variable c = search needs
-
--- src/lib.rt:240:9
 returns-3 : tie.Need-returns-3
 returns-3 c = (λ h. clash h, λ h. refl)
 
--- src/lib.rt:243:9
 returns-4 : tie.Need-returns-4
 returns-4 c = (λ h. clash h, λ h. refl)
 
--- src/lib.rt:245:17
-size-at-requires : tie.Need-size-at-requires
-size-at-requires c κs = search needs
-
--- src/lib.rt:245:13
-add-b : tie.Need-add-b
-add-b c = search needs
-
--- src/lib.rt:246:22
-tail-requires-2 : tie.Need-tail-requires-2
-tail-requires-2 c κs = search needs
-
--- src/lib.rt:246:41
-sub-known-at : tie.Need-sub-known-at
-sub-known-at c = search needs
-
--- src/lib.rt:246:9
-known-at-requires : tie.Need-known-at-requires
-known-at-requires c κs = search needs
-
--- src/lib.rt:249:9
 returns-5 : tie.Need-returns-5
 returns-5 c = (λ h. clash h, λ h. refl)
 
--- src/lib.rt:252:5
 mark-against-requires : tie.Need-mark-against-requires
 mark-against-requires c κs =
     let c₃ = c .before .before .before in let known-at = c₃ .known-at in
     let c₂₂ = c₃ .before .before .before .before .before .before .before .before .before .before .before .before .before .before .before .before .before .before .before in let pre = c₂₂ .pre in
     (pre .0, pre .1, known-at .ensures .1, pre .2)
 
--- src/lib.rt:218:1
-same-length : tie.Need-same-length
-same-length c = search needs
-
--- src/lib.rt:218:1
 returns-6 : tie.Need-returns-6
 returns-6 c =
     let c₀ = c .before .before in let c₃ = c₀ .before .before .before in let if3 = c₃ .if3 in
@@ -120,22 +61,22 @@ mark-compared-spec =
     tie.close
     (tie.spec
     returns
-    read-requires
-    enum-known-operator
+    (λ c κs. search needs)
+    (λ c. search needs)
     returns-2
-    byte-requires
-    record-length-requires
-    tail-requires
-    read-requires-2
-    enum-known-variable
+    (λ c κs. search needs)
+    (λ c κs. search needs)
+    (λ c κs. search needs)
+    (λ c κs. search needs)
+    (λ c. search needs)
     returns-3
     returns-4
-    size-at-requires
-    add-b
-    tail-requires-2
-    sub-known-at
-    known-at-requires
+    (λ c κs. search needs)
+    (λ c. search needs)
+    (λ c κs. search needs)
+    (λ c. search needs)
+    (λ c κs. search needs)
     returns-5
     mark-against-requires
-    same-length
+    (λ c. search needs)
     returns-6)

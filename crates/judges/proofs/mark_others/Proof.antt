@@ -20,46 +20,36 @@ Inv-loop others n marks₀ i₀ marks i = (i ≤ n) × Marked (λ i. eqb (getD o
 abbrev μ-loop : tie.MeasureT-loop
 μ-loop others n marks₀ i₀ marks i = n - i
 
--- src/lib.rt:273:5
 loop-holds : tie.Need-loop-holds Inv-loop μ-loop
 loop-holds c = (omega arith, marked-none _ (now (c .before .before .args .marks)))
 
--- src/lib.rt:274:27
 slice-read-joined : tie.Need-slice-read-joined Inv-loop μ-loop
 slice-read-joined c = search needs
 
--- src/lib.rt:274:37
 shared-slice-read-joined : tie.Need-shared-slice-read-joined Inv-loop μ-loop
 shared-slice-read-joined c = search needs
 
--- src/lib.rt:274:20
 joined-requires : tie.Need-joined-requires Inv-loop μ-loop
 joined-requires c κs = let c₃ = c .before .before .before in bits-on (c₃ .before .before .before .pre .2) (c₃ .loop .inv .1) (c₃ .loop .i)
 
--- src/lib.rt:274:9
 slice-write-marks : tie.Need-slice-write-marks Inv-loop μ-loop
 slice-write-marks c = search needs
 
--- src/lib.rt:275:9
 add-i : tie.Need-add-i Inv-loop μ-loop
 add-i c = search needs
 
--- src/lib.rt:273:5
 loop-less : tie.Need-loop-less Inv-loop μ-loop
 loop-less c = search needs
 
--- src/lib.rt:273:5
 loop-again : tie.Need-loop-again Inv-loop μ-loop
 loop-again c =
     let c₃ = c .before .before .before in let c₄ = c₃ .before in let loop = c₄ .loop in
     let c₇ = c₄ .before .before .before in let args = c₇ .args in let pre = c₇ .pre in
     (omega (arith, c₃ .loop-test .taken), marked-next _ (loop .i) (now (args .marks)) (loop .marks) _ (omega (arith, c₃ .loop-test .taken, pre .1)) (loop .inv .1) (c .joined .ensures))
 
--- src/lib.rt:268:1
 same-length : tie.Need-same-length Inv-loop μ-loop
 same-length c = search needs
 
--- src/lib.rt:268:1
 returns : tie.Need-returns Inv-loop μ-loop
 returns c = let loop = c .before .loop in marked-same (loop .inv .1) (omega (arith, loop .inv .0, c .loop-test .left)) (λ i h. refl)
 

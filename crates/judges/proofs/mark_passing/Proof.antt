@@ -25,63 +25,51 @@ Inv-loop values from width n marks₀ above below wanted number scale i₀ at₀
 abbrev μ-loop : tie.MeasureT-loop
 μ-loop values from width n marks₀ above below wanted number scale i₀ at₀ marks i at = n - i
 
--- src/lib.rt:83:5
 loop-holds : tie.Need-loop-holds Inv-loop μ-loop
 loop-holds c = (omega arith, omega arith, marked-none _ (now (c .before .before .before .args .marks)))
 
--- src/lib.rt:84:24
 mul-scaled : tie.Need-mul-scaled Inv-loop μ-loop
 mul-scaled c =
     let c₅ = c .before .before .before .before .before in let args = c₅ .args in let pre = c₅ .pre in
     let loop = c .before .loop in
     omega (arith, loop .inv .0, pre .1 (loop .i) (c .loop-test .taken), pre .2, pre .3, pre .4)
 
--- src/lib.rt:84:24
 shared-slice-copy-out-scaled : tie.Need-shared-slice-copy-out-scaled Inv-loop μ-loop
 shared-slice-copy-out-scaled c =
     let c₅ = c .before .before .before .before .before in let args = c₅ .args in let pre = c₅ .pre in
     let loop = c .before .loop in
     omega (arith, loop .inv .0, pre .1 (loop .i) (c .loop-test .taken))
 
--- src/lib.rt:84:13
 scaled-requires : tie.Need-scaled-requires Inv-loop μ-loop
 scaled-requires c κs = search needs
 
--- src/lib.rt:85:27
 slice-read-joined : tie.Need-slice-read-joined Inv-loop μ-loop
 slice-read-joined c = search needs
 
--- src/lib.rt:85:37
 between-requires : tie.Need-between-requires Inv-loop μ-loop
 between-requires c κs = search needs
 
--- src/lib.rt:85:20
 joined-requires : tie.Need-joined-requires Inv-loop μ-loop
 joined-requires c κs =
     let c₅ = c .before .before .before .before .before in let loop = c₅ .loop in
     let c₉ = c₅ .before .before .before .before in let args = c₉ .args in let pre = c₉ .pre in
     bits-on (pre .7) (loop .inv .2) (loop .i)
 
--- src/lib.rt:85:9
 slice-write-marks : tie.Need-slice-write-marks Inv-loop μ-loop
 slice-write-marks c = search needs
 
--- src/lib.rt:86:9
 add-at : tie.Need-add-at Inv-loop μ-loop
 add-at c =
     let c₆ = c .before .before .before .before .before .before in let loop = c₆ .loop in
     let c₁₀ = c₆ .before .before .before .before in let args = c₁₀ .args in let pre = c₁₀ .pre in
     omega (arith, loop .inv .0, pre .1 (loop .i) (c .before .before .before .before .before .loop-test .taken), pre .2, pre .3)
 
--- src/lib.rt:87:9
 add-i : tie.Need-add-i Inv-loop μ-loop
 add-i c = search needs
 
--- src/lib.rt:83:5
 loop-less : tie.Need-loop-less Inv-loop μ-loop
 loop-less c = search needs
 
--- src/lib.rt:83:5
 loop-again : tie.Need-loop-again Inv-loop μ-loop
 loop-again c =
     let c₆ = c .before .before .before .before .before .before in let loop = c₆ .loop in
@@ -92,11 +80,9 @@ loop-again c =
     let scale = toZ w64 (ofZ w64 (test .scale)) in
     (step (args .from) (args .width) (loop .i) (loop .at) (loop .inv .0), omega (arith, c₅ .loop-test .taken), marked-next _ (loop .i) (now (args .marks)) (loop .marks) _ (omega (arith, c₅ .loop-test .taken, pre .0)) (loop .inv .2) (row-joined (now (args .values)) (args .from) (args .width) (loop .i) (loop .at) _ _ (test .above) (test .below) (test .wanted) (c .before .between .result) (toZ w64 (ofZ w64 (test .number))) scale _ _ (c .joined .ensures) (c .before .between .ensures) (toZ-ofZ {w = w64} (record { sfits = c₃ .scaled .ok }) ∙ c₃ .scaled .ensures) (toZ-ofZ {w = w32} (record { sfits = c₃ .before .scaled-arg .given })) (loop .inv .0)))
 
--- src/lib.rt:72:1
 same-length : tie.Need-same-length Inv-loop μ-loop
 same-length c = search needs
 
--- src/lib.rt:72:1
 returns : tie.Need-returns Inv-loop μ-loop
 returns c =
     let c₅ = c .before .before .before .before .before in let args = c₅ .args in let pre = c₅ .pre in

@@ -25,35 +25,28 @@ Inv-loop t xs start q z walks chains walk vs memo marks₀ n env₀ i₀ marks e
 abbrev μ-loop : tie.MeasureT-loop
 μ-loop t xs start q z walks chains walk vs memo marks₀ n env₀ i₀ marks env i = n - i
 
--- src/lib.rt:336:9
 unmarked-requires : tie.Need-unmarked-requires Inv-loop μ-loop
 unmarked-requires c κs = (c .before .before .before .before .before .before .before .pre .2, omega arith)
 
--- src/lib.rt:337:5
 loop-holds : tie.Need-loop-holds Inv-loop μ-loop
 loop-holds c =
     let c₈ = c .before .before .before .before .before .before .before .before in let args = c₈ .args in let pre = c₈ .pre in
     (c .unmarked .ensures .0 .1, refl, length-replicate 256 (length (now (args .vs))), marked-over (pre .3) (marked-none _ (now (args .marks))) (c .unmarked .ensures .0 .0) (c .unmarked .ensures .1))
 
--- src/lib.rt:338:30
 slice-aggregate-set-place : tie.Need-slice-aggregate-set-place Inv-loop μ-loop
 slice-aggregate-set-place c = search needs
 
--- src/lib.rt:338:43
 place-of-requires : tie.Need-place-of-requires Inv-loop μ-loop
 place-of-requires c κs =
     let c₁₁ = c .before .before .before .before .before .before .before .before .before .before .before in let pre = c₁₁ .pre in
     (pre .1, omega (arith, pre .1 .count, c .before .loop-test .taken))
 
--- src/lib.rt:338:9
 set-place-requires : tie.Need-set-place-requires Inv-loop μ-loop
 set-place-requires c κs = search needs
 
--- src/lib.rt:339:78
 slice-aggregate-holds : tie.Need-slice-aggregate-holds Inv-loop μ-loop
 slice-aggregate-holds c = search needs
 
--- src/lib.rt:339:13
 holds-requires : tie.Need-holds-requires Inv-loop μ-loop
 holds-requires c κs =
     let c₃ = c .before .before .before in let place-of = c₃ .place-of in
@@ -61,7 +54,6 @@ holds-requires c κs =
     let c₁₅ = c₆ .before .before .before .before .before .before .before .before .before in let pre = c₁₅ .pre in
     (omega (arith, ap length (c .before .before .set-place .ensures) ∙ length-set (loop .env) 0 (place-of .result) ∙ loop .inv .2), pre .0, pre .4)
 
--- src/lib.rt:340:27
 slice-read-joined : tie.Need-slice-read-joined Inv-loop μ-loop
 slice-read-joined c =
     let c₈ = c .before .before .before .before .before .before .before .before in let loop-test = c₈ .loop-test in
@@ -69,14 +61,12 @@ slice-read-joined c =
     let c₁₈ = c₉ .before .before .before .before .before .before .before .before .before in let pre = c₁₈ .pre in
     omega (arith, pre .2, loop-test .taken, loop .inv .3 .size)
 
--- src/lib.rt:340:20
 joined-requires : tie.Need-joined-requires Inv-loop μ-loop
 joined-requires c κs =
     let c₉ = c .before .before .before .before .before .before .before .before .before in let loop = c₉ .loop in
     let c₁₈ = c₉ .before .before .before .before .before .before .before .before .before in let pre = c₁₈ .pre in
     bits-on (pre .3) (loop .inv .3) (loop .i)
 
--- src/lib.rt:340:9
 slice-write-marks : tie.Need-slice-write-marks Inv-loop μ-loop
 slice-write-marks c =
     let c₉ = c .before .before .before .before .before .before .before .before .before in let loop-test = c₉ .loop-test in
@@ -84,14 +74,12 @@ slice-write-marks c =
     let c₁₉ = c₁₀ .before .before .before .before .before .before .before .before .before in let pre = c₁₉ .pre in
     omega (arith, pre .2, loop-test .taken, loop .inv .3 .size)
 
--- src/lib.rt:341:32
 add-unmarked : tie.Need-add-unmarked Inv-loop μ-loop
 add-unmarked c =
     let c₁₀ = c .before .before .before .before .before .before .before .before .before .before in let loop-test = c₁₀ .loop-test in
     let c₂₀ = c₁₀ .before .before .before .before .before .before .before .before .before .before in let pre = c₂₀ .pre in
     record { fits = omega (arith, pre .1 .count, loop-test .taken) }
 
--- src/lib.rt:341:9
 unmarked-requires-2 : tie.Need-unmarked-requires-2 Inv-loop μ-loop
 unmarked-requires-2 c κs =
     let c₁₀ = c .before .before .before .before .before .before .before .before .before .before in let loop-test = c₁₀ .loop-test in
@@ -99,11 +87,9 @@ unmarked-requires-2 c κs =
     let c₂₀ = c₁₁ .before .before .before .before .before .before .before .before .before in let pre = c₂₀ .pre in
     (omega (arith, pre .2, length-set (loop .marks) (loop .i) (c .before .joined .result), loop .inv .3 .size), omega (arith, loop-test .taken))
 
--- src/lib.rt:337:5
 loop-less : tie.Need-loop-less Inv-loop μ-loop
 loop-less c = omega (arith, c .unmarked2 .ensures .0 .0, c .unmarked2 .ensures .0 .1, c .before .before .before .before .before .before .before .before .before .before .before .loop-test .taken)
 
--- src/lib.rt:337:5
 loop-again : tie.Need-loop-again Inv-loop μ-loop
 loop-again c =
     let c₂ = c .before .before in let joined = c₂ .joined in
@@ -116,11 +102,9 @@ loop-again c =
     let vs = now (args .vs) in
     (c .unmarked2 .ensures .0 .1, ap (λ (u : List ℕ). set u 0 (length vs)) (holds .ensures .1 ∙ set-place .ensures) ∙ set-set (loop .env) 0 (place-of .result) (length vs) ∙ loop .inv .1, ap length (holds .ensures .1 ∙ set-place .ensures) ∙ length-set (loop .env) 0 (place-of .result) ∙ loop .inv .2, marked-over (pre .3) (row-marked (now (args .t)) (now (args .xs)) (args .start) (now (args .q)) (now (args .z)) (now (args .walks)) vs (now (args .memo)) (loop .env) _ (args .walk) (now (args .marks)) (loop .marks) (loop .i) (place-of .result) (joined .result) (holds .result) (omega (arith, loop .inv .2)) (omega (arith, pre .2, loop-test .taken)) (loop .inv .1) (place-of .ensures) (set-place .ensures) (holds .ensures .0) (joined .ensures) (loop .inv .3)) (c .unmarked2 .ensures .0 .0) (c .unmarked2 .ensures .1))
 
--- src/lib.rt:318:1
 same-length : tie.Need-same-length Inv-loop μ-loop
 same-length c = search needs
 
--- src/lib.rt:318:1
 returns : tie.Need-returns Inv-loop μ-loop
 returns c = marked-same (c .before .loop .inv .3) (omega (arith, c .before .loop .inv .0, c .loop-test .left)) (λ i h. refl)
 

@@ -5,17 +5,11 @@ use Rattle.judges.proofs.place_of.Tie as tie
 use Rattle.judges.proofs.place_of.Reads as reads
 use Rattle.judges.proofs.place_of.Lts as lts
 
--- src/lib.rt:319:17
 mul-result : tie.Need-mul-result
 mul-result c = fits-product _ _ (c .before .pre .1) (c .before .pre .0 .width)
 
--- src/lib.rt:319:5
 add-result : tie.Need-add-result
 add-result c = fits-place _ _ _ (c .before .before .pre .0 .base) (c .before .before .pre .1) (c .before .before .pre .0 .width)
 
--- src/lib.rt:315:1
-returns : tie.Need-returns
-returns c = search needs
-
 pub place-of-spec : {M : Type 1} → statement M
-place-of-spec = tie.close (tie.spec mul-result add-result returns)
+place-of-spec = tie.close (tie.spec mul-result add-result (λ c. search needs))

@@ -13,31 +13,16 @@ use Rattle.judges.proofs.unknown.Reads as unknown-reads
 use Rattle.numbers.proofs.knows.Reads as knows-reads
 use Rattle.numbers.proofs.recall.Reads as recall-reads
 
--- src/lib.rt:196:9
-knows-requires : tie.Need-knows-requires
-knows-requires c κs = search needs
-
--- src/lib.rt:197:9
-unknown-requires : tie.Need-unknown-requires
-unknown-requires c κs = search needs
-
--- src/lib.rt:197:9
 returns : tie.Need-returns
 returns c = (nothing-known (c .unknown .result) (c .unknown .ensures .0), c .unknown .ensures .1)
 
--- src/lib.rt:199:11
 recall-requires : tie.Need-recall-requires
 recall-requires c κs = sym (c .before .knows .ensures) ∙ not-no (c .before .knows .result) (c .if1 .left)
 
--- src/lib.rt:199:5
-found-requires : tie.Need-found-requires
-found-requires c κs = search needs
-
--- src/lib.rt:192:1
 returns-2 : tie.Need-returns-2
 returns-2 c = let c₁ = c .before in let c₃ = c₁ .before .before in (λ h. (sym (c₃ .knows .ensures) ∙ not-no (c₃ .knows .result) (c₁ .before .if1 .left), ap (λ (k : Known). valueOf (k .value)) (c .found .ensures) ∙ c₁ .recall .ensures .0), subst (λ (k : Known). Small (k .value)) (sym (c .found .ensures)) (c₁ .recall .ensures .1))
 
 pub recalled-spec : {M : Type 1} → statement M
 recalled-spec =
     tie.close
-    (tie.spec knows-requires unknown-requires returns recall-requires found-requires returns-2)
+    (tie.spec (λ c κs. search needs) (λ c κs. search needs) returns recall-requires (λ c κs. search needs) returns-2)

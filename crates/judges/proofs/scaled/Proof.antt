@@ -11,9 +11,6 @@ use Rattle.judges.proofs.scaled.Reads as reads
 use Rattle.judges.proofs.scaled.Lts as lts
 use Rattle.numbers.proofs.wide.Reads as wide-reads
 
-wide-requires : tie.Need-wide-requires
-wide-requires c κs = search needs
-
 mul-result : tie.Need-mul-result
 mul-result c =
     let args = c .before .args in
@@ -25,4 +22,4 @@ returns c =
     op-is _*ℤ_ (c .wide .result) (args .d) (record { sfits = c .wide .ok }) (c .before .fits .d) (cross (c .wide .result) (args .d) (omega (arith, c .wide .ensures .1)) (c .before .pre)) ∙ ap (λ (y : ℤ). y *ℤ args .d) (c .wide .ensures .0 ∙ toZ-ofZ {w = w32} (c .before .fits .a))
 
 pub scaled-spec : {M : Type 1} → statement M
-scaled-spec = tie.close (tie.spec wide-requires mul-result returns)
+scaled-spec = tie.close (tie.spec (λ c κs. search needs) mul-result returns)

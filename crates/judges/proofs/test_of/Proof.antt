@@ -11,51 +11,21 @@ use Rattle.judges.proofs.test_of.Reads as reads
 use Rattle.judges.proofs.test_of.Lts as lts
 use Rattle.judges.proofs.test_with.Reads as test-with-reads
 
--- src/lib.rt:125:14
-test-with-requires : tie.Need-test-with-requires
-test-with-requires c κs = search needs
-
--- src/lib.rt:126:14
-test-with-requires-2 : tie.Need-test-with-requires-2
-test-with-requires-2 c κs = search needs
-
--- src/lib.rt:127:14
-test-with-requires-3 : tie.Need-test-with-requires-3
-test-with-requires-3 c κs = search needs
-
--- src/lib.rt:128:14
-test-with-requires-4 : tie.Need-test-with-requires-4
-test-with-requires-4 c κs = search needs
-
--- src/lib.rt:129:14
-test-with-requires-5 : tie.Need-test-with-requires-5
-test-with-requires-5 c κs = search needs
-
--- src/lib.rt:130:14
-test-with-requires-6 : tie.Need-test-with-requires-6
-test-with-requires-6 c κs = search needs
-
--- src/lib.rt:120:1
 returns : tie.Need-returns
 returns c = let args = c .before .before .args in let w = args .wanted in test-is (args .operator) false false w w (args .x) (c .test-with .result) (c .test-with .ensures) (λ n v. test-1 w n v ∙ sym (ap (λ (o : ℕ). turned w (ordered o v n)) (c .before .match .keys1)))
 
--- src/lib.rt:120:1
 returns-2 : tie.Need-returns-2
 returns-2 c = let args = c .before .before .args in let w = args .wanted in test-is (args .operator) false false (not w) w (args .x) (c .test-with2 .result) (c .test-with2 .ensures) (λ n v. test-2 w n v ∙ sym (ap (λ (o : ℕ). turned w (ordered o v n)) (c .before .match .keys2)))
 
--- src/lib.rt:120:1
 returns-3 : tie.Need-returns-3
 returns-3 c = let args = c .before .before .args in let w = args .wanted in test-is (args .operator) false true (not w) w (args .x) (c .test-with3 .result) (c .test-with3 .ensures) (λ n v. test-3 w n v ∙ sym (ap (λ (o : ℕ). turned w (ordered o v n)) (c .before .match .keys3)))
 
--- src/lib.rt:120:1
 returns-4 : tie.Need-returns-4
 returns-4 c = let args = c .before .before .args in let w = args .wanted in test-is (args .operator) true false w w (args .x) (c .test-with4 .result) (c .test-with4 .ensures) (λ n v. test-4 w n v ∙ sym (ap (λ (o : ℕ). turned w (ordered o v n)) (c .before .match .keys4)))
 
--- src/lib.rt:120:1
 returns-5 : tie.Need-returns-5
 returns-5 c = let args = c .before .before .args in let w = args .wanted in test-is (args .operator) true false (not w) w (args .x) (c .test-with5 .result) (c .test-with5 .ensures) (λ n v. test-5 w n v ∙ sym (ap (λ (o : ℕ). turned w (ordered o v n)) (c .before .match .keys5)))
 
--- src/lib.rt:120:1
 returns-6 : tie.Need-returns-6
 returns-6 c = let args = c .before .before .args in let w = args .wanted in test-is (args .operator) false true w w (args .x) (c .test-with6 .result) (c .test-with6 .ensures) (λ n v. test-6 w n v ∙ ap (turned w) (other (args .operator) v n (c .before .match .rest)))
 
@@ -63,12 +33,12 @@ pub test-of-spec : {M : Type 1} → statement M
 test-of-spec =
     tie.close
     (tie.spec
-    test-with-requires
-    test-with-requires-2
-    test-with-requires-3
-    test-with-requires-4
-    test-with-requires-5
-    test-with-requires-6
+    (λ c κs. search needs)
+    (λ c κs. search needs)
+    (λ c κs. search needs)
+    (λ c κs. search needs)
+    (λ c κs. search needs)
+    (λ c κs. search needs)
     returns
     returns-2
     returns-3

@@ -16,32 +16,25 @@ Inv-loop marks n from i₀ i = (from ≤ i) × (i ≤ n) × ((j : ℕ) → from 
 abbrev μ-loop : tie.MeasureT-loop
 μ-loop marks n from i₀ i = n - i
 
--- src/lib.rt:302:5
 loop-holds : tie.Need-loop-holds Inv-loop μ-loop
 loop-holds c = (omega arith, c .pre .1, λ j a b e. omega (arith, a, b))
 
--- src/lib.rt:303:12
 shared-slice-read-if1 : tie.Need-shared-slice-read-if1 Inv-loop μ-loop
 shared-slice-read-if1 c = search needs
 
--- src/lib.rt:304:13
 returns : tie.Need-returns Inv-loop μ-loop
 returns c = let inv = c .before .before .before .loop .inv in ((inv .0, inv .1), inv .2)
 
--- src/lib.rt:306:9
 add-i : tie.Need-add-i Inv-loop μ-loop
 add-i c = search needs
 
--- src/lib.rt:302:5
 loop-less : tie.Need-loop-less Inv-loop μ-loop
 loop-less c = search needs
 
--- src/lib.rt:302:5
 loop-again : tie.Need-loop-again Inv-loop μ-loop
 loop-again c = let loop = c .before .before .before .loop in let args = c .before .before .before .before .args in
     (omega (arith, loop .inv .0), omega (arith, c .before .before .loop-test .taken), passed-next (now (args .marks)) (args .from) (loop .i) (loop .inv .2) (c .if1 .left))
 
--- src/lib.rt:296:1
 returns-2 : tie.Need-returns-2 Inv-loop μ-loop
 returns-2 c = let inv = c .before .loop .inv in ((inv .0, inv .1), inv .2)
 

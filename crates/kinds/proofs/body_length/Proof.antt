@@ -17,18 +17,6 @@ returns : tie.Need-returns
 unfolding bodyOf ofKind kindOf find
 returns c = sym (upper 255 bodyLength (c .before .args .kind) (c .if1 .taken))
 
-entry-requires : tie.Need-entry-requires
-entry-requires c κs = search needs
-
-entry-requires-2 : tie.Need-entry-requires-2
-entry-requires-2 c κs = search needs
-
-entry-requires-3 : tie.Need-entry-requires-3
-entry-requires-3 c κs = search needs
-
-entry-requires-4 : tie.Need-entry-requires-4
-entry-requires-4 c κs = search needs
-
 returns-2 : tie.Need-returns-2
 unfolding bodyOf ofKind kindOf find
 returns-2 c = c .entry .ensures ∙ row-entry 255 bodyLength 18446744073709486847 0 tt (c .before .before .before .args .kind) (c .before .match .keys1) (c .before .before .if1 .left)
@@ -57,10 +45,10 @@ body-length-spec =
     tie.close
     (tie.spec
     returns
-    entry-requires
-    entry-requires-2
-    entry-requires-3
-    entry-requires-4
+    (λ c κs. search needs)
+    (λ c κs. search needs)
+    (λ c κs. search needs)
+    (λ c κs. search needs)
     returns-2
     returns-3
     returns-4

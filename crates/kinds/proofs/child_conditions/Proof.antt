@@ -17,15 +17,6 @@ returns : tie.Need-returns
 unfolding conditionsOf ofKind kindOf find
 returns c = sym (upper 0 childConditions (c .before .args .kind) (c .if1 .taken))
 
-entry-requires : tie.Need-entry-requires
-entry-requires c κs = search needs
-
-entry-requires-2 : tie.Need-entry-requires-2
-entry-requires-2 c κs = search needs
-
-entry-requires-3 : tie.Need-entry-requires-3
-entry-requires-3 c κs = search needs
-
 returns-2 : tie.Need-returns-2
 unfolding conditionsOf ofKind kindOf find
 returns-2 c = c .entry .ensures ∙ row-entry 0 childConditions 281483600265216 1 tt (c .before .before .before .args .kind) (c .before .match .keys1) (c .before .before .if1 .left)
@@ -50,9 +41,9 @@ child-conditions-spec =
     tie.close
     (tie.spec
     returns
-    entry-requires
-    entry-requires-2
-    entry-requires-3
+    (λ c κs. search needs)
+    (λ c κs. search needs)
+    (λ c κs. search needs)
     returns-2
     returns-3
     returns-4

@@ -17,9 +17,6 @@ returns : tie.Need-returns
 unfolding termsOf ofKind kindOf find
 returns c = sym (upper 0 childTerms (c .before .args .kind) (c .if1 .taken))
 
-entry-requires : tie.Need-entry-requires
-entry-requires c κs = search needs
-
 returns-2 : tie.Need-returns-2
 unfolding termsOf ofKind kindOf find
 returns-2 c = c .entry .ensures ∙ row-entry 0 childTerms 2199023255552 1 tt (c .before .before .before .args .kind) (c .before .match .keys1) (c .before .before .if1 .left)
@@ -36,6 +33,6 @@ child-terms-spec =
     tie.close
     (tie.spec
     returns
-    entry-requires
+    (λ c κs. search needs)
     returns-2
     returns-3)

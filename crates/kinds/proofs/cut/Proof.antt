@@ -11,17 +11,11 @@ use borrow.Author.Tests.{le-ltb}
 use Rattle.kinds.specs.Tables.{recordLength}
 use Rattle.kinds.proofs.Entries.{length-small}
 
--- src/lib.rt:186:18
-record-length-requires : tie.Need-record-length-requires
-record-length-requires c κs = search needs
-
--- src/lib.rt:180:1
 returns : tie.Need-returns
 returns c = sym (le-ltb (c .before .args .length) (recordLength (c .before .args .kind)) (omega (arith, length-small (c .before .args .kind) .1, c .if1 .taken)))
 
--- src/lib.rt:180:1
 returns-2 : tie.Need-returns-2
 returns-2 c = ap (ltb (c .before .before .args .length)) (c .record-length .ensures .0)
 
 pub cut-spec : {M : Type 1} → statement M
-cut-spec = tie.close (tie.spec record-length-requires returns returns-2)
+cut-spec = tie.close (tie.spec (λ c κs. search needs) returns returns-2)

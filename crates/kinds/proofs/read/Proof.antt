@@ -16,12 +16,6 @@ use Rattle.kinds.proofs.Records.{empty-is, cut-is, whole-is, unknown-is
 returns : tie.Need-returns
 returns c = sym (empty-is (now (c .before .before .args .q)) (c .if1 .taken))
 
-shared-slice-read-k : tie.Need-shared-slice-read-k
-shared-slice-read-k c = search needs
-
-cut-requires : tie.Need-cut-requires
-cut-requires c κs = search needs
-
 returns-2 : tie.Need-returns-2
 returns-2 c =
     let c₃ = c .before .before .before in let if1 = c₃ .if1 in
@@ -309,8 +303,8 @@ read-spec =
     tie.close
     (tie.spec
     returns
-    shared-slice-read-k
-    cut-requires
+    (λ c. search needs)
+    (λ c κs. search needs)
     returns-2
     shared-slice-read-t10
     shared-slice-read-t12

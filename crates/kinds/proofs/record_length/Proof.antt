@@ -17,26 +17,12 @@ one k n e h = sym (length-unknown k (sym e ∙ h))
 more : (k n w : ℕ) → n ≡ bodyOf k → (n ≡ 255 → ⊥) → w ≡ n → 1 + w ≡ recordLength k
 more k n w e h q = omega (arith, length-known k (λ x. h (e ∙ x)))
 
--- src/lib.rt:63:9
-body-length-requires : tie.Need-body-length-requires
-body-length-requires c κs = search needs
-
--- src/lib.rt:64:34
-wide-requires : tie.Need-wide-requires
-wide-requires c κs = search needs
-
--- src/lib.rt:64:30
-add-result : tie.Need-add-result
-add-result c = search needs
-
--- src/lib.rt:59:1
 returns : tie.Need-returns
 returns c = let p = one (c .before .before .args .kind) (c .before .body-length .result) (c .before .body-length .ensures) (c .if1 .taken) in (p, (omega arith, omega arith))
 
--- src/lib.rt:59:1
 returns-2 : tie.Need-returns-2
 returns-2 c = let p = more (c .before .before .before .args .kind) (c .before .before .body-length .result) (c .wide .result) (c .before .before .body-length .ensures) (c .before .if1 .left) (c .wide .ensures) in (p, (omega arith, omega (arith, length-small (c .before .before .before .args .kind) .1)))
 
 pub record-length-spec : {M : Type 1} → statement M
 record-length-spec =
-    tie.close (tie.spec body-length-requires wide-requires add-result returns returns-2)
+    tie.close (tie.spec (λ c κs. search needs) (λ c κs. search needs) (λ c. search needs) returns returns-2)

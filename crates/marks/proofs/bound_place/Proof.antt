@@ -7,12 +7,6 @@ use Rattle.marks.proofs.bound_place.Reads as reads
 use Rattle.marks.proofs.bound_place.Lts as lts
 use Rattle.kinds.proofs.byte.Reads as byte-reads
 
-byte-requires : tie.Need-byte-requires
-byte-requires c κs = search needs
-
-add-result : tie.Need-add-result
-add-result c = search needs
-
 returns : tie.Need-returns
 returns c = place-some (now (c .before .before .before .args .kinds)) (c .before .before .before .args .i) (c .before .byte .result) (c .before .byte .ensures) (c .if1 .taken)
 
@@ -20,4 +14,4 @@ returns-2 : tie.Need-returns-2
 returns-2 c = place-own (now (c .before .before .before .args .kinds)) (c .before .before .before .args .i) (c .before .byte .result) (c .before .byte .ensures) (c .if1 .left)
 
 pub bound-place-spec : {M : Type 1} → statement M
-bound-place-spec = tie.close (tie.spec byte-requires add-result returns returns-2)
+bound-place-spec = tie.close (tie.spec (λ c κs. search needs) (λ c. search needs) returns returns-2)

@@ -8,17 +8,8 @@ use Rattle.marks.proofs.deeper.Tie as tie
 use Rattle.marks.proofs.deeper.Reads as reads
 use Rattle.marks.proofs.deeper.Lts as lts
 
--- src/lib.rt:75:28
-add-result : tie.Need-add-result
-add-result c = search needs
-
--- src/lib.rt:71:1
-returns : tie.Need-returns
-returns c = search needs
-
--- src/lib.rt:71:1
 returns-2 : tie.Need-returns-2
 returns-2 c = deeper-pos (c .before .args .d) (c .if1 .left)
 
 pub deeper-spec : {M : Type 1} → statement M
-deeper-spec = tie.close (tie.spec add-result returns returns-2)
+deeper-spec = tie.close (tie.spec (λ c. search needs) (λ c. search needs) returns-2)

@@ -8,13 +8,8 @@ use Rattle.marks.proofs.entered.Tie as tie
 use Rattle.marks.proofs.entered.Reads as reads
 use Rattle.marks.proofs.entered.Lts as lts
 
--- src/lib.rt:99:1
-returns : tie.Need-returns
-returns c = search needs
-
--- src/lib.rt:99:1
 returns-2 : tie.Need-returns-2
 returns-2 c = enter-pos (c .before .args .d) (c .if1 .left)
 
 pub entered-spec : {M : Type 1} → statement M
-entered-spec = tie.close (tie.spec returns returns-2)
+entered-spec = tie.close (tie.spec (λ c. search needs) returns-2)

@@ -4,11 +4,9 @@ use Rattle.marks.proofs.is_function.Tie as tie
 use Rattle.marks.proofs.is_function.Reads as reads
 use Rattle.marks.proofs.is_function.Lts as lts
 
--- src/lib.rt:106:1
 returns : tie.Need-returns
 returns c = rw (le-leb 2 (c .before .args .kind) (c .if1 .taken))
 
--- src/lib.rt:106:1
 returns-2 : tie.Need-returns-2
 returns-2 c = rw (lt-leb 2 (c .before .args .kind) (c .if1 .left))
 

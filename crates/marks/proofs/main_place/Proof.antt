@@ -24,35 +24,27 @@ Inv-loop kinds i₀ i = ((text ss ls ns : List ℕ) → mainOf (tokensFrom text 
 abbrev μ-loop : tie.MeasureT-loop
 μ-loop kinds i₀ i = length kinds - i
 
--- src/lib.rt:268:5
 loop-holds : tie.Need-loop-holds Inv-loop μ-loop
 loop-holds c = (λ text ss ls ns. refl, omega arith)
 
--- src/lib.rt:269:12
 shared-slice-read-if1 : tie.Need-shared-slice-read-if1 Inv-loop μ-loop
 shared-slice-read-if1 c = search needs
 
--- src/lib.rt:270:20
 add-result : tie.Need-add-result Inv-loop μ-loop
 add-result c = search needs
 
--- src/lib.rt:270:13
 returns : tie.Need-returns Inv-loop μ-loop
 returns c = (λ text ss ls ns. sym (c .before .before .before .loop .inv .0 text ss ls ns ∙ main-turn text (table (now (c .before .before .before .before .args .kinds)) ss ls ns) (c .before .before .before .loop .i) (c .before .before .loop-test .taken) ∙ rw (c .if1 .taken)), omega arith)
 
--- src/lib.rt:272:9
 add-i : tie.Need-add-i Inv-loop μ-loop
 add-i c = search needs
 
--- src/lib.rt:268:5
 loop-less : tie.Need-loop-less Inv-loop μ-loop
 loop-less c = search needs
 
--- src/lib.rt:268:5
 loop-again : tie.Need-loop-again Inv-loop μ-loop
 loop-again c = (λ text ss ls ns. c .before .before .before .loop .inv .0 text ss ls ns ∙ main-turn text (table (now (c .before .before .before .before .args .kinds)) ss ls ns) (c .before .before .before .loop .i) (c .before .before .loop-test .taken) ∙ rw (ne-eqb _ _ (c .if1 .left)), omega arith)
 
--- src/lib.rt:262:1
 returns-2 : tie.Need-returns-2 Inv-loop μ-loop
 returns-2 c = (λ text ss ls ns. main-end text (table (now (c .before .before .args .kinds)) ss ls ns) (c .before .loop .i) (c .loop-test .left) ∙ sym (c .before .loop .inv .0 text ss ls ns), omega arith)
 

@@ -21,31 +21,24 @@ Inv-loop kinds from i₀ i = (text ss ls ns : List ℕ) → lastOf (tokensFrom t
 abbrev μ-loop : tie.MeasureT-loop
 μ-loop kinds from i₀ i = length kinds - i
 
--- src/lib.rt:282:5
 loop-holds : tie.Need-loop-holds Inv-loop μ-loop
 loop-holds c = λ text ss ls ns. refl
 
--- src/lib.rt:283:12
 shared-slice-read-if1 : tie.Need-shared-slice-read-if1 Inv-loop μ-loop
 shared-slice-read-if1 c = search needs
 
--- src/lib.rt:284:13
 returns : tie.Need-returns Inv-loop μ-loop
 returns c = λ text ss ls ns. c .before .before .before .loop .inv text ss ls ns ∙ last-turn text (table (now (c .before .before .before .before .args .kinds)) ss ls ns) (c .before .before .before .loop .i) (c .before .before .loop-test .taken) ∙ rw (c .if1 .taken)
 
--- src/lib.rt:286:9
 add-i : tie.Need-add-i Inv-loop μ-loop
 add-i c = search needs
 
--- src/lib.rt:282:5
 loop-less : tie.Need-loop-less Inv-loop μ-loop
 loop-less c = search needs
 
--- src/lib.rt:282:5
 loop-again : tie.Need-loop-again Inv-loop μ-loop
 loop-again c = λ text ss ls ns. c .before .before .before .loop .inv text ss ls ns ∙ last-turn text (table (now (c .before .before .before .before .args .kinds)) ss ls ns) (c .before .before .before .loop .i) (c .before .before .loop-test .taken) ∙ rw (ne-eqb _ _ (c .if1 .left))
 
--- src/lib.rt:278:1
 returns-2 : tie.Need-returns-2 Inv-loop μ-loop
 returns-2 c = λ text ss ls ns. c .before .loop .inv text ss ls ns ∙ last-end text (table (now (c .before .before .args .kinds)) ss ls ns) (c .before .loop .i) (c .loop-test .left)
 

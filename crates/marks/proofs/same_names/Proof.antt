@@ -1,9 +1,12 @@
-use Rattle.quel.specs.Results.{sameWord}
-use mathlib.Core.Path.{ap₂}
-use mathlib.Core.Path.{_≡_, refl, sym, _∙_, ap}
-use denote.Ref.{now}
-use native.Mathlib.Omega.{arith}
 use borrow.Author.Needs.{needs}
+use native.Mathlib.Omega.{arith}
+use denote.Ref.{now}
+use mathlib.Core.Path.{_≡_, refl, sym, ap, ap₂, subst, _∙_}
+use Prim.Native.Nat.{ℕ, _+_, _-_, _≤_, _<_}
+use mathlib.Core.List.{List, []}
+use lib.ListN.{length, getD}
+use Rattle.marks.proofs.Numbers.{names-differ, names-same}
+use Rattle.quel.specs.Results.{sameWord}
 use Rattle.marks.proofs.same_names.Statement.{statement}
 use Rattle.marks.proofs.same_names.Tie as tie
 use Rattle.marks.proofs.same_names.Reads as reads
@@ -11,21 +14,26 @@ use Rattle.marks.proofs.same_names.Lts as lts
 use Rattle.marks.proofs.same.Reads as same-reads
 use Rattle.marks.proofs.word.Reads as word-reads
 
--- src/lib.rt:69:9
-word-requires : tie.Need-word-requires
-word-requires c κs = search needs
-
--- src/lib.rt:70:9
-word-requires-2 : tie.Need-word-requires-2
-word-requires-2 c κs = search needs
-
--- src/lib.rt:68:5
-same-requires : tie.Need-same-requires
-same-requires c κs = search needs
-
--- src/lib.rt:58:1
 returns : tie.Need-returns
-returns c = c .same .ensures ∙ ap₂ sameWord (c .before .before .word .ensures) (c .before .word2 .ensures)
+returns c = names-differ _ _ _ _ (c .before .before .before .before .before .before .before .before .pre .2) (c .before .before .before .before .before .before .before .before .pre .3) (λ e. c .if1 .taken (sym e))
+
+returns-2 : tie.Need-returns-2
+returns-2 c = names-same _ _ _ _ (c .before .before .before .before .before .before .before .before .before .pre .2) (c .before .before .before .before .before .before .before .before .before .pre .3) (omega (arith, c .before .if1 .left)) (c .if2 .taken)
+
+returns-3 : tie.Need-returns-3
+returns-3 c = c .same .ensures ∙ ap₂ sameWord (c .before .before .word .ensures) (c .before .word2 .ensures)
 
 pub same-names-spec : {M : Type 1} → statement M
-same-names-spec = tie.close (tie.spec word-requires word-requires-2 same-requires returns)
+same-names-spec =
+    tie.close
+    (tie.spec
+    (λ c. search needs)
+    (λ c. search needs)
+    (λ c. search needs)
+    (λ c. search needs)
+    returns
+    returns-2
+    (λ c κs. search needs)
+    (λ c κs. search needs)
+    (λ c κs. search needs)
+    returns-3)

@@ -1,7 +1,11 @@
 use native.Mathlib.Omega.{arith}
-use Prim.Native.Nat.{ℕ}
-use lib.ListN.{length-replicate}
+use denote.Ref.{now}
+use mathlib.Core.Path.{_≡_, refl, sym, ap, ap₂, subst, _∙_}
+use Prim.Native.Nat.{ℕ, _+_, _-_, _≤_, _<_}
+use mathlib.Core.List.{List, []}
+use lib.ListN.{length, getD}
 use Rattle.buckets.proofs.Laws.{cleared}
+use lib.ListN.{length-replicate}
 use borrow.Author.Needs.{needs}
 use Rattle.marks.proofs.unique_long.Statement.{statement}
 use Rattle.marks.proofs.unique_long.Tie as tie
@@ -9,23 +13,8 @@ use Rattle.marks.proofs.unique_long.Reads as reads
 use Rattle.marks.proofs.unique_long.Lts as lts
 use Rattle.marks.proofs.unique_with.Reads as unique-with-reads
 
-slice-aggregate-unique-with : tie.Need-slice-aggregate-unique-with
-slice-aggregate-unique-with c = search needs
-
-slice-aggregate-unique-with-2 : tie.Need-slice-aggregate-unique-with-2
-slice-aggregate-unique-with-2 c = search needs
-
 unique-with-requires : tie.Need-unique-with-requires
-unique-with-requires c κs = (omega (arith, c .before .before .before .before .before .before .pre), omega arith, omega (arith, c .before .before .before .before .before .before .pre), cleared 1024)
-
-returns : tie.Need-returns
-returns c = search needs
+unique-with-requires c κs = (omega (arith, c .before .before .before .pre .0), omega (arith, c .before .before .before .pre .0), c .before .before .before .pre .1, cleared 4000)
 
 pub unique-long-spec : {M : Type 1} → statement M
-unique-long-spec =
-    tie.close
-    (tie.spec
-    slice-aggregate-unique-with
-    slice-aggregate-unique-with-2
-    unique-with-requires
-    returns)
+unique-long-spec = tie.close (tie.spec (λ c. search needs) unique-with-requires (λ c. search needs))

@@ -13,43 +13,12 @@ use Rattle.kinds.proofs.size_at.Reads as size-at-reads
 use Rattle.kinds.proofs.tail.Reads as tail-reads
 use Rattle.marks.proofs.head.Reads as head-reads
 
--- src/lib.rt:30:9
-slice-aggregate-result : tie.Need-slice-aggregate-result
-slice-aggregate-result c = search needs
-
--- src/lib.rt:30:9
 returns : tie.Need-returns
 returns c = name-past (now (c .before .before .before .before .before .before .args .text)) (now (c .before .before .before .before .before .before .args .kinds)) (now (c .before .before .before .before .before .before .args .starts)) (now (c .before .before .before .before .before .before .args .lengths)) (c .before .before .before .before .before .before .args .i) (c .before .if1 .taken)
 
--- src/lib.rt:32:8
-shared-slice-read-if2 : tie.Need-shared-slice-read-if2
-shared-slice-read-if2 c = search needs
-
--- src/lib.rt:33:9
-slice-aggregate-result-2 : tie.Need-slice-aggregate-result-2
-slice-aggregate-result-2 c = search needs
-
--- src/lib.rt:33:9
 returns-2 : tie.Need-returns-2
 returns-2 c = name-other (now (c .before .before .before .before .before .before .before .before .args .text)) (now (c .before .before .before .before .before .before .before .before .args .kinds)) (now (c .before .before .before .before .before .before .before .before .args .starts)) (now (c .before .before .before .before .before .before .before .before .args .lengths)) (c .before .before .before .before .before .before .before .before .args .i) (c .before .if2 .taken)
 
--- src/lib.rt:35:28
-size-at-requires : tie.Need-size-at-requires
-size-at-requires c κs = search needs
-
--- src/lib.rt:35:10
-tail-requires : tie.Need-tail-requires
-tail-requires c κs = search needs
-
--- src/lib.rt:35:56
-size-at-requires-2 : tie.Need-size-at-requires-2
-size-at-requires-2 c κs = search needs
-
--- src/lib.rt:35:5
-head-requires : tie.Need-head-requires
-head-requires c κs = search needs
-
--- src/lib.rt:26:1
 returns-3 : tie.Need-returns-3
 returns-3 c = name-there (now (c .before .before .before .before .before .before .before .before .before .before .before .args .text)) (now (c .before .before .before .before .before .before .before .before .before .before .before .args .kinds)) (now (c .before .before .before .before .before .before .before .before .before .before .before .args .starts)) (now (c .before .before .before .before .before .before .before .before .before .before .before .args .lengths)) (c .before .before .before .before .before .before .before .before .before .before .before .args .i) (c .before .before .before .before .before .before .if1 .left) (c .before .before .before .before .if2 .left) (now (c .before .before .tail .result)) _ (c .before .before .tail .ensures ∙ ap (λ (n : ℕ). drop n (now (c .before .before .before .before .before .before .before .before .before .before .before .args .text))) (c .before .before .before .size-at .ensures .0)) (c .head .ensures ∙ ap (λ (n : ℕ). take n (now (c .before .before .tail .result))) (c .before .size-at2 .ensures .0))
 
@@ -57,13 +26,13 @@ pub word-spec : {M : Type 1} → statement M
 word-spec =
     tie.close
     (tie.spec
-    slice-aggregate-result
+    (λ c. search needs)
     returns
-    shared-slice-read-if2
-    slice-aggregate-result-2
+    (λ c. search needs)
+    (λ c. search needs)
     returns-2
-    size-at-requires
-    tail-requires
-    size-at-requires-2
-    head-requires
+    (λ c κs. search needs)
+    (λ c κs. search needs)
+    (λ c κs. search needs)
+    (λ c κs. search needs)
     returns-3)

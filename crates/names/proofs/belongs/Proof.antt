@@ -9,14 +9,8 @@ use Rattle.names.proofs.Walk as walk
 returns : tie.Need-returns
 returns c = walk.belongs-any (c .before .before .args .kind) (c .before .before .args .relation) _ (c .if1 .taken)
 
-add-byte : tie.Need-add-byte
-add-byte c = search needs
-
-byte-requires : tie.Need-byte-requires
-byte-requires c κs = search needs
-
 returns-2 : tie.Need-returns-2
 returns-2 c = walk.belongs-is (c .before .before .before .args .kind) (c .before .before .before .args .relation) (c .byte .result) _ (c .before .if1 .left) (c .byte .ensures)
 
 pub belongs-spec : {M : Type 1} → statement M
-belongs-spec = tie.close (tie.spec returns add-byte byte-requires returns-2)
+belongs-spec = tie.close (tie.spec returns (λ c. search needs) (λ c κs. search needs) returns-2)

@@ -18,24 +18,12 @@ made n s u v = record { count = n; sum = s; max = u; min = v }
 same : (a : Accumulator) (x s u v : ℤ) → s ≡ a .sum +ℤ x → u ≡ N.larger (a .count) (a .max) x → v ≡ N.smaller (a .count) (a .min) x → made (a .count + 1) s u v ≡ N.added a x
 same a x s u v es eu ev = ap (λ (z : ℤ). made (a .count + 1) z u v) es ∙ ap₂ (λ (y z : ℤ). made (a .count + 1) (a .sum +ℤ x) y z) eu ev
 
-wide-requires : tie.Need-wide-requires
-wide-requires c κs = search needs
-
 plus-requires : tie.Need-plus-requires
 plus-requires c κs =
     let args = c .before .before .args in
     let pre = c .before .before .pre in
     let wide = c .before .wide in
     rw (toZ-ofZ (fits64 (args .a .sum) (omega (arith, pre .0 .sum, pre .1))), toZ-ofZ {w = w64} (record { sfits = wide .ok })) (omega (arith, pre .0 .sum, pre .1, wide .ensures .1))
-
-larger-requires : tie.Need-larger-requires
-larger-requires c κs = search needs
-
-smaller-requires : tie.Need-smaller-requires
-smaller-requires c κs = search needs
-
-add-t7 : tie.Need-add-t7
-add-t7 c = search needs
 
 returns : tie.Need-returns
 returns c =
@@ -55,4 +43,4 @@ returns c =
 pub add-spec : {M : Type 1} → statement M
 add-spec =
     tie.close
-    (tie.spec wide-requires plus-requires larger-requires smaller-requires add-t7 returns)
+    (tie.spec (λ c κs. search needs) plus-requires (λ c κs. search needs) (λ c κs. search needs) (λ c. search needs) returns)

@@ -11,19 +11,9 @@ use Rattle.numbers.proofs.best.Reads as reads
 use Rattle.numbers.proofs.best.Lts as lts
 use Rattle.numbers.proofs.over.Reads as over-reads
 
--- src/lib.rt:196:9
-over-requires : tie.Need-over-requires
-over-requires c κs = search needs
-
--- src/lib.rt:196:9
 returns : tie.Need-returns
 returns c = (ap N.valueOf (c .over .ensures) ∙ best-none (c .before .before .args .count) (c .before .before .args .x) (c .before .if1 .taken), rw (c .over .ensures) (small-over (pos 0) 0 (omega arith) (omega arith)))
 
--- src/lib.rt:198:5
-over-requires-2 : tie.Need-over-requires-2
-over-requires-2 c κs = search needs
-
--- src/lib.rt:192:1
 returns-2 : tie.Need-returns-2
 returns-2 c =
     let args = c .before .before .args in
@@ -31,4 +21,4 @@ returns-2 c =
     (ap N.valueOf e ∙ best-some (args .count) (args .x) (c .before .if1 .left), rw e (small-over (args .x) 1 (omega (arith, c .before .before .pre)) (omega arith)))
 
 pub best-spec : {M : Type 1} → statement M
-best-spec = tie.close (tie.spec over-requires returns over-requires-2 returns-2)
+best-spec = tie.close (tie.spec (λ c κs. search needs) returns (λ c κs. search needs) returns-2)

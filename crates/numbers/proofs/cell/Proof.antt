@@ -6,16 +6,10 @@ use Rattle.numbers.proofs.cell.Tie as tie
 toward-requires : tie.Need-toward-requires
 toward-requires c κs = fitting-denominator (c .before .before .args .x) (c .before .before .pre .0)
 
-product-requires : tie.Need-product-requires
-product-requires c κs = search needs
-
 plus-requires : tie.Need-plus-requires
 plus-requires c κs =
     let toward = c .before .toward in let start = c .before .before .before .before in
     sum-small (start .args .x) (start .pre .0) (toward .result) (c .product .result) (record { sfits = toward .ok }) (record { sfits = c .product .ok }) (toward .ensures) (c .product .ensures)
-
-product-requires-2 : tie.Need-product-requires-2
-product-requires-2 c κs = search needs
 
 quotient-requires : tie.Need-quotient-requires
 quotient-requires c κs =
@@ -32,4 +26,4 @@ returns c =
 pub cell-spec : {M : Type 1} → statement M
 cell-spec =
     tie.close
-    (tie.spec toward-requires product-requires plus-requires product-requires-2 quotient-requires returns)
+    (tie.spec toward-requires (λ c κs. search needs) plus-requires (λ c κs. search needs) quotient-requires returns)

@@ -13,27 +13,12 @@ use Rattle.numbers.proofs.compared.Lts as lts
 use Rattle.numbers.proofs.ordered.Reads as ordered-reads
 use Rattle.numbers.proofs.product.Reads as product-reads
 
--- src/lib.rt:87:9
 returns : tie.Need-returns
 returns c = let args = c .before .before .before .args in let pre = c .before .before .before .pre in compare-none (args .operator) (args .x) (args .y) (value-none (args .x) (pre .0) (c .if1 .taken))
 
--- src/lib.rt:90:9
 returns-2 : tie.Need-returns-2
 returns-2 c = let args = c .before .before .before .before .args in let pre = c .before .before .before .before .pre in compare-right-none (args .operator) (args .x) (args .y) (value-none (args .y) (pre .1) (c .if2 .taken))
 
--- src/lib.rt:92:23
-product-requires : tie.Need-product-requires
-product-requires c κs = search needs
-
--- src/lib.rt:92:48
-product-requires-2 : tie.Need-product-requires-2
-product-requires-2 c κs = search needs
-
--- src/lib.rt:92:5
-ordered-requires : tie.Need-ordered-requires
-ordered-requires c κs = search needs
-
--- src/lib.rt:80:1
 returns-3 : tie.Need-returns-3
 unfolding ordered
 returns-3 c =
@@ -51,4 +36,4 @@ returns-3 c =
 pub compared-spec : {M : Type 1} → statement M
 compared-spec =
     tie.close
-    (tie.spec returns returns-2 product-requires product-requires-2 ordered-requires returns-3)
+    (tie.spec returns returns-2 (λ c κs. search needs) (λ c κs. search needs) (λ c κs. search needs) returns-3)

@@ -5,11 +5,8 @@ use borrow.Author.Needs.{needs}
 use Rattle.numbers.proofs.counted.Statement.{statement}
 use Rattle.numbers.proofs.counted.Tie as tie
 
-cast-result : tie.Need-cast-result
-cast-result c = search needs
-
 returns : tie.Need-returns
 returns c = let h : c .args .n < 9223372036854775808 = omega arith in simp (lt-ltb _ _ h)
 
 pub counted-spec : {M : Type 1} → statement M
-counted-spec = tie.close (tie.spec cast-result returns)
+counted-spec = tie.close (tie.spec (λ c. search needs) returns)

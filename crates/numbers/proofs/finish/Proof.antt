@@ -28,39 +28,16 @@ other f a h = sym (simp (ne-eqb _ _ (h .0 .0 .0 .1), ne-eqb _ _ (h .0 .0 .1), ne
 done : (f : ℕ) (a : Accumulator) (r x : Ratio) → r ≡ x → N.Small x → N.valueOf x ≡ N.finished f a → (N.valueOf r ≡ N.finished f a) × N.Small r
 done f a r x e s k = (ap N.valueOf e ∙ k, rw e s)
 
--- src/lib.rt:214:19
-counted-requires : tie.Need-counted-requires
-counted-requires c κs = search needs
-
--- src/lib.rt:214:14
-over-requires : tie.Need-over-requires
-over-requires c κs = search needs
-
--- src/lib.rt:215:14
-over-requires-2 : tie.Need-over-requires-2
-over-requires-2 c κs = search needs
-
--- src/lib.rt:216:24
-counted-requires-2 : tie.Need-counted-requires-2
-counted-requires-2 c κs = search needs
-
--- src/lib.rt:216:14
-over-requires-3 : tie.Need-over-requires-3
-over-requires-3 c κs = search needs
-
--- src/lib.rt:217:14
 best-requires : tie.Need-best-requires
 best-requires c κs =
     let c₄ = c .before .before .before .before in let args = c₄ .args in let pre = c₄ .pre in
     rw (toZ-ofZ (fits64 (args .a .max) (omega (arith, pre .0 .max, pre .1)))) (pre .0 .max)
 
--- src/lib.rt:218:14
 best-requires-2 : tie.Need-best-requires-2
 best-requires-2 c κs =
     let c₄ = c .before .before .before .before in let args = c₄ .args in let pre = c₄ .pre in
     rw (toZ-ofZ (fits64 (args .a .min) (omega (arith, pre .0 .min, pre .1)))) (pre .0 .min)
 
--- src/lib.rt:204:1
 returns : tie.Need-returns
 returns c =
     let c₁ = c .before in let counted = c₁ .counted in
@@ -68,14 +45,12 @@ returns c =
     let a = args .a in let function = args .function in
     done function a _ _ (c .over .ensures ∙ ap (λ (z : ℤ). record { numerator = z; denominator = pos 1 }) (toZ-ofZ {w = w64} (record { sfits = counted .ok }) ∙ counted .ensures)) (small-over (pos (args .a .count)) 1 (omega (arith, pre .1)) (omega arith)) (at-function 1 function a (c .before .before .match .keys1))
 
--- src/lib.rt:204:1
 returns-2 : tie.Need-returns-2
 returns-2 c =
     let c₅ = c .before .before .before .before .before in let args = c₅ .args in let pre = c₅ .pre in
     let a = args .a in let function = args .function in
     done function a _ _ (c .over2 .ensures ∙ ap (λ (z : ℤ). record { numerator = z; denominator = pos 1 }) (toZ-ofZ (fits64 (args .a .sum) (omega (arith, pre .0 .sum, pre .1))))) (small-over (args .a .sum) 1 (omega (arith, pre .0 .sum, pre .1)) (omega arith)) (at-function 2 function a (c .before .match .keys2))
 
--- src/lib.rt:204:1
 returns-3 : tie.Need-returns-3
 returns-3 c =
     let c₁ = c .before in let counted2 = c₁ .counted2 in
@@ -83,13 +58,11 @@ returns-3 c =
     let a = args .a in let function = args .function in
     done function a _ _ (c .over3 .ensures ∙ ap₂ (λ (n d : ℤ). record { numerator = n; denominator = d }) (toZ-ofZ (fits64 (args .a .sum) (omega (arith, pre .0 .sum, pre .1)))) (toZ-ofZ {w = w64} (record { sfits = counted2 .ok }) ∙ counted2 .ensures)) (small-over (args .a .sum) (args .a .count) (omega (arith, pre .0 .sum, pre .1)) (pre .1)) (at-function 3 function a (c .before .before .match .keys3))
 
--- src/lib.rt:204:1
 returns-4 : tie.Need-returns-4
 returns-4 c =
     let c₅ = c .before .before .before .before .before in let args = c₅ .args in let pre = c₅ .pre in
     (c .best .ensures .0 ∙ ap (N.bestOf (args .a .count)) (toZ-ofZ (fits64 (args .a .max) (omega (arith, pre .0 .max, pre .1)))) ∙ at-function 4 (args .function) (args .a) (c .before .match .keys4), c .best .ensures .1)
 
--- src/lib.rt:204:1
 returns-5 : tie.Need-returns-5
 returns-5 c =
     let c₅ = c .before .before .before .before .before in let args = c₅ .args in let pre = c₅ .pre in
@@ -99,11 +72,11 @@ pub finish-spec : {M : Type 1} → statement M
 finish-spec =
     tie.close
     (tie.spec
-    counted-requires
-    over-requires
-    over-requires-2
-    counted-requires-2
-    over-requires-3
+    (λ c κs. search needs)
+    (λ c κs. search needs)
+    (λ c κs. search needs)
+    (λ c κs. search needs)
+    (λ c κs. search needs)
     best-requires
     best-requires-2
     returns

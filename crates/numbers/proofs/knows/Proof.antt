@@ -12,19 +12,6 @@ use Rattle.numbers.proofs.at.Reads as at-reads
 use Rattle.numbers.proofs.place.Reads as place-reads
 use Rattle.numbers.proofs.within.Reads as within-reads
 
--- src/lib.rt:210:9
-place-requires : tie.Need-place-requires
-place-requires c κs = search needs
-
--- src/lib.rt:211:34
-at-requires : tie.Need-at-requires
-at-requires c κs = search needs
-
--- src/lib.rt:211:9
-within-requires : tie.Need-within-requires
-within-requires c κs = search needs
-
--- src/lib.rt:212:9
 returns : tie.Need-returns
 returns c =
     let c₂ = c .before .before in let at′ = c₂ .at in
@@ -32,19 +19,6 @@ returns c =
     let c₄ = c₃ .before in let args = c₄ .args in
     knows-no (now (args .memo)) (args .variable) _ _ _ (place .ensures .0) (toZ-ofZ {w = w64} (record { sfits = at′ .ok }) ∙ at′ .ensures) (c .before .within .ensures) (c .if1 .taken)
 
--- src/lib.rt:214:24
-add-at : tie.Need-add-at
-add-at c = search needs
-
--- src/lib.rt:214:15
-at-requires-2 : tie.Need-at-requires-2
-at-requires-2 c κs = search needs
-
--- src/lib.rt:214:5
-within-requires-2 : tie.Need-within-requires-2
-within-requires-2 c κs = search needs
-
--- src/lib.rt:207:1
 returns-2 : tie.Need-returns-2
 returns-2 c =
     let c₁ = c .before in let at2 = c₁ .at2 in
@@ -58,11 +32,11 @@ pub knows-spec : {M : Type 1} → statement M
 knows-spec =
     tie.close
     (tie.spec
-    place-requires
-    at-requires
-    within-requires
+    (λ c κs. search needs)
+    (λ c κs. search needs)
+    (λ c κs. search needs)
     returns
-    add-at
-    at-requires-2
-    within-requires-2
+    (λ c. search needs)
+    (λ c κs. search needs)
+    (λ c κs. search needs)
     returns-2)

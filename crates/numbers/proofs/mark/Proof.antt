@@ -4,11 +4,9 @@ use Rattle.numbers.proofs.mark.Tie as tie
 use Rattle.numbers.proofs.mark.Reads as reads
 use Rattle.numbers.proofs.mark.Lts as lts
 
--- src/lib.rt:284:5
 add-result : tie.Need-add-result
 add-result c = mark-fits (c .before .args .x) (c .before .pre)
 
--- src/lib.rt:279:1
 returns : tie.Need-returns
 returns c = mark-is (c .before .args .x) (c .before .pre)
 

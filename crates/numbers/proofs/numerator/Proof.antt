@@ -8,11 +8,9 @@ use Rattle.numbers.proofs.numerator.Tie as tie
 use Rattle.numbers.proofs.numerator.Reads as reads
 use Rattle.numbers.proofs.numerator.Lts as lts
 
--- src/lib.rt:270:1
 returns : tie.Need-returns
 returns c = numerator-none (c .before .before .before .args .x) (c .before .before .before .pre) (c .if1 .taken)
 
--- src/lib.rt:270:1
 returns-2 : tie.Need-returns-2
 returns-2 c = toZ-ofZ (fits64 (c .before .before .before .args .x .numerator) (omega (arith, c .before .before .before .pre .numerator))) ∙ numerator-some (c .before .before .before .args .x) (c .before .before .before .pre) (c .if1 .left)
 

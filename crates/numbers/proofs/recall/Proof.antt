@@ -14,31 +14,9 @@ use Rattle.numbers.proofs.at.Reads as at-reads
 use Rattle.numbers.proofs.over.Reads as over-reads
 use Rattle.numbers.proofs.place.Reads as place-reads
 
--- src/lib.rt:255:9
-place-requires : tie.Need-place-requires
-place-requires c κs = search needs
-
--- src/lib.rt:256:9
-at-requires : tie.Need-at-requires
-at-requires c κs = search needs
-
--- src/lib.rt:257:25
-add-at : tie.Need-add-at
-add-at c = search needs
-
--- src/lib.rt:257:9
-at-requires-2 : tie.Need-at-requires-2
-at-requires-2 c κs = search needs
-
--- src/lib.rt:258:13
 sub-over : tie.Need-sub-over
 sub-over c = recall-fits (now (c .before .before .before .args .memo)) (c .before .before .before .args .variable) _ _ (c .before .before .before .pre) (c .before .before .place .ensures .0) (toZ-ofZ {w = w64} (record { sfits = c .at2 .ok }) ∙ c .at2 .ensures)
 
--- src/lib.rt:258:5
-over-requires : tie.Need-over-requires
-over-requires c κs = search needs
-
--- src/lib.rt:250:1
 returns : tie.Need-returns
 returns c =
     let c₁ = c .before in let at2 = c₁ .at2 in
@@ -51,4 +29,4 @@ returns c =
 pub recall-spec : {M : Type 1} → statement M
 recall-spec =
     tie.close
-    (tie.spec place-requires at-requires add-at at-requires-2 sub-over over-requires returns)
+    (tie.spec (λ c κs. search needs) (λ c κs. search needs) (λ c. search needs) (λ c κs. search needs) sub-over (λ c κs. search needs) returns)

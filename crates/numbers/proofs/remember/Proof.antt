@@ -14,35 +14,6 @@ use Rattle.numbers.proofs.numerator.Reads as numerator-reads
 use Rattle.numbers.proofs.place.Reads as place-reads
 use Rattle.numbers.proofs.put.Reads as put-reads
 
--- src/lib.rt:292:9
-place-requires : tie.Need-place-requires
-place-requires c κs = search needs
-
--- src/lib.rt:293:18
-numerator-requires : tie.Need-numerator-requires
-numerator-requires c κs = search needs
-
--- src/lib.rt:293:5
-put-requires : tie.Need-put-requires
-put-requires c κs = search needs
-
--- src/lib.rt:294:15
-add-put : tie.Need-add-put
-add-put c = search needs
-
--- src/lib.rt:294:22
-mark-requires : tie.Need-mark-requires
-mark-requires c κs = search needs
-
--- src/lib.rt:294:5
-put-requires-2 : tie.Need-put-requires-2
-put-requires-2 c κs = search needs
-
--- src/lib.rt:288:1
-same-length : tie.Need-same-length
-same-length c = search needs
-
--- src/lib.rt:288:1
 returns : tie.Need-returns
 returns c =
     let c₂ = c .before .before in let mark = c₂ .mark in
@@ -56,11 +27,11 @@ pub remember-spec : {M : Type 1} → statement M
 remember-spec =
     tie.close
     (tie.spec
-    place-requires
-    numerator-requires
-    put-requires
-    add-put
-    mark-requires
-    put-requires-2
-    same-length
+    (λ c κs. search needs)
+    (λ c κs. search needs)
+    (λ c κs. search needs)
+    (λ c. search needs)
+    (λ c κs. search needs)
+    (λ c κs. search needs)
+    (λ c. search needs)
     returns)

@@ -10,12 +10,6 @@ use borrow.Author.Needs.{needs}
 use Rattle.numbers.proofs.whole.Statement.{statement}
 use Rattle.numbers.proofs.whole.Tie as tie
 
-wide-requires : tie.Need-wide-requires
-wide-requires c κs = search needs
-
-over-requires : tie.Need-over-requires
-over-requires c κs = search needs
-
 returns : tie.Need-returns
 returns c =
     let args = c .before .before .args in
@@ -25,4 +19,4 @@ returns c =
     (ap N.valueOf e, rw e (small-over (args .x) 1 (omega (arith, abs32 (args .x) (fits .x .sfits))) (omega arith)))
 
 pub whole-spec : {M : Type 1} → statement M
-whole-spec = tie.close (tie.spec wide-requires over-requires returns)
+whole-spec = tie.close (tie.spec (λ c κs. search needs) (λ c κs. search needs) returns)

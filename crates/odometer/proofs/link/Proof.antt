@@ -3,16 +3,16 @@ use native.Mathlib.Omega.{arith}
 use Prim.Native.Nat.{_-_, _≤_}
 use mathlib.Core.Path.{_≡_, refl, _∙_}
 use lib.ListN.{length}
-use Rattle.seeks.specs.Keys as K
-use Rattle.seeks.proofs.Filling.{nothing}
+use Rattle.decide.specs.Keys as K
+use Rattle.decide.proofs.seeks.Filling.{nothing}
 use Rattle.odometer.proofs.link.Statement.{statement}
 use Rattle.odometer.proofs.link.Tie as tie
 use Rattle.odometer.proofs.link.Reads as reads
 use Rattle.odometer.proofs.link.Lts as lts
 use Rattle.kinds.proofs.byte.Reads as byte-reads
 use Rattle.kinds.proofs.size_at.Reads as size-at-reads
-use Rattle.seeks.proofs.add.Reads as add-reads
-use Rattle.seeks.proofs.add_searches.Reads as add-searches-reads
+use Rattle.decide.proofs.seeks.add.Reads as add-reads
+use Rattle.decide.proofs.seeks.add_searches.Reads as add-searches-reads
 
 abbrev Inv-loop : tie.InvT-loop
 Inv-loop q ranges t walks values chains₀ free₀ d₀ chains free d = K.Filling free t walks values chains × (length chains ≡ length chains₀) × (1 ≤ d)
@@ -20,59 +20,45 @@ Inv-loop q ranges t walks values chains₀ free₀ d₀ chains free d = K.Fillin
 abbrev μ-loop : tie.MeasureT-loop
 μ-loop q ranges t walks values chains₀ free₀ d₀ chains free d = ranges - d
 
--- src/lib.rt:23:5
 loop-holds : tie.Need-loop-holds Inv-loop μ-loop
 loop-holds c = (nothing _ _ _ _ (c .before .before .before .before .pre .1), refl, omega arith)
 
--- src/lib.rt:24:39
 mul-size-at : tie.Need-mul-size-at Inv-loop μ-loop
 mul-size-at c = search needs
 
--- src/lib.rt:24:39
 add-size-at : tie.Need-add-size-at Inv-loop μ-loop
 add-size-at c = search needs
 
--- src/lib.rt:24:13
 size-at-requires : tie.Need-size-at-requires Inv-loop μ-loop
 size-at-requires c κs = search needs
 
--- src/lib.rt:25:39
 mul-byte : tie.Need-mul-byte Inv-loop μ-loop
 mul-byte c = search needs
 
--- src/lib.rt:25:39
 add-byte : tie.Need-add-byte Inv-loop μ-loop
 add-byte c = search needs
 
--- src/lib.rt:25:13
 byte-requires : tie.Need-byte-requires Inv-loop μ-loop
 byte-requires c κs = search needs
 
--- src/lib.rt:26:9
 add-requires : tie.Need-add-requires Inv-loop μ-loop
 add-requires c κs = c .before .before .before .before .loop .inv .0
 
--- src/lib.rt:27:9
 add-d : tie.Need-add-d Inv-loop μ-loop
 add-d c = search needs
 
--- src/lib.rt:23:5
 loop-less : tie.Need-loop-less Inv-loop μ-loop
 loop-less c = search needs
 
--- src/lib.rt:23:5
 loop-again : tie.Need-loop-again Inv-loop μ-loop
 loop-again c = (c .before .before .add .ensures, c .before .before .add .kept .1 .1 .1 .1 .1 .0 ∙ c .before .before .before .before .before .before .before .loop .inv .1, omega arith)
 
--- src/lib.rt:29:5
 add-searches-requires : tie.Need-add-searches-requires Inv-loop μ-loop
 add-searches-requires c κs = c .before .before .loop .inv .0
 
--- src/lib.rt:17:1
 same-length : tie.Need-same-length Inv-loop μ-loop
 same-length c = search needs
 
--- src/lib.rt:17:1
 returns : tie.Need-returns Inv-loop μ-loop
 returns c = c .before .before .add-searches .ensures .faithful
 

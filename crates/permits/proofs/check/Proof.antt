@@ -12,21 +12,6 @@ use Rattle.permits.proofs.rest.Reads as rest-reads
 returns : tie.Need-returns
 returns c = number-long (shapeOf (catalogueOf (now (c .before .before .before .args .catalogue)))) (now (c .before .before .before .args .list)) (c .if1 .taken)
 
-slice-aggregate-rest : tie.Need-slice-aggregate-rest
-slice-aggregate-rest c = search needs
-
-rest-requires : tie.Need-rest-requires
-rest-requires c κs = search needs
-
-enum-known-known : tie.Need-enum-known-known
-enum-known-known c = search needs
-
-enum-told : tie.Need-enum-told
-enum-told c = search needs
-
-number-requires : tie.Need-number-requires
-number-requires c κs = search needs
-
 returns-2 : tie.Need-returns-2
 returns-2 c = number-unread (shapeOf (catalogueOf (now (c .before .before .before .before .before .before .before .before .before .args .catalogue)))) (now (c .before .before .before .before .before .before .before .before .before .args .list)) (c .before .before .before .before .rest .result) (c .before .enum-told .given .1) (c .before .before .before .before .rest .ensures) _ (c .number .ensures)
 
@@ -44,11 +29,11 @@ check-spec =
     tie.close
     (tie.spec
     returns
-    slice-aggregate-rest
-    rest-requires
-    enum-known-known
-    enum-told
-    number-requires
+    (λ c. search needs)
+    (λ c κs. search needs)
+    (λ c. search needs)
+    (λ c. search needs)
+    (λ c κs. search needs)
     returns-2
     returns-3
     returns-4

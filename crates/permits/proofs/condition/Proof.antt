@@ -6,22 +6,7 @@ use Rattle.permits.proofs.condition.Tie as tie
 use Rattle.permits.proofs.condition.Reads as reads
 use Rattle.permits.proofs.condition.Lts as lts
 use Rattle.conditions.proofs.condition.Reads as condition-reads
-use Rattle.scope.proofs.bind.Reads as bind-reads
-
-slice-aggregate-bind : tie.Need-slice-aggregate-bind
-slice-aggregate-bind c = search needs
-
-bind-requires : tie.Need-bind-requires
-bind-requires c κs = search needs
-
-slice-aggregate-condition : tie.Need-slice-aggregate-condition
-slice-aggregate-condition c = search needs
-
-condition-requires : tie.Need-condition-requires
-condition-requires c κs = search needs
-
-same-length : tie.Need-same-length
-same-length c = search needs
+use Rattle.conditions.proofs.scope.bind.Reads as bind-reads
 
 returns : tie.Need-returns
 returns c = in-permit _ (c .before .before .before .before .before .before .before .before .before .before .before .before .args .relation) (c .before .before .before .before .before .before .before .bind .last .0) (now (c .before .before .before .before .before .before .before .before .before .before .before .before .args .bytes)) _ (c .before .before .before .before .before .before .before .bind .ensures) (c .before .before .before .condition .ensures .0)
@@ -30,9 +15,9 @@ pub condition-spec : {M : Type 1} → statement M
 condition-spec =
     tie.close
     (tie.spec
-    slice-aggregate-bind
-    bind-requires
-    slice-aggregate-condition
-    condition-requires
-    same-length
+    (λ c. search needs)
+    (λ c κs. search needs)
+    (λ c. search needs)
+    (λ c κs. search needs)
+    (λ c. search needs)
     returns)

@@ -9,12 +9,9 @@ use lib.Dec.{eqb}
 use lib.Bits.{and-mask}
 use Rattle.model.specs.Permits.{bit}
 
-shr-result : tie.Need-shr-result
-shr-result c = search needs
-
 returns : tie.Need-returns
 unfolding bit
 returns c = ap (λ (k : ℕ). eqb k 1) (and-mask (c .args .mask / 2 ^ c .args .attribute) 1)
 
 pub has-spec : {M : Type 1} → statement M
-has-spec = tie.close (tie.spec shr-result returns)
+has-spec = tie.close (tie.spec (λ c. search needs) returns)

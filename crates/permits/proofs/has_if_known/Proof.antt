@@ -9,9 +9,6 @@ use Prim.Native.Nat.{_-_}
 use mathlib.Core.Bool.{Bool, not, _||_}
 use lib.Dec.{ltb}
 
-has-requires : tie.Need-has-requires
-has-requires c κs = search needs
-
 returns : tie.Need-returns
 returns c = sym (ap (λ (b : Bool). not b || ltb (c .before .before .args .attribute) (c .before .before .args .attributes)) (sym (c .before .has .ensures) ∙ c .if1 .taken))
 
@@ -19,4 +16,4 @@ returns-2 : tie.Need-returns-2
 returns-2 c = sym (ap (λ (b : Bool). not b || ltb (c .before .before .args .attribute) (c .before .before .args .attributes)) (sym (c .before .has .ensures) ∙ c .if1 .left))
 
 pub has-if-known-spec : {M : Type 1} → statement M
-has-if-known-spec = tie.close (tie.spec has-requires returns returns-2)
+has-if-known-spec = tie.close (tie.spec (λ c κs. search needs) returns returns-2)

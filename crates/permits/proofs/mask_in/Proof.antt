@@ -13,11 +13,8 @@ returns c = finds.mask-zero (c .before .args .attributes) (c .before .args .mask
 returns-2 : tie.Need-returns-2
 returns-2 c = finds.mask-all (c .before .before .args .attributes) (c .before .before .args .mask) (c .before .if1 .left) (c .if2 .taken)
 
-attributes-in-requires : tie.Need-attributes-in-requires
-attributes-in-requires c κs = search needs
-
 returns-3 : tie.Need-returns-3
 returns-3 c = finds.mask-is (c .before .before .before .args .attributes) (c .before .before .before .args .mask) (c .attributes-in .result) (c .before .before .if1 .left) (c .before .if2 .left) (c .attributes-in .ensures)
 
 pub mask-in-spec : {M : Type 1} → statement M
-mask-in-spec = tie.close (tie.spec returns returns-2 attributes-in-requires returns-3)
+mask-in-spec = tie.close (tie.spec returns returns-2 (λ c κs. search needs) returns-3)

@@ -10,20 +10,8 @@ use Rattle.catalogue.proofs.count.Reads as count-reads
 use Rattle.permits.proofs.mask_in.Reads as mask-in-reads
 use Rattle.permits.proofs.wide_size.Reads as wide-size-reads
 
-count-requires : tie.Need-count-requires
-count-requires c κs = search needs
-
-wide-size-requires : tie.Need-wide-size-requires
-wide-size-requires c κs = search needs
-
 returns : tie.Need-returns
 returns c = named-past (now (c .before .before .before .before .args .catalogue)) (c .before .before .before .before .args .relation) (c .before .before .before .before .args .mask) _ _ _ (c .before .before .count .ensures) (c .before .wide-size .ensures) (c .if1 .taken)
-
-attributes-requires : tie.Need-attributes-requires
-attributes-requires c κs = search needs
-
-mask-in-requires : tie.Need-mask-in-requires
-mask-in-requires c κs = search needs
 
 returns-2 : tie.Need-returns-2
 returns-2 c = named-is (now (c .before .before .before .before .before .before .args .catalogue)) (c .before .before .before .before .before .before .args .relation) (c .before .before .before .before .before .before .args .mask) _ _ _ (c .before .before .before .before .count .ensures) (c .before .before .before .wide-size .ensures) (c .before .before .if1 .left) _ (c .before .attributes .ensures .0) _ (c .mask-in .ensures)
@@ -32,9 +20,9 @@ pub named-spec : {M : Type 1} → statement M
 named-spec =
     tie.close
     (tie.spec
-    count-requires
-    wide-size-requires
+    (λ c κs. search needs)
+    (λ c κs. search needs)
     returns
-    attributes-requires
-    mask-in-requires
+    (λ c κs. search needs)
+    (λ c κs. search needs)
     returns-2)

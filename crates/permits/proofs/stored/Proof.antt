@@ -6,10 +6,7 @@ use Rattle.permits.proofs.stored.Tie as tie
 use Rattle.permits.proofs.stored.Reads as reads
 use Rattle.permits.proofs.stored.Lts as lts
 use Rattle.catalogue.proofs.stored.Reads as stored-reads
-use Rattle.scans.proofs.all_stored.Reads as all-stored-reads
-
-stored-requires : tie.Need-stored-requires
-stored-requires c κs = search needs
+use Rattle.permits.proofs.all_stored.Reads as all-stored-reads
 
 returns : tie.Need-returns
 returns c = stored-not (now (c .before .before .before .before .args .condition)) (c .before .before .before .before .args .bound) (c .before .before .before .before .pre) (now (c .before .before .before .before .args .catalogue)) (c .before .before .before .before .args .relation) _ (c .before .stored .ensures) (c .if1 .taken)
@@ -17,11 +14,8 @@ returns c = stored-not (now (c .before .before .before .before .args .condition)
 returns-2 : tie.Need-returns-2
 returns-2 c = stored-none (now (c .before .before .before .before .before .args .condition)) (c .before .before .before .before .before .args .bound) (c .before .before .before .before .before .pre) (now (c .before .before .before .before .before .args .catalogue)) (c .before .before .before .before .before .args .relation) _ (c .before .before .stored .ensures) (c .before .if1 .left) (c .if2 .taken)
 
-all-stored-requires : tie.Need-all-stored-requires
-all-stored-requires c κs = search needs
-
 returns-3 : tie.Need-returns-3
 returns-3 c = stored-all (now (c .before .before .before .before .before .before .args .condition)) (c .before .before .before .before .before .before .args .bound) (c .before .before .before .before .before .before .pre) (now (c .before .before .before .before .before .before .args .catalogue)) (c .before .before .before .before .before .before .args .relation) _ (c .before .before .before .stored .ensures) (c .before .before .if1 .left) _ (c .all-stored .ensures)
 
 pub stored-spec : {M : Type 1} → statement M
-stored-spec = tie.close (tie.spec stored-requires returns returns-2 all-stored-requires returns-3)
+stored-spec = tie.close (tie.spec (λ c κs. search needs) returns returns-2 (λ c κs. search needs) returns-3)

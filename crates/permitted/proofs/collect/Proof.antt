@@ -20,55 +20,42 @@ Inv-loop marks latest n walks₀ start at₀ i₀ walks at i = (i ≤ n) × (sta
 abbrev μ-loop : tie.MeasureT-loop
 μ-loop marks latest n walks₀ start at₀ i₀ walks at i = n - i
 
--- src/lib.rt:110:5
 loop-holds : tie.Need-loop-holds Inv-loop μ-loop
 loop-holds c = (omega arith, omega arith, omega arith, listed-none (now (c .before .before .args .marks)) (numberAt (c .before .before .args .latest) (c .before .before .args .n)) (c .before .before .args .start) (now (c .before .before .args .walks)))
 
--- src/lib.rt:111:13
 number-requires : tie.Need-number-requires Inv-loop μ-loop
 number-requires c κs = (c .loop-test .taken, c .before .before .before .before .pre .1)
 
--- src/lib.rt:112:21
 narrow-requires : tie.Need-narrow-requires Inv-loop μ-loop
 narrow-requires c κs = omega (arith, c .number .ensures .1, c .before .before .before .before .before .pre .1)
 
--- src/lib.rt:112:9
 mul-walks : tie.Need-mul-walks Inv-loop μ-loop
 mul-walks c = search needs
 
--- src/lib.rt:112:9
 slice-write-walks : tie.Need-slice-write-walks Inv-loop μ-loop
 slice-write-walks c = omega (arith, c .before .before .before .loop .inv .2, c .before .before .before .loop .inv .3 .size, c .before .before .loop-test .taken, c .before .before .before .before .before .before .pre .2)
 
--- src/lib.rt:113:20
 shared-slice-read-wide : tie.Need-shared-slice-read-wide Inv-loop μ-loop
 shared-slice-read-wide c = omega (arith, c .before .before .number .ensures .1, c .before .before .before .before .before .before .before .pre .0)
 
--- src/lib.rt:113:15
 wide-requires : tie.Need-wide-requires Inv-loop μ-loop
 wide-requires c κs = search needs
 
--- src/lib.rt:113:9
 add-at : tie.Need-add-at Inv-loop μ-loop
 add-at c = omega (arith, c .wide .ensures, c .before .before .before .before .before .before .before .before .pre .4 (c .before .before .before .number .result), c .before .before .before .before .before .loop .inv .2, c .before .before .before .before .loop-test .taken, c .before .before .before .before .before .before .before .before .pre .2, c .before .before .before .before .before .before .before .before .pre .3)
 
--- src/lib.rt:114:9
 add-i : tie.Need-add-i Inv-loop μ-loop
 add-i c = search needs
 
--- src/lib.rt:110:5
 loop-less : tie.Need-loop-less Inv-loop μ-loop
 loop-less c = search needs
 
--- src/lib.rt:110:5
 loop-again : tie.Need-loop-again Inv-loop μ-loop
 loop-again c = (omega (arith, c .before .before .before .before .loop-test .taken), omega (arith, c .before .before .before .before .before .loop .inv .1), omega (arith, c .before .before .before .before .before .loop .inv .2, c .wide .ensures, c .before .before .before .before .before .before .before .before .pre .4 (c .before .before .before .number .result)), listed-next (now (c .before .before .before .before .before .before .before .before .args .marks)) (numberAt (c .before .before .before .before .before .before .before .before .args .latest) (c .before .before .before .before .before .before .before .before .args .n)) (c .before .before .before .before .before .before .before .before .args .start) (c .before .before .before .before .before .loop .at) (c .before .before .before .before .before .loop .i) (c .before .before .narrow .result) (c .wide .result) (now (c .before .before .before .before .before .before .before .before .args .walks)) (c .before .before .before .before .before .loop .walks) (c .before .before .before .before .before .before .before .before .pre .4) (c .before .before .before .before .before .loop .inv .3) (omega (arith, c .before .before .before .before .before .loop .inv .2, c .before .before .before .before .loop-test .taken, c .before .before .before .before .before .before .before .before .pre .2)) (c .before .before .narrow .ensures ∙ c .before .before .before .number .ensures .0) (c .wide .ensures ∙ ap (λ (k : ℕ). getD (now (c .before .before .before .before .before .before .before .before .args .marks)) k 0) (c .before .before .before .number .ensures .0)))
 
--- src/lib.rt:103:1
 same-length : tie.Need-same-length Inv-loop μ-loop
 same-length c = search needs
 
--- src/lib.rt:103:1
 returns : tie.Need-returns Inv-loop μ-loop
 returns c = (listed-end (now (c .before .before .before .before .args .marks)) (numberAt (c .before .before .before .before .args .latest) (c .before .before .before .before .args .n)) (c .before .before .before .before .args .start) (c .before .loop .at) (c .before .loop .i) (c .before .before .before .before .args .n) (now (c .before .before .before .before .args .walks)) (c .before .loop .walks) (omega (arith, c .before .loop .inv .0, c .loop-test .left)) (c .before .loop .inv .3), (c .before .loop .inv .1, omega (arith, c .before .loop .inv .2, c .before .loop .inv .0)))
 

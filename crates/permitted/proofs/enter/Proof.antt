@@ -13,35 +13,10 @@ use Rattle.allrows.proofs.put.Reads as put-reads
 use Rattle.allrows.proofs.store.Reads as store-reads
 use Rattle.permitted.proofs.wide.Reads as wide-reads
 
--- src/lib.rt:191:5
-put-requires : tie.Need-put-requires
-put-requires c κs = search needs
-
--- src/lib.rt:192:31
-wide-requires : tie.Need-wide-requires
-wide-requires c κs = search needs
-
--- src/lib.rt:192:27
-mul-store : tie.Need-mul-store
-mul-store c = search needs
-
--- src/lib.rt:192:27
-add-store : tie.Need-add-store
-add-store c = search needs
-
--- src/lib.rt:192:5
-store-requires : tie.Need-store-requires
-store-requires c κs = search needs
-
--- src/lib.rt:187:1
-same-length : tie.Need-same-length
-same-length c = search needs
-
--- src/lib.rt:187:1
 returns : tie.Need-returns
 returns c = c .before .before .store .ensures ∙ ap₂ (λ (u : List ℕ) (n : ℕ). set u (8 * n + 5) (c .before .before .before .before .before .before .before .before .before .before .args .key)) (c .before .before .before .before .before .before .before .put .ensures) (c .before .before .before .wide .ensures)
 
 pub enter-spec : {M : Type 1} → statement M
 enter-spec =
     tie.close
-    (tie.spec put-requires wide-requires mul-store add-store store-requires same-length returns)
+    (tie.spec (λ c κs. search needs) (λ c κs. search needs) (λ c. search needs) (λ c. search needs) (λ c κs. search needs) (λ c. search needs) returns)

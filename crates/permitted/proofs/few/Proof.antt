@@ -22,39 +22,30 @@ Inv-loop query catalogue at₀ at = all (tiny catalogue) (flatBindings (drop at 
 abbrev μ-loop : tie.MeasureT-loop
 μ-loop query catalogue at₀ at = length query - at
 
--- src/lib.rt:355:5
 loop-holds : tie.Need-loop-holds Inv-loop μ-loop
 loop-holds c = refl
 
--- src/lib.rt:356:29
 binding-requires : tie.Need-binding-requires Inv-loop μ-loop
 binding-requires c κs = search needs
 
--- src/lib.rt:356:13
 fits-requires : tie.Need-fits-requires Inv-loop μ-loop
 fits-requires c κs = search needs
 
--- src/lib.rt:357:13
 returns : tie.Need-returns Inv-loop μ-loop
 returns c = scanned.stopped (c .before .fits2 .result) _ _ (c .if1 .taken) (scanned.all-on (now (c .before .before .before .before .before .before .before .args .query)) (c .before .before .before .before .loop .at) _ (c .before .before .before .loop-test .taken) refl (c .before .before .binding .result) (c .before .before .binding .ensures) (tiny (now (c .before .before .before .before .before .before .before .args .catalogue))) _ (c .before .before .before .before .loop .inv) (c .before .fits2 .result) (c .before .fits2 .ensures))
 
--- src/lib.rt:359:15
 step-requires : tie.Need-step-requires Inv-loop μ-loop
 step-requires c κs = search needs
 
--- src/lib.rt:359:9
 add-at : tie.Need-add-at Inv-loop μ-loop
 add-at c = search needs
 
--- src/lib.rt:355:5
 loop-less : tie.Need-loop-less Inv-loop μ-loop
 loop-less c = search needs
 
--- src/lib.rt:355:5
 loop-again : tie.Need-loop-again Inv-loop μ-loop
 loop-again c = scanned.went (c .before .before .fits2 .result) _ _ (c .before .if1 .left) (scanned.all-on (now (c .before .before .before .before .before .before .before .before .args .query)) (c .before .before .before .before .before .loop .at) _ (c .before .before .before .before .loop-test .taken) (c .step .ensures .0) (c .before .before .before .binding .result) (c .before .before .before .binding .ensures) (tiny (now (c .before .before .before .before .before .before .before .before .args .catalogue))) _ (c .before .before .before .before .before .loop .inv) (c .before .before .fits2 .result) (c .before .before .fits2 .ensures))
 
--- src/lib.rt:351:1
 returns-2 : tie.Need-returns-2 Inv-loop μ-loop
 returns-2 c = scanned.all-end (now (c .before .before .before .before .args .query)) (c .before .loop .at) (c .loop-test .left) (tiny (now (c .before .before .before .before .args .catalogue))) _ (c .before .loop .inv)
 

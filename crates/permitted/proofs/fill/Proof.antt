@@ -26,39 +26,30 @@ Inv-loop query list places masks catalogue values walks₀ next₀ at₀ walks n
 abbrev μ-loop : tie.MeasureT-loop
 μ-loop query list places masks catalogue values walks₀ next₀ at₀ walks next at = length query - at
 
--- src/lib.rt:334:5
 loop-holds : tie.Need-loop-holds Inv-loop μ-loop
 loop-holds c = (refl, filling-start (now (c .before .before .before .before .before .before .args .catalogue)) (now (c .before .before .before .before .before .before .args .values)) (part (now (c .before .before .before .before .before .before .args .list)) (now (c .before .before .before .before .before .before .args .places))) (now (c .before .before .before .before .before .before .args .masks)) (mostIn (now (c .before .before .before .before .before .before .args .walks))) (flatBindings (now (c .before .before .before .before .before .before .args .query))) (now (c .before .before .before .before .before .before .args .walks)) (c .before .before .before .before .before .before .pre .4) (room-enough (length (now (c .before .before .before .before .before .before .args .walks))) (length (flatBindings (now (c .before .before .before .before .before .before .args .query)))) (c .before .before .before .before .before .before .pre .2) (c .before .before .before .before .before .before .pre .3 .0)))
 
--- src/lib.rt:335:13
 binding-requires : tie.Need-binding-requires Inv-loop μ-loop
 binding-requires c κs = search needs
 
--- src/lib.rt:336:9
 fill-one-requires : tie.Need-fill-one-requires Inv-loop μ-loop
 fill-one-requires c κs = λ v r e. let a = asked (now (c .before .before .before .before .before .before .before .before .before .before .args .catalogue)) (now (c .before .before .before .before .before .before .before .before .before .before .args .values)) (part (now (c .before .before .before .before .before .before .before .before .before .before .args .list)) (now (c .before .before .before .before .before .before .before .before .before .before .args .places))) (now (c .before .before .before .before .before .before .before .before .before .before .args .masks)) (mostIn (now (c .before .before .before .before .before .before .before .before .before .before .args .walks))) (flatBindings (now (c .before .before .before .before .before .before .before .before .before .before .args .query))) _ _ (c .before .binding .result) v r (c .before .before .before .loop .next) (c .before .before .before .loop .walks) (c .before .before .before .before .before .before .before .before .before .before .pre .1) e (bindings-on (now (c .before .before .before .before .before .before .before .before .before .before .args .query)) (c .before .before .before .loop .at) _ (c .before .before .loop-test .taken) refl (c .before .binding .result) (c .before .binding .ensures)) (c .before .before .before .loop .inv .1) in ((a .0 .0, most-low _ (length (now (c .before .before .before .before .before .before .before .before .before .before .args .walks))) (a .0 .1) (c .before .before .before .before .before .before .before .before .before .before .pre .3 .1)), (omega (arith, a .1 .0, a .0 .1), omega (arith, c .before .before .before .loop .inv .0, c .before .before .before .before .before .before .before .before .before .before .pre .3 .1)), a .1 .1)
 
--- src/lib.rt:337:15
 step-requires : tie.Need-step-requires Inv-loop μ-loop
 step-requires c κs = search needs
 
--- src/lib.rt:337:9
 add-at : tie.Need-add-at Inv-loop μ-loop
 add-at c = search needs
 
--- src/lib.rt:334:5
 loop-less : tie.Need-loop-less Inv-loop μ-loop
 loop-less c = search needs
 
--- src/lib.rt:334:5
 loop-again : tie.Need-loop-again Inv-loop μ-loop
 loop-again c = (c .before .before .before .fill-one .kept .1 .1 .1 .1 .1 .1 .1 .0 ∙ c .before .before .before .before .before .before .before .loop .inv .0, filling-step (now (c .before .before .before .before .before .before .before .before .before .before .before .before .before .before .args .catalogue)) (now (c .before .before .before .before .before .before .before .before .before .before .before .before .before .before .args .values)) (part (now (c .before .before .before .before .before .before .before .before .before .before .before .before .before .before .args .list)) (now (c .before .before .before .before .before .before .before .before .before .before .before .before .before .before .args .places))) (now (c .before .before .before .before .before .before .before .before .before .before .before .before .before .before .args .masks)) (mostIn (now (c .before .before .before .before .before .before .before .before .before .before .before .before .before .before .args .walks))) (flatBindings (now (c .before .before .before .before .before .before .before .before .before .before .before .before .before .before .args .query))) _ _ (c .before .before .before .before .before .binding .result) (c .before .before .before .before .before .before .before .loop .next) (c .before .before .before .fill-one .result) (c .before .before .before .before .before .before .before .loop .walks) _ (c .before .before .before .before .before .before .before .before .before .before .before .before .before .before .pre .0) (c .before .before .before .before .before .before .before .before .before .before .before .before .before .before .pre .1) (bindings-on (now (c .before .before .before .before .before .before .before .before .before .before .before .before .before .before .args .query)) (c .before .before .before .before .before .before .before .loop .at) _ (c .before .before .before .before .before .before .loop-test .taken) (c .step .ensures .0) (c .before .before .before .before .before .binding .result) (c .before .before .before .before .before .binding .ensures)) (c .before .before .before .fill-one .ensures .0) (c .before .before .before .fill-one .ensures .1) (c .before .before .before .before .before .before .before .loop .inv .1))
 
--- src/lib.rt:320:1
 same-length : tie.Need-same-length Inv-loop μ-loop
 same-length c = search needs
 
--- src/lib.rt:320:1
 returns : tie.Need-returns Inv-loop μ-loop
 returns c = filling-end (now (c .before .before .before .before .before .before .before .before .args .catalogue)) (now (c .before .before .before .before .before .before .before .before .args .values)) (part (now (c .before .before .before .before .before .before .before .before .args .list)) (now (c .before .before .before .before .before .before .before .before .args .places))) (now (c .before .before .before .before .before .before .before .before .args .masks)) (mostIn (now (c .before .before .before .before .before .before .before .before .args .walks))) (flatBindings (now (c .before .before .before .before .before .before .before .before .args .query))) (c .before .loop .next) (c .before .loop .walks) (subst (λ (l : List Binding). Filling (now (c .before .before .before .before .before .before .before .before .args .catalogue)) (now (c .before .before .before .before .before .before .before .before .args .values)) (part (now (c .before .before .before .before .before .before .before .before .args .list)) (now (c .before .before .before .before .before .before .before .before .args .places))) (now (c .before .before .before .before .before .before .before .before .args .masks)) (mostIn (now (c .before .before .before .before .before .before .before .before .args .walks))) (flatBindings (now (c .before .before .before .before .before .before .before .before .args .query))) l (c .before .loop .next) (c .before .loop .walks)) (flat-end bindingOf (now (c .before .before .before .before .before .before .before .before .args .query)) (c .before .loop .at) (c .loop-test .left)) (c .before .loop .inv .1))
 

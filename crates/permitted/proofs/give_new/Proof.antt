@@ -12,31 +12,6 @@ use Rattle.permitted.proofs.enter.Reads as enter-reads
 use Rattle.permitted.proofs.key_of.Reads as key-of-reads
 use Rattle.permitted.proofs.list_rows.Reads as list-rows-reads
 
--- src/lib.rt:231:9
-list-rows-requires : tie.Need-list-rows-requires
-list-rows-requires c κs = search needs
-
--- src/lib.rt:232:9
-whole-requires : tie.Need-whole-requires
-whole-requires c κs = search needs
-
--- src/lib.rt:235:16
-sub-enter : tie.Need-sub-enter
-sub-enter c = search needs
-
--- src/lib.rt:239:34
-key-of-requires : tie.Need-key-of-requires
-key-of-requires c κs = search needs
-
--- src/lib.rt:239:5
-enter-requires : tie.Need-enter-requires
-enter-requires c κs = search needs
-
--- src/lib.rt:217:1
-same-length : tie.Need-same-length
-same-length c = search needs
-
--- src/lib.rt:217:1
 returns : tie.Need-returns
 returns c = given-listed (now (c .before .before .before .before .before .before .before .before .before .before .before .before .before .before .args .catalogue)) (now (c .before .before .before .before .before .before .before .before .before .before .before .before .before .before .args .values)) (part (now (c .before .before .before .before .before .before .before .before .before .before .before .before .before .before .args .list)) (now (c .before .before .before .before .before .before .before .before .before .before .before .before .before .before .args .places))) (c .before .before .before .before .before .before .before .before .before .before .before .before .before .before .args .relation) (c .before .before .before .before .before .before .before .before .before .before .before .before .before .before .args .mask) (c .before .before .before .before .before .before .before .before .before .before .before .before .before .before .args .variable) (c .before .before .before .before .before .before .before .before .before .before .before .before .before .before .args .next) (c .before .before .before .before .before .before .before .before .list-rows .result) (c .before .before .before .key-of .result) (now (c .before .before .before .before .before .before .before .before .before .before .before .before .before .before .args .walks)) _ _ (c .before .before .before .before .before .whole .result) (c .before .before .before .before .before .before .before .before .before .before .before .before .before .before .pre .0 .1) (c .before .before .before .before .before .before .before .before .before .before .before .before .before .before .pre .0 .0) (omega (arith, c .before .before .before .before .before .before .before .before .before .before .before .before .before .before .good)) (c .before .before .before .key-of .ensures .0) (c .before .before .before .before .before .before .before .before .before .before .before .before .before .before .pre .2) (omega (arith, c .before .before .before .before .before .before .before .before .before .before .before .before .before .before .pre .1 .0, c .before .before .before .before .before .before .before .before .before .before .before .before .before .before .pre .2 .least)) (c .before .before .before .before .before .before .before .before .list-rows .ensures .0) (c .before .before .before .before .before .before .before .before .list-rows .ensures .1 .0) (c .before .before .before .before .before .before .before .before .list-rows .ensures .1 .1) (c .before .before .before .before .before .whole .ensures .0) (c .before .before .enter .ensures)
 
@@ -44,10 +19,10 @@ pub give-new-spec : {M : Type 1} → statement M
 give-new-spec =
     tie.close
     (tie.spec
-    list-rows-requires
-    whole-requires
-    sub-enter
-    key-of-requires
-    enter-requires
-    same-length
+    (λ c κs. search needs)
+    (λ c κs. search needs)
+    (λ c. search needs)
+    (λ c κs. search needs)
+    (λ c κs. search needs)
+    (λ c. search needs)
     returns)

@@ -21,31 +21,24 @@ Inv-loop list places mask catalogue values relation marks₀ m₀ k₀ marks m k
 abbrev μ-loop : tie.MeasureT-loop
 μ-loop list places mask catalogue values relation marks₀ m₀ k₀ marks m k = 8 - k
 
--- src/lib.rt:71:5
 loop-holds : tie.Need-loop-holds Inv-loop μ-loop
 loop-holds c = (omega arith, refl, c .before .before .before .before .pre .2, λ y h. h)
 
--- src/lib.rt:72:9
 turn-requires : tie.Need-turn-requires Inv-loop μ-loop
 turn-requires c κs = (c .before .loop-test .taken, c .before .before .before .before .before .before .before .pre .0, omega (arith, c .before .before .before .before .before .before .before .pre .1, c .before .before .loop .inv .1), c .before .before .loop .inv .2)
 
--- src/lib.rt:74:9
 add-k : tie.Need-add-k Inv-loop μ-loop
 add-k c = search needs
 
--- src/lib.rt:71:5
 loop-less : tie.Need-loop-less Inv-loop μ-loop
 loop-less c = search needs
 
--- src/lib.rt:71:5
 loop-again : tie.Need-loop-again Inv-loop μ-loop
 loop-again c = (omega (arith, c .before .before .before .before .loop-test .taken), c .before .before .turn .ensures .size ∙ c .before .before .before .before .before .loop .inv .1, bits-on (c .before .before .before .before .before .loop .inv .2) (c .before .before .turn .ensures), decides-on (now (c .before .before .before .before .before .before .before .before .before .before .args .catalogue)) (now (c .before .before .before .before .before .before .before .before .before .before .args .values)) (part (now (c .before .before .before .before .before .before .before .before .before .before .args .list)) (now (c .before .before .before .before .before .before .before .before .before .before .args .places))) (c .before .before .before .before .before .before .before .before .before .before .args .relation) (c .before .before .before .before .before .before .before .before .before .before .args .mask) _ (c .before .before .before .before .before .loop .m) (c .before .before .before .before .before .loop .k) (now (c .before .before .before .before .before .before .before .before .before .before .args .marks)) (c .before .before .before .before .before .loop .marks) _ (c .before .before .before .before .loop-test .taken) (c .before .before .before .before .before .loop .inv .3) (c .before .before .turn .ensures))
 
--- src/lib.rt:57:1
 same-length : tie.Need-same-length Inv-loop μ-loop
 same-length c = search needs
 
--- src/lib.rt:57:1
 returns : tie.Need-returns Inv-loop μ-loop
 returns c = decides-end (now (c .before .before .before .before .before .before .args .catalogue)) (now (c .before .before .before .before .before .before .args .values)) (part (now (c .before .before .before .before .before .before .args .list)) (now (c .before .before .before .before .before .before .args .places))) (c .before .before .before .before .before .before .args .relation) (c .before .before .before .before .before .before .args .mask) _ (c .before .loop .m) (c .before .loop .k) (now (c .before .before .before .before .before .before .args .marks)) (c .before .loop .marks) (c .loop-test .left) (omega (arith, c .before .before .before .before .before .before .pre .1, c .before .loop .inv .1)) (c .before .loop .inv .3)
 

@@ -13,31 +13,12 @@ use Rattle.catalogue.proofs.rows.Reads as rows-reads
 use Rattle.permitted.proofs.collect.Reads as collect-reads
 use Rattle.permitted.proofs.judge_all.Reads as judge-all-reads
 
--- src/lib.rt:135:5
 judge-all-requires : tie.Need-judge-all-requires
 judge-all-requires c κs = (c .before .before .before .before .before .before .pre .0, c .before .before .before .before .before .before .pre .1, blank-bits (now (c .before .before .before .before .before .before .args .marks)) (c .before .before .before .before .before .before .pre .2))
 
--- src/lib.rt:136:9
-rows-requires : tie.Need-rows-requires
-rows-requires c κs = search needs
-
--- src/lib.rt:137:9
-latest-requires : tie.Need-latest-requires
-latest-requires c κs = search needs
-
--- src/lib.rt:138:5
 collect-requires : tie.Need-collect-requires
 collect-requires c κs = (omega (arith, c .before .before .before .rows .ensures .0, c .before .before .before .before .before .before .judge-all .ensures .size, c .before .before .before .before .before .before .before .before .before .before .before .before .before .pre .1), c .before .before .before .rows .ensures .1, omega (arith, c .before .before .before .rows .ensures .0, c .before .before .before .before .before .before .before .before .before .before .before .before .before .pre .3), c .before .before .before .before .before .before .before .before .before .before .before .before .before .pre .4, bits-on (blank-bits (now (c .before .before .before .before .before .before .before .before .before .before .before .before .before .args .marks)) (c .before .before .before .before .before .before .before .before .before .before .before .before .before .pre .2)) (c .before .before .before .before .before .before .judge-all .ensures))
 
--- src/lib.rt:120:1
-same-length : tie.Need-same-length
-same-length c = search needs
-
--- src/lib.rt:120:1
-same-length-2 : tie.Need-same-length-2
-same-length-2 c = search needs
-
--- src/lib.rt:120:1
 returns : tie.Need-returns
 returns c = (rows-listed (now (c .before .before .before .before .before .before .before .before .before .before .before .before .before .before .before .before .args .catalogue)) (now (c .before .before .before .before .before .before .before .before .before .before .before .before .before .before .before .before .args .values)) (part (now (c .before .before .before .before .before .before .before .before .before .before .before .before .before .before .before .before .args .list)) (now (c .before .before .before .before .before .before .before .before .before .before .before .before .before .before .before .before .args .places))) (c .before .before .before .before .before .before .before .before .before .before .before .before .before .before .before .before .args .relation) (c .before .before .before .before .before .before .before .before .before .before .before .before .before .before .before .before .args .mask) _ (c .before .before .before .before .before .before .before .before .before .before .before .before .before .before .before .before .args .start) _ _ (now (c .before .before .before .before .before .before .before .before .before .before .before .before .before .before .before .before .args .marks)) _ (now (c .before .before .before .before .before .before .before .before .before .before .before .before .before .before .before .before .args .walks)) _ (c .before .before .before .before .before .before .before .before .before .before .before .before .before .before .before .before .pre .2) (c .before .before .before .before .before .before .before .before .before .judge-all .ensures) (c .before .before .before .before .before .before .rows .ensures .0) (c .before .before .before .before .before .latest .ensures) (c .before .before .collect .ensures .0), (c .before .before .collect .ensures .1 .0, omega (arith, c .before .before .collect .ensures .1 .1, c .before .before .before .before .before .before .rows .ensures .0)))
 
@@ -46,9 +27,9 @@ list-by-spec =
     tie.close
     (tie.spec
     judge-all-requires
-    rows-requires
-    latest-requires
+    (λ c κs. search needs)
+    (λ c κs. search needs)
     collect-requires
-    same-length
-    same-length-2
+    (λ c. search needs)
+    (λ c. search needs)
     returns)

@@ -3,28 +3,15 @@ use native.Mathlib.Omega.{arith}
 use borrow.Author.Needs.{needs}
 use Prim.Native.Nat.{ℕ}
 use lib.ListN.{length-replicate}
-use Rattle.aggregates.proofs.Taking.{getD-same}
+use Rattle.model.proofs.Lists.{getD-same}
 use Rattle.permitted.proofs.list_many.Statement.{statement}
 use Rattle.permitted.proofs.list_many.Tie as tie
 use Rattle.permitted.proofs.list_many.Reads as reads
 use Rattle.permitted.proofs.list_many.Lts as lts
 use Rattle.permitted.proofs.list_by.Reads as list-by-reads
 
--- src/lib.rt:163:62
-slice-aggregate-list-by : tie.Need-slice-aggregate-list-by
-slice-aggregate-list-by c = search needs
-
--- src/lib.rt:163:5
 list-by-requires : tie.Need-list-by-requires
 list-by-requires c κs = (omega (arith, c .before .before .before .before .before .before .pre .0), omega (arith, c .before .before .before .before .before .before .pre .0, length-replicate {A = ℕ} 1024 0), getD-same {A = ℕ} 1024 0, c .before .before .before .before .before .before .pre .1, c .before .before .before .before .before .before .pre .2)
 
--- src/lib.rt:148:1
-same-length : tie.Need-same-length
-same-length c = search needs
-
--- src/lib.rt:148:1
-returns : tie.Need-returns
-returns c = search needs
-
 pub list-many-spec : {M : Type 1} → statement M
-list-many-spec = tie.close (tie.spec slice-aggregate-list-by list-by-requires same-length returns)
+list-many-spec = tie.close (tie.spec (λ c. search needs) list-by-requires (λ c. search needs) (λ c. search needs))

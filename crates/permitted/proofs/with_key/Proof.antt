@@ -15,39 +15,30 @@ Inv-loop walks key v₀ v = v ≤ 8
 abbrev μ-loop : tie.MeasureT-loop
 μ-loop walks key v₀ v = 8 - v
 
--- src/lib.rt:206:5
 loop-holds : tie.Need-loop-holds Inv-loop μ-loop
 loop-holds c = search needs
 
--- src/lib.rt:207:34
 mul-size-at : tie.Need-mul-size-at Inv-loop μ-loop
 mul-size-at c = search needs
 
--- src/lib.rt:207:34
 add-size-at : tie.Need-add-size-at Inv-loop μ-loop
 add-size-at c = search needs
 
--- src/lib.rt:207:12
 size-at-requires : tie.Need-size-at-requires Inv-loop μ-loop
 size-at-requires c κs = search needs
 
--- src/lib.rt:208:13
 returns : tie.Need-returns Inv-loop μ-loop
 returns c = (omega (arith, c .before .before .loop-test .taken), λ h. sym (c .before .size-at .ensures .0) ∙ c .if1 .taken)
 
--- src/lib.rt:210:9
 add-v : tie.Need-add-v Inv-loop μ-loop
 add-v c = search needs
 
--- src/lib.rt:206:5
 loop-less : tie.Need-loop-less Inv-loop μ-loop
 loop-less c = search needs
 
--- src/lib.rt:206:5
 loop-again : tie.Need-loop-again Inv-loop μ-loop
 loop-again c = search needs
 
--- src/lib.rt:202:1
 returns-2 : tie.Need-returns-2 Inv-loop μ-loop
 returns-2 c = (omega arith, λ h. absurd (omega arith))
 

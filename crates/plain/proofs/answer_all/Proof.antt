@@ -16,27 +16,6 @@ use Rattle.plain.proofs.answer_all.Lts as lts
 use Rattle.allrows.proofs.fill.Reads as fill-reads
 use Rattle.plain.proofs.answer_query.Reads as answer-query-reads
 
--- src/lib.rt:244:33
-slice-aggregate-fill : tie.Need-slice-aggregate-fill
-slice-aggregate-fill c = search needs
-
--- src/lib.rt:244:5
-fill-requires : tie.Need-fill-requires
-fill-requires c κs = search needs
-
--- src/lib.rt:245:50
-slice-aggregate-answer-query : tie.Need-slice-aggregate-answer-query
-slice-aggregate-answer-query c = search needs
-
--- src/lib.rt:245:5
-answer-query-requires : tie.Need-answer-query-requires
-answer-query-requires c κs = search needs
-
--- src/lib.rt:231:1
-same-length : tie.Need-same-length
-same-length c = search needs
-
--- src/lib.rt:231:1
 returns : tie.Need-returns
 returns c =
     let c₅ = c .before .before .before .before .before in let fill = c₅ .fill in
@@ -48,9 +27,9 @@ pub answer-all-spec : {M : Type 1} → statement M
 answer-all-spec =
     tie.close
     (tie.spec
-    slice-aggregate-fill
-    fill-requires
-    slice-aggregate-answer-query
-    answer-query-requires
-    same-length
+    (λ c. search needs)
+    (λ c κs. search needs)
+    (λ c. search needs)
+    (λ c κs. search needs)
+    (λ c. search needs)
     returns)

@@ -10,19 +10,6 @@ use denote.Ref.{now}
 use Rattle.plain.specs.Reply.{Unbound}
 use Rattle.plain.proofs.Memo.{filled-trusted}
 
--- src/lib.rt:134:59
-slice-aggregate-remember : tie.Need-slice-aggregate-remember
-slice-aggregate-remember c = search needs
-
--- src/lib.rt:134:5
-remember-requires : tie.Need-remember-requires
-remember-requires c κs = search needs
-
--- src/lib.rt:135:55
-slice-aggregate-answer-by : tie.Need-slice-aggregate-answer-by
-slice-aggregate-answer-by c = search needs
-
--- src/lib.rt:135:5
 answer-by-requires : tie.Need-answer-by-requires
 answer-by-requires c κs =
     let c₆ = c .before .before .before .before .before .before in let remember = c₆ .remember in
@@ -30,26 +17,14 @@ answer-by-requires c κs =
     let values = now (args .values) in
     (pre .0, filled-trusted (args .layout) (args .level) (now (args .q)) (now (args .z)) (now (args .catalogue)) (now (args .walks)) values _ (now (args .env)) (pre .0) (remember .ensures .0), subst (Unbound values) (sym (remember .ensures .1)) (pre .1))
 
--- src/lib.rt:120:1
-same-length : tie.Need-same-length
-same-length c = search needs
-
--- src/lib.rt:120:1
-same-length-2 : tie.Need-same-length-2
-same-length-2 c = search needs
-
--- src/lib.rt:120:1
-returns : tie.Need-returns
-returns c = search needs
-
 pub answer-filled-spec : {M : Type 1} → statement M
 answer-filled-spec =
     tie.close
     (tie.spec
-    slice-aggregate-remember
-    remember-requires
-    slice-aggregate-answer-by
+    (λ c. search needs)
+    (λ c κs. search needs)
+    (λ c. search needs)
     answer-by-requires
-    same-length
-    same-length-2
-    returns)
+    (λ c. search needs)
+    (λ c. search needs)
+    (λ c. search needs))

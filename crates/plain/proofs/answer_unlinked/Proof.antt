@@ -1,5 +1,5 @@
 use native.Mathlib.Omega.{arith}
-use Rattle.aggregates.proofs.Taking.{getD-same}
+use Rattle.model.proofs.Lists.{getD-same}
 use borrow.Author.Needs.{needs}
 use Rattle.plain.proofs.answer_unlinked.Statement.{statement}
 use Rattle.plain.proofs.answer_unlinked.Tie as tie
@@ -7,37 +7,16 @@ use Rattle.plain.proofs.answer_unlinked.Reads as reads
 use Rattle.plain.proofs.answer_unlinked.Lts as lts
 use Rattle.plain.proofs.answer_in.Reads as answer-in-reads
 
--- src/lib.rt:180:9
-slice-aggregate-answer-in : tie.Need-slice-aggregate-answer-in
-slice-aggregate-answer-in c = search needs
-
--- src/lib.rt:168:5
 answer-in-requires : tie.Need-answer-in-requires
 answer-in-requires c κs = (search needs, search needs, search needs, search needs, search needs, getD-same 1 0)
-
--- src/lib.rt:151:1
-same-length : tie.Need-same-length
-same-length c = search needs
-
--- src/lib.rt:151:1
-same-length-2 : tie.Need-same-length-2
-same-length-2 c = search needs
-
--- src/lib.rt:151:1
-same-length-3 : tie.Need-same-length-3
-same-length-3 c = search needs
-
--- src/lib.rt:151:1
-returns : tie.Need-returns
-returns c = search needs
 
 pub answer-unlinked-spec : {M : Type 1} → statement M
 answer-unlinked-spec =
     tie.close
     (tie.spec
-    slice-aggregate-answer-in
+    (λ c. search needs)
     answer-in-requires
-    same-length
-    same-length-2
-    same-length-3
-    returns)
+    (λ c. search needs)
+    (λ c. search needs)
+    (λ c. search needs)
+    (λ c. search needs))

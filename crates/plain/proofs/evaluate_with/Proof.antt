@@ -15,12 +15,6 @@ use Rattle.plain.proofs.answer_all.Reads as answer-all-reads
 use Rattle.plain.proofs.refused.Reads as refused-reads
 use Rattle.queries.proofs.check.Reads as check-reads′
 
-check-requires : tie.Need-check-requires
-check-requires c κs = search needs
-
-refused-requires : tie.Need-refused-requires
-refused-requires c κs = search needs
-
 returns : tie.Need-returns
 returns c =
     let c₆ = c .before .before .before .before .before .before in let args = c₆ .args in
@@ -30,15 +24,6 @@ check-requires-2 : tie.Need-check-requires-2
 check-requires-2 c κs =
     let c₆ = c .before .before .before .before .before .before in let args = c₆ .args in let pre = c₆ .pre in
     (catalogue-passes (now (args .catalogue)) (now (args .values)) (now (args .query)) (now (args .answer)) _ (c .before .before .check .ensures) (c .before .if1 .left), pre, omega arith)
-
-enum-known-n : tie.Need-enum-known-n
-enum-known-n c = search needs
-
-refused-requires-2 : tie.Need-refused-requires-2
-refused-requires-2 c κs = search needs
-
-enum-known-layout : tie.Need-enum-known-layout
-enum-known-layout c = search needs
 
 answer-all-requires : tie.Need-answer-all-requires
 answer-all-requires c κs =
@@ -50,9 +35,6 @@ answer-all-requires c κs =
     let query = now (args .query) in
     let h = subst (λ (r : Checked). Ready r 64 query (check2 .last .1 .1 .1 .0)) (layout .given .1) (check2 .ensures .1 .0) in answerable (now (args .catalogue)) (now (args .values)) query (now (args .answer)) _ (check .ensures) (if1 .left) (layout .given .0 .0) (check2 .last .1 .1 .1 .0) (sym (ap numberOf (layout .given .1)) ∙ check2 .ensures .0) (h .0) (h .1)
 
-same-length : tie.Need-same-length
-same-length c = search needs
-
 returns-2 : tie.Need-returns-2
 returns-2 c =
     let c₂ = c .before .before in let n = c₂ .n in
@@ -62,12 +44,6 @@ returns-2 c =
     let c₁₃ = c₉ .before .before .before .before in let args = c₁₃ .args in
     let query = now (args .query) in
     refused-second (now (args .catalogue)) (now (args .values)) query (now (args .answer)) _ (check .ensures) (if1 .left) _ _ (sym (ap numberOf (n .given .1)) ∙ check2 .ensures .0) (subst (λ (r : Checked). Ready r 64 query (check2 .last .1 .1 .1 .0)) (n .given .1) (check2 .ensures .1 .0)) (c .refused2 .ensures)
-
-same-length-2 : tie.Need-same-length-2
-same-length-2 c = search needs
-
-same-length-3 : tie.Need-same-length-3
-same-length-3 c = search needs
 
 returns-3 : tie.Need-returns-3
 returns-3 c =
@@ -82,16 +58,16 @@ pub evaluate-with-spec : {M : Type 1} → statement M
 evaluate-with-spec =
     tie.close
     (tie.spec
-    check-requires
-    refused-requires
+    (λ c κs. search needs)
+    (λ c κs. search needs)
     returns
     check-requires-2
-    enum-known-n
-    refused-requires-2
-    enum-known-layout
+    (λ c. search needs)
+    (λ c κs. search needs)
+    (λ c. search needs)
     answer-all-requires
-    same-length
+    (λ c. search needs)
     returns-2
-    same-length-2
-    same-length-3
+    (λ c. search needs)
+    (λ c. search needs)
     returns-3)

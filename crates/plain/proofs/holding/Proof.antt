@@ -16,35 +16,27 @@ Inv-loop q n₀ at₀ n at = n ≤ 1001
 abbrev μ-loop : tie.MeasureT-loop
 μ-loop q n₀ at₀ n at = length q - at
 
--- src/lib.rt:514:5
 loop-holds : tie.Need-loop-holds Inv-loop μ-loop
 loop-holds c = search needs
 
--- src/lib.rt:515:24
 byte-requires : tie.Need-byte-requires Inv-loop μ-loop
 byte-requires c κs = search needs
 
--- src/lib.rt:515:9
 counted-requires : tie.Need-counted-requires Inv-loop μ-loop
 counted-requires c κs = search needs
 
--- src/lib.rt:516:15
 step-requires : tie.Need-step-requires Inv-loop μ-loop
 step-requires c κs = search needs
 
--- src/lib.rt:516:9
 add-at : tie.Need-add-at Inv-loop μ-loop
 add-at c = search needs
 
--- src/lib.rt:514:5
 loop-less : tie.Need-loop-less Inv-loop μ-loop
 loop-less c = search needs
 
--- src/lib.rt:514:5
 loop-again : tie.Need-loop-again Inv-loop μ-loop
 loop-again c = c .before .counted .ensures (c .before .before .before .before .loop .inv)
 
--- src/lib.rt:511:1
 returns : tie.Need-returns Inv-loop μ-loop
 returns c = search needs
 

@@ -11,39 +11,6 @@ use Rattle.aggregates.proofs.targets.Reads as targets-reads
 use Rattle.kinds.proofs.tail.Reads as tail-reads
 use Rattle.kinds.proofs.tail_sizes.Reads as tail-sizes-reads
 
--- src/lib.rt:72:9
-tail-requires : tie.Need-tail-requires
-tail-requires c κs = search needs
-
--- src/lib.rt:73:9
-tail-sizes-requires : tie.Need-tail-sizes-requires
-tail-sizes-requires c κs = search needs
-
--- src/lib.rt:74:5
-targets-requires : tie.Need-targets-requires
-targets-requires c κs = search needs
-
--- src/lib.rt:76:9
-tail-requires-2 : tie.Need-tail-requires-2
-tail-requires-2 c κs = search needs
-
--- src/lib.rt:77:9
-tail-sizes-requires-2 : tie.Need-tail-sizes-requires-2
-tail-sizes-requires-2 c κs = search needs
-
--- src/lib.rt:78:5
-condition-requires : tie.Need-condition-requires
-condition-requires c κs = search needs
-
--- src/lib.rt:56:1
-same-length : tie.Need-same-length
-same-length c = search needs
-
--- src/lib.rt:56:1
-same-length-2 : tie.Need-same-length-2
-same-length-2 c = search needs
-
--- src/lib.rt:56:1
 returns : tie.Need-returns
 returns c =
     let c₃ = c .before .before .before in let condition = c₃ .condition in
@@ -59,12 +26,12 @@ pub remember-spec : {M : Type 1} → statement M
 remember-spec =
     tie.close
     (tie.spec
-    tail-requires
-    tail-sizes-requires
-    targets-requires
-    tail-requires-2
-    tail-sizes-requires-2
-    condition-requires
-    same-length
-    same-length-2
+    (λ c κs. search needs)
+    (λ c κs. search needs)
+    (λ c κs. search needs)
+    (λ c κs. search needs)
+    (λ c κs. search needs)
+    (λ c κs. search needs)
+    (λ c. search needs)
+    (λ c. search needs)
     returns)

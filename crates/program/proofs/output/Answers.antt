@@ -1,5 +1,5 @@
 -- The text of a call's outcome is what the program prints.
-use mathlib.Core.Path.{_≡_, sym, ap, _∙_, subst}
+use mathlib.Core.Path.{_≡_, refl, sym, ap, _∙_, subst}
 use mathlib.Core.Bool.{Bool, true, false, cond}
 use mathlib.Core.List.{List}
 use Prim.Native.Nat.{ℕ, _*_, _≤_, _<_}
@@ -7,7 +7,7 @@ use native.Mathlib.Omega.{arith}
 use lib.IntN.{ℤ, pos}
 use lib.ListN.{length, replicate, length-replicate}
 use borrow.Author.Tests.{eq-eqb, ne-eqb, ltb-false}
-use Rattle.model.specs.Checks.{fails10}
+use Rattle.model.specs.Checks.{fails10, fails11, refusal, keeperChecks}
 use Rattle.model.specs.Calls.{Outcome, ask}
 use Rattle.model.proofs.Tests.{or-no}
 use Rattle.model.proofs.Demands.{demand-2}
@@ -17,11 +17,24 @@ use Rattle.guarded.specs.declared.Reply.{Reply}
 use Rattle.program.specs.Output as O
 use Rattle.program.proofs.output.Parts.{accepted-length}
 
-pub unread-10 : (cb : List ℕ) (b : Bool) → b ≡ fails10 cb → b ≡ true → 10 ≡ O.unread cb
-unread-10 cb b e h = sym (ap (λ (x : Bool). cond {A = ℕ} x 10 11) (sym e ∙ h))
+-- whatever the values are, check 10 goes first
+module _ (cb : List ℕ) (vs : List ℤ) (n : ℕ) (e : n ≡ refusal (keeperChecks cb vs)) where
+  pub unread-10 : n ≡ 10 → 10 ≡ O.unread cb
+  unfolding refusal keeperChecks
+  unread-10 h = go (fails10 cb) (fails11 cb vs) (sym h ∙ e)
+    where
+      go : (a b : Bool) → _≡_ {A = ℕ} 10 (cond a 10 (cond b 11 0)) → _≡_ {A = ℕ} 10 (cond a 10 11)
+      go true b p = refl
+      go false true p = absurd (omega arith)
+      go false false p = absurd (omega arith)
 
-pub unread-11 : (cb : List ℕ) (b : Bool) → b ≡ fails10 cb → b ≡ false → 11 ≡ O.unread cb
-unread-11 cb b e h = sym (ap (λ (x : Bool). cond {A = ℕ} x 10 11) (sym e ∙ h))
+  pub unread-11 : (n ≡ 10 → ⊥) → 11 ≡ O.unread cb
+  unfolding refusal keeperChecks
+  unread-11 h = go (fails10 cb) (fails11 cb vs) (λ p. h (e ∙ p))
+    where
+      go : (a b : Bool) → (_≡_ {A = ℕ} (cond a 10 (cond b 11 0)) 10 → ⊥) → _≡_ {A = ℕ} 11 (cond a 10 11)
+      go true b p = absurd (p refl)
+      go false b p = refl
 
 module _ (cb fb pb qb : List ℕ) (u : Bool) (eu : u ≡ O.unreadable fb) where
   pub readable-size : u ≡ false → length fb ≤ 32768

@@ -6,7 +6,7 @@ use mathlib.Core.List.{[]}
 use denote.Ref.{now}
 use Rattle.model.specs.Lists.{all}
 use Rattle.model.specs.Scope.{knownBinding, inScopeT}
-use Rattle.scope.specs.Reach.{scopeOf, shapeIn}
+use Rattle.conditions.specs.Reach.{scopeOf, shapeIn}
 use Rattle.queries.specs.Parts.{reachOn}
 use Rattle.queries.proofs.Steps.{none-bound, range-bound}
 use borrow.Fn.Kinds.{In}
@@ -17,7 +17,7 @@ use Rattle.queries.proofs.+bind_ranges.Lts-bind_ranges as bind-ranges-l
 use Rattle.kinds.proofs.byte.Reads as byte-reads
 use Rattle.kinds.proofs.record_length.Reads as record-length-reads
 use Rattle.kinds.proofs.tail.Reads as tail-reads
-use Rattle.scope.proofs.bind.Reads as bind-reads
+use Rattle.conditions.proofs.scope.bind.Reads as bind-reads
 use Rattle.queries.proofs.+bind_ranges.{statement}
 use Rattle.queries.proofs.+bind_ranges.Tie.{close}
 

@@ -6,7 +6,7 @@ use mathlib.Core.List.{[]}
 use denote.Ref.{now}
 use Rattle.model.specs.Lists.{all}
 use Rattle.model.specs.Scope.{knownBinding, inScopeT}
-use Rattle.scope.specs.Reach.{scopeOf, shapeIn}
+use Rattle.conditions.specs.Reach.{scopeOf, shapeIn}
 use Rattle.queries.specs.Parts.{reachOn}
 use Rattle.queries.proofs.Steps.{none-known, range-unknown, range-known}
 use borrow.Fn.Kinds.{In}
@@ -17,7 +17,7 @@ use Rattle.queries.proofs.+ranges_known.Lts-ranges_known as ranges-know
 use Rattle.kinds.proofs.byte.Reads as byte-reads
 use Rattle.kinds.proofs.record_length.Reads as record-length-reads
 use Rattle.kinds.proofs.tail.Reads as tail-reads
-use Rattle.scope.proofs.known.Reads as known-reads
+use Rattle.conditions.proofs.scope.known.Reads as known-reads
 use Rattle.queries.proofs.+ranges_known.{statement}
 use Rattle.queries.proofs.+ranges_known.Tie.{close}
 

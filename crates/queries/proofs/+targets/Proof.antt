@@ -3,7 +3,7 @@ use mathlib.Core.Bool.{true}
 use mathlib.Core.Path.{_≡_, refl, sym, ap, _∙_}
 use lib.ListN.{length, drop}
 use denote.Ref.{now}
-use Rattle.scope.specs.Reach.{shapeIn, scopeOf}
+use Rattle.conditions.specs.Reach.{shapeIn, scopeOf}
 use Rattle.conditions.specs.Answers.{bytesOf}
 use Rattle.conditions.proofs.Steps.{term-ends}
 use Rattle.conditions.proofs.Past.{term-past}

@@ -10,32 +10,11 @@ use Rattle.queries.proofs.check.Lts as lts
 use Rattle.queries.proofs.number.Reads as number-reads
 use Rattle.queries.proofs.read.Reads as read-reads
 
-read-requires : tie.Need-read-requires
-read-requires c κs = search needs
-
-enum-known-layout : tie.Need-enum-known-layout
-enum-known-layout c = search needs
-
-enum-told : tie.Need-enum-told
-enum-told c = search needs
-
-number-requires : tie.Need-number-requires
-number-requires c κs = search needs
-
-same-length : tie.Need-same-length
-same-length c = search needs
-
 returns : tie.Need-returns
 returns c = (number-refused (c .before .before .before .before .before .before .before .before .before .before .args .limits) _ (now (c .before .before .before .before .before .before .before .before .before .before .args .q)) _ (c .before .before .before .before .before .read .result) (c .before .before .before .before .before .read .ensures .0) (c .before .enum-told .given .1) (c .number .result) _ refl (c .number .ensures), (refused-some (c .before .before .before .before .before .before .before .before .before .before .args .limits) _ (now (c .before .before .before .before .before .before .before .before .before .before .args .q)) _ (c .before .before .before .before .before .read .result) (c .before .before .before .before .before .read .ensures .0) _ (c .number .result) (c .number .ensures), c .before .before .before .before .before .read .ensures .1))
 
-same-length-2 : tie.Need-same-length-2
-same-length-2 c = search needs
-
 returns-2 : tie.Need-returns-2
 returns-2 c = (number-32 (c .before .before .before .before .before .before .before .before .before .before .before .args .limits) _ (now (c .before .before .before .before .before .before .before .before .before .before .before .args .q)) _ (c .before .before .before .before .before .before .read .result) (c .before .before .before .before .before .before .read .ensures .0) _ _ (c .before .before .layout .given .1) (c .if1 .taken), (omega arith, c .before .before .before .before .before .before .read .ensures .1))
-
-same-length-3 : tie.Need-same-length-3
-same-length-3 c = search needs
 
 returns-3 : tie.Need-returns-3
 returns-3 c = (number-none (c .before .before .before .before .before .before .before .before .before .before .before .args .limits) _ (now (c .before .before .before .before .before .before .before .before .before .before .before .args .q)) _ (c .before .before .before .before .before .before .read .result) (c .before .before .before .before .before .before .read .ensures .0) _ _ (c .before .before .layout .given .1) (c .if1 .left), (ready (c .before .before .before .before .before .before .before .before .before .before .before .args .limits) _ (now (c .before .before .before .before .before .before .before .before .before .before .before .args .q)) _ (c .before .before .before .before .before .before .read .result) (c .before .before .before .before .before .before .read .ensures .0) _ _ (c .before .before .layout .given .1), c .before .before .before .before .before .before .read .ensures .1))
@@ -44,13 +23,13 @@ pub check-spec : {M : Type 1} → statement M
 check-spec =
     tie.close
     (tie.spec
-    read-requires
-    enum-known-layout
-    enum-told
-    number-requires
-    same-length
+    (λ c κs. search needs)
+    (λ c. search needs)
+    (λ c. search needs)
+    (λ c κs. search needs)
+    (λ c. search needs)
     returns
-    same-length-2
+    (λ c. search needs)
     returns-2
-    same-length-3
+    (λ c. search needs)
     returns-3)

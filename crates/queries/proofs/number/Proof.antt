@@ -7,15 +7,6 @@ use Rattle.queries.proofs.number.Reads as reads
 use Rattle.queries.proofs.number.Lts as lts
 use Rattle.grammar.proofs.query_within.Reads as query-within-reads
 
-query-within-requires : tie.Need-query-within-requires
-query-within-requires c κs = search needs
-
-enum-told : tie.Need-enum-told
-enum-told c = search needs
-
-enum-told-2 : tie.Need-enum-told-2
-enum-told-2 c = search needs
-
 returns : tie.Need-returns
 returns c = number-31 (c .before .before .before .before .args .bytes) (now (c .before .before .before .before .args .q)) _ _ (c .before .before .query-within .ensures .0) (c .enum-told .given .1)
 
@@ -23,4 +14,4 @@ returns-2 : tie.Need-returns-2
 returns-2 c = number-30 (c .before .before .before .before .args .bytes) (now (c .before .before .before .before .args .q)) _ (c .before .before .query-within .ensures .0) (c .enum-told2 .given .1)
 
 pub number-spec : {M : Type 1} → statement M
-number-spec = tie.close (tie.spec query-within-requires enum-told enum-told-2 returns returns-2)
+number-spec = tie.close (tie.spec (λ c κs. search needs) (λ c. search needs) (λ c. search needs) returns returns-2)

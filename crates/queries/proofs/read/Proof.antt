@@ -18,62 +18,17 @@ use Rattle.scans.proofs.count_bindings.Reads as count-bindings-reads
 returns : tie.Need-returns
 returns c = (over-bytes (c .before .before .before .before .args .limits) (now (c .before .before .before .before .args .q)) (c .if1 .taken), refl)
 
-count-bindings-requires : tie.Need-count-bindings-requires
-count-bindings-requires c κs = search needs
-
-wide-requires : tie.Need-wide-requires
-wide-requires c κs = search needs
-
 returns-2 : tie.Need-returns-2
 returns-2 c = (over-bound (c .before .before .before .before .before .before .before .args .limits) (now (c .before .before .before .before .before .before .before .args .q)) (c .before .before .count-bindings .result) (c .before .before .count-bindings .ensures) (omega (arith, c .before .wide .ensures, c .if2 .taken)), refl)
-
-count-ranges-requires : tie.Need-count-ranges-requires
-count-ranges-requires c κs = search needs
-
-slice-aggregate-bind-ranges : tie.Need-slice-aggregate-bind-ranges
-slice-aggregate-bind-ranges c = search needs
-
-bind-ranges-requires : tie.Need-bind-ranges-requires
-bind-ranges-requires c κs = search needs
-
-slice-aggregate-rest : tie.Need-slice-aggregate-rest
-slice-aggregate-rest c = search needs
-
-rest-requires : tie.Need-rest-requires
-rest-requires c κs = search needs
-
-enum-known-layout : tie.Need-enum-known-layout
-enum-known-layout c = search needs
-
-enum-told : tie.Need-enum-told
-enum-told c = search needs
-
-same-length : tie.Need-same-length
-same-length c = search needs
 
 returns-3 : tie.Need-returns-3
 returns-3 c = (over-rest (c .before .before .before .before .before .before .before .before .before .before .before .before .before .before .before .before .before .before .before .args .limits) (now (c .before .before .before .before .before .before .before .before .before .before .before .before .before .before .before .before .before .before .before .args .q)) _ _ _ _ _ (c .before .before .before .before .before .before .before .before .before .before .before .count-ranges .result) (c .before .before .before .before .before .before .before .before .before .before .before .count-ranges .ensures .0) (c .before .before .before .before .before .rest .result) (c .enum-told .given .1) (c .before .before .before .before .before .rest .ensures .0), c .before .before .before .before .before .rest .ensures .1)
 
-same-length-2 : tie.Need-same-length-2
-same-length-2 c = search needs
-
 returns-4 : tie.Need-returns-4
 returns-4 c = (read-out (c .before .before .before .before .before .before .before .before .before .before .before .before .before .before .before .before .before .before .before .before .before .args .limits) (now (c .before .before .before .before .before .before .before .before .before .before .before .before .before .before .before .before .before .before .before .before .before .args .catalogue)) (now (c .before .before .before .before .before .before .before .before .before .before .before .before .before .before .before .before .before .before .before .before .before .args .q)) (c .before .before .before .before .before .before .before .before .before .before .before .before .before .before .before .before .before .before .before .before .before .pre .0) (c .before .before .before .before .before .before .before .before .before .before .before .before .before .before .before .before .before .if1 .left) (c .before .before .before .before .before .before .before .before .before .before .before .before .before .count-ranges .result) (c .before .before .before .before .before .before .before .before .before .before .before .before .before .count-ranges .ensures .0) (c .before .before .before .before .before .before .before .before .before .before .before .before .before .count-ranges .ensures .1) (c .before .before .before .before .before .before .before .before .before .before .before .before .before .before .before .before .count-bindings .result) (c .before .before .before .before .before .before .before .before .before .before .before .before .before .before .before .before .count-bindings .ensures) (omega (arith, c .before .before .before .before .before .before .before .before .before .before .before .before .before .before .before .wide .ensures, c .before .before .before .before .before .before .before .before .before .before .before .before .before .before .if2 .left)) (c .before .before .before .before .before .before .before .before .before .before .before .bind-ranges .last .1 .1 .0) (c .before .before .before .before .before .before .before .before .before .before .before .bind-ranges .ensures) (now (c .before .before .before .before .before .before .before .before .before .before .before .before .before .before .before .before .before .before .before .before .before .args .z)) (record { room = c .before .before .before .before .before .before .before .before .before .before .before .before .before .before .before .before .before .before .before .before .before .pre .1 (c .before .before .before .before .before .before .before .before .before .before .before .before .before .before .before .before .before .if1 .left); short = omega (arith, c .before .before .before .before .before .before .before .before .before .before .before .before .before .before .before .before .before .before .before .before .before .pre .2, c .before .before .before .before .before .before .before .before .before .before .before .before .before .before .before .before .before .if1 .left) }) _ _ _ (c .before .before .before .before .before .before .before .rest .result) (c .before .before .layout .given .1) (c .before .before .before .before .before .before .before .rest .ensures .0) (c .if3 .taken), c .before .before .before .before .before .before .before .rest .ensures .1)
 
-ranges-known-requires : tie.Need-ranges-known-requires
-ranges-known-requires c κs = search needs
-
-same-length-3 : tie.Need-same-length-3
-same-length-3 c = search needs
-
 returns-5 : tie.Need-returns-5
 returns-5 c = (read-unknown (c .before .before .before .before .before .before .before .before .before .before .before .before .before .before .before .before .before .before .before .before .before .before .before .args .limits) (now (c .before .before .before .before .before .before .before .before .before .before .before .before .before .before .before .before .before .before .before .before .before .before .before .args .catalogue)) (now (c .before .before .before .before .before .before .before .before .before .before .before .before .before .before .before .before .before .before .before .before .before .before .before .args .q)) (c .before .before .before .before .before .before .before .before .before .before .before .before .before .before .before .before .before .before .before .before .before .before .before .pre .0) (c .before .before .before .before .before .before .before .before .before .before .before .before .before .before .before .before .before .before .before .if1 .left) (c .before .before .before .before .before .before .before .before .before .before .before .before .before .before .before .count-ranges .result) (c .before .before .before .before .before .before .before .before .before .before .before .before .before .before .before .count-ranges .ensures .0) (c .before .before .before .before .before .before .before .before .before .before .before .before .before .before .before .count-ranges .ensures .1) (c .before .before .before .before .before .before .before .before .before .before .before .before .before .before .before .before .before .before .count-bindings .result) (c .before .before .before .before .before .before .before .before .before .before .before .before .before .before .before .before .before .before .count-bindings .ensures) (omega (arith, c .before .before .before .before .before .before .before .before .before .before .before .before .before .before .before .before .before .wide .ensures, c .before .before .before .before .before .before .before .before .before .before .before .before .before .before .before .before .if2 .left)) (c .before .before .before .before .before .before .before .before .before .before .before .before .before .bind-ranges .last .1 .1 .0) (c .before .before .before .before .before .before .before .before .before .before .before .before .before .bind-ranges .ensures) (now (c .before .before .before .before .before .before .before .before .before .before .before .before .before .before .before .before .before .before .before .before .before .before .before .args .z)) (record { room = c .before .before .before .before .before .before .before .before .before .before .before .before .before .before .before .before .before .before .before .before .before .before .before .pre .1 (c .before .before .before .before .before .before .before .before .before .before .before .before .before .before .before .before .before .before .before .if1 .left); short = omega (arith, c .before .before .before .before .before .before .before .before .before .before .before .before .before .before .before .before .before .before .before .before .before .before .before .pre .2, c .before .before .before .before .before .before .before .before .before .before .before .before .before .before .before .before .before .before .before .if1 .left) }) _ _ _ (c .before .before .before .before .before .before .before .before .before .rest .result) (c .before .before .before .before .layout .given .1) (c .before .before .before .before .before .before .before .before .before .rest .ensures .0) (c .before .before .if3 .left) (c .before .ranges-known .result) (c .before .ranges-known .ensures) (c .if4 .taken), c .before .before .before .before .before .before .before .before .before .rest .ensures .1)
-
-bound-once-requires : tie.Need-bound-once-requires
-bound-once-requires c κs = search needs
-
-same-length-4 : tie.Need-same-length-4
-same-length-4 c = search needs
 
 returns-6 : tie.Need-returns-6
 returns-6 c = (read-all (c .before .before .before .before .before .before .before .before .before .before .before .before .before .before .before .before .before .before .before .before .before .before .before .before .args .limits) (now (c .before .before .before .before .before .before .before .before .before .before .before .before .before .before .before .before .before .before .before .before .before .before .before .before .args .catalogue)) (now (c .before .before .before .before .before .before .before .before .before .before .before .before .before .before .before .before .before .before .before .before .before .before .before .before .args .q)) (c .before .before .before .before .before .before .before .before .before .before .before .before .before .before .before .before .before .before .before .before .before .before .before .before .pre .0) (c .before .before .before .before .before .before .before .before .before .before .before .before .before .before .before .before .before .before .before .before .if1 .left) (c .before .before .before .before .before .before .before .before .before .before .before .before .before .before .before .before .count-ranges .result) (c .before .before .before .before .before .before .before .before .before .before .before .before .before .before .before .before .count-ranges .ensures .0) (c .before .before .before .before .before .before .before .before .before .before .before .before .before .before .before .before .count-ranges .ensures .1) (c .before .before .before .before .before .before .before .before .before .before .before .before .before .before .before .before .before .before .before .count-bindings .result) (c .before .before .before .before .before .before .before .before .before .before .before .before .before .before .before .before .before .before .before .count-bindings .ensures) (omega (arith, c .before .before .before .before .before .before .before .before .before .before .before .before .before .before .before .before .before .before .wide .ensures, c .before .before .before .before .before .before .before .before .before .before .before .before .before .before .before .before .before .if2 .left)) (c .before .before .before .before .before .before .before .before .before .before .before .before .before .before .bind-ranges .last .1 .1 .0) (c .before .before .before .before .before .before .before .before .before .before .before .before .before .before .bind-ranges .ensures) (now (c .before .before .before .before .before .before .before .before .before .before .before .before .before .before .before .before .before .before .before .before .before .before .before .before .args .z)) (record { room = c .before .before .before .before .before .before .before .before .before .before .before .before .before .before .before .before .before .before .before .before .before .before .before .before .pre .1 (c .before .before .before .before .before .before .before .before .before .before .before .before .before .before .before .before .before .before .before .before .if1 .left); short = omega (arith, c .before .before .before .before .before .before .before .before .before .before .before .before .before .before .before .before .before .before .before .before .before .before .before .before .pre .2, c .before .before .before .before .before .before .before .before .before .before .before .before .before .before .before .before .before .before .before .before .if1 .left) }) _ _ _ (c .before .before .before .before .before .before .before .before .before .before .rest .result) (c .before .before .before .before .before .layout .given .1) (c .before .before .before .before .before .before .before .before .before .before .rest .ensures .0) (c .before .before .before .if3 .left) (c .before .before .ranges-known .result) (c .before .before .ranges-known .ensures) (c .before .if4 .left) (c .bound-once .result) (c .bound-once .ensures), c .before .before .before .before .before .before .before .before .before .before .rest .ensures .1)
@@ -83,23 +38,23 @@ read-spec =
     tie.close
     (tie.spec
     returns
-    count-bindings-requires
-    wide-requires
+    (λ c κs. search needs)
+    (λ c κs. search needs)
     returns-2
-    count-ranges-requires
-    slice-aggregate-bind-ranges
-    bind-ranges-requires
-    slice-aggregate-rest
-    rest-requires
-    enum-known-layout
-    enum-told
-    same-length
+    (λ c κs. search needs)
+    (λ c. search needs)
+    (λ c κs. search needs)
+    (λ c. search needs)
+    (λ c κs. search needs)
+    (λ c. search needs)
+    (λ c. search needs)
+    (λ c. search needs)
     returns-3
-    same-length-2
+    (λ c. search needs)
     returns-4
-    ranges-known-requires
-    same-length-3
+    (λ c κs. search needs)
+    (λ c. search needs)
     returns-5
-    bound-once-requires
-    same-length-4
+    (λ c κs. search needs)
+    (λ c. search needs)
     returns-6)

@@ -8,14 +8,8 @@ use Rattle.rewriter.proofs.first_child.Lts as lts
 use Rattle.kinds.proofs.byte.Reads as byte-reads
 use Rattle.kinds.proofs.record_length.Reads as record-length-reads
 
-byte-requires : tie.Need-byte-requires
-byte-requires c κs = search needs
-
-record-length-requires : tie.Need-record-length-requires
-record-length-requires c κs = search needs
-
 returns : tie.Need-returns
 returns c = (c .record-length .ensures .0 ∙ ap recordLength (c .before .byte .ensures), c .record-length .ensures .1 .1)
 
 pub first-child-spec : {M : Type 1} → statement M
-first-child-spec = tie.close (tie.spec byte-requires record-length-requires returns)
+first-child-spec = tie.close (tie.spec (λ c κs. search needs) (λ c κs. search needs) returns)

@@ -24,12 +24,6 @@ ranges-requires c κs =
     let c₇ = c .before .before .before .before .before .before .before in let args = c₇ .args in let pre = c₇ .pre in
     ranges-room _ _ _ _ _ _ _ _ _ _ (query-whole (now (args .masks)) (part (now (args .permits)) (now (args .places))) (args .layout) (args .level) (now (args .q)) (now (args .z)) _ _ refl refl _ _ refl refl) (pre)
 
-tail-requires : tie.Need-tail-requires
-tail-requires c κs = search needs
-
-tail-sizes-requires : tie.Need-tail-sizes-requires
-tail-sizes-requires c κs = search needs
-
 targets-requires : tie.Need-targets-requires
 targets-requires c κs =
     let c₅ = c .before .before .before .before .before in let ranges = c₅ .ranges in
@@ -44,12 +38,6 @@ open-ranges-requires c κs =
     let c₉ = c₆ .before .before .before in let ranges = c₉ .ranges in
     let c₁₇ = c₉ .before .before .before .before .before .before .before .before in let args = c₁₇ .args in let pre = c₁₇ .pre in
     openings-room _ _ _ _ _ _ _ _ _ _ (query-whole (now (args .masks)) (part (now (args .permits)) (now (args .places))) (args .layout) (args .level) (now (args .q)) (now (args .z)) _ _ (tail .ensures) (tail-sizes .ensures) _ _ refl refl) (pre) (now (args .out)) _ _ (ranges .ensures) _ _ _ (targets .ensures)
-
-tail-requires-2 : tie.Need-tail-requires-2
-tail-requires-2 c κs = search needs
-
-tail-sizes-requires-2 : tie.Need-tail-sizes-requires-2
-tail-sizes-requires-2 c κs = search needs
 
 condition-requires : tie.Need-condition-requires
 condition-requires c κs =
@@ -106,12 +94,12 @@ rewrite-query-spec =
     tie.close
     (tie.spec
     ranges-requires
-    tail-requires
-    tail-sizes-requires
+    (λ c κs. search needs)
+    (λ c κs. search needs)
     targets-requires
     open-ranges-requires
-    tail-requires-2
-    tail-sizes-requires-2
+    (λ c κs. search needs)
+    (λ c κs. search needs)
     condition-requires
     guard-ranges-requires
     same-length

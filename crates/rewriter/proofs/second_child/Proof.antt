@@ -10,17 +10,8 @@ use Rattle.rewriter.proofs.second_child.Lts as lts
 use Rattle.kinds.proofs.size_at.Reads as size-at-reads
 use Rattle.rewriter.proofs.first_child.Reads as first-child-reads
 
-first-child-requires : tie.Need-first-child-requires
-first-child-requires c κs = search needs
-
-size-at-requires : tie.Need-size-at-requires
-size-at-requires c κs = search needs
-
-add-result : tie.Need-add-result
-add-result c = search needs
-
 returns : tie.Need-returns
 returns c = ap₂ _+_ (c .before .first-child .ensures .0) (c .size-at .ensures .0 ∙ ap (λ (i : ℕ). getD (now (c .before .before .before .before .args .z)) i 0) (c .before .first-child .ensures .0))
 
 pub second-child-spec : {M : Type 1} → statement M
-second-child-spec = tie.close (tie.spec first-child-requires size-at-requires add-result returns)
+second-child-spec = tie.close (tie.spec (λ c κs. search needs) (λ c κs. search needs) (λ c. search needs) returns)

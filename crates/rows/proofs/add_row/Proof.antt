@@ -21,46 +21,15 @@ use Rattle.rows.proofs.capacity.Reads as capacity-reads
 use Rattle.rows.proofs.known.Reads as known-reads
 use Rattle.rows.proofs.link.Reads as link-reads
 
--- src/lib.rt:198:9
 returns : tie.Need-returns
 returns c = (added-full (c .before .before .args .state .rows) (c .before .before .args .state .full) (now (c .before .before .args .answer)) (now (c .before .before .args .row)) (c .if1 .taken), c .before .before .pre)
 
--- src/lib.rt:200:9
-bucket-requires : tie.Need-bucket-requires
-bucket-requires c κs = search needs
-
--- src/lib.rt:201:8
-known-requires : tie.Need-known-requires
-known-requires c κs = search needs
-
--- src/lib.rt:202:9
-same-length : tie.Need-same-length
-same-length c = search needs
-
--- src/lib.rt:202:9
-same-length-2 : tie.Need-same-length-2
-same-length-2 c = search needs
-
--- src/lib.rt:202:9
 returns-2 : tie.Need-returns-2
 returns-2 c =
     let c₅ = c .before .before .before .before .before in let if1 = c₅ .if1 in
     let c₇ = c₅ .before .before in let args = c₇ .args in let pre = c₇ .pre in
     (added-stored (args .state .rows) (args .state .full) (now (args .answer)) (now (args .row)) (if1 .left) (sought-stored (now (args .row)) (args .state .rows) (now (args .answer)) _ (c .before .known .ensures) _ (c .if2 .taken)), pre)
 
--- src/lib.rt:204:8
-capacity-requires : tie.Need-capacity-requires
-capacity-requires c κs = search needs
-
--- src/lib.rt:205:9
-same-length-3 : tie.Need-same-length-3
-same-length-3 c = search needs
-
--- src/lib.rt:205:9
-same-length-4 : tie.Need-same-length-4
-same-length-4 c = search needs
-
--- src/lib.rt:205:9
 returns-3 : tie.Need-returns-3
 returns-3 c =
     let c₃ = c .before .before .before in let known = c₃ .known in
@@ -68,38 +37,22 @@ returns-3 c =
     let c₉ = c₇ .before .before in let args = c₉ .args in let pre = c₉ .pre in
     (added-over (args .state .rows) (args .state .full) (now (args .answer)) (now (args .row)) (if1 .left) (sought-stored (now (args .row)) (args .state .rows) (now (args .answer)) _ (known .ensures) _ (c .before .before .if2 .left)) (omega (arith, c .before .capacity .ensures, c .if3 .taken)), pre)
 
--- src/lib.rt:207:14
 mul-at : tie.Need-mul-at
 mul-at c =
     let c₉ = c .before .before .before .before .before .before .before .before .before in let args = c₉ .args in
     omega (arith, row-room (args .state .rows) (length (now (args .row))) (length (now (args .answer))) (omega (arith, c .before .capacity .ensures, c .if3 .left)))
 
--- src/lib.rt:208:5
 append-requires : tie.Need-append-requires
 append-requires c κs =
     let c₁₀ = c .before .before .before .before .before .before .before .before .before .before in let args = c₁₀ .args in
     omega (arith, row-room (args .state .rows) (length (now (args .row))) (length (now (args .answer))) (omega (arith, c .before .before .capacity .ensures, c .before .if3 .left)))
 
--- src/lib.rt:209:5
 link-requires : tie.Need-link-requires
 link-requires c κs =
     let c₁₀ = c .before .before .before .before .before .before .before .before .before .before in let bucket = c₁₀ .bucket in
     let c₁₃ = c₁₀ .before .before .before in let args = c₁₃ .args in let pre = c₁₃ .pre in
     (pre .short, omega (arith, bucket .ensures, bucket-low (length (now (args .table))) (now (args .row))))
 
--- src/lib.rt:211:15
-add-t16 : tie.Need-add-t16
-add-t16 c = search needs
-
--- src/lib.rt:190:1
-same-length-5 : tie.Need-same-length-5
-same-length-5 c = search needs
-
--- src/lib.rt:190:1
-same-length-6 : tie.Need-same-length-6
-same-length-6 c = search needs
-
--- src/lib.rt:190:1
 returns-4 : tie.Need-returns-4
 returns-4 c =
     let c₂ = c .before .before in let link = c₂ .link in
@@ -119,19 +72,19 @@ add-row-spec =
     tie.close
     (tie.spec
     returns
-    bucket-requires
-    known-requires
-    same-length
-    same-length-2
+    (λ c κs. search needs)
+    (λ c κs. search needs)
+    (λ c. search needs)
+    (λ c. search needs)
     returns-2
-    capacity-requires
-    same-length-3
-    same-length-4
+    (λ c κs. search needs)
+    (λ c. search needs)
+    (λ c. search needs)
     returns-3
     mul-at
     append-requires
     link-requires
-    add-t16
-    same-length-5
-    same-length-6
+    (λ c. search needs)
+    (λ c. search needs)
+    (λ c. search needs)
     returns-4)

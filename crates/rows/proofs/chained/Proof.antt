@@ -25,66 +25,54 @@ Inv-loop answer table rows row bucket first link₀ link = Passed row answer (le
 abbrev μ-loop : tie.MeasureT-loop
 μ-loop answer table rows row bucket first link₀ link = link
 
--- src/lib.rt:139:9
 heads-requires : tie.Need-heads-requires Inv-loop μ-loop
 heads-requires c κs = search needs
 
--- src/lib.rt:140:9
 size-at-requires : tie.Need-size-at-requires Inv-loop μ-loop
 size-at-requires c κs = search needs
 
--- src/lib.rt:141:5
 loop-holds : tie.Need-loop-holds Inv-loop μ-loop
 loop-holds c =
     let c₃ = c .before .before .before in let args = c₃ .args in let pre = c₃ .pre in
     let answer = now (args .answer) in let row = now (args .row) in let table = now (args .table) in
     passed-start row answer (length table) _ _ (subst (LastOf (λ (j : ℕ). bucketAt (length table) (length row) answer j ≡ bucketOf (length table) row) (min (args .rows) (nextsOf (length table)))) (sym (c .size-at .ensures .0 ∙ ap (λ (h : ℕ). getD table h 0) (pre .1))) (pre .0 .chained .first (bucketOf (length table) row) (bucket-low (length table) row)))
 
--- src/lib.rt:142:19
 sub-at : tie.Need-sub-at Inv-loop μ-loop
 sub-at c = search needs
 
--- src/lib.rt:142:18
 mul-at : tie.Need-mul-at Inv-loop μ-loop
 mul-at c =
     let c₁ = c .before in let loop = c₁ .loop in
     let c₅ = c₁ .before .before .before .before in let args = c₅ .args in let pre = c₅ .pre in
     omega (arith, row-within (loop .link) (args .rows) (length (now (args .row))) (length (now (args .answer))) (c .loop-test .taken) (omega (arith, loop .inv .low)) (pre .0 .room))
 
--- src/lib.rt:143:19
 add-end : tie.Need-add-end Inv-loop μ-loop
 add-end c =
     let c₁ = c .before in let loop = c₁ .loop in
     let c₅ = c₁ .before .before .before .before in let args = c₅ .args in let pre = c₅ .pre in
     omega (arith, row-within (loop .link) (args .rows) (length (now (args .row))) (length (now (args .answer))) (c .loop-test .taken) (omega (arith, loop .inv .low)) (pre .0 .room))
 
--- src/lib.rt:144:22
 mul-same : tie.Need-mul-same Inv-loop μ-loop
 mul-same c =
     let c₁ = c .before in let loop = c₁ .loop in
     let c₅ = c₁ .before .before .before .before in let args = c₅ .args in let pre = c₅ .pre in
     omega (arith, row-within (loop .link) (args .rows) (length (now (args .row))) (length (now (args .answer))) (c .loop-test .taken) (omega (arith, loop .inv .low)) (pre .0 .room))
 
--- src/lib.rt:144:22
 sub-same : tie.Need-sub-same Inv-loop μ-loop
 sub-same c = search needs
 
--- src/lib.rt:144:22
 part-same-start : tie.Need-part-same-start Inv-loop μ-loop
 part-same-start c = search needs
 
--- src/lib.rt:144:22
 part-same-end : tie.Need-part-same-end Inv-loop μ-loop
 part-same-end c =
     let c₁ = c .before in let loop = c₁ .loop in
     let c₅ = c₁ .before .before .before .before in let args = c₅ .args in let pre = c₅ .pre in
     omega (arith, row-within (loop .link) (args .rows) (length (now (args .row))) (length (now (args .answer))) (c .loop-test .taken) (omega (arith, loop .inv .low)) (pre .0 .room))
 
--- src/lib.rt:144:12
 same-requires : tie.Need-same-requires Inv-loop μ-loop
 same-requires c κs = search needs
 
--- src/lib.rt:145:13
 returns : tie.Need-returns Inv-loop μ-loop
 returns c =
     let c₁ = c .before in let same = c₁ .same in
@@ -94,11 +82,9 @@ returns c =
     let answer = now (args .answer) in let row = now (args .row) in
     sym (passed-hit row answer (length (now (args .table))) _ (loop .link) (loop-test .taken) (loop .inv .low) (λ i j a b. pre .0 .distinct i j a (omega arith)) (row-part answer ((loop .link - 1) * length row) (loop .link - 1) row (same .result) true refl (same .ensures) (c .if1 .taken)))
 
--- src/lib.rt:147:47
 sub-size-at : tie.Need-sub-size-at Inv-loop μ-loop
 sub-size-at c = search needs
 
--- src/lib.rt:147:38
 add-size-at : tie.Need-add-size-at Inv-loop μ-loop
 add-size-at c =
     let c₄ = c .before .before .before .before in let loop = c₄ .loop in
@@ -106,11 +92,9 @@ add-size-at c =
     let c₈ = c₆ .before .before in let args = c₈ .args in let pre = c₈ .pre in
     omega (arith, heads .ensures, heads-most (length (now (args .table))), loop .inv .low, pre .0 .short)
 
--- src/lib.rt:147:9
 size-at-requires-2 : tie.Need-size-at-requires-2 Inv-loop μ-loop
 size-at-requires-2 c κs = search needs
 
--- src/lib.rt:141:5
 loop-less : tie.Need-loop-less Inv-loop μ-loop
 loop-less c =
     let c₄ = c .before .before .before .before in let loop-test = c₄ .loop-test in
@@ -119,7 +103,6 @@ loop-less c =
     let c₉ = c₇ .before .before in let args = c₉ .args in let pre = c₉ .pre in
     omega (arith, (c .size-at2 .ensures .0 ∙ ap (λ (h : ℕ). getD (now (args .table)) (h + (loop .link - 1)) 0) (heads .ensures)), (pre .0 .chained .next (loop .link - 1) (omega (arith, loop .inv .low, loop-test .taken))) .low, loop-test .taken)
 
--- src/lib.rt:141:5
 loop-again : tie.Need-loop-again Inv-loop μ-loop
 loop-again c =
     let c₂ = c .before .before in let same = c₂ .same in
@@ -130,15 +113,12 @@ loop-again c =
     let answer = now (args .answer) in let row = now (args .row) in let table = now (args .table) in
     passed-step row answer (length table) _ (loop .link - 1) (loop .link) _ (omega (arith, loop-test .taken)) (row-part answer ((loop .link - 1) * length row) (loop .link - 1) row (same .result) false refl (same .ensures) (c .before .if1 .left)) (loop .inv) (subst (LastOf (λ (j : ℕ). bucketAt (length table) (length row) answer j ≡ bucketAt (length table) (length row) answer (loop .link - 1)) (loop .link - 1)) (sym (c .size-at2 .ensures .0 ∙ ap (λ (h : ℕ). getD table (h + (loop .link - 1)) 0) (heads .ensures))) (pre .0 .chained .next (loop .link - 1) (omega (arith, loop .inv .low, loop-test .taken))))
 
--- src/lib.rt:135:1
 nexts-requires : tie.Need-nexts-requires Inv-loop μ-loop
 nexts-requires c κs = search needs
 
--- src/lib.rt:175:17
 least-requires : tie.Need-least-requires Inv-loop μ-loop
 least-requires c κs = search needs
 
--- src/lib.rt:155:1
 returns-2 : tie.Need-returns-2 Inv-loop μ-loop
 returns-2 c =
     let c₁ = c .before in let nexts = c₁ .nexts in

@@ -5,23 +5,18 @@ use Rattle.rows.proofs.fold.Tie as tie
 use Rattle.rows.proofs.fold.Reads as reads
 use Rattle.rows.proofs.fold.Lts as lts
 
--- src/lib.rt:84:17
 sub-result : tie.Need-sub-result
 sub-result c = sub-fits (c .before .args .x) (c .before .fits .x) (c .if1 .taken)
 
--- src/lib.rt:84:16
 cast-result : tie.Need-cast-result
 cast-result c = cast-below (c .before .args .x) (c .before .fits .x) (c .if1 .taken)
 
--- src/lib.rt:84:43
 cast-result-2 : tie.Need-cast-result-2
 cast-result-2 c = cast-above (c .before .args .x) (c .before .fits .x) (c .if1 .left)
 
--- src/lib.rt:81:1
 returns : tie.Need-returns
 returns c = is-below (c .before .args .x) (c .before .fits .x) (c .if1 .taken)
 
--- src/lib.rt:81:1
 returns-2 : tie.Need-returns-2
 returns-2 c = is-above (c .before .args .x) (c .before .fits .x) (c .if1 .left)
 

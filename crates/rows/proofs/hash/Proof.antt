@@ -21,35 +21,27 @@ Inv-loop row h₀ i₀ h i = (hashed 0 row ≡ hashed h (drop i row)) × (i ≤ 
 abbrev μ-loop : tie.MeasureT-loop
 μ-loop row h₀ i₀ h i = length row - i
 
--- src/lib.rt:100:5
 loop-holds : tie.Need-loop-holds Inv-loop μ-loop
 loop-holds c = search needs
 
--- src/lib.rt:101:17
 mul-x : tie.Need-mul-x Inv-loop μ-loop
 mul-x c = search needs
 
--- src/lib.rt:101:17
 shared-slice-copy-out-x : tie.Need-shared-slice-copy-out-x Inv-loop μ-loop
 shared-slice-copy-out-x c = search needs
 
--- src/lib.rt:102:9
 mix-requires : tie.Need-mix-requires Inv-loop μ-loop
 mix-requires c κs = search needs
 
--- src/lib.rt:103:9
 add-i : tie.Need-add-i Inv-loop μ-loop
 add-i c = search needs
 
--- src/lib.rt:100:5
 loop-less : tie.Need-loop-less Inv-loop μ-loop
 loop-less c = search needs
 
--- src/lib.rt:100:5
 loop-again : tie.Need-loop-again Inv-loop μ-loop
 loop-again c = (c .before .before .before .loop .inv .0 ∙ hash-next (now (c .before .before .before .before .args .row)) (c .before .before .before .loop .i) (c .before .before .before .loop .h) _ (omega arith) (record { sfits = c .before .x .given }) (c .mix .ensures .0), omega arith, c .mix .ensures .1)
 
--- src/lib.rt:95:1
 returns : tie.Need-returns Inv-loop μ-loop
 returns c = sym (c .before .loop .inv .0 ∙ hash-end (now (c .before .before .args .row)) (c .before .loop .i) (c .before .loop .h) (omega arith))
 

@@ -6,11 +6,9 @@ use Rattle.rows.proofs.heads.Tie as tie
 use Rattle.rows.proofs.heads.Reads as reads
 use Rattle.rows.proofs.heads.Lts as lts
 
--- src/lib.rt:109:1
 returns : tie.Need-returns
 returns c = sym (rw (lt-ltb (c .before .args .length) 8192 (c .if1 .taken)))
 
--- src/lib.rt:109:1
 returns-2 : tie.Need-returns-2
 returns-2 c = sym (rw (le-ltb (c .before .args .length) 8192 (c .if1 .left)))
 

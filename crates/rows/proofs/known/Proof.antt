@@ -16,62 +16,35 @@ use Rattle.rows.proofs.chained.Reads as chained-reads
 use Rattle.rows.proofs.find.Reads as find-reads
 use Rattle.rows.proofs.nexts.Reads as nexts-reads
 
--- src/lib.rt:184:9
-chained-requires : tie.Need-chained-requires
-chained-requires c κs = search needs
-
--- src/lib.rt:186:9
 returns : tie.Need-returns
 returns c = known-linked (now (c .before .before .before .args .row)) (now (c .before .before .before .args .answer)) (c .before .before .before .args .rows) (nextsOf (length (now (c .before .before .before .args .table)))) _ (c .before .chained .ensures) (c .if1 .taken)
 
--- src/lib.rt:188:9
-nexts-requires : tie.Need-nexts-requires
-nexts-requires c κs = search needs
-
--- src/lib.rt:190:9
 returns-2 : tie.Need-returns-2
 returns-2 c =
     let c₃ = c .before .before .before in let chained = c₃ .chained in
     let c₅ = c₃ .before .before in let args = c₅ .args in
     known-all (now (args .row)) (now (args .answer)) (args .rows) (nextsOf (length (now (args .table)))) _ (chained .ensures) (omega (arith, c .before .nexts .ensures, c .if2 .taken))
 
--- src/lib.rt:192:14
 mul-at : tie.Need-mul-at
 mul-at c =
     let c₅ = c .before .before .before .before .before in let args = c₅ .args in let pre = c₅ .pre in
     omega (arith, rest-within (c .before .nexts .result) (args .rows) (length (now (args .row))) (length (now (args .answer))) (c .if2 .left) (pre .0 .room))
 
--- src/lib.rt:193:21
 mul-find : tie.Need-mul-find
 mul-find c =
     let c₅ = c .before .before .before .before .before in let args = c₅ .args in let pre = c₅ .pre in
     omega (arith, rest-within (c .before .nexts .result) (args .rows) (length (now (args .row))) (length (now (args .answer))) (c .if2 .left) (pre .0 .room))
 
--- src/lib.rt:193:21
 sub-find : tie.Need-sub-find
 sub-find c =
     let c₅ = c .before .before .before .before .before in let args = c₅ .args in let pre = c₅ .pre in
     omega (arith, rest-within (c .before .nexts .result) (args .rows) (length (now (args .row))) (length (now (args .answer))) (c .if2 .left) (pre .0 .room))
 
--- src/lib.rt:193:21
 part-find-start : tie.Need-part-find-start
 part-find-start c =
     let c₅ = c .before .before .before .before .before in let args = c₅ .args in let pre = c₅ .pre in
     omega (arith, rest-within (c .before .nexts .result) (args .rows) (length (now (args .row))) (length (now (args .answer))) (c .if2 .left) (pre .0 .room))
 
--- src/lib.rt:193:21
-part-find-end : tie.Need-part-find-end
-part-find-end c = search needs
-
--- src/lib.rt:193:36
-sub-find-2 : tie.Need-sub-find-2
-sub-find-2 c = search needs
-
--- src/lib.rt:193:9
-find-requires : tie.Need-find-requires
-find-requires c κs = search needs
-
--- src/lib.rt:195:17
 add-tried : tie.Need-add-tried
 add-tried c =
     let c₃ = c .before .before .before in let if2 = c₃ .if2 in
@@ -80,7 +53,6 @@ add-tried c =
     let answer = now (args .answer) in let row = now (args .row) in
     omega (arith, ap (λ (s : Search). s .tried) (c .before .find .ensures), sought-most row ((args .rows) - nexts .result) (take (length answer - nexts .result * length row) (drop (nexts .result * length row) answer)), if2 .left)
 
--- src/lib.rt:180:1
 returns-3 : tie.Need-returns-3
 returns-3 c =
     let c₃ = c .before .before .before in let if2 = c₃ .if2 in
@@ -94,16 +66,16 @@ pub known-spec : {M : Type 1} → statement M
 known-spec =
     tie.close
     (tie.spec
-    chained-requires
+    (λ c κs. search needs)
     returns
-    nexts-requires
+    (λ c κs. search needs)
     returns-2
     mul-at
     mul-find
     sub-find
     part-find-start
-    part-find-end
-    sub-find-2
-    find-requires
+    (λ c. search needs)
+    (λ c. search needs)
+    (λ c κs. search needs)
     add-tried
     returns-3)

@@ -13,51 +13,9 @@ use Rattle.rows.proofs.heads.Reads as heads-reads
 use Rattle.rows.proofs.narrow.Reads as narrow-reads
 use Rattle.rows.proofs.nexts.Reads as nexts-reads
 
--- src/lib.rt:180:8
-nexts-requires : tie.Need-nexts-requires
-nexts-requires c κs = search needs
-
--- src/lib.rt:181:9
 returns : tie.Need-returns
 returns c = λ b e f. chained-full b (c .before .before .before .args .n) (now (c .before .before .before .args .table)) (omega (arith, c .before .nexts .ensures, c .if1 .taken)) f
 
--- src/lib.rt:183:15
-mul-old : tie.Need-mul-old
-mul-old c = search needs
-
--- src/lib.rt:183:15
-slice-read-old : tie.Need-slice-read-old
-slice-read-old c = search needs
-
--- src/lib.rt:184:14
-heads-requires : tie.Need-heads-requires
-heads-requires c κs = search needs
-
--- src/lib.rt:184:14
-add-at : tie.Need-add-at
-add-at c = search needs
-
--- src/lib.rt:185:5
-mul-table : tie.Need-mul-table
-mul-table c = search needs
-
--- src/lib.rt:185:5
-slice-write-table : tie.Need-slice-write-table
-slice-write-table c = search needs
-
--- src/lib.rt:186:28
-add-narrow : tie.Need-add-narrow
-add-narrow c = search needs
-
--- src/lib.rt:186:21
-narrow-requires : tie.Need-narrow-requires
-narrow-requires c κs = search needs
-
--- src/lib.rt:186:5
-mul-table-2 : tie.Need-mul-table-2
-mul-table-2 c = search needs
-
--- src/lib.rt:186:5
 slice-write-table-2 : tie.Need-slice-write-table-2
 slice-write-table-2 c =
     let c₃ = c .before .before .before in let if1 = c₃ .if1 in
@@ -66,11 +24,6 @@ slice-write-table-2 c =
     let table = now (args .table) in
     rw (length-set table (c .before .heads .result + (args .n)) (getD table (args .bucket) 0)) (omega (arith, nexts .ensures, if1 .left, pre .1))
 
--- src/lib.rt:176:1
-same-length : tie.Need-same-length
-same-length c = search needs
-
--- src/lib.rt:176:1
 returns-2 : tie.Need-returns-2
 returns-2 c =
     let c₁ = c .before in let heads = c₁ .heads in
@@ -83,17 +36,17 @@ pub link-spec : {M : Type 1} → statement M
 link-spec =
     tie.close
     (tie.spec
-    nexts-requires
+    (λ c κs. search needs)
     returns
-    mul-old
-    slice-read-old
-    heads-requires
-    add-at
-    mul-table
-    slice-write-table
-    add-narrow
-    narrow-requires
-    mul-table-2
+    (λ c. search needs)
+    (λ c. search needs)
+    (λ c κs. search needs)
+    (λ c. search needs)
+    (λ c. search needs)
+    (λ c. search needs)
+    (λ c. search needs)
+    (λ c κs. search needs)
+    (λ c. search needs)
     slice-write-table-2
-    same-length
+    (λ c. search needs)
     returns-2)

@@ -11,21 +11,8 @@ use Rattle.rows.proofs.mix.Reads as reads
 use Rattle.rows.proofs.mix.Lts as lts
 use Rattle.rows.proofs.fold.Reads as fold-reads
 
--- src/lib.rt:92:10
-fold-requires : tie.Need-fold-requires
-fold-requires c κs = search needs
-
--- src/lib.rt:92:6
-add-result : tie.Need-add-result
-add-result c = search needs
-
--- src/lib.rt:92:5
-mul-result : tie.Need-mul-result
-mul-result c = search needs
-
--- src/lib.rt:87:1
 returns : tie.Need-returns
 returns c = (ap (λ (m : ℕ). (c .before .args .h + m % 4294967296) * 1540483477 / 32768 % 4294967296) (c .fold .ensures ∙ ap mag (toZ-ofZ {w = w64} (c .before .fits .x))), omega arith)
 
 pub mix-spec : {M : Type 1} → statement M
-mix-spec = tie.close (tie.spec fold-requires add-result mul-result returns)
+mix-spec = tie.close (tie.spec (λ c κs. search needs) (λ c. search needs) (λ c. search needs) returns)

@@ -20,23 +20,18 @@ Inv-loop q seen₀ at₀ seen at = (fresh seen (variables (flatBindings (drop at
 abbrev μ-loop : tie.MeasureT-loop
 μ-loop q seen₀ at₀ seen at = length q - at
 
--- src/lib.rt:133:5
 loop-holds : tie.Need-loop-holds Inv-loop μ-loop
 loop-holds c = (refl, c .before .before .pre, refl)
 
--- src/lib.rt:134:24
 binding-requires : tie.Need-binding-requires Inv-loop μ-loop
 binding-requires c κs = search needs
 
--- src/lib.rt:134:13
 mark-requires : tie.Need-mark-requires Inv-loop μ-loop
 mark-requires c κs = search needs
 
--- src/lib.rt:135:13
 same-length : tie.Need-same-length Inv-loop μ-loop
 same-length c = search needs
 
--- src/lib.rt:135:13
 returns : tie.Need-returns Inv-loop μ-loop
 returns c =
     let c₃ = c .before .before .before in let mark = c₃ .mark in
@@ -46,19 +41,15 @@ returns c =
     let c₁₀ = c₇ .before .before .before in let args = c₁₀ .args in
     fresh-stopped (now (args .q)) (loop .at) _ (loop-test .taken) refl (binding .result) (binding .ensures) (loop .seen) (mark .last .0) _ (mark .result) (loop .inv .0) (mark .ensures) (c .if1 .taken)
 
--- src/lib.rt:137:15
 step-requires : tie.Need-step-requires Inv-loop μ-loop
 step-requires c κs = search needs
 
--- src/lib.rt:137:9
 add-at : tie.Need-add-at Inv-loop μ-loop
 add-at c = search needs
 
--- src/lib.rt:133:5
 loop-less : tie.Need-loop-less Inv-loop μ-loop
 loop-less c = search needs
 
--- src/lib.rt:133:5
 loop-again : tie.Need-loop-again Inv-loop μ-loop
 loop-again c =
     let c₄ = c .before .before .before .before in let mark = c₄ .mark in
@@ -68,11 +59,9 @@ loop-again c =
     let c₁₁ = c₈ .before .before .before in let args = c₁₁ .args in
     (fresh-went (now (args .q)) (loop .at) _ (loop-test .taken) (c .step .ensures .0) (binding .result) (binding .ensures) (loop .seen) (mark .last .0) _ (mark .result) (loop .inv .0) (mark .ensures) (c .before .if1 .left), search needs, search needs)
 
--- src/lib.rt:128:1
 same-length-2 : tie.Need-same-length-2 Inv-loop μ-loop
 same-length-2 c = search needs
 
--- src/lib.rt:128:1
 returns-2 : tie.Need-returns-2 Inv-loop μ-loop
 returns-2 c = fresh-end (now (c .before .before .before .before .args .q)) (c .before .loop .at) (c .loop-test .left) _ _ (c .before .loop .inv .0)
 

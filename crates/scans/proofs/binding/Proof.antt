@@ -38,39 +38,9 @@ other (R.Permit a b c) h = refl
 other R.Unknown h = refl
 other R.Short h = refl
 
--- src/lib.rt:54:18
-byte-requires : tie.Need-byte-requires
-byte-requires c κs = search needs
-
--- src/lib.rt:54:9
-may-bind-requires : tie.Need-may-bind-requires
-may-bind-requires c κs = search needs
-
--- src/lib.rt:55:9
 returns : tie.Need-returns
 returns c = binds-nothing (now (c .before .before .before .before .args .q)) (c .before .before .before .before .args .at) (c .before .before .byte .result) (c .before .before .byte .ensures) (c .before .may-bind .ensures (not-yes (c .before .may-bind .result) (c .if1 .taken)))
 
--- src/lib.rt:57:23
-tail-requires : tie.Need-tail-requires
-tail-requires c κs = search needs
-
--- src/lib.rt:57:11
-read-requires : tie.Need-read-requires
-read-requires c κs = search needs
-
--- src/lib.rt:58:23
-enum-known-v : tie.Need-enum-known-v
-enum-known-v c = search needs
-
--- src/lib.rt:59:22
-enum-known-v-2 : tie.Need-enum-known-v-2
-enum-known-v-2 c = search needs
-
--- src/lib.rt:60:30
-enum-known-v-3 : tie.Need-enum-known-v-3
-enum-known-v-3 c = search needs
-
--- src/lib.rt:51:1
 returns-2 : tie.Need-returns-2
 returns-2 c =
     let c₃ = c .before .before .before in let read = c₃ .read in
@@ -78,7 +48,6 @@ returns-2 c =
     let c₉ = c₄ .before .before .before .before .before in let args = c₉ .args in
     found bindingOf _ _ (args .at) _ _ (tail .ensures) (read .ensures) (c .before .v .given .1)
 
--- src/lib.rt:51:1
 returns-3 : tie.Need-returns-3
 returns-3 c =
     let c₃ = c .before .before .before in let read = c₃ .read in
@@ -86,7 +55,6 @@ returns-3 c =
     let c₉ = c₄ .before .before .before .before .before in let args = c₉ .args in
     found bindingOf _ _ (args .at) _ _ (tail .ensures) (read .ensures) (c .before .v2 .given .1)
 
--- src/lib.rt:51:1
 returns-4 : tie.Need-returns-4
 returns-4 c =
     let c₃ = c .before .before .before in let read = c₃ .read in
@@ -94,7 +62,6 @@ returns-4 c =
     let c₉ = c₄ .before .before .before .before .before in let args = c₉ .args in
     found bindingOf _ _ (args .at) _ _ (tail .ensures) (read .ensures) (c .before .v3 .given .1)
 
--- src/lib.rt:51:1
 returns-5 : tie.Need-returns-5
 returns-5 c = other (c .before .read .result) (c .match .keys4) ∙ ap bindingOf (c .before .read .ensures ∙ ap recordAt (c .before .before .tail .ensures))
 
@@ -102,14 +69,14 @@ pub binding-spec : {M : Type 1} → statement M
 binding-spec =
     tie.close
     (tie.spec
-    byte-requires
-    may-bind-requires
+    (λ c κs. search needs)
+    (λ c κs. search needs)
     returns
-    tail-requires
-    read-requires
-    enum-known-v
-    enum-known-v-2
-    enum-known-v-3
+    (λ c κs. search needs)
+    (λ c κs. search needs)
+    (λ c. search needs)
+    (λ c. search needs)
+    (λ c. search needs)
     returns-2
     returns-3
     returns-4

@@ -20,35 +20,27 @@ Inv-loop q n₀ at₀ n at = (n + length (flatBindings (drop at q)) ≡ length (
 abbrev μ-loop : tie.MeasureT-loop
 μ-loop q n₀ at₀ n at = length q - at
 
--- src/lib.rt:73:5
 loop-holds : tie.Need-loop-holds Inv-loop μ-loop
 loop-holds c = (omega arith, omega arith)
 
--- src/lib.rt:74:18
 binding-requires : tie.Need-binding-requires Inv-loop μ-loop
 binding-requires c κs = search needs
 
--- src/lib.rt:74:14
 one-requires : tie.Need-one-requires Inv-loop μ-loop
 one-requires c κs = search needs
 
--- src/lib.rt:74:9
 add-n : tie.Need-add-n Inv-loop μ-loop
 add-n c = search needs
 
--- src/lib.rt:75:15
 step-requires : tie.Need-step-requires Inv-loop μ-loop
 step-requires c κs = search needs
 
--- src/lib.rt:75:9
 add-at : tie.Need-add-at Inv-loop μ-loop
 add-at c = search needs
 
--- src/lib.rt:73:5
 loop-less : tie.Need-loop-less Inv-loop μ-loop
 loop-less c = search needs
 
--- src/lib.rt:73:5
 loop-again : tie.Need-loop-again Inv-loop μ-loop
 loop-again c =
     let c₂ = c .before .before in let binding = c₂ .binding in
@@ -57,7 +49,6 @@ loop-again c =
     let c₆ = c₄ .before .before in let args = c₆ .args in
     (count-on (now (args .q)) (loop .at) _ (loop-test .taken) (c .step .ensures .0) (binding .result) (binding .ensures) _ (loop .n) _ (c .before .one .ensures .0) (loop .inv .0), omega arith)
 
--- src/lib.rt:68:1
 returns : tie.Need-returns Inv-loop μ-loop
 returns c = count-end (now (c .before .before .before .args .q)) (c .before .loop .at) (c .loop-test .left) _ _ (c .before .loop .inv .0)
 

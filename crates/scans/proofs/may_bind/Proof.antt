@@ -6,19 +6,15 @@ use Rattle.scans.proofs.may_bind.Lts as lts
 use mathlib.Core.Path.{sym}
 use Rattle.model.proofs.Tests.{clash}
 
--- src/lib.rt:29:1
 returns : tie.Need-returns
 returns c = λ h. clash (sym h)
 
--- src/lib.rt:29:1
 returns-2 : tie.Need-returns-2
 returns-2 c = λ h. clash (sym h)
 
--- src/lib.rt:29:1
 returns-3 : tie.Need-returns-3
 returns-3 c = λ h. clash (sym h)
 
--- src/lib.rt:29:1
 returns-4 : tie.Need-returns-4
 returns-4 c = λ h. (c .match .rest .0 .0 .1, c .match .rest .0 .1, c .match .rest .1)
 

@@ -8,17 +8,8 @@ use Rattle.kinds.proofs.record_length.Reads as record-length-reads
 use mathlib.Core.Path.{ap, _∙_}
 use Rattle.kinds.specs.Tables.{recordLength}
 
--- src/lib.rt:54:26
-byte-requires : tie.Need-byte-requires
-byte-requires c κs = search needs
-
--- src/lib.rt:54:5
-record-length-requires : tie.Need-record-length-requires
-record-length-requires c κs = search needs
-
--- src/lib.rt:50:1
 returns : tie.Need-returns
 returns c = (c .record-length .ensures .0 ∙ ap recordLength (c .before .byte .ensures), c .record-length .ensures .1)
 
 pub step-spec : {M : Type 1} → statement M
-step-spec = tie.close (tie.spec byte-requires record-length-requires returns)
+step-spec = tie.close (tie.spec (λ c κs. search needs) (λ c κs. search needs) returns)

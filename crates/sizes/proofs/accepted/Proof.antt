@@ -77,47 +77,24 @@ aggregate-arm t r f v s a x e h k = k ∙ rw (← e, h)
 aggregate-condition : (t : Bool) (r : Record) (f v s a : ℕ) → R.Aggregate f v s a ≡ r → t ≡ false → false ≡ accepts t r
 aggregate-condition t r f v s a e h = rw (← e, h)
 
--- src/lib.rt:19:25
-enum-known-r : tie.Need-enum-known-r
-enum-known-r c = search needs
-
--- src/lib.rt:19:56
-is-operator-requires : tie.Need-is-operator-requires
-is-operator-requires c κs = search needs
-
--- src/lib.rt:21:27
-enum-known-r-2 : tie.Need-enum-known-r-2
-enum-known-r-2 c = search needs
-
--- src/lib.rt:21:52
-is-function-requires : tie.Need-is-function-requires
-is-function-requires c κs = search needs
-
--- src/lib.rt:14:1
 returns : tie.Need-returns
 returns c = condition-arm (c .before .args .term) (c .before .args .r) (c .match .keys1)
 
--- src/lib.rt:14:1
 returns-2 : tie.Need-returns-2
 returns-2 c = compare-term _ _ _ (sym (c .before .before .r .given .1)) (c .if1 .taken)
 
--- src/lib.rt:14:1
 returns-3 : tie.Need-returns-3
 returns-3 c = compare-arm _ _ _ _ (sym (c .before .before .before .r .given .1)) (c .before .if1 .left) (c .is-operator .ensures)
 
--- src/lib.rt:14:1
 returns-4 : tie.Need-returns-4
 returns-4 c = term-arm (c .before .args .term) (c .before .args .r) (c .match .keys3)
 
--- src/lib.rt:14:1
 returns-5 : tie.Need-returns-5
 returns-5 c = aggregate-arm _ _ _ _ _ _ _ (sym (c .before .before .before .r2 .given .1)) (c .before .if2 .taken) (c .is-function .ensures)
 
--- src/lib.rt:14:1
 returns-6 : tie.Need-returns-6
 returns-6 c = aggregate-condition _ _ _ _ _ _ (sym (c .before .before .r2 .given .1)) (c .if2 .left)
 
--- src/lib.rt:14:1
 returns-7 : tie.Need-returns-7
 returns-7 c = other-arm (c .before .args .term) (c .before .args .r) (c .match .keys5)
 
@@ -125,10 +102,10 @@ pub accepted-spec : {M : Type 1} → statement M
 accepted-spec =
     tie.close
     (tie.spec
-    enum-known-r
-    is-operator-requires
-    enum-known-r-2
-    is-function-requires
+    (λ c. search needs)
+    (λ c κs. search needs)
+    (λ c. search needs)
+    (λ c κs. search needs)
     returns
     returns-2
     returns-3

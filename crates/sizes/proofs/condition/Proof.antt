@@ -9,26 +9,15 @@ use native.Mathlib.Omega.{arith}
 use denote.Ref.{now}
 use Rattle.sizes.proofs.Reader.{is-condition, past-condition, part-room}
 
--- src/lib.rt:86:9
 returns : tie.Need-returns
 returns c = past-condition (c .before .before .before .args .level) (now (c .before .before .before .args .q)) (c .before .before .before .args .at) (now (c .before .before .before .args .z)) (c .if1 .taken)
 
--- src/lib.rt:88:13
-tail-requires : tie.Need-tail-requires
-tail-requires c κs = search needs
-
--- src/lib.rt:88:5
 measure-requires : tie.Need-measure-requires
 measure-requires c κs =
     let c₁ = c .before in let tail = c₁ .tail in
     let c₅ = c₁ .before .before .before .before in let args = c₅ .args in let good = c₅ .good in
     part-room (now (args .q)) (now (tail .result)) (args .at) (tail .ensures) (c .before .before .if1 .left) (omega (arith, good))
 
--- src/lib.rt:81:1
-same-length : tie.Need-same-length
-same-length c = search needs
-
--- src/lib.rt:81:1
 returns-2 : tie.Need-returns-2
 returns-2 c =
     let c₂ = c .before .before in let measure = c₂ .measure in
@@ -37,4 +26,4 @@ returns-2 c =
     is-condition (args .level) (now (args .q)) (now (tail .result)) (args .at) (now (args .z)) (measure .last .1 .0) (measure .result) (tail .ensures) (measure .ensures .0)
 
 pub condition-spec : {M : Type 1} → statement M
-condition-spec = tie.close (tie.spec returns tail-requires measure-requires same-length returns-2)
+condition-spec = tie.close (tie.spec returns (λ c κs. search needs) measure-requires (λ c. search needs) returns-2)

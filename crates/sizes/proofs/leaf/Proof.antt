@@ -8,9 +8,6 @@ use Rattle.sizes.proofs.Steps.{constant-leaf, attribute-leaf}
 returns : tie.Need-returns
 returns c = λ h. absurd (h refl)
 
-byte-requires : tie.Need-byte-requires
-byte-requires c κs = search needs
-
 returns-2 : tie.Need-returns-2
 returns-2 c =
     let c₃ = c .before .before .before in let if1 = c₃ .if1 in
@@ -34,4 +31,4 @@ returns-6 c = λ h. absurd (h refl)
 
 pub leaf-spec : {M : Type 1} → statement M
 leaf-spec =
-    tie.close (tie.spec returns byte-requires returns-2 returns-3 returns-4 returns-5 returns-6)
+    tie.close (tie.spec returns (λ c κs. search needs) returns-2 returns-3 returns-4 returns-5 returns-6)

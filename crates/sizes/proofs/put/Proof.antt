@@ -24,33 +24,14 @@ inside : (z : List ℕ) (p n : ℕ) → n < 65536 → set z p n ≡ store z p n
 unfolding store
 inside z p n h = simp (lt-ltb _ _ h)
 
--- src/lib.rt:44:9
 returns : tie.Need-returns
 returns c = large (now (c .before .args .z)) (c .before .args .at) (c .before .args .n) (c .if1 .taken)
 
--- src/lib.rt:47:9
 returns-2 : tie.Need-returns-2
 returns-2 c = outside (now (c .before .before .args .z)) (c .before .before .args .at) (c .before .before .args .n) (c .before .if1 .left) (c .if2 .taken)
 
--- src/lib.rt:49:13
-cast-z : tie.Need-cast-z
-cast-z c = search needs
-
--- src/lib.rt:49:5
-mul-z : tie.Need-mul-z
-mul-z c = search needs
-
--- src/lib.rt:49:5
-slice-write-z : tie.Need-slice-write-z
-slice-write-z c = search needs
-
--- src/lib.rt:40:1
-same-length : tie.Need-same-length
-same-length c = search needs
-
--- src/lib.rt:40:1
 returns-3 : tie.Need-returns-3
 returns-3 c = inside (now (c .before .before .args .z)) (c .before .before .args .at) (c .before .before .args .n) (c .before .if1 .left)
 
 pub put-spec : {M : Type 1} → statement M
-put-spec = tie.close (tie.spec returns returns-2 cast-z mul-z slice-write-z same-length returns-3)
+put-spec = tie.close (tie.spec returns returns-2 (λ c. search needs) (λ c. search needs) (λ c. search needs) (λ c. search needs) returns-3)

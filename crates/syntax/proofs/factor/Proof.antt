@@ -5,12 +5,6 @@ use borrow.Author.Needs.{needs}
 use Rattle.syntax.proofs.factor.Statement.{statement}
 use Rattle.syntax.proofs.factor.Tie as tie
 
-add-result : tie.Need-add-result
-add-result c = search needs
-
-add-result-2 : tie.Need-add-result-2
-add-result-2 c = search needs
-
 returns : tie.Need-returns
 unfolding move
 returns c = sym (ap (move 13) (c .match .keys1))
@@ -43,8 +37,8 @@ pub factor-spec : {M : Type 1} → statement M
 factor-spec =
     tie.close
     (tie.spec
-    add-result
-    add-result-2
+    (λ c. search needs)
+    (λ c. search needs)
     returns
     returns-2
     returns-3

@@ -7,14 +7,8 @@ use Rattle.syntax.proofs.moved.Tie as tie
 returns : tie.Need-returns
 returns c = (rw (lt-ltb (c .before .args .v) 32 (c .if1 .taken)), rw (lt-ltb (c .before .args .v) 32 (c .if1 .taken)))
 
-add-t5 : tie.Need-add-t5
-add-t5 c = search needs
-
 returns-2 : tie.Need-returns-2
 returns-2 c = (rw (le-ltb (c .before .before .args .v) 32 (c .before .if1 .left), lt-ltb (c .before .before .args .v) 64 (c .if2 .taken)), rw (le-ltb (c .before .before .args .v) 32 (c .before .if1 .left), lt-ltb (c .before .before .args .v) 96 (omega (arith, c .if2 .taken))))
-
-add-t6 : tie.Need-add-t6
-add-t6 c = search needs
 
 returns-3 : tie.Need-returns-3
 returns-3 c =
@@ -31,9 +25,6 @@ returns-4 c =
     let v = args .v in
     (rw (le-ltb v 32 (if1 .left), le-ltb v 64 (c .before .before .if2 .left), le-ltb v 96 (if3 .left)), rw (le-ltb v 32 (if1 .left), le-ltb v 96 (if3 .left), c .if4 .taken))
 
-sub-t7 : tie.Need-sub-t7
-sub-t7 c = search needs
-
 returns-5 : tie.Need-returns-5
 returns-5 c =
     let c₁ = c .before in let if3 = c₁ .if3 in
@@ -44,4 +35,4 @@ returns-5 c =
 
 pub moved-spec : {M : Type 1} → statement M
 moved-spec =
-    tie.close (tie.spec returns add-t5 returns-2 add-t6 returns-3 returns-4 sub-t7 returns-5)
+    tie.close (tie.spec returns (λ c. search needs) returns-2 (λ c. search needs) returns-3 returns-4 (λ c. search needs) returns-5)

@@ -6,102 +6,6 @@ use borrow.Author.Needs.{needs}
 use Rattle.syntax.proofs.next.Statement.{statement}
 use Rattle.syntax.proofs.next.Tie as tie
 
-one-requires : tie.Need-one-requires
-one-requires c κs = search needs
-
-one-requires-2 : tie.Need-one-requires-2
-one-requires-2 c κs = search needs
-
-one-requires-3 : tie.Need-one-requires-3
-one-requires-3 c κs = search needs
-
-one-requires-4 : tie.Need-one-requires-4
-one-requires-4 c κs = search needs
-
-two-requires : tie.Need-two-requires
-two-requires c κs = search needs
-
-two-requires-2 : tie.Need-two-requires-2
-two-requires-2 c κs = search needs
-
-one-requires-5 : tie.Need-one-requires-5
-one-requires-5 c κs = search needs
-
-one-requires-6 : tie.Need-one-requires-6
-one-requires-6 c κs = search needs
-
-add-two : tie.Need-add-two
-add-two c = search needs
-
-two-requires-3 : tie.Need-two-requires-3
-two-requires-3 c κs = search needs
-
-one-requires-7 : tie.Need-one-requires-7
-one-requires-7 c κs = search needs
-
-one-requires-8 : tie.Need-one-requires-8
-one-requires-8 c κs = search needs
-
-two-requires-4 : tie.Need-two-requires-4
-two-requires-4 c κs = search needs
-
-factor-requires : tie.Need-factor-requires
-factor-requires c κs = search needs
-
-one-requires-9 : tie.Need-one-requires-9
-one-requires-9 c κs = search needs
-
-one-requires-10 : tie.Need-one-requires-10
-one-requires-10 c κs = search needs
-
-one-requires-11 : tie.Need-one-requires-11
-one-requires-11 c κs = search needs
-
-add-one : tie.Need-add-one
-add-one c = search needs
-
-one-requires-12 : tie.Need-one-requires-12
-one-requires-12 c κs = search needs
-
-two-requires-5 : tie.Need-two-requires-5
-two-requires-5 c κs = search needs
-
-one-requires-13 : tie.Need-one-requires-13
-one-requires-13 c κs = search needs
-
-one-requires-14 : tie.Need-one-requires-14
-one-requires-14 c κs = search needs
-
-add-three : tie.Need-add-three
-add-three c = search needs
-
-three-requires : tie.Need-three-requires
-three-requires c κs = search needs
-
-three-requires-2 : tie.Need-three-requires-2
-three-requires-2 c κs = search needs
-
-one-requires-15 : tie.Need-one-requires-15
-one-requires-15 c κs = search needs
-
-two-requires-6 : tie.Need-two-requires-6
-two-requires-6 c κs = search needs
-
-one-requires-16 : tie.Need-one-requires-16
-one-requires-16 c κs = search needs
-
-one-requires-17 : tie.Need-one-requires-17
-one-requires-17 c κs = search needs
-
-one-requires-18 : tie.Need-one-requires-18
-one-requires-18 c κs = search needs
-
-one-requires-19 : tie.Need-one-requires-19
-one-requires-19 c κs = search needs
-
-two-requires-7 : tie.Need-two-requires-7
-two-requires-7 c κs = search needs
-
 returns : tie.Need-returns
 unfolding move
 returns c = c .one .ensures ∙ sym (ap (λ (m : ℕ). move m (c .before .before .args .s)) (c .before .match .keys1))
@@ -225,38 +129,38 @@ pub next-spec : {M : Type 1} → statement M
 next-spec =
     tie.close
     (tie.spec
-    one-requires
-    one-requires-2
-    one-requires-3
-    one-requires-4
-    two-requires
-    two-requires-2
-    one-requires-5
-    one-requires-6
-    add-two
-    two-requires-3
-    one-requires-7
-    one-requires-8
-    two-requires-4
-    factor-requires
-    one-requires-9
-    one-requires-10
-    one-requires-11
-    add-one
-    one-requires-12
-    two-requires-5
-    one-requires-13
-    one-requires-14
-    add-three
-    three-requires
-    three-requires-2
-    one-requires-15
-    two-requires-6
-    one-requires-16
-    one-requires-17
-    one-requires-18
-    one-requires-19
-    two-requires-7
+    (λ c κs. search needs)
+    (λ c κs. search needs)
+    (λ c κs. search needs)
+    (λ c κs. search needs)
+    (λ c κs. search needs)
+    (λ c κs. search needs)
+    (λ c κs. search needs)
+    (λ c κs. search needs)
+    (λ c. search needs)
+    (λ c κs. search needs)
+    (λ c κs. search needs)
+    (λ c κs. search needs)
+    (λ c κs. search needs)
+    (λ c κs. search needs)
+    (λ c κs. search needs)
+    (λ c κs. search needs)
+    (λ c κs. search needs)
+    (λ c. search needs)
+    (λ c κs. search needs)
+    (λ c κs. search needs)
+    (λ c κs. search needs)
+    (λ c κs. search needs)
+    (λ c. search needs)
+    (λ c κs. search needs)
+    (λ c κs. search needs)
+    (λ c κs. search needs)
+    (λ c κs. search needs)
+    (λ c κs. search needs)
+    (λ c κs. search needs)
+    (λ c κs. search needs)
+    (λ c κs. search needs)
+    (λ c κs. search needs)
     returns
     returns-2
     returns-3

@@ -4,9 +4,6 @@ use borrow.Author.Needs.{needs}
 use Rattle.syntax.proofs.three.Statement.{statement}
 use Rattle.syntax.proofs.three.Tie as tie
 
-two-requires : tie.Need-two-requires
-two-requires c κs = search needs
-
 returns : tie.Need-returns
 returns c = rw (eq-eqb _ _ (sym (c .if1 .taken)))
 
@@ -14,4 +11,4 @@ returns-2 : tie.Need-returns-2
 returns-2 c = rw (ne-eqb _ _ (λ e. c .before .if1 .left (sym e))) (c .two .ensures)
 
 pub three-spec : {M : Type 1} → statement M
-three-spec = tie.close (tie.spec two-requires returns returns-2)
+three-spec = tie.close (tie.spec (λ c κs. search needs) returns returns-2)

@@ -4,9 +4,6 @@ use borrow.Author.Needs.{needs}
 use Rattle.syntax.proofs.two.Statement.{statement}
 use Rattle.syntax.proofs.two.Tie as tie
 
-one-requires : tie.Need-one-requires
-one-requires c κs = search needs
-
 returns : tie.Need-returns
 returns c = rw (eq-eqb _ _ (sym (c .if1 .taken)))
 
@@ -14,4 +11,4 @@ returns-2 : tie.Need-returns-2
 returns-2 c = rw (ne-eqb _ _ (λ e. c .before .if1 .left (sym e))) (c .one .ensures)
 
 pub two-spec : {M : Type 1} → statement M
-two-spec = tie.close (tie.spec one-requires returns returns-2)
+two-spec = tie.close (tie.spec (λ c κs. search needs) returns returns-2)

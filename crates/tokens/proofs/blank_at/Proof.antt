@@ -6,12 +6,6 @@ use borrow.Author.Needs.{needs}
 use Rattle.tokens.proofs.blank_at.Statement.{statement}
 use Rattle.tokens.proofs.blank_at.Tie as tie
 
-shared-slice-read-is-blank : tie.Need-shared-slice-read-is-blank
-shared-slice-read-is-blank c = search needs
-
-is-blank-requires : tie.Need-is-blank-requires
-is-blank-requires c κs = search needs
-
 returns : tie.Need-returns
 returns c = c .is-blank .ensures ∙ sym (first-at isBlank (now (c .before .before .before .before .args .text)) (c .before .before .before .before .args .i) (c .before .before .if1 .taken))
 
@@ -19,4 +13,4 @@ returns-2 : tie.Need-returns-2
 returns-2 c = sym (first-end isBlank (now (c .before .before .args .text)) (c .before .before .args .i) (c .if1 .left))
 
 pub blank-at-spec : {M : Type 1} → statement M
-blank-at-spec = tie.close (tie.spec shared-slice-read-is-blank is-blank-requires returns returns-2)
+blank-at-spec = tie.close (tie.spec (λ c. search needs) (λ c κs. search needs) returns returns-2)

@@ -1,4 +1,4 @@
-use Rattle.tokens.proofs.Cutting.{Held, held-start, too-long, held-end, held-refused, held-room, held-more}
+use Rattle.tokens.proofs.Cutting.{Held, none-coded, held-start, too-long, held-end, held-refused, held-room, held-more}
 use Rattle.tokens.specs.Pieces.{Leads}
 use Rattle.tokens.specs.declared.Piece.{Piece}
 use lib.ListN.{length, drop, length-set}
@@ -17,7 +17,7 @@ abbrev μ-loop : tie.MeasureT-loop
 μ-loop text kinds₀ starts₀ lengths₀ numbers₀ at₀ n₀ kinds starts lengths numbers at n = length text - at
 
 returns : tie.Need-returns Inv-loop μ-loop
-returns c = (sym (too-long (now (c .before .before .before .before .before .before .args .text)) (c .if1 .taken)), (omega arith, omega arith))
+returns c = (sym (too-long (now (c .before .before .before .before .before .before .args .text)) (c .if1 .taken)), (none-coded _ _, (omega arith, omega arith)))
 
 skip-requires : tie.Need-skip-requires Inv-loop μ-loop
 skip-requires c κs = search needs
@@ -52,7 +52,7 @@ returns-2 c =
     let c₄ = c₃ .before in let loop = c₄ .loop in
     let c₁₂ = c₄ .before .before .before .before .before .before .before .before in let args = c₁₂ .args in
     let text = now (args .text) in
-    (held-refused text (loop .kinds) (loop .starts) (loop .lengths) (loop .numbers) (loop .at) (loop .n) (loop .inv .0) (loop .inv .1) (loop-test .taken) (subst (λ (r : Piece). Leads r (drop (loop .at) text)) (c .enum-told .given .1) (c .before .before .piece-at .ensures)), (omega arith, omega arith))
+    (held-refused text (loop .kinds) (loop .starts) (loop .lengths) (loop .numbers) (loop .at) (loop .n) (loop .inv .0) (loop .inv .1) (loop-test .taken) (subst (λ (r : Piece). Leads r (drop (loop .at) text)) (c .enum-told .given .1) (c .before .before .piece-at .ensures)), (none-coded _ _, (omega arith, omega arith)))
 
 slice-write-kinds : tie.Need-slice-write-kinds Inv-loop μ-loop
 slice-write-kinds c =
@@ -159,7 +159,7 @@ returns-3 : tie.Need-returns-3 Inv-loop μ-loop
 returns-3 c =
     let c₁ = c .before in let loop = c₁ .loop in
     let c₉ = c₁ .before .before .before .before .before .before .before .before in let args = c₉ .args in
-    (held-end (now (args .text)) (loop .kinds) (loop .starts) (loop .lengths) (loop .numbers) (loop .at) (loop .n) (loop .inv .0) (loop .inv .1) (c .loop-test .left), (omega (arith, loop .inv .0 .behind, loop .inv .0 .inside, loop .inv .1), omega (arith, loop .inv .0 .behind, loop .inv .0 .inside)))
+    (held-end (now (args .text)) (loop .kinds) (loop .starts) (loop .lengths) (loop .numbers) (loop .at) (loop .n) (loop .inv .0) (loop .inv .1) (c .loop-test .left), (loop .inv .0 .coded, (omega (arith, loop .inv .0 .behind, loop .inv .0 .inside, loop .inv .1), omega (arith, loop .inv .0 .behind, loop .inv .0 .inside))))
 
 pub cut-spec : {M : Type 1} → statement M
 cut-spec =

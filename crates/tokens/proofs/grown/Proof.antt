@@ -11,9 +11,6 @@ use Rattle.tokens.proofs.grown.Tie as tie
 mul-m : tie.Need-mul-m
 mul-m c = record { fits = omega (arith, mul-le-mul (c .pre .1) (c .pre .0)) }
 
-wide-requires : tie.Need-wide-requires
-wide-requires c κs = search needs
-
 add-m : tie.Need-add-m
 add-m c = record { fits = omega (arith, mul-le-mul (c .before .pre .1) (c .before .pre .0)) }
 
@@ -24,4 +21,4 @@ returns-2 : tie.Need-returns-2
 returns-2 c = sym (capped-top ((c .before .before .args .base) * (c .before .before .args .n) + (c .before .before .args .digit)) (omega (arith, c .before .wide .ensures, c .if1 .left)))
 
 pub grown-spec : {M : Type 1} → statement M
-grown-spec = tie.close (tie.spec mul-m wide-requires add-m returns returns-2)
+grown-spec = tie.close (tie.spec mul-m (λ c κs. search needs) add-m returns returns-2)

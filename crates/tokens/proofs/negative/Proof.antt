@@ -22,15 +22,6 @@ returns-2 c =
     let c₄ = c₂ .before .before in let args = c₄ .args in let pre = c₄ .pre in
     minus-refused-at (now (args .text)) (args .at) (pre) (stretch .result .value) (stretch .ensures .1) (c .if2 .taken)
 
-sub-t8 : tie.Need-sub-t8
-sub-t8 c = search needs
-
-sub-t9 : tie.Need-sub-t9
-sub-t9 c = search needs
-
-cast-t11 : tie.Need-cast-t11
-cast-t11 c = search needs
-
 returns-3 : tie.Need-returns-3
 returns-3 c =
     let c₂ = c .before .before in let stretch = c₂ .stretch in
@@ -40,4 +31,4 @@ returns-3 c =
 pub negative-spec : {M : Type 1} → statement M
 negative-spec =
     tie.close
-    (tie.spec add-from stretch-requires returns returns-2 sub-t8 sub-t9 cast-t11 returns-3)
+    (tie.spec add-from stretch-requires returns returns-2 (λ c. search needs) (λ c. search needs) returns-3)

@@ -14,14 +14,8 @@ stretch-requires c κs = let h = first-lt isDigit (now (c .before .args .text)) 
 returns : tie.Need-returns
 returns c = number-refused (drop (c .before .before .before .args .at) (now (c .before .before .before .args .text))) (c .before .stretch .result .value) 0 (c .before .before .before .pre) (c .before .stretch .ensures .1) (c .if1 .taken)
 
-sub-t7 : tie.Need-sub-t7
-sub-t7 c = search needs
-
-cast-t8 : tie.Need-cast-t8
-cast-t8 c = search needs
-
 returns-2 : tie.Need-returns-2
 returns-2 c = number-reads (drop (c .before .before .before .args .at) (now (c .before .before .before .args .text))) (c .before .stretch .result .value) _ (c .before .before .before .pre) (c .before .stretch .ensures .1) (omega (arith, c .before .stretch .ensures .0)) (c .if1 .left)
 
 pub number-spec : {M : Type 1} → statement M
-number-spec = tie.close (tie.spec stretch-requires returns sub-t7 cast-t8 returns-2)
+number-spec = tie.close (tie.spec stretch-requires returns (λ c. search needs) returns-2)

@@ -6,12 +6,6 @@ use borrow.Author.Needs.{needs}
 use Rattle.tokens.proofs.passes.Statement.{statement}
 use Rattle.tokens.proofs.passes.Tie as tie
 
-shared-slice-read-between : tie.Need-shared-slice-read-between
-shared-slice-read-between c = search needs
-
-between-requires : tie.Need-between-requires
-between-requires c κs = search needs
-
 returns : tie.Need-returns
 returns c =
     let c₄ = c .before .before .before .before in let args = c₄ .args in
@@ -21,4 +15,4 @@ returns-2 : tie.Need-returns-2
 returns-2 c = sym (first-end (within (c .before .before .args .low) (c .before .before .args .high)) (now (c .before .before .args .text)) (c .before .before .args .i) (c .if1 .left))
 
 pub passes-spec : {M : Type 1} → statement M
-passes-spec = tie.close (tie.spec shared-slice-read-between between-requires returns returns-2)
+passes-spec = tie.close (tie.spec (λ c. search needs) (λ c κs. search needs) returns returns-2)

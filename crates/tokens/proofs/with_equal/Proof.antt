@@ -9,12 +9,6 @@ use Rattle.tokens.proofs.with_equal.Tie as tie
 add-passes : tie.Need-add-passes
 add-passes c = let h = place (now (c .before .args .text)) (c .before .args .at) (c .before .pre .some) in record { fits = omega arith }
 
-passes-requires : tie.Need-passes-requires
-passes-requires c κs = search needs
-
-add-t7 : tie.Need-add-t7
-add-t7 c = search needs
-
 returns : tie.Need-returns
 returns c = equal-reads-at (now (c .before .before .before .args .text)) (c .before .before .before .args .at) (c .before .before .before .args .kind) (c .before .before .before .pre) (sym (c .before .passes .ensures) ∙ c .if1 .taken)
 
@@ -22,4 +16,4 @@ returns-2 : tie.Need-returns-2
 returns-2 c = alone-reads-at (now (c .before .before .before .args .text)) (c .before .before .before .args .at) (c .before .before .before .args .kind) (c .before .before .before .pre) (sym (c .before .passes .ensures) ∙ c .if1 .left)
 
 pub with-equal-spec : {M : Type 1} → statement M
-with-equal-spec = tie.close (tie.spec add-passes passes-requires add-t7 returns returns-2)
+with-equal-spec = tie.close (tie.spec add-passes (λ c κs. search needs) (λ c. search needs) returns returns-2)

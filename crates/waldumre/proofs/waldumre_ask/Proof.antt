@@ -9,18 +9,6 @@ use Rattle.waldumre.proofs.waldumre_ask.Lts as lts
 use Rattle.guarded.proofs.ask.Reads as ask-reads
 use Rattle.waldumre.proofs.wide.Reads as wide-reads
 
-ask-requires : tie.Need-ask-requires
-ask-requires c κs = search needs
-
-wide-requires : tie.Need-wide-requires
-wide-requires c κs = search needs
-
-same-length : tie.Need-same-length
-same-length c = search needs
-
-same-length-2 : tie.Need-same-length-2
-same-length-2 c = search needs
-
 returns : tie.Need-returns
 returns c =
     let r = c .before .before .before .before .ask .result in
@@ -29,4 +17,4 @@ returns c =
     ap (λ (n : ℕ). record { answer = record { number = n; rows = r .rows; columns = r .columns; cells = cells }; count = r .length; rewritten = bytes }) (c .wide .ensures) ∙ c .before .before .before .before .ask .ensures
 
 pub waldumre-ask-spec : {M : Type 1} → statement M
-waldumre-ask-spec = tie.close (tie.spec ask-requires wide-requires same-length same-length-2 returns)
+waldumre-ask-spec = tie.close (tie.spec (λ c κs. search needs) (λ c κs. search needs) (λ c. search needs) (λ c. search needs) returns)

@@ -9,15 +9,6 @@ use Rattle.waldumre.proofs.waldumre_evaluate.Lts as lts
 use Rattle.plain.proofs.evaluate.Reads as evaluate-reads
 use Rattle.waldumre.proofs.wide.Reads as wide-reads
 
-evaluate-requires : tie.Need-evaluate-requires
-evaluate-requires c κs = search needs
-
-wide-requires : tie.Need-wide-requires
-wide-requires c κs = search needs
-
-same-length : tie.Need-same-length
-same-length c = search needs
-
 returns : tie.Need-returns
 returns c =
     let r = c .before .before .evaluate .result in
@@ -25,4 +16,4 @@ returns c =
     (ap (λ (n : ℕ). record { number = n; rows = r .rows; columns = r .columns; cells = cells }) (c .wide .ensures) ∙ c .before .before .evaluate .ensures, refl)
 
 pub waldumre-evaluate-spec : {M : Type 1} → statement M
-waldumre-evaluate-spec = tie.close (tie.spec evaluate-requires wide-requires same-length returns)
+waldumre-evaluate-spec = tie.close (tie.spec (λ c κs. search needs) (λ c κs. search needs) (λ c. search needs) returns)

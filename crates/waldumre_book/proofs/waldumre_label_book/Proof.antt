@@ -8,18 +8,6 @@ use borrow.Author.Needs.{needs}
 use Rattle.waldumre_book.proofs.waldumre_label_book.Statement.{statement}
 use Rattle.waldumre_book.proofs.waldumre_label_book.Tie as tie
 
-ask-requires : tie.Need-ask-requires
-ask-requires c κs = search needs
-
-asked-requires : tie.Need-asked-requires
-asked-requires c κs = search needs
-
-same-length : tie.Need-same-length
-same-length c = search needs
-
-same-length-2 : tie.Need-same-length-2
-same-length-2 c = search needs
-
 returns : tie.Need-returns
 unfolding labelBook
 returns c = refused (c .before .before .before .before .before .ask .result) (c .before .before .before .before .before .ask .ensures) _ (c .asked .ensures) (c .before .if1 .taken)
@@ -40,24 +28,6 @@ slice-aggregate-write c =
     let c₆ = c .before .before .before .before .before .before in let ask = c₆ .ask in
     sym (length-take-le (ask .result .rows * ask .result .columns) _ (omega (arith, rows-in (ask .result) _ _ _ _ _ _ (ask .ensures), ask .kept .1)))
 
-write-requires : tie.Need-write-requires
-write-requires c κs = search needs
-
-asked-requires-2 : tie.Need-asked-requires-2
-asked-requires-2 c κs = search needs
-
-same-length-3 : tie.Need-same-length-3
-same-length-3 c = search needs
-
-same-length-4 : tie.Need-same-length-4
-same-length-4 c = search needs
-
-same-length-5 : tie.Need-same-length-5
-same-length-5 c = search needs
-
-same-length-6 : tie.Need-same-length-6
-same-length-6 c = search needs
-
 returns-2 : tie.Need-returns-2
 unfolding labelBook
 returns-2 c =
@@ -65,18 +35,6 @@ returns-2 c =
     let c₁₀ = c₅ .before .before .before .before .before in let if1 = c₁₀ .if1 in
     let c₁₄ = c₁₀ .before .before .before .before in let ask = c₁₄ .ask in
     written (ask .result) (ask .ensures) _ (c .asked2 .ensures) (if1 .left) (write .ensures) (c .before .if2 .taken)
-
-same-length-7 : tie.Need-same-length-7
-same-length-7 c = search needs
-
-same-length-8 : tie.Need-same-length-8
-same-length-8 c = search needs
-
-same-length-9 : tie.Need-same-length-9
-same-length-9 c = search needs
-
-same-length-10 : tie.Need-same-length-10
-same-length-10 c = search needs
 
 returns-3 : tie.Need-returns-3
 unfolding labelBook
@@ -90,23 +48,23 @@ pub waldumre-label-book-spec : {M : Type 1} → statement M
 waldumre-label-book-spec =
     tie.close
     (tie.spec
-    ask-requires
-    asked-requires
-    same-length
-    same-length-2
+    (λ c κs. search needs)
+    (λ c κs. search needs)
+    (λ c. search needs)
+    (λ c. search needs)
     returns
     mul-n
     slice-reshare-prefix-write
     slice-aggregate-write
-    write-requires
-    asked-requires-2
-    same-length-3
-    same-length-4
-    same-length-5
-    same-length-6
+    (λ c κs. search needs)
+    (λ c κs. search needs)
+    (λ c. search needs)
+    (λ c. search needs)
+    (λ c. search needs)
+    (λ c. search needs)
     returns-2
-    same-length-7
-    same-length-8
-    same-length-9
-    same-length-10
+    (λ c. search needs)
+    (λ c. search needs)
+    (λ c. search needs)
+    (λ c. search needs)
     returns-3)

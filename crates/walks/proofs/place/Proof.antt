@@ -18,9 +18,6 @@ add-result c = let top = c .before .before .before .before .before in omega (ari
 returns : tie.Need-returns
 returns c = let top = c .before .before .before .before .before in place-plain (now (top .args .walks)) (top .args .walk) (top .args .i) (c .before .before .if1 .taken)
 
-row-at-requires : tie.Need-row-at-requires
-row-at-requires c κs = search needs
-
 mul-result-2 : tie.Need-mul-result-2
 mul-result-2 c = let top = c .before .before .before .before .before in omega (arith, mul-le-mul (c .before .row-at .ensures .1) (top .pre .0 .width))
 
@@ -35,4 +32,4 @@ returns-2 c =
 pub place-spec : {M : Type 1} → statement M
 place-spec =
     tie.close
-    (tie.spec mul-result add-result returns row-at-requires mul-result-2 add-result-2 returns-2)
+    (tie.spec mul-result add-result returns (λ c κs. search needs) mul-result-2 add-result-2 returns-2)

@@ -8,19 +8,10 @@ use Rattle.walks.proofs.row_at.Lts as lts
 use Rattle.kinds.proofs.size_at.Reads as size-at-reads
 use Rattle.walks.proofs.from_last.Reads as from-last-reads
 
-from-last-requires : tie.Need-from-last-requires
-from-last-requires c κs = search needs
-
 returns : tie.Need-returns
 returns c =
     let args = c .before .before .before .args in
     (row-last (now (args .walks)) (args .start) (args .count) (args .i) (c .from-last .result) (c .before .if1 .taken) (c .from-last .ensures .0), c .from-last .ensures .1)
-
-add-size-at : tie.Need-add-size-at
-add-size-at c = search needs
-
-size-at-requires : tie.Need-size-at-requires
-size-at-requires c κs = search needs
 
 returns-2 : tie.Need-returns-2
 returns-2 c =
@@ -28,4 +19,4 @@ returns-2 c =
     (row-listed (now (args .walks)) (args .start) (args .count) (args .i) (c .size-at .result) (c .before .if1 .left) (c .size-at .ensures .0), c .size-at .ensures .1)
 
 pub row-at-spec : {M : Type 1} → statement M
-row-at-spec = tie.close (tie.spec from-last-requires returns add-size-at size-at-requires returns-2)
+row-at-spec = tie.close (tie.spec (λ c κs. search needs) returns (λ c. search needs) (λ c κs. search needs) returns-2)

@@ -5,9 +5,6 @@ use borrow.Author.Needs.{needs}
 use Rattle.book.proofs.labels.in_range.Statement.{statement}
 use Rattle.book.proofs.labels.in_range.Tie as tie
 
-up-to-requires : tie.Need-up-to-requires
-up-to-requires c κs = search needs
-
 returns : tie.Need-returns
 returns c = label-out (c .before .before .args .label) (c .before .before .args .offer) (c .before .before .args .price) (sym (up-to-bits (c .before .before .args .label) (c .before .before .fits .label) 499) ∙ sym (c .before .up-to .ensures) ∙ not-true _ (c .if1 .taken))
 
@@ -17,9 +14,6 @@ returns-2 c =
     let label = args .label in let offer = args .offer in
     offer-out label offer (args .price) (sym (up-to-bits label (fits .label) 499) ∙ sym (c .before .before .up-to .ensures) ∙ not-false _ (c .before .if1 .left)) (sign offer (fits .offer) (c .if2 .taken))
 
-up-to-requires-2 : tie.Need-up-to-requires-2
-up-to-requires-2 c κs = search needs
-
 returns-3 : tie.Need-returns-3
 returns-3 c =
     let c₃ = c .before .before .before in let up-to = c₃ .up-to in
@@ -28,4 +22,4 @@ returns-3 c =
     c .up-to2 .ensures ∙ up-to-bits price (fits .price) 999999 ∙ price-decides label offer price (sym (up-to-bits label (fits .label) 499) ∙ sym (up-to .ensures) ∙ not-false _ (c .before .before .if1 .left)) (sign offer (fits .offer) (c .before .if2 .left))
 
 pub in-range-spec : {M : Type 1} → statement M
-in-range-spec = tie.close (tie.spec up-to-requires returns returns-2 up-to-requires-2 returns-3)
+in-range-spec = tie.close (tie.spec (λ c κs. search needs) returns returns-2 (λ c κs. search needs) returns-3)

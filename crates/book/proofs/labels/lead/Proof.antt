@@ -3,9 +3,6 @@ use borrow.Author.Needs.{needs}
 use Rattle.book.proofs.labels.lead.Statement.{statement}
 use Rattle.book.proofs.labels.lead.Tie as tie
 
-digit-requires : tie.Need-digit-requires
-digit-requires c κs = search needs
-
 returns : tie.Need-returns
 returns c = rw (eq-eqb (c .before .args .n) 0 (c .if1 .taken))
 
@@ -13,4 +10,4 @@ returns-2 : tie.Need-returns-2
 returns-2 c = rw (ne-eqb (c .before .before .args .n) 0 (c .before .if1 .left)) (c .digit .ensures)
 
 pub lead-spec : {M : Type 1} → statement M
-lead-spec = tie.close (tie.spec digit-requires returns returns-2)
+lead-spec = tie.close (tie.spec (λ c κs. search needs) returns returns-2)

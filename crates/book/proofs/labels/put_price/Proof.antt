@@ -14,33 +14,6 @@ module _ (cents : ℕ) {a b c d e f : ℕ} where
   unfolding displayOf
   price-bytes a b c d e f = rw (a, b, c, d, e, f)
 
-lead-requires : tie.Need-lead-requires
-lead-requires c κs = search needs
-
-lead-requires-2 : tie.Need-lead-requires-2
-lead-requires-2 c κs = search needs
-
-lead-requires-3 : tie.Need-lead-requires-3
-lead-requires-3 c κs = search needs
-
-digit-requires : tie.Need-digit-requires
-digit-requires c κs = search needs
-
-digit-requires-2 : tie.Need-digit-requires-2
-digit-requires-2 c κs = search needs
-
-digit-requires-3 : tie.Need-digit-requires-3
-digit-requires-3 c κs = search needs
-
-slice-aggregate-copy : tie.Need-slice-aggregate-copy
-slice-aggregate-copy c = search needs
-
-copy-requires : tie.Need-copy-requires
-copy-requires c κs = search needs
-
-same-length : tie.Need-same-length
-same-length c = search needs
-
 returns : tie.Need-returns
 returns c =
     let c₅ = c .before .before .before .before .before in let digit3 = c₅ .digit3 in
@@ -56,13 +29,13 @@ pub put-price-spec : {M : Type 1} → statement M
 put-price-spec =
     tie.close
     (tie.spec
-    lead-requires
-    lead-requires-2
-    lead-requires-3
-    digit-requires
-    digit-requires-2
-    digit-requires-3
-    slice-aggregate-copy
-    copy-requires
-    same-length
+    (λ c κs. search needs)
+    (λ c κs. search needs)
+    (λ c κs. search needs)
+    (λ c κs. search needs)
+    (λ c κs. search needs)
+    (λ c κs. search needs)
+    (λ c. search needs)
+    (λ c κs. search needs)
+    (λ c. search needs)
     returns)

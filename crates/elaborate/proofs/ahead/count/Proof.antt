@@ -19,39 +19,30 @@ Inv-loop kinds counts₀ i₀ counts i = From kinds counts i × (length counts �
 abbrev μ-loop : tie.MeasureT-loop
 μ-loop kinds counts₀ i₀ counts i = i
 
--- src/lib.rt:51:5
 mul-counts : tie.Need-mul-counts Inv-loop μ-loop
 mul-counts c = search needs
 
--- src/lib.rt:51:5
 slice-write-counts : tie.Need-slice-write-counts Inv-loop μ-loop
 slice-write-counts c = search needs
 
--- src/lib.rt:52:5
 loop-holds : tie.Need-loop-holds Inv-loop μ-loop
 loop-holds c = (from-end (now (c .before .before .args .kinds)) (now (c .before .before .args .counts)) (c .before .before .pre .0), refl, omega arith, lt-length-set (now (c .before .before .args .counts)) _ _ (c .before .before .pre .0))
 
--- src/lib.rt:53:9
 sub-i : tie.Need-sub-i Inv-loop μ-loop
 sub-i c = search needs
 
--- src/lib.rt:54:27
 add-next : tie.Need-add-next Inv-loop μ-loop
 add-next c = search needs
 
--- src/lib.rt:54:20
 mul-next : tie.Need-mul-next Inv-loop μ-loop
 mul-next c = search needs
 
--- src/lib.rt:54:20
 slice-read-next : tie.Need-slice-read-next Inv-loop μ-loop
 slice-read-next c = omega (arith, c .before .before .loop .inv .3)
 
--- src/lib.rt:55:28
 add-after : tie.Need-add-after Inv-loop μ-loop
 add-after c = search needs
 
--- src/lib.rt:55:28
 add-after-2 : tie.Need-add-after-2 Inv-loop μ-loop
 add-after-2 c =
     let c₂ = c .before .before in let loop = c₂ .loop in
@@ -59,7 +50,6 @@ add-after-2 c =
     let kinds = now (args .kinds) in
     let f = subst (λ (n : ℕ). From kinds (loop .counts) n) (back (omega arith)) (loop .inv .0) in let m = next-most kinds (loop .counts) (loop .i - 1) (omega arith) (omega (arith, loop .inv .3)) f in omega (arith, m .2, loop .inv .3)
 
--- src/lib.rt:55:21
 mul-after : tie.Need-mul-after Inv-loop μ-loop
 mul-after c =
     let c₂ = c .before .before in let loop = c₂ .loop in
@@ -67,7 +57,6 @@ mul-after c =
     let kinds = now (args .kinds) in
     let f = subst (λ (n : ℕ). From kinds (loop .counts) n) (back (omega arith)) (loop .inv .0) in let m = next-most kinds (loop .counts) (loop .i - 1) (omega arith) (omega (arith, loop .inv .3)) f in record { fits = omega (arith, m .2) }
 
--- src/lib.rt:55:21
 slice-read-after : tie.Need-slice-read-after Inv-loop μ-loop
 slice-read-after c =
     let c₃ = c .before .before .before in let loop = c₃ .loop in
@@ -75,11 +64,9 @@ slice-read-after c =
     let kinds = now (args .kinds) in
     let f = subst (λ (n : ℕ). From kinds (loop .counts) n) (back (omega arith)) (loop .inv .0) in let m = next-most kinds (loop .counts) (loop .i - 1) (omega arith) (omega (arith, loop .inv .3)) f in omega (arith, m .2, loop .inv .3)
 
--- src/lib.rt:56:26
 shared-slice-read-step : tie.Need-shared-slice-read-step Inv-loop μ-loop
 shared-slice-read-step c = search needs
 
--- src/lib.rt:56:21
 step-requires : tie.Need-step-requires Inv-loop μ-loop
 step-requires c κs =
     let c₄ = c .before .before .before .before in let loop = c₄ .loop in
@@ -87,19 +74,15 @@ step-requires c κs =
     let kinds = now (args .kinds) in
     let f = subst (λ (n : ℕ). From kinds (loop .counts) n) (back (omega arith)) (loop .inv .0) in let m = next-most kinds (loop .counts) (loop .i - 1) (omega arith) (omega (arith, loop .inv .3)) f in let a = after-most kinds (loop .counts) (loop .i - 1) (omega arith) (omega (arith, loop .inv .3)) f in (omega (arith, m .0), omega (arith, m .1), omega (arith, m .2), omega (arith, a))
 
--- src/lib.rt:56:9
 mul-counts-2 : tie.Need-mul-counts-2 Inv-loop μ-loop
 mul-counts-2 c = search needs
 
--- src/lib.rt:56:9
 slice-write-counts-2 : tie.Need-slice-write-counts-2 Inv-loop μ-loop
 slice-write-counts-2 c = omega (arith, c .before .before .before .before .before .loop .inv .3)
 
--- src/lib.rt:52:5
 loop-less : tie.Need-loop-less Inv-loop μ-loop
 loop-less c = search needs
 
--- src/lib.rt:52:5
 loop-again : tie.Need-loop-again Inv-loop μ-loop
 loop-again c =
     let c₅ = c .before .before .before .before .before in let loop = c₅ .loop in
@@ -107,11 +90,9 @@ loop-again c =
     let kinds = now (args .kinds) in
     let f = subst (λ (n : ℕ). From kinds (loop .counts) n) (back (omega arith)) (loop .inv .0) in let m = next-most kinds (loop .counts) (loop .i - 1) (omega arith) (omega (arith, loop .inv .3)) f in (from-next kinds (loop .counts) (loop .i - 1) (omega arith) (omega (arith, loop .inv .3)) f _ (c .step .ensures), length-set (loop .counts) _ _ ∙ loop .inv .1, omega arith, lt-length-set (loop .counts) _ _ (loop .inv .3))
 
--- src/lib.rt:46:1
 same-length : tie.Need-same-length Inv-loop μ-loop
 same-length c = c .before .loop .inv .1 ∙ length-set (now (c .before .before .before .before .args .counts)) _ _
 
--- src/lib.rt:46:1
 returns : tie.Need-returns Inv-loop μ-loop
 returns c = record { at = λ i h. c .before .loop .inv .0 i (omega arith) h }
 

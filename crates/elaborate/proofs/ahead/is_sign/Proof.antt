@@ -5,11 +5,9 @@ use Rattle.elaborate.proofs.ahead.is_sign.Tie as tie
 use Rattle.elaborate.proofs.ahead.is_sign.Reads as reads
 use Rattle.elaborate.proofs.ahead.is_sign.Lts as lts
 
--- src/lib.rt:24:1
 returns : tie.Need-returns
 returns c = rw (le-leb 7 (c .before .args .kind) (c .if1 .taken))
 
--- src/lib.rt:24:1
 returns-2 : tie.Need-returns-2
 returns-2 c = rw (lt-leb 7 (c .before .args .kind) (c .if1 .left))
 

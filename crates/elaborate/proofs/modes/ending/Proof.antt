@@ -7,15 +7,12 @@ use Rattle.elaborate.proofs.modes.ending.Tie as tie
 use Rattle.elaborate.proofs.modes.ending.Reads as reads
 use Rattle.elaborate.proofs.modes.ending.Lts as lts
 
--- src/lib.rt:31:9
 returns : tie.Need-returns
 returns c = rw (ne-eqb (c .before .args .mode) 6 (c .if1 .taken))
 
--- src/lib.rt:27:1
 returns-2 : tie.Need-returns-2
 returns-2 c = rw (eq-eqb (c .before .before .args .mode) 6 (c .before .if1 .left), eq-eqb (c .before .before .args .kind) 21 (c .if2 .taken))
 
--- src/lib.rt:27:1
 returns-3 : tie.Need-returns-3
 returns-3 c = rw (eq-eqb (c .before .before .args .mode) 6 (c .before .if1 .left), ne-eqb (c .before .before .args .kind) 21 (c .if2 .left))
 

@@ -7,19 +7,15 @@ use Rattle.elaborate.proofs.modes.factor.Tie as tie
 use Rattle.elaborate.proofs.modes.factor.Reads as reads
 use Rattle.elaborate.proofs.modes.factor.Lts as lts
 
--- src/lib.rt:41:9
 returns : tie.Need-returns
 returns c = rw (eq-eqb (c .before .args .kind) 15 (c .if1 .taken))
 
--- src/lib.rt:44:9
 returns-2 : tie.Need-returns-2
 returns-2 c = rw (ne-eqb (c .before .before .args .kind) 15 (c .before .if1 .left), eq-eqb (c .before .before .args .kind) 16 (c .if2 .taken))
 
--- src/lib.rt:37:1
 returns-3 : tie.Need-returns-3
 returns-3 c = rw (ne-eqb (c .before .before .before .args .kind) 15 (c .before .before .if1 .left), ne-eqb (c .before .before .before .args .kind) 16 (c .before .if2 .left), eq-eqb (c .before .before .before .args .kind) 20 (c .if3 .taken))
 
--- src/lib.rt:37:1
 returns-4 : tie.Need-returns-4
 returns-4 c = rw (ne-eqb (c .before .before .before .args .kind) 15 (c .before .before .if1 .left), ne-eqb (c .before .before .before .args .kind) 16 (c .before .if2 .left), ne-eqb (c .before .before .before .args .kind) 20 (c .if3 .left))
 

@@ -7,11 +7,9 @@ use Rattle.elaborate.proofs.modes.in_attribute.Tie as tie
 use Rattle.elaborate.proofs.modes.in_attribute.Reads as reads
 use Rattle.elaborate.proofs.modes.in_attribute.Lts as lts
 
--- src/lib.rt:125:1
 returns : tie.Need-returns
 returns c = rw (le-leb 13 (c .before .args .kind) (c .if1 .taken))
 
--- src/lib.rt:125:1
 returns-2 : tie.Need-returns-2
 returns-2 c = rw (lt-leb 13 (c .before .args .kind) (c .if1 .left))
 

@@ -7,15 +7,12 @@ use Rattle.elaborate.proofs.modes.in_head.Tie as tie
 use Rattle.elaborate.proofs.modes.in_head.Reads as reads
 use Rattle.elaborate.proofs.modes.in_head.Lts as lts
 
--- src/lib.rt:120:9
 returns : tie.Need-returns
 returns c = rw (eq-eqb (c .before .args .kind) (c .before .args .k) (c .if1 .taken))
 
--- src/lib.rt:116:1
 returns-2 : tie.Need-returns-2
 returns-2 c = rw (ne-eqb (c .before .before .args .kind) (c .before .before .args .k) (c .before .if1 .left), eq-eqb (c .before .before .args .kind) 24 (c .if2 .taken))
 
--- src/lib.rt:116:1
 returns-3 : tie.Need-returns-3
 returns-3 c = rw (ne-eqb (c .before .before .args .kind) (c .before .before .args .k) (c .before .if1 .left), ne-eqb (c .before .before .args .kind) 24 (c .if2 .left))
 

@@ -12,56 +12,26 @@ use Rattle.elaborate.proofs.modes.in_attribute.Reads as in-attribute-re
 use Rattle.elaborate.proofs.modes.in_head.Reads as in-head-reads
 use Rattle.elaborate.proofs.modes.rest.Reads as rest-reads
 
--- src/lib.rt:136:9
-in-head-requires : tie.Need-in-head-requires
-in-head-requires c κs = search needs
-
--- src/lib.rt:136:9
 returns : tie.Need-returns
 unfolding nextOf
 returns c = rw (eq-eqb (c .before .before .args .mode) 6 (c .before .if1 .taken)) (c .in-head .ensures)
 
--- src/lib.rt:139:9
-in-attribute-requires : tie.Need-in-attribute-requires
-in-attribute-requires c κs = search needs
-
--- src/lib.rt:139:9
 returns-2 : tie.Need-returns-2
 unfolding nextOf
 returns-2 c = rw (ne-eqb (c .before .before .before .args .mode) 6 (c .before .before .if1 .left), eq-eqb (c .before .before .before .args .mode) 5 (c .before .if2 .taken)) (c .in-attribute .ensures)
 
--- src/lib.rt:142:9
-in-head-requires-2 : tie.Need-in-head-requires-2
-in-head-requires-2 c κs = search needs
-
--- src/lib.rt:142:9
 returns-3 : tie.Need-returns-3
 unfolding nextOf
 returns-3 c = rw (ne-eqb (c .before .before .before .before .args .mode) 6 (c .before .before .before .if1 .left), ne-eqb (c .before .before .before .before .args .mode) 5 (c .before .before .if2 .left), eq-eqb (c .before .before .before .before .args .mode) 4 (c .before .if3 .taken)) (c .in-head2 .ensures)
 
--- src/lib.rt:145:9
-rest-requires : tie.Need-rest-requires
-rest-requires c κs = search needs
-
--- src/lib.rt:145:9
 returns-4 : tie.Need-returns-4
 unfolding nextOf
 returns-4 c = rw (ne-eqb (c .before .before .before .before .before .args .mode) 6 (c .before .before .before .before .if1 .left), ne-eqb (c .before .before .before .before .before .args .mode) 5 (c .before .before .before .if2 .left), ne-eqb (c .before .before .before .before .before .args .mode) 4 (c .before .before .if3 .left), le-leb 3 (c .before .before .before .before .before .args .mode) (c .before .if4 .taken)) (c .rest .ensures)
 
--- src/lib.rt:148:9
-rest-requires-2 : tie.Need-rest-requires-2
-rest-requires-2 c κs = search needs
-
--- src/lib.rt:148:9
 returns-5 : tie.Need-returns-5
 unfolding nextOf
 returns-5 c = rw (ne-eqb (c .before .before .before .before .before .before .args .mode) 6 (c .before .before .before .before .before .if1 .left), ne-eqb (c .before .before .before .before .before .before .args .mode) 5 (c .before .before .before .before .if2 .left), ne-eqb (c .before .before .before .before .before .before .args .mode) 4 (c .before .before .before .if3 .left), lt-leb 3 (c .before .before .before .before .before .before .args .mode) (c .before .before .if4 .left), le-leb (c .before .before .before .before .before .before .args .kind) 6 (c .before .if5 .taken)) (c .rest2 .ensures)
 
--- src/lib.rt:150:5
-after-key-requires : tie.Need-after-key-requires
-after-key-requires c κs = search needs
-
--- src/lib.rt:132:1
 returns-6 : tie.Need-returns-6
 unfolding nextOf
 returns-6 c = rw (ne-eqb (c .before .before .before .before .before .before .args .mode) 6 (c .before .before .before .before .before .if1 .left), ne-eqb (c .before .before .before .before .before .before .args .mode) 5 (c .before .before .before .before .if2 .left), ne-eqb (c .before .before .before .before .before .before .args .mode) 4 (c .before .before .before .if3 .left), lt-leb 3 (c .before .before .before .before .before .before .args .mode) (c .before .before .if4 .left), lt-leb (c .before .before .before .before .before .before .args .kind) 6 (c .before .if5 .left)) (c .after-key .ensures)
@@ -70,15 +40,15 @@ pub next-mode-spec : {M : Type 1} → statement M
 next-mode-spec =
     tie.close
     (tie.spec
-    in-head-requires
+    (λ c κs. search needs)
     returns
-    in-attribute-requires
+    (λ c κs. search needs)
     returns-2
-    in-head-requires-2
+    (λ c κs. search needs)
     returns-3
-    rest-requires
+    (λ c κs. search needs)
     returns-4
-    rest-requires-2
+    (λ c κs. search needs)
     returns-5
-    after-key-requires
+    (λ c κs. search needs)
     returns-6)

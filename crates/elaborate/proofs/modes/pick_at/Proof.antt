@@ -7,11 +7,9 @@ use Rattle.elaborate.proofs.modes.pick_at.Tie as tie
 use Rattle.elaborate.proofs.modes.pick_at.Reads as reads
 use Rattle.elaborate.proofs.modes.pick_at.Lts as lts
 
--- src/lib.rt:55:1
 returns : tie.Need-returns
 returns c = rw (eq-eqb (c .before .args .kind) (c .before .args .k) (c .if1 .taken))
 
--- src/lib.rt:55:1
 returns-2 : tie.Need-returns-2
 returns-2 c = rw (ne-eqb (c .before .args .kind) (c .before .args .k) (c .if1 .left))
 

@@ -11,30 +11,15 @@ use Rattle.elaborate.proofs.opens.compare.Reads as reads
 use Rattle.elaborate.proofs.opens.compare.Lts as lts
 use Rattle.copier.proofs.copy.Reads as copy-reads
 
--- src/lib.rt:42:9
 returns : tie.Need-returns
 returns c = no-sign (now (c .before .before .args .out)) (c .before .before .args .at) (c .before .before .args .mode) (c .before .before .args .kind) _ (c .if1 .taken)
 
--- src/lib.rt:45:9
 returns-2 : tie.Need-returns-2
 returns-2 c = no-operand (now (c .before .before .before .args .out)) (c .before .before .before .args .at) (c .before .before .before .args .mode) (c .before .before .before .args .kind) _ (c .before .if1 .left) (c .if2 .taken)
 
--- src/lib.rt:47:27
-slice-aggregate-copy : tie.Need-slice-aggregate-copy
-slice-aggregate-copy c = search needs
-
--- src/lib.rt:47:5
-copy-requires : tie.Need-copy-requires
-copy-requires c κs = search needs
-
--- src/lib.rt:36:1
-same-length : tie.Need-same-length
-same-length c = search needs
-
--- src/lib.rt:36:1
 returns-3 : tie.Need-returns-3
 returns-3 c = a-sign (now (c .before .before .before .before .before .before .before .before .args .out)) (c .before .before .before .before .before .before .before .before .args .at) (c .before .before .before .before .before .before .before .before .args .mode) (c .before .before .before .before .before .before .before .before .args .kind) (c .before .before .before .before .before .before .before .before .args .operator) (c .before .before .before .before .before .before .if1 .left) (c .before .before .before .before .before .if2 .left) _ _ (c .before .before .copy .ensures .0) (c .before .before .copy .ensures .1)
 
 pub compare-spec : {M : Type 1} → statement M
 compare-spec =
-    tie.close (tie.spec returns returns-2 slice-aggregate-copy copy-requires same-length returns-3)
+    tie.close (tie.spec returns returns-2 (λ c. search needs) (λ c κs. search needs) (λ c. search needs) returns-3)

@@ -10,43 +10,12 @@ use Rattle.elaborate.proofs.opens.frame.Reads as reads
 use Rattle.elaborate.proofs.opens.frame.Lts as lts
 use Rattle.elaborate.proofs.frames.pack.Reads as pack-reads
 
--- src/lib.rt:75:22
-enum-known-item : tie.Need-enum-known-item
-enum-known-item c = search needs
-
--- src/lib.rt:75:52
-add-pack : tie.Need-add-pack
-add-pack c = search needs
-
--- src/lib.rt:75:31
-pack-requires : tie.Need-pack-requires
-pack-requires c κs = search needs
-
--- src/lib.rt:76:30
-enum-known-item-2 : tie.Need-enum-known-item-2
-enum-known-item-2 c = search needs
-
--- src/lib.rt:76:63
-add-pack-2 : tie.Need-add-pack-2
-add-pack-2 c = search needs
-
--- src/lib.rt:76:42
-pack-requires-2 : tie.Need-pack-requires-2
-pack-requires-2 c κs = search needs
-
--- src/lib.rt:77:14
-pack-requires-3 : tie.Need-pack-requires-3
-pack-requires-3 c κs = search needs
-
--- src/lib.rt:70:1
 returns : tie.Need-returns
 returns c = framed-as (c .before .before .before .before .args .item) _ (c .before .before .before .before .args .i) _ (c .before .before .item .given .1) (record { mode = c .pack .ensures .0; relation = c .pack .ensures .1; variable = c .pack .ensures .2; place = c .pack .ensures .3 })
 
--- src/lib.rt:70:1
 returns-2 : tie.Need-returns-2
 returns-2 c = framed-as (c .before .before .before .before .args .item) _ (c .before .before .before .before .args .i) _ (c .before .before .item2 .given .1) (record { mode = c .pack2 .ensures .0; relation = c .pack2 .ensures .1; variable = c .pack2 .ensures .2; place = c .pack2 .ensures .3 })
 
--- src/lib.rt:70:1
 returns-3 : tie.Need-returns-3
 returns-3 c = framed-none (c .before .before .args .item) (c .before .match .keys3) (c .before .before .args .i) _ (c .pack3 .ensures .0) (c .pack3 .ensures .1) (c .pack3 .ensures .2) (c .pack3 .ensures .3)
 
@@ -54,13 +23,13 @@ pub frame-spec : {M : Type 1} → statement M
 frame-spec =
     tie.close
     (tie.spec
-    enum-known-item
-    add-pack
-    pack-requires
-    enum-known-item-2
-    add-pack-2
-    pack-requires-2
-    pack-requires-3
+    (λ c. search needs)
+    (λ c. search needs)
+    (λ c κs. search needs)
+    (λ c. search needs)
+    (λ c. search needs)
+    (λ c κs. search needs)
+    (λ c κs. search needs)
     returns
     returns-2
     returns-3)

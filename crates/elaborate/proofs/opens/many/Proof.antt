@@ -20,39 +20,30 @@ Inv-loop out₀ at b n i₀ out i = (out ≡ sets out₀ at (often i b [])) × (
 abbrev μ-loop : tie.MeasureT-loop
 μ-loop out₀ at b n i₀ out i = n - i
 
--- src/lib.rt:21:5
 loop-holds : tie.Need-loop-holds Inv-loop μ-loop
 loop-holds c = (often-start (now (c .before .args .out)) (c .before .args .at) (c .before .args .b), refl, omega arith)
 
--- src/lib.rt:22:26
 add-put : tie.Need-add-put Inv-loop μ-loop
 add-put c = search needs
 
--- src/lib.rt:22:9
 put-requires : tie.Need-put-requires Inv-loop μ-loop
 put-requires c κs = search needs
 
--- src/lib.rt:23:9
 add-i : tie.Need-add-i Inv-loop μ-loop
 add-i c = search needs
 
--- src/lib.rt:21:5
 loop-less : tie.Need-loop-less Inv-loop μ-loop
 loop-less c = search needs
 
--- src/lib.rt:21:5
 loop-again : tie.Need-loop-again Inv-loop μ-loop
 loop-again c = (often-turn (now (c .before .before .before .before .before .before .before .args .out)) (c .before .before .before .before .before .loop .out) _ (c .before .before .before .before .before .before .before .args .at) (c .before .before .before .before .before .loop .i) (c .before .before .before .before .before .before .before .args .b) (c .before .before .before .before .before .loop .inv .0) (c .before .before .put .ensures .1), c .before .before .put .kept .0 ∙ c .before .before .before .before .before .loop .inv .1, omega arith)
 
--- src/lib.rt:25:5
 add-result : tie.Need-add-result Inv-loop μ-loop
 add-result c = search needs
 
--- src/lib.rt:15:1
 same-length : tie.Need-same-length Inv-loop μ-loop
 same-length c = c .before .loop .inv .1
 
--- src/lib.rt:15:1
 returns : tie.Need-returns Inv-loop μ-loop
 returns c = (omega arith, often-done (now (c .before .before .before .args .out)) (c .before .loop .out) (c .before .before .before .args .at) (c .before .loop .i) (c .before .before .before .args .n) (c .before .before .before .args .b) (omega arith) (c .before .loop .inv .0))
 

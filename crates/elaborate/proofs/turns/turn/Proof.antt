@@ -1,132 +1,79 @@
-use Rattle.kinds.specs.declared.Record.the-variants as R
-use Rattle.elaborate.proofs.turns.Laws.{fits, ends-refused, ends-put, mode-most}
-use denote.Ref.{now}
 use native.Mathlib.Omega.{arith}
-use mathlib.Core.List.{map}
-use lib.ListN.{getD}
-use Prim.Native.Nat.{_+_, _-_}
-use mathlib.Core.Path.{refl, _∙_, ap, sym}
+use denote.Ref.{now}
+use mathlib.Core.Path.{_≡_, refl, sym, ap, ap₂, subst, _∙_}
+use Prim.Native.Nat.{ℕ, _+_, _-_, _≤_, _<_}
+use mathlib.Core.List.{List, []}
+use lib.ListN.{length, getD}
+use mathlib.Core.Bool.{Bool, true, false, not, cond}
+use lib.Dec.{eqb}
+use lib.ListN.{set, take}
+use Rattle.marks.specs.Places.{table, nameIn, tokensFrom}
 use Rattle.names.specs.Entries.{entries}
-use Rattle.marks.specs.Places.{table, nameIn}
+use Rattle.quel.specs.Names.{relationNamed}
+use Rattle.quel.specs.Results.{Word}
+use Rattle.tokens.specs.Codes.{Spelt}
+use mathlib.Core.Option.{none}
+use mathlib.Core.List.{map, _∷_}
+use Prim.Native.Nat.{_*_}
+use Rattle.kinds.specs.declared.Record.the-variants as R
+use Rattle.items.specs.declared.Item.the-variants as I
+use Rattle.elaborate.proofs.turns.Laws.{fits, ends-refused, ends-put, mode-most, quiet-parts, quiet-write}
 use Rattle.items.specs.Reach.{rangeSymbol, reaches}
+use Rattle.items.specs.Actions.{itemOf}
+use Rattle.items.specs.Puts.{reachAfter, numberAfter}
 use Rattle.quel.specs.Writing.{inner}
+use Rattle.elaborate.specs.Counts.{orsIn, andsIn, signIn}
 use borrow.Author.Needs.{needs}
 use Rattle.elaborate.proofs.turns.turn.Statement.{statement}
 use Rattle.elaborate.proofs.turns.turn.Tie as tie
 use Rattle.elaborate.proofs.turns.turn.Reads as reads
 use Rattle.elaborate.proofs.turns.turn.Lts as lts
 use Rattle.elaborate.proofs.modes.action.Reads as action-reads
-use Rattle.items.proofs.item_at.Reads as item-at-reads
 use Rattle.elaborate.proofs.modes.next_mode.Reads as next-mode-reads
-use Rattle.marks.proofs.is_point.Reads as is-point-reads
 use Rattle.elaborate.proofs.turns.number.Reads as number-reads
+use Rattle.elaborate.proofs.turns.quiet.Reads as quiet-reads
 use Rattle.elaborate.proofs.turns.shift.Reads as shift-reads
 use Rattle.elaborate.proofs.turns.write.Reads as write-reads
+use Rattle.items.proofs.item_at.Reads as item-at-reads
+use Rattle.marks.proofs.is_point.Reads as is-point-reads
 
--- src/lib.rt:133:16
-shared-slice-read-kind : tie.Need-shared-slice-read-kind
-shared-slice-read-kind c = search needs
-
--- src/lib.rt:134:40
-add-is-point : tie.Need-add-is-point
-add-is-point c = search needs
-
--- src/lib.rt:134:9
-is-point-requires : tie.Need-is-point-requires
-is-point-requires c κs = search needs
-
--- src/lib.rt:135:9
-action-requires : tie.Need-action-requires
-action-requires c κs = search needs
-
--- src/lib.rt:136:24
-item-at-requires : tie.Need-item-at-requires
-item-at-requires c κs = search needs
-
--- src/lib.rt:136:19
-enum-known-r : tie.Need-enum-known-r
-enum-known-r c = search needs
-
--- src/lib.rt:150:9
-enum-told : tie.Need-enum-told
-enum-told c = search needs
-
--- src/lib.rt:150:9
-same-length : tie.Need-same-length
-same-length c = search needs
-
--- src/lib.rt:150:9
 returns : tie.Need-returns
-returns c =
-    let c₄ = c .before .before .before .before in let action = c₄ .action in
-    let c₅ = c₄ .before in let is-point = c₅ .is-point in
-    let c₁₇ = c₅ .before .before .before .before .before .before .before .before .before .before .before .before in let args = c₁₇ .args in let pre = c₁₇ .pre in
-    let kinds = now (args .kinds) in let lengths = now (args .lengths) in let out = now (args .out) in let starts = now (args .starts) in let text = now (args .text) in let s = args .s in
-    (record { ends = λ z. ends-refused text (table kinds starts lengths (now (args .numbers))) (now (args .counts)) (pre .6) (args .i) (pre .0) (entries (now (args .list))) z (s .mode) (pre .3) (reaches (nameIn text kinds starts lengths) (map (rangeSymbol (nameIn text kinds starts lengths)) (now (args .symbols))) (now (args .frames)) (s .depth)) (s .n) out out (s .at) 0 R.Short _ (action .result) _ (is-point .result) refl (is-point .ensures) (action .ensures) (c .before .before .item-at .ensures) (c .enum-told .given .1) }, tt)
+returns c = (λ text ss ls tb. record { ends = λ z. ends-put text (table (now (c .before .before .before .before .before .before .before .before .before .before .before .before .before .before .before .before .before .args .kinds)) ss ls (now (c .before .before .before .before .before .before .before .before .before .before .before .before .before .before .before .before .before .args .numbers))) (now (c .before .before .before .before .before .before .before .before .before .before .before .before .before .before .before .before .before .args .counts)) (c .before .before .before .before .before .before .before .before .before .before .before .before .before .before .before .before .before .pre .0 .6) (c .before .before .before .before .before .before .before .before .before .before .before .before .before .before .before .before .before .args .i) (c .before .before .before .before .before .before .before .before .before .before .before .before .before .before .before .before .before .pre .0 .0) (entries (now (c .before .before .before .before .before .before .before .before .before .before .before .before .before .before .before .before .before .args .list))) z ((c .before .before .before .before .before .before .before .before .before .before .before .before .before .before .before .before .before .args .s) .mode) (c .before .before .before .before .before .before .before .before .before .before .before .before .before .before .before .before .before .pre .0 .3) (reaches (nameIn text (now (c .before .before .before .before .before .before .before .before .before .before .before .before .before .before .before .before .before .args .kinds)) ss ls) (map (rangeSymbol (nameIn text (now (c .before .before .before .before .before .before .before .before .before .before .before .before .before .before .before .before .before .args .kinds)) ss ls)) (now (c .before .before .before .before .before .before .before .before .before .before .before .before .before .before .before .before .before .args .symbols))) (now (c .before .before .before .before .before .before .before .before .before .before .before .before .before .before .before .before .before .args .frames)) ((c .before .before .before .before .before .before .before .before .before .before .before .before .before .before .before .before .before .args .s) .depth)) ((c .before .before .before .before .before .before .before .before .before .before .before .before .before .before .before .before .before .args .s) .n) (now (c .before .before .before .before .before .before .before .before .before .before .before .before .before .before .before .before .before .args .out)) (now (c .before .before .before .before .before .before .before .before .before .before .before .before .before .before .before .before .before .args .out)) ((c .before .before .before .before .before .before .before .before .before .before .before .before .before .before .before .before .before .args .s) .at) ((c .before .before .before .before .before .before .before .before .before .before .before .before .before .before .before .before .before .args .s) .at) R.Short (I.Put R.Short) (c .before .before .before .action .result) _ (c .before .before .before .before .is-point .result) refl (c .before .before .before .before .is-point .ensures) (c .before .before .before .action .ensures) (sym (ap (λ (y : ℕ). itemOf (entries (now (c .before .before .before .before .before .before .before .before .before .before .before .before .before .before .before .before .before .args .list))) y (getD (now (c .before .before .before .before .before .before .before .before .before .before .before .before .before .before .before .before .before .args .kinds)) (c .before .before .before .before .before .before .before .before .before .before .before .before .before .before .before .before .before .args .i) 0 - 1) (getD (now (c .before .before .before .before .before .before .before .before .before .before .before .before .before .before .before .before .before .args .numbers)) (c .before .before .before .before .before .before .before .before .before .before .before .before .before .before .before .before .before .args .i) 0) ((nameIn text (now (c .before .before .before .before .before .before .before .before .before .before .before .before .before .before .before .before .before .args .kinds)) ss ls) (c .before .before .before .before .before .before .before .before .before .before .before .before .before .before .before .before .before .args .i)) ((nameIn text (now (c .before .before .before .before .before .before .before .before .before .before .before .before .before .before .before .before .before .args .kinds)) ss ls) ((c .before .before .before .before .before .before .before .before .before .before .before .before .before .before .before .before .before .args .i) + 2)) ((nameIn text (now (c .before .before .before .before .before .before .before .before .before .before .before .before .before .before .before .before .before .args .kinds)) ss ls) ((c .before .before .before .before .before .before .before .before .before .before .before .before .before .before .before .before .before .args .i) + 3)) ((nameIn text (now (c .before .before .before .before .before .before .before .before .before .before .before .before .before .before .before .before .before .args .kinds)) ss ls) ((c .before .before .before .before .before .before .before .before .before .before .before .before .before .before .before .before .before .args .i) + 4)) (inner (reaches (nameIn text (now (c .before .before .before .before .before .before .before .before .before .before .before .before .before .before .before .before .before .args .kinds)) ss ls) (map (rangeSymbol (nameIn text (now (c .before .before .before .before .before .before .before .before .before .before .before .before .before .before .before .before .before .args .kinds)) ss ls)) (now (c .before .before .before .before .before .before .before .before .before .before .before .before .before .before .before .before .before .args .symbols))) (now (c .before .before .before .before .before .before .before .before .before .before .before .before .before .before .before .before .before .args .frames)) ((c .before .before .before .before .before .before .before .before .before .before .before .before .before .before .before .before .before .args .s) .depth))) ((c .before .before .before .before .before .before .before .before .before .before .before .before .before .before .before .before .before .args .s) .n)) ((quiet-parts ((c .before .before .before .before .before .before .before .before .before .before .before .before .before .before .before .before .before .args .s) .mode) (c .before .before .before .action .result) (sym (c .before .quiet .ensures) ∙ c .if1 .taken)) .1))) refl _ (c .before .before .next-mode .ensures) _ (sym (ap (λ (y : ℕ). reachAfter y ((nameIn text (now (c .before .before .before .before .before .before .before .before .before .before .before .before .before .before .before .before .before .args .kinds)) ss ls) ((c .before .before .before .before .before .before .before .before .before .before .before .before .before .before .before .before .before .args .i) + 1)) ((nameIn text (now (c .before .before .before .before .before .before .before .before .before .before .before .before .before .before .before .before .before .args .kinds)) ss ls) ((c .before .before .before .before .before .before .before .before .before .before .before .before .before .before .before .before .before .args .i) + 2)) R.Short (reaches (nameIn text (now (c .before .before .before .before .before .before .before .before .before .before .before .before .before .before .before .before .before .args .kinds)) ss ls) (map (rangeSymbol (nameIn text (now (c .before .before .before .before .before .before .before .before .before .before .before .before .before .before .before .before .before .args .kinds)) ss ls)) (now (c .before .before .before .before .before .before .before .before .before .before .before .before .before .before .before .before .before .args .symbols))) (now (c .before .before .before .before .before .before .before .before .before .before .before .before .before .before .before .before .before .args .frames)) ((c .before .before .before .before .before .before .before .before .before .before .before .before .before .before .before .before .before .args .s) .depth))) ((quiet-parts ((c .before .before .before .before .before .before .before .before .before .before .before .before .before .before .before .before .before .args .s) .mode) (c .before .before .before .action .result) (sym (c .before .quiet .ensures) ∙ c .if1 .taken)) .1))) _ (sym (ap (λ (y : ℕ). numberAfter y ((c .before .before .before .before .before .before .before .before .before .before .before .before .before .before .before .before .before .args .s) .n)) ((quiet-parts ((c .before .before .before .before .before .before .before .before .before .before .before .before .before .before .before .before .before .args .s) .mode) (c .before .before .before .action .result) (sym (c .before .quiet .ensures) ∙ c .if1 .taken)) .1))) ((quiet-write (now (c .before .before .before .before .before .before .before .before .before .before .before .before .before .before .before .before .before .args .out)) ((c .before .before .before .before .before .before .before .before .before .before .before .before .before .before .before .before .before .args .s) .at) ((c .before .before .before .before .before .before .before .before .before .before .before .before .before .before .before .before .before .args .s) .mode) (getD (now (c .before .before .before .before .before .before .before .before .before .before .before .before .before .before .before .before .before .args .kinds)) (c .before .before .before .before .before .before .before .before .before .before .before .before .before .before .before .before .before .args .i) 0) (orsIn (getD (now (c .before .before .before .before .before .before .before .before .before .before .before .before .before .before .before .before .before .args .counts)) (c .before .before .before .before .before .before .before .before .before .before .before .before .before .before .before .before .before .args .i) 0)) (andsIn (getD (now (c .before .before .before .before .before .before .before .before .before .before .before .before .before .before .before .before .before .args .counts)) (c .before .before .before .before .before .before .before .before .before .before .before .before .before .before .before .before .before .args .i) 0)) (1 + signIn (getD (now (c .before .before .before .before .before .before .before .before .before .before .before .before .before .before .before .before .before .args .counts)) ((c .before .before .before .before .before .before .before .before .before .before .before .before .before .before .before .before .before .args .i) + 1) 0)) ((quiet-parts ((c .before .before .before .before .before .before .before .before .before .before .before .before .before .before .before .before .before .args .s) .mode) (c .before .before .before .action .result) (sym (c .before .quiet .ensures) ∙ c .if1 .taken)) .0)) .0) ((quiet-write (now (c .before .before .before .before .before .before .before .before .before .before .before .before .before .before .before .before .before .args .out)) ((c .before .before .before .before .before .before .before .before .before .before .before .before .before .before .before .before .before .args .s) .at) ((c .before .before .before .before .before .before .before .before .before .before .before .before .before .before .before .before .before .args .s) .mode) (getD (now (c .before .before .before .before .before .before .before .before .before .before .before .before .before .before .before .before .before .args .kinds)) (c .before .before .before .before .before .before .before .before .before .before .before .before .before .before .before .before .before .args .i) 0) (orsIn (getD (now (c .before .before .before .before .before .before .before .before .before .before .before .before .before .before .before .before .before .args .counts)) (c .before .before .before .before .before .before .before .before .before .before .before .before .before .before .before .before .before .args .i) 0)) (andsIn (getD (now (c .before .before .before .before .before .before .before .before .before .before .before .before .before .before .before .before .before .args .counts)) (c .before .before .before .before .before .before .before .before .before .before .before .before .before .before .before .before .before .args .i) 0)) (1 + signIn (getD (now (c .before .before .before .before .before .before .before .before .before .before .before .before .before .before .before .before .before .args .counts)) ((c .before .before .before .before .before .before .before .before .before .before .before .before .before .before .before .before .before .args .i) + 1) 0)) ((quiet-parts ((c .before .before .before .before .before .before .before .before .before .before .before .before .before .before .before .before .before .args .s) .mode) (c .before .before .before .action .result) (sym (c .before .quiet .ensures) ∙ c .if1 .taken)) .0)) .1) }, (omega (arith, c .before .before .next-mode .ensures, mode-most ((c .before .before .before .before .before .before .before .before .before .before .before .before .before .before .before .before .before .args .s) .mode) (getD (now (c .before .before .before .before .before .before .before .before .before .before .before .before .before .before .before .before .before .args .kinds)) (c .before .before .before .before .before .before .before .before .before .before .before .before .before .before .before .before .before .args .i) 0) (c .before .before .before .before .is-point .result) (c .before .before .before .before .before .before .before .before .before .before .before .before .before .before .before .before .before .pre .0 .3)), omega arith, omega arith, omega arith))
 
--- src/lib.rt:152:9
-write-requires : tie.Need-write-requires
-write-requires c κs = search needs
-
--- src/lib.rt:153:9
-shift-requires : tie.Need-shift-requires
-shift-requires c κs =
-    let c₆ = c .before .before .before .before .before .before in let r = c₆ .r in
-    let c₈ = c₆ .before .before in let item-at = c₈ .item-at in
-    let c₁₀ = c₈ .before .before in let action = c₁₀ .action in
-    let c₂₃ = c₁₀ .before .before .before .before .before .before .before .before .before .before .before .before .before in let args = c₂₃ .args in let pre = c₂₃ .pre in
-    let kinds = now (args .kinds) in let lengths = now (args .lengths) in let starts = now (args .starts) in let text = now (args .text) in let i = args .i in let s = args .s in
-    (pre .2, omega arith, fits (entries (now (args .list))) (action .result) (getD kinds i 0 - 1) (getD (now (args .numbers)) i 0) ((nameIn text kinds starts lengths) i) ((nameIn text kinds starts lengths) (i + 2)) ((nameIn text kinds starts lengths) (i + 3)) ((nameIn text kinds starts lengths) (i + 4)) (inner (reaches (nameIn text kinds starts lengths) (map (rangeSymbol (nameIn text kinds starts lengths)) (now (args .symbols))) (now (args .frames)) (s .depth))) (s .n) _ _ (item-at .ensures) (r .given .1))
-
--- src/lib.rt:154:9
-number-requires : tie.Need-number-requires
-number-requires c κs =
-    let c₂₆ = c .before .before .before .before .before .before .before .before .before .before .before .before .before .before .before .before .before .before .before .before .before .before .before .before .before .before in let pre = c₂₆ .pre in
-    pre .4
-
--- src/lib.rt:155:9
-next-mode-requires : tie.Need-next-mode-requires
-next-mode-requires c κs = search needs
-
--- src/lib.rt:115:1
-same-length-2 : tie.Need-same-length-2
-same-length-2 c = search needs
-
--- src/lib.rt:115:1
-same-length-3 : tie.Need-same-length-3
-same-length-3 c = search needs
-
--- src/lib.rt:115:1
 returns-2 : tie.Need-returns-2
-returns-2 c =
-    let c₁ = c .before in let number = c₁ .number in
-    let c₄ = c₁ .before .before .before in let shift = c₄ .shift in
-    let c₈ = c₄ .before .before .before .before in let write = c₈ .write in
-    let c₁₁ = c₈ .before .before .before in let r = c₁₁ .r in
-    let c₁₃ = c₁₁ .before .before in let item-at = c₁₃ .item-at in
-    let c₁₅ = c₁₃ .before .before in let action = c₁₅ .action in
-    let c₁₆ = c₁₅ .before in let is-point = c₁₆ .is-point in
-    let c₂₈ = c₁₆ .before .before .before .before .before .before .before .before .before .before .before .before in let args = c₂₈ .args in let pre = c₂₈ .pre in
-    let kinds = now (args .kinds) in let lengths = now (args .lengths) in let starts = now (args .starts) in let symbols = now (args .symbols) in let text = now (args .text) in let i = args .i in let s = args .s in
-    (record { ends = λ z. ends-put text (table kinds starts lengths (now (args .numbers))) (now (args .counts)) (pre .6) i (pre .0) (entries (now (args .list))) z (s .mode) (pre .3) (reaches (nameIn text kinds starts lengths) (map (rangeSymbol (nameIn text kinds starts lengths)) symbols) (now (args .frames)) (s .depth)) (s .n) (now (args .out)) _ (s .at) _ _ _ (action .result) _ (is-point .result) refl (is-point .ensures) (action .ensures) (item-at .ensures) (r .given .1) _ (c .next-mode .ensures) _ (shift .ensures .0 (nameIn text kinds starts lengths) (map (rangeSymbol (nameIn text kinds starts lengths)) symbols)) _ (number .ensures .0) (write .ensures .0) (write .ensures .1 .0) }, (omega (arith, c .next-mode .ensures, mode-most (s .mode) (getD kinds i 0) (is-point .result) (pre .3)), shift .ensures .1, number .ensures .1, write .ensures .1 .1))
+returns-2 c = (λ text ss ls tb. record { ends = λ z. ends-refused text (table (now (c .before .before .before .before .before .before .before .before .before .before .before .before .before .before .before .before .before .before .before .before .before .args .kinds)) ss ls (now (c .before .before .before .before .before .before .before .before .before .before .before .before .before .before .before .before .before .before .before .before .before .args .numbers))) (now (c .before .before .before .before .before .before .before .before .before .before .before .before .before .before .before .before .before .before .before .before .before .args .counts)) (c .before .before .before .before .before .before .before .before .before .before .before .before .before .before .before .before .before .before .before .before .before .pre .0 .6) (c .before .before .before .before .before .before .before .before .before .before .before .before .before .before .before .before .before .before .before .before .before .args .i) (c .before .before .before .before .before .before .before .before .before .before .before .before .before .before .before .before .before .before .before .before .before .pre .0 .0) (entries (now (c .before .before .before .before .before .before .before .before .before .before .before .before .before .before .before .before .before .before .before .before .before .args .list))) z ((c .before .before .before .before .before .before .before .before .before .before .before .before .before .before .before .before .before .before .before .before .before .args .s) .mode) (c .before .before .before .before .before .before .before .before .before .before .before .before .before .before .before .before .before .before .before .before .before .pre .0 .3) (reaches (nameIn text (now (c .before .before .before .before .before .before .before .before .before .before .before .before .before .before .before .before .before .before .before .before .before .args .kinds)) ss ls) (map (rangeSymbol (nameIn text (now (c .before .before .before .before .before .before .before .before .before .before .before .before .before .before .before .before .before .before .before .before .before .args .kinds)) ss ls)) (now (c .before .before .before .before .before .before .before .before .before .before .before .before .before .before .before .before .before .before .before .before .before .args .symbols))) (now (c .before .before .before .before .before .before .before .before .before .before .before .before .before .before .before .before .before .before .before .before .before .args .frames)) ((c .before .before .before .before .before .before .before .before .before .before .before .before .before .before .before .before .before .before .before .before .before .args .s) .depth)) ((c .before .before .before .before .before .before .before .before .before .before .before .before .before .before .before .before .before .before .before .before .before .args .s) .n) (now (c .before .before .before .before .before .before .before .before .before .before .before .before .before .before .before .before .before .before .before .before .before .args .out)) (now (c .before .before .before .before .before .before .before .before .before .before .before .before .before .before .before .before .before .before .before .before .before .args .out)) ((c .before .before .before .before .before .before .before .before .before .before .before .before .before .before .before .before .before .before .before .before .before .args .s) .at) 0 R.Short _ (c .before .before .before .before .before .before .before .action .result) _ (c .before .before .before .before .before .before .before .before .is-point .result) refl (c .before .before .before .before .before .before .before .before .is-point .ensures) (c .before .before .before .before .before .before .before .action .ensures) (c .before .before .item-at .ensures (nameIn text (now (c .before .before .before .before .before .before .before .before .before .before .before .before .before .before .before .before .before .before .before .before .before .args .kinds)) ss ls) tb) (c .enum-told .given .1) }, tt)
+
+write-requires : tie.Need-write-requires
+write-requires c κs = (c .before .before .before .before .before .before .before .before .before .before .before .before .before .before .before .before .before .before .before .before .before .before .before .pre .0 .5, omega (arith, c .before .before .before .before .before .before .before .before .before .before .before .before .before .before .before .before .before .before .before .before .before .before .before .pre .0 .0, c .before .before .before .before .before .before .before .before .before .before .before .before .before .before .before .before .before .before .before .before .before .before .before .pre .0 .1))
+
+shift-requires : tie.Need-shift-requires
+shift-requires c κs = (c .before .before .before .before .before .before .before .before .before .before .before .before .before .before .before .before .before .before .before .before .before .before .before .before .before .before .before .pre .0 .2, omega (arith, c .before .before .before .before .before .before .before .before .before .before .before .before .before .before .before .before .before .before .before .before .before .before .before .before .before .before .before .pre .0 .0, c .before .before .before .before .before .before .before .before .before .before .before .before .before .before .before .before .before .before .before .before .before .before .before .before .before .before .before .pre .0 .1))
+
+number-requires : tie.Need-number-requires
+number-requires c κs = c .before .before .before .before .before .before .before .before .before .before .before .before .before .before .before .before .before .before .before .before .before .before .before .before .before .before .before .before .before .before .pre .0 .4
+
+returns-3 : tie.Need-returns-3
+returns-3 c = (λ text ss ls tb. record { ends = λ z. ends-put text (table (now (c .before .before .before .before .before .before .before .before .before .before .before .before .before .before .before .before .before .before .before .before .before .before .before .before .before .before .before .before .before .before .before .args .kinds)) ss ls (now (c .before .before .before .before .before .before .before .before .before .before .before .before .before .before .before .before .before .before .before .before .before .before .before .before .before .before .before .before .before .before .before .args .numbers))) (now (c .before .before .before .before .before .before .before .before .before .before .before .before .before .before .before .before .before .before .before .before .before .before .before .before .before .before .before .before .before .before .before .args .counts)) (c .before .before .before .before .before .before .before .before .before .before .before .before .before .before .before .before .before .before .before .before .before .before .before .before .before .before .before .before .before .before .before .pre .0 .6) (c .before .before .before .before .before .before .before .before .before .before .before .before .before .before .before .before .before .before .before .before .before .before .before .before .before .before .before .before .before .before .before .args .i) (c .before .before .before .before .before .before .before .before .before .before .before .before .before .before .before .before .before .before .before .before .before .before .before .before .before .before .before .before .before .before .before .pre .0 .0) (entries (now (c .before .before .before .before .before .before .before .before .before .before .before .before .before .before .before .before .before .before .before .before .before .before .before .before .before .before .before .before .before .before .before .args .list))) z ((c .before .before .before .before .before .before .before .before .before .before .before .before .before .before .before .before .before .before .before .before .before .before .before .before .before .before .before .before .before .before .before .args .s) .mode) (c .before .before .before .before .before .before .before .before .before .before .before .before .before .before .before .before .before .before .before .before .before .before .before .before .before .before .before .before .before .before .before .pre .0 .3) (reaches (nameIn text (now (c .before .before .before .before .before .before .before .before .before .before .before .before .before .before .before .before .before .before .before .before .before .before .before .before .before .before .before .before .before .before .before .args .kinds)) ss ls) (map (rangeSymbol (nameIn text (now (c .before .before .before .before .before .before .before .before .before .before .before .before .before .before .before .before .before .before .before .before .before .before .before .before .before .before .before .before .before .before .before .args .kinds)) ss ls)) (now (c .before .before .before .before .before .before .before .before .before .before .before .before .before .before .before .before .before .before .before .before .before .before .before .before .before .before .before .before .before .before .before .args .symbols))) (now (c .before .before .before .before .before .before .before .before .before .before .before .before .before .before .before .before .before .before .before .before .before .before .before .before .before .before .before .before .before .before .before .args .frames)) ((c .before .before .before .before .before .before .before .before .before .before .before .before .before .before .before .before .before .before .before .before .before .before .before .before .before .before .before .before .before .before .before .args .s) .depth)) ((c .before .before .before .before .before .before .before .before .before .before .before .before .before .before .before .before .before .before .before .before .before .before .before .before .before .before .before .before .before .before .before .args .s) .n) (now (c .before .before .before .before .before .before .before .before .before .before .before .before .before .before .before .before .before .before .before .before .before .before .before .before .before .before .before .before .before .before .before .args .out)) _ ((c .before .before .before .before .before .before .before .before .before .before .before .before .before .before .before .before .before .before .before .before .before .before .before .before .before .before .before .before .before .before .before .args .s) .at) _ _ _ (c .before .before .before .before .before .before .before .before .before .before .before .before .before .before .before .before .before .action .result) _ (c .before .before .before .before .before .before .before .before .before .before .before .before .before .before .before .before .before .before .is-point .result) refl (c .before .before .before .before .before .before .before .before .before .before .before .before .before .before .before .before .before .before .is-point .ensures) (c .before .before .before .before .before .before .before .before .before .before .before .before .before .before .before .before .before .action .ensures) (c .before .before .before .before .before .before .before .before .before .before .before .before .item-at .ensures (nameIn text (now (c .before .before .before .before .before .before .before .before .before .before .before .before .before .before .before .before .before .before .before .before .before .before .before .before .before .before .before .before .before .before .before .args .kinds)) ss ls) tb) (c .before .before .before .before .before .before .before .before .before .before .r .given .1) _ (c .before .before .before .before .before .before .before .before .before .before .before .before .before .before .before .before .next-mode .ensures) _ (c .before .before .before .shift .ensures .0 (fits (entries (now (c .before .before .before .before .before .before .before .before .before .before .before .before .before .before .before .before .before .before .before .before .before .before .before .before .before .before .before .before .before .before .before .args .list))) (c .before .before .before .before .before .before .before .before .before .before .before .before .before .before .before .before .before .action .result) (getD (now (c .before .before .before .before .before .before .before .before .before .before .before .before .before .before .before .before .before .before .before .before .before .before .before .before .before .before .before .before .before .before .before .args .kinds)) (c .before .before .before .before .before .before .before .before .before .before .before .before .before .before .before .before .before .before .before .before .before .before .before .before .before .before .before .before .before .before .before .args .i) 0 - 1) (getD (now (c .before .before .before .before .before .before .before .before .before .before .before .before .before .before .before .before .before .before .before .before .before .before .before .before .before .before .before .before .before .before .before .args .numbers)) (c .before .before .before .before .before .before .before .before .before .before .before .before .before .before .before .before .before .before .before .before .before .before .before .before .before .before .before .before .before .before .before .args .i) 0) ((nameIn text (now (c .before .before .before .before .before .before .before .before .before .before .before .before .before .before .before .before .before .before .before .before .before .before .before .before .before .before .before .before .before .before .before .args .kinds)) ss ls) (c .before .before .before .before .before .before .before .before .before .before .before .before .before .before .before .before .before .before .before .before .before .before .before .before .before .before .before .before .before .before .before .args .i)) ((nameIn text (now (c .before .before .before .before .before .before .before .before .before .before .before .before .before .before .before .before .before .before .before .before .before .before .before .before .before .before .before .before .before .before .before .args .kinds)) ss ls) ((c .before .before .before .before .before .before .before .before .before .before .before .before .before .before .before .before .before .before .before .before .before .before .before .before .before .before .before .before .before .before .before .args .i) + 2)) ((nameIn text (now (c .before .before .before .before .before .before .before .before .before .before .before .before .before .before .before .before .before .before .before .before .before .before .before .before .before .before .before .before .before .before .before .args .kinds)) ss ls) ((c .before .before .before .before .before .before .before .before .before .before .before .before .before .before .before .before .before .before .before .before .before .before .before .before .before .before .before .before .before .before .before .args .i) + 3)) ((nameIn text (now (c .before .before .before .before .before .before .before .before .before .before .before .before .before .before .before .before .before .before .before .before .before .before .before .before .before .before .before .before .before .before .before .args .kinds)) ss ls) ((c .before .before .before .before .before .before .before .before .before .before .before .before .before .before .before .before .before .before .before .before .before .before .before .before .before .before .before .before .before .before .before .args .i) + 4)) (inner (reaches (nameIn text (now (c .before .before .before .before .before .before .before .before .before .before .before .before .before .before .before .before .before .before .before .before .before .before .before .before .before .before .before .before .before .before .before .args .kinds)) ss ls) (map (rangeSymbol (nameIn text (now (c .before .before .before .before .before .before .before .before .before .before .before .before .before .before .before .before .before .before .before .before .before .before .before .before .before .before .before .before .before .before .before .args .kinds)) ss ls)) (now (c .before .before .before .before .before .before .before .before .before .before .before .before .before .before .before .before .before .before .before .before .before .before .before .before .before .before .before .before .before .before .before .args .symbols))) (now (c .before .before .before .before .before .before .before .before .before .before .before .before .before .before .before .before .before .before .before .before .before .before .before .before .before .before .before .before .before .before .before .args .frames)) ((c .before .before .before .before .before .before .before .before .before .before .before .before .before .before .before .before .before .before .before .before .before .before .before .before .before .before .before .before .before .before .before .args .s) .depth))) ((c .before .before .before .before .before .before .before .before .before .before .before .before .before .before .before .before .before .before .before .before .before .before .before .before .before .before .before .before .before .before .before .args .s) .n) _ _ (c .before .before .before .before .before .before .before .before .before .before .before .before .item-at .ensures (nameIn text (now (c .before .before .before .before .before .before .before .before .before .before .before .before .before .before .before .before .before .before .before .before .before .before .before .before .before .before .before .before .before .before .before .args .kinds)) ss ls) tb) (c .before .before .before .before .before .before .before .before .before .before .r .given .1)) (nameIn text (now (c .before .before .before .before .before .before .before .before .before .before .before .before .before .before .before .before .before .before .before .before .before .before .before .before .before .before .before .before .before .before .before .args .kinds)) ss ls) (map (rangeSymbol (nameIn text (now (c .before .before .before .before .before .before .before .before .before .before .before .before .before .before .before .before .before .before .before .before .before .before .before .before .before .before .before .before .before .before .before .args .kinds)) ss ls)) (now (c .before .before .before .before .before .before .before .before .before .before .before .before .before .before .before .before .before .before .before .before .before .before .before .before .before .before .before .before .before .before .before .args .symbols)))) _ (c .number .ensures .0) (c .before .before .before .before .before .before .before .write .ensures .0) (c .before .before .before .before .before .before .before .write .ensures .1 .0) }, (omega (arith, c .before .before .before .before .before .before .before .before .before .before .before .before .before .before .before .before .next-mode .ensures, mode-most ((c .before .before .before .before .before .before .before .before .before .before .before .before .before .before .before .before .before .before .before .before .before .before .before .before .before .before .before .before .before .before .before .args .s) .mode) (getD (now (c .before .before .before .before .before .before .before .before .before .before .before .before .before .before .before .before .before .before .before .before .before .before .before .before .before .before .before .before .before .before .before .args .kinds)) (c .before .before .before .before .before .before .before .before .before .before .before .before .before .before .before .before .before .before .before .before .before .before .before .before .before .before .before .before .before .before .before .args .i) 0) (c .before .before .before .before .before .before .before .before .before .before .before .before .before .before .before .before .before .before .is-point .result) (c .before .before .before .before .before .before .before .before .before .before .before .before .before .before .before .before .before .before .before .before .before .before .before .before .before .before .before .before .before .before .before .pre .0 .3)), c .before .before .before .shift .ensures .1, c .number .ensures .1, c .before .before .before .before .before .before .before .write .ensures .1 .1))
 
 pub turn-spec : {M : Type 1} → statement M
 turn-spec =
     tie.close
     (tie.spec
-    shared-slice-read-kind
-    add-is-point
-    is-point-requires
-    action-requires
-    item-at-requires
-    enum-known-r
-    enum-told
-    same-length
+    (λ c. search needs)
+    (λ c. search needs)
+    (λ c κs. search needs)
+    (λ c κs. search needs)
+    (λ c κs. search needs)
+    (λ c κs. search needs)
     returns
+    (λ c κs. search needs)
+    (λ c. search needs)
+    (λ c. search needs)
+    (λ c. search needs)
+    returns-2
     write-requires
     shift-requires
     number-requires
-    next-mode-requires
-    same-length-2
-    same-length-3
-    returns-2)
+    (λ c. search needs)
+    (λ c. search needs)
+    returns-3)

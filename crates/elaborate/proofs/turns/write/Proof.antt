@@ -15,27 +15,6 @@ use Rattle.elaborate.proofs.ahead.ors.Reads as ors-reads
 use Rattle.copier.proofs.put_record.Reads as put-record-reads
 use Rattle.elaborate.proofs.opens.open.Reads as open-reads
 
--- src/lib.rt:54:9
-ors-requires : tie.Need-ors-requires
-ors-requires c κs = search needs
-
--- src/lib.rt:55:9
-ands-requires : tie.Need-ands-requires
-ands-requires c κs = search needs
-
--- src/lib.rt:56:33
-add-operator : tie.Need-add-operator
-add-operator c = search needs
-
--- src/lib.rt:56:9
-operator-requires : tie.Need-operator-requires
-operator-requires c κs = search needs
-
--- src/lib.rt:49:9
-open-requires : tie.Need-open-requires
-open-requires c κs = search needs
-
--- src/lib.rt:58:5
 put-record-requires : tie.Need-put-record-requires
 put-record-requires c κs =
     let c₄ = c .before .before .before .before in let operator = c₄ .operator in
@@ -44,11 +23,6 @@ put-record-requires c κs =
     let c₁₀ = c₆ .before .before .before .before in let args = c₁₀ .args in
     omega (arith, c .before .before .before .«open» .ensures .0, ors .ensures, ands .ensures, open-most (args .mode) (args .kind) (ors .result) (ands .result) (operator .result), record-most (args .item))
 
--- src/lib.rt:35:1
-same-length : tie.Need-same-length
-same-length c = search needs
-
--- src/lib.rt:35:1
 returns : tie.Need-returns
 returns c =
     let c₂ = c .before .before in let put-record = c₂ .put-record in
@@ -63,11 +37,11 @@ pub write-spec : {M : Type 1} → statement M
 write-spec =
     tie.close
     (tie.spec
-    ors-requires
-    ands-requires
-    add-operator
-    operator-requires
-    open-requires
+    (λ c κs. search needs)
+    (λ c κs. search needs)
+    (λ c. search needs)
+    (λ c κs. search needs)
+    (λ c κs. search needs)
     put-record-requires
-    same-length
+    (λ c. search needs)
     returns)

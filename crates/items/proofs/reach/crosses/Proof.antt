@@ -4,11 +4,9 @@ use Rattle.items.proofs.reach.crosses.Tie as tie
 use Rattle.items.proofs.reach.crosses.Reads as reads
 use Rattle.items.proofs.reach.crosses.Lts as lts
 
--- src/lib.rt:109:1
 returns : tie.Need-returns
 returns c = rw (c .if1 .taken)
 
--- src/lib.rt:109:1
 returns-2 : tie.Need-returns-2
 returns-2 c = rw (ne-eqb _ _ (c .if1 .left))
 

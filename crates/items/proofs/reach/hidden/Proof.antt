@@ -10,35 +10,19 @@ use Rattle.items.proofs.reach.hidden.Tie as tie
 use Rattle.items.proofs.reach.hidden.Reads as reads
 use Rattle.items.proofs.reach.hidden.Lts as lts
 
--- src/lib.rt:90:9
 returns : tie.Need-returns
 returns c = rw (not-true (c .before .args .crossed) (c .if1 .taken))
 
--- src/lib.rt:93:25
-enum-known-k : tie.Need-enum-known-k
-enum-known-k c = search needs
-
--- src/lib.rt:94:21
-enum-known-k-2 : tie.Need-enum-known-k-2
-enum-known-k-2 c = search needs
-
--- src/lib.rt:95:27
-enum-told : tie.Need-enum-told
-enum-told c = search needs
-
--- src/lib.rt:86:1
 returns-2 : tie.Need-returns-2
 returns-2 c = sym (ap₂ hide (not-false (c .before .before .before .before .args .crossed) (c .before .before .before .if1 .left)) (c .before .k .given .1))
 
--- src/lib.rt:86:1
 returns-3 : tie.Need-returns-3
 returns-3 c = sym (ap₂ hide (not-false (c .before .before .before .before .args .crossed) (c .before .before .before .if1 .left)) (c .before .k2 .given .1))
 
--- src/lib.rt:86:1
 returns-4 : tie.Need-returns-4
 returns-4 c = sym (ap₂ hide (not-false (c .before .before .before .args .crossed) (c .before .before .if1 .left)) (c .enum-told .given .1))
 
 pub hidden-spec : {M : Type 1} → statement M
 hidden-spec =
     tie.close
-    (tie.spec returns enum-known-k enum-known-k-2 enum-told returns-2 returns-3 returns-4)
+    (tie.spec returns (λ c. search needs) (λ c. search needs) (λ c. search needs) returns-2 returns-3 returns-4)

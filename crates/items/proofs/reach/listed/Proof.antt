@@ -12,26 +12,12 @@ use Rattle.items.proofs.reach.listed.Lts as lts
 use Rattle.items.proofs.reach.relation.Reads as relation-reads
 use Rattle.items.proofs.reach.variable.Reads as variable-reads
 
--- src/lib.rt:59:28
-relation-requires : tie.Need-relation-requires
-relation-requires c κs = search needs
-
--- src/lib.rt:59:9
 returns : tie.Need-returns
 returns c = rw (c .before .if1 .taken) (ap K.Head (c .relation .ensures))
 
--- src/lib.rt:61:21
-relation-requires-2 : tie.Need-relation-requires-2
-relation-requires-2 c κs = search needs
-
--- src/lib.rt:61:34
-variable-requires : tie.Need-variable-requires
-variable-requires c κs = search needs
-
--- src/lib.rt:55:1
 returns-2 : tie.Need-returns-2
 returns-2 c = rw (ne-eqb _ _ (c .before .before .if1 .left)) (ap₂ K.Variable (c .before .relation2 .ensures) (c .variable .ensures))
 
 pub listed-spec : {M : Type 1} → statement M
 listed-spec =
-    tie.close (tie.spec relation-requires returns relation-requires-2 variable-requires returns-2)
+    tie.close (tie.spec (λ c κs. search needs) returns (λ c κs. search needs) (λ c κs. search needs) returns-2)

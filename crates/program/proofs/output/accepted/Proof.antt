@@ -9,18 +9,12 @@ use borrow.Author.Needs.{needs}
 use Rattle.program.proofs.output.accepted.Statement.{statement}
 use Rattle.program.proofs.output.accepted.Tie as tie
 
-slice-aggregate-labelled : tie.Need-slice-aggregate-labelled
-slice-aggregate-labelled c = search needs
-
 labelled-requires : tie.Need-labelled-requires
 unfolding O.accepted
 labelled-requires c κs =
     let c₄ = c .before .before .before .before in let args = c₄ .args in let pre = c₄ .pre in
     let answer = now (args .answer) in let rewritten = now (args .rewritten) in let columns = args .columns in let count = args .count in let rows = args .rows in
     P.room1 (O.accepted rows columns count rewritten answer) (T.labelled O.rowsWord rows) (T.labelled O.columnsWord columns) (T.labelled O.questionWord count) (T.line T.decimal (take count rewritten)) (T.table rows columns answer) refl (pre .1 .1) (now (args .out))
-
-slice-aggregate-labelled-2 : tie.Need-slice-aggregate-labelled-2
-slice-aggregate-labelled-2 c = search needs
 
 labelled-requires-2 : tie.Need-labelled-requires-2
 unfolding O.accepted
@@ -29,9 +23,6 @@ labelled-requires-2 c κs =
     let c₉ = c₄ .before .before .before .before .before in let args = c₉ .args in let pre = c₉ .pre in
     let answer = now (args .answer) in let rewritten = now (args .rewritten) in let columns = args .columns in let count = args .count in let rows = args .rows in
     P.room2 (O.accepted rows columns count rewritten answer) (T.labelled O.rowsWord rows) (T.labelled O.columnsWord columns) (T.labelled O.questionWord count) (T.line T.decimal (take count rewritten)) (T.table rows columns answer) refl (pre .1 .1) (now (args .out)) _ _ (labelled .ensures)
-
-slice-aggregate-labelled-3 : tie.Need-slice-aggregate-labelled-3
-slice-aggregate-labelled-3 c = search needs
 
 labelled-requires-3 : tie.Need-labelled-requires-3
 unfolding O.accepted
@@ -68,9 +59,6 @@ table-requires c κs =
     let answer = now (args .answer) in let rewritten = now (args .rewritten) in let columns = args .columns in let count = args .count in let rows = args .rows in
     (pre .0, P.room5 (O.accepted rows columns count rewritten answer) (T.labelled O.rowsWord rows) (T.labelled O.columnsWord columns) (T.labelled O.questionWord count) (T.line T.decimal (take count rewritten)) (T.table rows columns answer) refl (pre .1 .1) (now (args .out)) _ _ (labelled .ensures) _ _ (labelled2 .ensures) _ _ (labelled3 .ensures) _ _ (bytes .ensures))
 
-same-length : tie.Need-same-length
-same-length c = search needs
-
 returns : tie.Need-returns
 unfolding O.accepted
 returns c =
@@ -86,14 +74,14 @@ pub accepted-spec : {M : Type 1} → statement M
 accepted-spec =
     tie.close
     (tie.spec
-    slice-aggregate-labelled
+    (λ c. search needs)
     labelled-requires
-    slice-aggregate-labelled-2
+    (λ c. search needs)
     labelled-requires-2
-    slice-aggregate-labelled-3
+    (λ c. search needs)
     labelled-requires-3
     slice-aggregate-bytes
     bytes-requires
     table-requires
-    same-length
+    (λ c. search needs)
     returns)

@@ -5,21 +5,6 @@ use borrow.Author.Needs.{needs}
 use Rattle.program.proofs.output.respond.Statement.{statement}
 use Rattle.program.proofs.output.respond.Tie as tie
 
-slice-aggregate-respond-with : tie.Need-slice-aggregate-respond-with
-slice-aggregate-respond-with c = search needs
-
-slice-aggregate-respond-with-2 : tie.Need-slice-aggregate-respond-with-2
-slice-aggregate-respond-with-2 c = search needs
-
-slice-aggregate-respond-with-3 : tie.Need-slice-aggregate-respond-with-3
-slice-aggregate-respond-with-3 c = search needs
-
-respond-with-requires : tie.Need-respond-with-requires
-respond-with-requires c κs = search needs
-
-same-length : tie.Need-same-length
-same-length c = search needs
-
 returns : tie.Need-returns
 returns c =
     let c₅ = c .before .before .before .before .before in let respond-with = c₅ .respond-with in
@@ -30,9 +15,9 @@ pub respond-spec : {M : Type 1} → statement M
 respond-spec =
     tie.close
     (tie.spec
-    slice-aggregate-respond-with
-    slice-aggregate-respond-with-2
-    slice-aggregate-respond-with-3
-    respond-with-requires
-    same-length
+    (λ c. search needs)
+    (λ c. search needs)
+    (λ c. search needs)
+    (λ c κs. search needs)
+    (λ c. search needs)
     returns)

@@ -10,18 +10,6 @@ use borrow.Author.Needs.{needs}
 use Rattle.program.proofs.output.respond_with.Statement.{statement}
 use Rattle.program.proofs.output.respond_with.Tie as tie
 
-unreadable-requires : tie.Need-unreadable-requires
-unreadable-requires c κs = search needs
-
-unread-requires : tie.Need-unread-requires
-unread-requires c κs = search needs
-
-refused-requires : tie.Need-refused-requires
-refused-requires c κs = search needs
-
-same-length : tie.Need-same-length
-same-length c = search needs
-
 returns : tie.Need-returns
 returns c =
     let c₂ = c .before .before in let refused = c₂ .refused in
@@ -53,27 +41,6 @@ slice-aggregate-ask c =
     let file = now (args .file) in
     sym (length-take-le (length file / 4) (read-values .last .1 .0) (omega (arith, A.readable-size (now (args .catalogue)) file (now (args .permits)) (now (args .question)) _ (unreadable .ensures) (if1 .left), pre .0, read-values .kept .1 .0)))
 
-ask-requires : tie.Need-ask-requires
-ask-requires c κs = search needs
-
-wide-requires : tie.Need-wide-requires
-wide-requires c κs = search needs
-
-refused-requires-2 : tie.Need-refused-requires-2
-refused-requires-2 c κs = search needs
-
-same-length-2 : tie.Need-same-length-2
-same-length-2 c = search needs
-
-same-length-3 : tie.Need-same-length-3
-same-length-3 c = search needs
-
-same-length-4 : tie.Need-same-length-4
-same-length-4 c = search needs
-
-same-length-5 : tie.Need-same-length-5
-same-length-5 c = search needs
-
 returns-2 : tie.Need-returns-2
 returns-2 c =
     let c₂ = c .before .before in let refused2 = c₂ .refused2 in
@@ -97,18 +64,6 @@ accepted-requires c κs =
     let answer = now (args .answer) in let catalogue = now (args .catalogue) in let file = now (args .file) in let permits = now (args .permits) in let question = now (args .question) in let rewritten = now (args .rewritten) in
     (A.cells-in catalogue file permits question _ (unreadable .ensures) (if1 .left) (ask .result) _ _ _ rewritten answer (read-values .ensures) (pre .1 .0) (pre .1 .1) (ask .ensures) (ask .kept .1 .1 .1 .1 .1 .0) (ask .kept .1 .1 .1 .1 .0), (A.bytes-in catalogue file permits question _ (unreadable .ensures) (if1 .left) (ask .result) _ _ _ rewritten answer (read-values .ensures) (pre .1 .0) (pre .1 .1) (ask .ensures) (ask .kept .1 .1 .1 .1 .1 .0) (ask .kept .1 .1 .1 .1 .0), A.text-room catalogue file permits question _ (unreadable .ensures) (if1 .left) (ask .result) _ _ _ rewritten answer (read-values .ensures) (pre .1 .0) (pre .1 .1) (ask .ensures) (ask .kept .1 .1 .1 .1 .1 .0) (ask .kept .1 .1 .1 .1 .0)))
 
-same-length-6 : tie.Need-same-length-6
-same-length-6 c = search needs
-
-same-length-7 : tie.Need-same-length-7
-same-length-7 c = search needs
-
-same-length-8 : tie.Need-same-length-8
-same-length-8 c = search needs
-
-same-length-9 : tie.Need-same-length-9
-same-length-9 c = search needs
-
 returns-3 : tie.Need-returns-3
 returns-3 c =
     let c₂ = c .before .before in let accepted = c₂ .accepted in
@@ -125,25 +80,25 @@ pub respond-with-spec : {M : Type 1} → statement M
 respond-with-spec =
     tie.close
     (tie.spec
-    unreadable-requires
-    unread-requires
-    refused-requires
-    same-length
+    (λ c κs. search needs)
+    (λ c κs. search needs)
+    (λ c κs. search needs)
+    (λ c. search needs)
     returns
     read-values-requires
     slice-reshare-prefix-ask
     slice-aggregate-ask
-    ask-requires
-    wide-requires
-    refused-requires-2
-    same-length-2
-    same-length-3
-    same-length-4
-    same-length-5
+    (λ c κs. search needs)
+    (λ c κs. search needs)
+    (λ c κs. search needs)
+    (λ c. search needs)
+    (λ c. search needs)
+    (λ c. search needs)
+    (λ c. search needs)
     returns-2
     accepted-requires
-    same-length-6
-    same-length-7
-    same-length-8
-    same-length-9
+    (λ c. search needs)
+    (λ c. search needs)
+    (λ c. search needs)
+    (λ c. search needs)
     returns-3)

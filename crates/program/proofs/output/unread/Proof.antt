@@ -4,14 +4,11 @@ use borrow.Author.Needs.{needs}
 use Rattle.program.proofs.output.unread.Statement.{statement}
 use Rattle.program.proofs.output.unread.Tie as tie
 
-fails-10-requires : tie.Need-fails-10-requires
-fails-10-requires c κs = search needs
-
 returns : tie.Need-returns
-returns c = unread-10 (now (c .before .before .before .args .catalogue)) _ (c .before .fails-10 .ensures) (c .if1 .taken)
+returns c = unread-10 (now (c .before .before .before .before .args .catalogue)) _ _ (c .before .check .ensures) (c .if1 .taken)
 
 returns-2 : tie.Need-returns-2
-returns-2 c = unread-11 (now (c .before .before .before .args .catalogue)) _ (c .before .fails-10 .ensures) (c .if1 .left)
+returns-2 c = unread-11 (now (c .before .before .before .before .args .catalogue)) _ _ (c .before .check .ensures) (c .if1 .left)
 
 pub unread-spec : {M : Type 1} → statement M
-unread-spec = tie.close (tie.spec fails-10-requires returns returns-2)
+unread-spec = tie.close (tie.spec (λ c. search needs) (λ c κs. search needs) returns returns-2)

@@ -28,9 +28,6 @@ put-requires c κs =
     let word = now (args .word) in let n = args .n in
     then-room ((T.decimal n) ++ (10 ∷ [])) (T.decimal n) (10 ∷ []) refl (copy .result) _ (then-room (T.labelled word n) word ((T.decimal n) ++ (10 ∷ [])) refl (args .at) _ (pre) (copy .ensures .0)) (decimal .ensures .0)
 
-same-length : tie.Need-same-length
-same-length c = search needs
-
 returns : tie.Need-returns
 returns c =
     let c₂ = c .before .before in let put = c₂ .put in
@@ -42,4 +39,4 @@ returns c =
 
 pub labelled-spec : {M : Type 1} → statement M
 labelled-spec =
-    tie.close (tie.spec copy-requires decimal-requires put-requires same-length returns)
+    tie.close (tie.spec copy-requires decimal-requires put-requires (λ c. search needs) returns)

@@ -10,21 +10,12 @@ use borrow.Author.Needs.{needs}
 use Rattle.program.proofs.text.signed.Statement.{statement}
 use Rattle.program.proofs.text.signed.Tie as tie
 
-below-zero-requires : tie.Need-below-zero-requires
-below-zero-requires c κs = search needs
-
-above-zero-requires : tie.Need-above-zero-requires
-above-zero-requires c κs = search needs
-
 decimal-requires : tie.Need-decimal-requires
 decimal-requires c κs =
     let c₃ = c .before .before .before in let below-zero = c₃ .below-zero in
     let c₅ = c₃ .before .before in let args = c₅ .args in let fits = c₅ .fits in let pre = c₅ .pre in
     let z = args .z in
     room-as (args .at) _ (T.signed z) (plain-sign z _ (below-zero .ensures ∙ ap T.belowZero (toZ-ofZ (fits .z))) _ (c .before .before .if1 .taken) (c .before .above-zero .ensures ∙ ap T.aboveZero (toZ-ofZ (fits .z)))) (pre)
-
-same-length : tie.Need-same-length
-same-length c = search needs
 
 returns : tie.Need-returns
 returns c =
@@ -51,9 +42,6 @@ decimal-requires-2 c κs =
     let z = args .z in
     then-room (T.signed z) (45 ∷ []) (T.decimal (below-zero .result)) (minus-sign z (below-zero .result) (below-zero .ensures ∙ ap T.belowZero (toZ-ofZ (fits .z))) (if1 .left)) (args .at) _ (pre) (put .ensures .0)
 
-same-length-2 : tie.Need-same-length-2
-same-length-2 c = search needs
-
 returns-2 : tie.Need-returns-2
 returns-2 c =
     let c₆ = c .before .before .before .before .before .before in let put = c₆ .put in
@@ -67,12 +55,12 @@ pub signed-spec : {M : Type 1} → statement M
 signed-spec =
     tie.close
     (tie.spec
-    below-zero-requires
-    above-zero-requires
+    (λ c κs. search needs)
+    (λ c κs. search needs)
     decimal-requires
-    same-length
+    (λ c. search needs)
     returns
     put-requires
     decimal-requires-2
-    same-length-2
+    (λ c. search needs)
     returns-2)

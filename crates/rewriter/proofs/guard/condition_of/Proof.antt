@@ -13,27 +13,6 @@ use Rattle.rewriter.proofs.guard.place.Reads as place-reads
 use Rattle.rewriter.proofs.guard.wide.Reads as wide-reads
 use Rattle.kinds.proofs.tail.Reads as tail-reads
 
-wide-requires : tie.Need-wide-requires
-wide-requires c κs = search needs
-
-mul-i : tie.Need-mul-i
-mul-i c = search needs
-
-place-requires : tie.Need-place-requires
-place-requires c κs = search needs
-
-tail-requires : tie.Need-tail-requires
-tail-requires c κs = search needs
-
-add-place : tie.Need-add-place
-add-place c = search needs
-
-place-requires-2 : tie.Need-place-requires-2
-place-requires-2 c κs = search needs
-
-head-requires : tie.Need-head-requires
-head-requires c κs = search needs
-
 returns : tie.Need-returns
 returns c =
     let c₃ = c .before .before .before in let place = c₃ .place in
@@ -45,11 +24,11 @@ pub condition-of-spec : {M : Type 1} → statement M
 condition-of-spec =
     tie.close
     (tie.spec
-    wide-requires
-    mul-i
-    place-requires
-    tail-requires
-    add-place
-    place-requires-2
-    head-requires
+    (λ c κs. search needs)
+    (λ c. search needs)
+    (λ c κs. search needs)
+    (λ c κs. search needs)
+    (λ c. search needs)
+    (λ c κs. search needs)
+    (λ c κs. search needs)
     returns)

@@ -13,9 +13,6 @@ use Rattle.rewriter.proofs.guard.index_of.Reads as index-of-reads
 returns : tie.Need-returns
 returns c = number-zero (now (c .before .before .args .q)) (c .before .before .args .variable) (c .before .before .args .next) (c .before .before .args .w) (c .if1 .taken)
 
-index-of-requires : tie.Need-index-of-requires
-index-of-requires c κs = search needs
-
 add-result : tie.Need-add-result
 add-result c = omega (arith, index-small (c .before .before .before .args .w) (c .index-of .result) (flatBindings (now (c .before .before .before .args .q))) (c .index-of .ensures))
 
@@ -26,4 +23,4 @@ returns-2 : tie.Need-returns-2
 returns-2 c = number-other (now (c .before .before .before .args .q)) (c .before .before .before .args .variable) (c .before .before .before .args .next) (c .before .before .before .args .w) _ (c .before .if1 .left) (c .index-of .ensures)
 
 pub number-spec : {M : Type 1} → statement M
-number-spec = tie.close (tie.spec returns index-of-requires add-result cast-result returns-2)
+number-spec = tie.close (tie.spec returns (λ c κs. search needs) add-result cast-result returns-2)

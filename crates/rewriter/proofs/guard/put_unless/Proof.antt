@@ -17,9 +17,6 @@ returns c = wrote-nothing (now (c .before .before .args .out)) (c .before .befor
 put-requires : tie.Need-put-requires
 put-requires c κs = room-as (c .before .before .before .args .at) _ _ (something-is (c .before .before .before .args .mask) ((c .before .before .before .args .b) ∷ []) (c .before .if1 .left)) (c .before .before .before .pre)
 
-same-length : tie.Need-same-length
-same-length c = search needs
-
 returns-2 : tie.Need-returns-2
 returns-2 c =
     let c₄ = c .before .before .before .before in let if1 = c₄ .if1 in
@@ -27,4 +24,4 @@ returns-2 c =
     wrote-as (now (args .out)) (args .at) _ _ _ _ (something-is (args .mask) ((args .b) ∷ []) (if1 .left)) (c .before .before .put .ensures)
 
 pub put-unless-spec : {M : Type 1} → statement M
-put-unless-spec = tie.close (tie.spec returns put-requires same-length returns-2)
+put-unless-spec = tie.close (tie.spec returns put-requires (λ c. search needs) returns-2)

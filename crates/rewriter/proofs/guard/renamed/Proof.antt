@@ -8,24 +8,6 @@ use Rattle.rewriter.proofs.guard.renamed.Reads as reads
 use Rattle.rewriter.proofs.guard.renamed.Lts as lts
 use Rattle.rewriter.proofs.guard.number.Reads as number-reads
 
-enum-known-item : tie.Need-enum-known-item
-enum-known-item c = search needs
-
-number-requires : tie.Need-number-requires
-number-requires c κs = search needs
-
-enum-known-item-2 : tie.Need-enum-known-item-2
-enum-known-item-2 c = search needs
-
-number-requires-2 : tie.Need-number-requires-2
-number-requires-2 c κs = search needs
-
-enum-known-item-3 : tie.Need-enum-known-item-3
-enum-known-item-3 c = search needs
-
-number-requires-3 : tie.Need-number-requires-3
-number-requires-3 c κs = search needs
-
 returns : tie.Need-returns
 returns c =
     let c₅ = c .before .before .before .before .before in let args = c₅ .args in
@@ -48,12 +30,12 @@ pub renamed-spec : {M : Type 1} → statement M
 renamed-spec =
     tie.close
     (tie.spec
-    enum-known-item
-    number-requires
-    enum-known-item-2
-    number-requires-2
-    enum-known-item-3
-    number-requires-3
+    (λ c. search needs)
+    (λ c κs. search needs)
+    (λ c. search needs)
+    (λ c κs. search needs)
+    (λ c. search needs)
+    (λ c κs. search needs)
     returns
     returns-2
     returns-3

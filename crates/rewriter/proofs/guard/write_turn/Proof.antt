@@ -27,18 +27,12 @@ copy-condition-requires c κs =
     let c₈ = c₅ .before .before .before in let args = c₈ .args in let pre = c₈ .pre in
     turn-second (now (args .condition)) (args .mask) (args .variable) (args .next) (if1 .left) (now (args .out)) (args .at) _ _ (put-unless .ensures) (pre .0) (pre .1)
 
-count-bindings-requires : tie.Need-count-bindings-requires
-count-bindings-requires c κs = search needs
-
 add-t16 : tie.Need-add-t16
 add-t16 c =
     let c₇ = c .before .before .before .before .before .before .before in let put-unless = c₇ .put-unless in
     let c₉ = c₇ .before .before in let if1 = c₉ .if1 in
     let c₁₂ = c₉ .before .before .before in let args = c₁₂ .args in let pre = c₁₂ .pre in
     omega (arith, c .count-bindings .ensures, turn-second (now (args .condition)) (args .mask) (args .variable) (args .next) (if1 .left) (now (args .out)) (args .at) (put-unless .last .0) (put-unless .result) (put-unless .ensures) (pre .0) (pre .1) .1)
-
-same-length : tie.Need-same-length
-same-length c = search needs
 
 returns-2 : tie.Need-returns-2
 returns-2 c =
@@ -55,7 +49,7 @@ write-turn-spec =
     returns
     put-unless-requires
     copy-condition-requires
-    count-bindings-requires
+    (λ c κs. search needs)
     add-t16
-    same-length
+    (λ c. search needs)
     returns-2)

@@ -1,0 +1,22 @@
+use Rattle.decide.proofs.seeks.Keys.{along-met}
+use Rattle.decide.proofs.seeks.Steps.{onward-low}
+use Rattle.branches.specs.Branches.{field}
+use denote.Ref.{now}
+use Prim.Native.Nat.{ℕ, _/_}
+use native.Mathlib.Omega.{arith}
+use mathlib.Core.Path.{refl, sym, ap, _∙_}
+use borrow.Author.Needs.{needs}
+use Rattle.decide.proofs.seeks.behind.Statement.{statement}
+use Rattle.decide.proofs.seeks.behind.Tie as tie
+use Rattle.decide.proofs.seeks.behind.Reads as reads
+use Rattle.decide.proofs.seeks.behind.Lts as lts
+use Rattle.kinds.proofs.size_at.Reads as size-at-reads
+use Rattle.decide.proofs.seeks.onward_from.Reads as onward-from-reads
+
+returns-3 : tie.Need-returns-3
+returns-3 c = (onward-low (c .before .before .before .before .before .before .args .start) (field (now (c .before .before .before .before .before .before .args .t)) (c .before .before .before .before .before .before .args .start) 5) _ (omega (arith, c .before .before .before .if1 .left)) (c .onward-from .ensures), λ v n a h. along-met (now (c .before .before .before .before .before .before .args .t)) (c .before .before .before .before .before .before .args .start) _ v _ n a (omega (arith, c .before .before .before .if1 .left)) (c .onward-from .ensures) (h (ap (λ (i : ℕ). i / 8) (sym (c .before .before .size-at .ensures .0)) ∙ c .before .if2 .left)))
+
+pub behind-spec : {M : Type 1} → statement M
+behind-spec =
+    tie.close
+    (tie.spec (λ c. search needs) (λ c. search needs) (λ c κs. search needs) (λ c. search needs) (λ c κs. search needs) returns-3)

@@ -1,0 +1,93 @@
+use Rattle.decide.proofs.seeks.Keys.{no-key, Along, along-found, along-here, along-next}
+use denote.Ref.{now}
+use borrow.Author.Needs.{needs}
+use Prim.Native.Nat.{_≤_}
+use native.Mathlib.Omega.{arith}
+use Rattle.decide.proofs.seeks.key_of.Statement.{statement}
+use Rattle.decide.proofs.seeks.key_of.Tie as tie
+use Rattle.decide.proofs.seeks.key_of.Reads as reads
+use Rattle.decide.proofs.seeks.key_of.Lts as lts
+use Rattle.kinds.proofs.size_at.Reads as size-at-reads
+use Rattle.decide.proofs.seeks.key_at.Reads as key-at-reads
+use Rattle.decide.proofs.seeks.no_key.Reads as no-key-reads
+
+abbrev Inv-loop : tie.InvT-loop
+Inv-loop t start variable at₀ at = (at ≤ start) × Along t start at
+
+abbrev μ-loop : tie.MeasureT-loop
+μ-loop t start variable at₀ at = at
+
+loop-holds : tie.Need-loop-holds Inv-loop μ-loop
+loop-holds c = (omega arith, λ xs q z ws vs m e h. h)
+
+key-at-requires : tie.Need-key-at-requires Inv-loop μ-loop
+key-at-requires c κs = search needs
+
+returns : tie.Need-returns Inv-loop μ-loop
+returns c = ((λ h. (along-found (now (c .before .before .before .before .before .before .args .t)) (c .before .before .before .before .before .before .args .start) (c .before .before .before .before .loop .at) _ (c .before .before .before .loop-test .taken) (c .before .before .key-at .ensures .0 h .0) (c .before .before .before .before .loop .inv .1) (c .before .before .before .before .before .before .args .variable) _ _ _ (c .before .before .key-at .ensures .0 h .1), along-here (now (c .before .before .before .before .before .before .args .t)) (c .before .before .before .before .before .before .args .start) (c .before .before .before .before .loop .at) _ (c .before .before .before .loop-test .taken) (c .before .before .key-at .ensures .0 h .0) (c .before .before .before .before .loop .inv .1) (c .before .before .before .before .before .before .args .variable) _ _ _ (c .before .before .key-at .ensures .0 h .1) (c .before .before .key-at .ensures .0 h .2))), c .before .before .key-at .ensures .1)
+
+mul-size-at : tie.Need-mul-size-at Inv-loop μ-loop
+mul-size-at c = search needs
+
+add-size-at : tie.Need-add-size-at Inv-loop μ-loop
+add-size-at c = search needs
+
+size-at-requires : tie.Need-size-at-requires Inv-loop μ-loop
+size-at-requires c κs = search needs
+
+no-key-requires : tie.Need-no-key-requires Inv-loop μ-loop
+no-key-requires c κs = search needs
+
+returns-2 : tie.Need-returns-2 Inv-loop μ-loop
+returns-2 c = no-key _ (c .no-key .ensures)
+
+mul-size-at-2 : tie.Need-mul-size-at-2 Inv-loop μ-loop
+mul-size-at-2 c = search needs
+
+add-size-at-2 : tie.Need-add-size-at-2 Inv-loop μ-loop
+add-size-at-2 c = search needs
+
+size-at-requires-2 : tie.Need-size-at-requires-2 Inv-loop μ-loop
+size-at-requires-2 c κs = search needs
+
+no-key-requires-2 : tie.Need-no-key-requires-2 Inv-loop μ-loop
+no-key-requires-2 c κs = search needs
+
+returns-3 : tie.Need-returns-3 Inv-loop μ-loop
+returns-3 c = no-key _ (c .no-key2 .ensures)
+
+loop-less : tie.Need-loop-less Inv-loop μ-loop
+loop-less c = search needs
+
+loop-again : tie.Need-loop-again Inv-loop μ-loop
+loop-again c = (omega arith, along-next (now (c .before .before .before .before .before .before .before .before .before .before .args .t)) (c .before .before .before .before .before .before .before .before .before .before .args .start) (c .before .before .before .before .before .before .before .before .loop .at) _ (c .before .before .before .before .before .before .before .loop-test .taken) (c .before .before .before .size-at .ensures .0) (c .before .before .before .before .before .before .before .before .loop .inv .1) (c .before .before .if2 .left) _ (c .before .size-at2 .ensures .0) (omega (arith, c .if3 .left)))
+
+no-key-requires-3 : tie.Need-no-key-requires-3 Inv-loop μ-loop
+no-key-requires-3 c κs = search needs
+
+returns-4 : tie.Need-returns-4 Inv-loop μ-loop
+returns-4 c = no-key _ (c .no-key3 .ensures)
+
+pub key-of-spec : {M : Type 1} → statement M
+key-of-spec =
+    tie.close
+    (tie.spec
+    Inv-loop
+    μ-loop
+    loop-holds
+    key-at-requires
+    returns
+    mul-size-at
+    add-size-at
+    size-at-requires
+    no-key-requires
+    returns-2
+    mul-size-at-2
+    add-size-at-2
+    size-at-requires-2
+    no-key-requires-2
+    returns-3
+    loop-less
+    loop-again
+    no-key-requires-3
+    returns-4)

@@ -1,0 +1,71 @@
+use mathlib.Core.Path.{_≡_, sym, _∙_}
+use mathlib.Core.Bool.{true, false}
+use native.Mathlib.Omega.{arith}
+use Prim.Native.Nat.{ℕ, _-_, _≤_, _<_}
+use lib.IntN.{pos}
+use lib.ListN.{getD}
+use denote.Ref.{now}
+use mir.Syntax.{w32}
+use mir.Facts.{toZ-ofZ}
+use borrow.Author.Needs.{needs}
+use Rattle.walks.specs.Walks.{placeAt}
+use Rattle.decide.specs.Cursor.{meets}
+use Rattle.decide.proofs.seeks.Steps.{one-more}
+use Rattle.decide.proofs.seeks.Tests.{row-meets}
+use Rattle.decide.proofs.seeks.passing.Statement.{statement}
+use Rattle.decide.proofs.seeks.passing.Tie as tie
+use Rattle.decide.proofs.seeks.passing.Reads as reads
+use Rattle.decide.proofs.seeks.passing.Lts as lts
+use Rattle.decide.proofs.seeks.cell.Reads as cell-reads
+use Rattle.decide.proofs.seeks.meets.Reads as meets-reads
+use Rattle.walks.proofs.place.Reads as place-reads
+
+abbrev Inv-loop : tie.InvT-loop
+Inv-loop column walks walk test from rows j₀ j =
+    (from ≤ j) × (j ≤ rows) × ((i : ℕ) → from ≤ i → i < j → meets test (getD column (placeAt walks walk i) (pos 0)) ≡ false)
+
+abbrev μ-loop : tie.MeasureT-loop
+μ-loop column walks walk test from rows j₀ j = rows - j
+
+loop-holds : tie.Need-loop-holds Inv-loop μ-loop
+loop-holds c = (omega arith, c .before .pre .1, λ i h k. absurd (omega arith))
+
+place-requires : tie.Need-place-requires Inv-loop μ-loop
+place-requires c κs = (c .before .before .before .pre .0, omega (arith, c .before .before .before .pre .0 .count, c .loop-test .taken))
+
+cell-requires : tie.Need-cell-requires Inv-loop μ-loop
+cell-requires c κs = search needs
+
+meets-requires : tie.Need-meets-requires Inv-loop μ-loop
+meets-requires c κs = c .before .before .before .before .before .pre .2
+
+returns : tie.Need-returns Inv-loop μ-loop
+returns c = ((c .before .before .before .before .before .loop .inv .0, c .before .before .before .before .before .loop .inv .1), (c .before .before .before .before .before .loop .inv .2, λ h. sym (row-meets (c .before .before .before .before .before .before .before .args .test) (now (c .before .before .before .before .before .before .before .args .column)) (placeAt (now (c .before .before .before .before .before .before .before .args .walks)) (c .before .before .before .before .before .before .before .args .walk) (c .before .before .before .before .before .loop .j)) _ _ _ (c .before .before .before .place .ensures) (toZ-ofZ {w = w32} (record { sfits = c .before .before .cell .ok }) ∙ c .before .before .cell .ensures) (c .before .meets .ensures)) ∙ c .if1 .taken))
+
+add-j : tie.Need-add-j Inv-loop μ-loop
+add-j c = search needs
+
+loop-less : tie.Need-loop-less Inv-loop μ-loop
+loop-less c = search needs
+
+loop-again : tie.Need-loop-again Inv-loop μ-loop
+loop-again c = (omega (arith, c .before .before .before .before .before .loop .inv .0), omega (arith, c .before .before .before .before .loop-test .taken), one-more (λ (i : ℕ). meets (c .before .before .before .before .before .before .before .args .test) (getD (now (c .before .before .before .before .before .before .before .args .column)) (placeAt (now (c .before .before .before .before .before .before .before .args .walks)) (c .before .before .before .before .before .before .before .args .walk) i) (pos 0))) (c .before .before .before .before .before .before .before .args .from) (c .before .before .before .before .before .loop .j) (c .before .before .before .before .before .loop .inv .2) (sym (row-meets (c .before .before .before .before .before .before .before .args .test) (now (c .before .before .before .before .before .before .before .args .column)) (placeAt (now (c .before .before .before .before .before .before .before .args .walks)) (c .before .before .before .before .before .before .before .args .walk) (c .before .before .before .before .before .loop .j)) _ _ _ (c .before .before .before .place .ensures) (toZ-ofZ {w = w32} (record { sfits = c .before .before .cell .ok }) ∙ c .before .before .cell .ensures) (c .before .meets .ensures)) ∙ c .if1 .left))
+
+returns-2 : tie.Need-returns-2 Inv-loop μ-loop
+returns-2 c = ((c .before .loop .inv .0, c .before .loop .inv .1), (c .before .loop .inv .2, λ h. absurd (omega (arith, h, c .loop-test .left))))
+
+pub passing-spec : {M : Type 1} → statement M
+passing-spec =
+    tie.close
+    (tie.spec
+    Inv-loop
+    μ-loop
+    loop-holds
+    place-requires
+    cell-requires
+    meets-requires
+    returns
+    add-j
+    loop-less
+    loop-again
+    returns-2)

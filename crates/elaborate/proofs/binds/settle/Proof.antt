@@ -1,0 +1,34 @@
+use native.Mathlib.Omega.{arith}
+use denote.Ref.{now}
+use mathlib.Core.Path.{_≡_, refl, sym, ap, ap₂, subst, _∙_}
+use Prim.Native.Nat.{ℕ, _+_, _-_, _≤_, _<_}
+use mathlib.Core.List.{List, []}
+use lib.ListN.{length, getD}
+use borrow.Author.Tests.{eq-eqb, ne-eqb}
+use mathlib.Core.Bool.{Bool, cond}
+use lib.ListN.{set}
+use borrow.Author.Needs.{needs}
+use Rattle.elaborate.proofs.binds.settle.Statement.{statement}
+use Rattle.elaborate.proofs.binds.settle.Tie as tie
+use Rattle.elaborate.proofs.binds.settle.Reads as reads
+use Rattle.elaborate.proofs.binds.settle.Lts as lts
+
+returns : tie.Need-returns
+returns c = sym (ap (λ (b : Bool). cond b (set (now (c .before .before .args .slots)) (c .before .before .args .x) ((c .before .before .args .k) + 1)) (now (c .before .before .args .slots))) (eq-eqb (getD (now (c .before .before .args .slots)) (c .before .before .args .x) 0) 0 (c .if1 .taken)))
+
+returns-2 : tie.Need-returns-2
+returns-2 c = sym (ap (λ (b : Bool). cond b (set (now (c .before .before .args .slots)) (c .before .before .args .x) ((c .before .before .args .k) + 1)) (now (c .before .before .args .slots))) (ne-eqb (getD (now (c .before .before .args .slots)) (c .before .before .args .x) 0) 0 (c .if1 .left)))
+
+pub settle-spec : {M : Type 1} → statement M
+settle-spec =
+    tie.close
+    (tie.spec
+    (λ c. search needs)
+    (λ c. search needs)
+    (λ c. search needs)
+    (λ c. search needs)
+    (λ c. search needs)
+    (λ c. search needs)
+    (λ c. search needs)
+    returns
+    returns-2)

@@ -1,0 +1,83 @@
+use native.Mathlib.Omega.{arith}
+use mathlib.Core.Path.{refl, _∙_}
+use Prim.Native.Nat.{ℕ, _<_}
+use denote.Ref.{now}
+use Rattle.model.proofs.Tests.{clash, not-no}
+use Rattle.odometer.proofs.Listing.{list-none, list-more}
+use borrow.Author.Needs.{needs}
+use borrow.Fn.Kinds.{In}
+use borrow.Fn.PlainCycle.{Measures, is, falls, and}
+use Rattle.odometer.proofs.list_targets.Reads as list-targets
+use Rattle.odometer.proofs.list_targets.Kinds as list-targets-kinds
+use Rattle.odometer.proofs.+list_targets.Lts-list_targets as list-targets-lts
+use Rattle.odometer.proofs.list_target.Reads as list-target-reads
+use Rattle.kinds.proofs.size_at.Reads as size-at-reads
+use Rattle.kinds.proofs.tail.Reads as tail-reads
+use Rattle.kinds.proofs.tail_sizes.Reads as tail-sizes-reads
+use Rattle.odometer.proofs.+list_targets.{statement}
+use Rattle.odometer.proofs.+list_targets.Tie.{close}
+
+abbrev μ-list-targets : Measures 4 list-targets-kinds.ps ℕ
+μ-list-targets κs a = a .1 .1 .0
+
+abbrev list-targets-at : ℕ → In 4 list-targets-kinds.ps
+list-targets-at t = and 4 list-targets-kinds.ps (is 4 list-targets-kinds.ps μ-list-targets t) list-targets.Pre
+
+abbrev list-targets-below : ℕ → In 4 list-targets-kinds.ps
+list-targets-below t = and 4 list-targets-kinds.ps (falls 4 list-targets-kinds.ps _<_ μ-list-targets t) list-targets.Pre
+
+abbrev list-targets-claims : ℕ → list-targets-lts.Claims
+list-targets-claims t = (list-target-reads.Asked, list-target-reads.Learnt, size-at-reads.Asked, size-at-reads.Learnt, tail-reads.Asked, tail-reads.Learnt, tail-sizes-reads.Asked, tail-sizes-reads.Learnt, list-targets-below t, list-targets.Post)
+
+returns : (t : ℕ) → list-targets-lts.Need-returns (list-targets-claims t) (list-targets-at t) list-targets.Post
+returns t c = ((λ g. list-none (now (c .before .before .before .before .args .memo)) (now (c .before .before .before .before .args .q)) (now (c .before .before .before .before .args .z)) (c .before .before .before .before .args .left) (c .before .before .before .before .args .level) (c .before .before .before .before .args .i) _ (c .if1 .taken)), λ k h. refl)
+
+list-target-requires : (t : ℕ) → list-targets-lts.Need-list-target-requires (list-targets-claims t) (list-targets-at t) list-targets.Post
+list-target-requires t c κs = (omega (arith, c .before .before .before .before .before .pre .1 .0, c .before .if1 .left), omega (arith, c .before .before .before .before .before .pre .1 .1, c .before .if1 .left))
+
+same-length : (t : ℕ) → list-targets-lts.Need-same-length (list-targets-claims t) (list-targets-at t) list-targets.Post
+same-length t c = search needs
+
+returns-2 : (t : ℕ) → list-targets-lts.Need-returns-2 (list-targets-claims t) (list-targets-at t) list-targets.Post
+returns-2 t c = ((λ g. clash g), c .before .before .before .list-target .ensures .1)
+
+size-at-requires : (t : ℕ) → list-targets-lts.Need-size-at-requires (list-targets-claims t) (list-targets-at t) list-targets.Post
+size-at-requires t c κs = search needs
+
+tail-requires : (t : ℕ) → list-targets-lts.Need-tail-requires (list-targets-claims t) (list-targets-at t) list-targets.Post
+tail-requires t c κs = search needs
+
+tail-sizes-requires : (t : ℕ) → list-targets-lts.Need-tail-sizes-requires (list-targets-claims t) (list-targets-at t) list-targets.Post
+tail-sizes-requires t c κs = search needs
+
+sub-list-targets : (t : ℕ) → list-targets-lts.Need-sub-list-targets (list-targets-claims t) (list-targets-at t) list-targets.Post
+sub-list-targets t c = omega (arith, c .before .before .before .before .before .before .before .before .if1 .left)
+
+add-list-targets : (t : ℕ) → list-targets-lts.Need-add-list-targets (list-targets-claims t) (list-targets-at t) list-targets.Post
+add-list-targets t c = omega (arith, c .before .before .before .before .before .before .before .before .before .before .before .before .before .pre .1 .1)
+
+list-targets-requires : (t : ℕ) → list-targets-lts.Need-list-targets-requires (list-targets-claims t) (list-targets-at t) list-targets.Post
+list-targets-requires t c κs = (omega (arith, c .before .before .before .before .before .before .before .before .before .before .before .before .before .pre .0, c .before .before .before .before .before .before .before .before .before .if1 .left), (omega (arith, c .before .before .before .before .before .before .before .before .before .before .before .before .before .pre .1 .0, c .before .before .before .before .before .before .before .before .before .if1 .left, c .before .before .before .before .before .before .before .list-target .kept .1 .1 .1 .0), omega (arith, c .before .before .before .before .before .before .before .before .before .before .before .before .before .pre .1 .1, c .before .before .before .before .before .before .before .before .before .if1 .left)))
+
+same-length-2 : (t : ℕ) → list-targets-lts.Need-same-length-2 (list-targets-claims t) (list-targets-at t) list-targets.Post
+same-length-2 t c = search needs
+
+returns-3 : (t : ℕ) → list-targets-lts.Need-returns-3 (list-targets-claims t) (list-targets-at t) list-targets.Post
+returns-3 t c = ((λ g. list-more (now (c .before .before .before .before .before .before .before .before .before .before .before .before .before .before .before .before .args .memo)) (now (c .before .before .before .before .before .before .before .before .before .before .before .before .before .before .before .before .args .q)) (now (c .before .before .before .before .before .before .before .before .before .before .before .before .before .before .before .before .args .z)) (c .before .before .before .before .before .before .before .before .before .before .before .before .before .before .before .before .args .left) (c .before .before .before .before .before .before .before .before .before .before .before .before .before .before .before .before .args .level) (c .before .before .before .before .before .before .before .before .before .before .before .before .before .before .before .before .args .i) (c .before .before .before .before .before .before .before .before .before .before .list-target .last .1 .1 .1 .0) (c .before .before .list-targets .last .1 .1 .1 .1 .1 .0) _ _ _ (c .before .before .before .before .before .before .before .before .before .before .before .before .if1 .left) (c .before .before .before .before .before .before .before .before .before .before .list-target .ensures .0 (not-no (c .before .before .before .before .before .before .before .before .before .before .list-target .result) (c .before .before .before .before .before .before .before .if2 .left))) (c .before .before .before .before .before .before .size-at .ensures .0) (c .before .before .before .before .before .tail .ensures) (c .before .before .before .before .tail-sizes .ensures) (c .before .before .list-targets .ensures .1) (c .before .before .list-targets .ensures .0 g)), λ k h. c .before .before .list-targets .ensures .1 k (omega arith) ∙ c .before .before .before .before .before .before .before .before .before .before .list-target .ensures .1 k h)
+
+pub +list-targets-spec : {M : Type 1} → statement M
++list-targets-spec = close μ-list-targets λ t. list-targets-lts.spec (list-targets-claims t)
+    (list-targets-at t)
+    list-targets.Post
+    (returns t)
+    (list-target-requires t)
+    (same-length t)
+    (returns-2 t)
+    (size-at-requires t)
+    (tail-requires t)
+    (tail-sizes-requires t)
+    (sub-list-targets t)
+    (add-list-targets t)
+    (list-targets-requires t)
+    (same-length-2 t)
+    (returns-3 t)

@@ -1,0 +1,59 @@
+use native.Mathlib.Omega.{arith}
+use mathlib.Core.Path.{_≡_, refl, _∙_}
+use Prim.Native.Nat.{_-_, _≤_}
+use denote.Ref.{now}
+use lib.ListN.{length}
+use Rattle.walks.specs.Assigned.{assigned}
+use Rattle.odometer.proofs.Listing.{Rest, rest-start, rest-end, rest-nothing, rest-more}
+use borrow.Author.Needs.{needs}
+use Rattle.odometer.proofs.listed_cells.Statement.{statement}
+use Rattle.odometer.proofs.listed_cells.Tie as tie
+
+abbrev Inv-loop : tie.InvT-loop
+Inv-loop list n vs memo env row₀ i₀ row i = Rest memo list n (assigned vs env) row₀ row i × (i ≤ n) × (length row ≡ length row₀)
+
+abbrev μ-loop : tie.MeasureT-loop
+μ-loop list n vs memo env row₀ i₀ row i = n - i
+
+loop-holds : tie.Need-loop-holds Inv-loop μ-loop
+loop-holds c = (rest-start (now (c .before .before .args .memo)) (now (c .before .before .args .list)) (c .before .before .args .n) (assigned (now (c .before .before .args .vs)) (now (c .before .before .args .env))) (now (c .before .before .args .row)), omega arith, refl)
+
+listed-cell-requires : tie.Need-listed-cell-requires Inv-loop μ-loop
+listed-cell-requires c κs = (c .before .before .before .before .before .pre .0, omega (arith, c .before .before .before .before .before .pre .1, c .before .before .loop .inv .2, c .before .loop-test .taken), omega (arith, c .before .before .before .before .before .pre .2, c .before .loop-test .taken))
+
+same-length : tie.Need-same-length Inv-loop μ-loop
+same-length c = search needs
+
+returns : tie.Need-returns Inv-loop μ-loop
+returns c = rest-nothing (now (c .before .before .before .before .before .before .before .before .args .memo)) (now (c .before .before .before .before .before .before .before .before .args .list)) (c .before .before .before .before .before .before .before .before .args .n) (assigned (now (c .before .before .before .before .before .before .before .before .args .vs)) (now (c .before .before .before .before .before .before .before .before .args .env))) (now (c .before .before .before .before .before .before .before .before .args .row)) (c .before .before .before .before .before .loop .row) (c .before .before .before .before .before .loop .i) (c .before .before .before .before .before .loop .inv .0) (c .before .before .listed-cell .result) _ (c .before .before .before .before .loop-test .taken) (c .before .before .listed-cell .ensures) (c .if1 .taken)
+
+add-i : tie.Need-add-i Inv-loop μ-loop
+add-i c = search needs
+
+loop-less : tie.Need-loop-less Inv-loop μ-loop
+loop-less c = search needs
+
+loop-again : tie.Need-loop-again Inv-loop μ-loop
+loop-again c = (rest-more (now (c .before .before .before .before .before .before .before .before .args .memo)) (now (c .before .before .before .before .before .before .before .before .args .list)) (c .before .before .before .before .before .before .before .before .args .n) (assigned (now (c .before .before .before .before .before .before .before .before .args .vs)) (now (c .before .before .before .before .before .before .before .before .args .env))) (now (c .before .before .before .before .before .before .before .before .args .row)) (c .before .before .before .before .before .loop .row) (c .before .before .before .before .before .loop .i) (c .before .before .before .before .before .loop .inv .0) (c .before .before .listed-cell .result) _ (c .before .before .before .before .loop-test .taken) (c .before .before .listed-cell .ensures) (c .if1 .left), omega (arith, c .before .before .before .before .loop-test .taken), c .before .before .listed-cell .kept .1 .1 .1 .1 .1 .0 ∙ c .before .before .before .before .before .loop .inv .2)
+
+same-length-2 : tie.Need-same-length-2 Inv-loop μ-loop
+same-length-2 c = search needs
+
+returns-2 : tie.Need-returns-2 Inv-loop μ-loop
+returns-2 c = rest-end (now (c .before .before .before .before .args .memo)) (now (c .before .before .before .before .args .list)) (c .before .before .before .before .args .n) (assigned (now (c .before .before .before .before .args .vs)) (now (c .before .before .before .before .args .env))) (now (c .before .before .before .before .args .row)) (c .before .loop .row) (c .before .loop .i) (c .before .loop .inv .0) (c .loop-test .left)
+
+pub listed-cells-spec : {M : Type 1} → statement M
+listed-cells-spec =
+    tie.close
+    (tie.spec
+    Inv-loop
+    μ-loop
+    loop-holds
+    listed-cell-requires
+    same-length
+    returns
+    add-i
+    loop-less
+    loop-again
+    same-length-2
+    returns-2)

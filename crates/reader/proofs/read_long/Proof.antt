@@ -1,0 +1,39 @@
+use native.Mathlib.Omega.{arith}
+use denote.Ref.{now}
+use mathlib.Core.Path.{_≡_, refl, sym, ap, ap₂, subst, _∙_}
+use Prim.Native.Nat.{ℕ, _+_, _-_, _≤_, _<_}
+use mathlib.Core.List.{List, []}
+use lib.ListN.{length, getD}
+use Rattle.buckets.proofs.Laws.{cleared}
+use lib.ListN.{length-replicate}
+use borrow.Author.Needs.{needs}
+use Rattle.reader.proofs.read_long.Statement.{statement}
+use Rattle.reader.proofs.read_long.Tie as tie
+use Rattle.reader.proofs.read_long.Reads as reads
+use Rattle.reader.proofs.read_long.Lts as lts
+use Rattle.reader.proofs.read_with.Reads as read-with-reads
+
+read-with-requires : tie.Need-read-with-requires
+read-with-requires c κs = (λ l. (omega (arith, l), omega (arith, l), omega (arith, l), omega (arith, l)), ((λ l. (omega (arith, l), omega (arith, l), omega (arith, l), omega (arith, l), omega (arith, l), omega (arith, l), omega (arith, l)), omega arith, omega arith, omega arith), (cleared 1024, cleared 2000, cleared 2001, cleared 2001, cleared 2001)))
+
+pub read-long-spec : {M : Type 1} → statement M
+read-long-spec =
+    tie.close
+    (tie.spec
+    (λ c. search needs)
+    (λ c. search needs)
+    (λ c. search needs)
+    (λ c. search needs)
+    (λ c. search needs)
+    (λ c. search needs)
+    (λ c. search needs)
+    (λ c. search needs)
+    (λ c. search needs)
+    (λ c. search needs)
+    (λ c. search needs)
+    (λ c. search needs)
+    (λ c. search needs)
+    (λ c. search needs)
+    read-with-requires
+    (λ c. search needs)
+    (λ c. search needs))

@@ -1,4 +1,0 @@
-pub mod Steps
-pub mod Keys
-pub mod Filling
-pub mod Places
