@@ -356,6 +356,42 @@ fn term(
     numbers::remember(memo, variable, x);
 }
 
+// The same of a target. `value` has two callers by this, so its tables are no part of what the recursion takes of the stack for each aggregate inside
+// another.
+fn target_term(
+    q: &[u8],
+    z: &[u16],
+    level: usize,
+    walks: &[u16],
+    vs: &[i32],
+    env: &mut [usize],
+    memo: &mut [i64],
+)
+    requires { ⌜ 256 ≤ length (now env) ⌝ }
+    ensures { λ _. ⌜ now (memo .exit) ≡ filledT (decodeT level (now (q .entry)) (now (z .entry))) (rowsBy (now (walks .entry)) (now (vs .entry)))
+        (assigned (now (vs .entry)) (now (env .entry))) (now (memo .entry)) ⌝ }
+    ensures { λ _. ⌜ now (env .exit) ≡ now (env .entry) ⌝ }
+{
+    if level == 0 {
+        return;
+    }
+    let Record::Aggregate(_, variable, _, _) = kinds::read(q) else {
+        return;
+    };
+    let a = kinds::record_length(kinds::byte(q, 0));
+    condition(
+        kinds::tail(q, a),
+        kinds::tail_sizes(z, a),
+        level - 1,
+        walks,
+        vs,
+        env,
+        memo,
+    );
+    let x = value(q, z, level, walks, vs, memo, env);
+    numbers::remember(memo, variable, x);
+}
+
 // The aggregates of so many targets.
 pub fn targets(
     q: &[u8],
@@ -375,7 +411,7 @@ pub fn targets(
     if left == 0 {
         return;
     }
-    term(q, z, level, walks, vs, env, memo);
+    target_term(q, z, level, walks, vs, env, memo);
     let n = kinds::size_at(z, 0);
     targets(
         kinds::tail(q, n),

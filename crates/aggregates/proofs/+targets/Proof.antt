@@ -12,7 +12,7 @@ use borrow.Fn.PlainCycle.{Measures, is, falls, and}
 use Rattle.aggregates.proofs.targets.Reads as targets
 use Rattle.aggregates.proofs.targets.Kinds as targets-kinds
 use Rattle.aggregates.proofs.+targets.Lts-targets as targets-lts
-use Rattle.aggregates.proofs.term.Reads as term-reads
+use Rattle.aggregates.proofs.target_term.Reads as target-term-reads
 use Rattle.kinds.proofs.size_at.Reads as size-at-reads
 use Rattle.kinds.proofs.tail.Reads as tail-reads
 use Rattle.kinds.proofs.tail_sizes.Reads as tail-sizes-reads
@@ -29,7 +29,7 @@ abbrev targets-below : ℕ → In 6 targets-kinds.ps
 targets-below t = and 6 targets-kinds.ps (falls 6 targets-kinds.ps _<_ μ-targets t) targets.Pre
 
 abbrev targets-claims : ℕ → targets-lts.Claims
-targets-claims t = (term-reads.Asked, term-reads.Learnt, size-at-reads.Asked, size-at-reads.Learnt, tail-reads.Asked, tail-reads.Learnt, tail-sizes-reads.Asked, tail-sizes-reads.Learnt, targets-below t, targets.Post)
+targets-claims t = (target-term-reads.Asked, target-term-reads.Learnt, size-at-reads.Asked, size-at-reads.Learnt, tail-reads.Asked, tail-reads.Learnt, tail-sizes-reads.Asked, tail-sizes-reads.Learnt, targets-below t, targets.Post)
 
 targets-returns : (t : ℕ) → targets-lts.Need-returns (targets-claims t) (targets-at t) targets.Post
 targets-returns t c =
@@ -37,8 +37,8 @@ targets-returns t c =
     let vs = now (args .vs) in
     (targets-none (rowsBy (now (args .walks)) vs) (assigned vs (now (args .env))) (now (args .q)) (now (args .z)) (now (args .memo)) (args .left) (args .level) (c .if1 .taken), search needs)
 
-targets-term-requires : (t : ℕ) → targets-lts.Need-term-requires (targets-claims t) (targets-at t) targets.Post
-targets-term-requires t c κs = search needs
+targets-target-term-requires : (t : ℕ) → targets-lts.Need-target-term-requires (targets-claims t) (targets-at t) targets.Post
+targets-target-term-requires t c κs = search needs
 
 targets-size-at-requires : (t : ℕ) → targets-lts.Need-size-at-requires (targets-claims t) (targets-at t) targets.Post
 targets-size-at-requires t c κs = search needs
@@ -67,18 +67,18 @@ targets-returns-2 t c =
     let c₆ = c₃ .before .before .before in let tail-sizes = c₆ .tail-sizes in
     let c₇ = c₆ .before in let tail = c₇ .tail in
     let c₈ = c₇ .before in let size-at = c₈ .size-at in
-    let c₁₂ = c₈ .before .before .before .before in let term = c₁₂ .term in
+    let c₁₂ = c₈ .before .before .before .before in let target = c₁₂ .target-term in
     let c₁₅ = c₁₂ .before .before .before in let if1 = c₁₅ .if1 in
     let c₂₀ = c₁₅ .before .before .before .before .before in let args = c₂₀ .args in
     let vs = now (args .vs) in
-    (targets-more (rowsBy (now (args .walks)) vs) (assigned vs (now (args .env))) (now (args .q)) (now (args .z)) (now (args .memo)) (args .left) (args .level) _ _ _ _ _ _ (if1 .left) (term .ensures .0) (size-at .ensures .0) (tail .ensures) (tail-sizes .ensures) (ap (assigned vs) (term .ensures .1)) (targets .ensures .0), targets .ensures .1 ∙ term .ensures .1)
+    (targets-more (rowsBy (now (args .walks)) vs) (assigned vs (now (args .env))) (now (args .q)) (now (args .z)) (now (args .memo)) (args .left) (args .level) _ _ _ _ _ _ (if1 .left) (target .ensures .0) (size-at .ensures .0) (tail .ensures) (tail-sizes .ensures) (ap (assigned vs) (target .ensures .1)) (targets .ensures .0), targets .ensures .1 ∙ target .ensures .1)
 
 pub +targets-spec : {M : Type 1} → statement M
 +targets-spec = close μ-targets λ t. targets-lts.spec (targets-claims t)
     (targets-at t)
     targets.Post
     (targets-returns t)
-    (targets-term-requires t)
+    (targets-target-term-requires t)
     (targets-size-at-requires t)
     (targets-tail-requires t)
     (targets-tail-sizes-requires t)
