@@ -105,7 +105,7 @@ fn with_row(
     if !both(t, xs, next, q, z, walks, chains, vs, memo, env) {
         return taken;
     }
-    numbers::add(taken, catalogue::cell(vs, row, attribute))
+    numbers::add(taken, catalogue::value(vs, row, attribute as usize))
 }
 
 // The attribute of each row of the variable for which the conjuncts hold. Its own rows have no chain.

@@ -24,7 +24,7 @@ fn lead(n: u64) -> u8
 }
 
 // Writes a price: euros right-aligned in four, a point, two digits.
-pub fn put_price(display: &mut [u8], at: usize, cents: u64)
+pub(crate) fn put_price(display: &mut [u8], at: usize, cents: u64)
     requires { ⌜ at + 7 < 9223372036854775808 ⌝ }
     ensures { λ _. ⌜ now (display .exit) ≡ sets (now (display .entry)) at (displayOf cents) ⌝ }
 {
@@ -65,7 +65,7 @@ fn in_range(label: i64, offer: i64, price: i64) -> bool
 }
 
 // Whether every row of three cells is in range; ends at the first that is not.
-pub fn all_in_range(cells: &[i64]) -> bool
+pub(crate) fn all_in_range(cells: &[i64]) -> bool
     ensures { λ r. ⌜ r ≡ all inRange (rowsIn (now (cells .entry))) ⌝ }
 {
     let mut at = 0;

@@ -82,13 +82,13 @@ fn total(catalogue: &[u8]) -> usize
     ensures { λ r. ⌜ r ≡ L.baseOf (now (catalogue .entry)) 16 ⌝ }
 {
     let n = count(catalogue);
-    if n < 16 {
+    if n < model::RELATIONS {
         return base(catalogue, n as u8 + 1);
     }
     base(catalogue, 16)
 }
 
-// The value i places after `row`, 0 past the end.
+// The value of attribute i in the row that begins at `row`, 0 past the end.
 pub fn value(values: &[i32], row: usize, i: usize) -> i32
     ensures { λ r. ⌜ r ≡ getD (now (values .entry)) (row + i) (pos 0) ⌝ }
 {
@@ -99,13 +99,6 @@ pub fn value(values: &[i32], row: usize, i: usize) -> i32
         }
     }
     0
-}
-
-// The value of an attribute in the row that begins at `row`, 0 past the end.
-pub fn cell(values: &[i32], row: usize, attribute: u8) -> i32
-    ensures { λ r. ⌜ r ≡ getD (now (values .entry)) (row + attribute) (pos 0) ⌝ }
-{
-    value(values, row, wide(attribute))
 }
 
 // Whether a record has a known kind and numbers in their ranges.
@@ -123,10 +116,10 @@ fn known(catalogue: &[u8], relation: u8) -> bool
     if w < 1 {
         return false;
     }
-    if 16 < w {
+    if model::ATTRIBUTES < w {
         return false;
     }
-    rows(catalogue, relation) <= 1024
+    rows(catalogue, relation) <= model::ROWS
 }
 
 // Check 10.
@@ -137,7 +130,7 @@ fn fails_10(catalogue: &[u8]) -> bool
     if n == 0 {
         return true;
     }
-    if 16 < n {
+    if model::RELATIONS < n {
         return true;
     }
     if 4 * n != catalogue.len() {

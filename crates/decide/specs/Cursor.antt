@@ -13,8 +13,8 @@ use Rattle.walks.specs.declared.Walk.{Walk}
 use Rattle.walks.specs.Walks.{walkOf}
 use Rattle.walks.specs.Assigned.{assigned}
 use Rattle.branches.specs.Branches.{runs}
-use Rattle.chains.specs.Chains.{same, Entered}
-use Rattle.chains.specs.declared.Entry.{Entry}
+use Rattle.decide.specs.Chains.{same, Entered}
+use Rattle.decide.specs.declared.chains.Entry.{Entry}
 use Rattle.decide.specs.declared.seeks.Test.{Test}
 use Rattle.decide.specs.declared.seeks.Cursor.{Cursor}
 

@@ -15,8 +15,8 @@ use Rattle.model.specs.Meaning.{Tuple, Assignment, whole, compare}
 use Rattle.walks.specs.Walks.{walkOf}
 use Rattle.branches.specs.Branches.{operand, branchHolds, runs}
 use Rattle.walks.specs.Assigned.{assigned}
-use Rattle.chains.specs.Chains.{same, bucketAt, Built, Entered}
-use Rattle.chains.specs.declared.Entry.{Entry}
+use Rattle.decide.specs.Chains.{same, bucketAt, Built, Entered}
+use Rattle.decide.specs.declared.chains.Entry.{Entry}
 
 -- whether attribute a of a row is equal to the side at place p, with number n
 abbrev pub equality : List ℕ → ℕ → ℕ → ℕ → List ℤ → List ℤ → Assignment → Tuple → Bool

@@ -1,3 +1,4 @@
 pub mod Probe
 pub mod Keys
 pub mod Cursor
+pub mod Chains

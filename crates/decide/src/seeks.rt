@@ -1,6 +1,7 @@
 // Which rows of a variable a loop stops at (specs/Cursor): by the comparison of the first branch, whose side that does not run with the rows is read
 // once; or by a chain (specs/Keys).
-use chains::Entry;
+use crate::chains;
+use crate::chains::Entry;
 use numbers::Ratio;
 use walks::Walk;
 ghost use mathlib.Core.Path.{_≡_};
@@ -610,7 +611,7 @@ fn chain_of(chains: &[u16], start: usize, variable: u8) -> usize
 fn is_one(d: i64) -> bool
     ensures { λ r. ⌜ (r ≡ true → d ≡ pos 1) ⌝ }
 {
-    numbers::ordered(1, d, 1)
+    if d <= 1 { 1 <= d } else { false }
 }
 
 // How the chain for a variable by branch `start` is entered, where a row that fails its equality may lead on from branch `other`; place 0 where there

@@ -83,7 +83,7 @@ pub fn condition(
             let u = kinds::tail(q, b);
             let v = kinds::tail_sizes(z, b);
             let right = term(u, v, l, walks, vs, memo, env);
-            numbers::compare(operator, left, right)
+            numbers::compared(operator as usize, left, right)
         }
         Record::Some(variable, _) => some_row(x, y, l, walks, vs, memo, env, variable).found,
         _ => false,
@@ -115,7 +115,7 @@ pub fn term(
         Record::Constant(a, b, c, d) => numbers::whole(kinds::constant(a, b, c, d)),
         Record::Attribute(variable, attribute) => {
             let row = place(env, variable);
-            numbers::whole(catalogue::cell(vs, row, attribute))
+            numbers::whole(catalogue::value(vs, row, attribute as usize))
         }
         Record::Aggregate(function, variable, _, attribute) => {
             if numbers::knows(memo, variable) {
@@ -194,7 +194,7 @@ fn gather(
         let row = walks::place(walks, walk, i);
         set_place(env, variable, row);
         if condition(q, z, level, walks, vs, memo, env) {
-            taken = numbers::add(taken, catalogue::cell(vs, row, attribute));
+            taken = numbers::add(taken, catalogue::value(vs, row, attribute as usize));
         }
         i += 1;
     }

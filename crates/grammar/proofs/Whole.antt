@@ -10,7 +10,8 @@ use lib.ListN.{length, drop, length-drop}
 use lib.Seq.{drop-drop}
 use Rattle.model.specs.Syntax.{Binding, Condition, TRUE, Term, Query}
 use Rattle.model.specs.Encoding.{Read, fail, ok, then, need, atEnd, readOr, queryOf, encode, encodeTargets, encodeRanges, encodeQuery, readCondition, readRanges, readTargets, readQuery, failed}
-use Rattle.model.specs.Checks.{Limits, fails30}
+use Rattle.model.specs.Limits.{Limits}
+use Rattle.model.specs.Checks.{fails30}
 use Rattle.model.proofs.Sizes.{size, sizeTs, size-targets, drop-ranges}
 use Rattle.model.proofs.ReadingQueries.{query-inverse}
 use Rattle.grammar.specs.declared.Size.{Size}

@@ -144,7 +144,7 @@ fn permits(list: &[u8]) -> bool
 pub fn permits_refused(list: &[u8]) -> bool
     ensures { λ r. ⌜ r ≡ fails20 (now (list .entry)) ⌝ }
 {
-    if 2048 < list.len() {
+    if model::LIST_BYTES < list.len() {
         true
     } else {
         !permits(list)

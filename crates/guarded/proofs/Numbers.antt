@@ -1,31 +1,32 @@
 -- The number of a guarded call, check by check.
-use mathlib.Core.Path.{_≡_, refl, sym, ap, ap₂, subst, _∙_}
+use mathlib.Core.Path.{_≡_, refl, sym, ap, _∙_}
 use mathlib.Core.Bool.{Bool, true, false, not, cond}
 use mathlib.Core.List.{List, [], _∷_, _++_}
 use Prim.Native.Nat.{ℕ, zero, suc, _≤_, _<_}
 use native.Mathlib.Omega.{arith}
 use lib.IntN.{ℤ}
-use lib.ListN.{length, replicate, length-replicate}
+use lib.ListN.{length}
 use lib.Dec.{ltb}
 use borrow.Author.Tests.{lt-ltb, le-ltb}
 use Rattle.model.specs.Lists.{all, Every}
-use Rattle.model.specs.Syntax.{Binding, bindingsQ}
 use Rattle.model.specs.Encoding.{queryOf, permitsOf, encodeQuery}
 use Rattle.model.specs.Catalogue.{catalogueOf, Shape, shapeOf}
-use Rattle.model.specs.Checks.{Check, guardedLimits, fails10, fails20, fails21, fails22, fails23, fails30, fails33, fails40, keeperChecks, permitChecks, queryChecks, guardChecks, shapeChecks, askChecks, refusal}
+use Rattle.model.specs.Checks.{Check, guardedLimits, fails10, fails20, fails21, fails30, fails33, fails40, keeperChecks, permitChecks, queryChecks, guardChecks, shapeChecks, askChecks, refusal}
 use Rattle.model.specs.Calls.{ask, askUnless}
-use Rattle.model.proofs.Passed.{refusal-cons, query-read, query-length, Scoped, scoped}
+use Rattle.model.proofs.Passed.{refusal-cons, query-read, query-length}
 use Rattle.model.proofs.Grounds.{refusal-skip}
 use Rattle.scans.specs.Flat.{flatBindings}
 use Rattle.permits.proofs.Reading.{listed}
 use Rattle.grammar.specs.declared.Layout.{Layout}
 use Rattle.queries.specs.Parts.{queryAt}
-use Rattle.guards.specs.Filled.{placedFrom, masked}
-use Rattle.guards.specs.Counted.{servedBy, rewrittenLength, Short}
-use Rattle.guards.proofs.Counts.{served-all, length-all, filled-short}
+use Rattle.guards.specs.Filled.{placedFrom}
+use Rattle.guards.specs.Counted.{servedBy, rewrittenLength, passedIf, check33}
+use Rattle.guards.specs.declared.Check33.{Check33}
+use Rattle.guards.specs.declared.Check33.the-variants as C
+use Rattle.guards.proofs.Counts.{served-all, length-all}
 use Rattle.guarded.specs.declared.Reply.{Reply}
 use Rattle.guarded.specs.Outcome.{bytesOf, outcomeOf}
-use Rattle.guarded.proofs.Outcomes.{Writable, few-variables}
+use Rattle.guarded.proofs.Outcomes.{Writable}
 
 refusal-some : (xs ys : List Check) → (refusal xs ≡ 0 → ⊥) → refusal (xs ++ ys) ≡ refusal xs
 unfolding refusal
@@ -39,6 +40,15 @@ refusal-some (c ∷ xs) ys h = go (c .0) (λ k. refusal-some xs ys k) h
 positive : (n : ℕ) → (n ≡ 0 → ⊥) → 1 ≤ n
 positive zero h = absurd (h refl)
 positive (suc n) h = omega arith
+
+-- what an outcome of 33 says
+refuses : (b : Bool) (n : ℕ) → passedIf b n ≡ C.Refused → b ≡ false
+refuses true n e = absurd (let z : _≡_ {A = ℕ} 0 1 = cc in omega arith)
+refuses false n e = refl
+
+passes : (b : Bool) (m n : ℕ) → passedIf b m ≡ C.Passed n → (b ≡ true) × (m ≡ n)
+passes true m n e = (refl, cc)
+passes false m n e = absurd (let z : _≡_ {A = ℕ} 0 1 = cc in omega arith)
 
 module _ (cb : List ℕ) (vs : List ℤ) (pb qb rewritten : List ℕ) (cells : List ℤ) where
   abbrev sh : Shape
@@ -117,59 +127,44 @@ module _ (cb : List ℕ) (vs : List ℤ) (pb qb rewritten : List ℕ) (cells : L
         unfolding permitChecks
         p21 = refusal-cons _ 21 _ (omega arith) (refusal-cons _ 20 _ (omega arith) p .1) .0
 
-        in-scope : Scoped sh 8 (queryOf qb)
-        unfolding queryChecks
-        in-scope = scoped guardedLimits sh (queryOf qb) (refusal-cons _ 32 _ (omega arith) (refusal-cons _ 31 _ (omega arith) (refusal-cons _ 30 _ (omega arith) u .1) .1) .0)
+        -- check 33 by the code's walk
+        abbrev B : Bool
+        B = all (servedBy qb pb cb) (flatBindings qb)
 
-        few : Every (λ (b : Binding). b .variable < length (replicate {A = ℕ} 256 0)) (bindingsQ (queryOf qb))
-        few = few-variables sh (queryOf qb) in-scope (length (replicate {A = ℕ} 256 0)) (omega (arith, length-replicate {A = ℕ} 256 0))
+        served-is : not B ≡ fails33 sh (permitsOf pb) (queryOf qb)
+        served-is = ap (λ (x : List ℕ). not (all (servedBy x pb cb) (flatBindings x))) bytes ∙ served-all cb pb (catalogue-passes k) p20 p21 (queryOf qb)
 
-        -- the tables of guards, filled
-        module _ (places masks : List ℕ) (ep : places ≡ placedFrom 8 pb 0 0 (replicate 16 0)) (em : masks ≡ masked qb pb cb (flatBindings qb) (replicate 256 0)) where
-          pub short-places : Short places
-          short-places = subst Short (sym ep) (filled-short pb short-list 16)
+        module _ (places₀ places : List ℕ) (ep : places ≡ placedFrom 8 pb 0 0 places₀) (x : Check33) (ex : x ≡ check33 qb pb cb places) where
+          pub refused-33 : x ≡ C.Refused → (r : Reply) → r ≡ record { number = 33; rows = 0; columns = 0; length = 0 } → outcomeOf r cells rewritten ≡ ask cb vs pb qb rewritten cells
+          unfolding guardChecks refusal
+          refused-33 h r er = let e : fails33 sh (permitsOf pb) (queryOf qb) ≡ true = sym served-is ∙ ap not (refuses B (rewrittenLength qb pb cb places) (sym ex ∙ h)) in refuse-with 33 (ask-shape ∙ shape-guard ∙ rw e) (omega arith) r er
 
-          served-is : (b : Bool) → b ≡ all (servedBy cb masks) (flatBindings qb) → not b ≡ fails33 sh (permitsOf pb) (queryOf qb)
-          served-is b e =
-              ap not e
-              ∙ ap (λ (m : List ℕ). not (all (servedBy cb m) (flatBindings qb))) em
-              ∙ ap (λ (x : List ℕ). not (all (servedBy cb (masked x pb cb (flatBindings x) (replicate 256 0))) (flatBindings x))) bytes
-              ∙ served-all cb pb (catalogue-passes k) p20 p21 (queryOf qb) (in-scope .once) (replicate 256 0) (replicate 16 0) few (omega (arith, length-replicate {A = ℕ} 16 0))
+          module _ (n : ℕ) (h : x ≡ C.Passed n) (enough : 16 ≤ length places₀) where
+            p33 : fails33 sh (permitsOf pb) (queryOf qb) ≡ false
+            p33 = sym served-is ∙ ap not (passes B (rewrittenLength qb pb cb places) n (sym ex ∙ h) .0)
 
-          length-33 : fails33 sh (permitsOf pb) (queryOf qb) ≡ false → (n : ℕ) → n ≡ rewrittenLength qb places masks → n ≡ length (bytesOf cb pb qb)
-          length-33 h n e =
-              e
-              ∙ ap₂ (rewrittenLength qb) ep em
-              ∙ ap (λ (x : List ℕ). rewrittenLength x (placedFrom 8 pb 0 0 (replicate 16 0)) (masked x pb cb (flatBindings x) (replicate 256 0))) bytes
-              ∙ length-all cb pb (catalogue-passes k) p20 p21 (queryOf qb) (in-scope .once) (replicate 256 0) (replicate 16 0) few (omega (arith, length-replicate {A = ℕ} 16 0)) h
+            pub length-is : n ≡ length (bytesOf cb pb qb)
+            length-is =
+                sym (passes B (rewrittenLength qb pb cb places) n (sym ex ∙ h) .1)
+                ∙ ap (rewrittenLength qb pb cb) ep
+                ∙ ap (λ (y : List ℕ). rewrittenLength y pb cb (placedFrom 8 pb 0 0 places₀)) bytes
+                ∙ length-all cb pb (catalogue-passes k) p20 p21 (queryOf qb) p33 places₀ enough
 
-          module _ (b : Bool) (eb : b ≡ all (servedBy cb masks) (flatBindings qb)) where
-            pub refused-33 : not b ≡ true → (r : Reply) → r ≡ record { number = 33; rows = 0; columns = 0; length = 0 } → outcomeOf r cells rewritten ≡ ask cb vs pb qb rewritten cells
-            unfolding guardChecks refusal
-            refused-33 h r er = let e : fails33 sh (permitsOf pb) (queryOf qb) ≡ true = sym (served-is b eb) ∙ h in refuse-with 33 (ask-shape ∙ shape-guard ∙ rw e) (omega arith) r er
+            pub refused-40 : room < n → (r : Reply) → r ≡ record { number = 40; rows = 0; columns = 0; length = 0 } → outcomeOf r cells rewritten ≡ ask cb vs pb qb rewritten cells
+            unfolding guardChecks refusal fails40
+            refused-40 l r er =
+                let f : ltb room (length (bytesOf cb pb qb)) ≡ true = lt-ltb room _ (omega (arith, l, length-is)) in
+                refuse-with 40 (ask-shape ∙ shape-guard ∙ rw (p33, f)) (omega arith) r er
 
-            module _ (h : not b ≡ false) (n : ℕ) (en : n ≡ rewrittenLength qb places masks) where
-              p33 : fails33 sh (permitsOf pb) (queryOf qb) ≡ false
-              p33 = sym (served-is b eb) ∙ h
-
-              pub length-is : n ≡ length (bytesOf cb pb qb)
-              length-is = length-33 p33 n en
-
-              pub refused-40 : room < n → (r : Reply) → r ≡ record { number = 40; rows = 0; columns = 0; length = 0 } → outcomeOf r cells rewritten ≡ ask cb vs pb qb rewritten cells
+            module _ (l : n ≤ room) where
+              pub all-pass : refusal (shapeChecks sh pb qb room) ≡ 0
               unfolding guardChecks refusal fails40
-              refused-40 l r er =
-                  let f : ltb room (length (bytesOf cb pb qb)) ≡ true = lt-ltb room _ (omega (arith, l, length-is)) in
-                  refuse-with 40 (ask-shape ∙ shape-guard ∙ rw (p33, f)) (omega arith) r er
+              all-pass =
+                  let f : ltb room (length (bytesOf cb pb qb)) ≡ false = le-ltb room _ (omega (arith, l, length-is)) in
+                  shape-guard ∙ rw (p33, f)
 
-              module _ (l : n ≤ room) where
-                pub all-pass : refusal (shapeChecks sh pb qb room) ≡ 0
-                unfolding guardChecks refusal fails40
-                all-pass =
-                    let f : ltb room (length (bytesOf cb pb qb)) ≡ false = le-ltb room _ (omega (arith, l, length-is)) in
-                    shape-guard ∙ rw (p33, f)
+              pub ask-passes : refusal (askChecks cb vs pb qb room) ≡ 0
+              ask-passes = ask-shape ∙ all-pass
 
-                pub ask-passes : refusal (askChecks cb vs pb qb room) ≡ 0
-                ask-passes = ask-shape ∙ all-pass
-
-                pub writable : (y : Layout) (z : List ℕ) → queryAt y 32 qb z ≡ queryOf qb → Writable y cb pb qb z room
-                writable y z e = record { catalogue = catalogue-passes k; passed = all-pass; ready = e }
+              pub writable : (y : Layout) (z : List ℕ) → queryAt y 32 qb z ≡ queryOf qb → Writable y cb pb qb z room
+              writable y z e = record { catalogue = catalogue-passes k; passed = all-pass; ready = e }

@@ -1,5 +1,6 @@
 // The guarded call: the permits written into the query, and the query answered over the permitted rows.
 use grammar::Layout;
+use guards::Check33;
 use queries::Checked;
 use queries::Limits;
 ghost use mathlib.Core.Path.{_≡_};
@@ -16,6 +17,15 @@ ghost use Rattle.scans.specs.Flat.{flatBindings};
 ghost use Rattle.plain.specs.Reply.{answerOf, Answerable};
 ghost use Rattle.permitted.specs.Given.{tiny};
 ghost use Rattle.guarded.specs.Outcome.{outcomeOf, givenRows, Bound, Checks32};
+
+const LEVELS: usize = model::ASKED_LEVELS;
+
+const VARIABLES: usize = model::ASKED_VARIABLES as usize;
+
+// The tables of walks: eight numbers for each variable, and a list of as many rows as a relation can have, or of 16.
+const WALKS: usize = VARIABLES * (8 + model::ROWS);
+
+const FEW_WALKS: usize = VARIABLES * (8 + 16);
 
 // The number of a refusal, 0 where there is none, and the counts of rows, columns and rewritten bytes.
 pub struct Reply {
@@ -62,9 +72,9 @@ fn answer_many(
         (answers (queryOf (now (query .entry))) (givenRows (now (catalogue .entry)) (now (values .entry)) (now (list .entry))
         (now (places .entry)) (now (masks .entry)))) (now (answer .entry)) ⌝ }
 {
-    let mut walks = [0u16; 8256];
+    let mut walks = [0u16; WALKS];
     permitted::fill(query, list, places, masks, catalogue, values, &mut walks);
-    plain::answer_query(query, z, layout, 32, catalogue, &walks, values, answer)
+    plain::answer_query(query, z, layout, LEVELS, &walks, values, answer)
 }
 
 // The same where each bound relation has at most 16 rows: a large table is not cleared for it.
@@ -85,9 +95,9 @@ fn answer_few(
         (answers (queryOf (now (query .entry))) (givenRows (now (catalogue .entry)) (now (values .entry)) (now (list .entry))
         (now (places .entry)) (now (masks .entry)))) (now (answer .entry)) ⌝ }
 {
-    let mut walks = [0u16; 192];
+    let mut walks = [0u16; FEW_WALKS];
     permitted::fill(query, list, places, masks, catalogue, values, &mut walks);
-    plain::answer_query(query, z, layout, 32, catalogue, &walks, values, answer)
+    plain::answer_query(query, z, layout, LEVELS, &walks, values, answer)
 }
 
 fn answer_permitted(
@@ -133,7 +143,7 @@ fn answer_permitted(
 }
 
 // 33 and 40, then the rewritten query, byte by byte, and the answer: the query over the permitted rows gives what the rewritten one gives (demand 2).
-// Which permits apply is found once: 33, the length and the guards are read from the same tables.
+// Which permits apply is found once, in one walk that says 33 and the length too; the guards are written from its table.
 fn answer_query(
     query: &[u8],
     z: &[u16],
@@ -148,18 +158,15 @@ fn answer_query(
     ensures { λ r. ⌜ outcomeOf r (now (answer .exit)) (now (rewritten .exit))
         ≡ ask (now (catalogue .entry)) (now (values .entry)) (now (list .entry)) (now (query .entry)) (now (rewritten .entry)) (now (answer .entry)) ⌝ }
 {
-    let mut places = [0usize; 16];
+    let mut places = [0usize; 2 * model::PERMITS];
     let mut masks = [0u8; 256];
-    guards::fill_places(list, 0, 0, 8, &mut places);
-    guards::fill_masks(query, list, catalogue, &mut masks);
-    if !guards::all_served(query, catalogue, &masks) {
+    let Check33::Passed(n) = guards::fill(query, list, catalogue, &mut places, &mut masks) else {
         return refused(33);
-    }
-    let n = guards::rewritten_length(query, &places, &masks);
+    };
     if rewritten.len() < n {
         return refused(40);
     }
-    rewriter::rewrite_query(query, z, layout, 32, list, &places, &masks, rewritten);
+    rewriter::rewrite_query(query, z, layout, LEVELS, list, &places, &masks, rewritten);
     let r = answer_permitted(
         query,
         z,
@@ -202,9 +209,9 @@ fn ask_with(
         return refused(number);
     }
     let limits = Limits {
-        bytes: 1024,
-        levels: 32,
-        variables: 8,
+        bytes: model::ASKED_BYTES,
+        levels: LEVELS,
+        variables: model::ASKED_VARIABLES,
     };
     match queries::check(query, limits, catalogue, z) {
         Checked::Refused(n) => refused(n),
@@ -226,6 +233,6 @@ pub fn ask(
     ensures { λ r. ⌜ outcomeOf r (now (answer .exit)) (now (rewritten .exit))
         ≡ ask (now (catalogue .entry)) (now (values .entry)) (now (list .entry)) (now (query .entry)) (now (rewritten .entry)) (now (answer .entry)) ⌝ }
 {
-    let mut z = [0u16; 1024];
+    let mut z = [0u16; model::ASKED_BYTES];
     ask_with(&mut z, catalogue, values, list, query, rewritten, answer)
 }

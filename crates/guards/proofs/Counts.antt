@@ -2,7 +2,7 @@
 use mathlib.Core.Path.{_≡_, refl, sym, ap, ap₂, _∙_}
 use mathlib.Core.Bool.{Bool, true, false, not, cond, _&&_, _||_}
 use mathlib.Core.List.{List, [], _∷_, map}
-use Prim.Native.Nat.{ℕ, zero, suc, _+_, _*_, _-_, _/_, _%_, _≤_, _<_}
+use Prim.Native.Nat.{ℕ, zero, suc, _+_, _*_, _-_, _/_, _%_, _≤_}
 use native.Mathlib.Nat.{add-zero}
 use native.Mathlib.Omega.{arith}
 use lib.Dec.{eqb, ltb}
@@ -13,10 +13,8 @@ use Rattle.model.specs.Syntax.{Condition, Binding, Query, Permit, bindingsQ}
 use Rattle.model.specs.Encoding.{encodeQuery, permitsOf}
 use Rattle.model.specs.Catalogue.{Shape, catalogueOf, shapeOf, storedAt}
 use Rattle.model.specs.Permits.{usedOf, applies, bars, only, guardOf, guardsOf}
-use Rattle.model.specs.Scope.{boundOnce}
 use Rattle.model.specs.Checks.{fails10, fails20, fails21, served, fails33, rewrittenBytes}
 use Rattle.model.proofs.Tests.{clash, or-no, not-no}
-use Rattle.model.proofs.Lists.{every-both}
 use Rattle.model.proofs.Sizes.{size, size-encode}
 use Rattle.model.proofs.Passed.{all-every}
 use Rattle.catalogue.proofs.Reading.{stored-is}
@@ -26,23 +24,22 @@ use Rattle.permits.specs.Entries.{sizeOf}
 use Rattle.permits.proofs.Walk.{size-few}
 use Rattle.copier.specs.Guard.{bitsOf}
 use Rattle.copier.proofs.Encoded.{bits-some}
-use Rattle.guards.specs.Filled.{placedFrom, maskFor, masked}
+use Rattle.guards.specs.Filled.{placedFrom}
 use Rattle.guards.specs.Counted.{servedBy, turnLength, lengthFrom, lengthBy, rewrittenLength, Short}
 use Rattle.model.proofs.Barred.{Filled, filled-guard}
 use Rattle.guards.proofs.Lengths.{joinedBytes, guardBytes, bytesFor, rewritten-size}
-use Rattle.guards.proofs.Stands.{written, LengthsOf, masks-of, lengths-of, few-permits, mask-is}
+use Rattle.guards.proofs.Stands.{written, LengthsOf, lengths-of, few-permits, mask-is}
 
--- tests, or numbers, that agree where P holds
-module _ {A : Type 0} (P : A → Type 0) where
-  all-where : (f g : A → Bool) → ((x : A) → P x → f x ≡ g x) → (xs : List A) → Every P xs → all f xs ≡ all g xs
-  unfolding all Every
-  all-where f g h [] w = refl
-  all-where f g h (x ∷ xs) w = ap₂ (λ (a b : Bool). a && b) (h x (w .0)) (all-where f g h xs (w .1))
+all-cong : {A : Type 0} (f g : A → Bool) → ((x : A) → f x ≡ g x) → (xs : List A) → all f xs ≡ all g xs
+unfolding all
+all-cong f g h [] = refl
+all-cong f g h (x ∷ xs) = ap₂ (λ (a b : Bool). a && b) (h x) (all-cong f g h xs)
 
-  total-where : (f g : A → ℕ) → ((x : A) → P x → f x ≡ g x) → (xs : List A) → Every P xs → total f xs ≡ total g xs
-  unfolding total Every
-  total-where f g h [] w = refl
-  total-where f g h (x ∷ xs) w = ap₂ (λ (a b : ℕ). a + b) (h x (w .0)) (total-where f g h xs (w .1))
+-- numbers that agree where P holds
+total-where : {A : Type 0} (P : A → Type 0) (f g : A → ℕ) → ((x : A) → P x → f x ≡ g x) → (xs : List A) → Every P xs → total f xs ≡ total g xs
+unfolding total Every
+total-where P f g h [] w = refl
+total-where P f g h (x ∷ xs) w = ap₂ (λ (a b : ℕ). a + b) (h x (w .0)) (total-where P f g h xs (w .1))
 
 -- a mask is 0 where no permit applies
 module _ {A : Type 0} (t : A → Bool) where
@@ -116,10 +113,10 @@ module _ (cb pb : List ℕ) (hc : fails10 cb ≡ false) (hp : fails20 pb ≡ fal
   ps = permitsOf pb
 
   -- 33 of a binding, by its mask
-  served-same : (masks : List ℕ) (b : Binding) → getD masks (b .variable) 0 ≡ maskFor (encodeQuery q) pb cb b → servedBy cb masks b ≡ served sh ps q b
+  served-same : (b : Binding) → servedBy (encodeQuery q) pb cb b ≡ served sh ps q b
   unfolding servedBy served
-  served-same masks b e =
-      ap₂ (λ (d : Bool) (m : ℕ). not d || not (eqb m 0)) (sym (stored-is cb hc (b .relation))) (e ∙ mask-is cb pb hc hp h21 q b)
+  served-same b =
+      ap₂ (λ (d : Bool) (m : ℕ). not d || not (eqb m 0)) (sym (stored-is cb hc (b .relation))) (mask-is cb pb hc hp h21 q b)
       ∙ go (storedAt sh (b .relation)) (any (bars (usedOf q (b .variable)) (b .relation)) ps)
     where
       u : Permit → Bool
@@ -131,43 +128,27 @@ module _ (cb pb : List ℕ) (hc : fails10 cb ≡ false) (hp : fails20 pb ≡ fal
       go false x = refl
 
   -- the length of its guard
-  length-same : (places masks : List ℕ) → LengthsOf places 0 ps → (b : Binding) → (getD masks (b .variable) 0 ≡ maskFor (encodeQuery q) pb cb b) × (served sh ps q b ≡ true) → lengthBy places masks b ≡ guardBytes (guardsOf sh ps q (b .variable) (b .relation))
+  length-same : (places : List ℕ) → LengthsOf places 0 ps → (b : Binding) → served sh ps q b ≡ true → lengthBy (encodeQuery q) pb cb places b ≡ guardBytes (guardsOf sh ps q (b .variable) (b .relation))
   unfolding guardsOf served
-  length-same places masks l b h =
-      ap (λ (m : ℕ). lengthFrom places 8 m 0) (h .0 ∙ mask-is cb pb hc hp h21 q b)
-      ∙ guard-is (storedAt sh (b .relation)) (any (bars (usedOf q (b .variable)) (b .relation)) ps) (applies (usedOf q (b .variable)) (b .relation)) places ps (few-permits ps h21) l (h .1) (filled-guard sh ps q b (h .1))
+  length-same places l b h =
+      ap (λ (m : ℕ). lengthFrom places 8 m 0) (mask-is cb pb hc hp h21 q b)
+      ∙ guard-is (storedAt sh (b .relation)) (any (bars (usedOf q (b .variable)) (b .relation)) ps) (applies (usedOf q (b .variable)) (b .relation)) places ps (few-permits ps h21) l h (filled-guard sh ps q b h)
 
-  module _ (once : boundOnce q ≡ true) (masks places : List ℕ) (few : Every (λ (b : Binding). b .variable < length masks) (bindingsQ q)) (room : 16 ≤ length places) where
-    abbrev M : List ℕ
-    M = masked (encodeQuery q) pb cb (bindingsQ q) masks
+  -- check 33
+  pub served-all : not (all (servedBy (encodeQuery q) pb cb) (flatBindings (encodeQuery q))) ≡ fails33 sh ps q
+  unfolding fails33
+  served-all = ap not (ap (all (servedBy (encodeQuery q) pb cb)) (bindings-query q) ∙ all-cong (servedBy (encodeQuery q) pb cb) (served sh ps q) served-same (bindingsQ q))
 
-    abbrev P : List ℕ
-    P = placedFrom 8 pb 0 0 places
-
-    all-masked : Every (λ (b : Binding). getD M (b .variable) 0 ≡ maskFor (encodeQuery q) pb cb b) (bindingsQ q)
-    unfolding boundOnce
-    all-masked = masks-of (encodeQuery q) pb cb masks (bindingsQ q) once few
-
-    same-masks : masked (encodeQuery q) pb cb (flatBindings (encodeQuery q)) masks ≡ M
-    same-masks = ap (λ (bs : List Binding). masked (encodeQuery q) pb cb bs masks) (bindings-query q)
-
-    -- check 33
-    pub served-all : not (all (servedBy cb (masked (encodeQuery q) pb cb (flatBindings (encodeQuery q)) masks)) (flatBindings (encodeQuery q))) ≡ fails33 sh ps q
-    unfolding fails33
-    served-all =
-        ap not
-        (ap₂ (λ (m : List ℕ) (bs : List Binding). all (servedBy cb m) bs) same-masks (bindings-query q)
-        ∙ all-where (λ (b : Binding). getD M (b .variable) 0 ≡ maskFor (encodeQuery q) pb cb b) (servedBy cb M) (served sh ps q) (served-same M) (bindingsQ q) all-masked)
-
-    -- the length, where 33 passed
-    pub length-all : fails33 sh ps q ≡ false → rewrittenLength (encodeQuery q) P (masked (encodeQuery q) pb cb (flatBindings (encodeQuery q)) masks) ≡ length (rewrittenBytes sh ps q)
-    unfolding fails33 rewrittenLength rewrittenBytes bytesFor
-    length-all h =
-        let each = every-both (λ (b : Binding). getD M (b .variable) 0 ≡ maskFor (encodeQuery q) pb cb b) (λ (b : Binding). served sh ps q b ≡ true) (bindingsQ q) all-masked (all-every (served sh ps q) (bindingsQ q) (not-no (all (served sh ps q) (bindingsQ q)) h)) in
-        ap₂ (λ (m : List ℕ) (bs : List Binding). length (encodeQuery q) + total (lengthBy P m) bs) same-masks (bindings-query q)
-        ∙ ap (λ (n : ℕ). length (encodeQuery q) + n)
-        (total-where (λ (b : Binding). (getD M (b .variable) 0 ≡ maskFor (encodeQuery q) pb cb b) × (served sh ps q b ≡ true)) (lengthBy P M) (λ (b : Binding). guardBytes (guardsOf sh ps q (b .variable) (b .relation))) (length-same P M (lengths-of pb places hp h21 room)) (bindingsQ q) each)
-        ∙ sym (rewritten-size (guardsOf sh ps q) q)
+  -- the length, where 33 passed
+  pub length-all : fails33 sh ps q ≡ false → (places : List ℕ) → 16 ≤ length places → rewrittenLength (encodeQuery q) pb cb (placedFrom 8 pb 0 0 places) ≡ length (rewrittenBytes sh ps q)
+  unfolding fails33 rewrittenLength rewrittenBytes bytesFor
+  length-all h places room =
+      let P = placedFrom 8 pb 0 0 places in
+      let g = lengthBy (encodeQuery q) pb cb P in
+      ap (λ (bs : List Binding). length (encodeQuery q) + total g bs) (bindings-query q)
+      ∙ ap (λ (n : ℕ). length (encodeQuery q) + n)
+      (total-where (λ (b : Binding). served sh ps q b ≡ true) g (λ (b : Binding). guardBytes (guardsOf sh ps q (b .variable) (b .relation))) (length-same P (lengths-of pb places hp h21 room)) (bindingsQ q) (all-every (served sh ps q) (bindingsQ q) (not-no (all (served sh ps q) (bindingsQ q)) h)))
+      ∙ sym (rewritten-size (guardsOf sh ps q) q)
 
 -- places and lengths stay within the list, or just past its end
 set-short : (l : List ℕ) (i x j : ℕ) → getD l j 0 ≤ 4096 → x ≤ 4096 → getD (set l i x) j 0 ≤ 4096
@@ -195,10 +176,13 @@ places-short list s (suc n) at k places j h =
         i (set-short (set places (2 * k) (at + 4)) (2 * k + 1) (sizeOf (drop at list) - 4) j (set-short places (2 * k) (at + 4) j h (omega (arith, l, s))) f)
     go false e i = h
 
-blank : (n i : ℕ) → getD (replicate {A = ℕ} n 0) i 0 ≤ 4096
-blank zero i = omega arith
-blank (suc n) zero = omega arith
-blank (suc n) (suc i) = blank n i
+pub blank-short : (n : ℕ) → Short (replicate n 0)
+blank-short n = record { short = go n }
+  where
+    go : (n i : ℕ) → getD (replicate {A = ℕ} n 0) i 0 ≤ 4096
+    go zero i = omega arith
+    go (suc n) zero = omega arith
+    go (suc n) (suc i) = go n i
 
-pub filled-short : (list : List ℕ) → length list ≤ 2048 → (n : ℕ) → Short (placedFrom 8 list 0 0 (replicate n 0))
-filled-short list s n = record { short = λ i. places-short list s 8 0 0 (replicate n 0) i (blank n i) }
+pub filled-short : (list : List ℕ) → length list ≤ 2048 → (places : List ℕ) → Short places → Short (placedFrom 8 list 0 0 places)
+filled-short list s places h = record { short = λ i. places-short list s 8 0 0 places i (h .short i) }

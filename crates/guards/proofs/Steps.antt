@@ -1,6 +1,6 @@
 -- One step of each function as an equation over plain variables.
 use mathlib.Core.Path.{_≡_, refl, sym, ap, ap₂, subst, _∙_}
-use mathlib.Core.Bool.{Bool, true, false, not, cond, _||_}
+use mathlib.Core.Bool.{Bool, true, false, not, cond, _&&_, _||_}
 use mathlib.Core.List.{List, [], _∷_, _++_}
 use Prim.Native.Nat.{ℕ, zero, suc, _+_, _*_, _-_, _/_, _%_, _^_, _≤_, _<_}
 use native.Mathlib.Nat.{pow-suc, add-zero}
@@ -15,7 +15,7 @@ use Rattle.copier.specs.Guard.{bitsOf}
 use Rattle.model.specs.Lists.{any, all, total}
 use Rattle.model.specs.Syntax.{Binding}
 use Rattle.model.specs.Permits.{bit}
-use Rattle.model.proofs.Tests.{and-true}
+use Rattle.model.proofs.Tests.{or-right, or-false, and-true}
 use Rattle.model.proofs.Lists.{total-append}
 use Rattle.kinds.specs.Record.{recordAt}
 use Rattle.kinds.specs.Tables.{recordLength}
@@ -25,11 +25,14 @@ use Rattle.scans.specs.declared.Bound.{Bound}
 use Rattle.scans.specs.declared.Bound.the-variants.{To, Nothing}
 use Rattle.scans.proofs.Walk.{flat-end}
 use Rattle.scans.proofs.Loops.{bindings-on}
+use Rattle.scans.proofs.Lists.{all-join}
 use Rattle.permits.specs.Applying.{appliesTo, barsFrom, usedBytes}
 use Rattle.guards.proofs.applying.Finds.{applies-same, bars-same}
 use Rattle.guards.specs.Filled.{placedFrom, verdictOf, maskUnlessBarred, maskFor, masked, bitOf}
 use Rattle.guards.specs.declared.Verdict.{Verdict}
-use Rattle.guards.specs.Counted.{servedBy, turnLength, lengthFrom, lengthBy}
+use Rattle.guards.specs.Counted.{servedBy, turnLength, lengthFrom, lengthBy, tallyOf, tallyAll, passedIf, check33}
+use Rattle.guards.specs.declared.Tally.{Tally}
+use Rattle.guards.specs.declared.Check33.the-variants as C
 
 module _ (left : ℕ) (list : List ℕ) (at k : ℕ) (places : List ℕ) where
   pub places-none : left ≡ 0 → places ≡ placedFrom left list at k places
@@ -44,14 +47,14 @@ module _ (left : ℕ) (list : List ℕ) (at k : ℕ) (places : List ℕ) where
       go zero = refl
       go (suc n) = rw (le-ltb at (length list) h)
 
-  pub places-next : (rest x y : List ℕ) (n : ℕ) (w : List ℕ) → (left ≡ 0 → ⊥) → at < length list → rest ≡ drop at list → x ≡ set places (2 * k) (at + 4) → n ≡ sizeOf rest → y ≡ set x (2 * k + 1) (n - 4)
+  pub places-next : (own : ℕ) → own ≡ 4 → (rest x y : List ℕ) (n : ℕ) (w : List ℕ) → (left ≡ 0 → ⊥) → at < length list → rest ≡ drop at list → x ≡ set places (2 * k) (at + own) → n ≡ sizeOf rest → y ≡ set x (2 * k + 1) (n - own)
       → w ≡ placedFrom (left - 1) list (at + n) (k + 1) y → w ≡ placedFrom left list at k places
   unfolding placedFrom
-  places-next rest x y n w nz l er ex en ey ew = go left nz ew
+  places-next own eo rest x y n w nz l er ex en ey ew = go left nz ew
     where
       go : (m : ℕ) → (m ≡ 0 → ⊥) → w ≡ placedFrom (m - 1) list (at + n) (k + 1) y → w ≡ placedFrom m list at k places
       go zero h e = absurd (h refl)
-      go (suc m) h e = e ∙ rw (sub-one, lt-ltb at (length list) l, ey, en, ex, er)
+      go (suc m) h e = e ∙ rw (sub-one, lt-ltb at (length list) l, ey, en, ex, er, eo)
 
 pub pow-step : (n : ℕ) → (n ≡ 0 → ⊥) → 2 ^ n ≡ 2 * 2 ^ (n - 1)
 pow-step zero h = absurd (h refl)
@@ -150,25 +153,13 @@ module _ (q list cb : List ℕ) where
   unfolding masked
   masked-end at h m w e = sym (ap (λ (bs : List Binding). masked q list cb bs m) (flat-end bindingOf q at h)) ∙ e
 
--- 33 of one binding
-module _ (cb masks : List ℕ) (b : Bound) where
-  pub served-none : b ≡ Nothing → true ≡ all (servedBy cb masks) (boundBy b)
-  unfolding all
-  served-none e = rw e
+-- 33 of a variable with a mask
+module _ (s : Bool) (m : ℕ) where
+  pub served-some : (m ≡ 0 → ⊥) → true ≡ (not s || not (eqb m 0))
+  served-some h = sym (or-right (not s) (not (eqb m 0)) (ap not (ne-eqb m 0 h)))
 
-  module _ (v r : ℕ) (e : b ≡ To v r) (d : Bool) (ed : d ≡ storedOf cb r) where
-    served-of : all (servedBy cb masks) (boundBy b) ≡ (not d || not (eqb (getD masks v 0) 0))
-    unfolding all servedBy
-    served-of =
-        ap (λ (x : Bound). all (servedBy cb masks) (boundBy x)) e
-        ∙ and-true (not (storedOf cb r) || not (eqb (getD masks v 0) 0))
-        ∙ ap (λ (y : Bool). not y || not (eqb (getD masks v 0) 0)) (sym ed)
-
-    pub served-free : not d ≡ true → true ≡ all (servedBy cb masks) (boundBy b)
-    served-free h = sym (served-of ∙ ap (λ (y : Bool). y || not (eqb (getD masks v 0) 0)) h)
-
-    pub served-is : (m : ℕ) → not d ≡ false → m ≡ getD masks v 0 → not (eqb m 0) ≡ all (servedBy cb masks) (boundBy b)
-    served-is m h em = ap (λ (x : ℕ). not (eqb x 0)) em ∙ sym (served-of ∙ ap (λ (y : Bool). y || not (eqb (getD masks v 0) 0)) h)
+  pub served-none : m ≡ 0 → not s ≡ (not s || not (eqb m 0))
+  served-none h = sym (ap (λ (b : Bool). not s || not b) (eq-eqb m 0 h) ∙ or-false (not s))
 
 -- what one permit adds to a guard
 module _ (places : List ℕ) (m k : ℕ) where
@@ -197,23 +188,56 @@ module _ (places : List ℕ) (m k : ℕ) where
         let s : lengthFrom places (8 - k) m k ≡ 0 = ap (λ (x : ℕ). lengthFrom places x m k) l in
         omega (arith, e, s)
 
--- the length of one binding's guard
-module _ (places masks : List ℕ) (b : Bound) where
-  pub length-none : b ≡ Nothing → 0 ≡ total (lengthBy places masks) (boundBy b)
-  unfolding total
-  length-none e = rw e
+-- what a record binds, entered
+module _ (q list cb places : List ℕ) (b : Bound) where
+  pub tally-none : b ≡ Nothing → record { served = true; length = 0 } ≡ tallyOf q list cb places (boundBy b)
+  unfolding all total
+  tally-none e = rw e
 
-  pub length-to : (v r : ℕ) → b ≡ To v r → (m n : ℕ) → m ≡ getD masks v 0 → n ≡ lengthFrom places 8 m 0 → n ≡ total (lengthBy places masks) (boundBy b)
-  unfolding total
-  length-to v r e m n em en =
-      en ∙ ap (λ (x : ℕ). lengthFrom places 8 x 0) em ∙ sym (ap (λ (x : Bound). total (lengthBy places masks) (boundBy x)) e ∙ add-zero (lengthFrom places 8 (getD masks v 0) 0))
+  pub tally-one : (v r : ℕ) → b ≡ To v r → (m : ℕ) → m ≡ maskFor q list cb (record { variable = v; relation = r }) → (d : Bool) → d ≡ (not (storedOf cb r) || not (eqb m 0)) → (n : ℕ) → n ≡ lengthFrom places 8 m 0
+      → record { served = d; length = n } ≡ tallyOf q list cb places (boundBy b)
+  unfolding all total servedBy
+  tally-one v r e m em d ed n en =
+      let x = maskFor q list cb (record { variable = v; relation = r }) in
+      ap₂ (λ (y : Bool) (k : ℕ). record { served = y; length = k })
+      (ed ∙ ap (λ (k : ℕ). not (storedOf cb r) || not (eqb k 0)) em ∙ sym (and-true (not (storedOf cb r) || not (eqb x 0))))
+      (en ∙ ap (λ (k : ℕ). lengthFrom places 8 k 0) em ∙ sym (add-zero (lengthFrom places 8 x 0)))
+      ∙ sym (ap (λ (y : Bound). tallyOf q list cb places (boundBy y)) e)
 
--- one turn of the sum over the bindings of a query
-pub length-on : (q : List ℕ) (at n : ℕ) → at < length q → n ≡ recordLength (getD q at 0) → (b : Bound) → boundBy b ≡ bindingOf (recordAt (drop at q)) → (f : Binding → ℕ) (m k w : ℕ) → k ≡ total f (boundBy b) → m + total f (flatBindings (drop at q)) ≡ w → m + k + total f (flatBindings (drop (at + n) q)) ≡ w
-length-on q at n h en b eb f m k w ek e = omega (arith, ek, e, ap (total f) (bindings-on q at n h en b eb), total-append f (boundBy b) (flatBindings (drop (at + n) q)))
+-- what was entered before, with what is left
+abbrev pub joined : Bool → ℕ → Tally → Tally
+joined p m t = record { served = p && t .served; length = m + t .length }
 
-pub length-end : (q : List ℕ) (at : ℕ) → length q ≤ at → (f : Binding → ℕ) (m w : ℕ) → m + total f (flatBindings (drop at q)) ≡ w → m ≡ w
-unfolding total
-length-end q at h f m w e =
-    let z : total f (flatBindings (drop at q)) ≡ 0 = ap (total f) (flat-end bindingOf q at h) in
-    omega (arith, z, e)
+and-assoc : (a b c : Bool) → (a && b) && c ≡ a && (b && c)
+and-assoc true b c = refl
+and-assoc false b c = refl
+
+module _ (q list cb places : List ℕ) where
+  pub tally-on : (at n : ℕ) → at < length q → n ≡ recordLength (getD q at 0) → (b : Bound) → boundBy b ≡ bindingOf (recordAt (drop at q)) → (p : Bool) (m : ℕ) (w t : Tally) → t ≡ tallyOf q list cb places (boundBy b) → (s : Bool) → s ≡ (p && t .served)
+      → joined p m (tallyOf q list cb places (flatBindings (drop at q))) ≡ w → joined s (m + t .length) (tallyOf q list cb places (flatBindings (drop (at + n) q))) ≡ w
+  tally-on at n h en b eb p m w t et s es e =
+      let f = servedBy q list cb in
+      let g = lengthBy q list cb places in
+      let rest = flatBindings (drop (at + n) q) in
+      let on = bindings-on q at n h en b eb in
+      ap₂ (λ (y : Bool) (k : ℕ). record { served = y; length = k })
+      (ap (λ (y : Bool). y && all f rest) (es ∙ ap (λ (y : Tally). p && y .served) et) ∙ and-assoc p (all f (boundBy b)) (all f rest) ∙ ap (λ (y : Bool). p && y) (sym (ap (all f) on ∙ all-join f (boundBy b) rest)))
+      (omega (arith, ap (λ (y : Tally). y .length) et, ap (total g) on, total-append g (boundBy b) rest))
+      ∙ e
+
+  pub tally-end : (at : ℕ) → length q ≤ at → (p : Bool) (m : ℕ) (w : Tally) → joined p m (tallyOf q list cb places (flatBindings (drop at q))) ≡ w → record { served = p; length = m } ≡ w
+  unfolding all total
+  tally-end at h p m w e =
+      ap₂ (λ (y : Bool) (k : ℕ). record { served = y; length = k }) (sym (and-true p)) (sym (add-zero m))
+      ∙ sym (ap (λ (bs : List Binding). joined p m (tallyOf q list cb places bs)) (flat-end bindingOf q at h)) ∙ e
+
+  -- the outcome
+  module _ (t : Tally) (et : t ≡ tallyAll q list cb places) where
+    outcome-of : check33 q list cb places ≡ passedIf (t .served) (t .length)
+    outcome-of = sym (ap (λ (y : Tally). passedIf (y .served) (y .length)) et)
+
+    pub outcome-refused : not (t .served) ≡ true → C.Refused ≡ check33 q list cb places
+    outcome-refused h = sym (outcome-of ∙ ap (λ (y : Bool). passedIf y (t .length)) (not-true (t .served) h))
+
+    pub outcome-passed : not (t .served) ≡ false → C.Passed (t .length) ≡ check33 q list cb places
+    outcome-passed h = sym (outcome-of ∙ ap (λ (y : Bool). passedIf y (t .length)) (not-false (t .served) h))

@@ -22,12 +22,20 @@ fn span(q: &[u8]) -> usize
     at
 }
 
+// How many bytes of a permit stand before its condition.
+pub(crate) fn header() -> usize
+    ensures { λ r. ⌜ r ≡ 4 ⌝ }
+{
+    kinds::record_length(64)
+}
+
 // How many bytes the permit takes that a list starts with.
 pub(crate) fn size(list: &[u8]) -> usize
     ensures { λ r. ⌜ r ≡ sizeOf (now (list .entry)) ⌝ }
     ensures { λ r. ⌜ (4 ≤ r) × (r ≤ length (now (list .entry)) + 8) ⌝ }
 {
-    4 + span(kinds::tail(list, 4))
+    let own = header();
+    own + span(kinds::tail(list, own))
 }
 
 fn wide(x: u8) -> u16
@@ -84,7 +92,7 @@ fn all_used(used: u16, mask: u16, wanted: bool) -> bool
 fn no_access(list: &[u8]) -> bool
     ensures { λ r. ⌜ r ≡ App.noAccessAt (entryAt (now (list .entry))) ⌝ }
 {
-    kinds::byte(list, 4) == 17
+    kinds::byte(list, header()) == 17
 }
 
 // Whether the permit that a list starts with applies to a variable over the relation, of which these attributes are used.

@@ -1,24 +1,39 @@
-// What the rewriter is lent: where each permit's condition stands, and for each variable a mask of its applying permits.
-// Check 33 and the length of the rewritten query are read from the same tables, so that permits are applied once.
+// The table of bound variables: for each a mask of its applying permits, beside it where each permit's condition stands.
+// The rewriter is lent it. One walk over the bindings makes it, and with it check 33 and the length of the rewritten query.
 mod applying;
 mod uses;
 
 use scans::Bound;
 ghost use mathlib.Core.Path.{_≡_};
-ghost use mathlib.Core.Bool.{_||_};
+ghost use mathlib.Core.Bool.{not, _&&_, _||_};
 ghost use Prim.Native.Nat.{_+_, _*_, _^_, _≤_, _<_};
+ghost use lib.Dec.{eqb};
 ghost use lib.ListN.{length, getD, set, take};
 ghost use Rattle.model.specs.Permits.{bit};
-ghost use Rattle.model.specs.Lists.{all, total};
+ghost use Rattle.catalogue.specs.Layout.{storedOf};
 ghost use Rattle.scans.specs.Flat.{boundBy, flatBindings};
 ghost use Rattle.permits.specs.Entries.{entries};
 ghost use Rattle.guards.specs.Filled.{placedFrom, verdictOf, maskFor, masked, bitOf};
-ghost use Rattle.guards.specs.Counted.{servedBy, Short, turnLength, lengthFrom, lengthBy, rewrittenLength};
+ghost use Rattle.guards.specs.Counted.{Short, turnLength, lengthFrom, tallyOf, tallyAll, check33};
+
+const PERMITS: u8 = model::PERMITS as u8;
 
 // What a permit list is to a variable: bit k of the mask for permit k where it applies, and whether a permit bars it.
 struct Verdict {
     mask: u8,
     barred: bool,
+}
+
+// Of bound variables: whether each over a stored relation has a permit (33), and how many bytes their guards take.
+struct Tally {
+    served: bool,
+    length: usize,
+}
+
+// Check 33; where it passes, how many bytes the rewritten query has.
+pub enum Check33 {
+    Passed(usize),
+    Refused,
 }
 
 fn put_place(places: &mut [usize], i: usize, x: usize)
@@ -30,7 +45,7 @@ fn put_place(places: &mut [usize], i: usize, x: usize)
 }
 
 // The permits from `at` on, at most so many, permit k first.
-pub fn fill_places(list: &[u8], at: usize, k: usize, left: usize, places: &mut [usize])
+fn fill_places(list: &[u8], at: usize, k: usize, left: usize, places: &mut [usize])
     requires { ⌜ (at ≤ 65536) × (k + left ≤ 8) × (length (now list) ≤ 2048) ⌝ }
     ensures { λ _. ⌜ now (places .exit) ≡ placedFrom left (now (list .entry)) at k (now (places .entry)) ⌝ }
 {
@@ -40,10 +55,11 @@ pub fn fill_places(list: &[u8], at: usize, k: usize, left: usize, places: &mut [
     if list.len() <= at {
         return;
     }
+    let own = applying::header();
     let rest = kinds::tail(list, at);
-    put_place(places, 2 * k, at + 4);
+    put_place(places, 2 * k, at + own);
     let n = applying::size(rest);
-    put_place(places, 2 * k + 1, n - 4);
+    put_place(places, 2 * k + 1, n - own);
     fill_places(list, at + n, k + 1, left - 1, places);
 }
 
@@ -107,69 +123,11 @@ fn mask_for(query: &[u8], list: &[u8], catalogue: &[u8], variable: u8, relation:
     if !catalogue::stored(catalogue, relation) {
         return 0;
     }
-    let found = standing(list, 8, relation, uses::used_mask(query, variable));
+    let found = standing(list, PERMITS, relation, uses::used_mask(query, variable));
     if found.barred {
         return 0;
     }
     found.mask
-}
-
-fn fill_mask(query: &[u8], list: &[u8], catalogue: &[u8], b: Bound, masks: &mut [u8])
-    ensures { λ _. ⌜ now (masks .exit) ≡ masked (now (query .entry)) (now (list .entry)) (now (catalogue .entry)) (boundBy b) (now (masks .entry)) ⌝ }
-{
-    let Bound::To(variable, relation) = b else {
-        return;
-    };
-    put_mask(
-        masks,
-        variable,
-        mask_for(query, list, catalogue, variable, relation),
-    );
-}
-
-// The masks of all variables that the query binds.
-pub fn fill_masks(query: &[u8], list: &[u8], catalogue: &[u8], masks: &mut [u8])
-    ensures { λ _. ⌜ now (masks .exit) ≡ masked (now (query .entry)) (now (list .entry)) (now (catalogue .entry)) (flatBindings (now (query .entry)))
-        (now (masks .entry)) ⌝ }
-{
-    let mut at = 0;
-    while at < query.len() {
-        fill_mask(query, list, catalogue, scans::binding(query, at), masks);
-        at += scans::step(query, at);
-    }
-}
-
-fn mask_at(masks: &[u8], variable: u8) -> u8
-    ensures { λ r. ⌜ r ≡ getD (now (masks .entry)) variable 0 ⌝ }
-{
-    let v = variable as usize;
-    kinds::byte(masks, v)
-}
-
-fn served(catalogue: &[u8], masks: &[u8], b: Bound) -> bool
-    ensures { λ r. ⌜ r ≡ all (servedBy (now (catalogue .entry)) (now (masks .entry))) (boundBy b) ⌝ }
-{
-    let Bound::To(v, r) = b else {
-        return true;
-    };
-    if !catalogue::stored(catalogue, r) {
-        return true;
-    }
-    mask_at(masks, v) != 0
-}
-
-// Check 33 passes: each variable over a stored relation has a permit in its mask.
-pub fn all_served(query: &[u8], catalogue: &[u8], masks: &[u8]) -> bool
-    ensures { λ r. ⌜ r ≡ all (servedBy (now (catalogue .entry)) (now (masks .entry))) (flatBindings (now (query .entry))) ⌝ }
-{
-    let mut at = 0;
-    while at < query.len() {
-        if !served(catalogue, masks, scans::binding(query, at)) {
-            return false;
-        }
-        at += scans::step(query, at);
-    }
-    true
 }
 
 // The length of permit k's condition.
@@ -200,7 +158,7 @@ fn guard_length(places: &[usize], mask: u8) -> usize
     let mut n: usize = 0;
     let mut m = mask;
     let mut k: usize = 0;
-    while k < 8 {
+    while k < model::PERMITS {
         n += turn_length(places, m, k);
         m = m / 2;
         k += 1;
@@ -208,26 +166,103 @@ fn guard_length(places: &[usize], mask: u8) -> usize
     n
 }
 
-fn binding_length(places: &[usize], masks: &[u8], b: Bound) -> usize
-    requires { ⌜ Short (now places) ⌝ }
-    ensures { λ r. ⌜ (r ≡ total (lengthBy (now (places .entry)) (now (masks .entry))) (boundBy b)) × (r ≤ 32776) ⌝ }
+fn both(a: bool, b: bool) -> bool
+    ensures { λ r. ⌜ r ≡ (a && b) ⌝ }
 {
-    let Bound::To(variable, _) = b else {
-        return 0;
-    };
-    guard_length(places, mask_at(masks, variable))
+    if a { b } else { false }
 }
 
-// How many bytes the rewritten query has. Where 33 has passed a mask of 0 is a workspace's, which gets no guard.
-pub fn rewritten_length(query: &[u8], places: &[usize], masks: &[u8]) -> usize
-    requires { ⌜ (length (now query) ≤ 1024) × Short (now places) ⌝ }
-    ensures { λ r. ⌜ r ≡ rewrittenLength (now (query .entry)) (now (places .entry)) (now (masks .entry)) ⌝ }
+// 33 of a variable with this mask: over a stored relation it has a permit.
+fn served(catalogue: &[u8], relation: u8, mask: u8) -> bool
+    ensures { λ r. ⌜ r ≡ (not (storedOf (now (catalogue .entry)) relation) || not (eqb mask 0)) ⌝ }
 {
+    if mask != 0 {
+        return true;
+    }
+    !catalogue::stored(catalogue, relation)
+}
+
+// Enters what a record binds into the table.
+fn enter(
+    query: &[u8],
+    list: &[u8],
+    catalogue: &[u8],
+    b: Bound,
+    places: &[usize],
+    masks: &mut [u8],
+) -> Tally
+    requires { ⌜ Short (now places) ⌝ }
+    ensures { λ r. ⌜ r ≡ tallyOf (now (query .entry)) (now (list .entry)) (now (catalogue .entry)) (now (places .entry)) (boundBy b) ⌝ }
+    ensures { λ r. ⌜ r .length ≤ 32776 ⌝ }
+    ensures { λ _. ⌜ now (masks .exit) ≡ masked (now (query .entry)) (now (list .entry)) (now (catalogue .entry)) (boundBy b) (now (masks .entry)) ⌝ }
+{
+    let Bound::To(variable, relation) = b else {
+        return Tally {
+            served: true,
+            length: 0,
+        };
+    };
+    let mask = mask_for(query, list, catalogue, variable, relation);
+    put_mask(masks, variable, mask);
+    Tally {
+        served: served(catalogue, relation, mask),
+        length: guard_length(places, mask),
+    }
+}
+
+// Enters all variables that the query binds; to the bytes of their guards the query's own are added.
+fn enter_all(
+    query: &[u8],
+    list: &[u8],
+    catalogue: &[u8],
+    places: &[usize],
+    masks: &mut [u8],
+) -> Tally
+    requires { ⌜ (length (now query) ≤ 1024) × Short (now places) ⌝ }
+    ensures { λ r. ⌜ r ≡ tallyAll (now (query .entry)) (now (list .entry)) (now (catalogue .entry)) (now (places .entry)) ⌝ }
+    ensures { λ _. ⌜ now (masks .exit) ≡ masked (now (query .entry)) (now (list .entry)) (now (catalogue .entry)) (flatBindings (now (query .entry)))
+        (now (masks .entry)) ⌝ }
+{
+    let mut passed = true;
     let mut n = query.len();
     let mut at = 0;
     while at < query.len() {
-        n += binding_length(places, masks, scans::binding(query, at));
+        let t = enter(
+            query,
+            list,
+            catalogue,
+            scans::binding(query, at),
+            places,
+            masks,
+        );
+        passed = both(passed, t.served);
+        n += t.length;
         at += scans::step(query, at);
     }
-    n
+    Tally {
+        served: passed,
+        length: n,
+    }
+}
+
+// Fills both tables. A variable without a permit does not end the walk: a refusal too is said after all of them.
+pub fn fill(
+    query: &[u8],
+    list: &[u8],
+    catalogue: &[u8],
+    places: &mut [usize],
+    masks: &mut [u8],
+) -> Check33
+    requires { ⌜ (length (now query) ≤ 1024) × (length (now list) ≤ 2048) × Short (now places) ⌝ }
+    ensures { λ r. ⌜ r ≡ check33 (now (query .entry)) (now (list .entry)) (now (catalogue .entry)) (now (places .exit)) ⌝ }
+    ensures { λ _. ⌜ now (places .exit) ≡ placedFrom 8 (now (list .entry)) 0 0 (now (places .entry)) ⌝ }
+    ensures { λ _. ⌜ now (masks .exit) ≡ masked (now (query .entry)) (now (list .entry)) (now (catalogue .entry)) (flatBindings (now (query .entry)))
+        (now (masks .entry)) ⌝ }
+{
+    fill_places(list, 0, 0, model::PERMITS, places);
+    let t = enter_all(query, list, catalogue, places, masks);
+    if !t.served {
+        return Check33::Refused;
+    }
+    Check33::Passed(t.length)
 }

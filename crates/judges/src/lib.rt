@@ -26,6 +26,10 @@ ghost use Rattle.decide.specs.Keys.{Faithful};
 ghost use Rattle.judges.specs.Marked as J;
 ghost use Rattle.judges.specs.Meets.{meetsBytes, rowOf};
 
+const LEVELS: usize = model::PERMIT_LEVELS;
+
+const VARIABLES: usize = model::PERMIT_VARIABLES as usize;
+
 // A comparison of an attribute with a number, in a form that is the same for all operators: the value times `scale` against the number
 // from below unless `above`, from above unless `below`, and turned round unless `wanted`.
 struct Test {
@@ -447,7 +451,7 @@ fn judge_both(
         (drop (second (now (q .entry)) (now (z .entry))) (now (z .entry))) (now (walks .entry)) (now (vs .entry)) (now (memo .entry)) walk wanted
         i) (walk .count) (now (marks .entry)) (now (marks .exit)) ⌝ }
 {
-    let mut others = [0u8; 1024];
+    let mut others = [0u8; model::ROWS];
     judge_two(q, z, level, walks, walk, vs, memo, !wanted, &mut others);
     mark_others(&others, walk.count, marks);
 }
@@ -575,20 +579,20 @@ fn judge_short(q: &[u8], walk: Walk, values: &[i32], marks: &mut [u8]) -> bool
     mark_against(operator, attribute, x, walk, values, true, marks)
 }
 
-// Any condition, with its tables: at most 256 bytes and 16 levels, variables below 4. Its aggregates are evaluated once.
+// Any condition of a permit, with its tables. Its aggregates are evaluated once.
 fn judge_long(q: &[u8], catalogue: &[u8], values: &[i32], walk: Walk, marks: &mut [u8])
     requires { ⌜ (walk .count ≤ 1024) × (walk .count ≤ length (now marks)) × Fits walk × J.Bits (now marks) ⌝ }
     ensures { λ _. ⌜ J.Marked (λ i. meetsBytes (now (catalogue .entry)) (now (values .entry)) (now (q .entry))
         (J.tupleOf (now (values .entry)) walk i)) (walk .count) (now (marks .entry)) (now (marks .exit)) ⌝ }
 {
-    let mut z = [0u16; 256];
-    sizes::condition(q, &mut z, 0, 16);
-    let mut walks = [0u16; 32];
+    let mut z = [0u16; model::PERMIT_BYTES];
+    sizes::condition(q, &mut z, 0, LEVELS);
+    let mut walks = [0u16; 8 * VARIABLES];
     allrows::fill(q, catalogue, &mut walks);
     let mut env = [values.len(); 256];
-    let mut memo = [0i64; 8];
-    aggregates::condition(q, &z, 16, &walks, values, &mut env, &mut memo);
-    judge_at(q, &z, 16, &walks, walk, values, &memo, true, marks);
+    let mut memo = [0i64; 2 * VARIABLES];
+    aggregates::condition(q, &z, LEVELS, &walks, values, &mut env, &mut memo);
+    judge_at(q, &z, LEVELS, &walks, walk, values, &memo, true, marks);
 }
 
 // Marks the rows of a relation that meet the condition of a permit.

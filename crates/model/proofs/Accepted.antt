@@ -14,7 +14,8 @@ use Rattle.model.specs.Catalogue.{Shape}
 use Rattle.model.specs.Permits.{Guards, guardsOf}
 use Rattle.model.specs.Rewriting.{newFor, rewrite, rewriteTargets, guardRanges, rewriteQuery}
 use Rattle.model.specs.Scope.{knownBinding, inScope, inScopeT, rangeScope, queryInScope, boundOnce}
-use Rattle.model.specs.Checks.{Limits, guardedLimits, plainLimits, fails30, fails31, fails32, shapeChecks, queryChecks, refusal}
+use Rattle.model.specs.Limits.{Limits}
+use Rattle.model.specs.Checks.{guardedLimits, plainLimits, fails30, fails31, fails32, shapeChecks, queryChecks, refusal}
 use Rattle.model.proofs.Tests.{and-intro}
 use Rattle.model.proofs.Lists.{every-map}
 use Rattle.model.proofs.ReadingQueries.{IsQ, read-query}

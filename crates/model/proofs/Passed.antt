@@ -15,7 +15,8 @@ use Rattle.model.specs.Encoding.{encodePermit, encodeQuery, Read, fail, 
 use Rattle.model.specs.Catalogue.{Relation, readCatalogue, catalogueRead, catalogueOf, Shape, shapeOf, attributesAt, storedAt}
 use Rattle.model.specs.Permits.{mask, usedOf, noAccess, applies, Guard, free, only, Guards, guardOf, guardsOf}
 use Rattle.model.specs.Scope.{Scope, nobody, knownBinding, inScope, inScopeT, rangeScope, queryInScope, boundOnce}
-use Rattle.model.specs.Checks.{Limits, guardedLimits, plainLimits, fails10, fails11, fails20, permitFits, fails21, maskKnown, permitKnown, fails22, fails23, fails30, fails31, fails32, fails33, fails40, Check, keeperChecks, permitChecks, queryChecks, guardChecks, shapeChecks, refusal}
+use Rattle.model.specs.Limits.{Limits}
+use Rattle.model.specs.Checks.{guardedLimits, plainLimits, fails10, fails11, fails20, permitFits, fails21, maskKnown, permitKnown, fails22, fails23, fails30, fails31, fails32, fails33, fails40, Check, keeperChecks, permitChecks, queryChecks, guardChecks, shapeChecks, refusal}
 use Rattle.model.proofs.Tests.{clash, and-inv, or-inv, or-no, not-no, not-yes, all-cons}
 use Rattle.model.proofs.Lists.{every-append, every-join, every-map}
 use Rattle.model.proofs.Reading.{never, then-inv, byte-inv, need-inv}

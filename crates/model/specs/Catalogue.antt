@@ -6,6 +6,7 @@ use lib.Dec.{eqb, leb}
 use lib.IntN.{ℤ, pos}
 use lib.ListN.{length, getD, drop}
 use Rattle.model.specs.Lists.{total, backwards}
+use Rattle.model.specs.Limits.{limits}
 use Rattle.model.specs.Kinds.{k-stored, k-workspace, k-latest, relationCode}
 use Rattle.model.specs.Encoding.{Read, fail, ok, then, byte, need, readOr}
 use Rattle.model.specs.Meaning.{Tuple, Rows}
@@ -23,7 +24,7 @@ readCatalogue zero r = fail
 readCatalogue (suc n) [] = ok [] []
 readCatalogue (suc n) (k ∷ r) =
     need (eqb k (relationCode k-stored) || eqb k (relationCode k-workspace) || eqb k (relationCode k-latest))
-    (byte r λ w r. need (leb 1 w && leb w 16) (byte r λ a r. byte r λ b r. need (leb (a + 256 * b) 1024)
+    (byte r λ w r. need (leb 1 w && leb w (limits .attributes)) (byte r λ a r. byte r λ b r. need (leb (a + 256 * b) (limits .rows))
     (then (readCatalogue n r) λ xs r. ok (record { stored = not (eqb k (relationCode k-workspace)); latest = eqb k (relationCode k-latest); attributes = w; rows = a + 256 * b } ∷ xs) r)))
 
 unfoldable pub catalogueRead : List ℕ → Read (List Relation)

@@ -7,6 +7,7 @@ use lib.Dec.{eqb, leb, ltb}
 use lib.IntN.{ℤ}
 use lib.ListN.{length}
 use Rattle.model.specs.Lists.{update, any, all, unique, below}
+use Rattle.model.specs.Limits.{Limits, limits}
 use Rattle.model.specs.Syntax.{Binding, Query, Permit, bindings, bindingsQ, variables, levels, levelsQ}
 use Rattle.model.specs.Encoding.{failed, readQuery, permitsRead, queryOf, permitsOf, encodeQuery, encodePermit}
 use Rattle.model.specs.Catalogue.{catalogueRead, catalogueOf, valueCount, Shape, shapeOf, attributesAt, storedAt}
@@ -14,24 +15,16 @@ use Rattle.model.specs.Permits.{bit, mask, usedOf, applies, bars, guards
 use Rattle.model.specs.Rewriting.{rewriteQuery}
 use Rattle.model.specs.Scope.{nobody, inScope, queryInScope, boundOnce}
 
--- the limits of a call
-pub record Limits : Type 0 where
-  pub bytes : ℕ
-  pub nesting : ℕ
-  pub bound : ℕ
-  pub ranges : ℕ
-  pub targets : ℕ
-
 -- a query that is asked, and one put to the plain evaluator
 abbrev pub guardedLimits : Limits
-guardedLimits = record { bytes = 1024; nesting = 32; bound = 8; ranges = 4; targets = 8 }
+guardedLimits = limits .asked
 
 abbrev pub plainLimits : Limits
-plainLimits = record { bytes = 17216; nesting = 64; bound = 200; ranges = 4; targets = 8 }
+plainLimits = limits .plain
 
 -- 10: catalogue empty, over 16 records, cut short, of unknown kind, or a number outside its range
 unfoldable pub fails10 : List ℕ → Bool
-fails10 cb = failed (catalogueRead cb) || (eqb (length (catalogueOf cb)) 0 || ltb 16 (length (catalogueOf cb)))
+fails10 cb = failed (catalogueRead cb) || (eqb (length (catalogueOf cb)) 0 || ltb (limits .relations) (length (catalogueOf cb)))
 
 -- 11: the slice's length is not the catalogue's total
 unfoldable pub fails11 : List ℕ → List ℤ → Bool
@@ -39,14 +32,14 @@ fails11 cb vs = not (eqb (length vs) (valueCount (catalogueOf cb)))
 
 -- 20: list over 2,048 bytes or not well formed
 unfoldable pub fails20 : List ℕ → Bool
-fails20 pb = ltb 2048 (length pb) || failed (permitsRead pb)
+fails20 pb = ltb (limits .list-bytes) (length pb) || failed (permitsRead pb)
 
 -- 21: over 8 permits, 256 bytes, 16 levels or 3 other variables (counted as binding records)
 unfoldable pub permitFits : Permit → Bool
-permitFits p = leb (length (encodePermit p [])) 256 && (leb (levels (p .condition)) 16 && leb (length (bindings (p .condition))) 3)
+permitFits p = leb (length (encodePermit p [])) (limits .permit-bytes) && (leb (levels (p .condition)) (limits .permit-nesting) && leb (length (bindings (p .condition))) (limits .permit-bound))
 
 unfoldable pub fails21 : List Permit → Bool
-fails21 ps = ltb 8 (length ps) || not (all permitFits ps)
+fails21 ps = ltb (limits .permits) (length ps) || not (all permitFits ps)
 
 -- 22: mask 0 or (unless ALL) naming an absent attribute
 unfoldable pub maskKnown : Shape → Permit → Bool
@@ -56,7 +49,7 @@ maskKnown sh p = not (eqb (mask p) 0) && (eqb (mask p) 65535 || all (λ a. not (
 unfoldable pub permitKnown : Shape → Permit → Bool
 permitKnown sh p =
     (ltb (p .relation) (length sh) && maskKnown sh p)
-    && (inScope sh 4 (p .condition) (update nobody 0 (some (p .relation))) && unique (0 ∷ variables (bindings (p .condition))))
+    && (inScope sh (limits .permit-variables) (p .condition) (update nobody 0 (some (p .relation))) && unique (0 ∷ variables (bindings (p .condition))))
 
 unfoldable pub fails22 : Shape → List Permit → Bool
 fails22 sh ps = not (all (permitKnown sh) ps)

@@ -1,5 +1,6 @@
 -- Definitions, in the order in which a reader of document 01 meets them.
 pub mod Lists
+pub mod Limits
 pub mod Kinds
 pub mod Syntax
 pub mod Encoding

@@ -56,14 +56,8 @@ fn product(a: i64, b: i64) -> i64
     a * b
 }
 
-fn wide_byte(x: u8) -> usize
-    ensures { λ r. ⌜ r ≡ x ⌝ }
-{
-    x as usize
-}
-
 // Compares two numbers.
-pub fn ordered(operator: usize, a: i64, b: i64) -> bool
+fn ordered(operator: usize, a: i64, b: i64) -> bool
     ensures { λ r. ⌜ r ≡ N.ordered operator a b ⌝ }
 {
     match operator {
@@ -90,14 +84,6 @@ pub fn compared(operator: usize, x: Ratio, y: Ratio) -> bool
         return false;
     }
     ordered(operator, product(x.numerator, e), product(y.numerator, d))
-}
-
-// The same with the operator's byte.
-pub fn compare(operator: u8, x: Ratio, y: Ratio) -> bool
-    requires { ⌜ N.Small x × N.Small y ⌝ }
-    ensures { λ r. ⌜ r ≡ M.compare operator (N.valueOf x) (N.valueOf y) ⌝ }
-{
-    compared(wide_byte(operator), x, y)
 }
 
 fn plus(a: i64, b: i64) -> i64

@@ -254,7 +254,7 @@ fn write(
     ensures { λ r. ⌜ Linked (plan .columns) (r .rows) (now (answer .exit)) (now (table .exit)) ⌝ }
 {
     let n = plan.columns;
-    let mut row = [0i64; 8];
+    let mut row = [0i64; model::TARGETS];
     if !cells(list, q, z, plan, walks, vs, memo, env, &mut row) {
         return state;
     }
@@ -422,7 +422,7 @@ fn only(
     let t = plan.targets;
     let x = kinds::tail(q, t);
     let y = kinds::tail_sizes(z, t);
-    let mut row = [0i64; 8];
+    let mut row = [0i64; model::TARGETS];
     if !targets(x, y, n, plan.level, walks, vs, memo, env, &mut row, 0) {
         return none();
     }
@@ -497,7 +497,7 @@ pub fn run(
     if left == 0 {
         return only(q, z, plan, walks, vs, memo, env, answer);
     }
-    let mut list = [0u16; 16];
+    let mut list = [0u16; 2 * model::TARGETS];
     let x = kinds::tail(q, plan.targets);
     let y = kinds::tail_sizes(z, plan.targets);
     let listed = list_targets(x, y, plan.columns, plan.level, memo, &mut list, 0);

@@ -131,8 +131,8 @@ module _ (cb list : List ℕ) (h10 : fails10 cb ≡ false) (p : ℕ) (inside : p
     the : (g : Permit) (s : List ℕ) → drop p list ≡ encodePermit g s → WellFormed (g .condition) → permitFits g ≡ true → c ≡ g .condition
     the g s e w f = the-condition a (g .condition) s (body g s e) w (fitting g f .1) .0
 
-    pub permit-long : 252 < n → Granted G.Refused sh list p
-    permit-long h g s e w f = absurd (omega (arith, h, a .sized, ap size (the g s e w f), fitting g f .0))
+    pub permit-long : 256 - k < n → Granted G.Refused sh list p
+    permit-long h g s e w f = absurd (omega (arith, h, ek ∙ four, a .sized, ap size (the g s e w f), fitting g f .0))
 
     module _ (u : List ℕ) (eu : u ≡ take n y) (d : ℕ) (ed : d ≡ length (flatBindings u)) where
       bound : flatBindings u ≡ bindings c
@@ -152,13 +152,13 @@ module _ (cb list : List ℕ) (h10 : fails10 cb ≡ false) (p : ℕ) (inside : p
       abbrev g : Permit
       g = record { relation = r; low = lo; high = hi; condition = c }
 
-      module _ (few : d ≤ 3) (short : n ≤ 252) (o : Bool) (eo : o ≡ (storedOf cb r && all (storedIn cb) (flatBindings u))) (m : ℕ) (em : m ≡ maskOf x) (v : Bool) (ev : v ≡ (ltb r (countOf cb) && maskIn (attributesOf cb r) m)) where
+      module _ (few : d ≤ 3) (short : n ≤ 256 - k) (o : Bool) (eo : o ≡ (storedOf cb r && all (storedIn cb) (flatBindings u))) (m : ℕ) (em : m ≡ maskOf x) (v : Bool) (ev : v ≡ (ltb r (countOf cb) && maskIn (attributesOf cb r) m)) where
         reads : (i : Bool) → i ≡ (v && (b && unique (0 ∷ variables (flatBindings u)))) → PermitRead sh list p (k + n) i o
         unfolding encodePermit permitFits permitKnown maskOf
         reads i ei =
             let s : x ≡ 64 ∷ r ∷ lo ∷ hi ∷ drop 4 (drop p list) = ex ∙ starts in
             let me : maskIn (attributesOf cb r) m ≡ maskIn (attributesOf cb r) (mask g) = ap (maskIn (attributesOf cb r)) (em ∙ ap maskOf s) in
-            let long = le-leb (length (encodePermit g [])) 256 (omega (arith, size-encode c [], a .sized, short)) in
+            let long = le-leb (length (encodePermit g [])) 256 (omega (arith, size-encode c [], a .sized, short, ek ∙ four)) in
             let deep = le-leb (levels c) 16 (a .deep) in
             let binds = le-leb (length (bindings c)) 3 (omega (arith, few, ed, ap length bound)) in
             let sc : inScope sh 4 c (permitScope r) ≡ b = ap (λ (v : Shape). inScope v 4 c (permitScope r)) (sym (shape-is cb h10)) ∙ a .scope in

@@ -21,6 +21,12 @@ ghost use Rattle.permits.specs.Entries.{maskOf};
 ghost use Rattle.permits.specs.Masks as Lim;
 ghost use Rattle.permits.specs.Granted.{Granted, Listed};
 
+const BYTES: usize = model::PERMIT_BYTES;
+
+const LEVELS: usize = model::PERMIT_LEVELS;
+
+const VARIABLES: u8 = model::PERMIT_VARIABLES;
+
 pub fn part(q: &[u8], n: usize) -> &[u8]
     ensures { λ r. ⌜ now r ≡ take n (now (q .entry)) ⌝ }
 {
@@ -171,7 +177,7 @@ fn condition(bytes: &[u8], z: &mut [u16], catalogue: &[u8], relation: u8) -> Rea
 {
     let mut reach = [0u16; 256];
     conditions::scope::bind(&mut reach, 0, relation);
-    conditions::condition(bytes, z, 0, 16, catalogue, 4, &mut reach)
+    conditions::condition(bytes, z, 0, LEVELS, catalogue, VARIABLES, &mut reach)
 }
 
 // The permit at a place.
@@ -188,12 +194,12 @@ fn permit(list: &[u8], at: usize, catalogue: &[u8], z: &mut [u16]) -> Grant
     let Reading::Whole(n, inside) = condition(bytes, z, catalogue, relation) else {
         return Grant::Refused;
     };
-    if 252 < n {
+    if BYTES - own < n {
         return Grant::Refused;
     }
     let c = part(bytes, n);
     let bound = scans::count_bindings(c);
-    if 3 < bound {
+    if model::PERMIT_BOUND < bound {
         return Grant::Refused;
     }
     let over = stored(catalogue, relation, c, bound);
@@ -249,11 +255,11 @@ pub fn check(list: &[u8], catalogue: &[u8]) -> u8
     requires { ⌜ fails10 (now catalogue) ≡ false ⌝ }
     ensures { λ r. ⌜ r ≡ refusal (permitChecks (shapeOf (catalogueOf (now (catalogue .entry)))) (now (list .entry))) ⌝ }
 {
-    if 2048 < list.len() {
+    if model::LIST_BYTES < list.len() {
         return 20;
     }
-    let mut z = [0u16; 256];
-    let Listing::Whole(known, over) = rest(list, 0, 8, catalogue, &mut z) else {
+    let mut z = [0u16; BYTES];
+    let Listing::Whole(known, over) = rest(list, 0, model::PERMITS, catalogue, &mut z) else {
         return number(list);
     };
     if !known {

@@ -19,6 +19,11 @@ ghost use Rattle.judges.specs.Marked.{Bits, Marked};
 ghost use Rattle.judges.specs.Meets.{meetsBytes, rowOf};
 ghost use Rattle.permitted.specs.Given as G;
 
+const VARIABLES: usize = model::ASKED_VARIABLES as usize;
+
+// Where the lists of rows begin in a table of walks.
+const LISTS: usize = 8 * VARIABLES;
+
 fn place(places: &[usize], i: usize) -> usize
     ensures { λ r. ⌜ r ≡ getD (now (places .entry)) i 0 ⌝ }
 {
@@ -74,7 +79,7 @@ fn judge_all(
 {
     let mut m = mask;
     let mut k: usize = 0;
-    while k < 8 {
+    while k < model::PERMITS {
         turn(list, places, m, k, catalogue, values, relation, marks);
         m = m / 2;
         k += 1;
@@ -189,7 +194,7 @@ fn list_many(
         relation) start r (now (walks .entry)) (now (walks .exit)) ⌝ }
     ensures { λ r. ⌜ (start ≤ r) × (r ≤ start + rowsOf (now (catalogue .entry)) relation) ⌝ }
 {
-    let mut marks = [0u8; 1024];
+    let mut marks = [0u8; model::ROWS];
     list_by(
         list,
         places,
@@ -263,13 +268,13 @@ fn with_key(walks: &[u16], key: usize) -> usize
     ensures { λ r. ⌜ (r ≤ 8) × (r < 8 → getD (now (walks .entry)) (8 * r + 5) 0 ≡ key) ⌝ }
 {
     let mut v = 0;
-    while v < 8 {
+    while v < VARIABLES {
         if kinds::size_at(walks, 8 * v + 5) == key {
             return v;
         }
         v += 1;
     }
-    8
+    VARIABLES
 }
 
 // A list of its own for a variable; where the next one can start.
@@ -331,7 +336,7 @@ fn give_listed(
 {
     let key = key_of(relation, mask);
     let other = with_key(walks, key);
-    if other < 8 {
+    if other < VARIABLES {
         let walk = walks::walk_of(walks, byte_of(other));
         enter(walks, variable, walk, key);
         return next;
@@ -439,7 +444,7 @@ pub fn fill(
         ≡ G.rowsFor (now (catalogue .entry)) (now (values .entry)) (part (now (list .entry)) (now (places .entry)))
         (getD (now (masks .entry)) (b .variable) 0) (b .relation)) (flatBindings (now (query .entry))) ⌝ }
 {
-    let mut next = 64;
+    let mut next = LISTS;
     let mut at = 0;
     while at < query.len() {
         let b = scans::binding(query, at);

@@ -10,7 +10,8 @@ use Rattle.model.specs.Encoding.{queryOf}
 use Rattle.model.specs.Syntax.{Query}
 use Rattle.model.specs.Meaning.{Assignment, Rows, holds, targetRow, unbound}
 use Rattle.model.specs.Catalogue.{catalogueOf, shapeOf}
-use Rattle.model.specs.Checks.{Limits, fails10, fails32}
+use Rattle.model.specs.Limits.{Limits}
+use Rattle.model.specs.Checks.{fails10, fails32}
 use Rattle.walks.specs.Assigned.{assigned}
 use Rattle.numbers.specs.Recalled.{holdsBy}
 use Rattle.odometer.specs.declared.Plan.{Plan}
@@ -58,3 +59,8 @@ pub record Answerable (y : Layout) (l : ℕ) (q z cb : List ℕ) : Type 0 where
   pub limits : Limits
   pub bound : limits .bound ≤ 200
   pub known : fails32 limits (shapeOf (catalogueOf cb)) (queryOf q) ≡ false
+
+-- the same of some catalogue
+pub record Passed (y : Layout) (l : ℕ) (q z : List ℕ) : Type 0 where
+  pub by : List ℕ
+  pub answerable : Answerable y l q z by

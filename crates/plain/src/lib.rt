@@ -15,7 +15,9 @@ ghost use Rattle.model.specs.Calls.{give, evaluate};
 ghost use Rattle.walks.specs.Walks.{rowsBy};
 ghost use Rattle.walks.specs.Assigned.{assigned};
 ghost use Rattle.queries.specs.Parts.{queryAt};
-ghost use Rattle.plain.specs.Reply.{answerOf, replyOf, planOf, memoOf, Answerable, Trusted, Unbound};
+ghost use Rattle.plain.specs.Reply.{answerOf, replyOf, planOf, memoOf, Answerable, Passed, Trusted, Unbound};
+
+const LEVELS: usize = model::PLAIN_LEVELS;
 
 // The number of a refusal, 0 where there is none, and the counts of rows and columns.
 pub struct Reply {
@@ -81,6 +83,12 @@ fn remember(
     aggregates::condition(u, v, level, walks, values, env, memo);
 }
 
+// The parts of a query, and how many levels it may have.
+struct Task {
+    layout: Layout,
+    level: usize,
+}
+
 // All ranges are left to bind, and no target is listed yet.
 fn plan_of(layout: Layout, level: usize) -> Plan
     ensures { λ r. ⌜ r ≡ planOf layout level ⌝ }
@@ -100,9 +108,7 @@ fn plan_of(layout: Layout, level: usize) -> Plan
 fn answer_in(
     q: &[u8],
     z: &[u16],
-    layout: Layout,
-    level: usize,
-    catalogue: &[u8],
+    task: Task,
     walks: &[u16],
     values: &[i32],
     memo: &[i64],
@@ -111,14 +117,16 @@ fn answer_in(
     table: &mut [u16],
     chains: &mut [u16],
 ) -> Reply
-    requires { ⌜ Answerable layout level (now q) (now z) (now catalogue)
-        × Trusted (now memo) (rowsBy (now walks) (now values)) (queryAt layout level (now q) (now z)) × Unbound (now values) (now env)
+    requires { ⌜ Passed (task .layout) (task .level) (now q) (now z)
+        × Trusted (now memo) (rowsBy (now walks) (now values)) (queryAt (task .layout) (task .level) (now q) (now z)) × Unbound (now values) (now env)
         × (length (now table) ≤ 65535) × ((i : ℕ) → getD (now table) i 0 ≡ 0) × ((i : ℕ) → getD (now chains) i 0 ≡ 0) ⌝ }
     ensures { λ r. ⌜ answerOf r (now (answer .exit)) ≡ give (length (queryOf (now (q .entry)) .targets))
         (answers (queryOf (now (q .entry))) (rowsBy (now (walks .entry)) (now (values .entry)))) (now (answer .entry)) ⌝ }
 {
     let mut t = [0u16; 512];
     let mut xs = [0i32; 128];
+    let layout = task.layout;
+    let level = task.level;
     let n = layout.ranges;
     let c = layout.condition;
     conjuncts::plan(q, z, n, c, level, memo, &mut t, &mut xs);
@@ -144,9 +152,7 @@ fn answer_in(
 fn answer_unlinked(
     q: &[u8],
     z: &[u16],
-    layout: Layout,
-    level: usize,
-    catalogue: &[u8],
+    task: Task,
     walks: &[u16],
     values: &[i32],
     memo: &[i64],
@@ -154,8 +160,8 @@ fn answer_unlinked(
     answer: &mut [i64],
     table: &mut [u16],
 ) -> Reply
-    requires { ⌜ Answerable layout level (now q) (now z) (now catalogue)
-        × Trusted (now memo) (rowsBy (now walks) (now values)) (queryAt layout level (now q) (now z)) × Unbound (now values) (now env)
+    requires { ⌜ Passed (task .layout) (task .level) (now q) (now z)
+        × Trusted (now memo) (rowsBy (now walks) (now values)) (queryAt (task .layout) (task .level) (now q) (now z)) × Unbound (now values) (now env)
         × (length (now table) ≤ 65535) × ((i : ℕ) → getD (now table) i 0 ≡ 0) ⌝ }
     ensures { λ r. ⌜ answerOf r (now (answer .exit)) ≡ give (length (queryOf (now (q .entry)) .targets))
         (answers (queryOf (now (q .entry))) (rowsBy (now (walks .entry)) (now (values .entry)))) (now (answer .entry)) ⌝ }
@@ -164,9 +170,7 @@ fn answer_unlinked(
     answer_in(
         q,
         z,
-        layout,
-        level,
-        catalogue,
+        task,
         walks,
         values,
         memo,
@@ -181,9 +185,7 @@ fn answer_unlinked(
 fn answer_linked(
     q: &[u8],
     z: &[u16],
-    layout: Layout,
-    level: usize,
-    catalogue: &[u8],
+    task: Task,
     walks: &[u16],
     values: &[i32],
     memo: &[i64],
@@ -191,8 +193,8 @@ fn answer_linked(
     answer: &mut [i64],
     table: &mut [u16],
 ) -> Reply
-    requires { ⌜ Answerable layout level (now q) (now z) (now catalogue)
-        × Trusted (now memo) (rowsBy (now walks) (now values)) (queryAt layout level (now q) (now z)) × Unbound (now values) (now env)
+    requires { ⌜ Passed (task .layout) (task .level) (now q) (now z)
+        × Trusted (now memo) (rowsBy (now walks) (now values)) (queryAt (task .layout) (task .level) (now q) (now z)) × Unbound (now values) (now env)
         × (length (now table) ≤ 65535) × ((i : ℕ) → getD (now table) i 0 ≡ 0) ⌝ }
     ensures { λ r. ⌜ answerOf r (now (answer .exit)) ≡ give (length (queryOf (now (q .entry)) .targets))
         (answers (queryOf (now (q .entry))) (rowsBy (now (walks .entry)) (now (values .entry)))) (now (answer .entry)) ⌝ }
@@ -201,9 +203,7 @@ fn answer_linked(
     answer_in(
         q,
         z,
-        layout,
-        level,
-        catalogue,
+        task,
         walks,
         values,
         memo,
@@ -218,9 +218,7 @@ fn answer_linked(
 fn answer_chained(
     q: &[u8],
     z: &[u16],
-    layout: Layout,
-    level: usize,
-    catalogue: &[u8],
+    task: Task,
     walks: &[u16],
     values: &[i32],
     memo: &[i64],
@@ -228,8 +226,8 @@ fn answer_chained(
     answer: &mut [i64],
     table: &mut [u16],
 ) -> Reply
-    requires { ⌜ Answerable layout level (now q) (now z) (now catalogue)
-        × Trusted (now memo) (rowsBy (now walks) (now values)) (queryAt layout level (now q) (now z)) × Unbound (now values) (now env)
+    requires { ⌜ Passed (task .layout) (task .level) (now q) (now z)
+        × Trusted (now memo) (rowsBy (now walks) (now values)) (queryAt (task .layout) (task .level) (now q) (now z)) × Unbound (now values) (now env)
         × (length (now table) ≤ 65535) × ((i : ℕ) → getD (now table) i 0 ≡ 0) ⌝ }
     ensures { λ r. ⌜ answerOf r (now (answer .exit)) ≡ give (length (queryOf (now (q .entry)) .targets))
         (answers (queryOf (now (q .entry))) (rowsBy (now (walks .entry)) (now (values .entry)))) (now (answer .entry)) ⌝ }
@@ -238,9 +236,7 @@ fn answer_chained(
     answer_in(
         q,
         z,
-        layout,
-        level,
-        catalogue,
+        task,
         walks,
         values,
         memo,
@@ -291,9 +287,7 @@ fn chained(q: &[u8], ranges: usize, walks: &[u16]) -> usize
 fn answer_walked(
     q: &[u8],
     z: &[u16],
-    layout: Layout,
-    level: usize,
-    catalogue: &[u8],
+    task: Task,
     walks: &[u16],
     values: &[i32],
     memo: &[i64],
@@ -301,124 +295,61 @@ fn answer_walked(
     answer: &mut [i64],
     table: &mut [u16],
 ) -> Reply
-    requires { ⌜ Answerable layout level (now q) (now z) (now catalogue)
-        × Trusted (now memo) (rowsBy (now walks) (now values)) (queryAt layout level (now q) (now z)) × Unbound (now values) (now env)
+    requires { ⌜ Passed (task .layout) (task .level) (now q) (now z)
+        × Trusted (now memo) (rowsBy (now walks) (now values)) (queryAt (task .layout) (task .level) (now q) (now z)) × Unbound (now values) (now env)
         × (length (now table) ≤ 65535) × ((i : ℕ) → getD (now table) i 0 ≡ 0) ⌝ }
     ensures { λ r. ⌜ answerOf r (now (answer .exit)) ≡ give (length (queryOf (now (q .entry)) .targets))
         (answers (queryOf (now (q .entry))) (rowsBy (now (walks .entry)) (now (values .entry)))) (now (answer .entry)) ⌝ }
 {
+    let layout = task.layout;
     let n = chained(q, layout.ranges, walks) + holding(q) / 2;
     if n == 0 {
-        return answer_unlinked(
-            q,
-            z,
-            layout,
-            level,
-            catalogue,
-            walks,
-            values,
-            memo,
-            env,
-            answer,
-            table,
-        );
+        return answer_unlinked(q, z, task, walks, values, memo, env, answer, table);
     }
     if n < 3 {
-        return answer_linked(
-            q,
-            z,
-            layout,
-            level,
-            catalogue,
-            walks,
-            values,
-            memo,
-            env,
-            answer,
-            table,
-        );
+        return answer_linked(q, z, task, walks, values, memo, env, answer, table);
     }
-    answer_chained(
-        q,
-        z,
-        layout,
-        level,
-        catalogue,
-        walks,
-        values,
-        memo,
-        env,
-        answer,
-        table,
-    )
+    answer_chained(q, z, task, walks, values, memo, env, answer, table)
 }
 
 // The same where the answer has at most 1,024 rows: 512 heads.
 fn answer_few(
     q: &[u8],
     z: &[u16],
-    layout: Layout,
-    level: usize,
-    catalogue: &[u8],
+    task: Task,
     walks: &[u16],
     values: &[i32],
     memo: &[i64],
     env: &mut [usize],
     answer: &mut [i64],
 ) -> Reply
-    requires { ⌜ Answerable layout level (now q) (now z) (now catalogue)
-        × Trusted (now memo) (rowsBy (now walks) (now values)) (queryAt layout level (now q) (now z)) × Unbound (now values) (now env) ⌝ }
+    requires { ⌜ Passed (task .layout) (task .level) (now q) (now z)
+        × Trusted (now memo) (rowsBy (now walks) (now values)) (queryAt (task .layout) (task .level) (now q) (now z)) × Unbound (now values) (now env) ⌝ }
     ensures { λ r. ⌜ answerOf r (now (answer .exit)) ≡ give (length (queryOf (now (q .entry)) .targets))
         (answers (queryOf (now (q .entry))) (rowsBy (now (walks .entry)) (now (values .entry)))) (now (answer .entry)) ⌝ }
 {
     let mut table = [0u16; 1536];
-    answer_walked(
-        q,
-        z,
-        layout,
-        level,
-        catalogue,
-        walks,
-        values,
-        memo,
-        env,
-        answer,
-        &mut table,
-    )
+    answer_walked(q, z, task, walks, values, memo, env, answer, &mut table)
 }
 
 // The same for more rows: 4,096 heads, and 16,384 rows are linked.
 fn answer_many(
     q: &[u8],
     z: &[u16],
-    layout: Layout,
-    level: usize,
-    catalogue: &[u8],
+    task: Task,
     walks: &[u16],
     values: &[i32],
     memo: &[i64],
     env: &mut [usize],
     answer: &mut [i64],
 ) -> Reply
-    requires { ⌜ Answerable layout level (now q) (now z) (now catalogue)
-        × Trusted (now memo) (rowsBy (now walks) (now values)) (queryAt layout level (now q) (now z)) × Unbound (now values) (now env) ⌝ }
+    requires { ⌜ Passed (task .layout) (task .level) (now q) (now z)
+        × Trusted (now memo) (rowsBy (now walks) (now values)) (queryAt (task .layout) (task .level) (now q) (now z)) × Unbound (now values) (now env) ⌝ }
     ensures { λ r. ⌜ answerOf r (now (answer .exit)) ≡ give (length (queryOf (now (q .entry)) .targets))
         (answers (queryOf (now (q .entry))) (rowsBy (now (walks .entry)) (now (values .entry)))) (now (answer .entry)) ⌝ }
 {
     let mut table = [0u16; 20480];
-    answer_walked(
-        q,
-        z,
-        layout,
-        level,
-        catalogue,
-        walks,
-        values,
-        memo,
-        env,
-        answer,
-        &mut table,
-    )
+    answer_walked(q, z, task, walks, values, memo, env, answer, &mut table)
 }
 
 // How many rows the ranges can give, exact up to 1,024. It promises nothing, since a table of any length will do: it only saves time.
@@ -442,81 +373,47 @@ fn most_rows(q: &[u8], ranges: usize, walks: &[u16]) -> usize
 fn answer_by(
     q: &[u8],
     z: &[u16],
-    layout: Layout,
-    level: usize,
-    catalogue: &[u8],
+    task: Task,
     walks: &[u16],
     values: &[i32],
     memo: &[i64],
     env: &mut [usize],
     answer: &mut [i64],
 ) -> Reply
-    requires { ⌜ Answerable layout level (now q) (now z) (now catalogue)
-        × Trusted (now memo) (rowsBy (now walks) (now values)) (queryAt layout level (now q) (now z)) × Unbound (now values) (now env) ⌝ }
+    requires { ⌜ Passed (task .layout) (task .level) (now q) (now z)
+        × Trusted (now memo) (rowsBy (now walks) (now values)) (queryAt (task .layout) (task .level) (now q) (now z)) × Unbound (now values) (now env) ⌝ }
     ensures { λ r. ⌜ answerOf r (now (answer .exit)) ≡ give (length (queryOf (now (q .entry)) .targets))
         (answers (queryOf (now (q .entry))) (rowsBy (now (walks .entry)) (now (values .entry)))) (now (answer .entry)) ⌝ }
 {
+    let layout = task.layout;
     let room = answer.len();
     let most = most_rows(q, layout.ranges, walks);
     let n = if room < most { room } else { most };
     if 1024 < n {
-        return answer_many(
-            q,
-            z,
-            layout,
-            level,
-            catalogue,
-            walks,
-            values,
-            memo,
-            env,
-            answer,
-        );
+        return answer_many(q, z, task, walks, values, memo, env, answer);
     }
-    answer_few(
-        q,
-        z,
-        layout,
-        level,
-        catalogue,
-        walks,
-        values,
-        memo,
-        env,
-        answer,
-    )
+    answer_few(q, z, task, walks, values, memo, env, answer)
 }
 
 // The same where the query may have aggregates: each is evaluated once, into a memo with two cells for each variable.
 fn answer_filled(
     q: &[u8],
     z: &[u16],
-    layout: Layout,
-    level: usize,
-    catalogue: &[u8],
+    task: Task,
     walks: &[u16],
     values: &[i32],
     env: &mut [usize],
     answer: &mut [i64],
 ) -> Reply
-    requires { ⌜ Answerable layout level (now q) (now z) (now catalogue) × Unbound (now values) (now env) ⌝ }
+    requires { ⌜ Passed (task .layout) (task .level) (now q) (now z) × Unbound (now values) (now env) ⌝ }
     ensures { λ r. ⌜ answerOf r (now (answer .exit)) ≡ give (length (queryOf (now (q .entry)) .targets))
         (answers (queryOf (now (q .entry))) (rowsBy (now (walks .entry)) (now (values .entry)))) (now (answer .entry)) ⌝ }
 {
     let mut memo = [0i64; 512];
+    let layout = task.layout;
+    let level = task.level;
     remember(q, z, layout, level, walks, values, env, &mut memo);
-    answer_by(
-        q,
-        z,
-        layout,
-        level,
-        catalogue,
-        walks,
-        values,
-        &memo,
-        env,
-        answer,
-    )
+    answer_by(q, z, task, walks, values, &memo, env, answer)
 }
 
 // Twice the number of SOME records of a query, and 1 more where it has an aggregate. It promises little, since any memo that can be trusted and any
@@ -548,52 +445,29 @@ pub fn answer_query(
     z: &[u16],
     layout: Layout,
     level: usize,
-    catalogue: &[u8],
     walks: &[u16],
     values: &[i32],
     answer: &mut [i64],
 ) -> Reply
-    requires { ⌜ Answerable layout level (now q) (now z) (now catalogue) ⌝ }
+    requires { ⌜ Passed layout level (now q) (now z) ⌝ }
     ensures { λ r. ⌜ answerOf r (now (answer .exit)) ≡ give (length (queryOf (now (q .entry)) .targets))
         (answers (queryOf (now (q .entry))) (rowsBy (now (walks .entry)) (now (values .entry)))) (now (answer .entry)) ⌝ }
 {
+    let task = Task { layout, level };
     let mut env = [values.len(); 256];
     let h = holding(q);
     if h % 2 == 1 {
-        return answer_filled(
-            q,
-            z,
-            layout,
-            level,
-            catalogue,
-            walks,
-            values,
-            &mut env,
-            answer,
-        );
+        return answer_filled(q, z, task, walks, values, &mut env, answer);
     }
     let memo = [0i64; 2];
     if !few(h, most_rows(q, layout.ranges, walks)) {
-        return answer_by(
-            q,
-            z,
-            layout,
-            level,
-            catalogue,
-            walks,
-            values,
-            &memo,
-            &mut env,
-            answer,
-        );
+        return answer_by(q, z, task, walks, values, &memo, &mut env, answer);
     }
     let mut table = [0u16; 1];
     answer_unlinked(
         q,
         z,
-        layout,
-        level,
-        catalogue,
+        task,
         walks,
         values,
         &memo,
@@ -619,7 +493,7 @@ fn answer_all(
 {
     let mut walks = [0u16; 2048];
     allrows::fill(q, catalogue, &mut walks);
-    answer_query(q, z, layout, level, catalogue, &walks, values, answer)
+    answer_query(q, z, layout, level, &walks, values, answer)
 }
 
 // The checks by rising number, then the answer; the table of sizes is lent.
@@ -638,13 +512,15 @@ fn evaluate_with(
         return refused(number);
     }
     let limits = Limits {
-        bytes: 17216,
-        levels: 64,
-        variables: 200,
+        bytes: model::PLAIN_BYTES,
+        levels: LEVELS,
+        variables: model::PLAIN_VARIABLES,
     };
     match queries::check(query, limits, catalogue, z) {
         Checked::Refused(n) => refused(n),
-        Checked::Passed(layout) => { answer_all(query, z, layout, 64, catalogue, values, answer) }
+        Checked::Passed(layout) => {
+            answer_all(query, z, layout, LEVELS, catalogue, values, answer)
+        }
     }
 }
 
@@ -660,7 +536,7 @@ fn evaluate_short(catalogue: &[u8], values: &[i32], query: &[u8], answer: &mut [
 fn evaluate_long(catalogue: &[u8], values: &[i32], query: &[u8], answer: &mut [i64]) -> Reply
     ensures { λ r. ⌜ answerOf r (now (answer .exit)) ≡ evaluate (now (catalogue .entry)) (now (values .entry)) (now (query .entry)) (now (answer .entry)) ⌝ }
 {
-    let mut z = [0u16; 17216];
+    let mut z = [0u16; model::PLAIN_BYTES];
     evaluate_with(&mut z, catalogue, values, query, answer)
 }
 

@@ -122,7 +122,7 @@ fn respond_with(
 }
 
 // The program as a function: the text that it prints of its files, at the start of the lent buffer, and its length. Past it the buffer is as it was.
-pub fn respond(
+pub(crate) fn respond(
     catalogue: &[u8],
     file: &[u8],
     permits: &[u8],
@@ -136,7 +136,7 @@ pub fn respond(
         (now (question .entry))) ⌝ }
 {
     let mut values = [0i32; 8192];
-    let mut rewritten = [0u8; 17216];
+    let mut rewritten = [0u8; model::PLAIN_BYTES];
     let mut answer = [0i64; 4096];
     respond_with(
         catalogue,

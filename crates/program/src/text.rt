@@ -79,7 +79,7 @@ fn gap(left: usize) -> u8
 }
 
 // Bytes on a line.
-pub fn bytes(items: &[u8], out: &mut [u8], at: usize) -> usize
+pub(crate) fn bytes(items: &[u8], out: &mut [u8], at: usize) -> usize
     requires { ⌜ at + length (T.line T.decimal (now items)) < 9223372036854775808 ⌝ }
     ensures { λ r. ⌜ r ≡ at + length (T.line T.decimal (now (items .entry))) ⌝ }
     ensures { λ _. ⌜ now (out .exit) ≡ sets (now (out .entry)) at (T.line T.decimal (now (items .entry))) ⌝ }
@@ -112,7 +112,7 @@ fn cells(items: &[i64], out: &mut [u8], at: usize) -> usize
 }
 
 // The first rows of an answer, a line each.
-pub fn table(rows: usize, columns: usize, answer: &[i64], out: &mut [u8], at: usize) -> usize
+pub(crate) fn table(rows: usize, columns: usize, answer: &[i64], out: &mut [u8], at: usize) -> usize
     requires { ⌜ rows * columns ≤ length (now answer) ⌝ }
     requires { ⌜ at + length (T.table rows columns (now answer)) < 9223372036854775808 ⌝ }
     ensures { λ r. ⌜ r ≡ at + length (T.table rows columns (now (answer .entry))) ⌝ }
@@ -131,7 +131,7 @@ pub fn table(rows: usize, columns: usize, answer: &[i64], out: &mut [u8], at: us
 }
 
 // A word and a number on a line.
-pub fn labelled(word: &[u8], n: u64, out: &mut [u8], at: usize) -> usize
+pub(crate) fn labelled(word: &[u8], n: u64, out: &mut [u8], at: usize) -> usize
     requires { ⌜ at + length (T.labelled (now word) n) < 9223372036854775808 ⌝ }
     ensures { λ r. ⌜ r ≡ at + length (T.labelled (now (word .entry)) n) ⌝ }
     ensures { λ _. ⌜ now (out .exit) ≡ sets (now (out .entry)) at (T.labelled (now (word .entry)) n) ⌝ }

@@ -8,7 +8,8 @@ use Rattle.model.specs.Lists.{Every}
 use Rattle.model.specs.Syntax.{Query, Binding, Use, bindingsQ, usesQ}
 use Rattle.model.specs.Catalogue.{Shape, attributesAt}
 use Rattle.model.specs.Scope.{boundOnce}
-use Rattle.model.specs.Checks.{Limits, fails32}
+use Rattle.model.specs.Limits.{Limits}
+use Rattle.model.specs.Checks.{fails32}
 use Rattle.model.specs.Encoding.{encodeQuery}
 use Rattle.quel.specs.Results.{fail, ok}
 use Rattle.quel.specs.Tokens.{Token}

@@ -8,7 +8,7 @@ use Rattle.model.specs.Lists.{update}
 use Rattle.model.specs.Syntax.{Binding, Query}
 use Rattle.model.specs.Encoding.{ok, readQuery, queryOf}
 use Rattle.model.specs.Scope.{Scope}
-use Rattle.model.specs.Checks as M
+use Rattle.model.specs.Limits as M
 use Rattle.sizes.specs.Decode.{decode}
 use Rattle.grammar.specs.declared.Layout.{Layout}
 use Rattle.grammar.specs.Shapes.{layout}
@@ -32,7 +32,7 @@ reachOn (b ∷ bs) σ = update (reachOn bs σ) (b .variable) (some (b .relation)
 
 -- the model's limits; those of RANGEs and targets are the same for both calls
 abbrev pub limitsOf : Limits → M.Limits
-limitsOf l = record { bytes = l .bytes; nesting = l .levels; bound = l .variables; ranges = 4; targets = 8 }
+limitsOf l = record { bytes = l .bytes; nesting = l .levels; bound = l .variables; ranges = M.limits .asked .ranges; targets = M.limits .asked .targets }
 
 -- a query that was read, and its layout
 pub record Laid (y : Layout) (q : List ℕ) : Type 0 where

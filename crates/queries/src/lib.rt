@@ -172,7 +172,7 @@ fn rest(
         q,
         z,
         first,
-        8,
+        model::TARGETS,
         level,
         catalogue,
         limit,
@@ -236,7 +236,7 @@ fn read(q: &[u8], limits: Limits, catalogue: &[u8], z: &mut [u16]) -> Found
     if wide(variables) < bound {
         return Found::Refused;
     }
-    let n = count_ranges(q, 4);
+    let n = count_ranges(q, model::RANGES);
     let mut reach = [0u16; 256];
     bind_ranges(q, n, &mut reach);
     let Found::Whole(layout, inside) = rest(q, z, n, level, catalogue, variables, &mut reach) else {

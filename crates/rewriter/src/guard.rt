@@ -137,7 +137,7 @@ fn put_unless(out: &mut [u8], at: usize, mask: u8, b: u8) -> usize
 }
 
 // Writes the AND before a condition that gets a guard.
-pub fn open_guard(out: &mut [u8], at: usize, mask: u8) -> usize
+pub(crate) fn open_guard(out: &mut [u8], at: usize, mask: u8) -> usize
     requires { ⌜ at + length (opening mask) < 9223372036854775808 ⌝ }
     ensures { λ r. ⌜ r ≡ at + length (opening mask) ⌝ }
     ensures { λ _. ⌜ now (out .exit) ≡ sets (now (out .entry)) at (opening mask) ⌝ }
@@ -171,7 +171,7 @@ fn write_turn(
 }
 
 // Writes the guard of a variable: the OR of the conditions of the permits in the mask.
-pub fn write_guard(
+pub(crate) fn write_guard(
     out: &mut [u8],
     at: usize,
     permits: &[u8],

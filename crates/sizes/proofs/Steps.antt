@@ -1,5 +1,5 @@
 -- One record of a measured condition or term, and one child more: what the code's loop does.
-use mathlib.Core.Path.{_≡_, refl, sym, ap, _∙_}
+use mathlib.Core.Path.{_≡_, subst, refl, sym, ap, _∙_}
 use mathlib.Core.Bool.{Bool, true, false, not, cond}
 use mathlib.Core.List.{List, [], _∷_}
 use mathlib.Core.Option.{Option, none, some}
@@ -87,13 +87,22 @@ module _ (t : Bool) (q : List ℕ) (n : ℕ) (h : Leaf t q n) where
 
 -- a whole constant, and a whole attribute
 module _ (t : Bool) (q : List ℕ) (h : not t ≡ false) where
-  pub constant-leaf : getD q 0 0 ≡ 32 → 5 ≤ length q → Leaf t q 5
+  constant-whole : getD q 0 0 ≡ 32 → 5 ≤ length q → Leaf t q 5
   unfolding kindOf find recordLength ofKind childrenOf conditionsOf termsOf
-  constant-leaf e l = record { accepted = ap (accepts t) (whole-is q (λ z. omega arith) k-constant (ap kindOf e) (rw e (omega arith))) ∙ not-false t h; bytes = ap recordLength e; childless = ap childrenOf e }
+  constant-whole e l = record { accepted = ap (accepts t) (whole-is q (λ z. omega arith) k-constant (ap kindOf e) (rw e (omega arith))) ∙ not-false t h; bytes = ap recordLength e; childless = ap childrenOf e }
 
-  pub attribute-leaf : getD q 0 0 ≡ 33 → 3 ≤ length q → Leaf t q 3
+  attribute-whole : getD q 0 0 ≡ 33 → 3 ≤ length q → Leaf t q 3
   unfolding kindOf find recordLength ofKind childrenOf conditionsOf termsOf
-  attribute-leaf e l = record { accepted = ap (accepts t) (whole-is q (λ z. omega arith) k-attribute (ap kindOf e) (rw e (omega arith))) ∙ not-false t h; bytes = ap recordLength e; childless = ap childrenOf e }
+  attribute-whole e l = record { accepted = ap (accepts t) (whole-is q (λ z. omega arith) k-attribute (ap kindOf e) (rw e (omega arith))) ∙ not-false t h; bytes = ap recordLength e; childless = ap childrenOf e }
+
+  module _ (n r : ℕ) (f : (r ≡ n) × (n ≤ length q)) where
+    pub constant-leaf : getD q 0 0 ≡ 32 → n ≡ recordLength 32 → Leaf t q r
+    unfolding kindOf find recordLength ofKind
+    constant-leaf e en = subst (Leaf t q) (sym (f .0 ∙ en)) (constant-whole e (omega (arith, f .1, en)))
+
+    pub attribute-leaf : getD q 0 0 ≡ 33 → n ≡ recordLength 33 → Leaf t q r
+    unfolding kindOf find recordLength ofKind
+    attribute-leaf e en = subst (Leaf t q) (sym (f .0 ∙ en)) (attribute-whole e (omega (arith, f .1, en)))
 
 module _ (c i a : ℕ) (f : List ℕ → ℕ → List ℕ → Measured) (q : List ℕ) (p : ℕ) (z : List ℕ) where
   one-more : i < c → children (c - i) a f q p z ≡ onward (f (drop a q) (p + a) z .size) (f (drop a q) (p + a) z .table) (λ n y. children (c - (i + 1)) (a + n) f q p y)

@@ -54,6 +54,13 @@ pub fn put(z: &mut [u16], at: usize, n: usize)
     z[at] = n as u16;
 }
 
+// n, or 0 where q has fewer bytes.
+fn uncut(q: &[u8], n: usize) -> usize
+    ensures { λ r. ⌜ ((r ≡ 0 → ⊥) → (r ≡ n) × (n ≤ length (now (q .entry)))) ⌝ }
+{
+    if n <= q.len() { n } else { 0 }
+}
+
 // The length of the constant or the attribute that q starts with; 0 where it starts with neither, or it is cut short, or no term is asked for.
 fn leaf(q: &[u8], term: bool) -> usize
     ensures { λ r. ⌜ ((r ≡ 0 → ⊥) → Leaf term (now (q .entry)) r) ⌝ }
@@ -62,8 +69,8 @@ fn leaf(q: &[u8], term: bool) -> usize
         return 0;
     }
     match kinds::byte(q, 0) {
-        32 => if 5 <= q.len() { 5 } else { 0 },
-        33 => if 3 <= q.len() { 3 } else { 0 },
+        32 => uncut(q, kinds::record_length(32)),
+        33 => uncut(q, kinds::record_length(33)),
         _ => 0,
     }
 }

@@ -12,7 +12,10 @@ use Rattle.aggregates.proofs.leads.Lts as lts
 use Rattle.decide.proofs.holds.Reads as holds-reads
 
 returns : tie.Need-returns
-returns c = (sym (ap (λ (i : ℕ). runs (now (c .before .before .before .before .before .before .before .args .t)) (now (c .before .before .before .before .before .before .before .args .xs)) (now (c .before .before .before .before .before .before .before .args .q)) (now (c .before .before .before .before .before .before .before .args .z)) (now (c .before .before .before .before .before .before .before .args .walks)) (now (c .before .before .before .before .before .before .before .args .vs)) (now (c .before .before .before .before .before .before .before .args .memo)) i (assigned (now (c .before .before .before .before .before .before .before .args .vs)) (now (c .before .before .before .before .before .before .before .args .env)))) (c .if1 .taken) ∙ runs-0 (now (c .before .before .before .before .before .before .before .args .t)) (now (c .before .before .before .before .before .before .before .args .xs)) (now (c .before .before .before .before .before .before .before .args .q)) (now (c .before .before .before .before .before .before .before .args .z)) (now (c .before .before .before .before .before .before .before .args .walks)) (now (c .before .before .before .before .before .before .before .args .vs)) (now (c .before .before .before .before .before .before .before .args .memo)) (assigned (now (c .before .before .before .before .before .before .before .args .vs)) (now (c .before .before .before .before .before .before .before .args .env)))), refl)
+returns c =
+    let c₇ = c .before .before .before .before .before .before .before in let args = c₇ .args in
+    let env = now (args .env) in let memo = now (args .memo) in let q = now (args .q) in let vs = now (args .vs) in let walks = now (args .walks) in let xs = now (args .xs) in let z = now (args .z) in
+    (sym (ap (λ (i : ℕ). runs (now (args .t)) xs q z walks vs memo i (assigned vs env)) (c .if1 .taken) ∙ runs-0 (now (args .t)) xs q z walks vs memo (assigned vs env)), refl)
 
 pub leads-spec : {M : Type 1} → statement M
 leads-spec = tie.close (tie.spec returns (λ c κs. search needs) (λ c. search needs) (λ c. search needs))

@@ -52,13 +52,25 @@ empty-requires : tie.Need-empty-requires Inv-loop μ-loop
 empty-requires c κs = search needs
 
 loop-holds : tie.Need-loop-holds Inv-loop μ-loop
-loop-holds c = (places-start (now (c .before .before .before .before .before .before .before .before .before .before .before .before .before .before .args .env)) (c .before .before .before .before .before .before .before .before .before .before .before .before .before .before .args .variable) (c .before .before .before .before .before .place .result) (c .before .before .before .before .before .place .ensures), taken-start (placeAt (now (c .before .before .before .before .before .before .before .before .before .before .before .before .before .before .args .walks)) (c .before .before .before .before .before .before .before .walk-of .result)) (now (c .before .before .before .before .before .before .before .before .before .before .before .before .before .before .args .vs)) (meets (now (c .before .before .before .before .before .before .before .before .before .before .before .before .before .before .args .t)) (now (c .before .before .before .before .before .before .before .before .before .before .before .before .before .before .args .xs)) (now (c .before .before .before .before .before .before .before .before .before .before .before .before .before .before .args .q)) (now (c .before .before .before .before .before .before .before .before .before .before .before .before .before .before .args .z)) (now (c .before .before .before .before .before .before .before .before .before .before .before .before .before .before .args .walks)) (now (c .before .before .before .before .before .before .before .before .before .before .before .before .before .before .args .vs)) (now (c .before .before .before .before .before .before .before .before .before .before .before .before .before .before .args .memo)) (now (c .before .before .before .before .before .before .before .before .before .before .before .before .before .before .args .env)) (c .before .before .before .before .before .before .before .before .before .before .before .before .before .before .args .variable)) (c .before .before .before .before .before .before .before .before .before .before .before .before .before .before .args .attribute) _ (c .empty .ensures), omega arith, refl, λ h. absurd (omega arith))
+loop-holds c =
+    let c₅ = c .before .before .before .before .before in let place = c₅ .place in
+    let c₇ = c₅ .before .before in let walk-of = c₇ .walk-of in
+    let c₁₄ = c₇ .before .before .before .before .before .before .before in let args = c₁₄ .args in
+    let env = now (args .env) in let vs = now (args .vs) in let walks = now (args .walks) in let variable = args .variable in
+    (places-start env variable (place .result) (place .ensures), taken-start (placeAt walks (walk-of .result)) vs (meets (now (args .t)) (now (args .xs)) (now (args .q)) (now (args .z)) walks vs (now (args .memo)) env variable) (args .attribute) _ (c .empty .ensures), omega arith, refl, λ h. absurd (omega arith))
 
 slice-aggregate-next-row : tie.Need-slice-aggregate-next-row Inv-loop μ-loop
 slice-aggregate-next-row c = search needs
 
 next-row-requires : tie.Need-next-row-requires Inv-loop μ-loop
-next-row-requires c κs = (c .before .before .before .before .before .before .before .before .before .walk-of .ensures .1, c .before .loop .inv .2, ready-for (now (c .before .before .before .before .before .before .before .before .before .before .before .before .before .before .before .before .args .t)) (now (c .before .before .before .before .before .before .before .before .before .before .before .before .before .before .before .before .args .xs)) (now (c .before .before .before .before .before .before .before .before .before .before .before .before .before .before .before .before .args .q)) (now (c .before .before .before .before .before .before .before .before .before .before .before .before .before .before .before .before .args .z)) (now (c .before .before .before .before .before .before .before .before .before .before .before .before .before .before .before .before .args .walks)) (now (c .before .before .before .before .before .before .before .before .before .before .before .before .before .before .before .before .args .vs)) (now (c .before .before .before .before .before .before .before .before .before .before .before .before .before .before .before .before .args .memo)) (now (c .before .before .before .before .before .before .before .before .before .before .before .before .before .before .before .before .args .env)) (c .before .before .before .before .before .before .before .before .before .before .before .before .before .before .before .before .args .variable) (c .before .before .before .before .before .before .before .before .before .before .before .before .before .before .before .before .args .attribute) (placeAt (now (c .before .before .before .before .before .before .before .before .before .before .before .before .before .before .before .before .args .walks)) (c .before .before .before .before .before .before .before .before .before .walk-of .result)) (c .before .before .before .prepare .result) (c .before .before .before .before .before .before .size-at .result) (replicate 1 0) (c .before .before .before .before .before .before .size-at .ensures .0) (c .before .before .before .prepare .ensures (now (c .before .before .before .before .before .before .before .before .before .before .before .before .before .before .before .before .args .walks)) (nothing (now (c .before .before .before .before .before .before .before .before .before .before .before .before .before .before .before .before .args .t)) (now (c .before .before .before .before .before .before .before .before .before .before .before .before .before .before .before .before .args .walks)) (now (c .before .before .before .before .before .before .before .before .before .before .before .before .before .before .before .before .args .vs)) (replicate 1 0) (getD-same {A = ℕ} 1 0) .faithful)) (c .before .before .before .before .before .before .before .before .before .walk-of .result) (c .before .before .before .before .before .before .before .before .before .walk-of .ensures .0), c .before .loop .inv .4)
+next-row-requires c κs =
+    let c₁ = c .before in let loop = c₁ .loop in
+    let c₃ = c₁ .before .before in let prepare = c₃ .prepare in
+    let c₆ = c₃ .before .before .before in let size-at = c₆ .size-at in
+    let c₉ = c₆ .before .before .before in let walk-of = c₉ .walk-of in
+    let c₁₆ = c₉ .before .before .before .before .before .before .before in let args = c₁₆ .args in
+    let vs = now (args .vs) in let walks = now (args .walks) in
+    (walk-of .ensures .1, loop .inv .2, ready-for (now (args .t)) (now (args .xs)) (now (args .q)) (now (args .z)) walks vs (now (args .memo)) (now (args .env)) (args .variable) (args .attribute) (placeAt walks (walk-of .result)) (prepare .result) (size-at .result) (replicate 1 0) (size-at .ensures .0) (prepare .ensures walks (nothing (now (args .t)) walks vs (replicate 1 0) (getD-same {A = ℕ} 1 0) .faithful)) (walk-of .result) (walk-of .ensures .0), loop .inv .4)
 
 set-place-requires : tie.Need-set-place-requires Inv-loop μ-loop
 set-place-requires c κs = search needs
@@ -67,25 +79,66 @@ same-length : tie.Need-same-length Inv-loop μ-loop
 same-length c = search needs
 
 returns : tie.Need-returns Inv-loop μ-loop
-returns c = (take-all (now (c .before .before .before .before .before .before .before .before .before .before .before .before .before .before .before .before .before .before .before .before .before .before .args .t)) (now (c .before .before .before .before .before .before .before .before .before .before .before .before .before .before .before .before .before .before .before .before .before .before .args .xs)) (now (c .before .before .before .before .before .before .before .before .before .before .before .before .before .before .before .before .before .before .before .before .before .before .args .q)) (now (c .before .before .before .before .before .before .before .before .before .before .before .before .before .before .before .before .before .before .before .before .before .before .args .z)) (now (c .before .before .before .before .before .before .before .before .before .before .before .before .before .before .before .before .before .before .before .before .before .before .args .walks)) (now (c .before .before .before .before .before .before .before .before .before .before .before .before .before .before .before .before .before .before .before .before .before .before .args .vs)) (now (c .before .before .before .before .before .before .before .before .before .before .before .before .before .before .before .before .before .before .before .before .before .before .args .memo)) (now (c .before .before .before .before .before .before .before .before .before .before .before .before .before .before .before .before .before .before .before .before .before .before .args .env)) (c .before .before .before .before .before .before .before .before .before .before .before .before .before .before .before .before .before .before .before .before .before .before .args .variable) (c .before .before .before .before .before .before .before .before .before .before .before .before .before .before .before .before .before .before .before .before .before .before .args .attribute) (c .before .before .before .before .before .next-row .result) (c .before .before .before .before .before .before .before .before .before .before .before .before .before .before .before .walk-of .result) _ (c .before .before .before .before .before .before .before .before .before .before .before .before .before .before .before .walk-of .ensures .0) (omega (arith, c .before .before .before .before .if1 .taken, c .before .before .before .before .before .next-row .ensures .0 .1)) (taken-over (now (c .before .before .before .before .before .before .before .before .before .before .before .before .before .before .before .before .before .before .before .before .before .before .args .t)) (now (c .before .before .before .before .before .before .before .before .before .before .before .before .before .before .before .before .before .before .before .before .before .before .args .xs)) (now (c .before .before .before .before .before .before .before .before .before .before .before .before .before .before .before .before .before .before .before .before .before .before .args .q)) (now (c .before .before .before .before .before .before .before .before .before .before .before .before .before .before .before .before .before .before .before .before .before .before .args .z)) (now (c .before .before .before .before .before .before .before .before .before .before .before .before .before .before .before .before .before .before .before .before .before .before .args .walks)) (now (c .before .before .before .before .before .before .before .before .before .before .before .before .before .before .before .before .before .before .before .before .before .before .args .vs)) (now (c .before .before .before .before .before .before .before .before .before .before .before .before .before .before .before .before .before .before .before .before .before .before .args .memo)) (now (c .before .before .before .before .before .before .before .before .before .before .before .before .before .before .before .before .before .before .before .before .before .before .args .env)) (c .before .before .before .before .before .before .before .before .before .before .before .before .before .before .before .before .before .before .before .before .before .before .args .variable) (c .before .before .before .before .before .before .before .before .before .before .before .before .before .before .before .before .before .before .before .before .before .before .args .attribute) (placeAt (now (c .before .before .before .before .before .before .before .before .before .before .before .before .before .before .before .before .before .before .before .before .before .before .args .walks)) (c .before .before .before .before .before .before .before .before .before .before .before .before .before .before .before .walk-of .result)) (c .before .before .before .before .before .before .before .before .before .prepare .result) (c .before .before .before .before .before .before .before .before .before .before .before .before .size-at .result) (replicate 1 0) (c .before .before .before .before .before .before .before .before .before .before .before .before .size-at .ensures .0) (c .before .before .before .before .before .before .before .before .before .prepare .ensures (now (c .before .before .before .before .before .before .before .before .before .before .before .before .before .before .before .before .before .before .before .before .before .before .args .walks)) (nothing (now (c .before .before .before .before .before .before .before .before .before .before .before .before .before .before .before .before .before .before .before .before .before .before .args .t)) (now (c .before .before .before .before .before .before .before .before .before .before .before .before .before .before .before .before .before .before .before .before .before .before .args .walks)) (now (c .before .before .before .before .before .before .before .before .before .before .before .before .before .before .before .before .before .before .before .before .before .before .args .vs)) (replicate 1 0) (getD-same {A = ℕ} 1 0) .faithful)) (c .before .before .before .before .before .before .before .loop .i) (c .before .before .before .before .before .next-row .result) (c .before .before .before .before .before .before .before .loop .taken) (c .before .before .before .before .before .next-row .ensures .0 .0) (c .before .before .before .before .before .next-row .ensures .1 .0) (c .before .before .before .before .before .before .before .loop .inv .1)), (omega (arith, taken-few (placeAt (now (c .before .before .before .before .before .before .before .before .before .before .before .before .before .before .before .before .before .before .before .before .before .before .args .walks)) (c .before .before .before .before .before .before .before .before .before .before .before .before .before .before .before .walk-of .result)) (now (c .before .before .before .before .before .before .before .before .before .before .before .before .before .before .before .before .before .before .before .before .before .before .args .vs)) (meets (now (c .before .before .before .before .before .before .before .before .before .before .before .before .before .before .before .before .before .before .before .before .before .before .args .t)) (now (c .before .before .before .before .before .before .before .before .before .before .before .before .before .before .before .before .before .before .before .before .before .before .args .xs)) (now (c .before .before .before .before .before .before .before .before .before .before .before .before .before .before .before .before .before .before .before .before .before .before .args .q)) (now (c .before .before .before .before .before .before .before .before .before .before .before .before .before .before .before .before .before .before .before .before .before .before .args .z)) (now (c .before .before .before .before .before .before .before .before .before .before .before .before .before .before .before .before .before .before .before .before .before .before .args .walks)) (now (c .before .before .before .before .before .before .before .before .before .before .before .before .before .before .before .before .before .before .before .before .before .before .args .vs)) (now (c .before .before .before .before .before .before .before .before .before .before .before .before .before .before .before .before .before .before .before .before .before .before .args .memo)) (now (c .before .before .before .before .before .before .before .before .before .before .before .before .before .before .before .before .before .before .before .before .before .before .args .env)) (c .before .before .before .before .before .before .before .before .before .before .before .before .before .before .before .before .before .before .before .before .before .before .args .variable)) (c .before .before .before .before .before .before .before .before .before .before .before .before .before .before .before .before .before .before .before .before .before .before .args .attribute) (c .before .before .before .before .before .next-row .result) (c .before .before .before .before .before .before .before .loop .taken) (taken-over (now (c .before .before .before .before .before .before .before .before .before .before .before .before .before .before .before .before .before .before .before .before .before .before .args .t)) (now (c .before .before .before .before .before .before .before .before .before .before .before .before .before .before .before .before .before .before .before .before .before .before .args .xs)) (now (c .before .before .before .before .before .before .before .before .before .before .before .before .before .before .before .before .before .before .before .before .before .before .args .q)) (now (c .before .before .before .before .before .before .before .before .before .before .before .before .before .before .before .before .before .before .before .before .before .before .args .z)) (now (c .before .before .before .before .before .before .before .before .before .before .before .before .before .before .before .before .before .before .before .before .before .before .args .walks)) (now (c .before .before .before .before .before .before .before .before .before .before .before .before .before .before .before .before .before .before .before .before .before .before .args .vs)) (now (c .before .before .before .before .before .before .before .before .before .before .before .before .before .before .before .before .before .before .before .before .before .before .args .memo)) (now (c .before .before .before .before .before .before .before .before .before .before .before .before .before .before .before .before .before .before .before .before .before .before .args .env)) (c .before .before .before .before .before .before .before .before .before .before .before .before .before .before .before .before .before .before .before .before .before .before .args .variable) (c .before .before .before .before .before .before .before .before .before .before .before .before .before .before .before .before .before .before .before .before .before .before .args .attribute) (placeAt (now (c .before .before .before .before .before .before .before .before .before .before .before .before .before .before .before .before .before .before .before .before .before .before .args .walks)) (c .before .before .before .before .before .before .before .before .before .before .before .before .before .before .before .walk-of .result)) (c .before .before .before .before .before .before .before .before .before .prepare .result) (c .before .before .before .before .before .before .before .before .before .before .before .before .size-at .result) (replicate 1 0) (c .before .before .before .before .before .before .before .before .before .before .before .before .size-at .ensures .0) (c .before .before .before .before .before .before .before .before .before .prepare .ensures (now (c .before .before .before .before .before .before .before .before .before .before .before .before .before .before .before .before .before .before .before .before .before .before .args .walks)) (nothing (now (c .before .before .before .before .before .before .before .before .before .before .before .before .before .before .before .before .before .before .before .before .before .before .args .t)) (now (c .before .before .before .before .before .before .before .before .before .before .before .before .before .before .before .before .before .before .before .before .before .before .args .walks)) (now (c .before .before .before .before .before .before .before .before .before .before .before .before .before .before .before .before .before .before .before .before .before .before .args .vs)) (replicate 1 0) (getD-same {A = ℕ} 1 0) .faithful)) (c .before .before .before .before .before .before .before .loop .i) (c .before .before .before .before .before .next-row .result) (c .before .before .before .before .before .before .before .loop .taken) (c .before .before .before .before .before .next-row .ensures .0 .0) (c .before .before .before .before .before .next-row .ensures .1 .0) (c .before .before .before .before .before .before .before .loop .inv .1)) (c .before .before .before .before .before .next-row .result) (omega arith), c .before .before .before .before .before .next-row .ensures .0 .1, c .before .before .before .before .before .before .before .before .before .before .before .before .before .before .before .walk-of .ensures .1 .count), c .before .before .set-place .ensures ∙ c .before .before .before .before .before .before .before .loop .inv .0))
+returns c =
+    let c₄ = c .before .before .before .before in let if1 = c₄ .if1 in
+    let c₅ = c₄ .before in let next-row = c₅ .next-row in
+    let c₇ = c₅ .before .before in let loop = c₇ .loop in
+    let c₉ = c₇ .before .before in let prepare = c₉ .prepare in
+    let c₁₂ = c₉ .before .before .before in let size-at = c₁₂ .size-at in
+    let c₁₅ = c₁₂ .before .before .before in let walk-of = c₁₅ .walk-of in
+    let c₂₂ = c₁₅ .before .before .before .before .before .before .before in let args = c₂₂ .args in
+    let env = now (args .env) in let memo = now (args .memo) in let q = now (args .q) in let vs = now (args .vs) in let walks = now (args .walks) in let xs = now (args .xs) in let z = now (args .z) in let attribute = args .attribute in let variable = args .variable in
+    (take-all (now (args .t)) xs q z walks vs memo env variable attribute (next-row .result) (walk-of .result) _ (walk-of .ensures .0) (omega (arith, if1 .taken, next-row .ensures .0 .1)) (taken-over (now (args .t)) xs q z walks vs memo env variable attribute (placeAt walks (walk-of .result)) (prepare .result) (size-at .result) (replicate 1 0) (size-at .ensures .0) (prepare .ensures walks (nothing (now (args .t)) walks vs (replicate 1 0) (getD-same {A = ℕ} 1 0) .faithful)) (loop .i) (next-row .result) (loop .taken) (next-row .ensures .0 .0) (next-row .ensures .1 .0) (loop .inv .1)), (omega (arith, taken-few (placeAt walks (walk-of .result)) vs (meets (now (args .t)) xs q z walks vs memo env variable) attribute (next-row .result) (loop .taken) (taken-over (now (args .t)) xs q z walks vs memo env variable attribute (placeAt walks (walk-of .result)) (prepare .result) (size-at .result) (replicate 1 0) (size-at .ensures .0) (prepare .ensures walks (nothing (now (args .t)) walks vs (replicate 1 0) (getD-same {A = ℕ} 1 0) .faithful)) (loop .i) (next-row .result) (loop .taken) (next-row .ensures .0 .0) (next-row .ensures .1 .0) (loop .inv .1)) (next-row .result) (omega arith), next-row .ensures .0 .1, walk-of .ensures .1 .count), c .before .before .set-place .ensures ∙ loop .inv .0))
 
 place-requires-2 : tie.Need-place-requires-2 Inv-loop μ-loop
-place-requires-2 c κs = (c .before .before .before .before .before .before .before .before .before .before .before .walk-of .ensures .1, omega (arith, c .before .before .before .before .before .before .before .before .before .before .before .walk-of .ensures .1 .count, c .if1 .left))
+place-requires-2 c κs =
+    let c₁₁ = c .before .before .before .before .before .before .before .before .before .before .before in let walk-of = c₁₁ .walk-of in
+    (walk-of .ensures .1, omega (arith, walk-of .ensures .1 .count, c .if1 .left))
 
 set-place-requires-2 : tie.Need-set-place-requires-2 Inv-loop μ-loop
 set-place-requires-2 c κs = search needs
 
 with-row-requires : tie.Need-with-row-requires Inv-loop μ-loop
-with-row-requires c κs = (omega (arith, c .before .before .before .before .before .before .before .before .before .before .before .before .before .before .before .before .before .before .before .before .before .before .before .before .pre .0, c .before .before .before .before .before .before .before .before .before .loop .inv .3, ap length (c .before .before .before .set-place2 .ensures), length-set (c .before .before .before .before .before .before .before .before .before .loop .env) (c .before .before .before .before .before .before .before .before .before .before .before .before .before .before .before .before .before .before .before .before .before .before .before .before .args .variable) (c .before .before .before .before .before .place2 .result)), omega (arith, (c .before .before .before .before .before .before .before .before .before .before .before .prepare .ensures (now (c .before .before .before .before .before .before .before .before .before .before .before .before .before .before .before .before .before .before .before .before .before .before .before .before .args .walks)) (nothing (now (c .before .before .before .before .before .before .before .before .before .before .before .before .before .before .before .before .before .before .before .before .before .before .before .before .args .t)) (now (c .before .before .before .before .before .before .before .before .before .before .before .before .before .before .before .before .before .before .before .before .before .before .before .before .args .walks)) (now (c .before .before .before .before .before .before .before .before .before .before .before .before .before .before .before .before .before .before .before .before .before .before .before .before .args .vs)) (replicate 1 0) (getD-same {A = ℕ} 1 0) .faithful)) .low, c .before .before .before .before .before .before .before .before .before .before .before .before .before .before .size-at .ensures .1), omega (arith, taken-few (placeAt (now (c .before .before .before .before .before .before .before .before .before .before .before .before .before .before .before .before .before .before .before .before .before .before .before .before .args .walks)) (c .before .before .before .before .before .before .before .before .before .before .before .before .before .before .before .before .before .walk-of .result)) (now (c .before .before .before .before .before .before .before .before .before .before .before .before .before .before .before .before .before .before .before .before .before .before .before .before .args .vs)) (meets (now (c .before .before .before .before .before .before .before .before .before .before .before .before .before .before .before .before .before .before .before .before .before .before .before .before .args .t)) (now (c .before .before .before .before .before .before .before .before .before .before .before .before .before .before .before .before .before .before .before .before .before .before .before .before .args .xs)) (now (c .before .before .before .before .before .before .before .before .before .before .before .before .before .before .before .before .before .before .before .before .before .before .before .before .args .q)) (now (c .before .before .before .before .before .before .before .before .before .before .before .before .before .before .before .before .before .before .before .before .before .before .before .before .args .z)) (now (c .before .before .before .before .before .before .before .before .before .before .before .before .before .before .before .before .before .before .before .before .before .before .before .before .args .walks)) (now (c .before .before .before .before .before .before .before .before .before .before .before .before .before .before .before .before .before .before .before .before .before .before .before .before .args .vs)) (now (c .before .before .before .before .before .before .before .before .before .before .before .before .before .before .before .before .before .before .before .before .before .before .before .before .args .memo)) (now (c .before .before .before .before .before .before .before .before .before .before .before .before .before .before .before .before .before .before .before .before .before .before .before .before .args .env)) (c .before .before .before .before .before .before .before .before .before .before .before .before .before .before .before .before .before .before .before .before .before .before .before .before .args .variable)) (c .before .before .before .before .before .before .before .before .before .before .before .before .before .before .before .before .before .before .before .before .before .before .before .before .args .attribute) (c .before .before .before .before .before .before .before .next-row .result) (c .before .before .before .before .before .before .before .before .before .loop .taken) (taken-over (now (c .before .before .before .before .before .before .before .before .before .before .before .before .before .before .before .before .before .before .before .before .before .before .before .before .args .t)) (now (c .before .before .before .before .before .before .before .before .before .before .before .before .before .before .before .before .before .before .before .before .before .before .before .before .args .xs)) (now (c .before .before .before .before .before .before .before .before .before .before .before .before .before .before .before .before .before .before .before .before .before .before .before .before .args .q)) (now (c .before .before .before .before .before .before .before .before .before .before .before .before .before .before .before .before .before .before .before .before .before .before .before .before .args .z)) (now (c .before .before .before .before .before .before .before .before .before .before .before .before .before .before .before .before .before .before .before .before .before .before .before .before .args .walks)) (now (c .before .before .before .before .before .before .before .before .before .before .before .before .before .before .before .before .before .before .before .before .before .before .before .before .args .vs)) (now (c .before .before .before .before .before .before .before .before .before .before .before .before .before .before .before .before .before .before .before .before .before .before .before .before .args .memo)) (now (c .before .before .before .before .before .before .before .before .before .before .before .before .before .before .before .before .before .before .before .before .before .before .before .before .args .env)) (c .before .before .before .before .before .before .before .before .before .before .before .before .before .before .before .before .before .before .before .before .before .before .before .before .args .variable) (c .before .before .before .before .before .before .before .before .before .before .before .before .before .before .before .before .before .before .before .before .before .before .before .before .args .attribute) (placeAt (now (c .before .before .before .before .before .before .before .before .before .before .before .before .before .before .before .before .before .before .before .before .before .before .before .before .args .walks)) (c .before .before .before .before .before .before .before .before .before .before .before .before .before .before .before .before .before .walk-of .result)) (c .before .before .before .before .before .before .before .before .before .before .before .prepare .result) (c .before .before .before .before .before .before .before .before .before .before .before .before .before .before .size-at .result) (replicate 1 0) (c .before .before .before .before .before .before .before .before .before .before .before .before .before .before .size-at .ensures .0) (c .before .before .before .before .before .before .before .before .before .before .before .prepare .ensures (now (c .before .before .before .before .before .before .before .before .before .before .before .before .before .before .before .before .before .before .before .before .before .before .before .before .args .walks)) (nothing (now (c .before .before .before .before .before .before .before .before .before .before .before .before .before .before .before .before .before .before .before .before .before .before .before .before .args .t)) (now (c .before .before .before .before .before .before .before .before .before .before .before .before .before .before .before .before .before .before .before .before .before .before .before .before .args .walks)) (now (c .before .before .before .before .before .before .before .before .before .before .before .before .before .before .before .before .before .before .before .before .before .before .before .before .args .vs)) (replicate 1 0) (getD-same {A = ℕ} 1 0) .faithful)) (c .before .before .before .before .before .before .before .before .before .loop .i) (c .before .before .before .before .before .before .before .next-row .result) (c .before .before .before .before .before .before .before .before .before .loop .taken) (c .before .before .before .before .before .before .before .next-row .ensures .0 .0) (c .before .before .before .before .before .before .before .next-row .ensures .1 .0) (c .before .before .before .before .before .before .before .before .before .loop .inv .1)) (c .before .before .before .before .before .before .before .next-row .result) (omega arith), c .before .before .before .before .before .before .if1 .left, c .before .before .before .before .before .before .before .before .before .before .before .before .before .before .before .before .before .walk-of .ensures .1 .count), c .before .before .before .before .before .before .before .before .before .loop .inv .1 .bounded, c .before .before .before .before .before .before .before .before .before .before .before .before .before .before .before .before .before .before .before .before .before .before .before .before .pre .1)
+with-row-requires c κs =
+    let c₃ = c .before .before .before in let set-place2 = c₃ .set-place2 in
+    let c₅ = c₃ .before .before in let place2 = c₅ .place2 in
+    let c₆ = c₅ .before in let if1 = c₆ .if1 in
+    let c₇ = c₆ .before in let next-row = c₇ .next-row in
+    let c₉ = c₇ .before .before in let loop = c₉ .loop in
+    let c₁₁ = c₉ .before .before in let prepare = c₁₁ .prepare in
+    let c₁₄ = c₁₁ .before .before .before in let size-at = c₁₄ .size-at in
+    let c₁₇ = c₁₄ .before .before .before in let walk-of = c₁₇ .walk-of in
+    let c₂₄ = c₁₇ .before .before .before .before .before .before .before in let args = c₂₄ .args in let pre = c₂₄ .pre in
+    let env = now (args .env) in let memo = now (args .memo) in let q = now (args .q) in let vs = now (args .vs) in let walks = now (args .walks) in let xs = now (args .xs) in let z = now (args .z) in let attribute = args .attribute in let variable = args .variable in
+    (omega (arith, pre .0, loop .inv .3, ap length (set-place2 .ensures), length-set (loop .env) variable (place2 .result)), omega (arith, (prepare .ensures walks (nothing (now (args .t)) walks vs (replicate 1 0) (getD-same {A = ℕ} 1 0) .faithful)) .low, size-at .ensures .1), omega (arith, taken-few (placeAt walks (walk-of .result)) vs (meets (now (args .t)) xs q z walks vs memo env variable) attribute (next-row .result) (loop .taken) (taken-over (now (args .t)) xs q z walks vs memo env variable attribute (placeAt walks (walk-of .result)) (prepare .result) (size-at .result) (replicate 1 0) (size-at .ensures .0) (prepare .ensures walks (nothing (now (args .t)) walks vs (replicate 1 0) (getD-same {A = ℕ} 1 0) .faithful)) (loop .i) (next-row .result) (loop .taken) (next-row .ensures .0 .0) (next-row .ensures .1 .0) (loop .inv .1)) (next-row .result) (omega arith), if1 .left, walk-of .ensures .1 .count), loop .inv .1 .bounded, pre .1)
 
 add-i : tie.Need-add-i Inv-loop μ-loop
-add-i c = omega (arith, c .before .before .before .before .before .before .before .before .before .before .before .before .before .before .before .before .before .before .before .before .walk-of .ensures .1 .count, c .before .before .before .before .before .before .before .before .before .if1 .left)
+add-i c =
+    let c₉ = c .before .before .before .before .before .before .before .before .before in let if1 = c₉ .if1 in
+    let c₂₀ = c₉ .before .before .before .before .before .before .before .before .before .before .before in let walk-of = c₂₀ .walk-of in
+    omega (arith, walk-of .ensures .1 .count, if1 .left)
 
 loop-less : tie.Need-loop-less Inv-loop μ-loop
-loop-less c = omega (arith, c .before .before .before .before .before .before .before .before .before .before .next-row .ensures .0 .0, c .before .before .before .before .before .before .before .before .before .if1 .left)
+loop-less c =
+    let c₉ = c .before .before .before .before .before .before .before .before .before in let if1 = c₉ .if1 in
+    let c₁₀ = c₉ .before in let next-row = c₁₀ .next-row in
+    omega (arith, next-row .ensures .0 .0, if1 .left)
 
 loop-again : tie.Need-loop-again Inv-loop μ-loop
-loop-again c = (places-back (c .before .before .before .before .before .before .before .before .before .before .before .before .loop .env) (now (c .before .before .before .before .before .before .before .before .before .before .before .before .before .before .before .before .before .before .before .before .before .before .before .before .before .before .before .args .env)) _ (c .before .before .before .before .before .before .before .before .before .before .before .before .before .before .before .before .before .before .before .before .before .before .before .before .before .before .before .args .variable) (c .before .before .before .before .before .before .before .before .before .before .before .before .before .before .before .before .before .before .place .result) (c .before .before .before .before .before .before .before .before .place2 .result) (c .before .before .before .before .before .before .before .before .before .before .before .before .loop .inv .0) (c .before .before .before .before .before .before .set-place2 .ensures) _ (c .before .before .with-row .ensures .1 .1), take-next (now (c .before .before .before .before .before .before .before .before .before .before .before .before .before .before .before .before .before .before .before .before .before .before .before .before .before .before .before .args .t)) (now (c .before .before .before .before .before .before .before .before .before .before .before .before .before .before .before .before .before .before .before .before .before .before .before .before .before .before .before .args .xs)) (now (c .before .before .before .before .before .before .before .before .before .before .before .before .before .before .before .before .before .before .before .before .before .before .before .before .before .before .before .args .q)) (now (c .before .before .before .before .before .before .before .before .before .before .before .before .before .before .before .before .before .before .before .before .before .before .before .before .before .before .before .args .z)) (now (c .before .before .before .before .before .before .before .before .before .before .before .before .before .before .before .before .before .before .before .before .before .before .before .before .before .before .before .args .walks)) (now (c .before .before .before .before .before .before .before .before .before .before .before .before .before .before .before .before .before .before .before .before .before .before .before .before .before .before .before .args .vs)) (now (c .before .before .before .before .before .before .before .before .before .before .before .before .before .before .before .before .before .before .before .before .before .before .before .before .before .before .before .args .memo)) (now (c .before .before .before .before .before .before .before .before .before .before .before .before .before .before .before .before .before .before .before .before .before .before .before .before .before .before .before .args .env)) (c .before .before .before .before .before .before .before .before .before .before .before .before .before .before .before .before .before .before .before .before .before .before .before .before .before .before .before .args .variable) (c .before .before .before .before .before .before .before .before .before .before .before .before .before .before .before .before .before .before .before .before .before .before .before .before .before .before .before .args .attribute) (placeAt (now (c .before .before .before .before .before .before .before .before .before .before .before .before .before .before .before .before .before .before .before .before .before .before .before .before .before .before .before .args .walks)) (c .before .before .before .before .before .before .before .before .before .before .before .before .before .before .before .before .before .before .before .before .walk-of .result)) (c .before .before .before .before .before .before .before .before .before .before .before .before .before .before .prepare .result) (c .before .before .before .before .before .before .before .before .before .before .before .before .before .before .before .before .before .size-at .result) (replicate 1 0) (c .before .before .before .before .before .before .before .before .before .before .before .before .before .before .before .before .before .size-at .ensures .0) (c .before .before .before .before .before .before .before .before .before .before .before .before .before .before .prepare .ensures (now (c .before .before .before .before .before .before .before .before .before .before .before .before .before .before .before .before .before .before .before .before .before .before .before .before .before .before .before .args .walks)) (nothing (now (c .before .before .before .before .before .before .before .before .before .before .before .before .before .before .before .before .before .before .before .before .before .before .before .before .before .before .before .args .t)) (now (c .before .before .before .before .before .before .before .before .before .before .before .before .before .before .before .before .before .before .before .before .before .before .before .before .before .before .before .args .walks)) (now (c .before .before .before .before .before .before .before .before .before .before .before .before .before .before .before .before .before .before .before .before .before .before .before .before .before .before .before .args .vs)) (replicate 1 0) (getD-same {A = ℕ} 1 0) .faithful)) _ (c .before .before .before .before .before .before .before .before .before .before .next-row .result) (c .before .before .before .before .before .before .before .before .place2 .result) (c .before .before .before .before .before .before .before .before .before .before .before .before .loop .taken) _ (c .before .before .before .before .before .before .before .before .before .before .next-row .ensures .1 .1 (c .before .before .before .before .before .before .before .before .before .if1 .left)) (c .before .before .before .before .before .before .before .before .place2 .ensures) (places-on (c .before .before .before .before .before .before .before .before .before .before .before .before .loop .env) (now (c .before .before .before .before .before .before .before .before .before .before .before .before .before .before .before .before .before .before .before .before .before .before .before .before .before .before .before .args .env)) _ (c .before .before .before .before .before .before .before .before .before .before .before .before .before .before .before .before .before .before .before .before .before .before .before .before .before .before .before .args .variable) (c .before .before .before .before .before .before .before .before .before .before .before .before .before .before .before .before .before .before .place .result) (c .before .before .before .before .before .before .before .before .place2 .result) (c .before .before .before .before .before .before .before .before .before .before .before .before .loop .inv .0) (c .before .before .before .before .before .before .set-place2 .ensures)) (omega (arith, c .before .before .before .before .before .before .before .before .before .before .before .before .before .before .before .before .before .before .before .before .before .before .before .before .before .before .before .pre .0, c .before .before .before .before .before .before .before .before .before .before .before .before .before .before .before .before .before .before .before .before .before .before .before .before .before .before .before .good)) (taken-over (now (c .before .before .before .before .before .before .before .before .before .before .before .before .before .before .before .before .before .before .before .before .before .before .before .before .before .before .before .args .t)) (now (c .before .before .before .before .before .before .before .before .before .before .before .before .before .before .before .before .before .before .before .before .before .before .before .before .before .before .before .args .xs)) (now (c .before .before .before .before .before .before .before .before .before .before .before .before .before .before .before .before .before .before .before .before .before .before .before .before .before .before .before .args .q)) (now (c .before .before .before .before .before .before .before .before .before .before .before .before .before .before .before .before .before .before .before .before .before .before .before .before .before .before .before .args .z)) (now (c .before .before .before .before .before .before .before .before .before .before .before .before .before .before .before .before .before .before .before .before .before .before .before .before .before .before .before .args .walks)) (now (c .before .before .before .before .before .before .before .before .before .before .before .before .before .before .before .before .before .before .before .before .before .before .before .before .before .before .before .args .vs)) (now (c .before .before .before .before .before .before .before .before .before .before .before .before .before .before .before .before .before .before .before .before .before .before .before .before .before .before .before .args .memo)) (now (c .before .before .before .before .before .before .before .before .before .before .before .before .before .before .before .before .before .before .before .before .before .before .before .before .before .before .before .args .env)) (c .before .before .before .before .before .before .before .before .before .before .before .before .before .before .before .before .before .before .before .before .before .before .before .before .before .before .before .args .variable) (c .before .before .before .before .before .before .before .before .before .before .before .before .before .before .before .before .before .before .before .before .before .before .before .before .before .before .before .args .attribute) (placeAt (now (c .before .before .before .before .before .before .before .before .before .before .before .before .before .before .before .before .before .before .before .before .before .before .before .before .before .before .before .args .walks)) (c .before .before .before .before .before .before .before .before .before .before .before .before .before .before .before .before .before .before .before .before .walk-of .result)) (c .before .before .before .before .before .before .before .before .before .before .before .before .before .before .prepare .result) (c .before .before .before .before .before .before .before .before .before .before .before .before .before .before .before .before .before .size-at .result) (replicate 1 0) (c .before .before .before .before .before .before .before .before .before .before .before .before .before .before .before .before .before .size-at .ensures .0) (c .before .before .before .before .before .before .before .before .before .before .before .before .before .before .prepare .ensures (now (c .before .before .before .before .before .before .before .before .before .before .before .before .before .before .before .before .before .before .before .before .before .before .before .before .before .before .before .args .walks)) (nothing (now (c .before .before .before .before .before .before .before .before .before .before .before .before .before .before .before .before .before .before .before .before .before .before .before .before .before .before .before .args .t)) (now (c .before .before .before .before .before .before .before .before .before .before .before .before .before .before .before .before .before .before .before .before .before .before .before .before .before .before .before .args .walks)) (now (c .before .before .before .before .before .before .before .before .before .before .before .before .before .before .before .before .before .before .before .before .before .before .before .before .before .before .before .args .vs)) (replicate 1 0) (getD-same {A = ℕ} 1 0) .faithful)) (c .before .before .before .before .before .before .before .before .before .before .before .before .loop .i) (c .before .before .before .before .before .before .before .before .before .before .next-row .result) (c .before .before .before .before .before .before .before .before .before .before .before .before .loop .taken) (c .before .before .before .before .before .before .before .before .before .before .next-row .ensures .0 .0) (c .before .before .before .before .before .before .before .before .before .before .next-row .ensures .1 .0) (c .before .before .before .before .before .before .before .before .before .before .before .before .loop .inv .1)) (c .before .before .with-row .ensures .0) (c .before .before .with-row .ensures .1 .0), omega (arith, c .before .before .before .before .before .before .before .before .before .if1 .left), places-length (c .before .before .before .before .before .before .before .before .before .before .before .before .loop .env) (now (c .before .before .before .before .before .before .before .before .before .before .before .before .before .before .before .before .before .before .before .before .before .before .before .before .before .before .before .args .env)) _ (c .before .before .before .before .before .before .before .before .before .before .before .before .before .before .before .before .before .before .before .before .before .before .before .before .before .before .before .args .variable) (c .before .before .before .before .before .before .before .before .before .before .before .before .before .before .before .before .before .before .place .result) (c .before .before .before .before .before .before .before .before .place2 .result) (c .before .before .before .before .before .before .before .before .before .before .before .before .loop .inv .0) (c .before .before .before .before .before .before .set-place2 .ensures) _ (c .before .before .with-row .ensures .1 .1) (c .before .before .before .before .before .before .before .before .before .before .before .before .loop .inv .3), λ h. (let e : c .before .before .before .before .before .before .before .before .before .before .next-row .result + 1 - 1 ≡ c .before .before .before .before .before .before .before .before .before .before .next-row .result = omega arith in ap (λ (i : ℕ). stops (c .before .before .before .before .before .before .before .before .before .before .before .before .before .before .prepare .result) (tupleAt (now (c .before .before .before .before .before .before .before .before .before .before .before .before .before .before .before .before .before .before .before .before .before .before .before .before .before .before .before .args .vs)) ((placeAt (now (c .before .before .before .before .before .before .before .before .before .before .before .before .before .before .before .before .before .before .before .before .before .before .before .before .before .before .before .args .walks)) (c .before .before .before .before .before .before .before .before .before .before .before .before .before .before .before .before .before .before .before .before .walk-of .result)) i))) e) ∙ c .before .before .before .before .before .before .before .before .before .before .next-row .ensures .1 .1 (c .before .before .before .before .before .before .before .before .before .if1 .left))
+loop-again c =
+    let c₂ = c .before .before in let with-row = c₂ .with-row in
+    let c₆ = c₂ .before .before .before .before in let set-place2 = c₆ .set-place2 in
+    let c₈ = c₆ .before .before in let place2 = c₈ .place2 in
+    let c₉ = c₈ .before in let if1 = c₉ .if1 in
+    let c₁₀ = c₉ .before in let next-row = c₁₀ .next-row in
+    let c₁₂ = c₁₀ .before .before in let loop = c₁₂ .loop in
+    let c₁₄ = c₁₂ .before .before in let prepare = c₁₄ .prepare in
+    let c₁₇ = c₁₄ .before .before .before in let size-at = c₁₇ .size-at in
+    let c₁₈ = c₁₇ .before in let place = c₁₈ .place in
+    let c₂₀ = c₁₈ .before .before in let walk-of = c₂₀ .walk-of in
+    let c₂₇ = c₂₀ .before .before .before .before .before .before .before in let args = c₂₇ .args in let good = c₂₇ .good in let pre = c₂₇ .pre in
+    let env = now (args .env) in let memo = now (args .memo) in let q = now (args .q) in let vs = now (args .vs) in let walks = now (args .walks) in let xs = now (args .xs) in let z = now (args .z) in let attribute = args .attribute in let variable = args .variable in
+    (places-back (loop .env) env _ variable (place .result) (place2 .result) (loop .inv .0) (set-place2 .ensures) _ (with-row .ensures .1 .1), take-next (now (args .t)) xs q z walks vs memo env variable attribute (placeAt walks (walk-of .result)) (prepare .result) (size-at .result) (replicate 1 0) (size-at .ensures .0) (prepare .ensures walks (nothing (now (args .t)) walks vs (replicate 1 0) (getD-same {A = ℕ} 1 0) .faithful)) _ (next-row .result) (place2 .result) (loop .taken) _ (next-row .ensures .1 .1 (if1 .left)) (place2 .ensures) (places-on (loop .env) env _ variable (place .result) (place2 .result) (loop .inv .0) (set-place2 .ensures)) (omega (arith, pre .0, good)) (taken-over (now (args .t)) xs q z walks vs memo env variable attribute (placeAt walks (walk-of .result)) (prepare .result) (size-at .result) (replicate 1 0) (size-at .ensures .0) (prepare .ensures walks (nothing (now (args .t)) walks vs (replicate 1 0) (getD-same {A = ℕ} 1 0) .faithful)) (loop .i) (next-row .result) (loop .taken) (next-row .ensures .0 .0) (next-row .ensures .1 .0) (loop .inv .1)) (with-row .ensures .0) (with-row .ensures .1 .0), omega (arith, if1 .left), places-length (loop .env) env _ variable (place .result) (place2 .result) (loop .inv .0) (set-place2 .ensures) _ (with-row .ensures .1 .1) (loop .inv .3), λ h. (let e : next-row .result + 1 - 1 ≡ next-row .result = omega arith in ap (λ (i : ℕ). stops (prepare .result) (tupleAt vs ((placeAt walks (walk-of .result)) i))) e) ∙ next-row .ensures .1 .1 (if1 .left))
 
 pub take-spec : {M : Type 1} → statement M
 take-spec =

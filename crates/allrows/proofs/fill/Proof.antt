@@ -40,7 +40,13 @@ loop-less : tie.Need-loop-less Inv-loop μ-loop
 loop-less c = search needs
 
 loop-again : tie.Need-loop-again Inv-loop μ-loop
-loop-again c = (filled-on (now (c .before .before .before .before .before .before .before .before .before .before .before .args .catalogue)) (now (c .before .before .before .before .before .before .before .before .before .before .before .args .query)) (c .before .before .before .before .before .before .before .loop .at) (c .step .result) (c .before .before .before .before .before .before .loop-test .taken) (c .step .ensures .0) (c .before .before .before .before .before .binding .result) (c .before .before .before .before .before .binding .ensures) _ _ _ (c .before .before .before .fill-one .ensures) (c .before .before .before .before .before .before .before .loop .inv .0), c .before .before .before .fill-one .kept .1 .1 .0 ∙ c .before .before .before .before .before .before .before .loop .inv .1)
+loop-again c =
+    let c₃ = c .before .before .before in let fill-one = c₃ .fill-one in
+    let c₅ = c₃ .before .before in let binding = c₅ .binding in
+    let c₆ = c₅ .before in let loop-test = c₆ .loop-test in
+    let c₇ = c₆ .before in let loop = c₇ .loop in
+    let c₁₁ = c₇ .before .before .before .before in let args = c₁₁ .args in
+    (filled-on (now (args .catalogue)) (now (args .query)) (loop .at) (c .step .result) (loop-test .taken) (c .step .ensures .0) (binding .result) (binding .ensures) _ _ _ (fill-one .ensures) (loop .inv .0), fill-one .kept .1 .1 .0 ∙ loop .inv .1)
 
 same-length : tie.Need-same-length Inv-loop μ-loop
 same-length c = search needs

@@ -64,7 +64,11 @@ compile-sub-compile-2 : (t : ℕ) → compile-lts.Need-sub-compile-2 (compile-cl
 compile-sub-compile-2 t c = search needs
 
 compile-compile-requires : (t : ℕ) → compile-lts.Need-compile-requires (compile-claims t) (compile-at t) compile.Post
-compile-compile-requires t c κs = (falls-by (c .before .before .before .before .before .before .before .before .before .args .level) t ((c .before .before .before .search-at .ensures (c .before .before .if2 .left)) .deep) (c .before .before .before .before .before .before .before .before .before .pre .0), (omega (arith, c .before .before .before .before .before .before .before .before .before .pre .1 .0), omega (arith, c .before .before .before .before .before .before .before .before .before .pre .1 .1), c .before .before .before .before .before .before .before .before .before .pre .1 .2, omega (arith, (c .before .before .before .search-at .ensures (c .before .before .if2 .left)) .room, c .before .before .before .before .before .before .before .before .before .pre .1 .3), omega (arith, c .before .before .before .before .before .before .before .before .before .pre .1 .4), omega (arith, c .before .before .before .before .before .before .before .before .before .pre .1 .2), omega (arith, c .before .before .before .before .before .before .before .before .before .pre .1 .2), (c .before .before .before .search-at .ensures (c .before .before .if2 .left)) .low, omega (arith, c .before .before .before .before .before .before .before .before .before .pre .1 .8)))
+compile-compile-requires t c κs =
+    let c₂ = c .before .before in let if2 = c₂ .if2 in
+    let c₃ = c₂ .before in let search-at = c₃ .search-at in
+    let c₉ = c₃ .before .before .before .before .before .before in let args = c₉ .args in let pre = c₉ .pre in
+    (falls-by (args .level) t ((search-at .ensures (if2 .left)) .deep) (pre .0), (omega (arith, pre .1 .0), omega (arith, pre .1 .1), pre .1 .2, omega (arith, (search-at .ensures (if2 .left)) .room, pre .1 .3), omega (arith, pre .1 .4), omega (arith, pre .1 .2), omega (arith, pre .1 .2), (search-at .ensures (if2 .left)) .low, omega (arith, pre .1 .8)))
 
 compile-add-write : (t : ℕ) → compile-lts.Need-add-write (compile-claims t) (compile-at t) compile.Post
 compile-add-write t c = search needs
@@ -85,7 +89,15 @@ compile-same-length-4 : (t : ℕ) → compile-lts.Need-same-length-4 (compile-cl
 compile-same-length-4 t c = search needs
 
 compile-returns-2 : (t : ℕ) → compile-lts.Need-returns-2 (compile-claims t) (compile-at t) compile.Post
-compile-returns-2 t c = ((omega (arith, c .before .before .before .before .before .before .before .before .compile .ensures .0 .0), omega (arith, c .before .before .before .before .before .before .before .before .compile .ensures .0 .1)), searched (c .before .before .before .before .before .before .before .before .before .before .before .before .before .before .before .before .before .before .args .k) (c .before .before .before .before .before .before .before .before .compile .result) (c .before .before .before .before .before .before .before .before .before .before .before .before .before .before .before .before .before .before .args .met) (c .before .before .before .before .before .before .before .before .before .before .before .before .before .before .before .before .before .before .args .unmet) (c .before .before .before .before .before .before .before .before .before .before .before .before .search-at .result .variable) ((c .before .before .before .before .before .before .before .before .before .before .before .before .search-at .ensures (c .before .before .before .before .before .before .before .before .before .before .before .if2 .left)) .relation) (now (c .before .before .before .before .before .before .before .before .before .before .before .before .before .before .before .before .before .before .args .t)) (c .before .before .before .before .before .before .before .before .compile .last .1 .1 .1 .1 .1 .0) (c .before .before .write .last .0) (now (c .before .before .before .before .before .before .before .before .before .before .before .before .before .before .before .before .before .before .args .xs)) (c .before .before .before .before .before .before .before .before .compile .last .1 .1 .1 .1 .1 .1 .0) (now (c .before .before .before .before .before .before .before .before .before .before .before .before .before .before .before .before .before .before .args .q)) (now (c .before .before .before .before .before .before .before .before .before .before .before .before .before .before .before .before .before .before .args .z)) (now (c .before .before .before .before .before .before .before .before .before .before .before .before .before .before .before .before .before .before .args .memo)) (decode ((c .before .before .before .before .before .before .before .before .before .before .before .before .before .before .before .before .before .before .args .level) - 1) (drop (c .before .before .before .before .before .before .before .before .before .before .before .before .search-at .result .place) (now (c .before .before .before .before .before .before .before .before .before .before .before .before .before .before .before .before .before .before .args .q))) (drop (c .before .before .before .before .before .before .before .before .before .before .before .before .search-at .result .place) (now (c .before .before .before .before .before .before .before .before .before .before .before .before .before .before .before .before .before .before .args .z)))) _ ((c .before .before .before .before .before .before .before .before .before .before .before .before .search-at .ensures (c .before .before .before .before .before .before .before .before .before .before .before .if2 .left)) .whole (now (c .before .before .before .before .before .before .before .before .before .before .before .before .before .before .before .before .before .before .args .z))) ((c .before .before .before .before .before .before .before .before .before .before .before .before .search-at .ensures (c .before .before .before .before .before .before .before .before .before .before .before .if2 .left)) .byte) (c .before .before .before .before .before .before .before .before .before .before .before .before .before .before .before .before .before .before .pre .1 .2) (c .before .before .before .before .before .before .before .before .compile .ensures .0 .0) (c .before .before .before .before .before .before .before .before .before .before .before .before .before .before .before .before .before .before .pre .1 .5) (c .before .before .before .before .before .before .before .before .before .before .before .before .before .before .before .before .before .before .pre .1 .6) (c .before .before .before .before .before .before .before .before .compile .ensures .1) _ _ refl (c .before .before .before .narrow .ensures) (c .before .before .write .ensures) (omega (arith, c .before .before .before .before .before .before .before .before .compile .ensures .0 .1, c .before .before .before .before .before .before .before .before .compile .kept .1 .1 .1 .1 .1 .0, c .before .before .before .before .before .before .before .before .before .before .before .before .before .before .before .before .before .before .pre .1 .0)))
+compile-returns-2 t c =
+    let c₂ = c .before .before in let write = c₂ .write in
+    let c₃ = c₂ .before in let narrow = c₃ .narrow in
+    let c₈ = c₃ .before .before .before .before .before in let compile = c₈ .compile in
+    let c₁₁ = c₈ .before .before .before in let if2 = c₁₁ .if2 in
+    let c₁₂ = c₁₁ .before in let search-at = c₁₂ .search-at in
+    let c₁₈ = c₁₂ .before .before .before .before .before .before in let args = c₁₈ .args in let pre = c₁₈ .pre in
+    let q = now (args .q) in let z = now (args .z) in
+    ((omega (arith, compile .ensures .0 .0), omega (arith, compile .ensures .0 .1)), searched (args .k) (compile .result) (args .met) (args .unmet) (search-at .result .variable) ((search-at .ensures (if2 .left)) .relation) (now (args .t)) (compile .last .1 .1 .1 .1 .1 .0) (write .last .0) (now (args .xs)) (compile .last .1 .1 .1 .1 .1 .1 .0) q z (now (args .memo)) (decode ((args .level) - 1) (drop (search-at .result .place) q) (drop (search-at .result .place) z)) _ ((search-at .ensures (if2 .left)) .whole z) ((search-at .ensures (if2 .left)) .byte) (pre .1 .2) (compile .ensures .0 .0) (pre .1 .5) (pre .1 .6) (compile .ensures .1) _ _ refl (narrow .ensures) (write .ensures) (omega (arith, compile .ensures .0 .1, compile .kept .1 .1 .1 .1 .1 .0, pre .1 .0)))
 
 compile-sub-l : (t : ℕ) → compile-lts.Need-sub-l (compile-claims t) (compile-at t) compile.Post
 compile-sub-l t c = let args = c .before .before .before .before .before .args in

@@ -26,7 +26,16 @@ returns-4 : tie.Need-returns-4
 returns-4 c = no-search _ _ _ _ _ (c .no-search4 .ensures)
 
 returns-5 : tie.Need-returns-5
-returns-5 c = λ _. search-found (c .before .before .before .before .before .before .before .before .before .before .before .before .args .room) (c .before .before .before .before .before .before .before .before .before .before .before .before .args .level) (c .before .before .before .before .before .before .before .before .before .before .before .before .args .place) (now (c .before .before .before .before .before .before .before .before .before .before .before .before .args .q)) _ (c .before .before .before .byte .result) (c .before .before .record-length .result) _ _ (c .from-byte .result) (c .before .before .before .before .before .before .before .read .result) (c .before .before .before .before .before .before .before .before .before .before .if1 .left) (omega (arith, c .before .before .before .before .before .before .before .before .before .if2 .left)) (c .before .before .before .before .before .before .before .before .tail .ensures) (c .before .before .before .before .before .before .before .read .ensures) (c .before .before .before .before .before .variable .given .1) (c .before .before .before .byte .ensures) (c .before .before .record-length .ensures .0) (omega (arith, c .before .if3 .left)) (c .from-byte .ensures .0) (c .from-byte .ensures .1)
+returns-5 c =
+    let c₂ = c .before .before in let record-length = c₂ .record-length in
+    let c₃ = c₂ .before in let byte = c₃ .byte in
+    let c₅ = c₃ .before .before in let variable = c₅ .variable in
+    let c₇ = c₅ .before .before in let read = c₇ .read in
+    let c₈ = c₇ .before in let tail = c₈ .tail in
+    let c₉ = c₈ .before in let if2 = c₉ .if2 in
+    let c₁₀ = c₉ .before in let if1 = c₁₀ .if1 in
+    let c₁₂ = c₁₀ .before .before in let args = c₁₂ .args in
+    λ _. search-found (args .room) (args .level) (args .place) (now (args .q)) _ (byte .result) (record-length .result) _ _ (c .from-byte .result) (read .result) (if1 .left) (omega (arith, if2 .left)) (tail .ensures) (read .ensures) (variable .given .1) (byte .ensures) (record-length .ensures .0) (omega (arith, c .before .if3 .left)) (c .from-byte .ensures .0) (c .from-byte .ensures .1)
 
 pub search-at-spec : {M : Type 1} → statement M
 search-at-spec =

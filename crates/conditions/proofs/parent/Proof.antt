@@ -13,7 +13,12 @@ add-leaf : tie.Need-add-leaf
 add-leaf c = omega (arith, ap bytesOf (c .before .before .children .given .1), c .before .before .before .before .before .pre)
 
 returns-2 : tie.Need-returns-2
-returns-2 c = (c .before .before .leaf .ensures .0 ∙ sym (ap (grown (c .before .before .before .before .before .before .before .before .args .own)) (c .before .before .before .before .before .children .given .1)), c .before .before .leaf .ensures .1 ∙ sym (ap (λ r. kept (c .before .before .before .before .before .before .before .before .args .at) (c .before .before .before .before .before .before .before .before .args .own) r (now (c .before .before .before .before .before .before .before .before .args .z))) (c .before .before .before .before .before .children .given .1)))
+returns-2 c =
+    let c₂ = c .before .before in let leaf = c₂ .leaf in
+    let c₅ = c₂ .before .before .before in let children = c₅ .children in
+    let c₈ = c₅ .before .before .before in let args = c₈ .args in
+    let own = args .own in
+    (leaf .ensures .0 ∙ sym (ap (grown own) (children .given .1)), leaf .ensures .1 ∙ sym (ap (λ r. kept (args .at) own r (now (args .z))) (children .given .1)))
 
 pub parent-spec : {M : Type 1} → statement M
 parent-spec =

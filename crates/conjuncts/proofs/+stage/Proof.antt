@@ -49,7 +49,12 @@ stage-range-of-requires : (t : ℕ) → stage-lts.Need-range-of-requires (stage-
 stage-range-of-requires t c κs = search needs
 
 stage-returns-2 : (t : ℕ) → stage-lts.Need-returns-2 (stage-claims t) (stage-at t) stage.Post
-stage-returns-2 t c = (c .range-of .ensures .0, attribute-settled (now (c .before .before .before .before .before .before .before .args .q)) (now (c .before .before .before .before .before .before .before .args .z)) (rangesAt (c .before .before .before .before .before .before .before .args .ranges) (now (c .before .before .before .before .before .before .before .args .q))) (c .before .before .before .before .before .before .before .args .place) (c .before .before .before .before .before .before .before .args .level) _ (c .before .before .before .before .if1 .left) (c .before .before .before .byte .ensures) _ _ (c .before .before .if2 .taken) (c .before .byte2 .ensures) (c .range-of .ensures .1))
+stage-returns-2 t c =
+    let c₃ = c .before .before .before in let byte = c₃ .byte in
+    let c₄ = c₃ .before in let if1 = c₄ .if1 in
+    let c₇ = c₄ .before .before .before in let args = c₇ .args in
+    let q = now (args .q) in
+    (c .range-of .ensures .0, attribute-settled q (now (args .z)) (rangesAt (args .ranges) q) (args .place) (args .level) _ (if1 .left) (byte .ensures) _ _ (c .before .before .if2 .taken) (c .before .byte2 .ensures) (c .range-of .ensures .1))
 
 stage-child-conditions-requires : (t : ℕ) → stage-lts.Need-child-conditions-requires (stage-claims t) (stage-at t) stage.Post
 stage-child-conditions-requires t c κs = search needs
@@ -61,7 +66,13 @@ stage-add-n : (t : ℕ) → stage-lts.Need-add-n (stage-claims t) (stage-at t) s
 stage-add-n t c = omega (arith, children-small (c .before .before .before .byte .result), c .before .child-conditions .ensures, c .child-terms .ensures)
 
 stage-returns-3 : (t : ℕ) → stage-lts.Need-returns-3 (stage-claims t) (stage-at t) stage.Post
-stage-returns-3 t c = (omega arith, leaf-settled (now (c .before .before .before .before .before .before .before .before .args .q)) (now (c .before .before .before .before .before .before .before .before .args .z)) (rangesAt (c .before .before .before .before .before .before .before .before .args .ranges) (now (c .before .before .before .before .before .before .before .before .args .q))) (c .before .before .before .before .before .before .before .before .args .place) (c .before .before .before .before .before .before .before .before .args .level) _ (c .before .before .before .before .before .if1 .left) (c .before .before .before .before .byte .ensures) _ (c .before .before .before .if2 .left) _ _ (c .before .before .child-conditions .ensures) (c .before .child-terms .ensures) refl (c .if3 .taken))
+stage-returns-3 t c =
+    let c₃ = c .before .before .before in let if2 = c₃ .if2 in
+    let c₄ = c₃ .before in let byte = c₄ .byte in
+    let c₅ = c₄ .before in let if1 = c₅ .if1 in
+    let c₈ = c₅ .before .before .before in let args = c₈ .args in
+    let q = now (args .q) in
+    (omega arith, leaf-settled q (now (args .z)) (rangesAt (args .ranges) q) (args .place) (args .level) _ (if1 .left) (byte .ensures) _ (if2 .left) _ _ (c .before .before .child-conditions .ensures) (c .before .child-terms .ensures) refl (c .if3 .taken))
 
 stage-sub-l : (t : ℕ) → stage-lts.Need-sub-l (stage-claims t) (stage-at t) stage.Post
 stage-sub-l t c = search needs
@@ -76,10 +87,22 @@ stage-stage-requires : (t : ℕ) → stage-lts.Need-stage-requires (stage-claims
 stage-stage-requires t c κs = search needs
 
 stage-returns-4 : (t : ℕ) → stage-lts.Need-returns-4 (stage-claims t) (stage-at t) stage.Post
-stage-returns-4 t c = (omega (arith, c .if4 .taken), all-settled _ (c .before .before .before .before .before .before .before .before .before .before .before .args .ranges) (c .before .before .before .before .before .before .before .before .before .before .before .args .level) (now (c .before .before .before .before .before .before .before .before .before .before .before .args .q)) _ _ (c .if4 .taken))
+stage-returns-4 t c =
+    let c₁₁ = c .before .before .before .before .before .before .before .before .before .before .before in let args = c₁₁ .args in
+    (omega (arith, c .if4 .taken), all-settled _ (args .ranges) (args .level) (now (args .q)) _ _ (c .if4 .taken))
 
 stage-returns-5 : (t : ℕ) → stage-lts.Need-returns-5 (stage-claims t) (stage-at t) stage.Post
-stage-returns-5 t c = (c .before .before .stage .ensures .0, one-settled (now (c .before .before .before .before .before .before .before .before .before .before .before .before .args .q)) (now (c .before .before .before .before .before .before .before .before .before .before .before .before .args .z)) (rangesAt (c .before .before .before .before .before .before .before .before .before .before .before .before .args .ranges) (now (c .before .before .before .before .before .before .before .before .before .before .before .before .args .q))) (c .before .before .before .before .before .before .before .before .before .before .before .before .args .place) (c .before .before .before .before .before .before .before .before .before .before .before .before .args .level) _ (c .before .before .before .before .before .before .before .before .before .if1 .left) (c .before .before .before .before .before .before .before .before .byte .ensures) _ (c .before .before .before .before .before .before .before .if2 .left) _ _ (c .before .before .before .before .before .before .child-conditions .ensures) (c .before .before .before .before .before .child-terms .ensures) refl _ _ _ (c .before .before .before .record-length .ensures .0) refl (c .before .before .stage .ensures .1) (c .if5 .taken))
+stage-returns-5 t c =
+    let c₂ = c .before .before in let stage = c₂ .stage in
+    let c₃ = c₂ .before in let record-length = c₃ .record-length in
+    let c₅ = c₃ .before .before in let child-terms = c₅ .child-terms in
+    let c₆ = c₅ .before in let child-conditions = c₆ .child-conditions in
+    let c₇ = c₆ .before in let if2 = c₇ .if2 in
+    let c₈ = c₇ .before in let byte = c₈ .byte in
+    let c₉ = c₈ .before in let if1 = c₉ .if1 in
+    let c₁₂ = c₉ .before .before .before in let args = c₁₂ .args in
+    let q = now (args .q) in
+    (stage .ensures .0, one-settled q (now (args .z)) (rangesAt (args .ranges) q) (args .place) (args .level) _ (if1 .left) (byte .ensures) _ (if2 .left) _ _ (child-conditions .ensures) (child-terms .ensures) refl _ _ _ (record-length .ensures .0) refl (stage .ensures .1) (c .if5 .taken))
 
 stage-size-at-requires : (t : ℕ) → stage-lts.Need-size-at-requires (stage-claims t) (stage-at t) stage.Post
 stage-size-at-requires t c κs = search needs
@@ -94,7 +117,18 @@ stage-later-requires : (t : ℕ) → stage-lts.Need-later-requires (stage-claims
 stage-later-requires t c κs = search needs
 
 stage-returns-6 : (t : ℕ) → stage-lts.Need-returns-6 (stage-claims t) (stage-at t) stage.Post
-stage-returns-6 t c = (c .later .ensures .2 (c .before .before .before .before .before .before .before .before .before .before .before .before .before .before .before .args .ranges) (c .before .before .before .before .before .stage .ensures .0) (c .before .stage2 .ensures .0), two-settled (now (c .before .before .before .before .before .before .before .before .before .before .before .before .before .before .before .args .q)) (now (c .before .before .before .before .before .before .before .before .before .before .before .before .before .before .before .args .z)) (rangesAt (c .before .before .before .before .before .before .before .before .before .before .before .before .before .before .before .args .ranges) (now (c .before .before .before .before .before .before .before .before .before .before .before .before .before .before .before .args .q))) (c .before .before .before .before .before .before .before .before .before .before .before .before .before .before .before .args .place) (c .before .before .before .before .before .before .before .before .before .before .before .before .before .before .before .args .level) _ (c .before .before .before .before .before .before .before .before .before .before .before .before .if1 .left) (c .before .before .before .before .before .before .before .before .before .before .before .byte .ensures) _ (c .before .before .before .before .before .before .before .before .before .before .if2 .left) _ _ (c .before .before .before .before .before .before .before .before .before .child-conditions .ensures) (c .before .before .before .before .before .before .before .before .child-terms .ensures) refl _ _ _ (c .before .before .before .before .before .before .record-length .ensures .0) refl (c .before .before .before .before .before .stage .ensures .1) _ _ _ _ (c .before .before .size-at .ensures .0) refl (c .before .stage2 .ensures .1) (c .later .ensures .0) (c .later .ensures .1))
+stage-returns-6 t c =
+    let c₁ = c .before in let stage2 = c₁ .stage2 in
+    let c₅ = c₁ .before .before .before .before in let stage = c₅ .stage in
+    let c₆ = c₅ .before in let record-length = c₆ .record-length in
+    let c₈ = c₆ .before .before in let child-terms = c₈ .child-terms in
+    let c₉ = c₈ .before in let child-conditions = c₉ .child-conditions in
+    let c₁₀ = c₉ .before in let if2 = c₁₀ .if2 in
+    let c₁₁ = c₁₀ .before in let byte = c₁₁ .byte in
+    let c₁₂ = c₁₁ .before in let if1 = c₁₂ .if1 in
+    let c₁₅ = c₁₂ .before .before .before in let args = c₁₅ .args in
+    let q = now (args .q) in let ranges = args .ranges in
+    (c .later .ensures .2 ranges (stage .ensures .0) (stage2 .ensures .0), two-settled q (now (args .z)) (rangesAt ranges q) (args .place) (args .level) _ (if1 .left) (byte .ensures) _ (if2 .left) _ _ (child-conditions .ensures) (child-terms .ensures) refl _ _ _ (record-length .ensures .0) refl (stage .ensures .1) _ _ _ _ (c .before .before .size-at .ensures .0) refl (stage2 .ensures .1) (c .later .ensures .0) (c .later .ensures .1))
 
 pub +stage-spec : {M : Type 1} → statement M
 +stage-spec = close μ-stage λ t. stage-lts.spec (stage-claims t)

@@ -13,10 +13,16 @@ use Rattle.conjuncts.proofs.stage.Reads as stage-reads
 use Rattle.kinds.proofs.byte.Reads as byte-reads
 
 returns : tie.Need-returns
-returns c = (omega arith, all-settled 0 (c .before .before .before .args .ranges) (c .before .before .before .args .level) (now (c .before .before .before .args .q)) (drop (c .before .before .before .args .place) (now (c .before .before .before .args .q))) (drop (c .before .before .before .args .place) (now (c .before .before .before .args .z))) (sym (c .if1 .taken)) .condition)
+returns c =
+    let c₃ = c .before .before .before in let args = c₃ .args in
+    let q = now (args .q) in let place = args .place in
+    (omega arith, all-settled 0 (args .ranges) (args .level) q (drop place q) (drop place (now (args .z))) (sym (c .if1 .taken)) .condition)
 
 returns-2 : tie.Need-returns-2
-returns-2 c = (le-refl _, all-settled (c .before .before .before .before .before .before .before .before .args .ranges) (c .before .before .before .before .before .before .before .before .args .ranges) (c .before .before .before .before .before .before .before .before .args .level) (now (c .before .before .before .before .before .before .before .before .args .q)) (drop (c .before .before .before .before .before .before .before .before .args .place) (now (c .before .before .before .before .before .before .before .before .args .q))) (drop (c .before .before .before .before .before .before .before .before .args .place) (now (c .before .before .before .before .before .before .before .before .args .z))) refl .condition)
+returns-2 c =
+    let c₈ = c .before .before .before .before .before .before .before .before in let args = c₈ .args in
+    let q = now (args .q) in let place = args .place in let ranges = args .ranges in
+    (le-refl _, all-settled ranges ranges (args .level) q (drop place q) (drop place (now (args .z))) refl .condition)
 
 pub stage-at-spec : {M : Type 1} → statement M
 stage-at-spec =

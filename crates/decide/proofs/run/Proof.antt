@@ -37,19 +37,33 @@ returns : tie.Need-returns Inv-loop μ-loop
 returns c = (c .before .before .before .loop .inv .0, ((c .before .before .before .loop .inv .2, λ h. sym (c .before .size-at .ensures .0) ∙ c .if1 .taken), c .before .before .before .loop .inv .1))
 
 next-requires : tie.Need-next-requires Inv-loop μ-loop
-next-requires c κs = (omega (arith, c .before .before .before .before .before .before .before .before .before .before .pre .0, c .before .before .before .before .loop .inv .3), omega (arith, c .before .before .before .before .before .before .before .before .before .before .pre .1, c .before .before .before .before .loop .inv .2), λ e. c .before .if1 .left (c .before .before .size-at .ensures .0 ∙ e))
+next-requires c κs =
+    let c₄ = c .before .before .before .before in let loop = c₄ .loop in
+    let c₁₀ = c₄ .before .before .before .before .before .before in let pre = c₁₀ .pre in
+    (omega (arith, pre .0, loop .inv .3), omega (arith, pre .1, loop .inv .2), λ e. c .before .if1 .left (c .before .before .size-at .ensures .0 ∙ e))
 
 same-length-2 : tie.Need-same-length-2 Inv-loop μ-loop
 same-length-2 c = search needs
 
 returns-2 : tie.Need-returns-2 Inv-loop μ-loop
-returns-2 c = (runs-1 (now (c .before .before .before .before .before .before .before .before .before .before .before .before .before .before .args .t)) (now (c .before .before .before .before .before .before .before .before .before .before .before .before .before .before .args .xs)) (now (c .before .before .before .before .before .before .before .before .before .before .before .before .before .before .args .q)) (now (c .before .before .before .before .before .before .before .before .before .before .before .before .before .before .args .z)) (now (c .before .before .before .before .before .before .before .before .before .before .before .before .before .before .args .walks)) (now (c .before .before .before .before .before .before .before .before .before .before .before .before .before .before .args .values)) (now (c .before .before .before .before .before .before .before .before .before .before .before .before .before .before .args .memo)) _ ∙ follow-stuck (now (c .before .before .before .before .before .before .before .before .before .before .before .before .before .before .args .t)) (now (c .before .before .before .before .before .before .before .before .before .before .before .before .before .before .args .xs)) (now (c .before .before .before .before .before .before .before .before .before .before .before .before .before .before .args .q)) (now (c .before .before .before .before .before .before .before .before .before .before .before .before .before .before .args .z)) (now (c .before .before .before .before .before .before .before .before .before .before .before .before .before .before .args .walks)) (now (c .before .before .before .before .before .before .before .before .before .before .before .before .before .before .args .values)) (now (c .before .before .before .before .before .before .before .before .before .before .before .before .before .before .args .memo)) (now (c .before .before .before .before .before .before .before .before .before .before .before .before .before .before .args .env)) (c .before .before .before .before .before .before .before .before .loop .at) (c .before .before .before .before .before .before .before .before .before .before .before .before .before .before .args .start) (c .before .before .before .next .result) (c .before .before .before .before .before .before .before .before .loop .env) (c .before .before .before .before .before .before .before .before .loop .inv .1) (c .before .before .before .before .before .before .before .loop-test .taken) (c .before .before .before .next .ensures .0) (c .before .before .before .before .before .before .before .before .loop .inv .0) (c .if2 .taken), ((omega (arith, c .before .before .before .before .before .before .before .loop-test .taken, c .before .before .before .before .before .before .before .before .loop .inv .2), λ h. absurd (omega arith)), c .before .before .before .next .ensures .1 ∙ c .before .before .before .before .before .before .before .before .loop .inv .1))
+returns-2 c =
+    let c₃ = c .before .before .before in let next = c₃ .next in
+    let c₇ = c₃ .before .before .before .before in let loop-test = c₇ .loop-test in
+    let c₈ = c₇ .before in let loop = c₈ .loop in
+    let c₁₄ = c₈ .before .before .before .before .before .before in let args = c₁₄ .args in
+    let memo = now (args .memo) in let q = now (args .q) in let values = now (args .values) in let walks = now (args .walks) in let xs = now (args .xs) in let z = now (args .z) in
+    (runs-1 (now (args .t)) xs q z walks values memo _ ∙ follow-stuck (now (args .t)) xs q z walks values memo (now (args .env)) (loop .at) (args .start) (next .result) (loop .env) (loop .inv .1) (loop-test .taken) (next .ensures .0) (loop .inv .0) (c .if2 .taken), ((omega (arith, loop-test .taken, loop .inv .2), λ h. absurd (omega arith)), next .ensures .1 ∙ loop .inv .1))
 
 loop-less : tie.Need-loop-less Inv-loop μ-loop
 loop-less c = search needs
 
 loop-again : tie.Need-loop-again Inv-loop μ-loop
-loop-again c = (follow-on (now (c .before .before .before .before .before .before .before .before .before .before .before .before .before .before .args .t)) (now (c .before .before .before .before .before .before .before .before .before .before .before .before .before .before .args .xs)) (now (c .before .before .before .before .before .before .before .before .before .before .before .before .before .before .args .q)) (now (c .before .before .before .before .before .before .before .before .before .before .before .before .before .before .args .z)) (now (c .before .before .before .before .before .before .before .before .before .before .before .before .before .before .args .walks)) (now (c .before .before .before .before .before .before .before .before .before .before .before .before .before .before .args .values)) (now (c .before .before .before .before .before .before .before .before .before .before .before .before .before .before .args .memo)) (now (c .before .before .before .before .before .before .before .before .before .before .before .before .before .before .args .env)) (c .before .before .before .before .before .before .before .before .loop .at) (c .before .before .before .before .before .before .before .before .before .before .before .before .before .before .args .start) (c .before .before .before .next .result) (c .before .before .before .before .before .before .before .before .loop .env) (c .before .before .before .before .before .before .before .before .loop .inv .1) (c .before .before .before .before .before .before .before .loop-test .taken) (c .before .before .before .next .ensures .0) (c .before .before .before .before .before .before .before .before .loop .inv .0) (c .if2 .left), c .before .before .before .next .ensures .1 ∙ c .before .before .before .before .before .before .before .before .loop .inv .1, omega (arith, c .if2 .left, c .before .before .before .before .before .before .before .before .loop .inv .2), ap length (c .before .before .before .next .ensures .1 ∙ c .before .before .before .before .before .before .before .before .loop .inv .1))
+loop-again c =
+    let c₃ = c .before .before .before in let next = c₃ .next in
+    let c₇ = c₃ .before .before .before .before in let loop-test = c₇ .loop-test in
+    let c₈ = c₇ .before in let loop = c₈ .loop in
+    let c₁₄ = c₈ .before .before .before .before .before .before in let args = c₁₄ .args in
+    (follow-on (now (args .t)) (now (args .xs)) (now (args .q)) (now (args .z)) (now (args .walks)) (now (args .values)) (now (args .memo)) (now (args .env)) (loop .at) (args .start) (next .result) (loop .env) (loop .inv .1) (loop-test .taken) (next .ensures .0) (loop .inv .0) (c .if2 .left), next .ensures .1 ∙ loop .inv .1, omega (arith, c .if2 .left, loop .inv .2), ap length (next .ensures .1 ∙ loop .inv .1))
 
 same-length-3 : tie.Need-same-length-3 Inv-loop μ-loop
 same-length-3 c = search needs

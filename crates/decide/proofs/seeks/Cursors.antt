@@ -14,7 +14,7 @@ use Rattle.branches.specs.Branches.{field, branchHolds, runs}
 use Rattle.walks.specs.Assigned.{assigned}
 use Rattle.decide.specs.Cursor.{meets, has, Bounded, stops, Ready, Prepared}
 use Rattle.decide.specs.Keys.{equality, Enters, Follows}
-use Rattle.chains.specs.declared.Entry.{Entry}
+use Rattle.decide.specs.declared.chains.Entry.{Entry}
 use Rattle.branches.proofs.Running.{runs-1}
 use Rattle.decide.specs.declared.seeks.Cursor.{Cursor}
 use Rattle.decide.proofs.seeks.Steps.{start-fails, onward-met, onward-low}

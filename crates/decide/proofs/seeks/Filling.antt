@@ -11,8 +11,8 @@ use lib.Seq.{sets, getD-set-same, getD-set-other}
 use borrow.Author.Tests.{eqb-true, eqb-false}
 use Rattle.walks.specs.declared.Walk.{Walk}
 use Rattle.walks.specs.Walks.{walkOf}
-use Rattle.chains.specs.Chains.{bucketAt, Built, Outside}
-use Rattle.chains.proofs.Steps.{built-kept}
+use Rattle.decide.specs.Chains.{bucketAt, Built, Outside}
+use Rattle.decide.proofs.chains.Steps.{built-kept}
 use Rattle.branches.proofs.Writing.{sets-before, sets-at}
 use Rattle.decide.specs.Keys.{Tells, Decides, onward, Chain, Filling}
 

@@ -21,7 +21,7 @@ use Rattle.branches.specs.Branches.{field, operand, branchHolds, next, runs}
 use Rattle.branches.proofs.Running.{runs-step}
 use Rattle.model.specs.Lists.{update}
 use Rattle.walks.specs.Assigned.{assigned}
-use Rattle.chains.specs.Chains.{same, bucketAt, Built}
+use Rattle.decide.specs.Chains.{same, bucketAt, Built}
 use Rattle.decide.specs.declared.seeks.Key.{Key}
 use Rattle.decide.specs.Keys.{equality, Tells, Follows, Decides, onward, Chain, Enters, Faithful}
 use Rattle.decide.proofs.seeks.Tests.{and-turn}

@@ -36,7 +36,7 @@ use Rattle.evaluator.proofs.+condition+gather+some_row+term.Lts-some_ro
 use Rattle.evaluator.proofs.term.Reads as term
 use Rattle.evaluator.proofs.term.Kinds as term-kinds
 use Rattle.evaluator.proofs.+condition+gather+some_row+term.Lts-term as term-lts
-use Rattle.catalogue.proofs.cell.Reads as cell-reads
+use Rattle.catalogue.proofs.value.Reads as value-reads
 use Rattle.evaluator.proofs.place.Reads as place-reads
 use Rattle.evaluator.proofs.set_place.Reads as set-place-reads
 use Rattle.kinds.proofs.byte.Reads as byte-reads
@@ -47,7 +47,7 @@ use Rattle.kinds.proofs.size_at.Reads as size-at-reads
 use Rattle.kinds.proofs.tail.Reads as tail-reads
 use Rattle.kinds.proofs.tail_sizes.Reads as tail-sizes-reads
 use Rattle.numbers.proofs.add.Reads as add-reads
-use Rattle.numbers.proofs.compare.Reads as compare-reads
+use Rattle.numbers.proofs.compared.Reads as compared-reads
 use Rattle.numbers.proofs.empty.Reads as empty-reads
 use Rattle.numbers.proofs.finish.Reads as finish-reads
 use Rattle.numbers.proofs.knows.Reads as knows-reads
@@ -97,16 +97,16 @@ abbrev term-below : ℕ → In 6 term-kinds.ps
 term-below t = and 6 term-kinds.ps (falls 6 term-kinds.ps _<_ μ-term t) term.Pre
 
 abbrev condition-claims : ℕ → condition-lts.Claims
-condition-claims t = (byte-reads.Asked, byte-reads.Learnt, record-length-reads.Asked, record-length-reads.Learnt, tail-reads.Asked, tail-reads.Learnt, tail-sizes-reads.Asked, tail-sizes-reads.Learnt, read-reads.Asked, read-reads.Learnt, condition-below t, condition.Post, size-at-reads.Asked, size-at-reads.Learnt, term-below t, term.Post, compare-reads.Asked, compare-reads.Learnt, some-row-below t, some-row.Post)
+condition-claims t = (byte-reads.Asked, byte-reads.Learnt, record-length-reads.Asked, record-length-reads.Learnt, tail-reads.Asked, tail-reads.Learnt, tail-sizes-reads.Asked, tail-sizes-reads.Learnt, read-reads.Asked, read-reads.Learnt, condition-below t, condition.Post, size-at-reads.Asked, size-at-reads.Learnt, term-below t, term.Post, compared-reads.Asked, compared-reads.Learnt, some-row-below t, some-row.Post)
 
 abbrev gather-claims : ℕ → gather-lts.Claims
-gather-claims t = (walk-of-reads.Asked, walk-of-reads.Learnt, place-reads.Asked, place-reads.Learnt, empty-reads.Asked, empty-reads.Learnt, place-reads′.Asked, place-reads′.Learnt, set-place-reads.Asked, set-place-reads.Learnt, condition-below t, condition.Post, cell-reads.Asked, cell-reads.Learnt, add-reads.Asked, add-reads.Learnt)
+gather-claims t = (walk-of-reads.Asked, walk-of-reads.Learnt, place-reads.Asked, place-reads.Learnt, empty-reads.Asked, empty-reads.Learnt, place-reads′.Asked, place-reads′.Learnt, set-place-reads.Asked, set-place-reads.Learnt, condition-below t, condition.Post, value-reads.Asked, value-reads.Learnt, add-reads.Asked, add-reads.Learnt)
 
 abbrev some-row-claims : ℕ → some-row-lts.Claims
 some-row-claims t = (walk-of-reads.Asked, walk-of-reads.Learnt, place-reads.Asked, place-reads.Learnt, place-reads′.Asked, place-reads′.Learnt, set-place-reads.Asked, set-place-reads.Learnt, condition-below t, condition.Post)
 
 abbrev term-claims : ℕ → term-lts.Claims
-term-claims t = (whole-reads.Asked, whole-reads.Learnt, byte-reads.Asked, byte-reads.Learnt, record-length-reads.Asked, record-length-reads.Learnt, read-reads.Asked, read-reads.Learnt, constant-reads.Asked, constant-reads.Learnt, place-reads.Asked, place-reads.Learnt, cell-reads.Asked, cell-reads.Learnt, knows-reads.Asked, knows-reads.Learnt, recall-reads.Asked, recall-reads.Learnt, tail-reads.Asked, tail-reads.Learnt, tail-sizes-reads.Asked, tail-sizes-reads.Learnt, gather-below t, gather.Post, finish-reads.Asked, finish-reads.Learnt)
+term-claims t = (whole-reads.Asked, whole-reads.Learnt, byte-reads.Asked, byte-reads.Learnt, record-length-reads.Asked, record-length-reads.Learnt, read-reads.Asked, read-reads.Learnt, constant-reads.Asked, constant-reads.Learnt, place-reads.Asked, place-reads.Learnt, value-reads.Asked, value-reads.Learnt, knows-reads.Asked, knows-reads.Learnt, recall-reads.Asked, recall-reads.Learnt, tail-reads.Asked, tail-reads.Learnt, tail-sizes-reads.Asked, tail-sizes-reads.Learnt, gather-below t, gather.Post, finish-reads.Asked, finish-reads.Learnt)
 
 condition-returns : (t : ℕ) → condition-lts.Need-returns (condition-claims t) (condition-at t) condition.Post
 condition-returns t c =
@@ -239,8 +239,11 @@ condition-term-requires-2 t c κs =
     let c₂₁ = c₁₆ .before .before .before .before .before in let pre = c₂₁ .pre in
     (omega (arith, pre .0, if1 .left), omega (arith, pre .1, ap length (term .ensures .1 .1)))
 
-condition-compare-requires : (t : ℕ) → condition-lts.Need-compare-requires (condition-claims t) (condition-at t) condition.Post
-condition-compare-requires t c κs = search needs
+condition-cast-compared : (t : ℕ) → condition-lts.Need-cast-compared (condition-claims t) (condition-at t) condition.Post
+condition-cast-compared t c = search needs
+
+condition-compared-requires : (t : ℕ) → condition-lts.Need-compared-requires (condition-claims t) (condition-at t) condition.Post
+condition-compared-requires t c κs = search needs
 
 condition-enum-known-variable : (t : ℕ) → condition-lts.Need-enum-known-variable (condition-claims t) (condition-at t) condition.Post
 condition-enum-known-variable t c = search needs
@@ -332,7 +335,7 @@ condition-returns-8 t c =
     let c₁₉ = c₁₈ .before in let byte = c₁₉ .byte in
     let c₂₀ = c₁₉ .before in let if1 = c₂₀ .if1 in
     let c₂₅ = c₂₀ .before .before .before .before .before in let args = c₂₅ .args in
-    (compare-is (now (args .walks)) (now (args .vs)) (now (args .memo)) (now (args .env)) (now (args .q)) (now (args .z)) (args .level) _ _ _ (if1 .left) (byte .ensures) (record-length .ensures .0) (read .ensures) _ _ (tail .ensures) (tail-sizes .ensures) _ _ _ _ (size-at3 .ensures .0) refl (tail4 .ensures) (tail-sizes4 .ensures) _ _ _ _ _ (operator .given .1) (term .ensures .0) (term .ensures .1 .1) (term2 .ensures .0) (c .compare .ensures), term2 .ensures .1 .1 ∙ term .ensures .1 .1)
+    (compare-is (now (args .walks)) (now (args .vs)) (now (args .memo)) (now (args .env)) (now (args .q)) (now (args .z)) (args .level) _ _ _ (if1 .left) (byte .ensures) (record-length .ensures .0) (read .ensures) _ _ (tail .ensures) (tail-sizes .ensures) _ _ _ _ (size-at3 .ensures .0) refl (tail4 .ensures) (tail-sizes4 .ensures) _ _ _ _ _ (operator .given .1) (term .ensures .0) (term .ensures .1 .1) (term2 .ensures .0) (c .compared .ensures), term2 .ensures .1 .1 ∙ term .ensures .1 .1)
 
 condition-same-length-7 : (t : ℕ) → condition-lts.Need-same-length-7 (condition-claims t) (condition-at t) condition.Post
 condition-same-length-7 t c = search needs
@@ -391,8 +394,8 @@ gather-set-place-requires t c κs = search needs
 gather-condition-requires : (t : ℕ) → gather-lts.Need-condition-requires (gather-claims t) (gather-at t) gather.Post gather-Inv-loop gather-μ-loop
 gather-condition-requires t c κs = search needs
 
-gather-cell-requires : (t : ℕ) → gather-lts.Need-cell-requires (gather-claims t) (gather-at t) gather.Post gather-Inv-loop gather-μ-loop
-gather-cell-requires t c κs = search needs
+gather-value-requires : (t : ℕ) → gather-lts.Need-value-requires (gather-claims t) (gather-at t) gather.Post gather-Inv-loop gather-μ-loop
+gather-value-requires t c κs = search needs
 
 gather-add-requires : (t : ℕ) → gather-lts.Need-add-requires (gather-claims t) (gather-at t) gather.Post gather-Inv-loop gather-μ-loop
 gather-add-requires t c κs =
@@ -560,8 +563,11 @@ term-enum-known-variable t c = search needs
 term-place-requires : (t : ℕ) → term-lts.Need-place-requires (term-claims t) (term-at t) term.Post
 term-place-requires t c κs = search needs
 
-term-cell-requires : (t : ℕ) → term-lts.Need-cell-requires (term-claims t) (term-at t) term.Post
-term-cell-requires t c κs = search needs
+term-cast-value : (t : ℕ) → term-lts.Need-cast-value (term-claims t) (term-at t) term.Post
+term-cast-value t c = search needs
+
+term-value-requires : (t : ℕ) → term-lts.Need-value-requires (term-claims t) (term-at t) term.Post
+term-value-requires t c κs = search needs
 
 term-whole-requires-3 : (t : ℕ) → term-lts.Need-whole-requires-3 (term-claims t) (term-at t) term.Post
 term-whole-requires-3 t c κs = search needs
@@ -614,7 +620,7 @@ term-same-length t c = search needs
 
 term-returns-4 : (t : ℕ) → term-lts.Need-returns-4 (term-claims t) (term-at t) term.Post
 term-returns-4 t c =
-    let c₁ = c .before in let cell = c₁ .cell in
+    let c₁ = c .before in let cell = c₁ .value in
     let c₄ = c₁ .before .before .before in let known-told2 = c₄ .known-told2 in
     let c₅ = c₄ .before in let variable = c₅ .variable in
     let c₇ = c₅ .before .before in let read = c₇ .read in
@@ -686,7 +692,8 @@ pub +condition+gather+some-row+term-spec : {M : Type 1} → statement M
     (condition-tail-requires-4 t)
     (condition-tail-sizes-requires-4 t)
     (condition-term-requires-2 t)
-    (condition-compare-requires t)
+    (condition-cast-compared t)
+    (condition-compared-requires t)
     (condition-enum-known-variable t)
     (condition-some-row-requires t)
     (condition-returns-4 t)
@@ -713,7 +720,7 @@ pub +condition+gather+some-row+term-spec : {M : Type 1} → statement M
     (gather-place-requires-2 t)
     (gather-set-place-requires t)
     (gather-condition-requires t)
-    (gather-cell-requires t)
+    (gather-value-requires t)
     (gather-add-requires t)
     (gather-add-i t)
     (gather-loop-less t)
@@ -756,7 +763,8 @@ pub +condition+gather+some-row+term-spec : {M : Type 1} → statement M
     (term-whole-requires-2 t)
     (term-enum-known-variable t)
     (term-place-requires t)
-    (term-cell-requires t)
+    (term-cast-value t)
+    (term-value-requires t)
     (term-whole-requires-3 t)
     (term-enum-known-function t)
     (term-knows-requires t)

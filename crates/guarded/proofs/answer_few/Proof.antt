@@ -18,10 +18,16 @@ use Rattle.permitted.proofs.fill.Reads as fill-reads
 use Rattle.plain.proofs.answer_query.Reads as answer-query-reads
 
 fill-requires : tie.Need-fill-requires
-fill-requires c κs = (c .before .before .before .before .before .before .before .pre .1 .once, low-few (now (c .before .before .before .before .before .before .before .args .catalogue)) (now (c .before .before .before .before .before .before .before .args .query)) (c .before .before .before .before .before .before .before .pre .1) (c .before .before .before .before .before .before .before .pre .2), c .before .before .before .before .before .before .before .pre .1 .count, (omega (arith, length-replicate {A = ℕ} 192 0), omega (arith, length-replicate {A = ℕ} 192 0)), cleared 192)
+fill-requires c κs =
+    let c₇ = c .before .before .before .before .before .before .before in let args = c₇ .args in let pre = c₇ .pre in
+    (pre .1 .once, low-few (now (args .catalogue)) (now (args .query)) (pre .1) (pre .2), pre .1 .count, (omega (arith, length-replicate {A = ℕ} 192 0), omega (arith, length-replicate {A = ℕ} 192 0)), cleared 192)
 
 returns : tie.Need-returns
-returns c = c .before .answer-query .ensures ∙ ap (λ (rows : List (List ℤ)). give (length (queryOf (now (c .before .before .before .before .before .before .before .before .before .before .before .before .before .args .query)) .targets)) rows (now (c .before .before .before .before .before .before .before .before .before .before .before .before .before .args .answer))) (table-answers (now (c .before .before .before .before .before .before .before .before .before .before .before .before .before .args .catalogue)) (now (c .before .before .before .before .before .before .before .before .before .before .before .before .before .args .values)) (now (c .before .before .before .before .before .before .before .before .before .before .before .before .before .args .list)) (now (c .before .before .before .before .before .before .before .before .before .before .before .before .before .args .places)) (now (c .before .before .before .before .before .before .before .before .before .before .before .before .before .args .masks)) (now (c .before .before .before .before .before .before .before .before .before .before .before .before .before .args .query)) _ (c .before .before .before .before .before .before .before .before .before .before .before .before .before .pre .1 .bindings) (c .before .before .before .before .before .fill .ensures))
+returns c =
+    let c₅ = c .before .before .before .before .before in let fill = c₅ .fill in
+    let c₁₃ = c₅ .before .before .before .before .before .before .before .before in let args = c₁₃ .args in let pre = c₁₃ .pre in
+    let query = now (args .query) in
+    c .before .answer-query .ensures ∙ ap (λ (rows : List (List ℤ)). give (length (queryOf query .targets)) rows (now (args .answer))) (table-answers (now (args .catalogue)) (now (args .values)) (now (args .list)) (now (args .places)) (now (args .masks)) query _ (pre .1 .bindings) (fill .ensures))
 
 pub answer-few-spec : {M : Type 1} → statement M
 answer-few-spec =
@@ -30,6 +36,6 @@ answer-few-spec =
     (λ c. search needs)
     fill-requires
     (λ c. search needs)
-    (λ c κs. search needs)
+    (λ c κs. let c₁₁ = c .before .before .before .before .before .before .before .before .before .before .before in record { by = now (c₁₁ .args .catalogue); answerable = c₁₁ .pre .0 })
     (λ c. search needs)
     returns)

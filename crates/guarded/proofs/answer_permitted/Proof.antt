@@ -9,7 +9,9 @@ use Rattle.guarded.proofs.answer_many.Reads as answer-many-reads
 use Rattle.permitted.proofs.few.Reads as few-reads
 
 answer-few-requires : tie.Need-answer-few-requires
-answer-few-requires c κs = (c .before .before .before .before .before .before .before .before .before .pre .0, c .before .before .before .before .before .before .before .before .before .pre .1, sym (c .before .before .few .ensures) ∙ c .before .if1 .taken)
+answer-few-requires c κs =
+    let c₉ = c .before .before .before .before .before .before .before .before .before in let pre = c₉ .pre in
+    (pre .0, pre .1, sym (c .before .before .few .ensures) ∙ c .before .if1 .taken)
 
 pub answer-permitted-spec : {M : Type 1} → statement M
 answer-permitted-spec =

@@ -10,6 +10,7 @@ use Rattle.guards.proofs.fill_places.Kinds as fill-places-kinds
 use Rattle.guards.proofs.+fill_places.Lts-fill_places as fill-places-lts
 use Rattle.guards.proofs.put_place.Reads as put-place-reads
 use Rattle.kinds.proofs.tail.Reads as tail-reads
+use Rattle.guards.proofs.applying.header.Reads as header-reads
 use Rattle.guards.proofs.applying.size.Reads as size-reads
 use Rattle.guards.proofs.+fill_places.{statement}
 use Rattle.guards.proofs.+fill_places.Tie.{close}
@@ -26,7 +27,7 @@ fill-places-below t =
     and 2 fill-places-kinds.ps (falls 2 fill-places-kinds.ps _<_ μ-fill-places t) fill-places.Pre
 
 abbrev fill-places-claims : ℕ → fill-places-lts.Claims
-fill-places-claims t = (tail-reads.Asked, tail-reads.Learnt, put-place-reads.Asked, put-place-reads.Learnt, size-reads.Asked, size-reads.Learnt, fill-places-below t, fill-places.Post)
+fill-places-claims t = (header-reads.Asked, header-reads.Learnt, tail-reads.Asked, tail-reads.Learnt, put-place-reads.Asked, put-place-reads.Learnt, size-reads.Asked, size-reads.Learnt, fill-places-below t, fill-places.Post)
 
 fill-places-returns : (t : ℕ) → fill-places-lts.Need-returns (fill-places-claims t) (fill-places-at t) fill-places.Post
 fill-places-returns t c =
@@ -37,6 +38,9 @@ fill-places-returns-2 : (t : ℕ) → fill-places-lts.Need-returns-2 (fill-place
 fill-places-returns-2 t c =
     let c₄ = c .before .before .before .before in let args = c₄ .args in
     places-end (args .left) (now (args .list)) (args .at) (args .k) (now (args .places)) (c .if2 .taken)
+
+fill-places-header-requires : (t : ℕ) → fill-places-lts.Need-header-requires (fill-places-claims t) (fill-places-at t) fill-places.Post
+fill-places-header-requires t c κs = search needs
 
 fill-places-tail-requires : (t : ℕ) → fill-places-lts.Need-tail-requires (fill-places-claims t) (fill-places-at t) fill-places.Post
 fill-places-tail-requires t c κs = search needs
@@ -78,7 +82,7 @@ fill-places-fill-places-requires : (t : ℕ) → fill-places-lts.Need-fill-place
 fill-places-fill-places-requires t c κs =
     let c₅ = c .before .before .before .before .before in let size = c₅ .size in
     let c₁₀ = c₅ .before .before .before .before .before in let tail = c₁₀ .tail in
-    let c₁₁ = c₁₀ .before in let if2 = c₁₁ .if2 in
+    let c₁₁ = c₁₀ .before .before in let if2 = c₁₁ .if2 in
     let c₁₂ = c₁₁ .before in let if1 = c₁₂ .if1 in
     let c₁₅ = c₁₂ .before .before .before in let args = c₁₅ .args in let pre = c₁₅ .pre in
     (omega (arith, pre .0, if1 .left), (next-near (args .at) (size .result) (now (args .list)) _ (tail .ensures) (omega (arith, if2 .left)) (size .ensures .1 .1) (pre .1 .2), omega (arith, pre .1 .1, if1 .left), pre .1 .2))
@@ -92,10 +96,11 @@ fill-places-returns-3 t c =
     let c₈ = c₆ .before .before in let size = c₈ .size in
     let c₁₁ = c₈ .before .before .before in let put-place = c₁₁ .put-place in
     let c₁₃ = c₁₁ .before .before in let tail = c₁₃ .tail in
-    let c₁₄ = c₁₃ .before in let if2 = c₁₄ .if2 in
+    let header = c₁₃ .before .header in
+    let c₁₄ = c₁₃ .before .before in let if2 = c₁₄ .if2 in
     let c₁₅ = c₁₄ .before in let if1 = c₁₅ .if1 in
     let c₁₈ = c₁₅ .before .before .before in let args = c₁₈ .args in
-    places-next (args .left) (now (args .list)) (args .at) (args .k) (now (args .places)) _ _ _ _ _ (if1 .left) (omega (arith, if2 .left)) (tail .ensures) (put-place .ensures) (size .ensures .0) (put-place2 .ensures) (c .before .before .fill-places .ensures)
+    places-next (args .left) (now (args .list)) (args .at) (args .k) (now (args .places)) (header .result) (header .ensures) _ _ _ _ _ (if1 .left) (omega (arith, if2 .left)) (tail .ensures) (put-place .ensures) (size .ensures .0) (put-place2 .ensures) (c .before .before .fill-places .ensures)
 
 pub +fill-places-spec : {M : Type 1} → statement M
 +fill-places-spec = close μ-fill-places λ t. fill-places-lts.spec (fill-places-claims t)
@@ -103,6 +108,7 @@ pub +fill-places-spec : {M : Type 1} → statement M
     fill-places.Post
     (fill-places-returns t)
     (fill-places-returns-2 t)
+    (fill-places-header-requires t)
     (fill-places-tail-requires t)
     (fill-places-mul-put-place t)
     (fill-places-add-put-place t)

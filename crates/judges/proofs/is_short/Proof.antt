@@ -27,7 +27,16 @@ returns-5 : tie.Need-returns-5
 returns-5 c = λ h. clash h
 
 returns-6 : tie.Need-returns-6
-returns-6 c = λ h. record { size = c .before .before .before .before .before .before .before .before .before .before .if1 .left; compare = sym (c .before .before .before .before .before .before .before .before .before .byte .ensures) ∙ c .before .before .before .before .before .before .before .before .if2 .left; operator = ap isOperator (sym (c .before .before .before .before .before .before .before .byte2 .ensures)) ∙ sym (c .before .before .before .before .before .before .is-operator .ensures) ∙ not-no _ (c .before .before .before .before .before .if3 .left); attribute = sym (c .before .before .before .before .byte3 .ensures) ∙ c .before .before .before .if4 .left; variable = sym (c .before .before .byte4 .ensures) ∙ c .before .if5 .left; constant = sym (c .byte5 .ensures) ∙ eqb-true _ 32 h }
+returns-6 c =
+    let c₃ = c .before .before .before in let if4 = c₃ .if4 in
+    let c₄ = c₃ .before in let byte3 = c₄ .byte3 in
+    let c₅ = c₄ .before in let if3 = c₅ .if3 in
+    let c₆ = c₅ .before in let is-operator = c₆ .is-operator in
+    let c₇ = c₆ .before in let byte2 = c₇ .byte2 in
+    let c₈ = c₇ .before in let if2 = c₈ .if2 in
+    let c₉ = c₈ .before in let byte = c₉ .byte in
+    let c₁₀ = c₉ .before in let if1 = c₁₀ .if1 in
+    λ h. record { size = if1 .left; compare = sym (byte .ensures) ∙ if2 .left; operator = ap isOperator (sym (byte2 .ensures)) ∙ sym (is-operator .ensures) ∙ not-no _ (if3 .left); attribute = sym (byte3 .ensures) ∙ if4 .left; variable = sym (c .before .before .byte4 .ensures) ∙ c .before .if5 .left; constant = sym (c .byte5 .ensures) ∙ eqb-true _ 32 h }
 
 pub is-short-spec : {M : Type 1} → statement M
 is-short-spec =

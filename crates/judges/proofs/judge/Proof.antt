@@ -19,13 +19,28 @@ judge-short-requires : tie.Need-judge-short-requires
 judge-short-requires c κs = (omega (arith, ap (λ (w : Walk). w .count) (c .before .whole .ensures .0), c .before .before .before .before .before .pre .1), c .before .whole .ensures .1, c .before .before .before .before .before .pre .2)
 
 returns : tie.Need-returns
-returns c = whole-marks (now (c .before .before .before .before .before .before .before .before .before .args .catalogue)) (now (c .before .before .before .before .before .before .before .before .before .args .values)) (now (c .before .before .before .before .before .before .before .before .before .args .q)) (c .before .before .before .before .before .before .before .before .before .args .relation) (c .before .before .before .before .before .whole .result) (now (c .before .before .before .before .before .before .before .before .before .args .marks)) _ (c .before .before .before .before .before .whole .ensures .0) (c .before .before .before .judge-short .ensures .0 (c .if1 .taken) (now (c .before .before .before .before .before .before .before .before .before .args .catalogue)))
+returns c =
+    let c₃ = c .before .before .before in let judge-short = c₃ .judge-short in
+    let c₅ = c₃ .before .before in let whole = c₅ .whole in
+    let c₉ = c₅ .before .before .before .before in let args = c₉ .args in
+    let catalogue = now (args .catalogue) in
+    whole-marks catalogue (now (args .values)) (now (args .q)) (args .relation) (whole .result) (now (args .marks)) _ (whole .ensures .0) (judge-short .ensures .0 (c .if1 .taken) catalogue)
 
 judge-long-requires : tie.Need-judge-long-requires
-judge-long-requires c κs = (omega (arith, ap (λ (w : Walk). w .count) (c .before .before .before .before .before .before .whole .ensures .0), c .before .before .before .before .before .before .before .before .before .before .pre .0), omega (arith, ap (λ (w : Walk). w .count) (c .before .before .before .before .before .before .whole .ensures .0), c .before .before .before .before .before .before .before .before .before .before .pre .1, ap length (c .before .before .before .before .judge-short .ensures .1 (c .before .if1 .left))), c .before .before .before .before .before .before .whole .ensures .1, subst Bits (sym (c .before .before .before .before .judge-short .ensures .1 (c .before .if1 .left))) (c .before .before .before .before .before .before .before .before .before .before .pre .2))
+judge-long-requires c κs =
+    let c₁ = c .before in let if1 = c₁ .if1 in
+    let c₄ = c₁ .before .before .before in let judge-short = c₄ .judge-short in
+    let c₆ = c₄ .before .before in let whole = c₆ .whole in
+    let c₁₀ = c₆ .before .before .before .before in let pre = c₁₀ .pre in
+    (omega (arith, ap (λ (w : Walk). w .count) (whole .ensures .0), pre .0), omega (arith, ap (λ (w : Walk). w .count) (whole .ensures .0), pre .1, ap length (judge-short .ensures .1 (if1 .left))), whole .ensures .1, subst Bits (sym (judge-short .ensures .1 (if1 .left))) (pre .2))
 
 returns-2 : tie.Need-returns-2
-returns-2 c = whole-marks (now (c .before .before .before .before .before .before .before .before .before .before .before .before .before .args .catalogue)) (now (c .before .before .before .before .before .before .before .before .before .before .before .before .before .args .values)) (now (c .before .before .before .before .before .before .before .before .before .before .before .before .before .args .q)) (c .before .before .before .before .before .before .before .before .before .before .before .before .before .args .relation) (c .before .before .before .before .before .before .before .before .before .whole .result) (now (c .before .before .before .before .before .before .before .before .before .before .before .before .before .args .marks)) _ (c .before .before .before .before .before .before .before .before .before .whole .ensures .0) (marked-from (c .before .before .before .before .before .before .before .judge-short .ensures .1 (c .before .before .before .before .if1 .left)) (c .before .before .judge-long .ensures))
+returns-2 c =
+    let c₄ = c .before .before .before .before in let if1 = c₄ .if1 in
+    let c₇ = c₄ .before .before .before in let judge-short = c₇ .judge-short in
+    let c₉ = c₇ .before .before in let whole = c₉ .whole in
+    let c₁₃ = c₉ .before .before .before .before in let args = c₁₃ .args in
+    whole-marks (now (args .catalogue)) (now (args .values)) (now (args .q)) (args .relation) (whole .result) (now (args .marks)) _ (whole .ensures .0) (marked-from (judge-short .ensures .1 (if1 .left)) (c .before .before .judge-long .ensures))
 
 pub judge-spec : {M : Type 1} → statement M
 judge-spec =

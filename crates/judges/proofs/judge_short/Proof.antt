@@ -19,7 +19,20 @@ returns : tie.Need-returns
 returns c = (λ h. clash h, λ h. refl)
 
 returns-2 : tie.Need-returns-2
-returns-2 c = ((λ h cb. short-marks (now (c .before .before .before .before .before .before .before .before .before .before .before .before .before .before .before .before .args .q)) (c .before .before .before .before .before .before .before .before .before .before .before .before .before .is-short .ensures (not-no _ (c .before .before .before .before .before .before .before .before .before .before .before .before .if1 .left))) (now (c .before .before .before .before .before .before .before .before .before .before .before .before .before .before .before .before .args .values)) (c .before .before .before .before .before .before .before .before .before .before .before .before .before .before .before .before .args .walk) _ (now (c .before .before .before .before .before .before .before .before .before .before .before .before .before .before .before .before .args .marks)) _ _ _ _ _ _ _ _ (c .before .before .before .before .before .before .whole .result) (c .before .before .before .before .before .byte5 .ensures) (c .before .before .before .before .byte6 .ensures) (c .before .before .before .before .before .before .before .before .before .before .before .byte .ensures) (c .before .before .before .before .before .before .before .before .before .before .byte2 .ensures) (c .before .before .before .before .before .before .before .before .before .byte3 .ensures) (c .before .before .before .before .before .before .before .before .byte4 .ensures) (toZ-ofZ {w = w32} (record { sfits = c .before .before .before .before .before .before .before .constant .ok }) ∙ c .before .before .before .before .before .before .before .constant .ensures .0) (c .before .before .before .before .before .before .whole .ensures .0) (c .before .before .mark-against .ensures .0 h) cb), c .before .before .mark-against .ensures .1)
+returns-2 c =
+    let c₂ = c .before .before in let mark-against = c₂ .mark-against in
+    let c₄ = c₂ .before .before in let byte6 = c₄ .byte6 in
+    let c₅ = c₄ .before in let byte5 = c₅ .byte5 in
+    let c₆ = c₅ .before in let whole = c₆ .whole in
+    let c₇ = c₆ .before in let constant = c₇ .constant in
+    let c₈ = c₇ .before in let byte4 = c₈ .byte4 in
+    let c₉ = c₈ .before in let byte3 = c₉ .byte3 in
+    let c₁₀ = c₉ .before in let byte2 = c₁₀ .byte2 in
+    let c₁₁ = c₁₀ .before in let byte = c₁₁ .byte in
+    let c₁₂ = c₁₁ .before in let if1 = c₁₂ .if1 in
+    let c₁₃ = c₁₂ .before in let is-short = c₁₃ .is-short in
+    let c₁₆ = c₁₃ .before .before .before in let args = c₁₆ .args in
+    ((λ h cb. short-marks (now (args .q)) (is-short .ensures (not-no _ (if1 .left))) (now (args .values)) (args .walk) _ (now (args .marks)) _ _ _ _ _ _ _ _ (whole .result) (byte5 .ensures) (byte6 .ensures) (byte .ensures) (byte2 .ensures) (byte3 .ensures) (byte4 .ensures) (toZ-ofZ {w = w32} (record { sfits = constant .ok }) ∙ constant .ensures .0) (whole .ensures .0) (mark-against .ensures .0 h) cb), mark-against .ensures .1)
 
 pub judge-short-spec : {M : Type 1} → statement M
 judge-short-spec =

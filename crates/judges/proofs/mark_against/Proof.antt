@@ -23,7 +23,11 @@ use Rattle.judges.proofs.test_of.Reads as test-of-reads
 use Rattle.judges.proofs.wide.Reads as wide-reads
 
 returns : tie.Need-returns
-returns c = ((λ h. marked-same (c .before .before .mark-if .ensures) refl (λ i l. against-nothing (c .before .before .before .before .before .before .before .args .operator) (c .before .before .before .before .before .before .before .args .wanted) (tupleOf (now (c .before .before .before .before .before .before .before .args .values)) (c .before .before .before .before .before .before .before .args .walk) i (c .before .before .before .before .before .before .before .args .attribute)) (c .before .before .before .before .before .before .before .args .x) (value-none (c .before .before .before .before .before .before .before .args .x) (c .before .before .before .before .before .before .before .pre .2) (c .before .before .before .before .if1 .taken)))), λ h. clash (sym h))
+returns c =
+    let c₄ = c .before .before .before .before in let if1 = c₄ .if1 in
+    let c₇ = c₄ .before .before .before in let args = c₇ .args in let pre = c₇ .pre in
+    let x = args .x in
+    ((λ h. marked-same (c .before .before .mark-if .ensures) refl (λ i l. against-nothing (args .operator) (args .wanted) (tupleOf (now (args .values)) (args .walk) i (args .attribute)) x (value-none x (pre .2) (if1 .taken)))), λ h. clash (sym h))
 
 returns-2 : tie.Need-returns-2
 returns-2 c = (λ h. clash h, λ h. refl)
@@ -32,16 +36,30 @@ mul-if3 : tie.Need-mul-if3
 mul-if3 c = fits-product _ _ (c .before .before .before .before .before .pre .1 .count) (c .before .before .before .before .before .pre .1 .width)
 
 add-if3 : tie.Need-add-if3
-add-if3 c = fits-place _ _ _ (c .before .before .before .before .before .pre .1 .base) (c .before .before .before .before .before .pre .1 .count) (c .before .before .before .before .before .pre .1 .width)
+add-if3 c =
+    let c₅ = c .before .before .before .before .before in let pre = c₅ .pre in
+    fits-place _ _ _ (pre .1 .base) (pre .1 .count) (pre .1 .width)
 
 returns-3 : tie.Need-returns-3
 returns-3 c = (λ h. clash h, λ h. refl)
 
 mark-passing-requires : tie.Need-mark-passing-requires
-mark-passing-requires c κs = (c .before .before .before .before .before .before .before .before .pre .0, (λ i h. reach ((c .before .before .before .before .before .before .before .before .args .walk) .base) (c .before .before .before .before .wide .result) ((c .before .before .before .before .before .before .before .before .args .walk) .width) ((c .before .before .before .before .before .before .before .before .args .walk) .count) i (length (now (c .before .before .before .before .before .before .before .before .args .values))) (c .before .before .before .if2 .left) (c .before .before .if3 .left) h), omega (arith, c .before .before .before .before .before .before .before .before .pre .1 .base, c .before .before .before .before .wide .ensures, c .before .before .before .before .before .before .before .before .good), c .before .before .before .before .before .before .before .before .pre .1 .width, c .before .before .before .before .before .before .before .before .pre .1 .count, omega (arith, ap natAbs (c .before .test-of .ensures .1 .1), c .before .before .before .before .before .before .before .before .pre .2 .denominator), omega (arith, ap natAbs (c .before .test-of .ensures .1 .0), c .before .before .before .before .before .before .before .before .pre .2 .numerator), c .before .before .before .before .before .before .before .before .pre .3)
+mark-passing-requires c κs =
+    let c₁ = c .before in let test-of = c₁ .test-of in
+    let c₃ = c₁ .before .before in let if2 = c₃ .if2 in
+    let c₄ = c₃ .before in let wide = c₄ .wide in
+    let c₈ = c₄ .before .before .before .before in let args = c₈ .args in let good = c₈ .good in let pre = c₈ .pre in
+    let walk = args .walk in
+    (pre .0, (λ i h. reach (walk .base) (wide .result) (walk .width) (walk .count) i (length (now (args .values))) (if2 .left) (c .before .before .if3 .left) h), omega (arith, pre .1 .base, wide .ensures, good), pre .1 .width, pre .1 .count, omega (arith, ap natAbs (test-of .ensures .1 .1), pre .2 .denominator), omega (arith, ap natAbs (test-of .ensures .1 .0), pre .2 .numerator), pre .3)
 
 returns-4 : tie.Need-returns-4
-returns-4 c = ((λ h. marked-same (c .before .before .mark-passing .ensures) refl (λ i l. c .before .before .before .before .test-of .ensures .0 (c .before .before .before .before .before .before .before .before .before .before .before .pre .2) (is-number (c .before .before .before .before .before .before .before .before .before .before .before .args .x) (c .before .before .before .before .before .before .before .before .before .before .before .pre .2) (c .before .before .before .before .before .before .before .before .if1 .left)) (getD (now (c .before .before .before .before .before .before .before .before .before .before .before .args .values)) ((c .before .before .before .before .before .before .before .before .before .before .before .args .walk) .base + c .before .before .before .before .before .before .before .wide .result + i * (c .before .before .before .before .before .before .before .before .before .before .before .args .walk) .width) (pos 0)) ∙ ap (λ (y : ℤ). turned (c .before .before .before .before .before .before .before .before .before .before .before .args .wanted) (compare (c .before .before .before .before .before .before .before .before .before .before .before .args .operator) (some (whole y)) (valueOf (c .before .before .before .before .before .before .before .before .before .before .before .args .x)))) (row-place (now (c .before .before .before .before .before .before .before .before .before .before .before .args .values)) (c .before .before .before .before .before .before .before .before .before .before .before .args .walk) (c .before .before .before .before .before .before .before .before .before .before .before .args .attribute) (c .before .before .before .before .before .before .before .wide .result) i (c .before .before .before .before .before .before .before .wide .ensures)))), λ h. clash (sym h))
+returns-4 c =
+    let c₄ = c .before .before .before .before in let test-of = c₄ .test-of in
+    let c₇ = c₄ .before .before .before in let wide = c₇ .wide in
+    let c₈ = c₇ .before in let if1 = c₈ .if1 in
+    let c₁₁ = c₈ .before .before .before in let args = c₁₁ .args in let pre = c₁₁ .pre in
+    let values = now (args .values) in let walk = args .walk in let x = args .x in
+    ((λ h. marked-same (c .before .before .mark-passing .ensures) refl (λ i l. test-of .ensures .0 (pre .2) (is-number x (pre .2) (if1 .left)) (getD values (walk .base + wide .result + i * walk .width) (pos 0)) ∙ ap (λ (y : ℤ). turned (args .wanted) (compare (args .operator) (some (whole y)) (valueOf x))) (row-place values walk (args .attribute) (wide .result) i (wide .ensures)))), λ h. clash (sym h))
 
 pub mark-against-spec : {M : Type 1} → statement M
 mark-against-spec =

@@ -30,7 +30,9 @@ abbrev list-targets-claims : ℕ → list-targets-lts.Claims
 list-targets-claims t = (list-target-reads.Asked, list-target-reads.Learnt, size-at-reads.Asked, size-at-reads.Learnt, tail-reads.Asked, tail-reads.Learnt, tail-sizes-reads.Asked, tail-sizes-reads.Learnt, list-targets-below t, list-targets.Post)
 
 returns : (t : ℕ) → list-targets-lts.Need-returns (list-targets-claims t) (list-targets-at t) list-targets.Post
-returns t c = ((λ g. list-none (now (c .before .before .before .before .args .memo)) (now (c .before .before .before .before .args .q)) (now (c .before .before .before .before .args .z)) (c .before .before .before .before .args .left) (c .before .before .before .before .args .level) (c .before .before .before .before .args .i) _ (c .if1 .taken)), λ k h. refl)
+returns t c =
+    let c₄ = c .before .before .before .before in let args = c₄ .args in
+    ((λ g. list-none (now (args .memo)) (now (args .q)) (now (args .z)) (args .left) (args .level) (args .i) _ (c .if1 .taken)), λ k h. refl)
 
 list-target-requires : (t : ℕ) → list-targets-lts.Need-list-target-requires (list-targets-claims t) (list-targets-at t) list-targets.Post
 list-target-requires t c κs = (omega (arith, c .before .before .before .before .before .pre .1 .0, c .before .if1 .left), omega (arith, c .before .before .before .before .before .pre .1 .1, c .before .if1 .left))
@@ -57,13 +59,26 @@ add-list-targets : (t : ℕ) → list-targets-lts.Need-add-list-targets (list-ta
 add-list-targets t c = omega (arith, c .before .before .before .before .before .before .before .before .before .before .before .before .before .pre .1 .1)
 
 list-targets-requires : (t : ℕ) → list-targets-lts.Need-list-targets-requires (list-targets-claims t) (list-targets-at t) list-targets.Post
-list-targets-requires t c κs = (omega (arith, c .before .before .before .before .before .before .before .before .before .before .before .before .before .pre .0, c .before .before .before .before .before .before .before .before .before .if1 .left), (omega (arith, c .before .before .before .before .before .before .before .before .before .before .before .before .before .pre .1 .0, c .before .before .before .before .before .before .before .before .before .if1 .left, c .before .before .before .before .before .before .before .list-target .kept .1 .1 .1 .0), omega (arith, c .before .before .before .before .before .before .before .before .before .before .before .before .before .pre .1 .1, c .before .before .before .before .before .before .before .before .before .if1 .left)))
+list-targets-requires t c κs =
+    let c₇ = c .before .before .before .before .before .before .before in let list-target = c₇ .list-target in
+    let c₉ = c₇ .before .before in let if1 = c₉ .if1 in
+    let c₁₃ = c₉ .before .before .before .before in let pre = c₁₃ .pre in
+    (omega (arith, pre .0, if1 .left), (omega (arith, pre .1 .0, if1 .left, list-target .kept .1 .1 .1 .0), omega (arith, pre .1 .1, if1 .left)))
 
 same-length-2 : (t : ℕ) → list-targets-lts.Need-same-length-2 (list-targets-claims t) (list-targets-at t) list-targets.Post
 same-length-2 t c = search needs
 
 returns-3 : (t : ℕ) → list-targets-lts.Need-returns-3 (list-targets-claims t) (list-targets-at t) list-targets.Post
-returns-3 t c = ((λ g. list-more (now (c .before .before .before .before .before .before .before .before .before .before .before .before .before .before .before .before .args .memo)) (now (c .before .before .before .before .before .before .before .before .before .before .before .before .before .before .before .before .args .q)) (now (c .before .before .before .before .before .before .before .before .before .before .before .before .before .before .before .before .args .z)) (c .before .before .before .before .before .before .before .before .before .before .before .before .before .before .before .before .args .left) (c .before .before .before .before .before .before .before .before .before .before .before .before .before .before .before .before .args .level) (c .before .before .before .before .before .before .before .before .before .before .before .before .before .before .before .before .args .i) (c .before .before .before .before .before .before .before .before .before .before .list-target .last .1 .1 .1 .0) (c .before .before .list-targets .last .1 .1 .1 .1 .1 .0) _ _ _ (c .before .before .before .before .before .before .before .before .before .before .before .before .if1 .left) (c .before .before .before .before .before .before .before .before .before .before .list-target .ensures .0 (not-no (c .before .before .before .before .before .before .before .before .before .before .list-target .result) (c .before .before .before .before .before .before .before .if2 .left))) (c .before .before .before .before .before .before .size-at .ensures .0) (c .before .before .before .before .before .tail .ensures) (c .before .before .before .before .tail-sizes .ensures) (c .before .before .list-targets .ensures .1) (c .before .before .list-targets .ensures .0 g)), λ k h. c .before .before .list-targets .ensures .1 k (omega arith) ∙ c .before .before .before .before .before .before .before .before .before .before .list-target .ensures .1 k h)
+returns-3 t c =
+    let c₂ = c .before .before in let list-targets = c₂ .list-targets in
+    let c₄ = c₂ .before .before in let tail-sizes = c₄ .tail-sizes in
+    let c₅ = c₄ .before in let tail = c₅ .tail in
+    let c₆ = c₅ .before in let size-at = c₆ .size-at in
+    let c₇ = c₆ .before in let if2 = c₇ .if2 in
+    let c₁₀ = c₇ .before .before .before in let list-target = c₁₀ .list-target in
+    let c₁₂ = c₁₀ .before .before in let if1 = c₁₂ .if1 in
+    let c₁₆ = c₁₂ .before .before .before .before in let args = c₁₆ .args in
+    ((λ g. list-more (now (args .memo)) (now (args .q)) (now (args .z)) (args .left) (args .level) (args .i) (list-target .last .1 .1 .1 .0) (list-targets .last .1 .1 .1 .1 .1 .0) _ _ _ (if1 .left) (list-target .ensures .0 (not-no (list-target .result) (if2 .left))) (size-at .ensures .0) (tail .ensures) (tail-sizes .ensures) (list-targets .ensures .1) (list-targets .ensures .0 g)), λ k h. list-targets .ensures .1 k (omega arith) ∙ list-target .ensures .1 k h)
 
 pub +list-targets-spec : {M : Type 1} → statement M
 +list-targets-spec = close μ-list-targets λ t. list-targets-lts.spec (list-targets-claims t)

@@ -13,16 +13,31 @@ use Rattle.odometer.proofs.listed_cell.Statement.{statement}
 use Rattle.odometer.proofs.listed_cell.Tie as tie
 
 returns : tie.Need-returns
-returns c = let w : _≡_ {A = ℤ} (c .wide .result) (toZ w32 (ofZ w32 (c .before .value .result))) = c .wide .ensures .0 in cell-attribute (now (c .before .before .before .before .before .before .before .before .args .memo)) (now (c .before .before .before .before .before .before .before .before .args .list)) (now (c .before .before .before .before .before .before .before .before .args .env)) (now (c .before .before .before .before .before .before .before .before .args .vs)) (c .before .before .before .before .before .before .before .before .args .i) (now (c .before .before .before .before .before .before .before .before .args .row)) _ (c .before .before .before .before .before .size-at .result) (c .before .before .size-at2 .result) (getD (now (c .before .before .before .before .before .before .before .before .args .env)) (c .before .before .before .before .before .size-at .result) 0) (toZ w32 (ofZ w32 (c .before .value .result))) (toZ w64 (ofZ w64 (c .wide .result))) (c .before .before .before .before .before .size-at .ensures .0) (c .before .before .before .before .if1 .taken) (c .before .before .before .before .before .before .before .before .pre .0) refl (c .before .before .size-at2 .ensures .0) (toZ-ofZ {w = w32} (record { sfits = c .before .value .ok }) ∙ c .before .value .ensures) (toZ-ofZ {w = w64} (record { sfits = c .wide .ok }) ∙ w) refl
+returns c =
+    let c₁ = c .before in let value = c₁ .value in
+    let c₂ = c₁ .before in let size-at2 = c₂ .size-at2 in
+    let c₄ = c₂ .before .before in let if1 = c₄ .if1 in
+    let c₅ = c₄ .before in let size-at = c₅ .size-at in
+    let c₈ = c₅ .before .before .before in let args = c₈ .args in let pre = c₈ .pre in
+    let env = now (args .env) in
+    let w : _≡_ {A = ℤ} (c .wide .result) (toZ w32 (ofZ w32 (value .result))) = c .wide .ensures .0 in cell-attribute (now (args .memo)) (now (args .list)) env (now (args .vs)) (args .i) (now (args .row)) _ (size-at .result) (size-at2 .result) (getD env (size-at .result) 0) (toZ w32 (ofZ w32 (value .result))) (toZ w64 (ofZ w64 (c .wide .result))) (size-at .ensures .0) (if1 .taken) (pre .0) refl (size-at2 .ensures .0) (toZ-ofZ {w = w32} (record { sfits = value .ok }) ∙ value .ensures) (toZ-ofZ {w = w64} (record { sfits = c .wide .ok }) ∙ w) refl
 
 returns-2 : tie.Need-returns-2
-returns-2 c = cell-nothing (now (c .before .before .before .before .before .before .before .args .memo)) (now (c .before .before .before .before .before .before .before .args .list)) (now (c .before .before .before .before .before .before .before .args .env)) (now (c .before .before .before .before .before .before .before .args .vs)) (c .before .before .before .before .before .before .before .args .i) (now (c .before .before .before .before .before .before .before .args .row)) _ (c .before .before .side .result) _ (c .before .before .side .ensures .0) (List·getD-eq-default (now (c .before .before .before .before .before .before .before .args .vs)) (pos 0) (omega arith)) (value-none (c .before .before .side .result) (c .before .before .side .ensures .1) (c .if2 .taken))
+returns-2 c =
+    let c₂ = c .before .before in let side = c₂ .side in
+    let c₇ = c₂ .before .before .before .before .before in let args = c₇ .args in
+    let vs = now (args .vs) in
+    cell-nothing (now (args .memo)) (now (args .list)) (now (args .env)) vs (args .i) (now (args .row)) _ (side .result) _ (side .ensures .0) (List·getD-eq-default vs (pos 0) (omega arith)) (value-none (side .result) (side .ensures .1) (c .if2 .taken))
 
 cell-requires : tie.Need-cell-requires
 cell-requires c κs = (c .before .before .side .ensures .1, is-number (c .before .before .side .result) (c .before .before .side .ensures .1) (c .if2 .left))
 
 returns-3 : tie.Need-returns-3
-returns-3 c = cell-value (now (c .before .before .before .before .before .before .before .before .args .memo)) (now (c .before .before .before .before .before .before .before .before .args .list)) (now (c .before .before .before .before .before .before .before .before .args .env)) (now (c .before .before .before .before .before .before .before .before .args .vs)) (c .before .before .before .before .before .before .before .before .args .i) (now (c .before .before .before .before .before .before .before .before .args .row)) _ (c .before .before .before .side .result) _ (c .before .before .before .side .ensures .0) (List·getD-eq-default (now (c .before .before .before .before .before .before .before .before .args .vs)) (pos 0) (omega arith)) _ (value-some (c .before .before .before .side .result) (is-number (c .before .before .before .side .result) (c .before .before .before .side .ensures .1) (c .before .if2 .left))) (toZ-ofZ {w = w64} (record { sfits = c .cell .ok }) ∙ c .cell .ensures) refl
+returns-3 c =
+    let c₃ = c .before .before .before in let side = c₃ .side in
+    let c₈ = c₃ .before .before .before .before .before in let args = c₈ .args in
+    let vs = now (args .vs) in
+    cell-value (now (args .memo)) (now (args .list)) (now (args .env)) vs (args .i) (now (args .row)) _ (side .result) _ (side .ensures .0) (List·getD-eq-default vs (pos 0) (omega arith)) _ (value-some (side .result) (is-number (side .result) (side .ensures .1) (c .before .if2 .left))) (toZ-ofZ {w = w64} (record { sfits = c .cell .ok }) ∙ c .cell .ensures) refl
 
 pub listed-cell-spec : {M : Type 1} → statement M
 listed-cell-spec =

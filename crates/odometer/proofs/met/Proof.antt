@@ -7,7 +7,10 @@ use Rattle.odometer.proofs.met.Statement.{statement}
 use Rattle.odometer.proofs.met.Tie as tie
 
 returns : tie.Need-returns
-returns c = (no-branch (now (c .before .before .before .before .before .before .before .args .t)) (now (c .before .before .before .before .before .before .before .args .xs)) (now (c .before .before .before .before .before .before .before .args .q)) (now (c .before .before .before .before .before .before .before .args .z)) (now (c .before .before .before .before .before .before .before .args .walks)) (now (c .before .before .before .before .before .before .before .args .vs)) (now (c .before .before .before .before .before .before .before .args .memo)) (assigned (now (c .before .before .before .before .before .before .before .args .vs)) (now (c .before .before .before .before .before .before .before .args .env))) (c .before .before .before .before .before .before .before .args .start) (c .if1 .taken), refl)
+returns c =
+    let c₇ = c .before .before .before .before .before .before .before in let args = c₇ .args in
+    let vs = now (args .vs) in
+    (no-branch (now (args .t)) (now (args .xs)) (now (args .q)) (now (args .z)) (now (args .walks)) vs (now (args .memo)) (assigned vs (now (args .env))) (args .start) (c .if1 .taken), refl)
 
 pub met-spec : {M : Type 1} → statement M
 met-spec =

@@ -9,19 +9,37 @@ use Rattle.odometer.proofs.write.Statement.{statement}
 use Rattle.odometer.proofs.write.Tie as tie
 
 cells-requires : tie.Need-cells-requires
-cells-requires c κs = (c .before .before .before .before .before .before .before .before .pre .0, omega (arith, c .before .before .before .before .before .before .before .before .pre .1), c .before .before .before .before .before .before .before .before .pre .1, c .before .before .before .before .before .before .before .before .pre .3)
+cells-requires c κs =
+    let c₈ = c .before .before .before .before .before .before .before .before in let pre = c₈ .pre in
+    (pre .0, omega (arith, pre .1), pre .1, pre .3)
 
 returns : tie.Need-returns
-returns c = (write-none _ ((c .before .before .before .before .before .before .before .before .before .before .before .before .before .args .plan) .columns) _ (record { rows = (c .before .before .before .before .before .before .before .before .before .before .before .before .before .args .state) .rows; full = (c .before .before .before .before .before .before .before .before .before .before .before .before .before .args .state) .full; cells = (now (c .before .before .before .before .before .before .before .before .before .before .before .before .before .args .answer)) }) (rowBy (c .before .before .before .before .before .before .before .before .before .before .before .before .before .args .plan) (now (c .before .before .before .before .before .before .before .before .before .before .before .before .before .args .q)) (now (c .before .before .before .before .before .before .before .before .before .before .before .before .before .args .z)) (now (c .before .before .before .before .before .before .before .before .before .before .before .before .before .args .walks)) (now (c .before .before .before .before .before .before .before .before .before .before .before .before .before .args .vs)) (now (c .before .before .before .before .before .before .before .before .before .before .before .before .before .args .memo)) (assigned (now (c .before .before .before .before .before .before .before .before .before .before .before .before .before .args .vs)) (now (c .before .before .before .before .before .before .before .before .before .before .before .before .before .args .env)))) (c .before .before .before .before .cells .ensures .0) (c .if1 .taken), (c .before .before .before .before .cells .ensures .1, c .before .before .before .before .before .before .before .before .before .before .before .before .before .pre .2))
+returns c =
+    let c₄ = c .before .before .before .before in let cells′ = c₄ .cells in
+    let c₁₃ = c₄ .before .before .before .before .before .before .before .before .before in let args = c₁₃ .args in let pre = c₁₃ .pre in
+    let vs = now (args .vs) in let plan = args .plan in let state = args .state in
+    (write-none _ (plan .columns) _ (record { rows = state .rows; full = state .full; cells = (now (args .answer)) }) (rowBy plan (now (args .q)) (now (args .z)) (now (args .walks)) vs (now (args .memo)) (assigned vs (now (args .env)))) (cells′ .ensures .0) (c .if1 .taken), (cells′ .ensures .1, pre .2))
 
 slice-aggregate-add-row : tie.Need-slice-aggregate-add-row
-slice-aggregate-add-row c = omega (arith, length-take ((c .before .before .before .before .before .before .before .before .before .before .before .before .before .before .before .before .args .plan) .columns) (c .before .before .before .before .before .before .before .cells .last .1 .1 .1 .1 .1 .1 .1 .1 .0), c .before .before .before .before .before .before .before .cells .kept .1 .1 .1 .1 .1 .1 .1 .1 .0, c .before .before .before .before .before .before .before .before .before .before .before .before .before .before .before .before .pre .1)
+slice-aggregate-add-row c =
+    let c₇ = c .before .before .before .before .before .before .before in let cells = c₇ .cells in
+    let c₁₆ = c₇ .before .before .before .before .before .before .before .before .before in let args = c₁₆ .args in let pre = c₁₆ .pre in
+    omega (arith, length-take ((args .plan) .columns) (cells .last .1 .1 .1 .1 .1 .1 .1 .1 .0), cells .kept .1 .1 .1 .1 .1 .1 .1 .1 .0, pre .1)
 
 add-row-requires : tie.Need-add-row-requires
-add-row-requires c κs = row-linked ((c .before .before .before .before .before .before .before .before .before .before .before .before .before .before .before .before .args .plan) .columns) (c .before .before .before .before .before .before .before .cells .last .1 .1 .1 .1 .1 .1 .1 .1 .0) _ _ _ (omega (arith, c .before .before .before .before .before .before .before .cells .kept .1 .1 .1 .1 .1 .1 .1 .1 .0, c .before .before .before .before .before .before .before .before .before .before .before .before .before .before .before .before .pre .1)) (c .before .before .before .before .before .before .before .before .before .before .before .before .before .before .before .before .pre .2)
+add-row-requires c κs =
+    let c₇ = c .before .before .before .before .before .before .before in let cells = c₇ .cells in
+    let c₁₆ = c₇ .before .before .before .before .before .before .before .before .before in let args = c₁₆ .args in let pre = c₁₆ .pre in
+    row-linked ((args .plan) .columns) (cells .last .1 .1 .1 .1 .1 .1 .1 .1 .0) _ _ _ (omega (arith, cells .kept .1 .1 .1 .1 .1 .1 .1 .1 .0, pre .1)) (pre .2)
 
 returns-2 : tie.Need-returns-2
-returns-2 c = (write-row _ ((c .before .before .before .before .before .before .before .before .before .before .before .before .before .before .before .before .before .before .before .before .args .plan) .columns) _ (record { rows = (c .before .before .before .before .before .before .before .before .before .before .before .before .before .before .before .before .before .before .before .before .args .state) .rows; full = (c .before .before .before .before .before .before .before .before .before .before .before .before .before .before .before .before .before .before .before .before .args .state) .full; cells = (now (c .before .before .before .before .before .before .before .before .before .before .before .before .before .before .before .before .before .before .before .before .args .answer)) }) (rowBy (c .before .before .before .before .before .before .before .before .before .before .before .before .before .before .before .before .before .before .before .before .args .plan) (now (c .before .before .before .before .before .before .before .before .before .before .before .before .before .before .before .before .before .before .before .before .args .q)) (now (c .before .before .before .before .before .before .before .before .before .before .before .before .before .before .before .before .before .before .before .before .args .z)) (now (c .before .before .before .before .before .before .before .before .before .before .before .before .before .before .before .before .before .before .before .before .args .walks)) (now (c .before .before .before .before .before .before .before .before .before .before .before .before .before .before .before .before .before .before .before .before .args .vs)) (now (c .before .before .before .before .before .before .before .before .before .before .before .before .before .before .before .before .before .before .before .before .args .memo)) (assigned (now (c .before .before .before .before .before .before .before .before .before .before .before .before .before .before .before .before .before .before .before .before .args .vs)) (now (c .before .before .before .before .before .before .before .before .before .before .before .before .before .before .before .before .before .before .before .before .args .env)))) (c .before .before .before .before .before .before .before .before .before .before .before .cells .ensures .0) _ (c .before .before .before .before .before .before .before .if1 .left) (c .before .before .before .add-row .ensures .0), (c .before .before .before .before .before .before .before .before .before .before .before .cells .ensures .1, linked-row ((c .before .before .before .before .before .before .before .before .before .before .before .before .before .before .before .before .before .before .before .before .args .plan) .columns) (c .before .before .before .before .before .before .before .before .before .before .before .cells .last .1 .1 .1 .1 .1 .1 .1 .1 .0) _ _ _ (omega (arith, c .before .before .before .before .before .before .before .before .before .before .before .cells .kept .1 .1 .1 .1 .1 .1 .1 .1 .0, c .before .before .before .before .before .before .before .before .before .before .before .before .before .before .before .before .before .before .before .before .pre .1)) (c .before .before .before .add-row .ensures .1)))
+returns-2 c =
+    let c₃ = c .before .before .before in let add-row = c₃ .add-row in
+    let c₇ = c₃ .before .before .before .before in let if1 = c₇ .if1 in
+    let c₁₁ = c₇ .before .before .before .before in let cells′ = c₁₁ .cells in
+    let c₂₀ = c₁₁ .before .before .before .before .before .before .before .before .before in let args = c₂₀ .args in let pre = c₂₀ .pre in
+    let vs = now (args .vs) in let plan = args .plan in let state = args .state in
+    (write-row _ (plan .columns) _ (record { rows = state .rows; full = state .full; cells = (now (args .answer)) }) (rowBy plan (now (args .q)) (now (args .z)) (now (args .walks)) vs (now (args .memo)) (assigned vs (now (args .env)))) (cells′ .ensures .0) _ (if1 .left) (add-row .ensures .0), (cells′ .ensures .1, linked-row (plan .columns) (cells′ .last .1 .1 .1 .1 .1 .1 .1 .1 .0) _ _ _ (omega (arith, cells′ .kept .1 .1 .1 .1 .1 .1 .1 .1 .0, pre .1)) (add-row .ensures .1)))
 
 pub write-spec : {M : Type 1} → statement M
 write-spec =

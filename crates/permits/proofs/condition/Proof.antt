@@ -9,7 +9,11 @@ use Rattle.conditions.proofs.condition.Reads as condition-reads
 use Rattle.conditions.proofs.scope.bind.Reads as bind-reads
 
 returns : tie.Need-returns
-returns c = in-permit _ (c .before .before .before .before .before .before .before .before .before .before .before .before .args .relation) (c .before .before .before .before .before .before .before .bind .last .0) (now (c .before .before .before .before .before .before .before .before .before .before .before .before .args .bytes)) _ (c .before .before .before .before .before .before .before .bind .ensures) (c .before .before .before .condition .ensures .0)
+returns c =
+    let c₃ = c .before .before .before in let condition = c₃ .condition in
+    let c₇ = c₃ .before .before .before .before in let bind = c₇ .bind in
+    let c₁₂ = c₇ .before .before .before .before .before in let args = c₁₂ .args in
+    in-permit _ (args .relation) (bind .last .0) (now (args .bytes)) _ (bind .ensures) (condition .ensures .0)
 
 pub condition-spec : {M : Type 1} → statement M
 condition-spec =

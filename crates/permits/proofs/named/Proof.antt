@@ -11,10 +11,16 @@ use Rattle.permits.proofs.mask_in.Reads as mask-in-reads
 use Rattle.permits.proofs.wide_size.Reads as wide-size-reads
 
 returns : tie.Need-returns
-returns c = named-past (now (c .before .before .before .before .args .catalogue)) (c .before .before .before .before .args .relation) (c .before .before .before .before .args .mask) _ _ _ (c .before .before .count .ensures) (c .before .wide-size .ensures) (c .if1 .taken)
+returns c =
+    let c₄ = c .before .before .before .before in let args = c₄ .args in
+    named-past (now (args .catalogue)) (args .relation) (args .mask) _ _ _ (c .before .before .count .ensures) (c .before .wide-size .ensures) (c .if1 .taken)
 
 returns-2 : tie.Need-returns-2
-returns-2 c = named-is (now (c .before .before .before .before .before .before .args .catalogue)) (c .before .before .before .before .before .before .args .relation) (c .before .before .before .before .before .before .args .mask) _ _ _ (c .before .before .before .before .count .ensures) (c .before .before .before .wide-size .ensures) (c .before .before .if1 .left) _ (c .before .attributes .ensures .0) _ (c .mask-in .ensures)
+returns-2 c =
+    let c₃ = c .before .before .before in let wide-size = c₃ .wide-size in
+    let c₄ = c₃ .before in let count = c₄ .count in
+    let c₆ = c₄ .before .before in let args = c₆ .args in
+    named-is (now (args .catalogue)) (args .relation) (args .mask) _ _ _ (count .ensures) (wide-size .ensures) (c .before .before .if1 .left) _ (c .before .attributes .ensures .0) _ (c .mask-in .ensures)
 
 pub named-spec : {M : Type 1} → statement M
 named-spec =

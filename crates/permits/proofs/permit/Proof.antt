@@ -56,6 +56,7 @@ permit-spec =
     (λ c. search needs)
     returns-2
     (λ c. search needs)
+    (λ c. search needs)
     returns-3
     (λ c κs. search needs)
     (λ c κs. search needs)

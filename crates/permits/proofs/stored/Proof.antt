@@ -9,13 +9,20 @@ use Rattle.catalogue.proofs.stored.Reads as stored-reads
 use Rattle.permits.proofs.all_stored.Reads as all-stored-reads
 
 returns : tie.Need-returns
-returns c = stored-not (now (c .before .before .before .before .args .condition)) (c .before .before .before .before .args .bound) (c .before .before .before .before .pre) (now (c .before .before .before .before .args .catalogue)) (c .before .before .before .before .args .relation) _ (c .before .stored .ensures) (c .if1 .taken)
+returns c =
+    let c₄ = c .before .before .before .before in let args = c₄ .args in let pre = c₄ .pre in
+    stored-not (now (args .condition)) (args .bound) (pre) (now (args .catalogue)) (args .relation) _ (c .before .stored .ensures) (c .if1 .taken)
 
 returns-2 : tie.Need-returns-2
-returns-2 c = stored-none (now (c .before .before .before .before .before .args .condition)) (c .before .before .before .before .before .args .bound) (c .before .before .before .before .before .pre) (now (c .before .before .before .before .before .args .catalogue)) (c .before .before .before .before .before .args .relation) _ (c .before .before .stored .ensures) (c .before .if1 .left) (c .if2 .taken)
+returns-2 c =
+    let c₅ = c .before .before .before .before .before in let args = c₅ .args in let pre = c₅ .pre in
+    stored-none (now (args .condition)) (args .bound) (pre) (now (args .catalogue)) (args .relation) _ (c .before .before .stored .ensures) (c .before .if1 .left) (c .if2 .taken)
 
 returns-3 : tie.Need-returns-3
-returns-3 c = stored-all (now (c .before .before .before .before .before .before .args .condition)) (c .before .before .before .before .before .before .args .bound) (c .before .before .before .before .before .before .pre) (now (c .before .before .before .before .before .before .args .catalogue)) (c .before .before .before .before .before .before .args .relation) _ (c .before .before .before .stored .ensures) (c .before .before .if1 .left) _ (c .all-stored .ensures)
+returns-3 c =
+    let c₃ = c .before .before .before in let stored = c₃ .stored in
+    let c₆ = c₃ .before .before .before in let args = c₆ .args in let pre = c₆ .pre in
+    stored-all (now (args .condition)) (args .bound) (pre) (now (args .catalogue)) (args .relation) _ (stored .ensures) (c .before .before .if1 .left) _ (c .all-stored .ensures)
 
 pub stored-spec : {M : Type 1} → statement M
 stored-spec = tie.close (tie.spec (λ c κs. search needs) returns returns-2 (λ c κs. search needs) returns-3)

@@ -42,7 +42,12 @@ wide-requires : tie.Need-wide-requires Inv-loop μ-loop
 wide-requires c κs = search needs
 
 add-at : tie.Need-add-at Inv-loop μ-loop
-add-at c = omega (arith, c .wide .ensures, c .before .before .before .before .before .before .before .before .pre .4 (c .before .before .before .number .result), c .before .before .before .before .before .loop .inv .2, c .before .before .before .before .loop-test .taken, c .before .before .before .before .before .before .before .before .pre .2, c .before .before .before .before .before .before .before .before .pre .3)
+add-at c =
+    let c₃ = c .before .before .before in let number = c₃ .number in
+    let c₄ = c₃ .before in let loop-test = c₄ .loop-test in
+    let c₅ = c₄ .before in let loop = c₅ .loop in
+    let c₈ = c₅ .before .before .before in let pre = c₈ .pre in
+    omega (arith, c .wide .ensures, pre .4 (number .result), loop .inv .2, loop-test .taken, pre .2, pre .3)
 
 add-i : tie.Need-add-i Inv-loop μ-loop
 add-i c = search needs
@@ -51,13 +56,24 @@ loop-less : tie.Need-loop-less Inv-loop μ-loop
 loop-less c = search needs
 
 loop-again : tie.Need-loop-again Inv-loop μ-loop
-loop-again c = (omega (arith, c .before .before .before .before .loop-test .taken), omega (arith, c .before .before .before .before .before .loop .inv .1), omega (arith, c .before .before .before .before .before .loop .inv .2, c .wide .ensures, c .before .before .before .before .before .before .before .before .pre .4 (c .before .before .before .number .result)), listed-next (now (c .before .before .before .before .before .before .before .before .args .marks)) (numberAt (c .before .before .before .before .before .before .before .before .args .latest) (c .before .before .before .before .before .before .before .before .args .n)) (c .before .before .before .before .before .before .before .before .args .start) (c .before .before .before .before .before .loop .at) (c .before .before .before .before .before .loop .i) (c .before .before .narrow .result) (c .wide .result) (now (c .before .before .before .before .before .before .before .before .args .walks)) (c .before .before .before .before .before .loop .walks) (c .before .before .before .before .before .before .before .before .pre .4) (c .before .before .before .before .before .loop .inv .3) (omega (arith, c .before .before .before .before .before .loop .inv .2, c .before .before .before .before .loop-test .taken, c .before .before .before .before .before .before .before .before .pre .2)) (c .before .before .narrow .ensures ∙ c .before .before .before .number .ensures .0) (c .wide .ensures ∙ ap (λ (k : ℕ). getD (now (c .before .before .before .before .before .before .before .before .args .marks)) k 0) (c .before .before .before .number .ensures .0)))
+loop-again c =
+    let c₂ = c .before .before in let narrow = c₂ .narrow in
+    let c₃ = c₂ .before in let number = c₃ .number in
+    let c₄ = c₃ .before in let loop-test = c₄ .loop-test in
+    let c₅ = c₄ .before in let loop = c₅ .loop in
+    let c₈ = c₅ .before .before .before in let args = c₈ .args in let pre = c₈ .pre in
+    let marks = now (args .marks) in
+    (omega (arith, loop-test .taken), omega (arith, loop .inv .1), omega (arith, loop .inv .2, c .wide .ensures, pre .4 (number .result)), listed-next marks (numberAt (args .latest) (args .n)) (args .start) (loop .at) (loop .i) (narrow .result) (c .wide .result) (now (args .walks)) (loop .walks) (pre .4) (loop .inv .3) (omega (arith, loop .inv .2, loop-test .taken, pre .2)) (narrow .ensures ∙ number .ensures .0) (c .wide .ensures ∙ ap (λ (k : ℕ). getD marks k 0) (number .ensures .0)))
 
 same-length : tie.Need-same-length Inv-loop μ-loop
 same-length c = search needs
 
 returns : tie.Need-returns Inv-loop μ-loop
-returns c = (listed-end (now (c .before .before .before .before .args .marks)) (numberAt (c .before .before .before .before .args .latest) (c .before .before .before .before .args .n)) (c .before .before .before .before .args .start) (c .before .loop .at) (c .before .loop .i) (c .before .before .before .before .args .n) (now (c .before .before .before .before .args .walks)) (c .before .loop .walks) (omega (arith, c .before .loop .inv .0, c .loop-test .left)) (c .before .loop .inv .3), (c .before .loop .inv .1, omega (arith, c .before .loop .inv .2, c .before .loop .inv .0)))
+returns c =
+    let c₁ = c .before in let loop = c₁ .loop in
+    let c₄ = c₁ .before .before .before in let args = c₄ .args in
+    let n = args .n in
+    (listed-end (now (args .marks)) (numberAt (args .latest) n) (args .start) (loop .at) (loop .i) n (now (args .walks)) (loop .walks) (omega (arith, loop .inv .0, c .loop-test .left)) (loop .inv .3), (loop .inv .1, omega (arith, loop .inv .2, loop .inv .0)))
 
 pub collect-spec : {M : Type 1} → statement M
 collect-spec =

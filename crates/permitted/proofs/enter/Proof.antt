@@ -14,7 +14,11 @@ use Rattle.allrows.proofs.store.Reads as store-reads
 use Rattle.permitted.proofs.wide.Reads as wide-reads
 
 returns : tie.Need-returns
-returns c = c .before .before .store .ensures ∙ ap₂ (λ (u : List ℕ) (n : ℕ). set u (8 * n + 5) (c .before .before .before .before .before .before .before .before .before .before .args .key)) (c .before .before .before .before .before .before .before .put .ensures) (c .before .before .before .wide .ensures)
+returns c =
+    let c₃ = c .before .before .before in let wide = c₃ .wide in
+    let c₇ = c₃ .before .before .before .before in let put = c₇ .put in
+    let c₁₀ = c₇ .before .before .before in let args = c₁₀ .args in
+    c .before .before .store .ensures ∙ ap₂ (λ (u : List ℕ) (n : ℕ). set u (8 * n + 5) (args .key)) (put .ensures) (wide .ensures)
 
 pub enter-spec : {M : Type 1} → statement M
 enter-spec =

@@ -32,7 +32,13 @@ fits-requires : tie.Need-fits-requires Inv-loop μ-loop
 fits-requires c κs = search needs
 
 returns : tie.Need-returns Inv-loop μ-loop
-returns c = scanned.stopped (c .before .fits2 .result) _ _ (c .if1 .taken) (scanned.all-on (now (c .before .before .before .before .before .before .before .args .query)) (c .before .before .before .before .loop .at) _ (c .before .before .before .loop-test .taken) refl (c .before .before .binding .result) (c .before .before .binding .ensures) (tiny (now (c .before .before .before .before .before .before .before .args .catalogue))) _ (c .before .before .before .before .loop .inv) (c .before .fits2 .result) (c .before .fits2 .ensures))
+returns c =
+    let c₁ = c .before in let fits2 = c₁ .fits2 in
+    let c₂ = c₁ .before in let binding = c₂ .binding in
+    let c₃ = c₂ .before in let loop-test = c₃ .loop-test in
+    let c₄ = c₃ .before in let loop = c₄ .loop in
+    let c₇ = c₄ .before .before .before in let args = c₇ .args in
+    scanned.stopped (fits2 .result) _ _ (c .if1 .taken) (scanned.all-on (now (args .query)) (loop .at) _ (loop-test .taken) refl (binding .result) (binding .ensures) (tiny (now (args .catalogue))) _ (loop .inv) (fits2 .result) (fits2 .ensures))
 
 step-requires : tie.Need-step-requires Inv-loop μ-loop
 step-requires c κs = search needs
@@ -44,7 +50,13 @@ loop-less : tie.Need-loop-less Inv-loop μ-loop
 loop-less c = search needs
 
 loop-again : tie.Need-loop-again Inv-loop μ-loop
-loop-again c = scanned.went (c .before .before .fits2 .result) _ _ (c .before .if1 .left) (scanned.all-on (now (c .before .before .before .before .before .before .before .before .args .query)) (c .before .before .before .before .before .loop .at) _ (c .before .before .before .before .loop-test .taken) (c .step .ensures .0) (c .before .before .before .binding .result) (c .before .before .before .binding .ensures) (tiny (now (c .before .before .before .before .before .before .before .before .args .catalogue))) _ (c .before .before .before .before .before .loop .inv) (c .before .before .fits2 .result) (c .before .before .fits2 .ensures))
+loop-again c =
+    let c₂ = c .before .before in let fits2 = c₂ .fits2 in
+    let c₃ = c₂ .before in let binding = c₃ .binding in
+    let c₄ = c₃ .before in let loop-test = c₄ .loop-test in
+    let c₅ = c₄ .before in let loop = c₅ .loop in
+    let c₈ = c₅ .before .before .before in let args = c₈ .args in
+    scanned.went (fits2 .result) _ _ (c .before .if1 .left) (scanned.all-on (now (args .query)) (loop .at) _ (loop-test .taken) (c .step .ensures .0) (binding .result) (binding .ensures) (tiny (now (args .catalogue))) _ (loop .inv) (fits2 .result) (fits2 .ensures))
 
 returns-2 : tie.Need-returns-2 Inv-loop μ-loop
 returns-2 c = scanned.all-end (now (c .before .before .before .before .args .query)) (c .before .loop .at) (c .loop-test .left) (tiny (now (c .before .before .before .before .args .catalogue))) _ (c .before .loop .inv)

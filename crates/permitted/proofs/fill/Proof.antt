@@ -27,13 +27,21 @@ abbrev μ-loop : tie.MeasureT-loop
 μ-loop query list places masks catalogue values walks₀ next₀ at₀ walks next at = length query - at
 
 loop-holds : tie.Need-loop-holds Inv-loop μ-loop
-loop-holds c = (refl, filling-start (now (c .before .before .before .before .before .before .args .catalogue)) (now (c .before .before .before .before .before .before .args .values)) (part (now (c .before .before .before .before .before .before .args .list)) (now (c .before .before .before .before .before .before .args .places))) (now (c .before .before .before .before .before .before .args .masks)) (mostIn (now (c .before .before .before .before .before .before .args .walks))) (flatBindings (now (c .before .before .before .before .before .before .args .query))) (now (c .before .before .before .before .before .before .args .walks)) (c .before .before .before .before .before .before .pre .4) (room-enough (length (now (c .before .before .before .before .before .before .args .walks))) (length (flatBindings (now (c .before .before .before .before .before .before .args .query)))) (c .before .before .before .before .before .before .pre .2) (c .before .before .before .before .before .before .pre .3 .0)))
+loop-holds c =
+    let c₆ = c .before .before .before .before .before .before in let args = c₆ .args in let pre = c₆ .pre in
+    let query = now (args .query) in let walks = now (args .walks) in
+    (refl, filling-start (now (args .catalogue)) (now (args .values)) (part (now (args .list)) (now (args .places))) (now (args .masks)) (mostIn walks) (flatBindings query) walks (pre .4) (room-enough (length walks) (length (flatBindings query)) (pre .2) (pre .3 .0)))
 
 binding-requires : tie.Need-binding-requires Inv-loop μ-loop
 binding-requires c κs = search needs
 
 fill-one-requires : tie.Need-fill-one-requires Inv-loop μ-loop
-fill-one-requires c κs = λ v r e. let a = asked (now (c .before .before .before .before .before .before .before .before .before .before .args .catalogue)) (now (c .before .before .before .before .before .before .before .before .before .before .args .values)) (part (now (c .before .before .before .before .before .before .before .before .before .before .args .list)) (now (c .before .before .before .before .before .before .before .before .before .before .args .places))) (now (c .before .before .before .before .before .before .before .before .before .before .args .masks)) (mostIn (now (c .before .before .before .before .before .before .before .before .before .before .args .walks))) (flatBindings (now (c .before .before .before .before .before .before .before .before .before .before .args .query))) _ _ (c .before .binding .result) v r (c .before .before .before .loop .next) (c .before .before .before .loop .walks) (c .before .before .before .before .before .before .before .before .before .before .pre .1) e (bindings-on (now (c .before .before .before .before .before .before .before .before .before .before .args .query)) (c .before .before .before .loop .at) _ (c .before .before .loop-test .taken) refl (c .before .binding .result) (c .before .binding .ensures)) (c .before .before .before .loop .inv .1) in ((a .0 .0, most-low _ (length (now (c .before .before .before .before .before .before .before .before .before .before .args .walks))) (a .0 .1) (c .before .before .before .before .before .before .before .before .before .before .pre .3 .1)), (omega (arith, a .1 .0, a .0 .1), omega (arith, c .before .before .before .loop .inv .0, c .before .before .before .before .before .before .before .before .before .before .pre .3 .1)), a .1 .1)
+fill-one-requires c κs =
+    let c₁ = c .before in let binding = c₁ .binding in
+    let c₃ = c₁ .before .before in let loop = c₃ .loop in
+    let c₁₀ = c₃ .before .before .before .before .before .before .before in let args = c₁₀ .args in let pre = c₁₀ .pre in
+    let query = now (args .query) in let walks = now (args .walks) in
+    λ v r e. let a = asked (now (args .catalogue)) (now (args .values)) (part (now (args .list)) (now (args .places))) (now (args .masks)) (mostIn walks) (flatBindings query) _ _ (binding .result) v r (loop .next) (loop .walks) (pre .1) e (bindings-on query (loop .at) _ (c .before .before .loop-test .taken) refl (binding .result) (binding .ensures)) (loop .inv .1) in ((a .0 .0, most-low _ (length walks) (a .0 .1) (pre .3 .1)), (omega (arith, a .1 .0, a .0 .1), omega (arith, loop .inv .0, pre .3 .1)), a .1 .1)
 
 step-requires : tie.Need-step-requires Inv-loop μ-loop
 step-requires c κs = search needs
@@ -45,13 +53,24 @@ loop-less : tie.Need-loop-less Inv-loop μ-loop
 loop-less c = search needs
 
 loop-again : tie.Need-loop-again Inv-loop μ-loop
-loop-again c = (c .before .before .before .fill-one .kept .1 .1 .1 .1 .1 .1 .1 .0 ∙ c .before .before .before .before .before .before .before .loop .inv .0, filling-step (now (c .before .before .before .before .before .before .before .before .before .before .before .before .before .before .args .catalogue)) (now (c .before .before .before .before .before .before .before .before .before .before .before .before .before .before .args .values)) (part (now (c .before .before .before .before .before .before .before .before .before .before .before .before .before .before .args .list)) (now (c .before .before .before .before .before .before .before .before .before .before .before .before .before .before .args .places))) (now (c .before .before .before .before .before .before .before .before .before .before .before .before .before .before .args .masks)) (mostIn (now (c .before .before .before .before .before .before .before .before .before .before .before .before .before .before .args .walks))) (flatBindings (now (c .before .before .before .before .before .before .before .before .before .before .before .before .before .before .args .query))) _ _ (c .before .before .before .before .before .binding .result) (c .before .before .before .before .before .before .before .loop .next) (c .before .before .before .fill-one .result) (c .before .before .before .before .before .before .before .loop .walks) _ (c .before .before .before .before .before .before .before .before .before .before .before .before .before .before .pre .0) (c .before .before .before .before .before .before .before .before .before .before .before .before .before .before .pre .1) (bindings-on (now (c .before .before .before .before .before .before .before .before .before .before .before .before .before .before .args .query)) (c .before .before .before .before .before .before .before .loop .at) _ (c .before .before .before .before .before .before .loop-test .taken) (c .step .ensures .0) (c .before .before .before .before .before .binding .result) (c .before .before .before .before .before .binding .ensures)) (c .before .before .before .fill-one .ensures .0) (c .before .before .before .fill-one .ensures .1) (c .before .before .before .before .before .before .before .loop .inv .1))
+loop-again c =
+    let c₃ = c .before .before .before in let fill-one = c₃ .fill-one in
+    let c₅ = c₃ .before .before in let binding = c₅ .binding in
+    let c₆ = c₅ .before in let loop-test = c₆ .loop-test in
+    let c₇ = c₆ .before in let loop = c₇ .loop in
+    let c₁₄ = c₇ .before .before .before .before .before .before .before in let args = c₁₄ .args in let pre = c₁₄ .pre in
+    let query = now (args .query) in
+    (fill-one .kept .1 .1 .1 .1 .1 .1 .1 .0 ∙ loop .inv .0, filling-step (now (args .catalogue)) (now (args .values)) (part (now (args .list)) (now (args .places))) (now (args .masks)) (mostIn (now (args .walks))) (flatBindings query) _ _ (binding .result) (loop .next) (fill-one .result) (loop .walks) _ (pre .0) (pre .1) (bindings-on query (loop .at) _ (loop-test .taken) (c .step .ensures .0) (binding .result) (binding .ensures)) (fill-one .ensures .0) (fill-one .ensures .1) (loop .inv .1))
 
 same-length : tie.Need-same-length Inv-loop μ-loop
 same-length c = search needs
 
 returns : tie.Need-returns Inv-loop μ-loop
-returns c = filling-end (now (c .before .before .before .before .before .before .before .before .args .catalogue)) (now (c .before .before .before .before .before .before .before .before .args .values)) (part (now (c .before .before .before .before .before .before .before .before .args .list)) (now (c .before .before .before .before .before .before .before .before .args .places))) (now (c .before .before .before .before .before .before .before .before .args .masks)) (mostIn (now (c .before .before .before .before .before .before .before .before .args .walks))) (flatBindings (now (c .before .before .before .before .before .before .before .before .args .query))) (c .before .loop .next) (c .before .loop .walks) (subst (λ (l : List Binding). Filling (now (c .before .before .before .before .before .before .before .before .args .catalogue)) (now (c .before .before .before .before .before .before .before .before .args .values)) (part (now (c .before .before .before .before .before .before .before .before .args .list)) (now (c .before .before .before .before .before .before .before .before .args .places))) (now (c .before .before .before .before .before .before .before .before .args .masks)) (mostIn (now (c .before .before .before .before .before .before .before .before .args .walks))) (flatBindings (now (c .before .before .before .before .before .before .before .before .args .query))) l (c .before .loop .next) (c .before .loop .walks)) (flat-end bindingOf (now (c .before .before .before .before .before .before .before .before .args .query)) (c .before .loop .at) (c .loop-test .left)) (c .before .loop .inv .1))
+returns c =
+    let c₁ = c .before in let loop = c₁ .loop in
+    let c₈ = c₁ .before .before .before .before .before .before .before in let args = c₈ .args in
+    let catalogue = now (args .catalogue) in let list = now (args .list) in let masks = now (args .masks) in let places = now (args .places) in let query = now (args .query) in let values = now (args .values) in let walks = now (args .walks) in
+    filling-end catalogue values (part list places) masks (mostIn walks) (flatBindings query) (loop .next) (loop .walks) (subst (λ (l : List Binding). Filling catalogue values (part list places) masks (mostIn walks) (flatBindings query) l (loop .next) (loop .walks)) (flat-end bindingOf query (loop .at) (c .loop-test .left)) (loop .inv .1))
 
 pub fill-spec : {M : Type 1} → statement M
 fill-spec =

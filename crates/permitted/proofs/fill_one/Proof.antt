@@ -16,10 +16,19 @@ returns : tie.Need-returns
 returns c = ((λ h. (refl, refl)), λ v r e. binds-nothing (c .before .before .before .before .before .before .before .args .b) v r (c .enum-told .given .1) e)
 
 give-requires : tie.Need-give-requires
-give-requires c κs = c .before .before .before .before .before .before .before .before .before .before .before .pre _ _ (c .before .before .before .before .b .given .1)
+give-requires c κs =
+    let c₄ = c .before .before .before .before in let b = c₄ .b in
+    let c₁₁ = c₄ .before .before .before .before .before .before .before in let pre = c₁₁ .pre in
+    pre _ _ (b .given .1)
 
 returns-2 : tie.Need-returns-2
-returns-2 c = ((λ h. binds-nothing (c .before .before .before .before .before .before .before .before .before .before .before .before .before .before .args .b) _ _ h (c .before .before .before .before .before .before .before .b .given .1)), bound-stepped (now (c .before .before .before .before .before .before .before .before .before .before .before .before .before .before .args .catalogue)) (now (c .before .before .before .before .before .before .before .before .before .before .before .before .before .before .args .values)) (part (now (c .before .before .before .before .before .before .before .before .before .before .before .before .before .before .args .list)) (now (c .before .before .before .before .before .before .before .before .before .before .before .before .before .before .args .places))) (now (c .before .before .before .before .before .before .before .before .before .before .before .before .before .before .args .masks)) (c .before .before .before .before .before .before .before .before .before .before .before .before .before .before .args .b) _ _ _ _ (c .before .before .before .before .before .before .before .before .before .before .before .before .before .before .args .next) (c .before .before .give .result) (now (c .before .before .before .before .before .before .before .before .before .before .before .before .before .before .args .walks)) _ (c .before .before .before .before .before .before .before .b .given .1) (c .before .before .before .before .before .wide .ensures) (c .before .before .before .before .byte .ensures) (c .before .before .give .ensures))
+returns-2 c =
+    let c₂ = c .before .before in let give = c₂ .give in
+    let c₄ = c₂ .before .before in let byte = c₄ .byte in
+    let c₅ = c₄ .before in let wide = c₅ .wide in
+    let c₇ = c₅ .before .before in let b = c₇ .b in
+    let c₁₄ = c₇ .before .before .before .before .before .before .before in let args = c₁₄ .args in
+    ((λ h. binds-nothing (args .b) _ _ h (b .given .1)), bound-stepped (now (args .catalogue)) (now (args .values)) (part (now (args .list)) (now (args .places))) (now (args .masks)) (args .b) _ _ _ _ (args .next) (give .result) (now (args .walks)) _ (b .given .1) (wide .ensures) (byte .ensures) (give .ensures))
 
 pub fill-one-spec : {M : Type 1} → statement M
 fill-one-spec =

@@ -12,7 +12,11 @@ use Rattle.permitted.proofs.enter.Reads as enter-reads
 use Rattle.permitted.proofs.give_listed.Reads as give-listed-reads
 
 returns : tie.Need-returns
-returns c = given-whole (now (c .before .before .before .before .before .before .before .before .before .before .args .catalogue)) (now (c .before .before .before .before .before .before .before .before .before .before .args .values)) (part (now (c .before .before .before .before .before .before .before .before .before .before .args .list)) (now (c .before .before .before .before .before .before .before .before .before .before .args .places))) (c .before .before .before .before .before .before .before .before .before .before .args .relation) (c .before .before .before .before .before .before .before .before .before .before .args .mask) (c .before .before .before .before .before .before .before .before .before .before .args .variable) (c .before .before .before .before .before .before .before .before .before .before .args .next) (now (c .before .before .before .before .before .before .before .before .before .before .args .walks)) _ (c .before .before .before .whole .result) (c .before .before .before .before .before .before .before .before .before .before .pre .0 .0) (c .before .before .before .before .before .if1 .taken) (c .before .before .before .before .before .before .before .before .before .before .pre .2) (omega (arith, c .before .before .before .before .before .before .before .before .before .before .pre .1 .0, c .before .before .before .before .before .before .before .before .before .before .pre .2 .least)) (c .before .before .before .whole .ensures .0) (c .before .before .enter .ensures)
+returns c =
+    let c₃ = c .before .before .before in let whole = c₃ .whole in
+    let c₅ = c₃ .before .before in let if1 = c₅ .if1 in
+    let c₁₀ = c₅ .before .before .before .before .before in let args = c₁₀ .args in let pre = c₁₀ .pre in
+    given-whole (now (args .catalogue)) (now (args .values)) (part (now (args .list)) (now (args .places))) (args .relation) (args .mask) (args .variable) (args .next) (now (args .walks)) _ (whole .result) (pre .0 .0) (if1 .taken) (pre .2) (omega (arith, pre .1 .0, pre .2 .least)) (whole .ensures .0) (c .before .before .enter .ensures)
 
 pub give-spec : {M : Type 1} → statement M
 give-spec =

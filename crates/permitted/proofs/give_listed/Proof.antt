@@ -17,7 +17,15 @@ use Rattle.permitted.proofs.with_key.Reads as with-key-reads
 use Rattle.walks.proofs.walk_of.Reads as walk-of-reads
 
 returns : tie.Need-returns
-returns c = given-shared (now (c .before .before .before .before .before .before .before .before .before .before .before .before .before .before .before .args .catalogue)) (now (c .before .before .before .before .before .before .before .before .before .before .before .before .before .before .before .args .values)) (part (now (c .before .before .before .before .before .before .before .before .before .before .before .before .before .before .before .args .list)) (now (c .before .before .before .before .before .before .before .before .before .before .before .before .before .before .before .args .places))) (c .before .before .before .before .before .before .before .before .before .before .before .before .before .before .before .args .relation) (c .before .before .before .before .before .before .before .before .before .before .before .before .before .before .before .args .mask) (c .before .before .before .before .before .before .before .before .with-key .result) (c .before .before .before .before .before .before .before .before .before .before .before .before .before .before .before .args .variable) (c .before .before .before .before .before .before .before .before .before .before .before .before .before .before .before .args .next) (c .before .before .before .before .before .before .before .before .before .before .key-of .result) (now (c .before .before .before .before .before .before .before .before .before .before .before .before .before .before .before .args .walks)) _ (c .before .before .before .before .walk-of .result) (c .before .before .before .before .before .before .before .if1 .taken) (c .before .before .before .before .before .before .before .before .before .before .before .before .before .before .before .pre .0 .1) (c .before .before .before .before .before .before .before .before .before .before .before .before .before .before .before .pre .0 .0) (omega (arith, c .before .before .before .before .before .before .before .before .before .before .before .before .before .before .before .good)) (c .before .before .before .before .before .before .before .before .before .before .key-of .ensures .0) (c .before .before .before .before .before .before .before .before .before .before .before .before .before .before .before .pre .2) (omega (arith, c .before .before .before .before .before .before .before .before .before .before .before .before .before .before .before .pre .1 .0, c .before .before .before .before .before .before .before .before .before .before .before .before .before .before .before .pre .2 .least)) (c .before .before .before .before .before .before .before .before .with-key .ensures .1 (c .before .before .before .before .before .before .before .if1 .taken)) (c .before .before .before .before .walk-of .ensures .0 ∙ ap (walkOf (now (c .before .before .before .before .before .before .before .before .before .before .before .before .before .before .before .args .walks))) (c .before .before .before .before .before .byte-of .ensures)) (c .before .before .enter .ensures)
+returns c =
+    let c₄ = c .before .before .before .before in let walk-of = c₄ .walk-of in
+    let c₅ = c₄ .before in let byte-of = c₅ .byte-of in
+    let c₇ = c₅ .before .before in let if1 = c₇ .if1 in
+    let c₈ = c₇ .before in let with-key = c₈ .with-key in
+    let c₁₀ = c₈ .before .before in let key-of = c₁₀ .key-of in
+    let c₁₅ = c₁₀ .before .before .before .before .before in let args = c₁₅ .args in let good = c₁₅ .good in let pre = c₁₅ .pre in
+    let walks = now (args .walks) in
+    given-shared (now (args .catalogue)) (now (args .values)) (part (now (args .list)) (now (args .places))) (args .relation) (args .mask) (with-key .result) (args .variable) (args .next) (key-of .result) walks _ (walk-of .result) (if1 .taken) (pre .0 .1) (pre .0 .0) (omega (arith, good)) (key-of .ensures .0) (pre .2) (omega (arith, pre .1 .0, pre .2 .least)) (with-key .ensures .1 (if1 .taken)) (walk-of .ensures .0 ∙ ap (walkOf walks) (byte-of .ensures)) (c .before .before .enter .ensures)
 
 pub give-listed-spec : {M : Type 1} → statement M
 give-listed-spec =

@@ -13,7 +13,12 @@ use Rattle.permitted.proofs.key_of.Reads as key-of-reads
 use Rattle.permitted.proofs.list_rows.Reads as list-rows-reads
 
 returns : tie.Need-returns
-returns c = given-listed (now (c .before .before .before .before .before .before .before .before .before .before .before .before .before .before .args .catalogue)) (now (c .before .before .before .before .before .before .before .before .before .before .before .before .before .before .args .values)) (part (now (c .before .before .before .before .before .before .before .before .before .before .before .before .before .before .args .list)) (now (c .before .before .before .before .before .before .before .before .before .before .before .before .before .before .args .places))) (c .before .before .before .before .before .before .before .before .before .before .before .before .before .before .args .relation) (c .before .before .before .before .before .before .before .before .before .before .before .before .before .before .args .mask) (c .before .before .before .before .before .before .before .before .before .before .before .before .before .before .args .variable) (c .before .before .before .before .before .before .before .before .before .before .before .before .before .before .args .next) (c .before .before .before .before .before .before .before .before .list-rows .result) (c .before .before .before .key-of .result) (now (c .before .before .before .before .before .before .before .before .before .before .before .before .before .before .args .walks)) _ _ (c .before .before .before .before .before .whole .result) (c .before .before .before .before .before .before .before .before .before .before .before .before .before .before .pre .0 .1) (c .before .before .before .before .before .before .before .before .before .before .before .before .before .before .pre .0 .0) (omega (arith, c .before .before .before .before .before .before .before .before .before .before .before .before .before .before .good)) (c .before .before .before .key-of .ensures .0) (c .before .before .before .before .before .before .before .before .before .before .before .before .before .before .pre .2) (omega (arith, c .before .before .before .before .before .before .before .before .before .before .before .before .before .before .pre .1 .0, c .before .before .before .before .before .before .before .before .before .before .before .before .before .before .pre .2 .least)) (c .before .before .before .before .before .before .before .before .list-rows .ensures .0) (c .before .before .before .before .before .before .before .before .list-rows .ensures .1 .0) (c .before .before .before .before .before .before .before .before .list-rows .ensures .1 .1) (c .before .before .before .before .before .whole .ensures .0) (c .before .before .enter .ensures)
+returns c =
+    let c₃ = c .before .before .before in let key-of = c₃ .key-of in
+    let c₅ = c₃ .before .before in let whole = c₅ .whole in
+    let c₈ = c₅ .before .before .before in let list-rows = c₈ .list-rows in
+    let c₁₄ = c₈ .before .before .before .before .before .before in let args = c₁₄ .args in let good = c₁₄ .good in let pre = c₁₄ .pre in
+    given-listed (now (args .catalogue)) (now (args .values)) (part (now (args .list)) (now (args .places))) (args .relation) (args .mask) (args .variable) (args .next) (list-rows .result) (key-of .result) (now (args .walks)) _ _ (whole .result) (pre .0 .1) (pre .0 .0) (omega (arith, good)) (key-of .ensures .0) (pre .2) (omega (arith, pre .1 .0, pre .2 .least)) (list-rows .ensures .0) (list-rows .ensures .1 .0) (list-rows .ensures .1 .1) (whole .ensures .0) (c .before .before .enter .ensures)
 
 pub give-new-spec : {M : Type 1} → statement M
 give-new-spec =

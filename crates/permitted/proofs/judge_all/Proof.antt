@@ -25,7 +25,10 @@ loop-holds : tie.Need-loop-holds Inv-loop μ-loop
 loop-holds c = (omega arith, refl, c .before .before .before .before .pre .2, λ y h. h)
 
 turn-requires : tie.Need-turn-requires Inv-loop μ-loop
-turn-requires c κs = (c .before .loop-test .taken, c .before .before .before .before .before .before .before .pre .0, omega (arith, c .before .before .before .before .before .before .before .pre .1, c .before .before .loop .inv .1), c .before .before .loop .inv .2)
+turn-requires c κs =
+    let c₂ = c .before .before in let loop = c₂ .loop in
+    let c₇ = c₂ .before .before .before .before .before in let pre = c₇ .pre in
+    (c .before .loop-test .taken, pre .0, omega (arith, pre .1, loop .inv .1), loop .inv .2)
 
 add-k : tie.Need-add-k Inv-loop μ-loop
 add-k c = search needs
@@ -34,13 +37,21 @@ loop-less : tie.Need-loop-less Inv-loop μ-loop
 loop-less c = search needs
 
 loop-again : tie.Need-loop-again Inv-loop μ-loop
-loop-again c = (omega (arith, c .before .before .before .before .loop-test .taken), c .before .before .turn .ensures .size ∙ c .before .before .before .before .before .loop .inv .1, bits-on (c .before .before .before .before .before .loop .inv .2) (c .before .before .turn .ensures), decides-on (now (c .before .before .before .before .before .before .before .before .before .before .args .catalogue)) (now (c .before .before .before .before .before .before .before .before .before .before .args .values)) (part (now (c .before .before .before .before .before .before .before .before .before .before .args .list)) (now (c .before .before .before .before .before .before .before .before .before .before .args .places))) (c .before .before .before .before .before .before .before .before .before .before .args .relation) (c .before .before .before .before .before .before .before .before .before .before .args .mask) _ (c .before .before .before .before .before .loop .m) (c .before .before .before .before .before .loop .k) (now (c .before .before .before .before .before .before .before .before .before .before .args .marks)) (c .before .before .before .before .before .loop .marks) _ (c .before .before .before .before .loop-test .taken) (c .before .before .before .before .before .loop .inv .3) (c .before .before .turn .ensures))
+loop-again c =
+    let c₂ = c .before .before in let turn = c₂ .turn in
+    let c₄ = c₂ .before .before in let loop-test = c₄ .loop-test in
+    let c₅ = c₄ .before in let loop = c₅ .loop in
+    let c₁₀ = c₅ .before .before .before .before .before in let args = c₁₀ .args in
+    (omega (arith, loop-test .taken), turn .ensures .size ∙ loop .inv .1, bits-on (loop .inv .2) (turn .ensures), decides-on (now (args .catalogue)) (now (args .values)) (part (now (args .list)) (now (args .places))) (args .relation) (args .mask) _ (loop .m) (loop .k) (now (args .marks)) (loop .marks) _ (loop-test .taken) (loop .inv .3) (turn .ensures))
 
 same-length : tie.Need-same-length Inv-loop μ-loop
 same-length c = search needs
 
 returns : tie.Need-returns Inv-loop μ-loop
-returns c = decides-end (now (c .before .before .before .before .before .before .args .catalogue)) (now (c .before .before .before .before .before .before .args .values)) (part (now (c .before .before .before .before .before .before .args .list)) (now (c .before .before .before .before .before .before .args .places))) (c .before .before .before .before .before .before .args .relation) (c .before .before .before .before .before .before .args .mask) _ (c .before .loop .m) (c .before .loop .k) (now (c .before .before .before .before .before .before .args .marks)) (c .before .loop .marks) (c .loop-test .left) (omega (arith, c .before .before .before .before .before .before .pre .1, c .before .loop .inv .1)) (c .before .loop .inv .3)
+returns c =
+    let c₁ = c .before in let loop = c₁ .loop in
+    let c₆ = c₁ .before .before .before .before .before in let args = c₆ .args in let pre = c₆ .pre in
+    decides-end (now (args .catalogue)) (now (args .values)) (part (now (args .list)) (now (args .places))) (args .relation) (args .mask) _ (loop .m) (loop .k) (now (args .marks)) (loop .marks) (c .loop-test .left) (omega (arith, pre .1, loop .inv .1)) (loop .inv .3)
 
 pub judge-all-spec : {M : Type 1} → statement M
 judge-all-spec =

@@ -14,13 +14,25 @@ use Rattle.permitted.proofs.collect.Reads as collect-reads
 use Rattle.permitted.proofs.judge_all.Reads as judge-all-reads
 
 judge-all-requires : tie.Need-judge-all-requires
-judge-all-requires c κs = (c .before .before .before .before .before .before .pre .0, c .before .before .before .before .before .before .pre .1, blank-bits (now (c .before .before .before .before .before .before .args .marks)) (c .before .before .before .before .before .before .pre .2))
+judge-all-requires c κs =
+    let c₆ = c .before .before .before .before .before .before in let args = c₆ .args in let pre = c₆ .pre in
+    (pre .0, pre .1, blank-bits (now (args .marks)) (pre .2))
 
 collect-requires : tie.Need-collect-requires
-collect-requires c κs = (omega (arith, c .before .before .before .rows .ensures .0, c .before .before .before .before .before .before .judge-all .ensures .size, c .before .before .before .before .before .before .before .before .before .before .before .before .before .pre .1), c .before .before .before .rows .ensures .1, omega (arith, c .before .before .before .rows .ensures .0, c .before .before .before .before .before .before .before .before .before .before .before .before .before .pre .3), c .before .before .before .before .before .before .before .before .before .before .before .before .before .pre .4, bits-on (blank-bits (now (c .before .before .before .before .before .before .before .before .before .before .before .before .before .args .marks)) (c .before .before .before .before .before .before .before .before .before .before .before .before .before .pre .2)) (c .before .before .before .before .before .before .judge-all .ensures))
+collect-requires c κs =
+    let c₃ = c .before .before .before in let rows = c₃ .rows in
+    let c₆ = c₃ .before .before .before in let judge-all = c₆ .judge-all in
+    let c₁₃ = c₆ .before .before .before .before .before .before .before in let args = c₁₃ .args in let pre = c₁₃ .pre in
+    (omega (arith, rows .ensures .0, judge-all .ensures .size, pre .1), rows .ensures .1, omega (arith, rows .ensures .0, pre .3), pre .4, bits-on (blank-bits (now (args .marks)) (pre .2)) (judge-all .ensures))
 
 returns : tie.Need-returns
-returns c = (rows-listed (now (c .before .before .before .before .before .before .before .before .before .before .before .before .before .before .before .before .args .catalogue)) (now (c .before .before .before .before .before .before .before .before .before .before .before .before .before .before .before .before .args .values)) (part (now (c .before .before .before .before .before .before .before .before .before .before .before .before .before .before .before .before .args .list)) (now (c .before .before .before .before .before .before .before .before .before .before .before .before .before .before .before .before .args .places))) (c .before .before .before .before .before .before .before .before .before .before .before .before .before .before .before .before .args .relation) (c .before .before .before .before .before .before .before .before .before .before .before .before .before .before .before .before .args .mask) _ (c .before .before .before .before .before .before .before .before .before .before .before .before .before .before .before .before .args .start) _ _ (now (c .before .before .before .before .before .before .before .before .before .before .before .before .before .before .before .before .args .marks)) _ (now (c .before .before .before .before .before .before .before .before .before .before .before .before .before .before .before .before .args .walks)) _ (c .before .before .before .before .before .before .before .before .before .before .before .before .before .before .before .before .pre .2) (c .before .before .before .before .before .before .before .before .before .judge-all .ensures) (c .before .before .before .before .before .before .rows .ensures .0) (c .before .before .before .before .before .latest .ensures) (c .before .before .collect .ensures .0), (c .before .before .collect .ensures .1 .0, omega (arith, c .before .before .collect .ensures .1 .1, c .before .before .before .before .before .before .rows .ensures .0)))
+returns c =
+    let c₂ = c .before .before in let collect = c₂ .collect in
+    let c₅ = c₂ .before .before .before in let latest = c₅ .latest in
+    let c₆ = c₅ .before in let rows = c₆ .rows in
+    let c₉ = c₆ .before .before .before in let judge-all = c₉ .judge-all in
+    let c₁₆ = c₉ .before .before .before .before .before .before .before in let args = c₁₆ .args in let pre = c₁₆ .pre in
+    (rows-listed (now (args .catalogue)) (now (args .values)) (part (now (args .list)) (now (args .places))) (args .relation) (args .mask) _ (args .start) _ _ (now (args .marks)) _ (now (args .walks)) _ (pre .2) (judge-all .ensures) (rows .ensures .0) (latest .ensures) (collect .ensures .0), (collect .ensures .1 .0, omega (arith, collect .ensures .1 .1, rows .ensures .0)))
 
 pub list-by-spec : {M : Type 1} → statement M
 list-by-spec =

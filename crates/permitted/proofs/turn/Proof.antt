@@ -11,13 +11,21 @@ use Rattle.judges.proofs.judge.Reads as judge-reads
 use Rattle.permitted.proofs.part_at.Reads as part-at-reads
 
 returns : tie.Need-returns
-returns c = turn-no (now (c .before .before .before .before .before .args .catalogue)) (now (c .before .before .before .before .before .args .values)) (part (now (c .before .before .before .before .before .args .list)) (now (c .before .before .before .before .before .args .places))) (c .before .before .before .before .before .args .relation) (c .before .before .before .before .before .args .mask) (c .before .before .before .before .before .args .k) _ (now (c .before .before .before .before .before .args .marks)) (c .if1 .taken) (c .before .before .before .before .before .pre .2)
+returns c =
+    let c₅ = c .before .before .before .before .before in let args = c₅ .args in let pre = c₅ .pre in
+    turn-no (now (args .catalogue)) (now (args .values)) (part (now (args .list)) (now (args .places))) (args .relation) (args .mask) (args .k) _ (now (args .marks)) (c .if1 .taken) (pre .2)
 
 judge-requires : tie.Need-judge-requires
-judge-requires c κs = (c .before .before .before .before .before .before .before .pre .1, c .before .before .before .before .before .before .before .pre .2, c .before .before .before .before .before .before .before .pre .3)
+judge-requires c κs =
+    let c₇ = c .before .before .before .before .before .before .before in let pre = c₇ .pre in
+    (pre .1, pre .2, pre .3)
 
 returns-2 : tie.Need-returns-2
-returns-2 c = turn-yes (now (c .before .before .before .before .before .before .before .before .before .before .args .catalogue)) (now (c .before .before .before .before .before .before .before .before .before .before .args .values)) (part (now (c .before .before .before .before .before .before .before .before .before .before .args .list)) (now (c .before .before .before .before .before .before .before .before .before .before .args .places))) (c .before .before .before .before .before .before .before .before .before .before .args .relation) (c .before .before .before .before .before .before .before .before .before .before .args .mask) (c .before .before .before .before .before .before .before .before .before .before .args .k) _ _ (now (c .before .before .before .before .before .before .before .before .before .before .args .marks)) _ (c .before .before .before .before .before .if1 .left) (c .before .before .before .before .part-at .ensures) (c .before .before .judge .ensures)
+returns-2 c =
+    let c₄ = c .before .before .before .before in let part-at = c₄ .part-at in
+    let c₅ = c₄ .before in let if1 = c₅ .if1 in
+    let c₁₀ = c₅ .before .before .before .before .before in let args = c₁₀ .args in
+    turn-yes (now (args .catalogue)) (now (args .values)) (part (now (args .list)) (now (args .places))) (args .relation) (args .mask) (args .k) _ _ (now (args .marks)) _ (if1 .left) (part-at .ensures) (c .before .before .judge .ensures)
 
 pub turn-spec : {M : Type 1} → statement M
 turn-spec = tie.close (tie.spec returns (λ c κs. search needs) judge-requires (λ c. search needs) returns-2)

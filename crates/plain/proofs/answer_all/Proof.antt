@@ -30,6 +30,6 @@ answer-all-spec =
     (λ c. search needs)
     (λ c κs. search needs)
     (λ c. search needs)
-    (λ c κs. search needs)
+    (λ c κs. let c₈ = c .before .before .before .before .before .before .before .before in record { by = now (c₈ .args .catalogue); answerable = c₈ .pre })
     (λ c. search needs)
     returns)

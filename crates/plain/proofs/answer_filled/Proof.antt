@@ -15,7 +15,7 @@ answer-by-requires c κs =
     let c₆ = c .before .before .before .before .before .before in let remember = c₆ .remember in
     let c₁₄ = c₆ .before .before .before .before .before .before .before .before in let args = c₁₄ .args in let pre = c₁₄ .pre in
     let values = now (args .values) in
-    (pre .0, filled-trusted (args .layout) (args .level) (now (args .q)) (now (args .z)) (now (args .catalogue)) (now (args .walks)) values _ (now (args .env)) (pre .0) (remember .ensures .0), subst (Unbound values) (sym (remember .ensures .1)) (pre .1))
+    (pre .0, filled-trusted (args .task .layout) (args .task .level) (now (args .q)) (now (args .z)) (pre .0 .by) (now (args .walks)) values _ (now (args .env)) (pre .0 .answerable) (remember .ensures .0), subst (Unbound values) (sym (remember .ensures .1)) (pre .1))
 
 pub answer-filled-spec : {M : Type 1} → statement M
 answer-filled-spec =

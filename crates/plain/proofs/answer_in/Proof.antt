@@ -8,13 +8,23 @@ use Rattle.plain.proofs.answer_in.Statement.{statement}
 use Rattle.plain.proofs.answer_in.Tie as tie
 
 plan-requires : tie.Need-plan-requires
-plan-requires c κs = let h = c .before .before .before .before .before .before .before .before .before .pre .0 in (omega arith, omega arith, omega (arith, h .ranges), omega (arith, h .place), omega (arith, h .level), getD-same 512 0)
+plan-requires c κs = let h = c .before .before .before .before .before .before .before .before .before .pre .0 .answerable in (omega arith, omega arith, omega (arith, h .ranges), omega (arith, h .place), omega (arith, h .level), getD-same 512 0)
 
 run-requires : tie.Need-run-requires
-run-requires c κs = (c .before .before .before .before .before .before .before .before .before .before .before .before .before .before .before .before .before .before .before .before .before .before .before .before .pre .2 .places, bounded (c .before .before .before .before .before .before .before .before .before .before .before .before .before .before .before .before .before .before .before .before .before .before .before .before .args .layout) (c .before .before .before .before .before .before .before .before .before .before .before .before .before .before .before .before .before .before .before .before .before .before .before .before .args .level) (now (c .before .before .before .before .before .before .before .before .before .before .before .before .before .before .before .before .before .before .before .before .before .before .before .before .args .q)) (now (c .before .before .before .before .before .before .before .before .before .before .before .before .before .before .before .before .before .before .before .before .before .before .before .before .args .z)) (now (c .before .before .before .before .before .before .before .before .before .before .before .before .before .before .before .before .before .before .before .before .before .before .before .before .args .catalogue)) _ (c .before .before .before .before .before .before .before .before .before .before .before .before .before .before .before .before .before .before .before .before .before .before .before .before .pre .0) (c .before .before .before .before .plan-of .ensures), linked-none _ (now (c .before .before .before .before .before .before .before .before .before .before .before .before .before .before .before .before .before .before .before .before .before .before .before .before .args .answer)) (now (c .before .before .before .before .before .before .before .before .before .before .before .before .before .before .before .before .before .before .before .before .before .before .before .before .args .table)) (c .before .before .before .before .before .before .before .before .before .before .before .before .before .before .before .before .before .before .before .before .before .before .before .before .pre .3) (c .before .before .before .before .before .before .before .before .before .before .before .before .before .before .before .before .before .before .before .before .before .before .before .before .pre .4), c .before .before .before .before .before .before .before .before .before .link .ensures)
+run-requires c κs =
+    let c₄ = c .before .before .before .before in let plan-of = c₄ .plan-of in
+    let c₉ = c₄ .before .before .before .before .before in let link = c₉ .link in
+    let c₂₄ = c₉ .before .before .before .before .before .before .before .before .before .before .before .before .before .before .before in let args = c₂₄ .args in let pre = c₂₄ .pre in
+    (pre .2 .places, bounded (args .task .layout) (args .task .level) (now (args .q)) (now (args .z)) (pre .0 .by) _ (pre .0 .answerable) (plan-of .ensures), linked-none _ (now (args .answer)) (now (args .table)) (pre .3) (pre .4), link .ensures)
 
 returns : tie.Need-returns
-returns c = answered (c .before .before .before .before .before .before .before .before .before .before .before .before .before .before .before .before .before .before .before .before .before .before .before .before .before .before .before .before .before .before .before .args .layout) (c .before .before .before .before .before .before .before .before .before .before .before .before .before .before .before .before .before .before .before .before .before .before .before .before .before .before .before .before .before .before .before .args .level) (now (c .before .before .before .before .before .before .before .before .before .before .before .before .before .before .before .before .before .before .before .before .before .before .before .before .before .before .before .before .before .before .before .args .q)) (now (c .before .before .before .before .before .before .before .before .before .before .before .before .before .before .before .before .before .before .before .before .before .before .before .before .before .before .before .before .before .before .before .args .z)) (now (c .before .before .before .before .before .before .before .before .before .before .before .before .before .before .before .before .before .before .before .before .before .before .before .before .before .before .before .before .before .before .before .args .catalogue)) (now (c .before .before .before .before .before .before .before .before .before .before .before .before .before .before .before .before .before .before .before .before .before .before .before .before .before .before .before .before .before .before .before .args .walks)) (now (c .before .before .before .before .before .before .before .before .before .before .before .before .before .before .before .before .before .before .before .before .before .before .before .before .before .before .before .before .before .before .before .args .values)) (now (c .before .before .before .before .before .before .before .before .before .before .before .before .before .before .before .before .before .before .before .before .before .before .before .before .before .before .before .before .before .before .before .args .memo)) (now (c .before .before .before .before .before .before .before .before .before .before .before .before .before .before .before .before .before .before .before .before .before .before .before .before .before .before .before .before .before .before .before .args .env)) (c .before .before .before .before .before .before .before .before .before .before .before .before .before .before .before .before .before .before .before .before .before .before .before .before .before .before .before .before .before .before .before .pre .0) (c .before .before .before .before .before .before .before .before .before .before .before .before .before .before .before .before .before .before .before .before .before .before .before .before .before .before .before .before .before .before .before .pre .1) (c .before .before .before .before .before .before .before .before .before .before .before .before .before .before .before .before .before .before .before .before .before .before .before .before .before .before .before .before .before .before .before .pre .2) _ _ (c .before .before .before .before .before .before .before .before .before .before .before .before .before .before .before .before .before .before .before .before .before .plan .ensures (now (c .before .before .before .before .before .before .before .before .before .before .before .before .before .before .before .before .before .before .before .before .before .before .before .before .before .before .before .before .before .before .before .args .walks)) (now (c .before .before .before .before .before .before .before .before .before .before .before .before .before .before .before .before .before .before .before .before .before .before .before .before .before .before .before .before .before .before .before .args .values))) (c .before .before .before .before .before .before .before .before .before .before .before .plan-of .result) (c .before .before .before .before .before .before .run .result) _ _ _ (c .before .before .before .before .before .before .before .before .before .before .before .plan-of .ensures) (c .before .before .before .before .before .before .run .ensures) (c .filled .ensures)
+returns c =
+    let c₆ = c .before .before .before .before .before .before in let run = c₆ .run in
+    let c₁₁ = c₆ .before .before .before .before .before in let plan-of = c₁₁ .plan-of in
+    let c₂₁ = c₁₁ .before .before .before .before .before .before .before .before .before .before in let plan = c₂₁ .plan in
+    let c₃₁ = c₂₁ .before .before .before .before .before .before .before .before .before .before in let args = c₃₁ .args in let pre = c₃₁ .pre in
+    let values = now (args .values) in let walks = now (args .walks) in
+    answered (args .task .layout) (args .task .level) (now (args .q)) (now (args .z)) (pre .0 .by) walks values (now (args .memo)) (now (args .env)) (pre .0 .answerable) (pre .1) (pre .2) _ _ (plan .ensures walks values) (plan-of .result) (run .result) _ _ _ (plan-of .ensures) (run .ensures) (c .filled .ensures)
 
 pub answer-in-spec : {M : Type 1} → statement M
 answer-in-spec =

@@ -57,7 +57,12 @@ count-ranges-add-result : (t : ℕ) → count-ranges-lts.Need-add-result (count-
 count-ranges-add-result t c = search needs
 
 count-ranges-returns-3 : (t : ℕ) → count-ranges-lts.Need-returns-3 (count-ranges-claims t) (count-ranges-at t) count-ranges.Post
-count-ranges-returns-3 t c = (count-more (c .before .before .before .before .before .before .before .args .left) (now (c .before .before .before .before .before .before .before .args .q)) (c .before .before .before .before .before .if1 .left) (c .before .before .before .before .byte .result) (c .before .before .before .before .byte .ensures) (c .before .before .before .if2 .left) _ _ _ (c .before .before .record-length .ensures .0) (c .before .tail .ensures) (c .count-ranges .ensures .0), omega (arith, c .count-ranges .ensures .1, c .before .before .before .before .before .if1 .left))
+count-ranges-returns-3 t c =
+    let c₃ = c .before .before .before in let if2 = c₃ .if2 in
+    let c₄ = c₃ .before in let byte = c₄ .byte in
+    let c₅ = c₄ .before in let if1 = c₅ .if1 in
+    let c₇ = c₅ .before .before in let args = c₇ .args in
+    (count-more (args .left) (now (args .q)) (if1 .left) (byte .result) (byte .ensures) (if2 .left) _ _ _ (c .before .before .record-length .ensures .0) (c .before .tail .ensures) (c .count-ranges .ensures .0), omega (arith, c .count-ranges .ensures .1, if1 .left))
 
 pub +count-ranges-spec : {M : Type 1} → statement M
 +count-ranges-spec = close μ-count-ranges λ t. count-ranges-lts.spec (count-ranges-claims t)

@@ -36,10 +36,17 @@ targets-byte-requires : (t : ℕ) → targets-lts.Need-byte-requires (targets-cl
 targets-byte-requires t c κs = search needs
 
 targets-returns : (t : ℕ) → targets-lts.Need-returns (targets-claims t) (targets-at t) targets.Post
-targets-returns t c = (targets-end (shapeIn (now (c .before .before .before .before .before .before .args .catalogue))) (c .before .before .before .before .before .before .args .limit) (c .before .before .before .before .before .before .args .level) (scopeOf (now (c .before .before .before .before .before .before .args .reach))) (now (c .before .before .before .before .before .before .args .q)) (c .before .before .before .before .before .before .args .at) (c .before .before .before .before .before .before .args .left) (now (c .before .before .before .before .before .before .args .z)) (c .before .byte .result) (c .before .byte .ensures) (c .before .before .before .before .before .before .pre .1) (c .if1 .taken), (leads-end (c .before .before .before .before .before .before .args .level) (now (c .before .before .before .before .before .before .args .q)) (c .before .before .before .before .before .before .args .at) (c .before .before .before .before .before .before .args .left) (c .before .byte .result) (c .before .byte .ensures) (c .if1 .taken), refl))
+targets-returns t c =
+    let c₁ = c .before in let byte = c₁ .byte in
+    let c₆ = c₁ .before .before .before .before .before in let args = c₆ .args in let pre = c₆ .pre in
+    let q = now (args .q) in let left = args .left in let level = args .level in
+    (targets-end (shapeIn (now (args .catalogue))) (args .limit) level (scopeOf (now (args .reach))) q (args .at) left (now (args .z)) (byte .result) (byte .ensures) (pre .1) (c .if1 .taken), (leads-end level q (args .at) left (byte .result) (byte .ensures) (c .if1 .taken), refl))
 
 targets-returns-2 : (t : ℕ) → targets-lts.Need-returns-2 (targets-claims t) (targets-at t) targets.Post
-targets-returns-2 t c = (tt, (leads-full (c .before .before .before .before .before .before .before .args .level) (now (c .before .before .before .before .before .before .before .args .q)) (c .before .before .before .before .before .before .before .args .at) (c .before .before .before .before .before .before .before .args .left) (c .before .before .byte .result) (c .before .before .byte .ensures) (c .before .if1 .left) (c .if2 .taken), refl))
+targets-returns-2 t c =
+    let c₂ = c .before .before in let byte = c₂ .byte in
+    let c₇ = c₂ .before .before .before .before .before in let args = c₇ .args in
+    (tt, (leads-full (args .level) (now (args .q)) (args .at) (args .left) (byte .result) (byte .ensures) (c .before .if1 .left) (c .if2 .taken), refl))
 
 targets-term-requires : (t : ℕ) → targets-lts.Need-term-requires (targets-claims t) (targets-at t) targets.Post
 targets-term-requires t c κs = search needs
@@ -54,16 +61,29 @@ targets-same-length : (t : ℕ) → targets-lts.Need-same-length (targets-claims
 targets-same-length t c = search needs
 
 targets-returns-3 : (t : ℕ) → targets-lts.Need-returns-3 (targets-claims t) (targets-at t) targets.Post
-targets-returns-3 t c = (tt, (leads-unread (c .before .before .before .before .before .before .before .before .before .before .before .before .before .args .level) (now (c .before .before .before .before .before .before .before .before .before .before .before .before .before .args .q)) (c .before .before .before .before .before .before .before .before .before .before .before .before .before .args .at) (c .before .before .before .before .before .before .before .before .before .before .before .before .before .args .left) (c .before .before .before .before .before .before .before .before .byte .result) (c .before .before .before .before .before .before .before .before .byte .ensures) (c .before .before .before .before .before .before .before .if1 .left) (shapeIn (now (c .before .before .before .before .before .before .before .before .before .before .before .before .before .args .catalogue))) (c .before .before .before .before .before .before .before .before .before .before .before .before .before .args .limit) (scopeOf (now (c .before .before .before .before .before .before .before .before .before .before .before .before .before .args .reach))) (c .before .before .before .before .term .result) (c .before .before .before .before .term .ensures .0) (c .enum-told .given .1), ap (drop (length (now (c .before .before .before .before .before .before .before .before .before .before .before .before .before .args .q)))) (c .before .before .before .before .term .ensures .1) ∙ term-past (c .before .before .before .before .before .before .before .before .before .before .before .before .before .args .level) (now (c .before .before .before .before .before .before .before .before .before .before .before .before .before .args .q)) (c .before .before .before .before .before .before .before .before .before .before .before .before .before .args .at) (now (c .before .before .before .before .before .before .before .before .before .before .before .before .before .args .z))))
+targets-returns-3 t c =
+    let c₄ = c .before .before .before .before in let term = c₄ .term in
+    let c₇ = c₄ .before .before .before in let if1 = c₇ .if1 in
+    let c₈ = c₇ .before in let byte = c₈ .byte in
+    let c₁₃ = c₈ .before .before .before .before .before in let args = c₁₃ .args in
+    let q = now (args .q) in let level = args .level in
+    (tt, (leads-unread level q (args .at) (args .left) (byte .result) (byte .ensures) (if1 .left) (shapeIn (now (args .catalogue))) (args .limit) (scopeOf (now (args .reach))) (term .result) (term .ensures .0) (c .enum-told .given .1), ap (drop (length q)) (term .ensures .1) ∙ term-past level q (args .at) (now (args .z))))
 
 targets-add-targets : (t : ℕ) → targets-lts.Need-add-targets (targets-claims t) (targets-at t) targets.Post
-targets-add-targets t c = omega (arith, ap bytesOf (c .before .before .n .given .1), term-ends (now (c .before .before .before .before .before .before .before .before .before .before .before .before .before .before .before .args .q)) (c .before .before .before .before .before .before .before .before .before .before .before .before .before .before .before .args .at) (c .before .before .before .before .before .before .before .before .before .before .before .before .before .before .before .pre .1) _ _ _ _ (c .before .before .before .before .before .before .term .result) (c .before .before .before .before .before .before .term .ensures .0), c .before .before .before .before .before .before .before .before .before .before .before .before .before .before .before .good)
+targets-add-targets t c =
+    let c₆ = c .before .before .before .before .before .before in let term = c₆ .term in
+    let c₁₅ = c₆ .before .before .before .before .before .before .before .before .before in let args = c₁₅ .args in let good = c₁₅ .good in let pre = c₁₅ .pre in
+    omega (arith, ap bytesOf (c .before .before .n .given .1), term-ends (now (args .q)) (args .at) (pre .1) _ _ _ _ (term .result) (term .ensures .0), good)
 
 targets-sub-targets : (t : ℕ) → targets-lts.Need-sub-targets (targets-claims t) (targets-at t) targets.Post
 targets-sub-targets t c = search needs
 
 targets-targets-requires : (t : ℕ) → targets-lts.Need-targets-requires (targets-claims t) (targets-at t) targets.Post
-targets-targets-requires t c κs = (omega (arith, c .before .before .before .before .before .before .before .before .before .before .before .before .before .before .before .pre .0, c .before .before .before .before .before .before .before .before .if2 .left), omega (arith, ap bytesOf (c .before .before .n .given .1), term-ends (now (c .before .before .before .before .before .before .before .before .before .before .before .before .before .before .before .args .q)) (c .before .before .before .before .before .before .before .before .before .before .before .before .before .before .before .args .at) (c .before .before .before .before .before .before .before .before .before .before .before .before .before .before .before .pre .1) _ _ _ _ (c .before .before .before .before .before .before .term .result) (c .before .before .before .before .before .before .term .ensures .0)))
+targets-targets-requires t c κs =
+    let c₆ = c .before .before .before .before .before .before in let term = c₆ .term in
+    let c₈ = c₆ .before .before in let if2 = c₈ .if2 in
+    let c₁₅ = c₈ .before .before .before .before .before .before .before in let args = c₁₅ .args in let pre = c₁₅ .pre in
+    (omega (arith, pre .0, if2 .left), omega (arith, ap bytesOf (c .before .before .n .given .1), term-ends (now (args .q)) (args .at) (pre .1) _ _ _ _ (term .result) (term .ensures .0)))
 
 targets-enum-known-count : (t : ℕ) → targets-lts.Need-enum-known-count (targets-claims t) (targets-at t) targets.Post
 targets-enum-known-count t c = search needs
@@ -75,25 +95,59 @@ targets-same-length-2 : (t : ℕ) → targets-lts.Need-same-length-2 (targets-cl
 targets-same-length-2 t c = search needs
 
 targets-returns-4 : (t : ℕ) → targets-lts.Need-returns-4 (targets-claims t) (targets-at t) targets.Post
-targets-returns-4 t c = (tt, (leads-refused (c .before .before .before .before .before .before .before .before .before .before .before .before .before .before .before .before .before .before .before .before .args .level) (now (c .before .before .before .before .before .before .before .before .before .before .before .before .before .before .before .before .before .before .before .before .args .q)) (c .before .before .before .before .before .before .before .before .before .before .before .before .before .before .before .before .before .before .before .before .args .at) (c .before .before .before .before .before .before .before .before .before .before .before .before .before .before .before .before .before .before .before .before .args .left) (c .before .before .before .before .before .before .before .before .before .before .before .before .before .before .before .byte .result) (c .before .before .before .before .before .before .before .before .before .before .before .before .before .before .before .byte .ensures) (c .before .before .before .before .before .before .before .before .before .before .before .before .before .before .if1 .left) (shapeIn (now (c .before .before .before .before .before .before .before .before .before .before .before .before .before .before .before .before .before .before .before .before .args .catalogue))) (c .before .before .before .before .before .before .before .before .before .before .before .before .before .before .before .before .before .before .before .before .args .limit) (scopeOf (now (c .before .before .before .before .before .before .before .before .before .before .before .before .before .before .before .before .before .before .before .before .args .reach))) (c .before .before .before .before .before .before .before .before .before .before .before .term .result) (c .before .before .before .before .before .before .before .before .before .before .before .term .ensures .0) _ _ (c .before .before .before .before .before .before .before .n .given .1) (c .before .before .before .before .targets .result) (c .enum-told2 .given .1) (c .before .before .before .before .targets .ensures .1 .0), c .before .before .before .before .targets .ensures .1 .1 ∙ ap (drop (length (now (c .before .before .before .before .before .before .before .before .before .before .before .before .before .before .before .before .before .before .before .before .args .q)))) (c .before .before .before .before .before .before .before .before .before .before .before .term .ensures .1) ∙ term-past (c .before .before .before .before .before .before .before .before .before .before .before .before .before .before .before .before .before .before .before .before .args .level) (now (c .before .before .before .before .before .before .before .before .before .before .before .before .before .before .before .before .before .before .before .before .args .q)) (c .before .before .before .before .before .before .before .before .before .before .before .before .before .before .before .before .before .before .before .before .args .at) (now (c .before .before .before .before .before .before .before .before .before .before .before .before .before .before .before .before .before .before .before .before .args .z))))
+targets-returns-4 t c =
+    let c₄ = c .before .before .before .before in let targets = c₄ .targets in
+    let c₇ = c₄ .before .before .before in let n = c₇ .n in
+    let c₁₁ = c₇ .before .before .before .before in let term = c₁₁ .term in
+    let c₁₄ = c₁₁ .before .before .before in let if1 = c₁₄ .if1 in
+    let c₁₅ = c₁₄ .before in let byte = c₁₅ .byte in
+    let c₂₀ = c₁₅ .before .before .before .before .before in let args = c₂₀ .args in
+    let q = now (args .q) in let level = args .level in
+    (tt, (leads-refused level q (args .at) (args .left) (byte .result) (byte .ensures) (if1 .left) (shapeIn (now (args .catalogue))) (args .limit) (scopeOf (now (args .reach))) (term .result) (term .ensures .0) _ _ (n .given .1) (targets .result) (c .enum-told2 .given .1) (targets .ensures .1 .0), targets .ensures .1 .1 ∙ ap (drop (length q)) (term .ensures .1) ∙ term-past level q (args .at) (now (args .z))))
 
 targets-add-t24 : (t : ℕ) → targets-lts.Need-add-t24 (targets-claims t) (targets-at t) targets.Post
-targets-add-t24 t c = omega (arith, found-few _ _ _ _ _ _ _ _ _ (c .before .before .before .before .before .before .targets .result) _ _ _ (c .before .before .count .given .1) (c .before .before .before .before .before .before .targets .ensures .0), c .before .before .before .before .before .before .before .before .before .before .before .before .before .before .before .before .before .before .before .before .before .before .fits .left .fits)
+targets-add-t24 t c =
+    let c₆ = c .before .before .before .before .before .before in let targets = c₆ .targets in
+    let c₂₂ = c₆ .before .before .before .before .before .before .before .before .before .before .before .before .before .before .before .before in let fits = c₂₂ .fits in
+    omega (arith, found-few _ _ _ _ _ _ _ _ _ (targets .result) _ _ _ (c .before .before .count .given .1) (targets .ensures .0), fits .left .fits)
 
 targets-same-length-3 : (t : ℕ) → targets-lts.Need-same-length-3 (targets-claims t) (targets-at t) targets.Post
 targets-same-length-3 t c = search needs
 
 targets-returns-5 : (t : ℕ) → targets-lts.Need-returns-5 (targets-claims t) (targets-at t) targets.Post
-targets-returns-5 t c = (targets-out (shapeIn (now (c .before .before .before .before .before .before .before .before .before .before .before .before .before .before .before .before .before .before .before .before .before .before .args .catalogue))) (c .before .before .before .before .before .before .before .before .before .before .before .before .before .before .before .before .before .before .before .before .before .before .args .limit) (c .before .before .before .before .before .before .before .before .before .before .before .before .before .before .before .before .before .before .before .before .before .before .args .level) (scopeOf (now (c .before .before .before .before .before .before .before .before .before .before .before .before .before .before .before .before .before .before .before .before .before .before .args .reach))) (now (c .before .before .before .before .before .before .before .before .before .before .before .before .before .before .before .before .before .before .before .before .before .before .args .q)) (c .before .before .before .before .before .before .before .before .before .before .before .before .before .before .before .before .before .before .before .before .before .before .args .at) (c .before .before .before .before .before .before .before .before .before .before .before .before .before .before .before .before .before .before .before .before .before .before .args .left) (now (c .before .before .before .before .before .before .before .before .before .before .before .before .before .before .before .before .before .before .before .before .before .before .args .z)) (c .before .before .before .before .before .before .before .before .before .before .before .before .before .before .before .before .before .byte .result) (c .before .before .before .before .before .before .before .before .before .before .before .before .before .before .before .before .before .byte .ensures) (c .before .before .before .before .before .before .before .before .before .before .before .before .before .before .before .before .if1 .left) (c .before .before .before .before .before .before .before .before .before .before .before .before .before .before .before .if2 .left) _ _ _ _ _ (c .before .before .before .before .before .before .before .before .before .before .before .before .before .term .ensures .0) (c .before .before .before .before .before .before .before .before .before .n .given .1) (c .before .before .before .before .before .before .before .before .before .before .before .before .before .term .ensures .1) _ _ _ _ (c .before .before .count .given .1) (c .before .before .before .before .before .before .targets .ensures .0) (c .if3 .taken), (leads-more (c .before .before .before .before .before .before .before .before .before .before .before .before .before .before .before .before .before .before .before .before .before .before .args .level) (now (c .before .before .before .before .before .before .before .before .before .before .before .before .before .before .before .before .before .before .before .before .before .before .args .q)) (c .before .before .before .before .before .before .before .before .before .before .before .before .before .before .before .before .before .before .before .before .before .before .args .at) (c .before .before .before .before .before .before .before .before .before .before .before .before .before .before .before .before .before .before .before .before .before .before .args .left) (c .before .before .before .before .before .before .before .before .before .before .before .before .before .before .before .before .before .byte .result) (c .before .before .before .before .before .before .before .before .before .before .before .before .before .before .before .before .before .byte .ensures) (c .before .before .before .before .before .before .before .before .before .before .before .before .before .before .before .before .if1 .left) (shapeIn (now (c .before .before .before .before .before .before .before .before .before .before .before .before .before .before .before .before .before .before .before .before .before .before .args .catalogue))) (c .before .before .before .before .before .before .before .before .before .before .before .before .before .before .before .before .before .before .before .before .before .before .args .limit) (scopeOf (now (c .before .before .before .before .before .before .before .before .before .before .before .before .before .before .before .before .before .before .before .before .before .before .args .reach))) (c .before .before .before .before .before .before .before .before .before .before .before .before .before .term .result) (c .before .before .before .before .before .before .before .before .before .before .before .before .before .term .ensures .0) _ _ (c .before .before .before .before .before .before .before .before .before .n .given .1) (c .before .before .before .before .before .before .targets .result) _ _ _ (c .before .before .count .given .1) (c .before .before .before .before .before .before .targets .ensures .1 .0) 0 true, c .before .before .before .before .before .before .targets .ensures .1 .1 ∙ ap (drop (length (now (c .before .before .before .before .before .before .before .before .before .before .before .before .before .before .before .before .before .before .before .before .before .before .args .q)))) (c .before .before .before .before .before .before .before .before .before .before .before .before .before .term .ensures .1) ∙ term-past (c .before .before .before .before .before .before .before .before .before .before .before .before .before .before .before .before .before .before .before .before .before .before .args .level) (now (c .before .before .before .before .before .before .before .before .before .before .before .before .before .before .before .before .before .before .before .before .before .before .args .q)) (c .before .before .before .before .before .before .before .before .before .before .before .before .before .before .before .before .before .before .before .before .before .before .args .at) (now (c .before .before .before .before .before .before .before .before .before .before .before .before .before .before .before .before .before .before .before .before .before .before .args .z))))
+targets-returns-5 t c =
+    let c₂ = c .before .before in let count = c₂ .count in
+    let c₆ = c₂ .before .before .before .before in let targets = c₆ .targets in
+    let c₉ = c₆ .before .before .before in let n = c₉ .n in
+    let c₁₃ = c₉ .before .before .before .before in let term = c₁₃ .term in
+    let c₁₅ = c₁₃ .before .before in let if2 = c₁₅ .if2 in
+    let c₁₆ = c₁₅ .before in let if1 = c₁₆ .if1 in
+    let c₁₇ = c₁₆ .before in let byte = c₁₇ .byte in
+    let c₂₂ = c₁₇ .before .before .before .before .before in let args = c₂₂ .args in
+    let catalogue = now (args .catalogue) in let q = now (args .q) in let reach = now (args .reach) in let z = now (args .z) in let left = args .left in let level = args .level in let limit = args .limit in
+    (targets-out (shapeIn catalogue) limit level (scopeOf reach) q (args .at) left z (byte .result) (byte .ensures) (if1 .left) (if2 .left) _ _ _ _ _ (term .ensures .0) (n .given .1) (term .ensures .1) _ _ _ _ (count .given .1) (targets .ensures .0) (c .if3 .taken), (leads-more level q (args .at) left (byte .result) (byte .ensures) (if1 .left) (shapeIn catalogue) limit (scopeOf reach) (term .result) (term .ensures .0) _ _ (n .given .1) (targets .result) _ _ _ (count .given .1) (targets .ensures .1 .0) 0 true, targets .ensures .1 .1 ∙ ap (drop (length q)) (term .ensures .1) ∙ term-past level q (args .at) z))
 
 targets-add-t23 : (t : ℕ) → targets-lts.Need-add-t23 (targets-claims t) (targets-at t) targets.Post
-targets-add-t23 t c = omega (arith, found-few _ _ _ _ _ _ _ _ _ (c .before .before .before .before .before .before .targets .result) _ _ _ (c .before .before .count .given .1) (c .before .before .before .before .before .before .targets .ensures .0), c .before .before .before .before .before .before .before .before .before .before .before .before .before .before .before .before .before .before .before .before .before .before .fits .left .fits)
+targets-add-t23 t c =
+    let c₆ = c .before .before .before .before .before .before in let targets = c₆ .targets in
+    let c₂₂ = c₆ .before .before .before .before .before .before .before .before .before .before .before .before .before .before .before .before in let fits = c₂₂ .fits in
+    omega (arith, found-few _ _ _ _ _ _ _ _ _ (targets .result) _ _ _ (c .before .before .count .given .1) (targets .ensures .0), fits .left .fits)
 
 targets-same-length-4 : (t : ℕ) → targets-lts.Need-same-length-4 (targets-claims t) (targets-at t) targets.Post
 targets-same-length-4 t c = search needs
 
 targets-returns-6 : (t : ℕ) → targets-lts.Need-returns-6 (targets-claims t) (targets-at t) targets.Post
-targets-returns-6 t c = (targets-in (shapeIn (now (c .before .before .before .before .before .before .before .before .before .before .before .before .before .before .before .before .before .before .before .before .before .before .args .catalogue))) (c .before .before .before .before .before .before .before .before .before .before .before .before .before .before .before .before .before .before .before .before .before .before .args .limit) (c .before .before .before .before .before .before .before .before .before .before .before .before .before .before .before .before .before .before .before .before .before .before .args .level) (scopeOf (now (c .before .before .before .before .before .before .before .before .before .before .before .before .before .before .before .before .before .before .before .before .before .before .args .reach))) (now (c .before .before .before .before .before .before .before .before .before .before .before .before .before .before .before .before .before .before .before .before .before .before .args .q)) (c .before .before .before .before .before .before .before .before .before .before .before .before .before .before .before .before .before .before .before .before .before .before .args .at) (c .before .before .before .before .before .before .before .before .before .before .before .before .before .before .before .before .before .before .before .before .before .before .args .left) (now (c .before .before .before .before .before .before .before .before .before .before .before .before .before .before .before .before .before .before .before .before .before .before .args .z)) (c .before .before .before .before .before .before .before .before .before .before .before .before .before .before .before .before .before .byte .result) (c .before .before .before .before .before .before .before .before .before .before .before .before .before .before .before .before .before .byte .ensures) (c .before .before .before .before .before .before .before .before .before .before .before .before .before .before .before .before .if1 .left) (c .before .before .before .before .before .before .before .before .before .before .before .before .before .before .before .if2 .left) _ _ _ _ _ (c .before .before .before .before .before .before .before .before .before .before .before .before .before .term .ensures .0) (c .before .before .before .before .before .before .before .before .before .n .given .1) (c .before .before .before .before .before .before .before .before .before .before .before .before .before .term .ensures .1) _ _ _ _ (c .before .before .count .given .1) (c .before .before .before .before .before .before .targets .ensures .0) (c .if3 .left), (leads-more (c .before .before .before .before .before .before .before .before .before .before .before .before .before .before .before .before .before .before .before .before .before .before .args .level) (now (c .before .before .before .before .before .before .before .before .before .before .before .before .before .before .before .before .before .before .before .before .before .before .args .q)) (c .before .before .before .before .before .before .before .before .before .before .before .before .before .before .before .before .before .before .before .before .before .before .args .at) (c .before .before .before .before .before .before .before .before .before .before .before .before .before .before .before .before .before .before .before .before .before .before .args .left) (c .before .before .before .before .before .before .before .before .before .before .before .before .before .before .before .before .before .byte .result) (c .before .before .before .before .before .before .before .before .before .before .before .before .before .before .before .before .before .byte .ensures) (c .before .before .before .before .before .before .before .before .before .before .before .before .before .before .before .before .if1 .left) (shapeIn (now (c .before .before .before .before .before .before .before .before .before .before .before .before .before .before .before .before .before .before .before .before .before .before .args .catalogue))) (c .before .before .before .before .before .before .before .before .before .before .before .before .before .before .before .before .before .before .before .before .before .before .args .limit) (scopeOf (now (c .before .before .before .before .before .before .before .before .before .before .before .before .before .before .before .before .before .before .before .before .before .before .args .reach))) (c .before .before .before .before .before .before .before .before .before .before .before .before .before .term .result) (c .before .before .before .before .before .before .before .before .before .before .before .before .before .term .ensures .0) _ _ (c .before .before .before .before .before .before .before .before .before .n .given .1) (c .before .before .before .before .before .before .targets .result) _ _ _ (c .before .before .count .given .1) (c .before .before .before .before .before .before .targets .ensures .1 .0) 0 true, c .before .before .before .before .before .before .targets .ensures .1 .1 ∙ ap (drop (length (now (c .before .before .before .before .before .before .before .before .before .before .before .before .before .before .before .before .before .before .before .before .before .before .args .q)))) (c .before .before .before .before .before .before .before .before .before .before .before .before .before .term .ensures .1) ∙ term-past (c .before .before .before .before .before .before .before .before .before .before .before .before .before .before .before .before .before .before .before .before .before .before .args .level) (now (c .before .before .before .before .before .before .before .before .before .before .before .before .before .before .before .before .before .before .before .before .before .before .args .q)) (c .before .before .before .before .before .before .before .before .before .before .before .before .before .before .before .before .before .before .before .before .before .before .args .at) (now (c .before .before .before .before .before .before .before .before .before .before .before .before .before .before .before .before .before .before .before .before .before .before .args .z))))
+targets-returns-6 t c =
+    let c₂ = c .before .before in let count = c₂ .count in
+    let c₆ = c₂ .before .before .before .before in let targets = c₆ .targets in
+    let c₉ = c₆ .before .before .before in let n = c₉ .n in
+    let c₁₃ = c₉ .before .before .before .before in let term = c₁₃ .term in
+    let c₁₅ = c₁₃ .before .before in let if2 = c₁₅ .if2 in
+    let c₁₆ = c₁₅ .before in let if1 = c₁₆ .if1 in
+    let c₁₇ = c₁₆ .before in let byte = c₁₇ .byte in
+    let c₂₂ = c₁₇ .before .before .before .before .before in let args = c₂₂ .args in
+    let catalogue = now (args .catalogue) in let q = now (args .q) in let reach = now (args .reach) in let z = now (args .z) in let left = args .left in let level = args .level in let limit = args .limit in
+    (targets-in (shapeIn catalogue) limit level (scopeOf reach) q (args .at) left z (byte .result) (byte .ensures) (if1 .left) (if2 .left) _ _ _ _ _ (term .ensures .0) (n .given .1) (term .ensures .1) _ _ _ _ (count .given .1) (targets .ensures .0) (c .if3 .left), (leads-more level q (args .at) left (byte .result) (byte .ensures) (if1 .left) (shapeIn catalogue) limit (scopeOf reach) (term .result) (term .ensures .0) _ _ (n .given .1) (targets .result) _ _ _ (count .given .1) (targets .ensures .1 .0) 0 true, targets .ensures .1 .1 ∙ ap (drop (length q)) (term .ensures .1) ∙ term-past level q (args .at) z))
 
 pub +targets-spec : {M : Type 1} → statement M
 +targets-spec = close μ-targets λ t. targets-lts.spec (targets-claims t)

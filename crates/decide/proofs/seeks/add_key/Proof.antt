@@ -11,7 +11,7 @@ use Rattle.decide.proofs.seeks.add_key.Statement.{statement}
 use Rattle.decide.proofs.seeks.add_key.Tie as tie
 use Rattle.decide.proofs.seeks.add_key.Reads as reads
 use Rattle.decide.proofs.seeks.add_key.Lts as lts
-use Rattle.chains.proofs.build.Reads as build-reads
+use Rattle.decide.proofs.chains.build.Reads as build-reads
 use Rattle.decide.proofs.seeks.head.Reads as head-reads
 use Rattle.decide.proofs.seeks.key_of.Reads as key-of-reads
 use Rattle.decide.proofs.seeks.mark.Reads as mark-reads

@@ -14,7 +14,11 @@ use Rattle.kinds.proofs.size_at.Reads as size-at-reads
 use Rattle.decide.proofs.seeks.onward_from.Reads as onward-from-reads
 
 returns-3 : tie.Need-returns-3
-returns-3 c = (onward-low (c .before .before .before .before .before .before .args .start) (field (now (c .before .before .before .before .before .before .args .t)) (c .before .before .before .before .before .before .args .start) 5) _ (omega (arith, c .before .before .before .if1 .left)) (c .onward-from .ensures), λ v n a h. along-met (now (c .before .before .before .before .before .before .args .t)) (c .before .before .before .before .before .before .args .start) _ v _ n a (omega (arith, c .before .before .before .if1 .left)) (c .onward-from .ensures) (h (ap (λ (i : ℕ). i / 8) (sym (c .before .before .size-at .ensures .0)) ∙ c .before .if2 .left)))
+returns-3 c =
+    let c₃ = c .before .before .before in let if1 = c₃ .if1 in
+    let c₆ = c₃ .before .before .before in let args = c₆ .args in
+    let start = args .start in
+    (onward-low start (field (now (args .t)) start 5) _ (omega (arith, if1 .left)) (c .onward-from .ensures), λ v n a h. along-met (now (args .t)) start _ v _ n a (omega (arith, if1 .left)) (c .onward-from .ensures) (h (ap (λ (i : ℕ). i / 8) (sym (c .before .before .size-at .ensures .0)) ∙ c .before .if2 .left)))
 
 pub behind-spec : {M : Type 1} → statement M
 behind-spec =

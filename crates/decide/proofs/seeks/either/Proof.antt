@@ -1,6 +1,6 @@
 use Rattle.decide.proofs.seeks.Cursors.{two-chains}
 use Rattle.decide.specs.Keys.{Enters}
-use Rattle.chains.specs.declared.Entry.{Entry}
+use Rattle.decide.specs.declared.chains.Entry.{Entry}
 use denote.Ref.{now}
 use mathlib.Core.Path.{sym, subst}
 use borrow.Author.Needs.{needs}

@@ -24,7 +24,13 @@ key-at-requires : tie.Need-key-at-requires Inv-loop μ-loop
 key-at-requires c κs = search needs
 
 returns : tie.Need-returns Inv-loop μ-loop
-returns c = ((λ h. (along-found (now (c .before .before .before .before .before .before .args .t)) (c .before .before .before .before .before .before .args .start) (c .before .before .before .before .loop .at) _ (c .before .before .before .loop-test .taken) (c .before .before .key-at .ensures .0 h .0) (c .before .before .before .before .loop .inv .1) (c .before .before .before .before .before .before .args .variable) _ _ _ (c .before .before .key-at .ensures .0 h .1), along-here (now (c .before .before .before .before .before .before .args .t)) (c .before .before .before .before .before .before .args .start) (c .before .before .before .before .loop .at) _ (c .before .before .before .loop-test .taken) (c .before .before .key-at .ensures .0 h .0) (c .before .before .before .before .loop .inv .1) (c .before .before .before .before .before .before .args .variable) _ _ _ (c .before .before .key-at .ensures .0 h .1) (c .before .before .key-at .ensures .0 h .2))), c .before .before .key-at .ensures .1)
+returns c =
+    let c₂ = c .before .before in let key-at = c₂ .key-at in
+    let c₃ = c₂ .before in let loop-test = c₃ .loop-test in
+    let c₄ = c₃ .before in let loop = c₄ .loop in
+    let c₆ = c₄ .before .before in let args = c₆ .args in
+    let start = args .start in let variable = args .variable in
+    ((λ h. (along-found (now (args .t)) start (loop .at) _ (loop-test .taken) (key-at .ensures .0 h .0) (loop .inv .1) variable _ _ _ (key-at .ensures .0 h .1), along-here (now (args .t)) start (loop .at) _ (loop-test .taken) (key-at .ensures .0 h .0) (loop .inv .1) variable _ _ _ (key-at .ensures .0 h .1) (key-at .ensures .0 h .2))), key-at .ensures .1)
 
 mul-size-at : tie.Need-mul-size-at Inv-loop μ-loop
 mul-size-at c = search needs
@@ -60,7 +66,12 @@ loop-less : tie.Need-loop-less Inv-loop μ-loop
 loop-less c = search needs
 
 loop-again : tie.Need-loop-again Inv-loop μ-loop
-loop-again c = (omega arith, along-next (now (c .before .before .before .before .before .before .before .before .before .before .args .t)) (c .before .before .before .before .before .before .before .before .before .before .args .start) (c .before .before .before .before .before .before .before .before .loop .at) _ (c .before .before .before .before .before .before .before .loop-test .taken) (c .before .before .before .size-at .ensures .0) (c .before .before .before .before .before .before .before .before .loop .inv .1) (c .before .before .if2 .left) _ (c .before .size-at2 .ensures .0) (omega (arith, c .if3 .left)))
+loop-again c =
+    let c₃ = c .before .before .before in let size-at = c₃ .size-at in
+    let c₇ = c₃ .before .before .before .before in let loop-test = c₇ .loop-test in
+    let c₈ = c₇ .before in let loop = c₈ .loop in
+    let c₁₀ = c₈ .before .before in let args = c₁₀ .args in
+    (omega arith, along-next (now (args .t)) (args .start) (loop .at) _ (loop-test .taken) (size-at .ensures .0) (loop .inv .1) (c .before .before .if2 .left) _ (c .before .size-at2 .ensures .0) (omega (arith, c .if3 .left)))
 
 no-key-requires-3 : tie.Need-no-key-requires-3 Inv-loop μ-loop
 no-key-requires-3 c κs = search needs

@@ -40,7 +40,12 @@ meets-requires : tie.Need-meets-requires Inv-loop μ-loop
 meets-requires c κs = c .before .before .before .before .before .pre .2
 
 returns : tie.Need-returns Inv-loop μ-loop
-returns c = ((c .before .before .before .before .before .loop .inv .0, c .before .before .before .before .before .loop .inv .1), (c .before .before .before .before .before .loop .inv .2, λ h. sym (row-meets (c .before .before .before .before .before .before .before .args .test) (now (c .before .before .before .before .before .before .before .args .column)) (placeAt (now (c .before .before .before .before .before .before .before .args .walks)) (c .before .before .before .before .before .before .before .args .walk) (c .before .before .before .before .before .loop .j)) _ _ _ (c .before .before .before .place .ensures) (toZ-ofZ {w = w32} (record { sfits = c .before .before .cell .ok }) ∙ c .before .before .cell .ensures) (c .before .meets .ensures)) ∙ c .if1 .taken))
+returns c =
+    let c₂ = c .before .before in let cell = c₂ .cell in
+    let c₃ = c₂ .before in let place = c₃ .place in
+    let c₅ = c₃ .before .before in let loop = c₅ .loop in
+    let c₇ = c₅ .before .before in let args = c₇ .args in
+    ((loop .inv .0, loop .inv .1), (loop .inv .2, λ h. sym (row-meets (args .test) (now (args .column)) (placeAt (now (args .walks)) (args .walk) (loop .j)) _ _ _ (place .ensures) (toZ-ofZ {w = w32} (record { sfits = cell .ok }) ∙ cell .ensures) (c .before .meets .ensures)) ∙ c .if1 .taken))
 
 add-j : tie.Need-add-j Inv-loop μ-loop
 add-j c = search needs
@@ -49,7 +54,14 @@ loop-less : tie.Need-loop-less Inv-loop μ-loop
 loop-less c = search needs
 
 loop-again : tie.Need-loop-again Inv-loop μ-loop
-loop-again c = (omega (arith, c .before .before .before .before .before .loop .inv .0), omega (arith, c .before .before .before .before .loop-test .taken), one-more (λ (i : ℕ). meets (c .before .before .before .before .before .before .before .args .test) (getD (now (c .before .before .before .before .before .before .before .args .column)) (placeAt (now (c .before .before .before .before .before .before .before .args .walks)) (c .before .before .before .before .before .before .before .args .walk) i) (pos 0))) (c .before .before .before .before .before .before .before .args .from) (c .before .before .before .before .before .loop .j) (c .before .before .before .before .before .loop .inv .2) (sym (row-meets (c .before .before .before .before .before .before .before .args .test) (now (c .before .before .before .before .before .before .before .args .column)) (placeAt (now (c .before .before .before .before .before .before .before .args .walks)) (c .before .before .before .before .before .before .before .args .walk) (c .before .before .before .before .before .loop .j)) _ _ _ (c .before .before .before .place .ensures) (toZ-ofZ {w = w32} (record { sfits = c .before .before .cell .ok }) ∙ c .before .before .cell .ensures) (c .before .meets .ensures)) ∙ c .if1 .left))
+loop-again c =
+    let c₂ = c .before .before in let cell = c₂ .cell in
+    let c₃ = c₂ .before in let place = c₃ .place in
+    let c₄ = c₃ .before in let loop-test = c₄ .loop-test in
+    let c₅ = c₄ .before in let loop = c₅ .loop in
+    let c₇ = c₅ .before .before in let args = c₇ .args in
+    let column = now (args .column) in let walks = now (args .walks) in let test = args .test in let walk = args .walk in
+    (omega (arith, loop .inv .0), omega (arith, loop-test .taken), one-more (λ (i : ℕ). meets test (getD column (placeAt walks walk i) (pos 0))) (args .from) (loop .j) (loop .inv .2) (sym (row-meets test column (placeAt walks walk (loop .j)) _ _ _ (place .ensures) (toZ-ofZ {w = w32} (record { sfits = cell .ok }) ∙ cell .ensures) (c .before .meets .ensures)) ∙ c .if1 .left))
 
 returns-2 : tie.Need-returns-2 Inv-loop μ-loop
 returns-2 c = ((c .before .loop .inv .0, c .before .loop .inv .1), (c .before .loop .inv .2, λ h. absurd (omega (arith, h, c .loop-test .left))))

@@ -35,7 +35,20 @@ returns-3 : tie.Need-returns-3
 returns-3 c = λ ws f. c .compared2 .ensures ws (now (c .before .before .before .before .before .before .before .before .before .before .before .before .before .before .args .chains))
 
 returns-4 : tie.Need-returns-4
-returns-4 c = λ ws f. chain-prepared (c .chained .result) (now (c .before .before .before .before .before .before .before .before .before .before .before .before .before .before .before .before .before .args .t)) (now (c .before .before .before .before .before .before .before .before .before .before .before .before .before .before .before .before .before .args .xs)) (c .before .before .before .before .before .before .before .before .before .before .before .before .before .before .before .before .before .args .start) (c .before .before .before .before .before .before .before .before .before .before .before .before .before .before .before .before .before .args .variable) ws (now (c .before .before .before .before .before .before .before .before .before .before .before .before .before .before .before .before .before .args .values)) (now (c .before .before .before .before .before .before .before .before .before .before .before .before .before .before .before .before .before .args .memo)) (now (c .before .before .before .before .before .before .before .before .before .before .before .before .before .before .before .before .before .args .env)) (now (c .before .before .before .before .before .before .before .before .before .before .before .before .before .before .before .before .before .args .chains)) (record { at = c .before .before .before .before .before .before .before .before .before .before .before .before .before .chain-of .result + 4; attribute = c .before .before .before .size-at3 .result; value = (toZ w64 (ofZ w64 (c .before .before .before .before .before .before .before .before .side .result .numerator))) }) (c .before .before .behind .result) (getD (now (c .before .before .before .before .before .before .before .before .before .before .before .before .before .before .before .before .before .args .chains)) (c .before .before .before .before .before .before .before .before .before .before .before .before .before .chain-of .result + 1) 0) (c .before .before .before .before .before .before .before .before .before .before .before .size-at .result % 256) (c .before .before .before .size-at3 .result) (c .chained .ensures .0) (c .chained .ensures .4) (c .chained .ensures .1) (c .before .before .behind .ensures .0) (c .chained .ensures .2) (chain-enters (now (c .before .before .before .before .before .before .before .before .before .before .before .before .before .before .before .before .before .args .t)) ws (now (c .before .before .before .before .before .before .before .before .before .before .before .before .before .before .before .before .before .args .values)) (now (c .before .before .before .before .before .before .before .before .before .before .before .before .before .before .before .before .before .args .chains)) (c .before .before .before .before .before .before .before .before .before .before .before .before .before .before .before .before .before .args .start) (c .before .before .before .before .before .before .before .before .before .before .before .before .before .chain-of .result) (c .before .before .before .before .before .before .before .before .before .before .before .before .before .before .before .before .before .args .variable) (c .before .before .before .size-at3 .result) (chain-here (now (c .before .before .before .before .before .before .before .before .before .before .before .before .before .before .before .before .before .args .t)) ws (now (c .before .before .before .before .before .before .before .before .before .before .before .before .before .before .before .before .before .args .values)) (now (c .before .before .before .before .before .before .before .before .before .before .before .before .before .before .before .before .before .args .chains)) f (c .before .before .before .before .before .before .before .before .before .before .before .before .before .before .before .before .before .args .start) (c .before .before .before .before .before .before .before .before .before .before .before .before .before .chain-of .result) (c .before .before .before .before .before .before .before .before .before .before .before .before .before .before .before .before .before .args .variable) (c .before .before .before .before .before .before .before .before .before .before .before .before .if1 .left) (c .before .before .before .before .before .before .before .before .before .before .before .before .before .chain-of .ensures .0)) (c .before .before .before .before .before .before .before .before .before .before .before .before .before .chain-of .ensures .0 (c .before .before .before .before .before .before .before .before .before .before .before .before .if1 .left) .1 .1) (c .before .before .before .size-at3 .ensures .0) (c .before .before .before .before .before .before .before .before .before .size-at2 .result) (c .before .before .before .before .before .before .before .before .before .before .before .size-at .result) 1 (c .before .before .before .before .before .before .before .before .before .size-at2 .ensures .0) (c .before .before .before .before .before .before .before .before .before .before .before .size-at .ensures .0) (onward-low (c .before .before .before .before .before .before .before .before .before .before .before .size-at .result) (omega (arith, c .before .before .before .before .before .before .before .before .before .before .if2 .left))) (now (c .before .before .before .before .before .before .before .before .before .before .before .before .before .before .before .before .before .args .xs)) (now (c .before .before .before .before .before .before .before .before .before .before .before .before .before .before .before .before .before .args .memo)) (now (c .before .before .before .before .before .before .before .before .before .before .before .before .before .before .before .before .before .args .env)) (c .before .before .before .before .before .before .before .before .side .result) (c .before .before .before .before .before .before .before .before .side .ensures .0) (sym (toZ-ofZ {w = w64} (fits64 (c .before .before .before .before .before .before .before .before .side .result .denominator) (omega (arith, c .before .before .before .before .before .before .before .before .side .ensures .1 .denominator)))) ∙ c .before .before .before .before .before .is-one .ensures (not-no _ (c .before .before .before .before .if3 .left))) (toZ w64 (ofZ w64 (c .before .before .before .before .before .before .before .before .side .result .numerator))) (toZ-ofZ {w = w64} (fits64 (c .before .before .before .before .before .before .before .before .side .result .numerator) (omega (arith, c .before .before .before .before .before .before .before .before .side .ensures .1 .numerator)))) (c .before .before .before .before .before .before .before .before .before .before .before .before .before .chain-of .ensures .1) (subst (λ (y : ℤ). natAbs y ≤ 140735340871680) (sym (toZ-ofZ {w = w64} (fits64 (c .before .before .before .before .before .before .before .before .side .result .numerator) (omega (arith, c .before .before .before .before .before .before .before .before .side .ensures .1 .numerator))))) (c .before .before .before .before .before .before .before .before .side .ensures .1 .numerator))) (c .before .before .behind .ensures .1 (c .before .before .before .before .before .before .before .before .before .before .before .before .before .before .before .before .before .args .variable) (c .before .before .before .before .before .before .before .before .before .before .before .size-at .result % 256) (c .before .before .before .size-at3 .result) (chain-met (now (c .before .before .before .before .before .before .before .before .before .before .before .before .before .before .before .before .before .args .t)) ws (now (c .before .before .before .before .before .before .before .before .before .before .before .before .before .before .before .before .before .args .values)) (now (c .before .before .before .before .before .before .before .before .before .before .before .before .before .before .before .before .before .args .chains)) (c .before .before .before .before .before .before .before .before .before .before .before .before .before .before .before .before .before .args .start) (c .before .before .before .before .before .before .before .before .before .before .before .before .before .chain-of .result) (c .before .before .before .before .before .before .before .before .before .before .before .before .before .before .before .before .before .args .variable) (c .before .before .before .size-at3 .result) (chain-here (now (c .before .before .before .before .before .before .before .before .before .before .before .before .before .before .before .before .before .args .t)) ws (now (c .before .before .before .before .before .before .before .before .before .before .before .before .before .before .before .before .before .args .values)) (now (c .before .before .before .before .before .before .before .before .before .before .before .before .before .before .before .before .before .args .chains)) f (c .before .before .before .before .before .before .before .before .before .before .before .before .before .before .before .before .before .args .start) (c .before .before .before .before .before .before .before .before .before .before .before .before .before .chain-of .result) (c .before .before .before .before .before .before .before .before .before .before .before .before .before .before .before .before .before .args .variable) (c .before .before .before .before .before .before .before .before .before .before .before .before .if1 .left) (c .before .before .before .before .before .before .before .before .before .before .before .before .before .chain-of .ensures .0)) (c .before .before .before .before .before .before .before .before .before .before .before .before .before .chain-of .ensures .0 (c .before .before .before .before .before .before .before .before .before .before .before .before .if1 .left) .1 .1) (c .before .before .before .size-at3 .ensures .0) (c .before .before .before .before .before .before .before .before .before .size-at2 .result) (c .before .before .before .before .before .before .before .before .before .before .before .size-at .result % 256) (c .before .before .before .before .before .before .before .before .before .size-at2 .ensures .0) (ap (λ (i : ℕ). i % 256) (c .before .before .before .before .before .before .before .before .before .before .before .size-at .ensures .0)))) (λ row h. ap (λ (i : ℕ). equality (now (c .before .before .before .before .before .before .before .before .before .before .before .before .before .before .before .before .before .args .t)) i (c .before .before .before .before .before .before .before .before .before .before .before .size-at .result % 256) (c .before .before .before .size-at3 .result) (now (c .before .before .before .before .before .before .before .before .before .before .before .before .before .before .before .before .before .args .xs)) (now (c .before .before .before .before .before .before .before .before .before .before .before .before .before .before .before .before .before .args .memo)) (assigned (now (c .before .before .before .before .before .before .before .before .before .before .before .before .before .before .before .before .before .args .values)) (now (c .before .before .before .before .before .before .before .before .before .before .before .before .before .before .before .before .before .args .env))) row) (sym (c .before .before .before .before .before .before .before .before .before .size-at2 .ensures .0)) ∙ chain-equals (now (c .before .before .before .before .before .before .before .before .before .before .before .before .before .before .before .before .before .args .t)) ws (now (c .before .before .before .before .before .before .before .before .before .before .before .before .before .before .before .before .before .args .values)) (now (c .before .before .before .before .before .before .before .before .before .before .before .before .before .before .before .before .before .args .chains)) (c .before .before .before .before .before .before .before .before .before .before .before .before .before .before .before .before .before .args .start) (c .before .before .before .before .before .before .before .before .before .before .before .before .before .chain-of .result) (c .before .before .before .before .before .before .before .before .before .before .before .before .before .before .before .before .before .args .variable) (c .before .before .before .size-at3 .result) (chain-here (now (c .before .before .before .before .before .before .before .before .before .before .before .before .before .before .before .before .before .args .t)) ws (now (c .before .before .before .before .before .before .before .before .before .before .before .before .before .before .before .before .before .args .values)) (now (c .before .before .before .before .before .before .before .before .before .before .before .before .before .before .before .before .before .args .chains)) f (c .before .before .before .before .before .before .before .before .before .before .before .before .before .before .before .before .before .args .start) (c .before .before .before .before .before .before .before .before .before .before .before .before .before .chain-of .result) (c .before .before .before .before .before .before .before .before .before .before .before .before .before .before .before .before .before .args .variable) (c .before .before .before .before .before .before .before .before .before .before .before .before .if1 .left) (c .before .before .before .before .before .before .before .before .before .before .before .before .before .chain-of .ensures .0)) (c .before .before .before .before .before .before .before .before .before .before .before .before .before .chain-of .ensures .0 (c .before .before .before .before .before .before .before .before .before .before .before .before .if1 .left) .1 .1) (c .before .before .before .size-at3 .ensures .0) (c .before .before .before .before .before .before .before .before .before .size-at2 .result) (c .before .before .before .before .before .before .before .before .before .before .before .size-at .result) 1 (c .before .before .before .before .before .before .before .before .before .size-at2 .ensures .0) (c .before .before .before .before .before .before .before .before .before .before .before .size-at .ensures .0) (onward-low (c .before .before .before .before .before .before .before .before .before .before .before .size-at .result) (omega (arith, c .before .before .before .before .before .before .before .before .before .before .if2 .left))) (now (c .before .before .before .before .before .before .before .before .before .before .before .before .before .before .before .before .before .args .xs)) (now (c .before .before .before .before .before .before .before .before .before .before .before .before .before .before .before .before .before .args .memo)) (now (c .before .before .before .before .before .before .before .before .before .before .before .before .before .before .before .before .before .args .env)) (c .before .before .before .before .before .before .before .before .side .result) (c .before .before .before .before .before .before .before .before .side .ensures .0) (sym (toZ-ofZ {w = w64} (fits64 (c .before .before .before .before .before .before .before .before .side .result .denominator) (omega (arith, c .before .before .before .before .before .before .before .before .side .ensures .1 .denominator)))) ∙ c .before .before .before .before .before .is-one .ensures (not-no _ (c .before .before .before .before .if3 .left))) (toZ w64 (ofZ w64 (c .before .before .before .before .before .before .before .before .side .result .numerator))) (toZ-ofZ {w = w64} (fits64 (c .before .before .before .before .before .before .before .before .side .result .numerator) (omega (arith, c .before .before .before .before .before .before .before .before .side .ensures .1 .numerator)))) row h)
+returns-4 c =
+    let c₂ = c .before .before in let behind = c₂ .behind in
+    let c₃ = c₂ .before in let size-at3 = c₃ .size-at3 in
+    let c₄ = c₃ .before in let if3 = c₄ .if3 in
+    let c₅ = c₄ .before in let is-one = c₅ .is-one in
+    let c₈ = c₅ .before .before .before in let side = c₈ .side in
+    let c₉ = c₈ .before in let size-at2 = c₉ .size-at2 in
+    let c₁₀ = c₉ .before in let if2 = c₁₀ .if2 in
+    let c₁₁ = c₁₀ .before in let size-at = c₁₁ .size-at in
+    let c₁₂ = c₁₁ .before in let if1 = c₁₂ .if1 in
+    let c₁₃ = c₁₂ .before in let chain-of = c₁₃ .chain-of in
+    let c₁₇ = c₁₃ .before .before .before .before in let args = c₁₇ .args in
+    let chains = now (args .chains) in let env = now (args .env) in let memo = now (args .memo) in let values = now (args .values) in let xs = now (args .xs) in let start = args .start in let variable = args .variable in
+    λ ws f. chain-prepared (c .chained .result) (now (args .t)) xs start variable ws values memo env chains (record { at = chain-of .result + 4; attribute = size-at3 .result; value = (toZ w64 (ofZ w64 (side .result .numerator))) }) (behind .result) (getD chains (chain-of .result + 1) 0) (size-at .result % 256) (size-at3 .result) (c .chained .ensures .0) (c .chained .ensures .4) (c .chained .ensures .1) (behind .ensures .0) (c .chained .ensures .2) (chain-enters (now (args .t)) ws values chains start (chain-of .result) variable (size-at3 .result) (chain-here (now (args .t)) ws values chains f start (chain-of .result) variable (if1 .left) (chain-of .ensures .0)) (chain-of .ensures .0 (if1 .left) .1 .1) (size-at3 .ensures .0) (size-at2 .result) (size-at .result) 1 (size-at2 .ensures .0) (size-at .ensures .0) (onward-low (size-at .result) (omega (arith, if2 .left))) xs memo env (side .result) (side .ensures .0) (sym (toZ-ofZ {w = w64} (fits64 (side .result .denominator) (omega (arith, side .ensures .1 .denominator)))) ∙ is-one .ensures (not-no _ (if3 .left))) (toZ w64 (ofZ w64 (side .result .numerator))) (toZ-ofZ {w = w64} (fits64 (side .result .numerator) (omega (arith, side .ensures .1 .numerator)))) (chain-of .ensures .1) (subst (λ (y : ℤ). natAbs y ≤ 140735340871680) (sym (toZ-ofZ {w = w64} (fits64 (side .result .numerator) (omega (arith, side .ensures .1 .numerator))))) (side .ensures .1 .numerator))) (behind .ensures .1 variable (size-at .result % 256) (size-at3 .result) (chain-met (now (args .t)) ws values chains start (chain-of .result) variable (size-at3 .result) (chain-here (now (args .t)) ws values chains f start (chain-of .result) variable (if1 .left) (chain-of .ensures .0)) (chain-of .ensures .0 (if1 .left) .1 .1) (size-at3 .ensures .0) (size-at2 .result) (size-at .result % 256) (size-at2 .ensures .0) (ap (λ (i : ℕ). i % 256) (size-at .ensures .0)))) (λ row h. ap (λ (i : ℕ). equality (now (args .t)) i (size-at .result % 256) (size-at3 .result) xs memo (assigned values env) row) (sym (size-at2 .ensures .0)) ∙ chain-equals (now (args .t)) ws values chains start (chain-of .result) variable (size-at3 .result) (chain-here (now (args .t)) ws values chains f start (chain-of .result) variable (if1 .left) (chain-of .ensures .0)) (chain-of .ensures .0 (if1 .left) .1 .1) (size-at3 .ensures .0) (size-at2 .result) (size-at .result) 1 (size-at2 .ensures .0) (size-at .ensures .0) (onward-low (size-at .result) (omega (arith, if2 .left))) xs memo env (side .result) (side .ensures .0) (sym (toZ-ofZ {w = w64} (fits64 (side .result .denominator) (omega (arith, side .ensures .1 .denominator)))) ∙ is-one .ensures (not-no _ (if3 .left))) (toZ w64 (ofZ w64 (side .result .numerator))) (toZ-ofZ {w = w64} (fits64 (side .result .numerator) (omega (arith, side .ensures .1 .numerator)))) row h)
 
 pub prepare-spec : {M : Type 1} → statement M
 prepare-spec =

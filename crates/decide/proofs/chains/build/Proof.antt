@@ -1,0 +1,123 @@
+use borrow.Author.Needs.{needs}
+use mathlib.Core.Path.{_≡_, refl, sym, ap, _∙_}
+use native.Mathlib.Omega.{arith}
+use Prim.Native.Nat.{ℕ, _+_, _-_, _≤_, _<_}
+use lib.IntN.{ℤ}
+use lib.ListN.{length, getD, length-set}
+use denote.Ref.{now}
+use mir.Syntax.{w64}
+use mir.Val.{toZ}
+use mir.Facts.{toZ-ofZ}
+use Rattle.decide.specs.Chains as C
+use Rattle.decide.proofs.chains.Steps.{Linked, linked-none, linked-turn, linked-all, outside-turn, bucket-low, lengths}
+use Rattle.decide.proofs.chains.build.Statement.{statement}
+use Rattle.decide.proofs.chains.build.Tie as tie
+use Rattle.decide.proofs.chains.build.Reads as reads
+use Rattle.decide.proofs.chains.build.Lts as lts
+use Rattle.decide.proofs.chains.bucket.Reads as bucket-reads
+use Rattle.decide.proofs.chains.key.Reads as key-reads
+use Rattle.decide.proofs.chains.narrow.Reads as narrow-reads
+
+abbrev Inv-loop : tie.InvT-loop
+Inv-loop values walks walk attribute chains₀ at nexts i₀ chains i = (i ≤ walk .count) × (length chains ≡ length chains₀) × Linked (C.bucketAt values walks walk attribute) i (walk .count) at chains × C.Outside at (at + 1024 + walk .count) chains₀ chains
+
+abbrev μ-loop : tie.MeasureT-loop
+μ-loop values walks walk attribute chains₀ at nexts i₀ chains i = i
+
+add-nexts : tie.Need-add-nexts Inv-loop μ-loop
+add-nexts c = search needs
+
+loop-holds : tie.Need-loop-holds Inv-loop μ-loop
+loop-holds c = (omega arith, refl, linked-none _ _ _ _ (c .before .before .pre .2), λ j o. refl)
+
+sub-key : tie.Need-sub-key Inv-loop μ-loop
+sub-key c = search needs
+
+key-requires : tie.Need-key-requires Inv-loop μ-loop
+key-requires c κs = search needs
+
+bucket-requires : tie.Need-bucket-requires Inv-loop μ-loop
+bucket-requires c κs = search needs
+
+add-h : tie.Need-add-h Inv-loop μ-loop
+add-h c = search needs
+
+mul-link : tie.Need-mul-link Inv-loop μ-loop
+mul-link c = search needs
+
+slice-read-link : tie.Need-slice-read-link Inv-loop μ-loop
+slice-read-link c = search needs
+
+sub-chains : tie.Need-sub-chains Inv-loop μ-loop
+sub-chains c = search needs
+
+add-chains : tie.Need-add-chains Inv-loop μ-loop
+add-chains c = search needs
+
+mul-chains : tie.Need-mul-chains Inv-loop μ-loop
+mul-chains c = search needs
+
+slice-write-chains : tie.Need-slice-write-chains Inv-loop μ-loop
+slice-write-chains c = search needs
+
+narrow-requires : tie.Need-narrow-requires Inv-loop μ-loop
+narrow-requires c κs = search needs
+
+mul-chains-2 : tie.Need-mul-chains-2 Inv-loop μ-loop
+mul-chains-2 c = search needs
+
+slice-write-chains-2 : tie.Need-slice-write-chains-2 Inv-loop μ-loop
+slice-write-chains-2 c =
+    let c₂ = c .before .before in let bucket = c₂ .bucket in
+    let c₅ = c₂ .before .before .before in let loop = c₅ .loop in
+    let c₈ = c₅ .before .before .before in let args = c₈ .args in let pre = c₈ .pre in
+    omega (arith, bucket .ensures .1, loop .inv .1, pre .1, loop .inv .0, length-set (loop .chains) ((args .at) + 1024 + (loop .i - 1)) (getD (loop .chains) ((args .at) + bucket .result) 0))
+
+sub-i : tie.Need-sub-i Inv-loop μ-loop
+sub-i c = search needs
+
+loop-less : tie.Need-loop-less Inv-loop μ-loop
+loop-less c = search needs
+
+loop-again : tie.Need-loop-again Inv-loop μ-loop
+loop-again c =
+    let c₂ = c .before .before in let bucket = c₂ .bucket in
+    let c₃ = c₂ .before in let key = c₃ .key in
+    let c₄ = c₃ .before in let loop-test = c₄ .loop-test in
+    let c₅ = c₄ .before in let loop = c₅ .loop in
+    let c₈ = c₅ .before .before .before in let args = c₈ .args in let pre = c₈ .pre in
+    let values = now (args .values) in let walks = now (args .walks) in let attribute = args .attribute in let walk = args .walk in
+    (omega arith, lengths ((args .at) + 1024 + (loop .i - 1)) ((args .at) + bucket .result) (getD (loop .chains) ((args .at) + bucket .result) 0) (c .narrow .result) _ (loop .chains) (loop .inv .1), linked-turn (C.bucketAt values walks walk attribute) (loop .i) _ (args .at) _ _ _ _ (loop-test .taken) (loop .inv .0) (ap (λ (m : ℕ). (args .at) + m) (bucket .ensures .0 ∙ ap C.bucketOf (toZ-ofZ {w = w64} (record { sfits = key .ok }) ∙ key .ensures))) (bucket-low (C.keyAt values walks walk attribute (loop .i - 1))) refl (c .narrow .ensures) (omega (arith, loop .inv .1, pre .1)) (loop .inv .2), λ j o. outside-turn (loop .i) _ (args .at) ((args .at) + bucket .result) (getD (loop .chains) ((args .at) + bucket .result) 0) (c .narrow .result) (loop .chains) (loop-test .taken) (loop .inv .0) (omega arith) (omega (arith, bucket .ensures .1)) j o ∙ loop .inv .3 j o)
+
+same-length : tie.Need-same-length Inv-loop μ-loop
+same-length c = search needs
+
+returns : tie.Need-returns Inv-loop μ-loop
+returns c = (linked-all _ _ _ _ _ (omega arith) (c .before .loop .inv .2), c .before .loop .inv .3)
+
+pub build-spec : {M : Type 1} → statement M
+build-spec =
+    tie.close
+    (tie.spec
+    Inv-loop
+    μ-loop
+    add-nexts
+    loop-holds
+    sub-key
+    key-requires
+    bucket-requires
+    add-h
+    mul-link
+    slice-read-link
+    sub-chains
+    add-chains
+    mul-chains
+    slice-write-chains
+    narrow-requires
+    mul-chains-2
+    slice-write-chains-2
+    sub-i
+    loop-less
+    loop-again
+    same-length
+    returns)
