@@ -4,10 +4,10 @@ use mathlib.Core.Bool.{Bool, true, false, not, _&&_, _||_}
 use mathlib.Core.List.{List, [], _∷_}
 use Prim.Native.Nat.{ℕ, zero, suc, _+_, _-_, _≤_, _<_}
 use native.Mathlib.Omega.{arith}
-use lib.Dec.{eqb}
-use lib.ListN.{length, getD, set, replicate}
-use lib.Seq.{getD-set-same, getD-set-other}
-use borrow.Author.Tests.{eqb-true, eqb-false, eq-eqb, ne-eqb}
+use lib.Dec.{eqb, leb}
+use lib.ListN.{length, getD, set, take, drop, replicate, length-take, length-drop, List·getD-eq-default}
+use lib.Seq.{getD-set-same, getD-set-other, take-set-le, take-set-lt, drop-set-lt, drop-set-add, getD-take, length-take-le}
+use borrow.Author.Tests.{eqb-true, eqb-false, eq-eqb, ne-eqb, leb-true, leb-false}
 use Rattle.model.specs.Lists.{any, all, filter, consIf, Every}
 use Rattle.model.proofs.Tests.{clash, and-inv}
 use Rattle.quel.specs.Results.{Word, sameWord}
@@ -56,10 +56,10 @@ module _ (slot : ℕ → ℕ) where
 
   -- the place y at the front of its chain
   module _ (b : ℕ → ℕ) (heads nexts xs : List ℕ) (y : ℕ) (f : Held b slot y heads nexts xs) (low : b y < length heads) (room : slot y < length nexts) where
-    old : (h : ℕ) → h < 1024 → Chain slot (set nexts (slot y) (getD heads (b y) 0)) (getD heads h 0) (filter (λ (x : ℕ). eqb (b x) h) xs)
+    old : (h : ℕ) → h < 512 → Chain slot (set nexts (slot y) (getD heads (b y) 0)) (getD heads h 0) (filter (λ (x : ℕ). eqb (b x) h) xs)
     old h l = chain-frame nexts (slot y) _ _ _ (every-filter (λ (x : ℕ). slot x < slot y) _ xs (every-map xs (λ x p. p .1) (f .low))) (f .chains h l)
 
-    front : b y < 1024 → (h : ℕ) → h < 1024 → (t : Bool) → eqb (b y) h ≡ t
+    front : b y < 512 → (h : ℕ) → h < 512 → (t : Bool) → eqb (b y) h ≡ t
         → Chain slot (set nexts (slot y) (getD heads (b y) 0)) (getD (set heads (b y) (y + 1)) h 0) (consIf t y (filter (λ (x : ℕ). eqb (b x) h) xs))
     unfolding Chain
     front k h l true e =
@@ -72,7 +72,7 @@ module _ (slot : ℕ → ℕ) where
         subst (λ (n : ℕ). Chain slot (set nexts (slot y) (getD heads (b y) 0)) n (filter (λ (x : ℕ). eqb (b x) h) xs))
         (sym (getD-set-other heads (b y) h (y + 1) 0 (λ z. eqb-false (b y) h e (sym z)))) (old h l)
 
-    pub held-put : b y < 1024 → (top : ℕ) → y < top → slot y < slot top → Held b slot top (set heads (b y) (y + 1)) (set nexts (slot y) (getD heads (b y) 0)) (y ∷ xs)
+    pub held-put : b y < 512 → (top : ℕ) → y < top → slot y < slot top → Held b slot top (set heads (b y) (y + 1)) (set nexts (slot y) (getD heads (b y) 0)) (y ∷ xs)
     unfolding filter Every
     held-put k top l m = record {
       chains = λ h d. front k h d (eqb (b y) h) refl;
@@ -106,7 +106,7 @@ any-filter p q (x ∷ xs) f = ap (λ (t : Bool). q x || t) (any-filter p q xs f)
     go false false e g = refl
 
 module _ (slot : ℕ → ℕ) (nexts : List ℕ) (q : ℕ → Bool) (P : ℕ → Type 0) (xs : List ℕ) where
-  pub walk-start : (b : ℕ → ℕ) (top : ℕ) (heads : List ℕ) (h link : ℕ) → h < 1024 → link ≡ getD heads h 0 → ((x : ℕ) → q x ≡ true → b x ≡ h) → Held b slot top heads nexts xs → Every P xs → Walk slot nexts q P xs link
+  pub walk-start : (b : ℕ → ℕ) (top : ℕ) (heads : List ℕ) (h link : ℕ) → h < 512 → link ≡ getD heads h 0 → ((x : ℕ) → q x ≡ true → b x ≡ h) → Held b slot top heads nexts xs → Every P xs → Walk slot nexts q P xs link
   walk-start b top heads h link l e f k each = record {
     rest = filter (λ (x : ℕ). eqb (b x) h) xs;
     chain = subst (λ (n : ℕ). Chain slot nexts n (filter (λ (x : ℕ). eqb (b x) h) xs)) (sym e) (k .chains h l);
@@ -171,3 +171,35 @@ none-again (x ∷ xs) here later left f = ap (λ (t : Bool). not t && all (λ (x
     go false true true d = refl
     go false true false d = refl
     go false false c d = refl
+
+-- a place put into the one table of heads and nexts
+module _ (x : List ℕ) (b s p : ℕ) (h : b < 512) where
+  abbrev after : List ℕ
+  after = set (set x (512 + s) (getD x b 0)) b p
+
+  pub put-heads : take 512 after ≡ set (take 512 x) b p
+  put-heads = take-set-lt 512 (set x (512 + s) (getD x b 0)) b p h ∙ ap (λ (l : List ℕ). set l b p) (take-set-le 512 x (512 + s) (getD x b 0) (omega arith))
+
+  pub put-nexts : drop 512 after ≡ set (drop 512 x) s (getD (take 512 x) b 0)
+  put-nexts = drop-set-lt 512 (set x (512 + s) (getD x b 0)) b p h ∙ drop-set-add 512 x s (getD x b 0) ∙ ap (λ (v : ℕ). set (drop 512 x) s v) (sym (getD-take 512 x b 0 h))
+
+-- heads and nexts in one table
+module _ (index : List ℕ) where
+  pub heads-room : 512 ≤ length index → 512 ≤ length (take 512 index)
+  heads-room h = omega (arith, length-take-le 512 index h)
+
+  pub nexts-room : (s : ℕ) → 512 + s < length index → s < length (drop 512 index)
+  nexts-room s h = omega (arith, length-drop 512 index)
+
+  pub nexts-full : (s : ℕ) → length index ≤ 512 + s → length (drop 512 index) ≤ s
+  nexts-full s h = omega (arith, length-drop 512 index)
+
+  pub heads-clear : ((h : ℕ) → getD index h 0 ≡ 0) → (h : ℕ) → getD (take 512 index) h 0 ≡ 0
+  heads-clear z h = go (leb 512 h) refl
+    where
+      go : (b : Bool) → leb 512 h ≡ b → getD (take 512 index) h 0 ≡ 0
+      go true e = List·getD-eq-default (take 512 index) 0 (omega (arith, length-take 512 index, leb-true 512 h e))
+      go false e = getD-take 512 index h 0 (leb-false 512 h e) ∙ z h
+
+  pub nexts-same : (old : List ℕ) → length index ≡ length old → length (drop 512 index) ≡ length (drop 512 old)
+  nexts-same old e = omega (arith, length-drop 512 index, length-drop 512 old)

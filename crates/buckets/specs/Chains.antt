@@ -1,4 +1,4 @@
--- Places by the bucket of their words, in two tables: for each of 1,024 buckets its last place, and for each place, at its slot, the one before it there.
+-- Places by the bucket of their words, in two tables: for each of 512 buckets its last place, and for each place, at its slot, the one before it there.
 -- A link is 0, or one more than a place.
 use Prim.Native.Nat.{ℕ, _+_, _%_, _≤_, _<_}
 use mathlib.Core.Path.{_≡_}
@@ -12,7 +12,7 @@ use Rattle.tokens.specs.Kinds.{codeOf}
 
 -- the bucket of a word
 abbrev pub bucketOf : Word → ℕ
-bucketOf w = capped (codeOf w) % 1024
+bucketOf w = capped (codeOf w) % 512
 
 -- a link leads through these places, from each one to a lower one
 unfoldable pub Chain : (ℕ → ℕ) → List ℕ → ℕ → List ℕ → Type 0
@@ -21,7 +21,7 @@ Chain slot nexts link (x ∷ xs) = (link ≡ x + 1) × ((getD nexts (slot x) 0 �
 
 -- the tables chain these places, all below top, each in its bucket
 pub record Held (b slot : ℕ → ℕ) (top : ℕ) (heads nexts xs : List ℕ) : Type 0 where
-  pub chains : (h : ℕ) → h < 1024 → Chain slot nexts (getD heads h 0) (filter (λ (x : ℕ). eqb (b x) h) xs)
+  pub chains : (h : ℕ) → h < 512 → Chain slot nexts (getD heads h 0) (filter (λ (x : ℕ). eqb (b x) h) xs)
   pub low : Every (λ (x : ℕ). (x < top) × (slot x < slot top)) xs
 
 -- the tables chain some places

@@ -1,14 +1,14 @@
-// Words by their buckets, in two tables (specs/Chains): for each bucket the last place with a word of it, and for each place the one before it there.
+// Words by their buckets (specs/Chains), in one table: for each of 512 buckets the last place with a word of it, then for each place the one before it there.
 ghost use mathlib.Core.Path.{_≡_};
 ghost use Prim.Native.Nat.{_+_, _%_, _<_};
-ghost use lib.ListN.{length, getD, set};
+ghost use lib.ListN.{length, getD, set, take, drop};
 
-// The bucket of a word by its code, one of 1,024.
+// The bucket of a word by its code, one of 512.
 pub fn bucket(code: u64) -> usize
-    ensures { λ r. ⌜ r ≡ code % 1024 ⌝ }
-    ensures { λ r. ⌜ r < 1024 ⌝ }
+    ensures { λ r. ⌜ r ≡ code % 512 ⌝ }
+    ensures { λ r. ⌜ r < 512 ⌝ }
 {
-    (code % 1024) as usize
+    (code % 512) as usize
 }
 
 fn narrow(x: usize) -> u16
@@ -19,11 +19,11 @@ fn narrow(x: usize) -> u16
 }
 
 // A place at the front of its bucket's chain; its slot leads to the place before it.
-pub fn put(heads: &mut [u16], nexts: &mut [u16], bucket: usize, slot: usize, place: usize)
-    requires { ⌜ (bucket < length (now heads)) × (slot < length (now nexts)) × (place < 65535) ⌝ }
-    ensures { λ _. ⌜ now (heads .exit) ≡ set (now (heads .entry)) bucket (place + 1) ⌝ }
-    ensures { λ _. ⌜ now (nexts .exit) ≡ set (now (nexts .entry)) slot (getD (now (heads .entry)) bucket 0) ⌝ }
+pub fn put(index: &mut [u16], bucket: usize, slot: usize, place: usize)
+    requires { ⌜ (bucket < 512) × (512 + slot < length (now index)) × (place < 65535) ⌝ }
+    ensures { λ _. ⌜ take 512 (now (index .exit)) ≡ set (take 512 (now (index .entry))) bucket (place + 1) ⌝ }
+    ensures { λ _. ⌜ drop 512 (now (index .exit)) ≡ set (drop 512 (now (index .entry))) slot (getD (take 512 (now (index .entry))) bucket 0) ⌝ }
 {
-    nexts[slot] = heads[bucket];
-    heads[bucket] = narrow(place + 1);
+    index[512 + slot] = index[bucket];
+    index[bucket] = narrow(place + 1);
 }

@@ -1,13 +1,15 @@
 -- The parts of flatText, one after the other.
 use Prim.Native.Nat.{ℕ, suc, _+_, _*_, _≤_, _<_}
 use mathlib.Core.Bool.{Bool, true, false, not, cond}
-use mathlib.Core.List.{List, [], _∷_}
+use mathlib.Core.List.{List, [], _∷_, map}
 use mathlib.Core.Option.{none}
 use mathlib.Core.Path.{_≡_, refl, sym, ap, ap₂, _∙_, subst}
 use native.Mathlib.Nat.{add-zero}
-use lib.ListN.{length, take}
+use lib.Dec.{eqb}
+use lib.ListN.{length, getD, take}
+use native.Mathlib.Omega.{arith}
 use lib.Seq.{sets}
-use Rattle.quel.specs.Results.{Read, fail, ok, then, need, Word, hasWord, uniqueWords}
+use Rattle.quel.specs.Results.{Read, fail, ok, then, need, Word, sameWord, hasWord, uniqueWords}
 use Rattle.quel.specs.Tokens.{Token}
 use Rattle.quel.specs.Names.{Entry}
 use Rattle.quel.specs.Elaboration.{Symbol, rangesOf}
@@ -18,12 +20,14 @@ use Rattle.tokens.specs.Table.{Table}
 use Rattle.flat.specs.Flat.{uses, binders, mainOf, lastOf, bound, flatText}
 use Rattle.marks.specs.Places.{tokensFrom, nameIn}
 use Rattle.marks.specs.Numbers.{Used}
-use Rattle.items.specs.Tables.{Slotted}
+use Rattle.items.specs.Reach.{rangeSymbol}
+use Rattle.items.specs.Tables.{Same, Holds}
+use Rattle.model.proofs.Tests.{and-true}
 use Rattle.elaborate.specs.After.{ended}
 use Rattle.elaborate.specs.declared.binds.Ranges.{Ranges}
 use Rattle.elaborate.specs.declared.binds.Ranges.the-variants as R
 use Rattle.elaborate.specs.declared.binds.Tally.{Tally}
-use Rattle.elaborate.specs.Tallies.{listing, boundFrom, symbolsIn, afterAll, Whole, Most, Slots}
+use Rattle.elaborate.specs.Tallies.{listing, boundFrom, symbolsIn, afterAll, Whole, Most, Stands}
 use Rattle.elaborate.specs.declared.End.{End}
 use Rattle.elaborate.specs.declared.End.the-variants as E
 use Rattle.elaborate.specs.Ends.{endBy, Ends, Last}
@@ -81,9 +85,20 @@ most k r s m e = subst (Most k) e m
 pub place-most : (at p : ℕ) (l : End) → Last at l → l ≡ E.Place p → p ≤ at + 32812591
 place-most at p l m e = subst (Last at) e m
 
--- the slots after the RANGE list
-pub slots-are : (w : ℕ → Word) (ids cs slots : List ℕ) (r : Ranges) (s : Tally) → Slots w ids r cs slots → r ≡ R.Listed s → Slotted w ids (take (s .count) cs) slots
-slots-are w ids cs slots r s h e = subst (λ (x : Ranges). Slots w ids x cs slots) e h
+-- what names stand for after the RANGE list
+pub stand-after : (w : ℕ → Word) (ids cs known : List ℕ) (r : Ranges) (s : Tally) → Stands w ids r cs known → r ≡ R.Listed s → Holds w ids known 0 0 (map (rangeSymbol w) (take (s .count) cs))
+stand-after w ids cs known r s h e = subst (λ (x : Ranges). Stands w ids x cs known) e h
+
+-- there are names for any numbers
+abbrev pub named : List ℕ → ℕ → Word
+named ids x = getD ids x 0 ∷ []
+
+pub some-names : (ids : List ℕ) → Same (named ids) ids
+unfolding sameWord
+some-names ids x y = and-true (eqb (getD ids x 0) (getD ids y 0))
+
+pub small : (w : ℕ → Word) (ids known : List ℕ) (ρ : List Symbol) → Holds w ids known 0 0 ρ → (y : ℕ) → getD known y 0 < 68719476736
+small w ids known ρ h y = omega (arith, h .low y)
 
 -- marks by where the targets begin
 pub used-from : (text : List ℕ) (t : Table) (ids marks : List ℕ) (m main : ℕ) → tokensFrom text t m ≡ mainOf (tokensFrom text t 0) → tokensFrom text t main ≡ mainOf (tokensFrom text t 0) → Used text t ids m marks → Used text t ids main marks

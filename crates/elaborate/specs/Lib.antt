@@ -4,3 +4,4 @@ pub mod Opens
 pub mod After
 pub mod Ends
 pub mod Tallies
+pub mod Frames

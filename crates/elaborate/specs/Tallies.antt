@@ -14,7 +14,7 @@ use Rattle.tokens.specs.Table.{Table}
 use Rattle.flat.specs.Flat.{uses, bound}
 use Rattle.marks.specs.Places.{tokensFrom, nameIn}
 use Rattle.items.specs.Reach.{rangeSymbol}
-use Rattle.items.specs.Tables.{Slotted}
+use Rattle.items.specs.Tables.{Holds}
 use Rattle.elaborate.specs.After.{ended}
 use Rattle.elaborate.specs.declared.binds.Tally.{Tally}
 use Rattle.elaborate.specs.declared.binds.Ranges.{Ranges}
@@ -56,10 +56,10 @@ abbrev pub Counts : Tally → Ranges → Type 0
 Counts s R.Refused = Unit
 Counts s (R.Listed r) = (r .count ≤ s .count + 1) × (r .n ≤ s .n + 1) × (r .at ≤ s .at + 3)
 
--- the slots of the symbols at hand
-abbrev pub Slots : (ℕ → Word) → List ℕ → Ranges → List ℕ → List ℕ → Type 0
-Slots w ids R.Refused cs slots = Unit
-Slots w ids (R.Listed s) cs slots = Slotted w ids (take (s .count) cs) slots
+-- what names stand for, by the symbols at hand
+abbrev pub Stands : (ℕ → Word) → List ℕ → Ranges → List ℕ → List ℕ → Type 0
+Stands w ids R.Refused cs known = Unit
+Stands w ids (R.Listed s) cs known = Holds w ids known 0 0 (map (rangeSymbol w) (take (s .count) cs))
 
 -- of k tokens
 abbrev pub Most : ℕ → Ranges → Type 0

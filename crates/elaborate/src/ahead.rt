@@ -68,10 +68,10 @@ pub fn count(kinds: &[u8], counts: &mut [u64])
     }
 }
 
-fn entry(counts: &[u64], i: usize) -> u64
-    ensures { λ r. ⌜ r ≡ getD (now (counts .entry)) i 0 ⌝ }
+pub fn entry(table: &[u64], i: usize) -> u64
+    ensures { λ r. ⌜ r ≡ getD (now (table .entry)) i 0 ⌝ }
 {
-    if i < counts.len() { counts[i] } else { 0 }
+    if i < table.len() { table[i] } else { 0 }
 }
 
 // How many V's stand ahead.

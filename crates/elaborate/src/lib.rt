@@ -5,6 +5,7 @@ mod frames;
 mod loops;
 mod modes;
 mod opens;
+mod reaches;
 mod turns;
 
 use binds::Ranges;
@@ -50,18 +51,17 @@ pub fn elaborate(
     ids: &[u16],
     numbers: &[u64],
     list: &[u8],
-    heads: &[u16],
-    nexts: &[u16],
+    index: &[u16],
     counts: &[u64],
     marks: &[u8],
     symbols: &mut [u64],
-    slots: &mut [u16],
+    known: &mut [u64],
     frames: &mut [u64],
     out: &mut [u8],
 ) -> End
-    requires { ⌜ (length (now kinds) < 4000) × (length (now kinds) ≤ length (now symbols)) × (length (now kinds) < length (now slots))
-        × (length (now kinds) < length (now frames)) × ((x : ℕ) → getD (now ids) x 0 ≤ length (now kinds)) × ((x : ℕ) → getD (now slots) x 0 ≡ 0) ⌝ }
-    requires { ⌜ Counted (now kinds) (now counts) × (length (now nexts) ≤ 4096) × Indexed (now list) (now heads) (now nexts) ⌝ }
+    requires { ⌜ (length (now kinds) < 4000) × (length (now kinds) ≤ length (now symbols)) × (length (now kinds) < length (now known))
+        × (length (now kinds) < length (now frames)) × ((x : ℕ) → getD (now ids) x 0 ≤ length (now kinds)) × ((x : ℕ) → getD (now known) x 0 ≡ 0) ⌝ }
+    requires { ⌜ Counted (now kinds) (now counts) × Indexed (now list) (now index) ⌝ }
     ensures { λ r. ⌜ ((text ss ls : List ℕ) → Ready text (table (now (kinds .entry)) ss ls (now (numbers .entry))) (now (ids .entry))
         (now (marks .entry)) → ended (now (out .entry)) 0 (flatText (entries (now (list .entry)))
         (tokensFrom text (table (now (kinds .entry)) ss ls (now (numbers .entry))) 0)) ≡ outcome r (now (out .exit))) ⌝ }
@@ -72,26 +72,22 @@ pub fn elaborate(
         ids,
         numbers,
         list,
-        heads,
-        nexts,
+        index,
         marks,
         symbols,
-        slots,
+        known,
         out,
     ) else {
         return End::Refused;
     };
-    let k = s.count;
     let End::Place(at) = loops::run(
         kinds,
         ids,
         numbers,
         list,
-        heads,
-        nexts,
+        index,
         counts,
-        &symbols[..k],
-        slots,
+        known,
         frames,
         out,
         main,

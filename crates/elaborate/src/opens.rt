@@ -1,6 +1,4 @@
-// Writes what stands before a token's record, and makes the frame of a record that binds a symbol.
-use crate::frames;
-use kinds::Record;
+// Writes what stands before a token's record.
 ghost use mathlib.Core.Path.{_≡_};
 ghost use mathlib.Core.Bool.{cond, _&&_};
 ghost use mathlib.Core.List.{[], _∷_};
@@ -9,7 +7,6 @@ ghost use lib.Dec.{eqb, leb};
 ghost use lib.ListN.{length};
 ghost use lib.Seq.{sets};
 ghost use Rattle.quel.specs.Writing.{often};
-ghost use Rattle.items.specs.Puts.{Framed};
 ghost use Rattle.elaborate.specs.Opens.{openBytes};
 
 // Writes a byte n times, and returns the place after them.
@@ -65,16 +62,4 @@ pub fn open(
     let p = many(out, at, 20, when(mode == 0, ors));
     let q = many(out, p, 19, when(mode <= 1, ands));
     compare(out, q, mode, kind, operator)
-}
-
-// The frame of a record at token i.
-pub fn frame(item: Record, i: usize) -> u64
-    requires { ⌜ i < 4000 ⌝ }
-    ensures { λ r. ⌜ Framed item i r ⌝ }
-{
-    match item {
-        Record::Some(v, r) => frames::pack(1, r, v, i + 1),
-        Record::Aggregate(_, v, r, _) => frames::pack(2, r, v, i + 2),
-        _ => frames::pack(0, 0, 0, i),
-    }
 }

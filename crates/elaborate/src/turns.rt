@@ -2,32 +2,35 @@
 use crate::ahead;
 use crate::modes;
 use crate::opens;
+use crate::reaches;
+use crate::reaches::Reach;
 use items::Item;
+use items::Scope;
 use kinds::Record;
 ghost use mathlib.Core.Path.{_≡_};
 ghost use mathlib.Core.Bool.{_&&_};
-ghost use mathlib.Core.List.{List, _++_, map};
-ghost use Prim.Native.Nat.{ℕ, _+_, _-_, _<_, _≤_};
+ghost use mathlib.Core.List.{List, _++_};
+ghost use Prim.Native.Nat.{ℕ, _+_, _<_, _≤_};
 ghost use lib.Dec.{eqb, leb};
 ghost use lib.ListN.{length, getD};
 ghost use lib.Seq.{sets};
-ghost use Rattle.quel.specs.Results.{Word};
-ghost use Rattle.quel.specs.Elaboration.{Symbol};
+ghost use Rattle.quel.specs.Writing.{Reaches};
 ghost use Rattle.names.specs.Entries.{entries};
-ghost use Rattle.elaborate.specs.Counts.{orsIn, andsIn, signIn, Counted};
-ghost use Rattle.marks.specs.Places.{table, nameIn};
-ghost use Rattle.items.specs.Reach.{rangeSymbol, reaches};
-ghost use Rattle.items.specs.Tables.{Tables};
 ghost use Rattle.names.specs.Search.{Indexed};
+ghost use Rattle.marks.specs.Places.{table, nameIn};
 ghost use Rattle.copier.specs.Copied.{recordBytes};
-ghost use Rattle.items.specs.Puts.{reachAfter, numberAfter};
+ghost use Rattle.items.specs.Tables.{Named};
+ghost use Rattle.items.specs.Puts.{numberAfter};
+ghost use Rattle.elaborate.specs.Counts.{orsIn, andsIn, signIn, Counted};
 ghost use Rattle.elaborate.specs.Opens.{openBytes};
-ghost use Rattle.elaborate.specs.After.{Fits, Pushed, Goes, Within};
+ghost use Rattle.elaborate.specs.Frames.{Stack};
+ghost use Rattle.elaborate.specs.After.{Goes, Within};
 
-// The loop's mode, how many frames are open, the next variable's number, and where to write.
+// The loop's mode, how many frames are open, the innermost aggregate's, the next variable's number, and where to write.
 pub struct State {
     pub mode: u8,
     pub depth: usize,
+    pub crossing: usize,
     pub n: usize,
     pub at: usize,
 }
@@ -67,48 +70,6 @@ fn write(
     copier::put_record(out, p, item)
 }
 
-// One frame more.
-fn push(frames: &mut [u64], depth: usize, item: Record, i: usize) -> usize
-    requires { ⌜ (depth < length (now frames)) × (i < 4000) ⌝ }
-    ensures { λ r. ⌜ r ≡ depth + 1 ⌝ }
-    ensures { λ _. ⌜ Pushed item i depth (now (frames .entry)) (now (frames .exit)) ⌝ }
-{
-    frames[depth] = opens::frame(item, i);
-    depth + 1
-}
-
-// One frame less.
-fn pop(depth: usize) -> usize
-    ensures { λ r. ⌜ r ≡ depth - 1 ⌝ }
-{
-    if depth == 0 { 0 } else { depth - 1 }
-}
-
-// The reaches after an action with this record at token i.
-fn shift(frames: &mut [u64], depth: usize, a: u8, item: Record, i: usize) -> usize
-    requires { ⌜ (depth < length (now frames)) × (i < 4000) ⌝ }
-    ensures { λ r. ⌜ (Fits a item → (w : ℕ → Word) (ρ : List Symbol) → reaches w ρ (now (frames .exit)) r
-        ≡ reachAfter a (w (i + 1)) (w (i + 2)) item (reaches w ρ (now (frames .entry)) depth)) ⌝ }
-    ensures { λ r. ⌜ r ≤ depth + 1 ⌝ }
-{
-    if a == 4 {
-        return push(frames, depth, item, i);
-    }
-    if a == 6 {
-        return push(frames, depth, item, i);
-    }
-    if a == 7 {
-        return push(frames, depth, item, i);
-    }
-    if a == 8 {
-        return pop(depth);
-    }
-    if a == 9 {
-        return pop(depth);
-    }
-    depth
-}
-
 // The next variable's number after an action.
 fn number(a: u8, n: usize) -> usize
     requires { ⌜ n < 8000 ⌝ }
@@ -137,11 +98,9 @@ pub fn turn(
     ids: &[u16],
     numbers: &[u64],
     list: &[u8],
-    heads: &[u16],
-    nexts: &[u16],
+    index: &[u16],
     counts: &[u64],
-    symbols: &[u64],
-    slots: &[u16],
+    known: &mut [u64],
     frames: &mut [u64],
     out: &mut [u8],
     s: State,
@@ -149,12 +108,14 @@ pub fn turn(
 ) -> Next
     requires { ⌜ (i < length (now kinds)) × (length (now kinds) < 4000) × (s .depth < length (now frames)) × (s .mode ≤ 6) × (s .n < 8000)
         × (s .at + 8197 < 9223372036854775808) × Counted (now kinds) (now counts) ⌝ }
-    requires { ⌜ (length (now nexts) ≤ 4096) × Indexed (now list) (now heads) (now nexts) ⌝ }
-    ensures { λ r. ⌜ ((text ss ls : List ℕ) → Tables (nameIn text (now (kinds .entry)) ss ls) (now (ids .entry)) (now (numbers .entry))
-        (now (symbols .entry)) (now (slots .entry)) → Goes text (table (now (kinds .entry)) ss ls (now (numbers .entry)))
-        (entries (now (list .entry))) (map (rangeSymbol (nameIn text (now (kinds .entry)) ss ls)) (now (symbols .entry))) i s
-        (now (frames .entry)) (now (out .entry)) r (now (frames .exit)) (now (out .exit))) ⌝ }
+    requires { ⌜ (s .depth < 8191) × (s .crossing < 8192) × ((x : ℕ) → getD (now ids) x 0 < 8192) × ((x : ℕ) → getD (now ids) x 0 < length (now known))
+        × ((y : ℕ) → getD (now known) y 0 < 68719476736) × Indexed (now list) (now index) ⌝ }
+    ensures { λ r. ⌜ ((text ss ls : List ℕ) (σ : Reaches) → Named (nameIn text (now (kinds .entry)) ss ls) (now (ids .entry)) (now (numbers .entry))
+        → Stack (nameIn text (now (kinds .entry)) ss ls) (now (ids .entry)) (now (frames .entry)) (s .depth) (s .crossing) (now (known .entry)) σ
+        → Goes text (table (now (kinds .entry)) ss ls (now (numbers .entry))) (entries (now (list .entry))) (now (ids .entry)) i s σ
+        (now (out .entry)) r (now (frames .exit)) (now (known .exit)) (now (out .exit))) ⌝ }
     ensures { λ r. ⌜ Within s r ⌝ }
+    ensures { λ _. ⌜ ((y : ℕ) → getD (now (known .exit)) y 0 < 68719476736) ⌝ }
 {
     let kind = kinds[i];
     let point = marks::is_point(kinds, i + 1);
@@ -164,33 +125,29 @@ pub fn turn(
         return Next::Go(State {
             mode: mode,
             depth: s.depth,
+            crossing: s.crossing,
             n: s.n,
             at: s.at,
         });
     }
-    let Item::Put(r) = items::item_at(
-        kinds,
-        ids,
-        numbers,
-        list,
-        heads,
-        nexts,
-        symbols,
-        slots,
-        frames,
-        s.depth,
-        s.n,
-        i,
-        a,
-    ) else {
+    let scope = Scope {
+        crossing: s.crossing,
+        n: s.n,
+    };
+    let Item::Put(r) = items::item_at(kind, ids, numbers, list, index, known, scope, i, a) else {
         return Next::Refused;
     };
     let at = write(out, s.at, s.mode, kind, counts, i, r);
-    let depth = shift(frames, s.depth, a, r, i);
+    let held = Reach {
+        depth: s.depth,
+        crossing: s.crossing,
+    };
+    let reach = reaches::shift(ids, known, frames, held, a, r, i);
     let n = number(a, s.n);
     Next::Go(State {
         mode: mode,
-        depth: depth,
+        depth: reach.depth,
+        crossing: reach.crossing,
         n: n,
         at: at,
     })

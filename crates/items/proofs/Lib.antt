@@ -3,4 +3,3 @@ pub mod Tests
 pub mod Puts
 pub mod Turn
 pub mod Ranges
-pub mod Slots

@@ -16,11 +16,11 @@ use Rattle.quel.specs.Writing.{Written, before, Reaches, inner, around}
 use Rattle.model.proofs.Tests.{clash, and-inv}
 use Rattle.kinds.specs.declared.Record.{Record}
 use Rattle.kinds.specs.declared.Record.the-variants as R
-use Rattle.items.specs.Reach.{knownOf, knownBy, modeIn, relationIn, variableIn, placeIn, headSymbol, onto}
+use Rattle.items.specs.Reach.{knownOf, knownBy}
 use Rattle.items.specs.declared.Item.{Item}
 use Rattle.items.specs.declared.Item.the-variants as I
 use Rattle.items.specs.Actions.{useItem, headItem, useBy, headBy, someBy, valueBy, constantBy, itemOf, headAt, perform}
-use Rattle.items.specs.Puts.{Framed, putting, symbolBy, reachAfter, numberAfter, written}
+use Rattle.items.specs.Puts.{putting, symbolBy, reachAfter, numberAfter, written}
 
 -- equal words are one word
 word-is : (a b : Word) → sameWord a b ≡ true → a ≡ b
@@ -116,21 +116,3 @@ module _ (es : List Entry) (g v : ℕ) (x₀ x₁ x₂ x₃ x₄ : Word) (σ : R
   perform-put (suc (suc (suc (suc (suc (suc (suc (suc zero)))))))) = nothing-put (k (around σ) n)
   perform-put (suc (suc (suc (suc (suc (suc (suc (suc (suc zero))))))))) = refl
   perform-put (suc (suc (suc (suc (suc (suc (suc (suc (suc (suc a)))))))))) = none-put (suc (suc (suc (suc (suc (suc (suc (suc (suc (suc a)))))))))) (omega arith)
-
--- the frame of a record, pushed on the reaches
-module _ (w : ℕ → Word) (ρ₀ : List Symbol) (it : Record) (i c : ℕ) (f : Framed it i c) (σ : Reaches) where
-  head-is : (x : Word) → w (placeIn c) ≡ x → headSymbol w c ≡ symbolBy x it
-  unfolding headSymbol
-  head-is x e = rw (e, f .relation, f .variable)
-
-  pub onto-head : (x : Word) → w (placeIn c) ≡ x → modeIn c ≡ 2 → onto w ρ₀ c (inner σ) ≡ symbolBy x it ∷ map headOnly (inner σ)
-  unfolding onto
-  onto-head x e m = rw m (ap (λ (s : Symbol). s ∷ map headOnly (inner σ)) (head-is x e))
-
-  pub onto-some : (x : Word) → w (placeIn c) ≡ x → modeIn c ≡ 1 → onto w ρ₀ c (inner σ) ≡ symbolBy x it ∷ inner σ
-  unfolding onto
-  onto-some x e m = rw m (ap (λ (s : Symbol). s ∷ inner σ) (head-is x e))
-
-  pub onto-left : modeIn c ≡ 0 → onto w ρ₀ c (inner σ) ≡ inner σ
-  unfolding onto
-  onto-left m = rw m

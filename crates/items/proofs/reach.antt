@@ -1,1 +1,1 @@
-pub mod Seeks
+pub mod Holds

@@ -11,11 +11,10 @@ use Rattle.quel.specs.Writing.{Written, before, Reaches, inner, around}
 use Rattle.kinds.specs.declared.Record.{Record}
 use Rattle.kinds.specs.declared.Record.the-variants as R
 use Rattle.copier.specs.Copied.{recordBytes}
-use Rattle.items.specs.Reach.{modeIn, relationIn, variableIn, placeIn}
 use Rattle.items.specs.declared.Item.{Item}
 use Rattle.items.specs.declared.Item.the-variants as I
 
--- the frame of a record: SOME and aggregates bind the name one or two tokens on
+-- the frame of a record: SOME (1) binds the name after it, an aggregate (2) that two tokens on
 abbrev pub frameMode : Record → ℕ
 frameMode (R.Range a b) = 0
 frameMode R.True = 0
@@ -63,29 +62,6 @@ frameVariable (R.Aggregate a b c d) = b
 frameVariable (R.Permit a b c) = 0
 frameVariable R.Unknown = 0
 frameVariable R.Short = 0
-
-abbrev pub frameOffset : Record → ℕ
-frameOffset (R.Range a b) = 0
-frameOffset R.True = 0
-frameOffset R.False = 0
-frameOffset R.Not = 0
-frameOffset R.And = 0
-frameOffset R.Or = 0
-frameOffset (R.Compare a) = 0
-frameOffset (R.Some a b) = 1
-frameOffset (R.Constant a b c d) = 0
-frameOffset (R.Attribute a b) = 0
-frameOffset (R.Aggregate a b c d) = 2
-frameOffset (R.Permit a b c) = 0
-frameOffset R.Unknown = 0
-frameOffset R.Short = 0
-
--- c is the frame of the record at token i
-pub record Framed (it : Record) (i c : ℕ) : Type 0 where
-  pub mode : modeIn c ≡ frameMode it
-  pub relation : relationIn c ≡ frameRelation it
-  pub variable : variableIn c ≡ frameVariable it
-  pub place : placeIn c ≡ i + frameOffset it
 
 abbrev pub putting : Item → (Record → Written) → Written
 putting I.Refused f = fail

@@ -1,13 +1,10 @@
--- Symbols and the reaches of open parentheses as numbers: a mode, a relation, a variable and the place of a name, packed.
-use Prim.Native.Nat.{ℕ, zero, suc, _/_, _%_}
-use mathlib.Core.Bool.{Bool, true, false, cond}
-use mathlib.Core.List.{List, [], _∷_, map}
+-- Symbols, and what a name stands for, as numbers: a mode, a relation, a variable and a place, packed.
+use Prim.Native.Nat.{ℕ, _/_, _%_}
+use mathlib.Core.Bool.{Bool, true, false, cond, _&&_}
 use mathlib.Core.Option.{Option, none, some}
-use lib.Dec.{eqb}
-use lib.ListN.{getD}
+use lib.Dec.{eqb, leb}
 use Rattle.quel.specs.Results.{Word}
-use Rattle.quel.specs.Elaboration.{Symbol, headOnly}
-use Rattle.quel.specs.Writing.{Reaches, inner}
+use Rattle.quel.specs.Elaboration.{Symbol}
 use Rattle.items.specs.declared.reach.Known.{Known}
 use Rattle.items.specs.declared.reach.Known.the-variants as K
 
@@ -27,18 +24,6 @@ placeIn c = c / 262144
 unfoldable pub rangeSymbol : (ℕ → Word) → ℕ → Symbol
 rangeSymbol w c = record { word = w (placeIn c); relation = relationIn c; variable = cond (eqb (modeIn c) 0) none (some (variableIn c)) }
 
-unfoldable pub headSymbol : (ℕ → Word) → ℕ → Symbol
-headSymbol w c = record { word = w (placeIn c); relation = relationIn c; variable = some (variableIn c) }
-
--- the reach in a parenthesis: mode 0 (, 1 SOME, 2 an aggregate, 3 the RANGE list ρ₀
-unfoldable pub onto : (ℕ → Word) → List Symbol → ℕ → List Symbol → List Symbol
-onto w ρ₀ c ρ = cond (eqb (modeIn c) 3) ρ₀ (cond (eqb (modeIn c) 0) ρ (headSymbol w c ∷ cond (eqb (modeIn c) 2) (map headOnly ρ) ρ))
-
--- the reaches of the first p frames, the last one innermost
-unfoldable pub reaches : (ℕ → Word) → List Symbol → List ℕ → ℕ → Reaches
-reaches w ρ₀ fs zero = []
-reaches w ρ₀ fs (suc p) = onto w ρ₀ (getD fs p 0) (inner (reaches w ρ₀ fs p)) ∷ reaches w ρ₀ fs p
-
 -- what a symbol names
 abbrev pub knownBy : ℕ → Option ℕ → Known
 knownBy r none = K.Head r
@@ -54,3 +39,9 @@ hide false k = k
 hide true (K.Variable r v) = K.Head r
 hide true (K.Head r) = K.Head r
 hide true K.Nothing = K.Nothing
+
+-- what a name stands for, by its entry: mode 0 nothing, 1 a variable, else a relation alone; its place is the frame that bound it. The symbols that were bound
+-- before the innermost aggregate's frame only name their relations
+abbrev pub standing : ℕ → ℕ → Known
+standing crossing c =
+    cond (eqb (modeIn c) 0) K.Nothing (cond (eqb (modeIn c) 1 && leb crossing (placeIn c)) (K.Variable (relationIn c) (variableIn c)) (K.Head (relationIn c)))

@@ -185,8 +185,8 @@ module _ (w : ℕ → Word) where
           every y (inr h) m = f .all y h m
 
       -- none has it
-      pub number-new : any (λ (x : ℕ). sameWord (w x) (w i)) (f .places) ≡ false → 1024 ≤ length heads → i < length nexts
-          → (h : ℕ) → h ≡ bucketOf (w i) → h < 1024 → (heads′ nexts′ : List ℕ) → heads′ ≡ set heads h (i + 1) → nexts′ ≡ set nexts i (getD heads h 0) → Numbering w (i + 1) heads′ nexts′ (set ids i (i + 1))
+      pub number-new : any (λ (x : ℕ). sameWord (w x) (w i)) (f .places) ≡ false → 512 ≤ length heads → i < length nexts
+          → (h : ℕ) → h ≡ bucketOf (w i) → h < 512 → (heads′ nexts′ : List ℕ) → heads′ ≡ set heads h (i + 1) → nexts′ ≡ set nexts i (getD heads h 0) → Numbering w (i + 1) heads′ nexts′ (set ids i (i + 1))
       unfolding Every any
       number-new none long more h eh lh heads′ nexts′ e₁ e₂ =
           numbered (i + 1) s room (omega arith) (omega arith)

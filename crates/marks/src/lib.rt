@@ -4,7 +4,7 @@ ghost use mathlib.Core.Bool.{cond, _&&_};
 ghost use mathlib.Core.List.{List, [], _∷_};
 ghost use Prim.Native.Nat.{ℕ, _+_, _<_, _≤_};
 ghost use lib.Dec.{leb};
-ghost use lib.ListN.{length, getD, take};
+ghost use lib.ListN.{length, getD, take, drop};
 ghost use Rattle.quel.specs.Results.{Word, sameWord, uniqueWords};
 ghost use Rattle.tokens.specs.Codes.{Spelt, Coded};
 ghost use Rattle.flat.specs.Flat.{binders, mainOf, lastOf};
@@ -90,25 +90,24 @@ fn earlier(
     starts: &[u16],
     lengths: &[u16],
     numbers: &[u64],
-    heads: &[u16],
-    nexts: &[u16],
+    index: &[u16],
     ids: &[u16],
     i: usize,
 ) -> usize
     requires { ⌜ (i < length (now kinds)) × (length (now kinds) ≤ length (now numbers)) × (getD (now kinds) i 0 ≡ 0)
         × Coded (now text) (table (now kinds) (now starts) (now lengths) (now numbers)) (length (now kinds))
-        × Numbering (nameIn (now text) (now kinds) (now starts) (now lengths)) i (now heads) (now nexts) (now ids) ⌝ }
+        × Numbering (nameIn (now text) (now kinds) (now starts) (now lengths)) i (take 512 (now index)) (drop 512 (now index)) (now ids) ⌝ }
     ensures { λ r. ⌜ ((f : Numbering (nameIn (now (text .entry)) (now (kinds .entry)) (now (starts .entry)) (now (lengths .entry))) i
-        (now (heads .entry)) (now (nexts .entry)) (now (ids .entry)))
+        (take 512 (now (index .entry))) (drop 512 (now (index .entry))) (now (ids .entry)))
         → Met (nameIn (now (text .entry)) (now (kinds .entry)) (now (starts .entry)) (now (lengths .entry))) (now (ids .entry)) i (f .places) r) ⌝ }
 {
-    let mut link = kinds::size_at(heads, buckets::bucket(numbers[i]));
+    let mut link = kinds::size_at(index, buckets::bucket(numbers[i]));
     while 0 < link {
         let at = link - 1;
         if same_names(text, kinds, starts, lengths, numbers, at, i) {
             return kinds::size_at(ids, at);
         }
-        link = kinds::size_at(nexts, at);
+        link = kinds::size_at(index, 512 + at);
     }
     0
 }
@@ -120,51 +119,49 @@ fn enter(
     starts: &[u16],
     lengths: &[u16],
     numbers: &[u64],
-    heads: &mut [u16],
-    nexts: &mut [u16],
+    index: &mut [u16],
     ids: &mut [u16],
     i: usize,
 )
     requires { ⌜ (i < length (now kinds)) × (length (now kinds) < 4000) × (length (now kinds) ≤ length (now numbers))
         × Coded (now text) (table (now kinds) (now starts) (now lengths) (now numbers)) (length (now kinds)) ⌝ }
-    requires { ⌜ (1024 ≤ length (now heads)) × (i < length (now nexts)) × (i < length (now ids))
-        × Numbering (nameIn (now text) (now kinds) (now starts) (now lengths)) i (now heads) (now nexts) (now ids) ⌝ }
+    requires { ⌜ (512 + i < length (now index)) × (i < length (now ids))
+        × Numbering (nameIn (now text) (now kinds) (now starts) (now lengths)) i (take 512 (now index)) (drop 512 (now index)) (now ids) ⌝ }
     ensures { λ _. ⌜ Numbering (nameIn (now (text .entry)) (now (kinds .entry)) (now (starts .entry)) (now (lengths .entry))) (i + 1)
-        (now (heads .exit)) (now (nexts .exit)) (now (ids .exit)) ⌝ }
+        (take 512 (now (index .exit))) (drop 512 (now (index .exit))) (now (ids .exit)) ⌝ }
 {
     if kinds[i] != 0 {
         return;
     }
-    let id = earlier(text, kinds, starts, lengths, numbers, heads, nexts, ids, i);
+    let id = earlier(text, kinds, starts, lengths, numbers, index, ids, i);
     if id != 0 {
         ids[i] = id as u16;
         return;
     }
-    buckets::put(heads, nexts, buckets::bucket(numbers[i]), i, i);
+    buckets::put(index, buckets::bucket(numbers[i]), i, i);
     ids[i] = (i + 1) as u16;
 }
 
-// Numbers the names, with two tables for the first place of each.
+// Numbers the names, with a table for the first place of each.
 fn number_with(
     text: &[u8],
     kinds: &[u8],
     starts: &[u16],
     lengths: &[u16],
     numbers: &[u64],
-    heads: &mut [u16],
-    nexts: &mut [u16],
+    index: &mut [u16],
     ids: &mut [u16],
 )
     requires { ⌜ (length (now kinds) < 4000) × (length (now kinds) ≤ length (now numbers))
         × Coded (now text) (table (now kinds) (now starts) (now lengths) (now numbers)) (length (now kinds)) ⌝ }
-    requires { ⌜ (1024 ≤ length (now heads)) × (length (now kinds) ≤ length (now nexts)) × (length (now kinds) ≤ length (now ids))
-        × ((h : ℕ) → getD (now heads) h 0 ≡ 0) × ((h : ℕ) → getD (now ids) h 0 ≡ 0) ⌝ }
+    requires { ⌜ (512 + length (now kinds) ≤ length (now index)) × (length (now kinds) ≤ length (now ids))
+        × ((h : ℕ) → getD (now index) h 0 ≡ 0) × ((h : ℕ) → getD (now ids) h 0 ≡ 0) ⌝ }
     ensures { λ _. ⌜ Numbered (nameIn (now (text .entry)) (now (kinds .entry)) (now (starts .entry)) (now (lengths .entry)))
         (length (now (kinds .entry))) (now (ids .exit)) ⌝ }
 {
     let mut i = 0;
     while i < kinds.len() {
-        enter(text, kinds, starts, lengths, numbers, heads, nexts, ids, i);
+        enter(text, kinds, starts, lengths, numbers, index, ids, i);
         i += 1;
     }
 }
@@ -184,18 +181,8 @@ fn number_short(
     ensures { λ _. ⌜ Numbered (nameIn (now (text .entry)) (now (kinds .entry)) (now (starts .entry)) (now (lengths .entry)))
         (length (now (kinds .entry))) (now (ids .exit)) ⌝ }
 {
-    let mut heads = [0u16; 1024];
-    let mut nexts = [0u16; 256];
-    number_with(
-        text,
-        kinds,
-        starts,
-        lengths,
-        numbers,
-        &mut heads,
-        &mut nexts,
-        ids,
-    );
+    let mut index = [0u16; 768];
+    number_with(text, kinds, starts, lengths, numbers, &mut index, ids);
 }
 
 fn number_long(
@@ -212,18 +199,8 @@ fn number_long(
     ensures { λ _. ⌜ Numbered (nameIn (now (text .entry)) (now (kinds .entry)) (now (starts .entry)) (now (lengths .entry)))
         (length (now (kinds .entry))) (now (ids .exit)) ⌝ }
 {
-    let mut heads = [0u16; 1024];
-    let mut nexts = [0u16; 4000];
-    number_with(
-        text,
-        kinds,
-        starts,
-        lengths,
-        numbers,
-        &mut heads,
-        &mut nexts,
-        ids,
-    );
+    let mut index = [0u16; 4512];
+    number_with(text, kinds, starts, lengths, numbers, &mut index, ids);
 }
 
 // Numbers the names: two places have the same number where they have the same name, and 0 where they have none.

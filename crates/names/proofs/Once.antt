@@ -20,9 +20,8 @@ use Rattle.tokens.specs.Kinds.{codeOf}
 use Rattle.tokens.proofs.Places.{run-all}
 use Rattle.quel.specs.Tokens.{isLetter}
 use Rattle.names.specs.Entries.{placeOf, widthOf, nameAt}
-use Rattle.names.specs.Search.{goodCode, isNamed, seekAfter, seek, nameOf, recordCode, like, HeldIn, ChainedIn, listedBefore, later, apart, after, Index, Told, Indexed}
+use Rattle.names.specs.Search.{goodCode, isNamed, seekAfter, seek, nameOf, recordCode, like, HeldIn, ChainedIn, listedBefore, later, apart, after, Index, Told, IndexedBy}
 use Rattle.names.proofs.Same.{eqb-turned, same-turned}
-use Rattle.names.proofs.Words.{name-part}
 use Rattle.names.proofs.Walk.{place-small, named-of, head-at, name-at, rest-at, seek-some, seek-none}
 use Rattle.names.proofs.Reading.{passes, passes-cons, passes-none}
 use Rattle.names.proofs.Checked.{padded-room, letters-some, letters-none, good-of, passes-some}
@@ -195,7 +194,7 @@ module _ (x : List ℕ) where
         go true = refl
         go false = refl
 
-    pub told-fresh : (k : ℕ) → k ≡ bucketOf (nameOf x at) → k < 1024 → 1024 ≤ length heads → at / 14 < length nexts → listedBefore x at xs ≡ false
+    pub told-fresh : (k : ℕ) → k ≡ bucketOf (nameOf x at) → k < 512 → 512 ≤ length heads → at / 14 < length nexts → listedBefore x at xs ≡ false
         → (heads′ nexts′ : List ℕ) → heads′ ≡ set heads k (at + 1) → nexts′ ≡ set nexts (at / 14) (getD heads k 0) → Told x at xs heads′ nexts′ true
     unfolding all
     told-fresh k ek lk room more e heads′ nexts′ e₁ e₂ = record {
@@ -264,7 +263,7 @@ module _ (x : List ℕ) where
       pub left-next : r ≡ true → length nexts′ ≡ m → at + placeOf (getD x at 0) + 12 ≤ length x → (to : ℕ) → to ≡ after x at → Left m to heads′ nexts′
       left-next z en room to et = subst (λ (i : ℕ). Left m i heads′ nexts′) (sym et) (record { places = k .places; held = k .held z; inside = omega (arith, room); index = λ l. k .index z (omega (arith, h, l, en)) (f .index l); same = by-told ∙ ap (λ (b : Bool). b && (passes (drop (after x at) x) && apart x (k .places) (after x at))) z })
 
-  pub left-indexed : (m at : ℕ) (heads nexts : List ℕ) → length nexts ≡ m → length x ≤ at → Left m at heads nexts → Indexed x heads nexts
+  pub left-indexed : (m at : ℕ) (heads nexts : List ℕ) → length nexts ≡ m → length x ≤ at → Left m at heads nexts → IndexedBy x heads nexts
   left-indexed m at heads nexts en h f = record {
     places = f .places;
     top = at;
@@ -288,7 +287,7 @@ pub record Sound (x : List ℕ) (i : ℕ) : Type 0 where
   pub hit : (k q : ℕ) (w : Word) → isNamed k q w (drop i x) ≡ true → seek (isNamed k q w) x ≡ drop i x
 
 -- the whole list is chained
-module _ (x heads nexts : List ℕ) (f : Indexed x heads nexts) (l : length x ≤ 14 * length nexts) where
+module _ (x heads nexts : List ℕ) (f : IndexedBy x heads nexts) (l : length x ≤ 14 * length nexts) where
   pub index-each : Every (Sound x) (f .places)
   unfolding Every
   index-each = go (f .places) (f .inside) (f .index l .hit)
@@ -301,3 +300,7 @@ module _ (x heads nexts : List ℕ) (f : Indexed x heads nexts) (l : length x �
   index-none k q w e =
       drop-of-length-le x {i = length x} (omega arith)
       ∙ sym (f .index l .none k q w e ∙ ap (seek (isNamed k q w)) (drop-of-length-le x {i = f .top} (f .end)) ∙ seek-none (isNamed k q w))
+
+-- the whole list is in the table
+pub room-of : (x index : List ℕ) → length x + 7168 ≤ 14 * length index → length x ≤ 14 * length (drop 512 index)
+room-of x index h = simp length-drop (omega arith)

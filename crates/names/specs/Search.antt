@@ -4,7 +4,7 @@ use mathlib.Core.Path.{_≡_}
 use mathlib.Core.Bool.{Bool, true, false, not, cond, _&&_, _||_}
 use mathlib.Core.List.{List, [], _∷_}
 use lib.Dec.{eqb, leb, ltb}
-use lib.ListN.{length, getD, drop}
+use lib.ListN.{length, getD, take, drop}
 use Rattle.model.specs.Lists.{any, all, Every}
 use Rattle.quel.specs.Results.{Word, sameWord}
 use Rattle.buckets.specs.Chains.{bucketOf, Held, Chained}
@@ -86,10 +86,16 @@ module _ (x : List ℕ) where
     pub index : r ≡ true → i / 14 < length nexts → Index i xs → Index (after i) places
 
   -- the whole list, chained as far as the table goes
-  pub record Indexed (heads nexts : List ℕ) : Type 0 where
+  pub record IndexedBy (heads nexts : List ℕ) : Type 0 where
     pub places : List ℕ
     pub top : ℕ
     pub end : length x ≤ top
     pub held : HeldIn top heads nexts places
     pub inside : Every (λ (i : ℕ). i ≤ length x) places
     pub index : length x ≤ 14 * length nexts → Index top places
+
+  -- the same, in one table: 512 heads, then the nexts
+  pub record Indexed (index : List ℕ) : Type 0 where
+    pub room : 512 ≤ length index
+    pub most : length index ≤ 4608
+    pub chains : IndexedBy (take 512 index) (drop 512 index)

@@ -28,34 +28,31 @@ pub enum Value {
     Nothing,
 }
 
-// The twelve bytes from a place on, or all that are left.
-fn twelve(list: &[u8], at: usize) -> &[u8]
-    ensures { λ r. ⌜ now r ≡ take 12 (drop at (now (list .entry))) ⌝ }
-{
-    let rest = kinds::tail(list, at);
-    if 12 <= rest.len() {
-        &rest[..12]
-    } else {
-        &rest[0..]
-    }
-}
-
 // How many letters stand at a place, at most twelve, and their code.
 fn letters(list: &[u8], at: usize) -> Span
+    requires { ⌜ at ≤ length (now list) + 5 ⌝ }
     ensures { λ r. ⌜ r .end ≡ length (nameAt (now (list .entry)) at) ⌝ }
     ensures { λ r. ⌜ r .value ≡ capped (codeOf (nameAt (now (list .entry)) at)) ⌝ }
 {
-    tokens::spelling(twelve(list, at))
+    let end = at + 12;
+    if end <= list.len() {
+        return tokens::spelling(&list[at..end]);
+    }
+    tokens::spelling(kinds::tail(list, at))
 }
 
-// Whether spaces fill the twelve bytes of a name from its nth on.
+// Whether spaces fill the twelve bytes of a name from its nth on. It begins at the first, so that the compiler unrolls it and goes on where the letters end.
 fn spaces(list: &[u8], at: usize, n: usize) -> bool
     requires { ⌜ at + 12 ≤ length (now list) ⌝ }
     ensures { λ r. ⌜ r ≡ all (λ b. eqb b 32) (drop n (take 12 (drop at (now (list .entry))))) ⌝ }
 {
-    let mut i = n;
+    let mut i = 0;
     while i < 12 {
-        if kinds::byte(list, at + i) != 32 {
+        if i < n {
+            i += 1;
+            continue;
+        }
+        if list[at + i] != 32 {
             return false;
         }
         i += 1;
@@ -68,10 +65,11 @@ fn good_code(list: &[u8], at: usize) -> u64
     requires { ⌜ at ≤ length (now list) + 5 ⌝ }
     ensures { λ r. ⌜ r ≡ goodCode (now (list .entry)) at ⌝ }
 {
-    if list.len() < at + 12 {
+    let end = at + 12;
+    if list.len() < end {
         return 0;
     }
-    let s = letters(list, at);
+    let s = tokens::spelling(&list[at..end]);
     let n = s.end;
     if n == 0 {
         return 0;
@@ -154,37 +152,37 @@ fn record_code(list: &[u8], at: usize) -> u64
 }
 
 // Whether a record of its bucket's chain is like the one at a place, whose name has the code.
-fn known(list: &[u8], heads: &[u16], nexts: &[u16], at: usize, code: u64) -> bool
-    requires { ⌜ (at ≤ length (now list)) × Spelt (nameOf (now list) at) code × ChainedIn (now list) at (now heads) (now nexts) ⌝ }
-    ensures { λ r. ⌜ ((xs : List ℕ) → HeldIn (now (list .entry)) at (now (heads .entry)) (now (nexts .entry)) xs → r
+fn known(list: &[u8], index: &[u16], at: usize, code: u64) -> bool
+    requires { ⌜ (at ≤ length (now list)) × Spelt (nameOf (now list) at) code × ChainedIn (now list) at (take 512 (now index)) (drop 512 (now index)) ⌝ }
+    ensures { λ r. ⌜ ((xs : List ℕ) → HeldIn (now (list .entry)) at (take 512 (now (index .entry))) (drop 512 (now (index .entry))) xs → r
         ≡ listedBefore (now (list .entry)) at xs) ⌝ }
 {
     let kind = kinds::byte(list, at);
     let relation = kinds::byte(list, at + 1);
-    let mut link = kinds::size_at(heads, buckets::bucket(code));
+    let mut link = kinds::size_at(index, buckets::bucket(code));
     while 0 < link {
         let i = link - 1;
         if named(list, i, kind, relation, code) {
             return true;
         }
-        link = kinds::size_at(nexts, i / 14);
+        link = kinds::size_at(index, 512 + i / 14);
     }
     false
 }
 
 // Whether no record before a good one is like it. It is chained then; one that is past the table is held to those after it.
-fn fresh(list: &[u8], at: usize, code: u64, heads: &mut [u16], nexts: &mut [u16]) -> bool
-    requires { ⌜ (at ≤ length (now list)) × (code ≡ recordCode (now list) at) × (1 ≤ code) × (1024 ≤ length (now heads))
-        × (length (now nexts) ≤ 4096) × ChainedIn (now list) at (now heads) (now nexts) ⌝ }
-    ensures { λ r. ⌜ ((xs : List ℕ) → HeldIn (now (list .entry)) at (now (heads .entry)) (now (nexts .entry)) xs
-        → Told (now (list .entry)) at xs (now (heads .exit)) (now (nexts .exit)) r) ⌝ }
+fn fresh(list: &[u8], at: usize, code: u64, index: &mut [u16]) -> bool
+    requires { ⌜ (at ≤ length (now list)) × (code ≡ recordCode (now list) at) × (1 ≤ code) × (512 ≤ length (now index))
+        × (length (now index) ≤ 4608) × ChainedIn (now list) at (take 512 (now index)) (drop 512 (now index)) ⌝ }
+    ensures { λ r. ⌜ ((xs : List ℕ) → HeldIn (now (list .entry)) at (take 512 (now (index .entry))) (drop 512 (now (index .entry))) xs
+        → Told (now (list .entry)) at xs (take 512 (now (index .exit))) (drop 512 (now (index .exit))) r) ⌝ }
 {
-    if known(list, heads, nexts, at, code) {
+    if known(list, index, at, code) {
         return false;
     }
     let slot = at / 14;
-    if slot < nexts.len() {
-        buckets::put(heads, nexts, buckets::bucket(code), slot, at);
+    if 512 + slot < index.len() {
+        buckets::put(index, buckets::bucket(code), slot, at);
         return true;
     }
     let kind = kinds::byte(list, at);
@@ -194,10 +192,10 @@ fn fresh(list: &[u8], at: usize, code: u64, heads: &mut [u16], nexts: &mut [u16]
 }
 
 // Whether a name list is good, from its first byte to its last; 51 otherwise. Its records are then chained by their names, as far as the table goes.
-pub fn listed(list: &[u8], heads: &mut [u16], nexts: &mut [u16]) -> bool
-    requires { ⌜ (1024 ≤ length (now heads)) × (length (now nexts) ≤ 4096) × ((h : ℕ) → getD (now heads) h 0 ≡ 0) ⌝ }
+pub fn listed(list: &[u8], index: &mut [u16]) -> bool
+    requires { ⌜ (512 ≤ length (now index)) × (length (now index) ≤ 4608) × ((h : ℕ) → getD (now index) h 0 ≡ 0) ⌝ }
     ensures { λ r. ⌜ r ≡ not (failed (names (now (list .entry)))) ⌝ }
-    ensures { λ r. ⌜ (r ≡ true → Indexed (now (list .entry)) (now (heads .exit)) (now (nexts .exit))) ⌝ }
+    ensures { λ r. ⌜ (r ≡ true → Indexed (now (list .entry)) (now (index .exit))) ⌝ }
 {
     let mut at = 0;
     while at < list.len() {
@@ -205,7 +203,7 @@ pub fn listed(list: &[u8], heads: &mut [u16], nexts: &mut [u16]) -> bool
         if code == 0 {
             return false;
         }
-        if !fresh(list, at, code, heads, nexts) {
+        if !fresh(list, at, code, index) {
             return false;
         }
         at += place(kinds::byte(list, at)) + 12;
@@ -214,60 +212,60 @@ pub fn listed(list: &[u8], heads: &mut [u16], nexts: &mut [u16]) -> bool
 }
 
 // The place of the record of a chain, or one past the end.
-fn follow(list: &[u8], heads: &[u16], nexts: &[u16], kind: u8, relation: u8, code: u64) -> usize
-    requires { ⌜ (length (now list) ≤ 14 * length (now nexts)) × Indexed (now list) (now heads) (now nexts) ⌝ }
+fn follow(list: &[u8], index: &[u16], kind: u8, relation: u8, code: u64) -> usize
+    requires { ⌜ (length (now list) + 7168 ≤ 14 * length (now index)) × Indexed (now list) (now index) ⌝ }
     ensures { λ r. ⌜ ((w : Word) → Spelt w code → drop r (now (list .entry)) ≡ seek (isNamed kind relation w) (now (list .entry))) ⌝ }
 {
-    let mut link = kinds::size_at(heads, buckets::bucket(code));
+    let mut link = kinds::size_at(index, buckets::bucket(code));
     while 0 < link {
         let i = link - 1;
         if named(list, i, kind, relation, code) {
             return i;
         }
-        link = kinds::size_at(nexts, i / 14);
+        link = kinds::size_at(index, 512 + i / 14);
     }
     list.len()
 }
 
 // The place of the record, by its chain where the table has the whole list.
-fn look(list: &[u8], heads: &[u16], nexts: &[u16], kind: u8, relation: u8, code: u64) -> usize
-    requires { ⌜ (length (now nexts) ≤ 4096) × Indexed (now list) (now heads) (now nexts) ⌝ }
+fn look(list: &[u8], index: &[u16], kind: u8, relation: u8, code: u64) -> usize
+    requires { ⌜ Indexed (now list) (now index) ⌝ }
     ensures { λ r. ⌜ ((w : Word) → Spelt w code → drop r (now (list .entry)) ≡ seek (isNamed kind relation w) (now (list .entry))) ⌝ }
 {
-    if list.len() <= 14 * nexts.len() {
-        return follow(list, heads, nexts, kind, relation, code);
+    if list.len() + 7168 <= 14 * index.len() {
+        return follow(list, index, kind, relation, code);
     }
     find(list, 0, kind, relation, code)
 }
 
 // A word of more than twelve letters is found nowhere.
-pub fn relation_named(list: &[u8], heads: &[u16], nexts: &[u16], code: u64) -> Found
-    requires { ⌜ (length (now nexts) ≤ 4096) × Indexed (now list) (now heads) (now nexts) ⌝ }
+pub fn relation_named(list: &[u8], index: &[u16], code: u64) -> Found
+    requires { ⌜ Indexed (now list) (now index) ⌝ }
     ensures { λ r. ⌜ ((w : Word) → Spelt w code → r ≡ found (relationNamed (entries (now (list .entry))) w)) ⌝ }
 {
-    let at = look(list, heads, nexts, 80, 0, code);
+    let at = look(list, index, 80, 0, code);
     if at < list.len() {
         return Found::At(kinds::byte(list, at + 1));
     }
     Found::Nothing
 }
 
-pub fn attribute_named(list: &[u8], heads: &[u16], nexts: &[u16], relation: u8, code: u64) -> Found
-    requires { ⌜ (length (now nexts) ≤ 4096) × Indexed (now list) (now heads) (now nexts) ⌝ }
+pub fn attribute_named(list: &[u8], index: &[u16], relation: u8, code: u64) -> Found
+    requires { ⌜ Indexed (now list) (now index) ⌝ }
     ensures { λ r. ⌜ ((w : Word) → Spelt w code → r ≡ found (attributeNamed (entries (now (list .entry))) relation w)) ⌝ }
 {
-    let at = look(list, heads, nexts, 81, relation, code);
+    let at = look(list, index, 81, relation, code);
     if at < list.len() {
         return Found::At(kinds::byte(list, at + 2));
     }
     Found::Nothing
 }
 
-pub fn value_named(list: &[u8], heads: &[u16], nexts: &[u16], code: u64) -> Value
-    requires { ⌜ (length (now nexts) ≤ 4096) × Indexed (now list) (now heads) (now nexts) ⌝ }
+pub fn value_named(list: &[u8], index: &[u16], code: u64) -> Value
+    requires { ⌜ Indexed (now list) (now index) ⌝ }
     ensures { λ r. ⌜ ((w : Word) → Spelt w code → r ≡ valued (valueNamed (entries (now (list .entry))) w)) ⌝ }
 {
-    let at = look(list, heads, nexts, 82, 0, code);
+    let at = look(list, index, 82, 0, code);
     if at < list.len() {
         return Value::Of(
             kinds::byte(list, at + 1),

@@ -40,21 +40,19 @@ fn write(
     ids: &[u16],
     numbers: &[u64],
     list: &[u8],
-    heads: &[u16],
-    nexts: &[u16],
+    index: &[u16],
     counts: &[u64],
     marks: &[u8],
     symbols: &mut [u64],
-    slots: &mut [u16],
-    again: &mut [u16],
+    known: &mut [u64],
     frames: &mut [u64],
     draft: &mut [u8],
     out: &mut [u8],
 ) -> Reading
-    requires { ⌜ (length (now kinds) < 4000) × (length (now kinds) ≤ length (now symbols)) × (length (now kinds) < length (now slots))
-        × (length (now kinds) < length (now again)) × (length (now kinds) < length (now frames)) × (length (now draft) ≤ 2048) ⌝ }
-    requires { ⌜ ((x : ℕ) → getD (now ids) x 0 ≤ length (now kinds)) × ((x : ℕ) → getD (now slots) x 0 ≡ 0) × ((x : ℕ) → getD (now again) x 0 ≡ 0)
-        × Counted (now kinds) (now counts) × (length (now nexts) ≤ 4096) × Indexed (now list) (now heads) (now nexts) ⌝ }
+    requires { ⌜ (length (now kinds) < 4000) × (length (now kinds) ≤ length (now symbols)) × (length (now kinds) < length (now known))
+        × (length (now kinds) < length (now frames)) × (length (now draft) ≤ 2048) × (length (now kinds) ≤ 2000) ⌝ }
+    requires { ⌜ ((x : ℕ) → getD (now ids) x 0 ≤ length (now kinds)) × ((x : ℕ) → getD (now known) x 0 ≡ 0)
+        × Counted (now kinds) (now counts) × Indexed (now list) (now index) ⌝ }
     ensures { λ r. ⌜ ((text ss ls : List ℕ) → Ready text (table (now (kinds .entry)) ss ls (now (numbers .entry))) (now (ids .entry))
         (now (marks .entry)) → readingOf r (now (out .exit)) ≡ writing
         (recordsOf text (table (now (kinds .entry)) ss ls (now (numbers .entry))) (now (list .entry))) (now (out .entry))) ⌝ }
@@ -64,12 +62,11 @@ fn write(
         ids,
         numbers,
         list,
-        heads,
-        nexts,
+        index,
         counts,
         marks,
         symbols,
-        slots,
+        known,
         frames,
         draft,
     ) else {
@@ -82,17 +79,17 @@ fn write(
         copier::copy(out, 0, &draft[..length]);
         return Reading { number: 0, length };
     }
+    let mut again = [0u64; 2001];
     elaborate::elaborate(
         kinds,
         ids,
         numbers,
         list,
-        heads,
-        nexts,
+        index,
         counts,
         marks,
         symbols,
-        again,
+        &mut again,
         frames,
         out,
     );
@@ -107,24 +104,22 @@ fn resolve(
     lengths: &[u16],
     numbers: &[u64],
     list: &[u8],
-    heads: &[u16],
-    nexts: &[u16],
+    index: &[u16],
     ids: &mut [u16],
     counts: &mut [u64],
     marks: &mut [u8],
     symbols: &mut [u64],
-    slots: &mut [u16],
-    again: &mut [u16],
+    known: &mut [u64],
     frames: &mut [u64],
     draft: &mut [u8],
     out: &mut [u8],
 ) -> Reading
-    requires { ⌜ (length (now kinds) < 4000) × (length (now kinds) ≤ length (now symbols)) × (length (now kinds) < length (now slots))
-        × (length (now kinds) < length (now again)) × (length (now kinds) < length (now frames)) × (length (now draft) ≤ 2048) ⌝ }
+    requires { ⌜ (length (now kinds) < 4000) × (length (now kinds) ≤ length (now symbols)) × (length (now kinds) < length (now known))
+        × (length (now kinds) < length (now frames)) × (length (now draft) ≤ 2048) × (length (now kinds) ≤ 2000) ⌝ }
     requires { ⌜ (length (now kinds) ≤ length (now numbers)) × (length (now kinds) ≤ length (now ids)) × (length (now kinds) < length (now counts))
         × (length (now kinds) < length (now marks)) × Coded (now text) (table (now kinds) (now starts) (now lengths) (now numbers))
-        (length (now kinds)) × ((x : ℕ) → getD (now ids) x 0 ≡ 0) × ((x : ℕ) → getD (now marks) x 0 ≡ 0) × ((x : ℕ) → getD (now slots) x 0 ≡ 0)
-        × ((x : ℕ) → getD (now again) x 0 ≡ 0) × (length (now nexts) ≤ 4096) × Indexed (now list) (now heads) (now nexts) ⌝ }
+        (length (now kinds)) × ((x : ℕ) → getD (now ids) x 0 ≡ 0) × ((x : ℕ) → getD (now marks) x 0 ≡ 0) × ((x : ℕ) → getD (now known) x 0 ≡ 0)
+        × Indexed (now list) (now index) ⌝ }
     ensures { λ r. ⌜ readingOf r (now (out .exit)) ≡ writing (recordsOf (now (text .entry))
         (table (now (kinds .entry)) (now (starts .entry)) (now (lengths .entry)) (now (numbers .entry))) (now (list .entry))) (now (out .entry)) ⌝ }
 {
@@ -137,13 +132,11 @@ fn resolve(
         ids,
         numbers,
         list,
-        heads,
-        nexts,
+        index,
         counts,
         marks,
         symbols,
-        slots,
-        again,
+        known,
         frames,
         draft,
         out,
@@ -158,14 +151,12 @@ fn read_with(
     starts: &mut [u16],
     lengths: &mut [u16],
     numbers: &mut [u64],
-    heads: &mut [u16],
-    nexts: &mut [u16],
+    index: &mut [u16],
     ids: &mut [u16],
     counts: &mut [u64],
     marks: &mut [u8],
     symbols: &mut [u64],
-    slots: &mut [u16],
-    again: &mut [u16],
+    known: &mut [u64],
     frames: &mut [u64],
     spare: &mut [u8],
     out: &mut [u8],
@@ -173,11 +164,11 @@ fn read_with(
     requires { ⌜ (length (now text) ≤ 2000 → (length (now text) ≤ length (now kinds)) × (length (now text) ≤ length (now starts))
         × (length (now text) ≤ length (now lengths)) × (length (now text) ≤ length (now numbers))) ⌝ }
     requires { ⌜ (length (now text) ≤ 2000 → (length (now text) ≤ length (now ids)) × (length (now text) < length (now counts))
-        × (length (now text) < length (now marks)) × (length (now text) ≤ length (now symbols)) × (length (now text) < length (now slots))
-        × (length (now text) < length (now again)) × (length (now text) < length (now frames))) × (length (now spare) ≤ 2048)
-        × (1024 ≤ length (now heads)) × (length (now nexts) ≤ 4096) ⌝ }
-    requires { ⌜ ((x : ℕ) → getD (now heads) x 0 ≡ 0) × ((x : ℕ) → getD (now ids) x 0 ≡ 0) × ((x : ℕ) → getD (now marks) x 0 ≡ 0)
-        × ((x : ℕ) → getD (now slots) x 0 ≡ 0) × ((x : ℕ) → getD (now again) x 0 ≡ 0) ⌝ }
+        × (length (now text) < length (now marks)) × (length (now text) ≤ length (now symbols)) × (length (now text) < length (now known))
+        × (length (now text) < length (now frames))) × (length (now spare) ≤ 2048)
+        × (512 ≤ length (now index)) × (length (now index) ≤ 4608) ⌝ }
+    requires { ⌜ ((x : ℕ) → getD (now index) x 0 ≡ 0) × ((x : ℕ) → getD (now ids) x 0 ≡ 0) × ((x : ℕ) → getD (now marks) x 0 ≡ 0)
+        × ((x : ℕ) → getD (now known) x 0 ≡ 0) ⌝ }
     ensures { λ r. ⌜ readingOf r (now (out .exit)) ≡ readText (now (list .entry)) (now (text .entry)) (now (out .entry)) ⌝ }
 {
     let Outcome::Tokens(n) = tokens::cut(text, kinds, starts, lengths, numbers) else {
@@ -186,7 +177,7 @@ fn read_with(
     if !syntax::accepted(kinds, n) {
         return refused(GRAMMAR);
     }
-    if !names::listed(list, heads, nexts) {
+    if !names::listed(list, index) {
         return refused(NAMES);
     }
     resolve(
@@ -196,14 +187,12 @@ fn read_with(
         lengths,
         numbers,
         list,
-        heads,
-        nexts,
+        index,
         ids,
         counts,
         marks,
         symbols,
-        slots,
-        again,
+        known,
         frames,
         spare,
         out,
@@ -219,14 +208,12 @@ fn read_short(text: &[u8], list: &[u8], out: &mut [u8]) -> Reading
     let mut starts = [0u16; 255];
     let mut lengths = [0u16; 255];
     let mut numbers = [0u64; 255];
-    let mut heads = [0u16; 1024];
-    let mut nexts = [0u16; 256];
+    let mut index = [0u16; 768];
     let mut ids = [0u16; 255];
     let mut counts = [0u64; 256];
     let mut marks = [0u8; 256];
     let mut symbols = [0u64; 255];
-    let mut slots = [0u16; 256];
-    let mut again = [0u16; 256];
+    let mut known = [0u64; 256];
     let mut frames = [0u64; 256];
     let mut spare = [0u8; 512];
     read_with(
@@ -236,14 +223,12 @@ fn read_short(text: &[u8], list: &[u8], out: &mut [u8]) -> Reading
         &mut starts,
         &mut lengths,
         &mut numbers,
-        &mut heads,
-        &mut nexts,
+        &mut index,
         &mut ids,
         &mut counts,
         &mut marks,
         &mut symbols,
-        &mut slots,
-        &mut again,
+        &mut known,
         &mut frames,
         &mut spare,
         out,
@@ -258,14 +243,12 @@ fn read_long(text: &[u8], list: &[u8], out: &mut [u8]) -> Reading
     let mut starts = [0u16; 2000];
     let mut lengths = [0u16; 2000];
     let mut numbers = [0u64; 2000];
-    let mut heads = [0u16; 1024];
-    let mut nexts = [0u16; 4096];
+    let mut index = [0u16; 4608];
     let mut ids = [0u16; 2000];
     let mut counts = [0u64; 2001];
     let mut marks = [0u8; 2001];
     let mut symbols = [0u64; 2000];
-    let mut slots = [0u16; 2001];
-    let mut again = [0u16; 2001];
+    let mut known = [0u64; 2001];
     let mut frames = [0u64; 2001];
     let mut spare = [0u8; 2048];
     read_with(
@@ -275,14 +258,12 @@ fn read_long(text: &[u8], list: &[u8], out: &mut [u8]) -> Reading
         &mut starts,
         &mut lengths,
         &mut numbers,
-        &mut heads,
-        &mut nexts,
+        &mut index,
         &mut ids,
         &mut counts,
         &mut marks,
         &mut symbols,
-        &mut slots,
-        &mut again,
+        &mut known,
         &mut frames,
         &mut spare,
         out,

@@ -1,6 +1,6 @@
 -- The loop over tokens: the machine on what is left gives the whole.
 use Prim.Native.Nat.{ℕ, zero, suc, _+_, _-_, _%_, _≤_, _<_}
-use mathlib.Core.Bool.{Bool, true, false, cond, _&&_, _||_}
+use mathlib.Core.Bool.{Bool, true, false, not, cond, _&&_, _||_}
 use mathlib.Core.List.{List, [], _∷_}
 use mathlib.Core.Path.{_≡_, refl, sym, _∙_, ap, ap₂, subst}
 use native.Mathlib.Omega.{arith}
@@ -17,7 +17,7 @@ use Rattle.syntax.specs.Verdict.{isText}
 use Rattle.syntax.proofs.Agrees.{agrees}
 
 -- a test of all numbers below n
-upTo : (ℕ → Bool) → ℕ → Bool
+unfoldable pub upTo : (ℕ → Bool) → ℕ → Bool
 upTo f zero = true
 upTo f (suc n) = f n && upTo f n
 
@@ -64,6 +64,62 @@ sort-token k w n = plain-sort k w n ∙ go (ltb k 26) refl
     go : (x : Bool) → ltb k 26 ≡ x → sortOf (tokenOf k [] 0) ≡ sort k
     go true e = eqb-true (sortOf (tokenOf k [] 0)) (sort k) (up-to (λ k. eqb (sortOf (tokenOf k [] 0)) (sort k)) 26 known k (ltb-true k 26 e))
     go false e = high k (ltb-false k 26 e)
+
+pub point-sort : (k : ℕ) → 25 ≤ k → 25 ≡ sort k
+unfolding sort
+point-sort k h = go (ltb 25 k) refl
+  where
+    go : (x : Bool) → ltb 25 k ≡ x → 25 ≡ sort k
+    go true e = rw (le-ltb k 2 (omega arith), le-ltb k 7 (omega arith), le-ltb k 13 (omega arith), ne-eqb k 19 (λ f. omega arith), e)
+    go false e = let f : 25 ≡ k = omega (arith, ltb-false 25 k e) in ap sort f
+
+-- A rule whose sorts are kinds by themselves can be picked by the kind.
+abbrev pub same : Bool → Bool → Bool
+same true y = y
+same false y = not y
+
+abbrev pub plain : ℕ → Bool
+plain a = ltb a 25 && upTo (λ k. same (eqb a k) (eqb a (sort k))) 26
+
+abbrev pub plains : List (ℕ × ℕ) → Bool
+plains [] = true
+plains (p ∷ ps) = plain (p .0) && plains ps
+
+same-equal : (x y : Bool) → same x y ≡ true → x ≡ y
+same-equal true true h = refl
+same-equal true false h = clash h
+same-equal false true h = clash h
+same-equal false false h = refl
+
+plain-kind : (a k : ℕ) → plain a ≡ true → eqb a k ≡ eqb a (sort k)
+unfolding sort
+plain-kind a k h = go (ltb k 26) refl
+  where
+    i : (ltb a 25 ≡ true) × (upTo (λ k. same (eqb a k) (eqb a (sort k))) 26 ≡ true)
+    i = and-inv (ltb a 25) (upTo (λ k. same (eqb a k) (eqb a (sort k))) 26) h
+
+    go : (x : Bool) → ltb k 26 ≡ x → eqb a k ≡ eqb a (sort k)
+    go true e = same-equal (eqb a k) (eqb a (sort k)) (up-to (λ k. same (eqb a k) (eqb a (sort k))) 26 (i .1) k (ltb-true k 26 e))
+    go false e =
+        let l = ltb-true a 25 (i .0) in
+        let g = ltb-false k 26 e in
+        ne-eqb a k (λ f. omega arith)
+        ∙ sym (rw (le-ltb k 2 (omega arith), le-ltb k 7 (omega arith), le-ltb k 13 (omega arith), ne-eqb k 19 (λ f. omega arith), lt-ltb 25 k (omega arith)) (ne-eqb a 25 (λ f. omega arith)))
+
+pick-kind : (ps : List (ℕ × ℕ)) (k : ℕ) → plains ps ≡ true → pick ps k ≡ pick ps (sort k)
+pick-kind [] k h = refl
+pick-kind (p ∷ ps) k h =
+    let i = and-inv (plain (p .0)) (plains ps) h in
+    ap₂ (λ (x : Bool) (r : ℕ). cond x (p .1) r) (plain-kind (p .0) k (i .0)) (pick-kind ps k (i .1))
+
+module _ (m n k : ℕ) (e : m ≡ n) where
+  pub by-kind : plains (getD rules n []) ≡ true → pick (getD rules n []) k ≡ move m (sort k)
+  unfolding move
+  by-kind h = pick-kind (getD rules n []) k h ∙ ap (λ (x : ℕ). move x (sort k)) (sym e)
+
+  pub by-sort : (s : ℕ) → s ≡ sort k → pick (getD rules n []) s ≡ move m (sort k)
+  unfolding move
+  by-sort s f = ap (pick (getD rules n [])) f ∙ ap (λ (x : ℕ). move x (sort k)) (sym e)
 
 -- the modes kept, from place d down to place 1
 pub kept : List ℕ → ℕ → List ℕ
@@ -132,24 +188,41 @@ module _ (kinds : List ℕ) (n : ℕ) (stack : List ℕ) (mode depth i : ℕ) (h
   unfolding tokenAt
   token-sort text t e = sort-token (getD (t .kinds) i 0) (wordIn text t i) (getD (t .numbers) i 0) ∙ ap (λ (l : List ℕ). sort (getD l i 0)) e
 
-  pub ran-more : i < n → n < length stack → (v m d : ℕ) → v ≡ move mode (sort (getD kinds i 0)) → m ≡ modeAfter v (getD stack depth 0) → d ≡ depthAfter v depth
-      → Ran kinds n (set stack (depth + 1) (v % 32)) m d (i + 1)
-  unfolding accepts
-  ran-more l s v m d e₁ e₂ e₃ = record {
-    rest =
-        λ text t e.
+  module _ (l : i < n) (v : ℕ) (e₁ : v ≡ move mode (sort (getD kinds i 0))) where
+    stepped : (text : List ℕ) (t : Table) → t .kinds ≡ kinds
+        → accepts (stackAfter v (kept stack depth)) (modeAfter v (top (kept stack depth))) (tokensAt text t (i + 1) (n - (i + 1))) ≡ accepts [] 1 (tokensAt text t 0 n)
+    unfolding accepts
+    stepped text t e =
         sym (
         ap (accepts (kept stack depth) mode) (next-token text t l)
-        ∙ (ap (λ (x : ℕ). accepts (stackAfter x (kept stack depth)) (modeAfter x (top (kept stack depth))) (tokensAt text t (i + 1) (n - (i + 1)))) (ap (move mode) (token-sort text t e) ∙ sym e₁)
-        ∙ ap₂ (λ (σ : List ℕ) (x : ℕ). accepts σ x (tokensAt text t (i + 1) (n - (i + 1)))) (after stack depth v room ∙ ap (kept (set stack (depth + 1) (v % 32))) (sym e₃)) (ap (modeAfter v) (kept-top stack depth (h .floor)) ∙ sym e₂))
-        ) ∙ h .rest text t e;
-    inside = omega arith;
-    deep = omega (arith, e₃, after-deep stack depth v room, h .deep);
-    floor = getD-set-other stack (depth + 1) 0 (v % 32) 0 (λ e. omega arith) ∙ h .floor;
-  }
-    where
-      room : depth + 1 < length stack
-      room = omega (arith, h .deep)
+        ∙ ap (λ (x : ℕ). accepts (stackAfter x (kept stack depth)) (modeAfter x (top (kept stack depth))) (tokensAt text t (i + 1) (n - (i + 1)))) (ap (move mode) (token-sort text t e) ∙ sym e₁)
+        ) ∙ h .rest text t e
+
+    -- a move to the next mode leaves the stack alone
+    pub ran-on : v < 32 → Ran kinds n stack v depth (i + 1)
+    ran-on g = record {
+      rest = λ text t e. sym (alone (tokensAt text t (i + 1) (n - (i + 1)))) ∙ stepped text t e;
+      inside = omega arith;
+      deep = omega (arith, h .deep);
+      floor = h .floor;
+    }
+      where
+        alone : (ts : List Token) → accepts (stackAfter v (kept stack depth)) (modeAfter v (top (kept stack depth))) ts ≡ accepts (kept stack depth) v ts
+        alone ts = rw (lt-ltb v 32 g)
+
+    pub ran-more : n < length stack → (m d : ℕ) → m ≡ modeAfter v (getD stack depth 0) → d ≡ depthAfter v depth → Ran kinds n (set stack (depth + 1) (v % 32)) m d (i + 1)
+    ran-more s m d e₂ e₃ = record {
+      rest =
+          λ text t e.
+          sym (ap₂ (λ (σ : List ℕ) (x : ℕ). accepts σ x (tokensAt text t (i + 1) (n - (i + 1)))) (after stack depth v room ∙ ap (kept (set stack (depth + 1) (v % 32))) (sym e₃)) (ap (modeAfter v) (kept-top stack depth (h .floor)) ∙ sym e₂))
+          ∙ stepped text t e;
+      inside = omega arith;
+      deep = omega (arith, e₃, after-deep stack depth v room, h .deep);
+      floor = getD-set-other stack (depth + 1) 0 (v % 32) 0 (λ e. omega arith) ∙ h .floor;
+    }
+      where
+        room : depth + 1 < length stack
+        room = omega (arith, h .deep)
 
   pub ran-end : n ≤ i → (r : Bool) → r ≡ mayEnd mode && eqb depth 0 → (text : List ℕ) (t : Table) → t .kinds ≡ kinds → r ≡ isText (tokensAt text t 0 n)
   unfolding accepts tokensAt

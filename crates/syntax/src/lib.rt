@@ -46,6 +46,9 @@ const POINT: u8 = 25;
 fn sort(kind: u8) -> u8
     ensures { λ r. ⌜ r ≡ M.sort kind ⌝ }
 {
+    if POINT <= kind {
+        return POINT;
+    }
     if kind < FUNCTION {
         return kind;
     }
@@ -57,9 +60,6 @@ fn sort(kind: u8) -> u8
     }
     if kind == 19 {
         return JOIN;
-    }
-    if POINT < kind {
-        return POINT;
     }
     kind
 }
@@ -100,40 +100,41 @@ fn factor(s: u8) -> u8
     }
 }
 
-// The move in a mode: RANGE from 1, RETRIEVE from 7, targets from 9, conditions from 13, aggregates from 25.
-fn next(mode: u8, s: u8) -> u8
-    ensures { λ r. ⌜ r ≡ move mode s ⌝ }
+// The move in a mode: RANGE from 1, RETRIEVE from 7, targets from 9, conditions from 13, aggregates from 25. The sort is asked for only where it may
+// differ from the kind: at functions, signs, V and ^, and points.
+fn next(mode: u8, kind: u8) -> u8
+    ensures { λ r. ⌜ r ≡ move mode (M.sort kind) ⌝ }
 {
     match mode {
-        1 => one(s, RANGE, 2),
-        2 => one(s, NAME, 3),
-        3 => one(s, LEFT, 4),
-        4 => one(s, NAME, 5),
-        5 => two(s, COMMA, 4, RIGHT, 6),
-        6 => two(s, COLON, 2, RETRIEVE, 7),
-        7 => one(s, NAME, 8),
-        8 => one(s, COLON, 9),
-        9 => two(s, NAME, 10, FUNCTION, 32 + 12),
-        10 => one(s, POINT, 11),
-        11 => one(s, NAME, 12),
-        12 => two(s, COMMA, 9, COLON, 13),
-        13 => factor(s),
-        14 => one(s, NAME, 15),
-        15 => one(s, IN, 16),
-        16 => one(s, NAME, 17),
-        17 => one(s, LEFT, 64 + 24),
-        18 => two(s, POINT, 19, SIGN, 21),
-        19 => one(s, NAME, 20),
-        20 => one(s, SIGN, 21),
-        21 => three(s, NAME, 22, NUMBER, 24, FUNCTION, 32 + 24),
-        22 => three(s, POINT, 23, JOIN, 13, RIGHT, BACK),
-        23 => one(s, NAME, 24),
-        24 => two(s, JOIN, 13, RIGHT, BACK),
-        25 => one(s, LEFT, 26),
-        26 => one(s, NAME, 27),
-        27 => one(s, POINT, 28),
-        28 => one(s, NAME, 29),
-        29 => two(s, RIGHT, BACK, SEMICOLON, 13),
+        1 => one(kind, RANGE, 2),
+        2 => one(kind, NAME, 3),
+        3 => one(kind, LEFT, 4),
+        4 => one(kind, NAME, 5),
+        5 => two(kind, COMMA, 4, RIGHT, 6),
+        6 => two(kind, COLON, 2, RETRIEVE, 7),
+        7 => one(kind, NAME, 8),
+        8 => one(kind, COLON, 9),
+        9 => two(sort(kind), NAME, 10, FUNCTION, 32 + 12),
+        10 => one(sort(kind), POINT, 11),
+        11 => one(kind, NAME, 12),
+        12 => two(kind, COMMA, 9, COLON, 13),
+        13 => factor(sort(kind)),
+        14 => one(kind, NAME, 15),
+        15 => one(kind, IN, 16),
+        16 => one(kind, NAME, 17),
+        17 => one(kind, LEFT, 64 + 24),
+        18 => two(sort(kind), POINT, 19, SIGN, 21),
+        19 => one(kind, NAME, 20),
+        20 => one(sort(kind), SIGN, 21),
+        21 => three(sort(kind), NAME, 22, NUMBER, 24, FUNCTION, 32 + 24),
+        22 => three(sort(kind), POINT, 23, JOIN, 13, RIGHT, BACK),
+        23 => one(kind, NAME, 24),
+        24 => two(sort(kind), JOIN, 13, RIGHT, BACK),
+        25 => one(kind, LEFT, 26),
+        26 => one(kind, NAME, 27),
+        27 => one(sort(kind), POINT, 28),
+        28 => one(kind, NAME, 29),
+        29 => two(kind, RIGHT, BACK, SEMICOLON, 13),
         _ => 0,
     }
 }
@@ -143,15 +144,12 @@ struct State {
     depth: usize,
 }
 
-// What a move does, where top is the mode kept last.
+// What a move does that keeps a mode or takes one up; top is the mode kept last.
 fn moved(v: u8, depth: usize, top: u8) -> State
-    requires { ⌜ depth < 4096 ⌝ }
+    requires { ⌜ (32 ≤ v) × (depth < 4096) ⌝ }
     ensures { λ r. ⌜ r .mode ≡ modeAfter v top ⌝ }
     ensures { λ r. ⌜ r .depth ≡ depthAfter v depth ⌝ }
 {
-    if v < 32 {
-        return State { mode: v, depth };
-    }
     if v < 64 {
         return State {
             mode: 25,
@@ -198,14 +196,18 @@ fn run(kinds: &[u8], n: usize, stack: &mut [u8]) -> bool
     let mut depth = 0;
     let mut i = 0;
     while i < n {
-        let v = next(mode, sort(kinds[i]));
+        let v = next(mode, kinds[i]);
+        i += 1;
+        if v < 32 {
+            mode = v;
+            continue;
+        }
         let top = stack[depth];
         let above = depth + 1;
         stack[above] = v % 32;
         let s = moved(v, depth, top);
         mode = s.mode;
         depth = s.depth;
-        i += 1;
     }
     ends(mode, depth)
 }

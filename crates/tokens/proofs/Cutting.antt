@@ -11,7 +11,7 @@ use lib.Seq.{getD-set-same, getD-set-other, drop-drop}
 use borrow.Author.Tests.{leb-true, leb-false, le-leb, lt-leb}
 use Rattle.model.proofs.Tests.{clash}
 use Rattle.quel.specs.Results.{Read, fail, ok, then, need}
-use Rattle.quel.specs.Tokens.{Token, isBlank, past, token, tokensFrom, tokens}
+use Rattle.quel.specs.Tokens.{Token, isBlank, token, tokensFrom, tokens}
 use Rattle.quel.specs.Lexical.{first, Spelled}
 use Rattle.quel.proofs.Results.{never}
 use Rattle.quel.proofs.Lexical.{spelled-cut, cut-spelled}
@@ -20,7 +20,7 @@ use Rattle.tokens.specs.Table.{Table, tokenOf, wordIn, tokenAt, tokensAt
 use Rattle.tokens.specs.Pieces.{leading, stands, Leads, readOf}
 use Rattle.tokens.specs.declared.Piece.the-variants as P
 use Rattle.tokens.specs.declared.Outcome.the-variants as O
-use Rattle.tokens.proofs.Places.{past-first}
+use Rattle.tokens.proofs.Places.{split, first-at}
 
 abbrev Tokens : Type 0
 Tokens = Read (List ℕ) (List Token)
@@ -43,15 +43,6 @@ fuel n s h = go (tokensFrom n s) refl
 lex-blank : (b : ℕ) (s : List ℕ) → isBlank b ≡ true → lex (b ∷ s) ≡ lex s
 unfolding tokensFrom
 lex-blank b s e = rw (tokensFrom, e)
-
-lex-past : (s : List ℕ) → lex (past isBlank s) ≡ lex s
-unfolding past
-lex-past [] = refl
-lex-past (b ∷ s) = go (isBlank b) refl (lex-past s)
-  where
-    go : (x : Bool) → isBlank b ≡ x → lex (past isBlank s) ≡ lex s → lex (cond x (past isBlank s) (b ∷ s)) ≡ lex (b ∷ s)
-    go true e h = h ∙ sym (lex-blank b s e)
-    go false e h = refl
 
 abbrev pub before : Token → Tokens → Tokens
 before t x = then x λ ts r. ok (t ∷ ts) r
@@ -133,7 +124,6 @@ ahead-more ts t (ok us r) = rw append-assoc
 
 pub record Held (text K S L N : List ℕ) (at n : ℕ) : Type 0 where
   pub reads : ahead (tokensAt text (record { kinds = K; starts = S; lengths = L; numbers = N }) 0 n) (lex (drop at text)) ≡ lex text
-  pub word : first isBlank (drop at text) ≡ false
   pub behind : n ≤ at
   pub inside : at ≤ length text
   pub coded : Coded text (record { kinds = K; starts = S; lengths = L; numbers = N }) n
@@ -141,13 +131,12 @@ pub record Held (text K S L N : List ℕ) (at n : ℕ) : Type 0 where
 pub none-coded : (text : List ℕ) (t : Table) → Coded text t 0
 none-coded text t = record { spelt = λ i l z. absurd (omega arith) }
 
-pub held-start : (text K S L N : List ℕ) (at : ℕ) → drop at text ≡ past isBlank text → at ≤ length text → Held text K S L N at 0
+pub held-start : (text K S L N : List ℕ) → Held text K S L N 0 0
 unfolding tokensAt
-held-start text K S L N at e h = record {
-  reads = ahead-none (lex (drop at text)) ∙ (ap lex e ∙ lex-past text);
-  word = rw e (past-first isBlank text);
+held-start text K S L N = record {
+  reads = ahead-none (lex text);
   behind = omega arith;
-  inside = h;
+  inside = omega arith;
   coded = none-coded text (record { kinds = K; starts = S; lengths = L; numbers = N });
 }
 
@@ -169,29 +158,41 @@ module _ (text K S L N : List ℕ) (at n : ℕ) (h : Held text K S L N at n) (sh
       nil ts = ap (λ (us : List Token). ok us []) (append-nil ts)
 
   module _ (l : at < length text) where
-    pub held-refused : Leads P.Refused (drop at text) → fail ≡ tokens text
-    held-refused p =
-        ap (ahead (tokensAt text (record { kinds = K; starts = S; lengths = L; numbers = N }) 0 n)) (sym (lex-refused (drop at text) (omega (arith, length-drop at text)) (h .word) (sym (p .says))))
-        ∙ (h .reads ∙ sym whole)
+    pub held-blank : isBlank (getD text at 0) ≡ true → Held text K S L N (at + 1) n
+    held-blank e = record {
+      reads =
+          ap (ahead (tokensAt text (record { kinds = K; starts = S; lengths = L; numbers = N }) 0 n)) (sym (ap lex (split text at l) ∙ lex-blank (getD text at 0) (drop (at + 1) text) e))
+          ∙ h .reads;
+      behind = omega (arith, h .behind);
+      inside = omega arith;
+      coded = h .coded;
+    }
 
-    module _ (k m v : ℕ) (p : Leads (P.Found k m v) (drop at text)) where
-      pub held-room : (1 ≤ m) × (at + m ≤ length text)
-      held-room = (p .fits .0, omega (arith, p .fits .1, length-drop at text))
+    module _ (w : isBlank (getD text at 0) ≡ false) where
+      word : first isBlank (drop at text) ≡ false
+      word = first-at isBlank text at l ∙ w
 
-      pub held-more : n < length K → n < length S → n < length L → n < length N → (to : ℕ) → drop to text ≡ past isBlank (drop (at + m) text) → at + m ≤ to → to ≤ length text
-          → Held text (set K n k) (set S n at) (set L n m) (set N n v) to (n + 1)
-      held-more h₁ h₂ h₃ h₄ to e g i = record {
-        reads =
-            ap₂ ahead (ap (tokensAt text (new text K S L N n k at m v) 0) (add-one n) ∙ (more text K S L N n k at m v 0 n (omega arith) ∙ ap (λ (t : Token). tokensAt text (old text K S L N n k at m v) 0 n ++ (t ∷ [])) (added text K S L N n k at m v h₁ h₂ h₃ h₄))) (ap lex e ∙ lex-past (drop (at + m) text))
-            ∙ (ahead-more (tokensAt text (old text K S L N n k at m v) 0 n) (tokenOf k (take m (drop at text)) v) (lex (drop (at + m) text))
-            ∙ (ap (ahead (tokensAt text (old text K S L N n k at m v) 0 n)) turned ∙ h .reads));
-        word = rw e (past-first isBlank (drop (at + m) text));
-        behind = omega (arith, h .behind, p .fits .0);
-        inside = i;
-        coded = coded-more text K S L N n k at m v h₁ h₂ h₃ h₄ (h .coded) (p .names);
-      }
-        where
-          turned : before (tokenOf k (take m (drop at text)) v) (lex (drop (at + m) text)) ≡ lex (drop at text)
-          turned =
-              ap (λ (s : List ℕ). before (tokenOf k (take m (drop at text)) v) (lex s)) (sym (drop-drop m at text))
-              ∙ sym (lex-token (drop at text) (tokenOf k (take m (drop at text)) v) m (h .word) (sym (p .says)) (p .fits .0) (p .fits .1))
+      pub held-refused : Leads P.Refused (drop at text) → fail ≡ tokens text
+      held-refused p =
+          ap (ahead (tokensAt text (record { kinds = K; starts = S; lengths = L; numbers = N }) 0 n)) (sym (lex-refused (drop at text) (omega (arith, length-drop at text)) word (sym (p .says))))
+          ∙ (h .reads ∙ sym whole)
+
+      module _ (k m v : ℕ) (p : Leads (P.Found k m v) (drop at text)) where
+        pub held-room : (1 ≤ m) × (at + m ≤ length text)
+        held-room = (p .fits .0, omega (arith, p .fits .1, length-drop at text))
+
+        pub held-more : n < length K → n < length S → n < length L → n < length N → Held text (set K n k) (set S n at) (set L n m) (set N n v) (at + m) (n + 1)
+        held-more h₁ h₂ h₃ h₄ = record {
+          reads =
+              ap (λ (ts : List Token). ahead ts (lex (drop (at + m) text))) (ap (tokensAt text (new text K S L N n k at m v) 0) (add-one n) ∙ (more text K S L N n k at m v 0 n (omega arith) ∙ ap (λ (t : Token). tokensAt text (old text K S L N n k at m v) 0 n ++ (t ∷ [])) (added text K S L N n k at m v h₁ h₂ h₃ h₄)))
+              ∙ (ahead-more (tokensAt text (old text K S L N n k at m v) 0 n) (tokenOf k (take m (drop at text)) v) (lex (drop (at + m) text))
+              ∙ (ap (ahead (tokensAt text (old text K S L N n k at m v) 0 n)) turned ∙ h .reads));
+          behind = omega (arith, h .behind, p .fits .0);
+          inside = held-room .1;
+          coded = coded-more text K S L N n k at m v h₁ h₂ h₃ h₄ (h .coded) (p .names);
+        }
+          where
+            turned : before (tokenOf k (take m (drop at text)) v) (lex (drop (at + m) text)) ≡ lex (drop at text)
+            turned =
+                ap (λ (s : List ℕ). before (tokenOf k (take m (drop at text)) v) (lex s)) (sym (drop-drop m at text))
+                ∙ sym (lex-token (drop at text) (tokenOf k (take m (drop at text)) v) m word (sym (p .says)) (p .fits .0) (p .fits .1))

@@ -18,7 +18,7 @@ use Rattle.tokens.specs.Kinds.{codeOf, kindSpelled, signKind}
 use Rattle.tokens.specs.Pieces.{leading, stands, Leads, Opens, Single, afterFirst}
 use Rattle.tokens.specs.declared.Piece.{Piece}
 use Rattle.tokens.specs.declared.Piece.the-variants as P
-use Rattle.tokens.proofs.Places.{split, first-lt, passed, run-length, take-run, drop-run, run-all, within-bounds, only}
+use Rattle.tokens.proofs.Places.{split, first-lt, passed, run-goes, run-length, take-run, drop-run, run-all, within-bounds, only}
 use Rattle.tokens.proofs.Values.{capped-le, capped-exact, decimals}
 use Rattle.tokens.proofs.Words.{word-token, sign-token}
 
@@ -38,6 +38,19 @@ word-reads s v k n h e₀ e₁ e₂ = record {
   fits = (omega (arith, some-run isLetter s h), omega (arith, run-length isLetter s));
   names = λ z. subst (λ (w : List ℕ). Spelt w v × (1 ≤ length w)) (sym (ap (λ (m : ℕ). take m s) e₂ ∙ take-run isLetter s)) (record { letters = run-all isLetter s; code = e₀ }, some-run isLetter s h);
 }
+
+-- with the first letter counted in
+pub word-reads-at : (text : List ℕ) (at u v k n : ℕ) → first isLetter (drop at text) ≡ true → u ≡ getD text at 0 - 39
+    → v ≡ capped (positional 26 65 u (run isLetter (drop (at + 1) text))) → k ≡ kindSpelled reserved v → n ≡ 1 + length (run isLetter (drop (at + 1) text))
+    → Leads (P.Found k n v) (drop at text)
+unfolding positional
+word-reads-at text at u v k n h e₀ e₁ e₂ e₃ =
+    let goes = run-goes isLetter text at h in
+    let low = within-bounds 65 90 (getD text at 0) (passed isLetter text at h) .0 in
+    word-reads (drop at text) v k n h
+    (e₁ ∙ (ap (λ (x : ℕ). capped (positional 26 65 x (run isLetter (drop (at + 1) text)))) (omega (arith, e₀, low)) ∙ ap (λ (w : List ℕ). capped (codeOf w)) (sym goes)))
+    e₂
+    (omega (arith, e₃, ap length goes))
 
 digit-leads : (s : List ℕ) → first isDigit s ≡ true → leading s ≡ plain (run isDigit s) (past isDigit s)
 unfolding token run past

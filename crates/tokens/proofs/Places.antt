@@ -37,18 +37,9 @@ module _ (p : ℕ → Bool) where
   stop-run [] h = refl
   stop-run (b ∷ s) h = rw h
 
-  stop-past : (s : List ℕ) → first p s ≡ false → past p s ≡ s
-  unfolding past
-  stop-past [] h = refl
-  stop-past (b ∷ s) h = rw h
-
   go-run : (b : ℕ) (s : List ℕ) → p b ≡ true → run p (b ∷ s) ≡ b ∷ run p s
   unfolding run
   go-run b s h = rw h
-
-  go-past : (b : ℕ) (s : List ℕ) → p b ≡ true → past p (b ∷ s) ≡ past p s
-  unfolding past
-  go-past b s h = rw h
 
   pub run-length : (s : List ℕ) → length (run p s) ≤ length s
   unfolding run
@@ -86,22 +77,10 @@ module _ (p : ℕ → Bool) where
       go true e h = rw (e, h)
       go false e h = refl
 
-  pub past-first : (s : List ℕ) → first p (past p s) ≡ false
-  unfolding past
-  past-first [] = refl
-  past-first (b ∷ s) = go (p b) refl (past-first s)
-    where
-      go : (x : Bool) → p b ≡ x → first p (past p s) ≡ false → first p (cond x (past p s) (b ∷ s)) ≡ false
-      go true e h = h
-      go false e h = e
-
   -- at a place of a text
   module _ (text : List ℕ) (i : ℕ) where
     pub run-stops : first p (drop i text) ≡ false → run p (drop i text) ≡ []
     run-stops h = stop-run (drop i text) h
-
-    pub past-stops : first p (drop i text) ≡ false → past p (drop i text) ≡ drop i text
-    past-stops h = stop-past (drop i text) h
 
     module _ (h : first p (drop i text) ≡ true) where
       pub passed : p (getD text i 0) ≡ true
@@ -109,9 +88,6 @@ module _ (p : ℕ → Bool) where
 
       pub run-goes : run p (drop i text) ≡ getD text i 0 ∷ run p (drop (i + 1) text)
       run-goes = ap (run p) (split text i (first-lt text i h)) ∙ go-run (getD text i 0) (drop (i + 1) text) passed
-
-      pub past-goes : past p (drop i text) ≡ past p (drop (i + 1) text)
-      past-goes = ap (past p) (split text i (first-lt text i h)) ∙ go-past (getD text i 0) (drop (i + 1) text) passed
 
 pub within-bounds : (low high b : ℕ) → within low high b ≡ true → (low ≤ b) × (b ≤ high)
 within-bounds low high b h = let i = and-inv (leb low b) (leb b high) h in (leb-true low b (i .0), leb-true b high (i .1))

@@ -3,7 +3,7 @@ ghost use mathlib.Core.Path.{_≡_};
 ghost use mathlib.Core.Bool.{true};
 ghost use Prim.Native.Nat.{_+_, _*_, _≤_, _<_};
 ghost use lib.ListN.{length, drop};
-ghost use Rattle.quel.specs.Tokens.{reserved, signs, isBlank, isLetter, isDigit, past, run, tokens};
+ghost use Rattle.quel.specs.Tokens.{reserved, signs, isBlank, isLetter, isDigit, run, tokens};
 ghost use Rattle.quel.specs.Lexical.{first};
 ghost use Rattle.tokens.specs.Spans.{within, positional, capped};
 ghost use Rattle.tokens.specs.Kinds.{codeOf, kindSpelled, signKind};
@@ -52,7 +52,7 @@ pub struct Span {
 }
 
 fn stretch(text: &[u8], at: usize, low: u8, high: u8, base: u64, start: u64) -> Span
-    requires { ⌜ (at ≤ length (now text)) × (1 ≤ base) × (base ≤ 26) × (start ≤ 1) ⌝ }
+    requires { ⌜ (at ≤ length (now text)) × (1 ≤ base) × (base ≤ 26) × (start ≤ 288230376151711744) ⌝ }
     ensures { λ r. ⌜ r .end ≡ at + length (run (within low high) (drop at (now (text .entry)))) ⌝ }
     ensures { λ r. ⌜ r .value ≡ capped (positional base low start (run (within low high) (drop at (now (text .entry))))) ⌝ }
 {
@@ -117,11 +117,12 @@ enum Piece {
     Refused,
 }
 
+// The letter that is known to stand here is counted in: A spells 26 by itself.
 fn word(text: &[u8], at: usize) -> Piece
     requires { ⌜ first isLetter (drop at (now text)) ≡ true ⌝ }
     ensures { λ r. ⌜ Leads r (drop at (now (text .entry))) ⌝ }
 {
-    let s = stretch(text, at, 65, 90, 26, 1);
+    let s = stretch(text, at + 1, 65, 90, 26, wide(text[at]) - 39);
     let end = s.end;
     let code = s.value;
     Piece::Found(word_kind(code), end - at, code)
@@ -217,28 +218,6 @@ fn is_blank(b: u8) -> bool
     b == 13
 }
 
-fn blank_at(text: &[u8], i: usize) -> bool
-    ensures { λ r. ⌜ r ≡ first isBlank (drop i (now (text .entry))) ⌝ }
-{
-    if i < text.len() {
-        is_blank(text[i])
-    } else {
-        false
-    }
-}
-
-// The first place from at on at which no blank stands.
-fn skip(text: &[u8], at: usize) -> usize
-    requires { ⌜ at ≤ length (now text) ⌝ }
-    ensures { λ r. ⌜ (drop r (now (text .entry)) ≡ past isBlank (drop at (now (text .entry)))) × (at ≤ r) × (r ≤ length (now (text .entry))) ⌝ }
-{
-    let mut i = at;
-    while blank_at(text, i) {
-        i += 1;
-    }
-    i
-}
-
 // How many tokens, or no text.
 pub enum Outcome {
     Tokens(usize),
@@ -272,9 +251,13 @@ pub fn cut(
     if 2000 < text.len() {
         return Outcome::Refused;
     }
-    let mut at = skip(text, 0);
+    let mut at = 0;
     let mut n = 0;
     while at < text.len() {
+        if is_blank(text[at]) {
+            at += 1;
+            continue;
+        }
         let Piece::Found(kind, size, value) = piece_at(text, at) else {
             return Outcome::Refused;
         };
@@ -283,7 +266,7 @@ pub fn cut(
         lengths[n] = size as u16;
         numbers[n] = value;
         n += 1;
-        at = skip(text, at + size);
+        at += size;
     }
     Outcome::Tokens(n)
 }

@@ -1,12 +1,12 @@
 -- Steps of the RANGE list.
 use Prim.Native.Nat.{ℕ, zero, suc, _+_, _-_, _≤_, _<_}
-use mathlib.Core.Bool.{Bool, true, false, not, cond}
+use mathlib.Core.Bool.{Bool, true, false, not, cond, _&&_}
 use mathlib.Core.List.{List, [], _∷_, _++_, map, map-append, append-assoc, append-nil}
 use mathlib.Core.Option.{Option, none, some}
 use mathlib.Core.Path.{_≡_, refl, sym, ap, ap₂, _∙_, subst}
 use native.Mathlib.Omega.{arith}
 use native.Mathlib.Numerals.{add-one}
-use lib.Dec.{eqb}
+use lib.Dec.{eqb, leb}
 use lib.ListN.{length, getD, set, take}
 use lib.Seq.{sets, take-suc-set}
 use borrow.Author.Tests.{ne-eqb}
@@ -21,7 +21,10 @@ use Rattle.tokens.specs.Table.{Table, tokenAt, wordIn}
 use Rattle.flat.specs.Flat.{uses, bound, rangeName, symbolOf}
 use Rattle.marks.specs.Places.{tokensFrom, nameIn}
 use Rattle.marks.proofs.Walks.{from-cons, from-end, here, here-is}
-use Rattle.items.specs.Reach.{modeIn, relationIn, variableIn, placeIn, rangeSymbol}
+use Rattle.items.specs.declared.reach.Known.the-variants as K
+use Rattle.items.specs.Reach.{modeIn, relationIn, variableIn, placeIn, rangeSymbol, knownBy, knownOf, standing}
+use Rattle.items.specs.Tables.{Same, Holds}
+use Rattle.items.proofs.reach.Holds.{holds-none, holds-more}
 use Rattle.items.proofs.Ranges.{bound-kind}
 use Rattle.elaborate.specs.After.{ended}
 use Rattle.elaborate.proofs.turns.Laws.{ended-before}
@@ -173,3 +176,29 @@ module _ (text : List ℕ) (t : Table) (es : List Entry) (main i : ℕ) (s : Tal
 
 pub within : (s u : Tally) (r : Ranges) → Counts s r → r ≡ R.Listed u → (u .count ≤ s .count + 1) × (u .n ≤ s .n + 1) × (u .at ≤ s .at + 3)
 within s u r w e = subst (Counts s) e w
+
+-- no name stands for anything yet
+pub stands-none : (w : ℕ → Word) (ids cs known : List ℕ) → ((x : ℕ) → getD known x 0 ≡ 0) → Holds w ids known 0 0 (map (rangeSymbol w) (take 0 cs))
+stands-none w ids [] known z = holds-none w ids known 0 z
+stands-none w ids (c ∷ cs) known z = holds-none w ids known 0 z
+
+-- a symbol more among the first k of a table
+module _ (w : ℕ → Word) (ids cs known : List ℕ) (k : ℕ) (f : Same w ids) (h : k < length cs) (g : Holds w ids known 0 0 (map (rangeSymbol w) (take k cs))) (c e i : ℕ) (b : Bool)
+    (pc : placeIn c ≡ i) (mc : modeIn c ≡ cond b 1 0) (me : modeIn e ≡ cond b 1 2) (re : relationIn e ≡ relationIn c) (ve : variableIn e ≡ variableIn c) (pe : placeIn e ≡ 0) (room : getD ids i 0 < length known) where
+  says : knownOf (some (rangeSymbol w c)) ≡ standing 0 e
+  unfolding rangeSymbol
+  says = rw (mc, me, re, ve, pe) (by b)
+    where
+      by : (b : Bool) → knownBy (relationIn c) (cond (eqb (cond b 1 0) 0) none (some (variableIn c)))
+          ≡ cond (eqb (cond b 1 2) 0) K.Nothing (cond (eqb (cond b 1 2) 1 && leb 0 0) (K.Variable (relationIn c) (variableIn c)) (K.Head (relationIn c)))
+      by true = refl
+      by false = refl
+
+  pub stands-more : (after : List ℕ) → after ≡ cond (eqb (modeIn (getD known (getD ids i 0) 0)) 0) (set known (getD ids i 0) e) known → Holds w ids after 0 0 (map (rangeSymbol w) (take (k + 1) (set cs k c)))
+  unfolding rangeSymbol
+  stands-more after ea =
+      rw (ea, add-one k, take-suc-set cs k c h, map-append (rangeSymbol w) (take k cs) (c ∷ []))
+      (holds-more w ids known (map (rangeSymbol w) (take k cs)) g f i e (rangeSymbol w c) room (ap w pc) says pe)
+
+pub count-fits : (n : ℕ) → n < 4000 → n + 1 < 18446744073709551616
+count-fits n h = omega arith

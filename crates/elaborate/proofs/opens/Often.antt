@@ -5,20 +5,12 @@ use mathlib.Core.Path.{_≡_, refl, sym, ap, _∙_}
 use native.Mathlib.Omega.{arith}
 use native.Mathlib.Numerals.{add-one}
 use lib.ListN.{length, length-append}
+use native.Mathlib.Nat.{add-zero}
 use lib.Seq.{sets}
 use Rattle.quel.specs.Writing.{often}
-use denote.Enum.Declared.{tagOf, declared}
-use types.Run.{OneOf, miss}
-use Rattle.kinds.specs.declared.Record.{Record}
-use Rattle.kinds.specs.declared.Record.the-variants as R
-use Rattle.kinds.proofs.Record.{enum}
 use mathlib.Core.Bool.{Bool, true, false, cond, _&&_}
 use lib.Dec.{leb}
 use borrow.Author.Tests.{le-leb, lt-leb}
-use native.Mathlib.Nat.{add-zero}
-use mathlib.Core.Path.{subst}
-use Rattle.items.specs.Reach.{modeIn, relationIn, variableIn, placeIn}
-use Rattle.items.specs.Puts.{Framed}
 use Rattle.copier.proofs.Sets.{sets-then}
 
 pub often-length : (n b : ℕ) → length (often n b []) ≡ n
@@ -65,30 +57,6 @@ module _ (d : List ℕ) (at m k s : ℕ) where
   pub a-sign : m ≤ 2 → k ≤ 6 → (x : List ℕ) (r : ℕ) → r ≡ at + length (21 ∷ s ∷ []) → x ≡ sets d at (21 ∷ s ∷ [])
       → (r ≡ at + length (cond (leb m 2 && leb k 6) (21 ∷ s ∷ []) [])) × (x ≡ sets d at (cond (leb m 2 && leb k 6) (21 ∷ s ∷ []) []))
   a-sign h i x r er ex = rw (le-leb m 2 h, le-leb k 6 i) (er, ex)
-
--- the frame of a record
-pub framed-as : (it r : Record) (i c : ℕ) → it ≡ r → Framed r i c → Framed it i c
-framed-as it r i c e f = subst (λ (x : Record). Framed x i c) (sym e) f
-
-module _ (i c : ℕ) (m : modeIn c ≡ 0) (r : relationIn c ≡ 0) (v : variableIn c ≡ 0) (p : placeIn c ≡ i) where
-  framed : (it : Record) → OneOf (0 ∷ 1 ∷ 2 ∷ 3 ∷ 4 ∷ 5 ∷ 6 ∷ 8 ∷ 9 ∷ 11 ∷ 12 ∷ 13 ∷ []) (tagOf (declared enum) it) → Framed it i c
-  framed (R.Range _ _) h = record { mode = m; relation = r; variable = v; place = p ∙ sym (add-zero i) }
-  framed R.True h = record { mode = m; relation = r; variable = v; place = p ∙ sym (add-zero i) }
-  framed R.False h = record { mode = m; relation = r; variable = v; place = p ∙ sym (add-zero i) }
-  framed R.Not h = record { mode = m; relation = r; variable = v; place = p ∙ sym (add-zero i) }
-  framed R.And h = record { mode = m; relation = r; variable = v; place = p ∙ sym (add-zero i) }
-  framed R.Or h = record { mode = m; relation = r; variable = v; place = p ∙ sym (add-zero i) }
-  framed (R.Compare _) h = record { mode = m; relation = r; variable = v; place = p ∙ sym (add-zero i) }
-  framed (R.Some _ _) h = absurd (miss (0 ∷ 1 ∷ 2 ∷ 3 ∷ 4 ∷ 5 ∷ 6 ∷ 8 ∷ 9 ∷ 11 ∷ 12 ∷ 13 ∷ []) 7 tt h)
-  framed (R.Constant _ _ _ _) h = record { mode = m; relation = r; variable = v; place = p ∙ sym (add-zero i) }
-  framed (R.Attribute _ _) h = record { mode = m; relation = r; variable = v; place = p ∙ sym (add-zero i) }
-  framed (R.Aggregate _ _ _ _) h = absurd (miss (0 ∷ 1 ∷ 2 ∷ 3 ∷ 4 ∷ 5 ∷ 6 ∷ 8 ∷ 9 ∷ 11 ∷ 12 ∷ 13 ∷ []) 10 tt h)
-  framed (R.Permit _ _ _) h = record { mode = m; relation = r; variable = v; place = p ∙ sym (add-zero i) }
-  framed R.Unknown h = record { mode = m; relation = r; variable = v; place = p ∙ sym (add-zero i) }
-  framed R.Short h = record { mode = m; relation = r; variable = v; place = p ∙ sym (add-zero i) }
-
-pub framed-none : (it : Record) → OneOf (0 ∷ 1 ∷ 2 ∷ 3 ∷ 4 ∷ 5 ∷ 6 ∷ 8 ∷ 9 ∷ 11 ∷ 12 ∷ 13 ∷ []) (tagOf (declared enum) it) → (i c : ℕ) → modeIn c ≡ 0 → relationIn c ≡ 0 → variableIn c ≡ 0 → placeIn c ≡ i → Framed it i c
-framed-none it h i c m r v p = framed i c m r v p it h
 
 -- V's, ^'s and a sign
 pub opened-all : (d x y r : List ℕ) (at p q s n o l a : ℕ) (c : List ℕ)

@@ -28,20 +28,18 @@ use Rattle.marks.specs.Places.{tokensFrom, nameIn, pointIn}
 use Rattle.marks.proofs.Walks.{from-cons, here, point-from}
 use Rattle.items.specs.declared.reach.Known.{Known}
 use Rattle.items.specs.declared.reach.Known.the-variants as K
-use Rattle.items.specs.Reach.{knownOf, modeIn, placeIn, onto, reaches}
-use Rattle.items.proofs.reach.Seeks.{reach-pushed, reach-popped}
+use Rattle.items.specs.Reach.{knownOf}
 use Rattle.copier.specs.Copied.{recordBytes}
 use Rattle.copier.proofs.Sets.{sets-append, wrote-then}
 use Rattle.items.specs.declared.Item.{Item}
 use Rattle.items.specs.declared.Item.the-variants as I
 use Rattle.items.specs.Actions.{modeNumber, actionOf, nextOf, itemOf, useBy, headBy, someBy, valueBy, useItem, headItem}
-use Rattle.items.specs.Puts.{Framed, frameMode, frameOffset, putting, symbolBy, reachAfter, numberAfter, written}
+use Rattle.items.specs.Puts.{frameMode, putting, symbolBy, reachAfter, numberAfter, written}
 use Rattle.items.proofs.Turns.{opening, next-number}
 use Rattle.items.proofs.Turn as T
-use Rattle.items.proofs.Puts.{onto-head, onto-some, onto-left}
 use Rattle.elaborate.specs.Opens.{openBytes}
 use Rattle.elaborate.proofs.opens.Often.{often-length}
-use Rattle.elaborate.specs.After.{ended, modeOf, Fits, Pushed}
+use Rattle.elaborate.specs.After.{ended, modeOf, Fits}
 
 -- bytes before bytes
 pub ended-before : (d : List ℕ) (at : ℕ) (xs : List ℕ) (g : Written) → ended d at (before (λ bs. xs ++ bs) g) ≡ ended (sets d at xs) (at + length xs) g
@@ -278,52 +276,13 @@ module _ (es : List Entry) (f : Record → ℕ) (d g n : ℕ) (x : Word) where
 
 pub fits : (es : List Entry) (a g v : ℕ) (x₀ x₂ x₃ x₄ : Word) (ρ : List Symbol) (n : ℕ) (it : Record) (x : Item) → x ≡ itemOf es a g v x₀ x₂ x₃ x₄ ρ n → x ≡ I.Put it → Fits a it
 fits es a g v x₀ x₂ x₃ x₄ ρ n it x ex ei = record {
-  head = λ z. (
-    sym (ap (itemBy frameMode 2) (at 4 z)) ∙ head-by es frameMode 2 g n x₄ (λ g v r a. refl) (knownOf (symbolIn x₂ ρ)),
-    sym (ap (itemBy frameOffset 2) (at 4 z)) ∙ head-by es frameOffset 2 g n x₄ (λ g v r a. refl) (knownOf (symbolIn x₂ ρ)),
-  );
-  binder = λ z. (
-    sym (ap (itemBy frameMode 1) (at 6 z)) ∙ some-by es frameMode 1 g n x₄ (λ v r. refl) (relationNamed es x₃),
-    sym (ap (itemBy frameOffset 1) (at 6 z)) ∙ some-by es frameOffset 1 g n x₄ (λ v r. refl) (relationNamed es x₃),
-  );
+  head = λ z. sym (ap (itemBy frameMode 2) (at 4 z)) ∙ head-by es frameMode 2 g n x₄ (λ g v r a. refl) (knownOf (symbolIn x₂ ρ));
+  binder = λ z. sym (ap (itemBy frameMode 1) (at 6 z)) ∙ some-by es frameMode 1 g n x₄ (λ v r. refl) (relationNamed es x₃);
   left = λ z. sym (ap (itemBy frameMode 0) (at 7 z));
 }
   where
     at : (b : ℕ) → a ≡ b → itemOf es b g v x₀ x₂ x₃ x₄ ρ n ≡ I.Put it
     at b z = ap (λ (y : ℕ). itemOf es y g v x₀ x₂ x₃ x₄ ρ n) (sym z) ∙ sym ex ∙ ei
-
--- the reaches after an action
-module _ (fs gs : List ℕ) (p a i r : ℕ) (it : Record) where
-  abbrev Shifted : Type 0
-  Shifted = ((w : ℕ → Word) (ρ : List Symbol) → reaches w ρ gs r ≡ reachAfter a (w (i + 1)) (w (i + 2)) it (reaches w ρ fs p)) × (r ≤ p + 1)
-
-  module _ (h : p < length fs) (f : Fits a it) (er : r ≡ p + 1) (u : Pushed it i p fs gs) where
-    pushed : (w : ℕ → Word) (ρ : List Symbol) → reaches w ρ gs r ≡ onto w ρ (u .frame) (inner (reaches w ρ fs p)) ∷ reaches w ρ fs p
-    pushed w ρ = rw (er, u .there) (reach-pushed w ρ fs p (u .frame) h)
-
-    pub shift-head : a ≡ 4 → Shifted
-    shift-head e = (λ w ρ. rw e (pushed w ρ ∙ ap (λ (l : List Symbol). l ∷ reaches w ρ fs p) (onto-head w ρ it i (u .frame) (u .framed) (reaches w ρ fs p) (w (i + 2)) (ap w (u .framed .place ∙ ap (λ (n : ℕ). i + n) (f .head e .1))) (u .framed .mode ∙ f .head e .0))), omega arith)
-
-    pub shift-some : a ≡ 6 → Shifted
-    shift-some e = (λ w ρ. rw e (pushed w ρ ∙ ap (λ (l : List Symbol). l ∷ reaches w ρ fs p) (onto-some w ρ it i (u .frame) (u .framed) (reaches w ρ fs p) (w (i + 1)) (ap w (u .framed .place ∙ ap (λ (n : ℕ). i + n) (f .binder e .1))) (u .framed .mode ∙ f .binder e .0))), omega arith)
-
-    pub shift-left : a ≡ 7 → Shifted
-    shift-left e = (λ w ρ. rw e (pushed w ρ ∙ ap (λ (l : List Symbol). l ∷ reaches w ρ fs p) (onto-left w ρ it i (u .frame) (u .framed) (reaches w ρ fs p) (u .framed .mode ∙ f .left e))), omega arith)
-
-popped : (w : ℕ → Word) (ρ : List Symbol) (fs : List ℕ) (p : ℕ) → reaches w ρ fs (p - 1) ≡ around (reaches w ρ fs p)
-unfolding reaches
-popped w ρ fs zero = refl
-popped w ρ fs (suc p) = sym (reach-popped w ρ fs (suc p) (omega arith))
-
-module _ (fs : List ℕ) (p a i r : ℕ) (it : Record) where
-  pub shift-right : (a ≡ 8) → r ≡ p - 1 → Shifted fs fs p a i r it
-  shift-right e er = (λ w ρ. rw (e, er) (popped w ρ fs p), omega arith)
-
-  pub shift-end : (a ≡ 9) → r ≡ p - 1 → Shifted fs fs p a i r it
-  shift-end e er = (λ w ρ. rw (e, er) (popped w ρ fs p), omega arith)
-
-pub shift-none : (fs : List ℕ) (p a i : ℕ) (it : Record) → (a ≡ 4 → ⊥) → (a ≡ 6 → ⊥) → (a ≡ 7 → ⊥) → (a ≡ 8 → ⊥) → (a ≡ 9 → ⊥) → Shifted fs fs p a i p it
-shift-none fs p a i it b c d e f = (λ w ρ. rw (ne-eqb a 4 b, ne-eqb a 6 c, ne-eqb a 7 d, ne-eqb a 8 e, ne-eqb a 9 f), omega arith)
 
 -- what is written
 pub write-all : (d x y : List ℕ) (at p r m k o a s o′ a′ s′ : ℕ) (it : Record) → o ≡ o′ → a ≡ a′ → s ≡ s′ → o′ < 4096 → a′ < 4096

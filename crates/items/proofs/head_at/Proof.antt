@@ -17,17 +17,15 @@ use Rattle.items.proofs.code.Reads as code-reads
 use Rattle.items.proofs.head_item.Reads as head-item-reads
 use Rattle.items.proofs.less.Reads as less-reads
 use Rattle.items.proofs.reach.seek.Reads as seek-reads
-use Rattle.kinds.proofs.byte.Reads as byte-reads
 
 returns : tie.Need-returns
-returns c = λ w t. c .head-item .ensures (w ((c .before .before .before .before .before .before .before .before .before .before .before .before .before .before .args .i) + 4)) (subst (λ (v : ℕ). Spelt (w ((c .before .before .before .before .before .before .before .before .before .before .before .before .before .before .args .i) + 4)) v) (sym (c .before .code .ensures)) (t .spelt ((c .before .before .before .before .before .before .before .before .before .before .before .before .before .before .args .i) + 4))) ∙ head-same (entries (now (c .before .before .before .before .before .before .before .before .before .before .before .before .before .before .args .list))) (c .before .before .before .before .before .before .before .before .before .before .before .before .before .before .args .n) (c .before .before .less .ensures ∙ ap (λ (k : ℕ). k - 1) (c .before .before .before .byte .ensures)) refl (c .before .before .before .before .seek .ensures w (now (c .before .before .before .before .before .before .before .before .before .before .before .before .before .before .args .numbers)) t)
+returns c = λ w ρ d t h. c .head-item .ensures (w ((c .before .before .before .before .before .before .before .before .before .args .i) + 4)) (subst (λ (v : ℕ). Spelt (w ((c .before .before .before .before .before .before .before .before .before .args .i) + 4)) v) (sym (c .before .code .ensures)) (t .spelt ((c .before .before .before .before .before .before .before .before .before .args .i) + 4))) ∙ head-same (entries (now (c .before .before .before .before .before .before .before .before .before .args .list))) (c .before .before .before .before .before .before .before .before .before .args .scope .n) (c .before .before .less .ensures) refl (c .before .before .before .seek .ensures w ρ d h)
 
 pub head-at-spec : {M : Type 1} → statement M
 head-at-spec =
     tie.close
     (tie.spec
     (λ c. search needs)
-    (λ c κs. search needs)
     (λ c κs. search needs)
     (λ c κs. search needs)
     (λ c. search needs)

@@ -19,10 +19,10 @@ use Rattle.items.proofs.some_item.Lts as lts
 use Rattle.names.proofs.relation_named.Reads as relation-named-reads
 
 returns : tie.Need-returns
-returns c = λ z s. sym (ap (λ (o : Option ℕ). someBy ((c .before .before .before .before .before .before .args .n) % 256) o) (found-none (relationNamed (entries (now (c .before .before .before .before .before .before .args .list))) z) _ (c .before .before .relation-named .ensures z s) (c .enum-told .given .1)))
+returns c = λ z s. sym (ap (λ (o : Option ℕ). someBy ((c .before .before .before .before .before .args .n) % 256) o) (found-none (relationNamed (entries (now (c .before .before .before .before .before .args .list))) z) _ (c .before .before .relation-named .ensures z s) (c .enum-told .given .1)))
 
 returns-2 : tie.Need-returns-2
-returns-2 c = λ z s. sym (ap (λ (o : Option ℕ). someBy ((c .before .before .before .before .before .before .before .args .n) % 256) o) (found-some (relationNamed (entries (now (c .before .before .before .before .before .before .before .args .list))) z) _ _ (c .before .before .before .relation-named .ensures z s) (c .before .r .given .1)))
+returns-2 c = λ z s. sym (ap (λ (o : Option ℕ). someBy ((c .before .before .before .before .before .before .args .n) % 256) o) (found-some (relationNamed (entries (now (c .before .before .before .before .before .before .args .list))) z) _ _ (c .before .before .before .relation-named .ensures z s) (c .before .r .given .1)))
 
 pub some-item-spec : {M : Type 1} → statement M
 some-item-spec =

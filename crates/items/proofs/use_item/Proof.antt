@@ -18,13 +18,13 @@ use Rattle.items.proofs.use_item.Lts as lts
 use Rattle.items.proofs.attribute_item.Reads as attribute-item-reads
 
 returns : tie.Need-returns
-returns c = λ z s. c .attribute-item .ensures z s ∙ sym (ap (useItem (entries (now (c .before .before .before .before .before .before .before .args .list))) z) (c .before .before .known .given .1))
+returns c = λ z s. c .attribute-item .ensures z s ∙ sym (ap (useItem (entries (now (c .before .before .before .before .before .before .args .list))) z) (c .before .before .known .given .1))
 
 returns-2 : tie.Need-returns-2
-returns-2 c = λ z s. sym (ap (useItem (entries (now (c .before .before .before .before .before .args .list))) z) (c .enum-told .given .1))
+returns-2 c = λ z s. sym (ap (useItem (entries (now (c .before .before .before .before .args .list))) z) (c .enum-told .given .1))
 
 returns-3 : tie.Need-returns-3
-returns-3 c = λ z s. sym (ap (useItem (entries (now (c .before .before .before .before .before .args .list))) z) (c .enum-told2 .given .1))
+returns-3 c = λ z s. sym (ap (useItem (entries (now (c .before .before .before .before .args .list))) z) (c .enum-told2 .given .1))
 
 pub use-item-spec : {M : Type 1} → statement M
 use-item-spec =

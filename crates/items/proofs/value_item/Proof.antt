@@ -19,10 +19,10 @@ use Rattle.items.proofs.value_item.Lts as lts
 use Rattle.names.proofs.value_named.Reads as value-named-reads
 
 returns : tie.Need-returns
-returns c = λ z s. value-none (valueNamed (entries (now (c .before .before .before .before .before .before .args .list))) z) _ (c .before .before .value-named .ensures z s) (c .enum-told .given .1)
+returns c = λ z s. value-none (valueNamed (entries (now (c .before .before .before .before .before .args .list))) z) _ (c .before .before .value-named .ensures z s) (c .enum-told .given .1)
 
 returns-2 : tie.Need-returns-2
-returns-2 c = λ z s. value-some (valueNamed (entries (now (c .before .before .before .before .before .before .before .args .list))) z) _ _ _ _ _ (c .before .before .before .value-named .ensures z s) (c .before .a .given .1)
+returns-2 c = λ z s. value-some (valueNamed (entries (now (c .before .before .before .before .before .before .args .list))) z) _ _ _ _ _ (c .before .before .before .value-named .ensures z s) (c .before .a .given .1)
 
 pub value-item-spec : {M : Type 1} → statement M
 value-item-spec =

@@ -1,3 +1,5 @@
+use Rattle.names.proofs.Once.{room-of}
+use lib.Seq.{getD-take, getD-drop}
 use borrow.Author.Needs.{needs}
 use native.Mathlib.Omega.{arith}
 use denote.Ref.{now}
@@ -7,7 +9,7 @@ use mathlib.Core.List.{List, []}
 use lib.ListN.{length, getD}
 use Rattle.quel.specs.Results.{Word, sameWord}
 use Rattle.tokens.specs.Codes.{Spelt}
-use Rattle.names.specs.Search.{isNamed, seek, like, HeldIn, listedBefore, nameOf, Indexed, after}
+use Rattle.names.specs.Search.{isNamed, seek, like, HeldIn, listedBefore, nameOf, IndexedBy, after}
 use lib.ListN.{drop, take}
 use lib.Dec.{eqb}
 use mathlib.Core.Bool.{Bool, true, false, not}
@@ -26,10 +28,10 @@ use Rattle.kinds.proofs.size_at.Reads as size-at-reads
 use Rattle.names.proofs.named.Reads as named-reads
 
 abbrev Inv-loop : tie.InvT-loop
-Inv-loop list heads nexts kind relation code link₀ link = (f : Indexed list heads nexts) → length list ≤ 14 * length nexts → Walk (λ (i : ℕ). i / 14) nexts (λ (i : ℕ). false) (Sound list) (f .places) link × ((w : Word) → Spelt w code → Walk (λ (i : ℕ). i / 14) nexts (λ (i : ℕ). isNamed kind relation w (drop i list)) (Sound list) (f .places) link)
+Inv-loop list index kind relation code link₀ link = (f : IndexedBy list (take 512 index) (drop 512 index)) → length list ≤ 14 * length (drop 512 index) → Walk (λ (i : ℕ). i / 14) (drop 512 index) (λ (i : ℕ). false) (Sound list) (f .places) link × ((w : Word) → Spelt w code → Walk (λ (i : ℕ). i / 14) (drop 512 index) (λ (i : ℕ). isNamed kind relation w (drop i list)) (Sound list) (f .places) link)
 
 abbrev μ-loop : tie.MeasureT-loop
-μ-loop list heads nexts kind relation code link₀ link = link
+μ-loop list index kind relation code link₀ link = link
 
 bucket-requires : tie.Need-bucket-requires Inv-loop μ-loop
 bucket-requires c κs = search needs
@@ -38,28 +40,31 @@ size-at-requires : tie.Need-size-at-requires Inv-loop μ-loop
 size-at-requires c κs = search needs
 
 loop-holds : tie.Need-loop-holds Inv-loop μ-loop
-loop-holds c = λ f l. (walk-start (λ (i : ℕ). i / 14) (now (c .before .before .before .before .before .args .nexts)) (λ (i : ℕ). false) (Sound (now (c .before .before .before .before .before .args .list))) (f .places) (λ (i : ℕ). bucketOf (nameOf (now (c .before .before .before .before .before .args .list)) i)) (f .top) (now (c .before .before .before .before .before .args .heads)) (c .before .bucket .result) _ (c .before .bucket .ensures .1) (c .size-at .ensures .0) (λ i e. clash e) (f .held) (index-each (now (c .before .before .before .before .before .args .list)) (now (c .before .before .before .before .before .args .heads)) (now (c .before .before .before .before .before .args .nexts)) f l), λ w s. walk-start (λ (i : ℕ). i / 14) (now (c .before .before .before .before .before .args .nexts)) (λ (i : ℕ). isNamed (c .before .before .before .before .before .args .kind) (c .before .before .before .before .before .args .relation) w (drop i (now (c .before .before .before .before .before .args .list)))) (Sound (now (c .before .before .before .before .before .args .list))) (f .places) (λ (i : ℕ). bucketOf (nameOf (now (c .before .before .before .before .before .args .list)) i)) (f .top) (now (c .before .before .before .before .before .args .heads)) (c .before .bucket .result) _ (c .before .bucket .ensures .1) (c .size-at .ensures .0) (λ i e. ap bucketOf (named-name (now (c .before .before .before .before .before .args .list)) i (c .before .before .before .before .before .args .kind) (c .before .before .before .before .before .args .relation) w e) ∙ sym (c .before .bucket .ensures .0 ∙ ap (λ (v : ℕ). v % 1024) (s .code))) (f .held) (index-each (now (c .before .before .before .before .before .args .list)) (now (c .before .before .before .before .before .args .heads)) (now (c .before .before .before .before .before .args .nexts)) f l))
+loop-holds c = λ f l. (walk-start (λ (i : ℕ). i / 14) (drop 512 (now (c .before .before .before .before .args .index))) (λ (i : ℕ). false) (Sound (now (c .before .before .before .before .args .list))) (f .places) (λ (i : ℕ). bucketOf (nameOf (now (c .before .before .before .before .args .list)) i)) (f .top) (take 512 (now (c .before .before .before .before .args .index))) (c .before .bucket .result) _ (c .before .bucket .ensures .1) (c .size-at .ensures .0 ∙ sym (getD-take 512 (now (c .before .before .before .before .args .index)) (c .before .bucket .result) 0 (c .before .bucket .ensures .1))) (λ i e. clash e) (f .held) (index-each (now (c .before .before .before .before .args .list)) (take 512 (now (c .before .before .before .before .args .index))) (drop 512 (now (c .before .before .before .before .args .index))) f l), λ w s. walk-start (λ (i : ℕ). i / 14) (drop 512 (now (c .before .before .before .before .args .index))) (λ (i : ℕ). isNamed (c .before .before .before .before .args .kind) (c .before .before .before .before .args .relation) w (drop i (now (c .before .before .before .before .args .list)))) (Sound (now (c .before .before .before .before .args .list))) (f .places) (λ (i : ℕ). bucketOf (nameOf (now (c .before .before .before .before .args .list)) i)) (f .top) (take 512 (now (c .before .before .before .before .args .index))) (c .before .bucket .result) _ (c .before .bucket .ensures .1) (c .size-at .ensures .0 ∙ sym (getD-take 512 (now (c .before .before .before .before .args .index)) (c .before .bucket .result) 0 (c .before .bucket .ensures .1))) (λ i e. ap bucketOf (named-name (now (c .before .before .before .before .args .list)) i (c .before .before .before .before .args .kind) (c .before .before .before .before .args .relation) w e) ∙ sym (c .before .bucket .ensures .0 ∙ ap (λ (v : ℕ). v % 512) (s .code))) (f .held) (index-each (now (c .before .before .before .before .args .list)) (take 512 (now (c .before .before .before .before .args .index))) (drop 512 (now (c .before .before .before .before .args .index))) f l))
 
 sub-i : tie.Need-sub-i Inv-loop μ-loop
 sub-i c = search needs
 
 named-requires : tie.Need-named-requires Inv-loop μ-loop
-named-requires c κs = walk-low (λ (i : ℕ). i / 14) (now (c .before .before .before .before .before .before .before .args .nexts)) (λ (i : ℕ). false) (Sound (now (c .before .before .before .before .before .before .before .args .list))) (c .before .before .before .before .before .before .before .pre .1 .places) (c .before .loop .link) (c .before .loop .link - 1) (omega (arith, c .loop-test .taken)) (c .before .loop .inv (c .before .before .before .before .before .before .before .pre .1) (c .before .before .before .before .before .before .before .pre .0) .0) .0 .within
+named-requires c κs = walk-low (λ (i : ℕ). i / 14) (drop 512 (now (c .before .before .before .before .before .before .args .index))) (λ (i : ℕ). false) (Sound (now (c .before .before .before .before .before .before .args .list))) (c .before .before .before .before .before .before .pre .1 .chains .places) (c .before .loop .link) (c .before .loop .link - 1) (omega (arith, c .loop-test .taken)) (c .before .loop .inv (c .before .before .before .before .before .before .pre .1 .chains) (room-of (now (c .before .before .before .before .before .before .args .list)) (now (c .before .before .before .before .before .before .args .index)) (c .before .before .before .before .before .before .pre .0)) .0) .0 .within
 
 returns : tie.Need-returns Inv-loop μ-loop
-returns c = λ w s. sym (walk-low (λ (i : ℕ). i / 14) (now (c .before .before .before .before .before .before .before .before .before .args .nexts)) (λ (i : ℕ). isNamed (c .before .before .before .before .before .before .before .before .before .args .kind) (c .before .before .before .before .before .before .before .before .before .args .relation) w (drop i (now (c .before .before .before .before .before .before .before .before .before .args .list)))) (Sound (now (c .before .before .before .before .before .before .before .before .before .args .list))) (c .before .before .before .before .before .before .before .before .before .pre .1 .places) (c .before .before .before .loop .link) (c .before .before .before .loop .link - 1) (omega (arith, c .before .before .loop-test .taken)) (c .before .before .before .loop .inv (c .before .before .before .before .before .before .before .before .before .pre .1) (c .before .before .before .before .before .before .before .before .before .pre .0) .1 w s) .0 .hit (c .before .before .before .before .before .before .before .before .before .args .kind) (c .before .before .before .before .before .before .before .before .before .args .relation) w (sym (c .before .named .ensures w s) ∙ c .if1 .taken))
+returns c = λ w s. sym (walk-low (λ (i : ℕ). i / 14) (drop 512 (now (c .before .before .before .before .before .before .before .before .args .index))) (λ (i : ℕ). isNamed (c .before .before .before .before .before .before .before .before .args .kind) (c .before .before .before .before .before .before .before .before .args .relation) w (drop i (now (c .before .before .before .before .before .before .before .before .args .list)))) (Sound (now (c .before .before .before .before .before .before .before .before .args .list))) (c .before .before .before .before .before .before .before .before .pre .1 .chains .places) (c .before .before .before .loop .link) (c .before .before .before .loop .link - 1) (omega (arith, c .before .before .loop-test .taken)) (c .before .before .before .loop .inv (c .before .before .before .before .before .before .before .before .pre .1 .chains) (room-of (now (c .before .before .before .before .before .before .before .before .args .list)) (now (c .before .before .before .before .before .before .before .before .args .index)) (c .before .before .before .before .before .before .before .before .pre .0)) .1 w s) .0 .hit (c .before .before .before .before .before .before .before .before .args .kind) (c .before .before .before .before .before .before .before .before .args .relation) w (sym (c .before .named .ensures w s) ∙ c .if1 .taken))
+
+add-size-at : tie.Need-add-size-at Inv-loop μ-loop
+add-size-at c = omega (arith, walk-low (λ (i : ℕ). i / 14) (drop 512 (now (c .before .before .before .before .before .before .before .before .args .index))) (λ (i : ℕ). false) (Sound (now (c .before .before .before .before .before .before .before .before .args .list))) (c .before .before .before .before .before .before .before .before .pre .1 .chains .places) (c .before .before .before .loop .link) (c .before .before .before .loop .link - 1) (omega (arith, c .before .before .loop-test .taken)) (c .before .before .before .loop .inv (c .before .before .before .before .before .before .before .before .pre .1 .chains) (room-of (now (c .before .before .before .before .before .before .before .before .args .list)) (now (c .before .before .before .before .before .before .before .before .args .index)) (c .before .before .before .before .before .before .before .before .pre .0)) .0) .0 .within)
 
 size-at-requires-2 : tie.Need-size-at-requires-2 Inv-loop μ-loop
 size-at-requires-2 c κs = search needs
 
 loop-less : tie.Need-loop-less Inv-loop μ-loop
-loop-less c = omega (arith, walk-low (λ (i : ℕ). i / 14) (now (c .before .before .before .before .before .before .before .before .before .before .args .nexts)) (λ (i : ℕ). false) (Sound (now (c .before .before .before .before .before .before .before .before .before .before .args .list))) (c .before .before .before .before .before .before .before .before .before .before .pre .1 .places) (c .before .before .before .before .loop .link) (c .before .before .before .before .loop .link - 1) (omega (arith, c .before .before .before .loop-test .taken)) (c .before .before .before .before .loop .inv (c .before .before .before .before .before .before .before .before .before .before .pre .1) (c .before .before .before .before .before .before .before .before .before .before .pre .0) .0) .1, c .size-at2 .ensures .0, c .before .before .before .loop-test .taken)
+loop-less c = omega (arith, walk-low (λ (i : ℕ). i / 14) (drop 512 (now (c .before .before .before .before .before .before .before .before .before .args .index))) (λ (i : ℕ). false) (Sound (now (c .before .before .before .before .before .before .before .before .before .args .list))) (c .before .before .before .before .before .before .before .before .before .pre .1 .chains .places) (c .before .before .before .before .loop .link) (c .before .before .before .before .loop .link - 1) (omega (arith, c .before .before .before .loop-test .taken)) (c .before .before .before .before .loop .inv (c .before .before .before .before .before .before .before .before .before .pre .1 .chains) (room-of (now (c .before .before .before .before .before .before .before .before .before .args .list)) (now (c .before .before .before .before .before .before .before .before .before .args .index)) (c .before .before .before .before .before .before .before .before .before .pre .0)) .0) .1, (c .size-at2 .ensures .0 ∙ sym (getD-drop 512 (now (c .before .before .before .before .before .before .before .before .before .args .index)) ((c .before .before .before .before .loop .link - 1) / 14) 0)), c .before .before .before .loop-test .taken)
 
 loop-again : tie.Need-loop-again Inv-loop μ-loop
-loop-again c = λ f l. (walk-on (λ (i : ℕ). i / 14) (now (c .before .before .before .before .before .before .before .before .before .before .args .nexts)) (λ (i : ℕ). false) (Sound (now (c .before .before .before .before .before .before .before .before .before .before .args .list))) (f .places) (c .before .before .before .before .loop .link) (c .before .before .before .before .loop .link - 1) (omega (arith, c .before .before .before .loop-test .taken)) (c .before .before .before .before .loop .inv f l .0) _ refl (c .size-at2 .ensures .0), λ w s. walk-on (λ (i : ℕ). i / 14) (now (c .before .before .before .before .before .before .before .before .before .before .args .nexts)) (λ (i : ℕ). isNamed (c .before .before .before .before .before .before .before .before .before .before .args .kind) (c .before .before .before .before .before .before .before .before .before .before .args .relation) w (drop i (now (c .before .before .before .before .before .before .before .before .before .before .args .list)))) (Sound (now (c .before .before .before .before .before .before .before .before .before .before .args .list))) (f .places) (c .before .before .before .before .loop .link) (c .before .before .before .before .loop .link - 1) (omega (arith, c .before .before .before .loop-test .taken)) (c .before .before .before .before .loop .inv f l .1 w s) _ (sym (c .before .before .named .ensures w s) ∙ c .before .if1 .left) (c .size-at2 .ensures .0))
+loop-again c = λ f l. (walk-on (λ (i : ℕ). i / 14) (drop 512 (now (c .before .before .before .before .before .before .before .before .before .args .index))) (λ (i : ℕ). false) (Sound (now (c .before .before .before .before .before .before .before .before .before .args .list))) (f .places) (c .before .before .before .before .loop .link) (c .before .before .before .before .loop .link - 1) (omega (arith, c .before .before .before .loop-test .taken)) (c .before .before .before .before .loop .inv f l .0) _ refl ((c .size-at2 .ensures .0 ∙ sym (getD-drop 512 (now (c .before .before .before .before .before .before .before .before .before .args .index)) ((c .before .before .before .before .loop .link - 1) / 14) 0))), λ w s. walk-on (λ (i : ℕ). i / 14) (drop 512 (now (c .before .before .before .before .before .before .before .before .before .args .index))) (λ (i : ℕ). isNamed (c .before .before .before .before .before .before .before .before .before .args .kind) (c .before .before .before .before .before .before .before .before .before .args .relation) w (drop i (now (c .before .before .before .before .before .before .before .before .before .args .list)))) (Sound (now (c .before .before .before .before .before .before .before .before .before .args .list))) (f .places) (c .before .before .before .before .loop .link) (c .before .before .before .before .loop .link - 1) (omega (arith, c .before .before .before .loop-test .taken)) (c .before .before .before .before .loop .inv f l .1 w s) _ (sym (c .before .before .named .ensures w s) ∙ c .before .if1 .left) ((c .size-at2 .ensures .0 ∙ sym (getD-drop 512 (now (c .before .before .before .before .before .before .before .before .before .args .index)) ((c .before .before .before .before .loop .link - 1) / 14) 0))))
 
 returns-2 : tie.Need-returns-2 Inv-loop μ-loop
-returns-2 c = λ w s. index-none (now (c .before .before .before .before .before .before .before .args .list)) (now (c .before .before .before .before .before .before .before .args .heads)) (now (c .before .before .before .before .before .before .before .args .nexts)) (c .before .before .before .before .before .before .before .pre .1) (c .before .before .before .before .before .before .before .pre .0) (c .before .before .before .before .before .before .before .args .kind) (c .before .before .before .before .before .before .before .args .relation) w (walk-none (λ (i : ℕ). i / 14) (now (c .before .before .before .before .before .before .before .args .nexts)) (λ (i : ℕ). isNamed (c .before .before .before .before .before .before .before .args .kind) (c .before .before .before .before .before .before .before .args .relation) w (drop i (now (c .before .before .before .before .before .before .before .args .list)))) (Sound (now (c .before .before .before .before .before .before .before .args .list))) (c .before .before .before .before .before .before .before .pre .1 .places) (c .before .loop .link) (omega (arith, c .loop-test .left)) (c .before .loop .inv (c .before .before .before .before .before .before .before .pre .1) (c .before .before .before .before .before .before .before .pre .0) .1 w s))
+returns-2 c = λ w s. index-none (now (c .before .before .before .before .before .before .args .list)) (take 512 (now (c .before .before .before .before .before .before .args .index))) (drop 512 (now (c .before .before .before .before .before .before .args .index))) (c .before .before .before .before .before .before .pre .1 .chains) (room-of (now (c .before .before .before .before .before .before .args .list)) (now (c .before .before .before .before .before .before .args .index)) (c .before .before .before .before .before .before .pre .0)) (c .before .before .before .before .before .before .args .kind) (c .before .before .before .before .before .before .args .relation) w (walk-none (λ (i : ℕ). i / 14) (drop 512 (now (c .before .before .before .before .before .before .args .index))) (λ (i : ℕ). isNamed (c .before .before .before .before .before .before .args .kind) (c .before .before .before .before .before .before .args .relation) w (drop i (now (c .before .before .before .before .before .before .args .list)))) (Sound (now (c .before .before .before .before .before .before .args .list))) (c .before .before .before .before .before .before .pre .1 .chains .places) (c .before .loop .link) (omega (arith, c .loop-test .left)) (c .before .loop .inv (c .before .before .before .before .before .before .pre .1 .chains) (room-of (now (c .before .before .before .before .before .before .args .list)) (now (c .before .before .before .before .before .before .args .index)) (c .before .before .before .before .before .before .pre .0)) .1 w s))
 
 pub follow-spec : {M : Type 1} → statement M
 follow-spec =
@@ -73,6 +78,7 @@ follow-spec =
     sub-i
     named-requires
     returns
+    add-size-at
     size-at-requires-2
     loop-less
     loop-again

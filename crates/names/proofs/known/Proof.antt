@@ -1,3 +1,4 @@
+use lib.Seq.{getD-take, getD-drop}
 use borrow.Author.Needs.{needs}
 use native.Mathlib.Omega.{arith}
 use denote.Ref.{now}
@@ -25,10 +26,10 @@ use Rattle.kinds.proofs.size_at.Reads as size-at-reads
 use Rattle.names.proofs.named.Reads as named-reads
 
 abbrev Inv-loop : tie.InvT-loop
-Inv-loop list heads nexts at code kind relation link₀ link = (xs : List ℕ) → HeldIn list at heads nexts xs → Walk (λ (i : ℕ). i / 14) nexts (λ (i : ℕ). like list at (drop i list)) (λ (i : ℕ). i < at) xs link
+Inv-loop list index at code kind relation link₀ link = (xs : List ℕ) → HeldIn list at (take 512 index) (drop 512 index) xs → Walk (λ (i : ℕ). i / 14) (drop 512 index) (λ (i : ℕ). like list at (drop i list)) (λ (i : ℕ). i < at) xs link
 
 abbrev μ-loop : tie.MeasureT-loop
-μ-loop list heads nexts at code kind relation link₀ link = link
+μ-loop list index at code kind relation link₀ link = link
 
 byte-requires : tie.Need-byte-requires Inv-loop μ-loop
 byte-requires c κs = search needs
@@ -46,28 +47,31 @@ size-at-requires : tie.Need-size-at-requires Inv-loop μ-loop
 size-at-requires c κs = search needs
 
 loop-holds : tie.Need-loop-holds Inv-loop μ-loop
-loop-holds c = λ xs f. walk-start (λ (i : ℕ). i / 14) (now (c .before .before .before .before .before .before .before .args .nexts)) (λ (i : ℕ). like (now (c .before .before .before .before .before .before .before .args .list)) (c .before .before .before .before .before .before .before .args .at) (drop i (now (c .before .before .before .before .before .before .before .args .list)))) (λ (i : ℕ). i < (c .before .before .before .before .before .before .before .args .at)) xs (λ (i : ℕ). bucketOf (nameOf (now (c .before .before .before .before .before .before .before .args .list)) i)) (c .before .before .before .before .before .before .before .args .at) (now (c .before .before .before .before .before .before .before .args .heads)) (c .before .bucket .result) _ (c .before .bucket .ensures .1) (c .size-at .ensures .0) (λ i e. like-bucket (now (c .before .before .before .before .before .before .before .args .list)) (c .before .before .before .before .before .before .before .args .at) i e ∙ sym (c .before .bucket .ensures .0 ∙ ap (λ (v : ℕ). v % 1024) (c .before .before .before .before .before .before .before .pre .1 .code))) f (held-low _ (λ (i : ℕ). i / 14) (c .before .before .before .before .before .before .before .args .at) (now (c .before .before .before .before .before .before .before .args .heads)) (now (c .before .before .before .before .before .before .before .args .nexts)) xs f)
+loop-holds c = λ xs f. walk-start (λ (i : ℕ). i / 14) (drop 512 (now (c .before .before .before .before .before .before .args .index))) (λ (i : ℕ). like (now (c .before .before .before .before .before .before .args .list)) (c .before .before .before .before .before .before .args .at) (drop i (now (c .before .before .before .before .before .before .args .list)))) (λ (i : ℕ). i < (c .before .before .before .before .before .before .args .at)) xs (λ (i : ℕ). bucketOf (nameOf (now (c .before .before .before .before .before .before .args .list)) i)) (c .before .before .before .before .before .before .args .at) (take 512 (now (c .before .before .before .before .before .before .args .index))) (c .before .bucket .result) _ (c .before .bucket .ensures .1) (c .size-at .ensures .0 ∙ sym (getD-take 512 (now (c .before .before .before .before .before .before .args .index)) (c .before .bucket .result) 0 (c .before .bucket .ensures .1))) (λ i e. like-bucket (now (c .before .before .before .before .before .before .args .list)) (c .before .before .before .before .before .before .args .at) i e ∙ sym (c .before .bucket .ensures .0 ∙ ap (λ (v : ℕ). v % 512) (c .before .before .before .before .before .before .pre .1 .code))) f (held-low _ (λ (i : ℕ). i / 14) (c .before .before .before .before .before .before .args .at) (take 512 (now (c .before .before .before .before .before .before .args .index))) (drop 512 (now (c .before .before .before .before .before .before .args .index))) xs f)
 
 sub-i : tie.Need-sub-i Inv-loop μ-loop
 sub-i c = search needs
 
 named-requires : tie.Need-named-requires Inv-loop μ-loop
-named-requires c κs = omega (arith, walk-low (λ (i : ℕ). i / 14) (now (c .before .before .before .before .before .before .before .before .before .args .nexts)) (λ (i : ℕ). like (now (c .before .before .before .before .before .before .before .before .before .args .list)) (c .before .before .before .before .before .before .before .before .before .args .at) (drop i (now (c .before .before .before .before .before .before .before .before .before .args .list)))) (λ (i : ℕ). i < (c .before .before .before .before .before .before .before .before .before .args .at)) (c .before .before .before .before .before .before .before .before .before .pre .2 .places) (c .before .loop .link) (c .before .loop .link - 1) (omega (arith, c .loop-test .taken)) (c .before .loop .inv (c .before .before .before .before .before .before .before .before .before .pre .2 .places) (c .before .before .before .before .before .before .before .before .before .pre .2 .held)) .0, c .before .before .before .before .before .before .before .before .before .pre .0)
+named-requires c κs = omega (arith, walk-low (λ (i : ℕ). i / 14) (drop 512 (now (c .before .before .before .before .before .before .before .before .args .index))) (λ (i : ℕ). like (now (c .before .before .before .before .before .before .before .before .args .list)) (c .before .before .before .before .before .before .before .before .args .at) (drop i (now (c .before .before .before .before .before .before .before .before .args .list)))) (λ (i : ℕ). i < (c .before .before .before .before .before .before .before .before .args .at)) (c .before .before .before .before .before .before .before .before .pre .2 .places) (c .before .loop .link) (c .before .loop .link - 1) (omega (arith, c .loop-test .taken)) (c .before .loop .inv (c .before .before .before .before .before .before .before .before .pre .2 .places) (c .before .before .before .before .before .before .before .before .pre .2 .held)) .0, c .before .before .before .before .before .before .before .before .pre .0)
 
 returns : tie.Need-returns Inv-loop μ-loop
-returns c = λ xs f. sym (walk-here (λ (i : ℕ). i / 14) (now (c .before .before .before .before .before .before .before .before .before .before .before .args .nexts)) (λ (i : ℕ). like (now (c .before .before .before .before .before .before .before .before .before .before .before .args .list)) (c .before .before .before .before .before .before .before .before .before .before .before .args .at) (drop i (now (c .before .before .before .before .before .before .before .before .before .before .before .args .list)))) (λ (i : ℕ). i < (c .before .before .before .before .before .before .before .before .before .before .before .args .at)) xs (c .before .before .before .loop .link) (c .before .before .before .loop .link - 1) (omega (arith, c .before .before .loop-test .taken)) (c .before .before .before .loop .inv xs f) ((ap₂ (λ (a b : ℕ). isNamed a b (nameOf (now (c .before .before .before .before .before .before .before .before .before .before .before .args .list)) (c .before .before .before .before .before .before .before .before .before .before .before .args .at)) (drop (c .before .before .before .loop .link - 1) (now (c .before .before .before .before .before .before .before .before .before .before .before .args .list)))) (sym (c .before .before .before .before .before .before .before .byte .ensures)) (sym (c .before .before .before .before .before .before .byte2 .ensures)) ∙ sym (c .before .named .ensures (nameOf (now (c .before .before .before .before .before .before .before .before .before .before .before .args .list)) (c .before .before .before .before .before .before .before .before .before .before .before .args .at)) (c .before .before .before .before .before .before .before .before .before .before .before .pre .1))) ∙ c .if1 .taken))
+returns c = λ xs f. sym (walk-here (λ (i : ℕ). i / 14) (drop 512 (now (c .before .before .before .before .before .before .before .before .before .before .args .index))) (λ (i : ℕ). like (now (c .before .before .before .before .before .before .before .before .before .before .args .list)) (c .before .before .before .before .before .before .before .before .before .before .args .at) (drop i (now (c .before .before .before .before .before .before .before .before .before .before .args .list)))) (λ (i : ℕ). i < (c .before .before .before .before .before .before .before .before .before .before .args .at)) xs (c .before .before .before .loop .link) (c .before .before .before .loop .link - 1) (omega (arith, c .before .before .loop-test .taken)) (c .before .before .before .loop .inv xs f) ((ap₂ (λ (a b : ℕ). isNamed a b (nameOf (now (c .before .before .before .before .before .before .before .before .before .before .args .list)) (c .before .before .before .before .before .before .before .before .before .before .args .at)) (drop (c .before .before .before .loop .link - 1) (now (c .before .before .before .before .before .before .before .before .before .before .args .list)))) (sym (c .before .before .before .before .before .before .before .byte .ensures)) (sym (c .before .before .before .before .before .before .byte2 .ensures)) ∙ sym (c .before .named .ensures (nameOf (now (c .before .before .before .before .before .before .before .before .before .before .args .list)) (c .before .before .before .before .before .before .before .before .before .before .args .at)) (c .before .before .before .before .before .before .before .before .before .before .pre .1))) ∙ c .if1 .taken))
+
+add-size-at : tie.Need-add-size-at Inv-loop μ-loop
+add-size-at c = omega (arith, walk-low (λ (i : ℕ). i / 14) (drop 512 (now (c .before .before .before .before .before .before .before .before .before .before .args .index))) (λ (i : ℕ). like (now (c .before .before .before .before .before .before .before .before .before .before .args .list)) (c .before .before .before .before .before .before .before .before .before .before .args .at) (drop i (now (c .before .before .before .before .before .before .before .before .before .before .args .list)))) (λ (i : ℕ). i < (c .before .before .before .before .before .before .before .before .before .before .args .at)) (c .before .before .before .before .before .before .before .before .before .before .pre .2 .places) (c .before .before .before .loop .link) (c .before .before .before .loop .link - 1) (omega (arith, c .before .before .loop-test .taken)) (c .before .before .before .loop .inv (c .before .before .before .before .before .before .before .before .before .before .pre .2 .places) (c .before .before .before .before .before .before .before .before .before .before .pre .2 .held)) .0, c .before .before .before .before .before .before .before .before .before .before .pre .0)
 
 size-at-requires-2 : tie.Need-size-at-requires-2 Inv-loop μ-loop
 size-at-requires-2 c κs = search needs
 
 loop-less : tie.Need-loop-less Inv-loop μ-loop
-loop-less c = omega (arith, walk-low (λ (i : ℕ). i / 14) (now (c .before .before .before .before .before .before .before .before .before .before .before .before .args .nexts)) (λ (i : ℕ). like (now (c .before .before .before .before .before .before .before .before .before .before .before .before .args .list)) (c .before .before .before .before .before .before .before .before .before .before .before .before .args .at) (drop i (now (c .before .before .before .before .before .before .before .before .before .before .before .before .args .list)))) (λ (i : ℕ). i < (c .before .before .before .before .before .before .before .before .before .before .before .before .args .at)) (c .before .before .before .before .before .before .before .before .before .before .before .before .pre .2 .places) (c .before .before .before .before .loop .link) (c .before .before .before .before .loop .link - 1) (omega (arith, c .before .before .before .loop-test .taken)) (c .before .before .before .before .loop .inv (c .before .before .before .before .before .before .before .before .before .before .before .before .pre .2 .places) (c .before .before .before .before .before .before .before .before .before .before .before .before .pre .2 .held)) .1, c .size-at2 .ensures .0, c .before .before .before .loop-test .taken)
+loop-less c = omega (arith, walk-low (λ (i : ℕ). i / 14) (drop 512 (now (c .before .before .before .before .before .before .before .before .before .before .before .args .index))) (λ (i : ℕ). like (now (c .before .before .before .before .before .before .before .before .before .before .before .args .list)) (c .before .before .before .before .before .before .before .before .before .before .before .args .at) (drop i (now (c .before .before .before .before .before .before .before .before .before .before .before .args .list)))) (λ (i : ℕ). i < (c .before .before .before .before .before .before .before .before .before .before .before .args .at)) (c .before .before .before .before .before .before .before .before .before .before .before .pre .2 .places) (c .before .before .before .before .loop .link) (c .before .before .before .before .loop .link - 1) (omega (arith, c .before .before .before .loop-test .taken)) (c .before .before .before .before .loop .inv (c .before .before .before .before .before .before .before .before .before .before .before .pre .2 .places) (c .before .before .before .before .before .before .before .before .before .before .before .pre .2 .held)) .1, (c .size-at2 .ensures .0 ∙ sym (getD-drop 512 (now (c .before .before .before .before .before .before .before .before .before .before .before .args .index)) ((c .before .before .before .before .loop .link - 1) / 14) 0)), c .before .before .before .loop-test .taken)
 
 loop-again : tie.Need-loop-again Inv-loop μ-loop
-loop-again c = λ xs f. walk-on (λ (i : ℕ). i / 14) (now (c .before .before .before .before .before .before .before .before .before .before .before .before .args .nexts)) (λ (i : ℕ). like (now (c .before .before .before .before .before .before .before .before .before .before .before .before .args .list)) (c .before .before .before .before .before .before .before .before .before .before .before .before .args .at) (drop i (now (c .before .before .before .before .before .before .before .before .before .before .before .before .args .list)))) (λ (i : ℕ). i < (c .before .before .before .before .before .before .before .before .before .before .before .before .args .at)) xs (c .before .before .before .before .loop .link) (c .before .before .before .before .loop .link - 1) (omega (arith, c .before .before .before .loop-test .taken)) (c .before .before .before .before .loop .inv xs f) _ ((ap₂ (λ (a b : ℕ). isNamed a b (nameOf (now (c .before .before .before .before .before .before .before .before .before .before .before .before .args .list)) (c .before .before .before .before .before .before .before .before .before .before .before .before .args .at)) (drop (c .before .before .before .before .loop .link - 1) (now (c .before .before .before .before .before .before .before .before .before .before .before .before .args .list)))) (sym (c .before .before .before .before .before .before .before .before .byte .ensures)) (sym (c .before .before .before .before .before .before .before .byte2 .ensures)) ∙ sym (c .before .before .named .ensures (nameOf (now (c .before .before .before .before .before .before .before .before .before .before .before .before .args .list)) (c .before .before .before .before .before .before .before .before .before .before .before .before .args .at)) (c .before .before .before .before .before .before .before .before .before .before .before .before .pre .1))) ∙ c .before .if1 .left) (c .size-at2 .ensures .0)
+loop-again c = λ xs f. walk-on (λ (i : ℕ). i / 14) (drop 512 (now (c .before .before .before .before .before .before .before .before .before .before .before .args .index))) (λ (i : ℕ). like (now (c .before .before .before .before .before .before .before .before .before .before .before .args .list)) (c .before .before .before .before .before .before .before .before .before .before .before .args .at) (drop i (now (c .before .before .before .before .before .before .before .before .before .before .before .args .list)))) (λ (i : ℕ). i < (c .before .before .before .before .before .before .before .before .before .before .before .args .at)) xs (c .before .before .before .before .loop .link) (c .before .before .before .before .loop .link - 1) (omega (arith, c .before .before .before .loop-test .taken)) (c .before .before .before .before .loop .inv xs f) _ ((ap₂ (λ (a b : ℕ). isNamed a b (nameOf (now (c .before .before .before .before .before .before .before .before .before .before .before .args .list)) (c .before .before .before .before .before .before .before .before .before .before .before .args .at)) (drop (c .before .before .before .before .loop .link - 1) (now (c .before .before .before .before .before .before .before .before .before .before .before .args .list)))) (sym (c .before .before .before .before .before .before .before .before .byte .ensures)) (sym (c .before .before .before .before .before .before .before .byte2 .ensures)) ∙ sym (c .before .before .named .ensures (nameOf (now (c .before .before .before .before .before .before .before .before .before .before .before .args .list)) (c .before .before .before .before .before .before .before .before .before .before .before .args .at)) (c .before .before .before .before .before .before .before .before .before .before .before .pre .1))) ∙ c .before .if1 .left) ((c .size-at2 .ensures .0 ∙ sym (getD-drop 512 (now (c .before .before .before .before .before .before .before .before .before .before .before .args .index)) ((c .before .before .before .before .loop .link - 1) / 14) 0)))
 
 returns-2 : tie.Need-returns-2 Inv-loop μ-loop
-returns-2 c = λ xs f. sym (walk-none (λ (i : ℕ). i / 14) (now (c .before .before .before .before .before .before .before .before .before .args .nexts)) (λ (i : ℕ). like (now (c .before .before .before .before .before .before .before .before .before .args .list)) (c .before .before .before .before .before .before .before .before .before .args .at) (drop i (now (c .before .before .before .before .before .before .before .before .before .args .list)))) (λ (i : ℕ). i < (c .before .before .before .before .before .before .before .before .before .args .at)) xs (c .before .loop .link) (omega (arith, c .loop-test .left)) (c .before .loop .inv xs f))
+returns-2 c = λ xs f. sym (walk-none (λ (i : ℕ). i / 14) (drop 512 (now (c .before .before .before .before .before .before .before .before .args .index))) (λ (i : ℕ). like (now (c .before .before .before .before .before .before .before .before .args .list)) (c .before .before .before .before .before .before .before .before .args .at) (drop i (now (c .before .before .before .before .before .before .before .before .args .list)))) (λ (i : ℕ). i < (c .before .before .before .before .before .before .before .before .args .at)) xs (c .before .loop .link) (omega (arith, c .loop-test .left)) (c .before .loop .inv xs f))
 
 pub known-spec : {M : Type 1} → statement M
 known-spec =
@@ -84,6 +88,7 @@ known-spec =
     sub-i
     named-requires
     returns
+    add-size-at
     size-at-requires-2
     loop-less
     loop-again

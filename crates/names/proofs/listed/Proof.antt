@@ -1,3 +1,4 @@
+use Rattle.buckets.proofs.Laws.{heads-clear, nexts-same}
 use borrow.Author.Needs.{needs}
 use native.Mathlib.Omega.{arith}
 use denote.Ref.{now}
@@ -7,7 +8,7 @@ use mathlib.Core.List.{List, []}
 use lib.ListN.{length, getD}
 use Rattle.quel.specs.Results.{Word, sameWord}
 use Rattle.tokens.specs.Codes.{Spelt}
-use Rattle.names.specs.Search.{isNamed, seek, like, HeldIn, listedBefore, nameOf, Indexed, after}
+use Rattle.names.specs.Search.{isNamed, seek, like, HeldIn, listedBefore, nameOf, IndexedBy, after}
 use lib.ListN.{drop, take}
 use lib.Dec.{eqb}
 use mathlib.Core.Bool.{Bool, true, false, not}
@@ -26,13 +27,13 @@ use Rattle.names.proofs.place.Reads as place-reads
 use Rattle.names.proofs.record_code.Reads as record-code-reads
 
 abbrev Inv-loop : tie.InvT-loop
-Inv-loop list heads₀ nexts₀ at₀ heads nexts at = Left list (length nexts₀) at heads nexts × (length heads ≡ length heads₀) × (length nexts ≡ length nexts₀)
+Inv-loop list index₀ at₀ index at = Left list (length (drop 512 index₀)) at (take 512 index) (drop 512 index) × (length index ≡ length index₀)
 
 abbrev μ-loop : tie.MeasureT-loop
-μ-loop list heads₀ nexts₀ at₀ heads nexts at = length list - at
+μ-loop list index₀ at₀ index at = length list - at
 
 loop-holds : tie.Need-loop-holds Inv-loop μ-loop
-loop-holds c = (left-start (now (c .before .before .before .args .list)) (length (now (c .before .before .before .args .nexts))) (now (c .before .before .before .args .heads)) (now (c .before .before .before .args .nexts)) (c .before .before .before .pre .2), refl, refl)
+loop-holds c = (left-start (now (c .before .before .args .list)) (length (drop 512 (now (c .before .before .args .index)))) (take 512 (now (c .before .before .args .index))) (drop 512 (now (c .before .before .args .index))) (heads-clear (now (c .before .before .args .index)) (c .before .before .pre .2)), refl)
 
 record-code-requires : tie.Need-record-code-requires Inv-loop μ-loop
 record-code-requires c κs = search needs
@@ -40,23 +41,17 @@ record-code-requires c κs = search needs
 same-length : tie.Need-same-length Inv-loop μ-loop
 same-length c = search needs
 
+returns : tie.Need-returns Inv-loop μ-loop
+returns c = (left-bad (now (c .before .before .before .before .before .before .args .list)) (length (drop 512 (now (c .before .before .before .before .before .before .args .index)))) (c .before .before .before .loop .at) _ _ (c .before .before .loop-test .taken) (c .before .before .before .loop .inv .0) (not-well (now (c .before .before .before .before .before .before .args .list)) (c .before .before .before .loop .at) _ (c .before .record-code .ensures) (c .if1 .taken)), λ z. clash z)
+
+fresh-requires : tie.Need-fresh-requires Inv-loop μ-loop
+fresh-requires c κs = (omega (arith, c .before .before .before .loop-test .taken), c .before .before .record-code .ensures, omega (arith, c .before .if1 .left), omega (arith, c .before .before .before .before .loop .inv .1, c .before .before .before .before .before .before .before .pre .0), omega (arith, c .before .before .before .before .loop .inv .1, c .before .before .before .before .before .before .before .pre .1), chained (now (c .before .before .before .before .before .before .before .args .list)) (length (drop 512 (now (c .before .before .before .before .before .before .before .args .index)))) _ _ _ (c .before .before .before .before .loop .inv .0))
+
 same-length-2 : tie.Need-same-length-2 Inv-loop μ-loop
 same-length-2 c = search needs
 
-returns : tie.Need-returns Inv-loop μ-loop
-returns c = (left-bad (now (c .before .before .before .before .before .before .before .args .list)) (length (now (c .before .before .before .before .before .before .before .args .nexts))) (c .before .before .before .loop .at) _ _ (c .before .before .loop-test .taken) (c .before .before .before .loop .inv .0) (not-well (now (c .before .before .before .before .before .before .before .args .list)) (c .before .before .before .loop .at) _ (c .before .record-code .ensures) (c .if1 .taken)), λ z. clash z)
-
-fresh-requires : tie.Need-fresh-requires Inv-loop μ-loop
-fresh-requires c κs = (omega (arith, c .before .before .before .before .loop-test .taken), c .before .before .before .record-code .ensures, omega (arith, c .before .before .if1 .left), omega (arith, c .before .before .before .before .before .loop .inv .1, c .before .before .before .before .before .before .before .before .before .pre .0), omega (arith, c .before .before .before .before .before .loop .inv .2, c .before .before .before .before .before .before .before .before .before .pre .1), chained (now (c .before .before .before .before .before .before .before .before .before .args .list)) (length (now (c .before .before .before .before .before .before .before .before .before .args .nexts))) _ _ _ (c .before .before .before .before .before .loop .inv .0))
-
-same-length-3 : tie.Need-same-length-3 Inv-loop μ-loop
-same-length-3 c = search needs
-
-same-length-4 : tie.Need-same-length-4 Inv-loop μ-loop
-same-length-4 c = search needs
-
 returns-2 : tie.Need-returns-2 Inv-loop μ-loop
-returns-2 c = (left-twice (now (c .before .before .before .before .before .before .before .before .before .before .before .before .before .before .before .args .list)) (length (now (c .before .before .before .before .before .before .before .before .before .before .before .before .before .before .before .args .nexts))) (c .before .before .before .before .before .before .before .before .before .before .before .loop .at) _ _ (c .before .before .before .before .before .before .before .before .before .before .loop-test .taken) (c .before .before .before .before .before .before .before .before .before .before .before .loop .inv .0) (is-well (now (c .before .before .before .before .before .before .before .before .before .before .before .before .before .before .before .args .list)) (c .before .before .before .before .before .before .before .before .before .before .before .loop .at) _ (c .before .before .before .before .before .before .before .before .before .record-code .ensures) (omega (arith, c .before .before .before .before .before .before .before .before .if1 .left)) .0) _ _ (c .before .before .before .before .before .fresh .result) (c .before .before .before .before .before .fresh .ensures (c .before .before .before .before .before .before .before .before .before .before .before .loop .inv .0 .places) (c .before .before .before .before .before .before .before .before .before .before .before .loop .inv .0 .held)) (not-true (c .before .before .before .before .before .fresh .result) (c .if2 .taken)), λ z. clash z)
+returns-2 c = (left-twice (now (c .before .before .before .before .before .before .before .before .before .before .before .args .list)) (length (drop 512 (now (c .before .before .before .before .before .before .before .before .before .before .before .args .index)))) (c .before .before .before .before .before .before .before .before .loop .at) _ _ (c .before .before .before .before .before .before .before .loop-test .taken) (c .before .before .before .before .before .before .before .before .loop .inv .0) (is-well (now (c .before .before .before .before .before .before .before .before .before .before .before .args .list)) (c .before .before .before .before .before .before .before .before .loop .at) _ (c .before .before .before .before .before .before .record-code .ensures) (omega (arith, c .before .before .before .before .before .if1 .left)) .0) _ _ (c .before .before .before .fresh .result) (c .before .before .before .fresh .ensures (c .before .before .before .before .before .before .before .before .loop .inv .0 .places) (c .before .before .before .before .before .before .before .before .loop .inv .0 .held)) (not-true (c .before .before .before .fresh .result) (c .if2 .taken)), λ z. clash z)
 
 byte-requires : tie.Need-byte-requires Inv-loop μ-loop
 byte-requires c κs = search needs
@@ -74,16 +69,13 @@ loop-less : tie.Need-loop-less Inv-loop μ-loop
 loop-less c = search needs
 
 loop-again : tie.Need-loop-again Inv-loop μ-loop
-loop-again c = (left-next (now (c .before .before .before .before .before .before .before .before .before .before .before .before .before .before .before .before .before .args .list)) (length (now (c .before .before .before .before .before .before .before .before .before .before .before .before .before .before .before .before .before .args .nexts))) (c .before .before .before .before .before .before .before .before .before .before .before .before .before .loop .at) _ _ (c .before .before .before .before .before .before .before .before .before .before .before .before .loop-test .taken) (c .before .before .before .before .before .before .before .before .before .before .before .before .before .loop .inv .0) (is-well (now (c .before .before .before .before .before .before .before .before .before .before .before .before .before .before .before .before .before .args .list)) (c .before .before .before .before .before .before .before .before .before .before .before .before .before .loop .at) _ (c .before .before .before .before .before .before .before .before .before .before .before .record-code .ensures) (omega (arith, c .before .before .before .before .before .before .before .before .before .before .if1 .left)) .0) _ _ (c .before .before .before .before .before .before .before .fresh .result) (c .before .before .before .before .before .before .before .fresh .ensures (c .before .before .before .before .before .before .before .before .before .before .before .before .before .loop .inv .0 .places) (c .before .before .before .before .before .before .before .before .before .before .before .before .before .loop .inv .0 .held)) (not-false (c .before .before .before .before .before .before .before .fresh .result) (c .before .before .if2 .left)) (c .before .before .before .before .before .before .before .fresh .kept .1 .1 .1 .1 .0 ∙ c .before .before .before .before .before .before .before .before .before .before .before .before .before .loop .inv .2) (here-room (now (c .before .before .before .before .before .before .before .before .before .before .before .before .before .before .before .before .before .args .list)) (c .before .before .before .before .before .before .before .before .before .before .before .before .before .loop .at) _ (c .before .before .before .before .before .before .before .before .before .before .before .record-code .ensures) (omega (arith, c .before .before .before .before .before .before .before .before .before .before .if1 .left))) _ (ap (λ (i : ℕ). c .before .before .before .before .before .before .before .before .before .before .before .before .before .loop .at + (i + 12)) (c .place .ensures .0 ∙ ap placeOf (c .before .byte .ensures))), c .before .before .before .before .before .before .before .fresh .kept .1 .1 .1 .0 ∙ c .before .before .before .before .before .before .before .before .before .before .before .before .before .loop .inv .1, c .before .before .before .before .before .before .before .fresh .kept .1 .1 .1 .1 .0 ∙ c .before .before .before .before .before .before .before .before .before .before .before .before .before .loop .inv .2)
+loop-again c = (left-next (now (c .before .before .before .before .before .before .before .before .before .before .before .before .before .args .list)) (length (drop 512 (now (c .before .before .before .before .before .before .before .before .before .before .before .before .before .args .index)))) (c .before .before .before .before .before .before .before .before .before .before .loop .at) _ _ (c .before .before .before .before .before .before .before .before .before .loop-test .taken) (c .before .before .before .before .before .before .before .before .before .before .loop .inv .0) (is-well (now (c .before .before .before .before .before .before .before .before .before .before .before .before .before .args .list)) (c .before .before .before .before .before .before .before .before .before .before .loop .at) _ (c .before .before .before .before .before .before .before .before .record-code .ensures) (omega (arith, c .before .before .before .before .before .before .before .if1 .left)) .0) _ _ (c .before .before .before .before .before .fresh .result) (c .before .before .before .before .before .fresh .ensures (c .before .before .before .before .before .before .before .before .before .before .loop .inv .0 .places) (c .before .before .before .before .before .before .before .before .before .before .loop .inv .0 .held)) (not-false (c .before .before .before .before .before .fresh .result) (c .before .before .if2 .left)) (nexts-same (c .before .before .before .before .before .fresh .last .1 .1 .1 .0) (now (c .before .before .before .before .before .before .before .before .before .before .before .before .before .args .index)) (c .before .before .before .before .before .fresh .kept .1 .1 .1 .0 ∙ c .before .before .before .before .before .before .before .before .before .before .loop .inv .1)) (here-room (now (c .before .before .before .before .before .before .before .before .before .before .before .before .before .args .list)) (c .before .before .before .before .before .before .before .before .before .before .loop .at) _ (c .before .before .before .before .before .before .before .before .record-code .ensures) (omega (arith, c .before .before .before .before .before .before .before .if1 .left))) _ (ap (λ (i : ℕ). c .before .before .before .before .before .before .before .before .before .before .loop .at + (i + 12)) (c .place .ensures .0 ∙ ap placeOf (c .before .byte .ensures))), c .before .before .before .before .before .fresh .kept .1 .1 .1 .0 ∙ c .before .before .before .before .before .before .before .before .before .before .loop .inv .1)
 
-same-length-5 : tie.Need-same-length-5 Inv-loop μ-loop
-same-length-5 c = search needs
-
-same-length-6 : tie.Need-same-length-6 Inv-loop μ-loop
-same-length-6 c = search needs
+same-length-3 : tie.Need-same-length-3 Inv-loop μ-loop
+same-length-3 c = search needs
 
 returns-3 : tie.Need-returns-3 Inv-loop μ-loop
-returns-3 c = (left-end (now (c .before .before .before .before .before .args .list)) (length (now (c .before .before .before .before .before .args .nexts))) (c .before .loop .at) _ _ (c .loop-test .left) (c .before .loop .inv .0), λ z. left-indexed (now (c .before .before .before .before .before .args .list)) (length (now (c .before .before .before .before .before .args .nexts))) (c .before .loop .at) _ _ (c .before .loop .inv .2) (c .loop-test .left) (c .before .loop .inv .0))
+returns-3 c = (left-end (now (c .before .before .before .before .args .list)) (length (drop 512 (now (c .before .before .before .before .args .index)))) (c .before .loop .at) _ _ (c .loop-test .left) (c .before .loop .inv .0), λ z. record { room = omega (arith, c .before .loop .inv .1, c .before .before .before .before .pre .0); most = omega (arith, c .before .loop .inv .1, c .before .before .before .before .pre .1); chains = left-indexed (now (c .before .before .before .before .args .list)) (length (drop 512 (now (c .before .before .before .before .args .index)))) (c .before .loop .at) _ _ (nexts-same (c .before .loop .index) (now (c .before .before .before .before .args .index)) (c .before .loop .inv .1)) (c .loop-test .left) (c .before .loop .inv .0) })
 
 pub listed-spec : {M : Type 1} → statement M
 listed-spec =
@@ -94,11 +86,9 @@ listed-spec =
     loop-holds
     record-code-requires
     same-length
-    same-length-2
     returns
     fresh-requires
-    same-length-3
-    same-length-4
+    same-length-2
     returns-2
     byte-requires
     place-requires
@@ -106,6 +96,5 @@ listed-spec =
     add-at-2
     loop-less
     loop-again
-    same-length-5
-    same-length-6
+    same-length-3
     returns-3)

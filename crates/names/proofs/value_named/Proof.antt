@@ -14,10 +14,10 @@ use Rattle.kinds.proofs.byte.Reads as byte-reads
 use Rattle.names.proofs.look.Reads as look-reads
 
 returns : tie.Need-returns
-returns c = λ w s. finds.value-some (now (c .before .before .before .before .before .before .before .before .before .args .list)) w 0 (c .before .before .before .before .before .look .result) (c .before .before .before .byte .result) (c .before .before .byte2 .result) (c .before .byte3 .result) (c .byte4 .result) (c .before .before .before .before .before .look .ensures w s) (c .before .before .before .before .if1 .taken) (c .before .before .before .byte .ensures) (c .before .before .byte2 .ensures) (c .before .byte3 .ensures) (c .byte4 .ensures)
+returns c = λ w s. finds.value-some (now (c .before .before .before .before .before .before .before .before .args .list)) w 0 (c .before .before .before .before .before .look .result) (c .before .before .before .byte .result) (c .before .before .byte2 .result) (c .before .byte3 .result) (c .byte4 .result) (c .before .before .before .before .before .look .ensures w s) (c .before .before .before .before .if1 .taken) (c .before .before .before .byte .ensures) (c .before .before .byte2 .ensures) (c .before .byte3 .ensures) (c .byte4 .ensures)
 
 returns-2 : tie.Need-returns-2
-returns-2 c = λ w s. finds.value-none (now (c .before .before .before .before .before .args .list)) w 0 (c .before .look .result) (c .before .look .ensures w s) (c .if1 .left)
+returns-2 c = λ w s. finds.value-none (now (c .before .before .before .before .args .list)) w 0 (c .before .look .result) (c .before .look .ensures w s) (c .if1 .left)
 
 pub value-named-spec : {M : Type 1} → statement M
 value-named-spec =

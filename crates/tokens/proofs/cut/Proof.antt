@@ -1,4 +1,4 @@
-use Rattle.tokens.proofs.Cutting.{Held, none-coded, held-start, too-long, held-end, held-refused, held-room, held-more}
+use Rattle.tokens.proofs.Cutting.{Held, none-coded, held-start, too-long, held-end, held-blank, held-refused, held-room, held-more}
 use Rattle.tokens.specs.Pieces.{Leads}
 use Rattle.tokens.specs.declared.Piece.{Piece}
 use lib.ListN.{length, drop, length-set}
@@ -19,11 +19,27 @@ abbrev μ-loop : tie.MeasureT-loop
 returns : tie.Need-returns Inv-loop μ-loop
 returns c = (sym (too-long (now (c .before .before .before .before .before .before .args .text)) (c .if1 .taken)), (none-coded _ _, (omega arith, omega arith)))
 
-skip-requires : tie.Need-skip-requires Inv-loop μ-loop
-skip-requires c κs = search needs
-
 loop-holds : tie.Need-loop-holds Inv-loop μ-loop
-loop-holds c = (held-start (now (c .before .before .before .before .before .before .before .args .text)) _ _ _ _ (c .skip .result) (c .skip .ensures .0) (c .skip .ensures .2), c .before .if1 .left, refl, refl, refl, refl)
+loop-holds c = (held-start (now (c .before .before .before .before .before .before .args .text)) _ _ _ _, c .if1 .left, refl, refl, refl, refl)
+
+shared-slice-read-is-blank : tie.Need-shared-slice-read-is-blank Inv-loop μ-loop
+shared-slice-read-is-blank c = search needs
+
+is-blank-requires : tie.Need-is-blank-requires Inv-loop μ-loop
+is-blank-requires c κs = search needs
+
+add-at : tie.Need-add-at Inv-loop μ-loop
+add-at c = record { fits = omega (arith, c .before .before .before .loop-test .taken, c .before .before .before .before .loop .inv .1) }
+
+loop-less : tie.Need-loop-less Inv-loop μ-loop
+loop-less c = omega (arith, c .before .before .before .loop-test .taken)
+
+loop-again : tie.Need-loop-again Inv-loop μ-loop
+loop-again c =
+    let c₃ = c .before .before .before in let loop-test = c₃ .loop-test in
+    let c₄ = c₃ .before in let loop = c₄ .loop in
+    let c₁₁ = c₄ .before .before .before .before .before .before .before in let args = c₁₁ .args in
+    (held-blank (now (args .text)) (loop .kinds) (loop .starts) (loop .lengths) (loop .numbers) (loop .at) (loop .n) (loop .inv .0) (loop .inv .1) (loop-test .taken) (sym (c .before .is-blank .ensures) ∙ c .if2 .taken), loop .inv .1, loop .inv .2, loop .inv .3, loop .inv .4, loop .inv .5)
 
 piece-at-requires : tie.Need-piece-at-requires Inv-loop μ-loop
 piece-at-requires c κs = search needs
@@ -48,100 +64,119 @@ same-length-4 c = search needs
 
 returns-2 : tie.Need-returns-2 Inv-loop μ-loop
 returns-2 c =
-    let c₃ = c .before .before .before in let loop-test = c₃ .loop-test in
-    let c₄ = c₃ .before in let loop = c₄ .loop in
-    let c₁₂ = c₄ .before .before .before .before .before .before .before .before in let args = c₁₂ .args in
+    let c₃ = c .before .before .before in let if2 = c₃ .if2 in
+    let c₄ = c₃ .before in let is-blank = c₄ .is-blank in
+    let c₆ = c₄ .before .before in let loop-test = c₆ .loop-test in
+    let c₇ = c₆ .before in let loop = c₇ .loop in
+    let c₁₄ = c₇ .before .before .before .before .before .before .before in let args = c₁₄ .args in
     let text = now (args .text) in
-    (held-refused text (loop .kinds) (loop .starts) (loop .lengths) (loop .numbers) (loop .at) (loop .n) (loop .inv .0) (loop .inv .1) (loop-test .taken) (subst (λ (r : Piece). Leads r (drop (loop .at) text)) (c .enum-told .given .1) (c .before .before .piece-at .ensures)), (none-coded _ _, (omega arith, omega arith)))
+    (held-refused text (loop .kinds) (loop .starts) (loop .lengths) (loop .numbers) (loop .at) (loop .n) (loop .inv .0) (loop .inv .1) (loop-test .taken) (sym (is-blank .ensures) ∙ if2 .left) (subst (λ (r : Piece). Leads r (drop (loop .at) text)) (c .enum-told .given .1) (c .before .before .piece-at .ensures)), (none-coded _ _, (omega arith, omega arith)))
 
 slice-write-kinds : tie.Need-slice-write-kinds Inv-loop μ-loop
 slice-write-kinds c =
-    let c₅ = c .before .before .before .before .before in let loop = c₅ .loop in
-    let c₁₃ = c₅ .before .before .before .before .before .before .before .before in let pre = c₁₃ .pre in
-    omega (arith, loop .inv .2, loop .inv .0 .behind, pre (loop .inv .1) .0)
+    let c₇ = c .before .before .before .before .before .before .before in let loop-test = c₇ .loop-test in
+    let c₈ = c₇ .before in let loop = c₈ .loop in
+    let c₁₅ = c₈ .before .before .before .before .before .before .before in let pre = c₁₅ .pre in
+    omega (arith, loop .inv .2, loop .inv .0 .behind, loop-test .taken, pre (loop .inv .1) .0)
 
 cast-starts : tie.Need-cast-starts Inv-loop μ-loop
-cast-starts c = record { fits = omega (arith, c .before .before .before .before .before .loop .inv .0 .behind, c .before .before .before .before .before .loop .inv .1) }
+cast-starts c =
+    let c₇ = c .before .before .before .before .before .before .before in let loop-test = c₇ .loop-test in
+    let c₈ = c₇ .before in let loop = c₈ .loop in
+    record { fits = omega (arith, loop .inv .0 .behind, loop-test .taken, loop .inv .1) }
 
 mul-starts : tie.Need-mul-starts Inv-loop μ-loop
-mul-starts c = record { fits = omega (arith, c .before .before .before .before .before .loop .inv .0 .behind, c .before .before .before .before .before .loop .inv .1) }
+mul-starts c =
+    let c₇ = c .before .before .before .before .before .before .before in let loop-test = c₇ .loop-test in
+    let c₈ = c₇ .before in let loop = c₈ .loop in
+    record { fits = omega (arith, loop .inv .0 .behind, loop-test .taken, loop .inv .1) }
 
 slice-write-starts : tie.Need-slice-write-starts Inv-loop μ-loop
 slice-write-starts c =
-    let c₅ = c .before .before .before .before .before in let loop = c₅ .loop in
-    let c₁₃ = c₅ .before .before .before .before .before .before .before .before in let pre = c₁₃ .pre in
-    omega (arith, loop .inv .3, loop .inv .0 .behind, pre (loop .inv .1) .1)
+    let c₇ = c .before .before .before .before .before .before .before in let loop-test = c₇ .loop-test in
+    let c₈ = c₇ .before in let loop = c₈ .loop in
+    let c₁₅ = c₈ .before .before .before .before .before .before .before in let pre = c₁₅ .pre in
+    omega (arith, loop .inv .3, loop .inv .0 .behind, loop-test .taken, pre (loop .inv .1) .1)
 
 cast-lengths : tie.Need-cast-lengths Inv-loop μ-loop
 cast-lengths c =
     let c₁ = c .before in let kind = c₁ .kind in
     let c₃ = c₁ .before .before in let piece-at = c₃ .piece-at in
-    let c₄ = c₃ .before in let loop-test = c₄ .loop-test in
-    let c₅ = c₄ .before in let loop = c₅ .loop in
-    let c₁₃ = c₅ .before .before .before .before .before .before .before .before in let args = c₁₃ .args in
+    let c₄ = c₃ .before in let if2 = c₄ .if2 in
+    let c₅ = c₄ .before in let is-blank = c₅ .is-blank in
+    let c₇ = c₅ .before .before in let loop-test = c₇ .loop-test in
+    let c₈ = c₇ .before in let loop = c₈ .loop in
+    let c₁₅ = c₈ .before .before .before .before .before .before .before in let args = c₁₅ .args in
     let text = now (args .text) in
-    let h = held-room text (loop .kinds) (loop .starts) (loop .lengths) (loop .numbers) (loop .at) (loop .n) (loop .inv .0) (loop .inv .1) (loop-test .taken) (kind .given .0 .0) (kind .given .0 .1 .0) (kind .given .0 .1 .1 .0) (subst (λ (r : Piece). Leads r (drop (loop .at) text)) (kind .given .1) (piece-at .ensures)) in record { fits = omega (arith, h .0, h .1, loop .inv .1) }
+    let h = held-room text (loop .kinds) (loop .starts) (loop .lengths) (loop .numbers) (loop .at) (loop .n) (loop .inv .0) (loop .inv .1) (loop-test .taken) (sym (is-blank .ensures) ∙ if2 .left) (kind .given .0 .0) (kind .given .0 .1 .0) (kind .given .0 .1 .1 .0) (subst (λ (r : Piece). Leads r (drop (loop .at) text)) (kind .given .1) (piece-at .ensures)) in record { fits = omega (arith, h .0, h .1, loop .inv .1) }
 
 mul-lengths : tie.Need-mul-lengths Inv-loop μ-loop
-mul-lengths c = record { fits = omega (arith, c .before .before .before .before .before .loop .inv .0 .behind, c .before .before .before .before .before .loop .inv .1) }
+mul-lengths c =
+    let c₇ = c .before .before .before .before .before .before .before in let loop-test = c₇ .loop-test in
+    let c₈ = c₇ .before in let loop = c₈ .loop in
+    record { fits = omega (arith, loop .inv .0 .behind, loop-test .taken, loop .inv .1) }
 
 slice-write-lengths : tie.Need-slice-write-lengths Inv-loop μ-loop
 slice-write-lengths c =
-    let c₅ = c .before .before .before .before .before in let loop = c₅ .loop in
-    let c₁₃ = c₅ .before .before .before .before .before .before .before .before in let pre = c₁₃ .pre in
-    omega (arith, loop .inv .4, loop .inv .0 .behind, pre (loop .inv .1) .2)
+    let c₇ = c .before .before .before .before .before .before .before in let loop-test = c₇ .loop-test in
+    let c₈ = c₇ .before in let loop = c₈ .loop in
+    let c₁₅ = c₈ .before .before .before .before .before .before .before in let pre = c₁₅ .pre in
+    omega (arith, loop .inv .4, loop .inv .0 .behind, loop-test .taken, pre (loop .inv .1) .2)
 
 mul-numbers : tie.Need-mul-numbers Inv-loop μ-loop
-mul-numbers c = record { fits = omega (arith, c .before .before .before .before .before .loop .inv .0 .behind, c .before .before .before .before .before .loop .inv .1) }
+mul-numbers c =
+    let c₇ = c .before .before .before .before .before .before .before in let loop-test = c₇ .loop-test in
+    let c₈ = c₇ .before in let loop = c₈ .loop in
+    record { fits = omega (arith, loop .inv .0 .behind, loop-test .taken, loop .inv .1) }
 
 slice-write-numbers : tie.Need-slice-write-numbers Inv-loop μ-loop
 slice-write-numbers c =
-    let c₅ = c .before .before .before .before .before in let loop = c₅ .loop in
-    let c₁₃ = c₅ .before .before .before .before .before .before .before .before in let pre = c₁₃ .pre in
-    omega (arith, loop .inv .5, loop .inv .0 .behind, pre (loop .inv .1) .3)
+    let c₇ = c .before .before .before .before .before .before .before in let loop-test = c₇ .loop-test in
+    let c₈ = c₇ .before in let loop = c₈ .loop in
+    let c₁₅ = c₈ .before .before .before .before .before .before .before in let pre = c₁₅ .pre in
+    omega (arith, loop .inv .5, loop .inv .0 .behind, loop-test .taken, pre (loop .inv .1) .3)
 
 add-n : tie.Need-add-n Inv-loop μ-loop
-add-n c = record { fits = omega (arith, c .before .before .before .before .before .loop .inv .0 .behind, c .before .before .before .before .before .loop .inv .1) }
+add-n c =
+    let c₇ = c .before .before .before .before .before .before .before in let loop-test = c₇ .loop-test in
+    let c₈ = c₇ .before in let loop = c₈ .loop in
+    record { fits = omega (arith, loop .inv .0 .behind, loop-test .taken, loop .inv .1) }
 
-add-skip : tie.Need-add-skip Inv-loop μ-loop
-add-skip c =
+add-at-2 : tie.Need-add-at-2 Inv-loop μ-loop
+add-at-2 c =
     let c₁ = c .before in let kind = c₁ .kind in
     let c₃ = c₁ .before .before in let piece-at = c₃ .piece-at in
-    let c₄ = c₃ .before in let loop-test = c₄ .loop-test in
-    let c₅ = c₄ .before in let loop = c₅ .loop in
-    let c₁₃ = c₅ .before .before .before .before .before .before .before .before in let args = c₁₃ .args in
+    let c₄ = c₃ .before in let if2 = c₄ .if2 in
+    let c₅ = c₄ .before in let is-blank = c₅ .is-blank in
+    let c₇ = c₅ .before .before in let loop-test = c₇ .loop-test in
+    let c₈ = c₇ .before in let loop = c₈ .loop in
+    let c₁₅ = c₈ .before .before .before .before .before .before .before in let args = c₁₅ .args in
     let text = now (args .text) in
-    let h = held-room text (loop .kinds) (loop .starts) (loop .lengths) (loop .numbers) (loop .at) (loop .n) (loop .inv .0) (loop .inv .1) (loop-test .taken) (kind .given .0 .0) (kind .given .0 .1 .0) (kind .given .0 .1 .1 .0) (subst (λ (r : Piece). Leads r (drop (loop .at) text)) (kind .given .1) (piece-at .ensures)) in record { fits = omega (arith, h .0, h .1, loop .inv .1) }
+    let h = held-room text (loop .kinds) (loop .starts) (loop .lengths) (loop .numbers) (loop .at) (loop .n) (loop .inv .0) (loop .inv .1) (loop-test .taken) (sym (is-blank .ensures) ∙ if2 .left) (kind .given .0 .0) (kind .given .0 .1 .0) (kind .given .0 .1 .1 .0) (subst (λ (r : Piece). Leads r (drop (loop .at) text)) (kind .given .1) (piece-at .ensures)) in record { fits = omega (arith, h .0, h .1, loop .inv .1) }
 
-skip-requires-2 : tie.Need-skip-requires-2 Inv-loop μ-loop
-skip-requires-2 c κs =
+loop-less-2 : tie.Need-loop-less-2 Inv-loop μ-loop
+loop-less-2 c =
     let c₁ = c .before in let kind = c₁ .kind in
     let c₃ = c₁ .before .before in let piece-at = c₃ .piece-at in
-    let c₄ = c₃ .before in let loop-test = c₄ .loop-test in
-    let c₅ = c₄ .before in let loop = c₅ .loop in
-    let c₁₃ = c₅ .before .before .before .before .before .before .before .before in let args = c₁₃ .args in
+    let c₄ = c₃ .before in let if2 = c₄ .if2 in
+    let c₅ = c₄ .before in let is-blank = c₅ .is-blank in
+    let c₇ = c₅ .before .before in let loop-test = c₇ .loop-test in
+    let c₈ = c₇ .before in let loop = c₈ .loop in
+    let c₁₅ = c₈ .before .before .before .before .before .before .before in let args = c₁₅ .args in
     let text = now (args .text) in
-    held-room text (loop .kinds) (loop .starts) (loop .lengths) (loop .numbers) (loop .at) (loop .n) (loop .inv .0) (loop .inv .1) (loop-test .taken) (kind .given .0 .0) (kind .given .0 .1 .0) (kind .given .0 .1 .1 .0) (subst (λ (r : Piece). Leads r (drop (loop .at) text)) (kind .given .1) (piece-at .ensures)) .1
+    let h = held-room text (loop .kinds) (loop .starts) (loop .lengths) (loop .numbers) (loop .at) (loop .n) (loop .inv .0) (loop .inv .1) (loop-test .taken) (sym (is-blank .ensures) ∙ if2 .left) (kind .given .0 .0) (kind .given .0 .1 .0) (kind .given .0 .1 .1 .0) (subst (λ (r : Piece). Leads r (drop (loop .at) text)) (kind .given .1) (piece-at .ensures)) in omega (arith, h .0, h .1)
 
-loop-less : tie.Need-loop-less Inv-loop μ-loop
-loop-less c =
-    let c₂ = c .before .before in let kind = c₂ .kind in
-    let c₄ = c₂ .before .before in let piece-at = c₄ .piece-at in
-    let c₅ = c₄ .before in let loop-test = c₅ .loop-test in
-    let c₆ = c₅ .before in let loop = c₆ .loop in
-    let c₁₄ = c₆ .before .before .before .before .before .before .before .before in let args = c₁₄ .args in
+loop-again-2 : tie.Need-loop-again-2 Inv-loop μ-loop
+loop-again-2 c =
+    let c₁ = c .before in let kind = c₁ .kind in
+    let c₃ = c₁ .before .before in let piece-at = c₃ .piece-at in
+    let c₄ = c₃ .before in let if2 = c₄ .if2 in
+    let c₅ = c₄ .before in let is-blank = c₅ .is-blank in
+    let c₇ = c₅ .before .before in let loop-test = c₇ .loop-test in
+    let c₈ = c₇ .before in let loop = c₈ .loop in
+    let c₁₅ = c₈ .before .before .before .before .before .before .before in let args = c₁₅ .args in let pre = c₁₅ .pre in
     let text = now (args .text) in
-    let h = held-room text (loop .kinds) (loop .starts) (loop .lengths) (loop .numbers) (loop .at) (loop .n) (loop .inv .0) (loop .inv .1) (loop-test .taken) (kind .given .0 .0) (kind .given .0 .1 .0) (kind .given .0 .1 .1 .0) (subst (λ (r : Piece). Leads r (drop (loop .at) text)) (kind .given .1) (piece-at .ensures)) in omega (arith, h .0, c .skip2 .ensures .1, c .skip2 .ensures .2, loop-test .taken)
-
-loop-again : tie.Need-loop-again Inv-loop μ-loop
-loop-again c =
-    let c₂ = c .before .before in let kind = c₂ .kind in
-    let c₄ = c₂ .before .before in let piece-at = c₄ .piece-at in
-    let c₅ = c₄ .before in let loop-test = c₅ .loop-test in
-    let c₆ = c₅ .before in let loop = c₆ .loop in
-    let c₁₄ = c₆ .before .before .before .before .before .before .before .before in let args = c₁₄ .args in let pre = c₁₄ .pre in
-    let text = now (args .text) in
-    (held-more text (loop .kinds) (loop .starts) (loop .lengths) (loop .numbers) (loop .at) (loop .n) (loop .inv .0) (loop .inv .1) (loop-test .taken) (kind .given .0 .0) (kind .given .0 .1 .0) (kind .given .0 .1 .1 .0) (subst (λ (r : Piece). Leads r (drop (loop .at) text)) (kind .given .1) (piece-at .ensures)) (omega (arith, loop .inv .2, loop .inv .0 .behind, loop-test .taken, pre (loop .inv .1) .0)) (omega (arith, loop .inv .3, loop .inv .0 .behind, loop-test .taken, pre (loop .inv .1) .1)) (omega (arith, loop .inv .4, loop .inv .0 .behind, loop-test .taken, pre (loop .inv .1) .2)) (omega (arith, loop .inv .5, loop .inv .0 .behind, loop-test .taken, pre (loop .inv .1) .3)) (c .skip2 .result) (c .skip2 .ensures .0) (c .skip2 .ensures .1) (c .skip2 .ensures .2), loop .inv .1, length-set (loop .kinds) (loop .n) (kind .given .0 .0) ∙ loop .inv .2, length-set (loop .starts) (loop .n) (loop .at) ∙ loop .inv .3, length-set (loop .lengths) (loop .n) (kind .given .0 .1 .0) ∙ loop .inv .4, length-set (loop .numbers) (loop .n) (kind .given .0 .1 .1 .0) ∙ loop .inv .5)
+    (held-more text (loop .kinds) (loop .starts) (loop .lengths) (loop .numbers) (loop .at) (loop .n) (loop .inv .0) (loop .inv .1) (loop-test .taken) (sym (is-blank .ensures) ∙ if2 .left) (kind .given .0 .0) (kind .given .0 .1 .0) (kind .given .0 .1 .1 .0) (subst (λ (r : Piece). Leads r (drop (loop .at) text)) (kind .given .1) (piece-at .ensures)) (omega (arith, loop .inv .2, loop .inv .0 .behind, loop-test .taken, pre (loop .inv .1) .0)) (omega (arith, loop .inv .3, loop .inv .0 .behind, loop-test .taken, pre (loop .inv .1) .1)) (omega (arith, loop .inv .4, loop .inv .0 .behind, loop-test .taken, pre (loop .inv .1) .2)) (omega (arith, loop .inv .5, loop .inv .0 .behind, loop-test .taken, pre (loop .inv .1) .3)), loop .inv .1, length-set (loop .kinds) (loop .n) (kind .given .0 .0) ∙ loop .inv .2, length-set (loop .starts) (loop .n) (loop .at) ∙ loop .inv .3, length-set (loop .lengths) (loop .n) (kind .given .0 .1 .0) ∙ loop .inv .4, length-set (loop .numbers) (loop .n) (kind .given .0 .1 .1 .0) ∙ loop .inv .5)
 
 same-length-5 : tie.Need-same-length-5 Inv-loop μ-loop
 same-length-5 c = search needs
@@ -158,7 +193,7 @@ same-length-8 c = search needs
 returns-3 : tie.Need-returns-3 Inv-loop μ-loop
 returns-3 c =
     let c₁ = c .before in let loop = c₁ .loop in
-    let c₉ = c₁ .before .before .before .before .before .before .before .before in let args = c₉ .args in
+    let c₈ = c₁ .before .before .before .before .before .before .before in let args = c₈ .args in
     (held-end (now (args .text)) (loop .kinds) (loop .starts) (loop .lengths) (loop .numbers) (loop .at) (loop .n) (loop .inv .0) (loop .inv .1) (c .loop-test .left), (loop .inv .0 .coded, (omega (arith, loop .inv .0 .behind, loop .inv .0 .inside, loop .inv .1), omega (arith, loop .inv .0 .behind, loop .inv .0 .inside))))
 
 pub cut-spec : {M : Type 1} → statement M
@@ -168,8 +203,12 @@ cut-spec =
     Inv-loop
     μ-loop
     returns
-    skip-requires
     loop-holds
+    shared-slice-read-is-blank
+    is-blank-requires
+    add-at
+    loop-less
+    loop-again
     piece-at-requires
     enum-known-kind
     enum-told
@@ -188,10 +227,9 @@ cut-spec =
     mul-numbers
     slice-write-numbers
     add-n
-    add-skip
-    skip-requires-2
-    loop-less
-    loop-again
+    add-at-2
+    loop-less-2
+    loop-again-2
     same-length-5
     same-length-6
     same-length-7

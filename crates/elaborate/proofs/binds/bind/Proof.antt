@@ -17,14 +17,16 @@ use mathlib.Core.Option.{none}
 use mathlib.Core.List.{map, _∷_}
 use Prim.Native.Nat.{_*_}
 use Rattle.elaborate.proofs.binds.Laws.{finish, end-step, past-end, on, off, within}
-use Rattle.items.proofs.Slots.{no-slots}
-use Rattle.elaborate.proofs.Laws.{slots-are}
+use Rattle.items.specs.Reach.{rangeSymbol}
+use mathlib.Core.List.{map}
+use Rattle.elaborate.proofs.Laws.{stand-after}
+use Rattle.elaborate.proofs.binds.Laws.{stands-none}
 use Rattle.quel.specs.Elaboration.{Symbol}
 use Rattle.quel.specs.Writing.{Written}
 use Rattle.elaborate.specs.After.{ended}
 use Rattle.elaborate.specs.Tallies.{listing, openRelation, symbolsIn, boundFrom, toDo}
 use Rattle.marks.specs.Numbers.{Used}
-use Rattle.items.specs.Tables.{Same, Named, Slotted}
+use Rattle.items.specs.Tables.{Same, Named, Holds}
 use Rattle.elaborate.proofs.binds.bind.Statement.{statement}
 use Rattle.elaborate.proofs.binds.bind.Tie as tie
 use Rattle.elaborate.proofs.binds.bind.Reads as reads
@@ -32,15 +34,15 @@ use Rattle.elaborate.proofs.binds.bind.Lts as lts
 use Rattle.elaborate.proofs.binds.step.Reads as step-reads
 
 abbrev Inv-loop : tie.InvT-loop
-Inv-loop kinds ids numbers list heads nexts marks symbols₀ slots₀ out₀ s₀ i₀ symbols slots out s i = ((text ss ls ns : List ℕ) (main : ℕ) → Named (nameIn text kinds ss ls) ids numbers → Used text (table kinds ss ls ns) ids main marks → (F : List Symbol → ℕ → Written) → ended out₀ 0 (listing (entries list) [] F (boundFrom text (table kinds ss ls ns) (entries list) main none 0 0)) ≡ ended out (s .at) (toDo text (table kinds ss ls ns) (entries list) main F i s symbols))
-    × ((w : ℕ → Word) → Same w ids → Slotted w ids (take (s .count) symbols) slots)
-    × (length symbols ≡ length symbols₀) × (length slots ≡ length slots₀) × (length out ≡ length out₀) × (s .count ≤ i) × (s .n ≤ i) × (s .at ≤ 3 * i) × (i ≤ length kinds)
+Inv-loop kinds ids numbers list index marks symbols₀ known₀ out₀ s₀ i₀ symbols known out s i = ((text ss ls ns : List ℕ) (main : ℕ) → Named (nameIn text kinds ss ls) ids numbers → Used text (table kinds ss ls ns) ids main marks → (F : List Symbol → ℕ → Written) → ended out₀ 0 (listing (entries list) [] F (boundFrom text (table kinds ss ls ns) (entries list) main none 0 0)) ≡ ended out (s .at) (toDo text (table kinds ss ls ns) (entries list) main F i s symbols))
+    × ((w : ℕ → Word) → Same w ids → Holds w ids known 0 0 (map (rangeSymbol w) (take (s .count) symbols)))
+    × (length symbols ≡ length symbols₀) × (length known ≡ length known₀) × (length out ≡ length out₀) × (s .count ≤ i) × (s .n ≤ i) × (s .at ≤ 3 * i) × (i ≤ length kinds)
 
 abbrev μ-loop : tie.MeasureT-loop
-μ-loop kinds ids numbers list heads nexts marks symbols₀ slots₀ out₀ s₀ i₀ symbols slots out s i = length kinds - i
+μ-loop kinds ids numbers list index marks symbols₀ known₀ out₀ s₀ i₀ symbols known out s i = length kinds - i
 
 loop-holds : tie.Need-loop-holds Inv-loop μ-loop
-loop-holds c = (λ text ss ls ns main nm u F. refl, λ w f. no-slots w (now (c .before .before .before .before .before .before .before .before .before .before .args .ids)) (now (c .before .before .before .before .before .before .before .before .before .before .args .symbols)) (now (c .before .before .before .before .before .before .before .before .before .before .args .slots)) (c .before .before .before .before .before .before .before .before .before .before .pre .0 .4), refl, refl, refl, omega arith, omega arith, omega arith, omega arith)
+loop-holds c = (λ text ss ls ns main nm u F. refl, λ w f. stands-none w (now (c .before .before .before .before .before .before .before .before .before .args .ids)) (now (c .before .before .before .before .before .before .before .before .before .args .symbols)) (now (c .before .before .before .before .before .before .before .before .before .args .known)) (c .before .before .before .before .before .before .before .before .before .pre .0 .4), refl, refl, refl, omega arith, omega arith, omega arith, omega arith)
 
 shared-slice-read-if1 : tie.Need-shared-slice-read-if1 Inv-loop μ-loop
 shared-slice-read-if1 c = search needs
@@ -55,10 +57,10 @@ same-length-3 : tie.Need-same-length-3 Inv-loop μ-loop
 same-length-3 c = c .before .before .before .loop .inv .4
 
 returns : tie.Need-returns Inv-loop μ-loop
-returns c = (λ text ss ls ns main nm u. record { ends = λ F. c .before .before .before .loop .inv .0 text ss ls ns main nm u F ∙ finish (entries (now (c .before .before .before .before .before .before .before .before .before .before .before .before .before .before .args .list))) (c .before .before .before .loop .out) (c .before .before .before .loop .s .at) (symbolsIn text (table (now (c .before .before .before .before .before .before .before .before .before .before .before .before .before .before .args .kinds)) ss ls ns) (entries (now (c .before .before .before .before .before .before .before .before .before .before .before .before .before .before .args .list))) main (c .before .before .before .loop .symbols) (c .before .before .before .loop .s .count)) F (c .before .before .before .loop .s .n) (boundFrom text (table (now (c .before .before .before .before .before .before .before .before .before .before .before .before .before .before .args .kinds)) ss ls ns) (entries (now (c .before .before .before .before .before .before .before .before .before .before .before .before .before .before .args .list))) main (openRelation (c .before .before .before .loop .s)) (c .before .before .before .loop .s .n) (c .before .before .before .loop .i)) (end-step text (table (now (c .before .before .before .before .before .before .before .before .before .before .before .before .before .before .args .kinds)) ss ls ns) (entries (now (c .before .before .before .before .before .before .before .before .before .before .before .before .before .before .args .list))) main (c .before .before .before .loop .i) (c .before .before .loop-test .taken) (c .if1 .taken) (openRelation (c .before .before .before .loop .s)) (c .before .before .before .loop .s .n)) }, ((omega (arith, c .before .before .before .loop .inv .5, c .before .before .before .loop .inv .8), omega (arith, c .before .before .before .loop .inv .6, c .before .before .before .loop .inv .8), omega (arith, c .before .before .before .loop .inv .7, c .before .before .before .loop .inv .8)), λ w f. c .before .before .before .loop .inv .1 w f))
+returns c = (λ text ss ls ns main nm u. record { ends = λ F. c .before .before .before .loop .inv .0 text ss ls ns main nm u F ∙ finish (entries (now (c .before .before .before .before .before .before .before .before .before .before .before .before .before .args .list))) (c .before .before .before .loop .out) (c .before .before .before .loop .s .at) (symbolsIn text (table (now (c .before .before .before .before .before .before .before .before .before .before .before .before .before .args .kinds)) ss ls ns) (entries (now (c .before .before .before .before .before .before .before .before .before .before .before .before .before .args .list))) main (c .before .before .before .loop .symbols) (c .before .before .before .loop .s .count)) F (c .before .before .before .loop .s .n) (boundFrom text (table (now (c .before .before .before .before .before .before .before .before .before .before .before .before .before .args .kinds)) ss ls ns) (entries (now (c .before .before .before .before .before .before .before .before .before .before .before .before .before .args .list))) main (openRelation (c .before .before .before .loop .s)) (c .before .before .before .loop .s .n) (c .before .before .before .loop .i)) (end-step text (table (now (c .before .before .before .before .before .before .before .before .before .before .before .before .before .args .kinds)) ss ls ns) (entries (now (c .before .before .before .before .before .before .before .before .before .before .before .before .before .args .list))) main (c .before .before .before .loop .i) (c .before .before .loop-test .taken) (c .if1 .taken) (openRelation (c .before .before .before .loop .s)) (c .before .before .before .loop .s .n)) }, ((omega (arith, c .before .before .before .loop .inv .5, c .before .before .before .loop .inv .8), omega (arith, c .before .before .before .loop .inv .6, c .before .before .before .loop .inv .8), omega (arith, c .before .before .before .loop .inv .7, c .before .before .before .loop .inv .8)), λ w f. c .before .before .before .loop .inv .1 w f))
 
 step-requires : tie.Need-step-requires Inv-loop μ-loop
-step-requires c κs = ((c .before .before .before .before .before .loop-test .taken, c .before .before .before .before .before .before .before .before .before .before .before .before .before .before .before .before .before .pre .0 .0, omega (arith, c .before .before .before .before .before .before .loop .inv .2, c .before .before .before .before .before .before .loop .inv .5, c .before .before .before .before .before .loop-test .taken, c .before .before .before .before .before .before .before .before .before .before .before .before .before .before .before .before .before .pre .0 .1), omega (arith, c .before .before .before .before .before .before .loop .inv .6, c .before .before .before .before .before .before .loop .inv .8, c .before .before .before .before .before .before .before .before .before .before .before .before .before .before .before .before .before .pre .0 .0), omega (arith, c .before .before .before .before .before .before .loop .inv .7, c .before .before .before .before .before .before .loop .inv .8, c .before .before .before .before .before .before .before .before .before .before .before .before .before .before .before .before .before .pre .0 .0), omega (arith, c .before .before .before .before .before .before .loop .inv .5, c .before .before .before .before .before .before .loop .inv .8, c .before .before .before .before .before .before .before .before .before .before .before .before .before .before .before .before .before .pre .0 .0), c .before .before .before .if1 .left), (omega (arith, c .before .before .before .before .before .before .before .before .before .before .before .before .before .before .before .before .before .pre .0 .3 (c .before .before .before .before .before .before .loop .i), c .before .before .before .before .before .before .before .before .before .before .before .before .before .before .before .before .before .pre .0 .2, c .before .before .before .before .before .before .loop .inv .3), c .before .before .before .before .before .before .before .before .before .before .before .before .before .before .before .before .before .pre .1 .0, c .before .before .before .before .before .before .before .before .before .before .before .before .before .before .before .before .before .pre .1 .1))
+step-requires c κs = ((c .before .before .before .before .before .loop-test .taken, c .before .before .before .before .before .before .before .before .before .before .before .before .before .before .before .before .pre .0 .0, omega (arith, c .before .before .before .before .before .before .loop .inv .2, c .before .before .before .before .before .before .loop .inv .5, c .before .before .before .before .before .loop-test .taken, c .before .before .before .before .before .before .before .before .before .before .before .before .before .before .before .before .pre .0 .1), omega (arith, c .before .before .before .before .before .before .loop .inv .6, c .before .before .before .before .before .before .loop .inv .8, c .before .before .before .before .before .before .before .before .before .before .before .before .before .before .before .before .pre .0 .0), omega (arith, c .before .before .before .before .before .before .loop .inv .7, c .before .before .before .before .before .before .loop .inv .8, c .before .before .before .before .before .before .before .before .before .before .before .before .before .before .before .before .pre .0 .0), omega (arith, c .before .before .before .before .before .before .loop .inv .5, c .before .before .before .before .before .before .loop .inv .8, c .before .before .before .before .before .before .before .before .before .before .before .before .before .before .before .before .pre .0 .0), c .before .before .before .if1 .left), (omega (arith, c .before .before .before .before .before .before .before .before .before .before .before .before .before .before .before .before .pre .0 .3 (c .before .before .before .before .before .before .loop .i), c .before .before .before .before .before .before .before .before .before .before .before .before .before .before .before .before .pre .0 .2, c .before .before .before .before .before .before .loop .inv .3), c .before .before .before .before .before .before .before .before .before .before .before .before .before .before .before .before .pre .1))
 
 enum-known-t : tie.Need-enum-known-t Inv-loop μ-loop
 enum-known-t c = search needs
@@ -67,25 +69,25 @@ enum-told : tie.Need-enum-told Inv-loop μ-loop
 enum-told c = search needs
 
 same-length-4 : tie.Need-same-length-4 Inv-loop μ-loop
-same-length-4 c = c .before .before .before .before .before .before .before .before .step .kept .1 .1 .1 .1 .1 .1 .1 .0 ∙ c .before .before .before .before .before .before .before .before .before .before .before .before .before .before .before .loop .inv .2
+same-length-4 c = c .before .before .before .before .before .before .before .before .step .kept .1 .1 .1 .1 .1 .1 .0 ∙ c .before .before .before .before .before .before .before .before .before .before .before .before .before .before .before .loop .inv .2
 
 same-length-5 : tie.Need-same-length-5 Inv-loop μ-loop
-same-length-5 c = c .before .before .before .before .before .before .before .before .step .kept .1 .1 .1 .1 .1 .1 .1 .1 .0 ∙ c .before .before .before .before .before .before .before .before .before .before .before .before .before .before .before .loop .inv .3
+same-length-5 c = c .before .before .before .before .before .before .before .before .step .kept .1 .1 .1 .1 .1 .1 .1 .0 ∙ c .before .before .before .before .before .before .before .before .before .before .before .before .before .before .before .loop .inv .3
 
 same-length-6 : tie.Need-same-length-6 Inv-loop μ-loop
-same-length-6 c = c .before .before .before .before .before .before .before .before .step .kept .1 .1 .1 .1 .1 .1 .1 .1 .1 .0 ∙ c .before .before .before .before .before .before .before .before .before .before .before .before .before .before .before .loop .inv .4
+same-length-6 c = c .before .before .before .before .before .before .before .before .step .kept .1 .1 .1 .1 .1 .1 .1 .1 .0 ∙ c .before .before .before .before .before .before .before .before .before .before .before .before .before .before .before .loop .inv .4
 
 returns-2 : tie.Need-returns-2 Inv-loop μ-loop
-returns-2 c = (λ text ss ls ns main nm u. record { ends = λ F. off text (table (now (c .before .before .before .before .before .before .before .before .before .before .before .before .before .before .before .before .before .before .before .before .before .before .before .before .before .before .args .kinds)) ss ls ns) (entries (now (c .before .before .before .before .before .before .before .before .before .before .before .before .before .before .before .before .before .before .before .before .before .before .before .before .before .before .args .list))) main (c .before .before .before .before .before .before .before .before .before .before .before .before .before .before .before .loop .i) (c .before .before .before .before .before .before .before .before .before .before .before .before .before .before .before .loop .s) (c .before .before .before .before .before .before .before .before .before .before .before .before .before .before .before .loop .symbols) (c .before .before .before .before .before .before .before .before .before .before .before .before .before .before .before .loop .out) _ _ _ (c .before .before .before .before .before .before .before .before .step .ensures .0 text ss ls ns main nm u) (c .enum-told .given .1) F _ (c .before .before .before .before .before .before .before .before .before .before .before .before .before .before .before .loop .inv .0 text ss ls ns main nm u F) }, (tt, λ w f. tt))
+returns-2 c = (λ text ss ls ns main nm u. record { ends = λ F. off text (table (now (c .before .before .before .before .before .before .before .before .before .before .before .before .before .before .before .before .before .before .before .before .before .before .before .before .before .args .kinds)) ss ls ns) (entries (now (c .before .before .before .before .before .before .before .before .before .before .before .before .before .before .before .before .before .before .before .before .before .before .before .before .before .args .list))) main (c .before .before .before .before .before .before .before .before .before .before .before .before .before .before .before .loop .i) (c .before .before .before .before .before .before .before .before .before .before .before .before .before .before .before .loop .s) (c .before .before .before .before .before .before .before .before .before .before .before .before .before .before .before .loop .symbols) (c .before .before .before .before .before .before .before .before .before .before .before .before .before .before .before .loop .out) _ _ _ (c .before .before .before .before .before .before .before .before .step .ensures .0 text ss ls ns main nm u) (c .enum-told .given .1) F _ (c .before .before .before .before .before .before .before .before .before .before .before .before .before .before .before .loop .inv .0 text ss ls ns main nm u F) }, (tt, λ w f. tt))
 
 add-i : tie.Need-add-i Inv-loop μ-loop
-add-i c = record { fits = omega (arith, c .before .before .before .before .before .before .before .before .before .before .before .before .before .before .before .before .before .before .before .before .before .before .before .before .before .before .before .pre .0 .0, c .before .before .before .before .before .before .before .before .before .before .before .before .before .before .before .loop-test .taken) }
+add-i c = record { fits = omega (arith, c .before .before .before .before .before .before .before .before .before .before .before .before .before .before .before .before .before .before .before .before .before .before .before .before .before .before .pre .0 .0, c .before .before .before .before .before .before .before .before .before .before .before .before .before .before .before .loop-test .taken) }
 
 loop-less : tie.Need-loop-less Inv-loop μ-loop
 loop-less c = search needs
 
 loop-again : tie.Need-loop-again Inv-loop μ-loop
-loop-again c = let b = within (c .before .before .before .before .before .before .before .before .before .before .before .before .before .before .before .before .loop .s) _ _ (c .before .before .before .before .before .before .before .before .before .step .ensures .1 .0) (c .before .t .given .1) in (λ text ss ls ns main nm u F. on text (table (now (c .before .before .before .before .before .before .before .before .before .before .before .before .before .before .before .before .before .before .before .before .before .before .before .before .before .before .before .args .kinds)) ss ls ns) (entries (now (c .before .before .before .before .before .before .before .before .before .before .before .before .before .before .before .before .before .before .before .before .before .before .before .before .before .before .before .args .list))) main (c .before .before .before .before .before .before .before .before .before .before .before .before .before .before .before .before .loop .i) (c .before .before .before .before .before .before .before .before .before .before .before .before .before .before .before .before .loop .s) (c .before .before .before .before .before .before .before .before .before .before .before .before .before .before .before .before .loop .symbols) (c .before .before .before .before .before .before .before .before .before .before .before .before .before .before .before .before .loop .out) _ _ _ (c .before .before .before .before .before .before .before .before .before .step .ensures .0 text ss ls ns main nm u) _ (c .before .t .given .1) F _ (c .before .before .before .before .before .before .before .before .before .before .before .before .before .before .before .before .loop .inv .0 text ss ls ns main nm u F), λ w f. slots-are w (now (c .before .before .before .before .before .before .before .before .before .before .before .before .before .before .before .before .before .before .before .before .before .before .before .before .before .before .before .args .ids)) (c .before .before .before .before .before .before .before .before .before .step .last .1 .1 .1 .1 .1 .1 .1 .0) (c .before .before .before .before .before .before .before .before .before .step .last .1 .1 .1 .1 .1 .1 .1 .1 .0) _ _ (c .before .before .before .before .before .before .before .before .before .step .ensures .1 .1 w f (c .before .before .before .before .before .before .before .before .before .before .before .before .before .before .before .before .loop .inv .1 w f)) (c .before .t .given .1), c .before .before .before .before .before .before .before .before .before .step .kept .1 .1 .1 .1 .1 .1 .1 .0 ∙ c .before .before .before .before .before .before .before .before .before .before .before .before .before .before .before .before .loop .inv .2, c .before .before .before .before .before .before .before .before .before .step .kept .1 .1 .1 .1 .1 .1 .1 .1 .0 ∙ c .before .before .before .before .before .before .before .before .before .before .before .before .before .before .before .before .loop .inv .3, c .before .before .before .before .before .before .before .before .before .step .kept .1 .1 .1 .1 .1 .1 .1 .1 .1 .0 ∙ c .before .before .before .before .before .before .before .before .before .before .before .before .before .before .before .before .loop .inv .4, omega (arith, b .0, c .before .before .before .before .before .before .before .before .before .before .before .before .before .before .before .before .loop .inv .5), omega (arith, b .1, c .before .before .before .before .before .before .before .before .before .before .before .before .before .before .before .before .loop .inv .6), omega (arith, b .2, c .before .before .before .before .before .before .before .before .before .before .before .before .before .before .before .before .loop .inv .7), omega (arith, c .before .before .before .before .before .before .before .before .before .before .before .before .before .before .before .before .before .before .before .before .before .before .before .before .before .before .before .pre .0 .0, c .before .before .before .before .before .before .before .before .before .before .before .before .before .before .before .loop-test .taken))
+loop-again c = let b = within (c .before .before .before .before .before .before .before .before .before .before .before .before .before .before .before .before .loop .s) _ _ (c .before .before .before .before .before .before .before .before .before .step .ensures .1 .0) (c .before .t .given .1) in (λ text ss ls ns main nm u F. on text (table (now (c .before .before .before .before .before .before .before .before .before .before .before .before .before .before .before .before .before .before .before .before .before .before .before .before .before .before .args .kinds)) ss ls ns) (entries (now (c .before .before .before .before .before .before .before .before .before .before .before .before .before .before .before .before .before .before .before .before .before .before .before .before .before .before .args .list))) main (c .before .before .before .before .before .before .before .before .before .before .before .before .before .before .before .before .loop .i) (c .before .before .before .before .before .before .before .before .before .before .before .before .before .before .before .before .loop .s) (c .before .before .before .before .before .before .before .before .before .before .before .before .before .before .before .before .loop .symbols) (c .before .before .before .before .before .before .before .before .before .before .before .before .before .before .before .before .loop .out) _ _ _ (c .before .before .before .before .before .before .before .before .before .step .ensures .0 text ss ls ns main nm u) _ (c .before .t .given .1) F _ (c .before .before .before .before .before .before .before .before .before .before .before .before .before .before .before .before .loop .inv .0 text ss ls ns main nm u F), λ w f. stand-after w (now (c .before .before .before .before .before .before .before .before .before .before .before .before .before .before .before .before .before .before .before .before .before .before .before .before .before .before .args .ids)) (c .before .before .before .before .before .before .before .before .before .step .last .1 .1 .1 .1 .1 .1 .0) (c .before .before .before .before .before .before .before .before .before .step .last .1 .1 .1 .1 .1 .1 .1 .0) _ _ (c .before .before .before .before .before .before .before .before .before .step .ensures .1 .1 w f (c .before .before .before .before .before .before .before .before .before .before .before .before .before .before .before .before .loop .inv .1 w f)) (c .before .t .given .1), c .before .before .before .before .before .before .before .before .before .step .kept .1 .1 .1 .1 .1 .1 .0 ∙ c .before .before .before .before .before .before .before .before .before .before .before .before .before .before .before .before .loop .inv .2, c .before .before .before .before .before .before .before .before .before .step .kept .1 .1 .1 .1 .1 .1 .1 .0 ∙ c .before .before .before .before .before .before .before .before .before .before .before .before .before .before .before .before .loop .inv .3, c .before .before .before .before .before .before .before .before .before .step .kept .1 .1 .1 .1 .1 .1 .1 .1 .0 ∙ c .before .before .before .before .before .before .before .before .before .before .before .before .before .before .before .before .loop .inv .4, omega (arith, b .0, c .before .before .before .before .before .before .before .before .before .before .before .before .before .before .before .before .loop .inv .5), omega (arith, b .1, c .before .before .before .before .before .before .before .before .before .before .before .before .before .before .before .before .loop .inv .6), omega (arith, b .2, c .before .before .before .before .before .before .before .before .before .before .before .before .before .before .before .before .loop .inv .7), omega (arith, c .before .before .before .before .before .before .before .before .before .before .before .before .before .before .before .before .before .before .before .before .before .before .before .before .before .before .pre .0 .0, c .before .before .before .before .before .before .before .before .before .before .before .before .before .before .before .loop-test .taken))
 
 same-length-7 : tie.Need-same-length-7 Inv-loop μ-loop
 same-length-7 c = c .before .loop .inv .2
@@ -97,7 +99,7 @@ same-length-9 : tie.Need-same-length-9 Inv-loop μ-loop
 same-length-9 c = c .before .loop .inv .4
 
 returns-3 : tie.Need-returns-3 Inv-loop μ-loop
-returns-3 c = (λ text ss ls ns main nm u. record { ends = λ F. c .before .loop .inv .0 text ss ls ns main nm u F ∙ finish (entries (now (c .before .before .before .before .before .before .before .before .before .before .before .before .args .list))) (c .before .loop .out) (c .before .loop .s .at) (symbolsIn text (table (now (c .before .before .before .before .before .before .before .before .before .before .before .before .args .kinds)) ss ls ns) (entries (now (c .before .before .before .before .before .before .before .before .before .before .before .before .args .list))) main (c .before .loop .symbols) (c .before .loop .s .count)) F (c .before .loop .s .n) (boundFrom text (table (now (c .before .before .before .before .before .before .before .before .before .before .before .before .args .kinds)) ss ls ns) (entries (now (c .before .before .before .before .before .before .before .before .before .before .before .before .args .list))) main (openRelation (c .before .loop .s)) (c .before .loop .s .n) (c .before .loop .i)) (past-end text (table (now (c .before .before .before .before .before .before .before .before .before .before .before .before .args .kinds)) ss ls ns) (entries (now (c .before .before .before .before .before .before .before .before .before .before .before .before .args .list))) main (c .before .loop .i) (c .loop-test .left) (openRelation (c .before .loop .s)) (c .before .loop .s .n)) }, ((omega (arith, c .before .loop .inv .5, c .before .loop .inv .8), omega (arith, c .before .loop .inv .6, c .before .loop .inv .8), omega (arith, c .before .loop .inv .7, c .before .loop .inv .8)), λ w f. c .before .loop .inv .1 w f))
+returns-3 c = (λ text ss ls ns main nm u. record { ends = λ F. c .before .loop .inv .0 text ss ls ns main nm u F ∙ finish (entries (now (c .before .before .before .before .before .before .before .before .before .before .before .args .list))) (c .before .loop .out) (c .before .loop .s .at) (symbolsIn text (table (now (c .before .before .before .before .before .before .before .before .before .before .before .args .kinds)) ss ls ns) (entries (now (c .before .before .before .before .before .before .before .before .before .before .before .args .list))) main (c .before .loop .symbols) (c .before .loop .s .count)) F (c .before .loop .s .n) (boundFrom text (table (now (c .before .before .before .before .before .before .before .before .before .before .before .args .kinds)) ss ls ns) (entries (now (c .before .before .before .before .before .before .before .before .before .before .before .args .list))) main (openRelation (c .before .loop .s)) (c .before .loop .s .n) (c .before .loop .i)) (past-end text (table (now (c .before .before .before .before .before .before .before .before .before .before .before .args .kinds)) ss ls ns) (entries (now (c .before .before .before .before .before .before .before .before .before .before .before .args .list))) main (c .before .loop .i) (c .loop-test .left) (openRelation (c .before .loop .s)) (c .before .loop .s .n)) }, ((omega (arith, c .before .loop .inv .5, c .before .loop .inv .8), omega (arith, c .before .loop .inv .6, c .before .loop .inv .8), omega (arith, c .before .loop .inv .7, c .before .loop .inv .8)), λ w f. c .before .loop .inv .1 w f))
 
 pub bind-spec : {M : Type 1} → statement M
 bind-spec =

@@ -27,13 +27,13 @@ use Rattle.items.proofs.code.Reads as code-reads
 use Rattle.names.proofs.relation_named.Reads as relation-named-reads
 
 returns : tie.Need-returns
-returns c = (λ text ss ls ns main nm u. c .before .before .before .before .before .before .symbol .ensures .0 text ss ls ns (entries (now (c .before .before .before .before .before .before .before .before .before .before .before .before .before .before .before .before .before .before .before .before .before .args .list))) main u, (c .before .before .before .before .before .before .symbol .ensures .1 .0, c .before .before .before .before .before .before .symbol .ensures .1 .1))
+returns c = (λ text ss ls ns main nm u. c .before .before .before .before .before .before .symbol .ensures .0 text ss ls ns (entries (now (c .before .before .before .before .before .before .before .before .before .before .before .before .before .before .before .before .before .before .before .before .args .list))) main u, (c .before .before .before .before .before .before .symbol .ensures .1 .0, c .before .before .before .before .before .before .symbol .ensures .1 .1))
 
 returns-2 : tie.Need-returns-2
-returns-2 c = (λ text ss ls ns main nm u. unknown text (table (now (c .before .before .before .before .before .before .before .before .before .before .before .before .before .before .before .args .kinds)) ss ls ns) (entries (now (c .before .before .before .before .before .before .before .before .before .before .before .before .before .before .before .args .list))) main (c .before .before .before .before .before .before .before .before .before .before .before .before .before .before .before .args .i) (c .before .before .before .before .before .before .before .before .before .before .before .before .before .before .before .pre .0 .0) (c .before .before .before .before .before .before .before .before .before .before .before .before .before .before .before .args .s) (now (c .before .before .before .before .before .before .before .before .before .before .before .before .before .before .before .args .symbols)) (now (c .before .before .before .before .before .before .before .before .before .before .before .before .before .before .before .args .out)) (c .before .before .before .before .before .before .before .before .before .before .before .before .before .before .before .pre .0 .6) (c .before .before .before .before .if1 .left) (found-none (relationNamed (entries (now (c .before .before .before .before .before .before .before .before .before .before .before .before .before .before .before .args .list))) ((nameIn text (now (c .before .before .before .before .before .before .before .before .before .before .before .before .before .before .before .args .kinds)) ss ls) (c .before .before .before .before .before .before .before .before .before .before .before .before .before .before .before .args .i))) _ (c .before .before .relation-named .ensures ((nameIn text (now (c .before .before .before .before .before .before .before .before .before .before .before .before .before .before .before .args .kinds)) ss ls) (c .before .before .before .before .before .before .before .before .before .before .before .before .before .before .before .args .i)) (subst (λ (v : ℕ). Spelt ((nameIn text (now (c .before .before .before .before .before .before .before .before .before .before .before .before .before .before .before .args .kinds)) ss ls) (c .before .before .before .before .before .before .before .before .before .before .before .before .before .before .before .args .i)) v) (sym (c .before .before .before .code .ensures)) (nm .spelt (c .before .before .before .before .before .before .before .before .before .before .before .before .before .before .before .args .i)))) (c .enum-told .given .1)), (tt, λ w f g. tt))
+returns-2 c = (λ text ss ls ns main nm u. unknown text (table (now (c .before .before .before .before .before .before .before .before .before .before .before .before .before .before .args .kinds)) ss ls ns) (entries (now (c .before .before .before .before .before .before .before .before .before .before .before .before .before .before .args .list))) main (c .before .before .before .before .before .before .before .before .before .before .before .before .before .before .args .i) (c .before .before .before .before .before .before .before .before .before .before .before .before .before .before .pre .0 .0) (c .before .before .before .before .before .before .before .before .before .before .before .before .before .before .args .s) (now (c .before .before .before .before .before .before .before .before .before .before .before .before .before .before .args .symbols)) (now (c .before .before .before .before .before .before .before .before .before .before .before .before .before .before .args .out)) (c .before .before .before .before .before .before .before .before .before .before .before .before .before .before .pre .0 .6) (c .before .before .before .before .if1 .left) (found-none (relationNamed (entries (now (c .before .before .before .before .before .before .before .before .before .before .before .before .before .before .args .list))) ((nameIn text (now (c .before .before .before .before .before .before .before .before .before .before .before .before .before .before .args .kinds)) ss ls) (c .before .before .before .before .before .before .before .before .before .before .before .before .before .before .args .i))) _ (c .before .before .relation-named .ensures ((nameIn text (now (c .before .before .before .before .before .before .before .before .before .before .before .before .before .before .args .kinds)) ss ls) (c .before .before .before .before .before .before .before .before .before .before .before .before .before .before .args .i)) (subst (λ (v : ℕ). Spelt ((nameIn text (now (c .before .before .before .before .before .before .before .before .before .before .before .before .before .before .args .kinds)) ss ls) (c .before .before .before .before .before .before .before .before .before .before .before .before .before .before .args .i)) v) (sym (c .before .before .before .code .ensures)) (nm .spelt (c .before .before .before .before .before .before .before .before .before .before .before .before .before .before .args .i)))) (c .enum-told .given .1)), (tt, λ w f g. tt))
 
 returns-3 : tie.Need-returns-3
-returns-3 c = (λ text ss ls ns main nm u. known text (table (now (c .before .before .before .before .before .before .before .before .before .before .before .before .before .before .before .before .args .kinds)) ss ls ns) (entries (now (c .before .before .before .before .before .before .before .before .before .before .before .before .before .before .before .before .args .list))) main (c .before .before .before .before .before .before .before .before .before .before .before .before .before .before .before .before .args .i) (c .before .before .before .before .before .before .before .before .before .before .before .before .before .before .before .before .pre .0 .0) (c .before .before .before .before .before .before .before .before .before .before .before .before .before .before .before .before .args .s) (now (c .before .before .before .before .before .before .before .before .before .before .before .before .before .before .before .before .args .symbols)) (now (c .before .before .before .before .before .before .before .before .before .before .before .before .before .before .before .before .args .out)) (c .before .before .before .before .before .before .before .before .before .before .before .before .before .before .before .before .pre .0 .6) (c .before .before .before .before .before .if1 .left) _ (found-some (relationNamed (entries (now (c .before .before .before .before .before .before .before .before .before .before .before .before .before .before .before .before .args .list))) ((nameIn text (now (c .before .before .before .before .before .before .before .before .before .before .before .before .before .before .before .before .args .kinds)) ss ls) (c .before .before .before .before .before .before .before .before .before .before .before .before .before .before .before .before .args .i))) _ _ (c .before .before .before .relation-named .ensures ((nameIn text (now (c .before .before .before .before .before .before .before .before .before .before .before .before .before .before .before .before .args .kinds)) ss ls) (c .before .before .before .before .before .before .before .before .before .before .before .before .before .before .before .before .args .i)) (subst (λ (v : ℕ). Spelt ((nameIn text (now (c .before .before .before .before .before .before .before .before .before .before .before .before .before .before .before .before .args .kinds)) ss ls) (c .before .before .before .before .before .before .before .before .before .before .before .before .before .before .before .before .args .i)) v) (sym (c .before .before .before .before .code .ensures)) (nm .spelt (c .before .before .before .before .before .before .before .before .before .before .before .before .before .before .before .before .args .i)))) (c .before .r .given .1)), ((omega arith, omega arith, omega arith), λ w f g. g))
+returns-3 c = (λ text ss ls ns main nm u. known text (table (now (c .before .before .before .before .before .before .before .before .before .before .before .before .before .before .before .args .kinds)) ss ls ns) (entries (now (c .before .before .before .before .before .before .before .before .before .before .before .before .before .before .before .args .list))) main (c .before .before .before .before .before .before .before .before .before .before .before .before .before .before .before .args .i) (c .before .before .before .before .before .before .before .before .before .before .before .before .before .before .before .pre .0 .0) (c .before .before .before .before .before .before .before .before .before .before .before .before .before .before .before .args .s) (now (c .before .before .before .before .before .before .before .before .before .before .before .before .before .before .before .args .symbols)) (now (c .before .before .before .before .before .before .before .before .before .before .before .before .before .before .before .args .out)) (c .before .before .before .before .before .before .before .before .before .before .before .before .before .before .before .pre .0 .6) (c .before .before .before .before .before .if1 .left) _ (found-some (relationNamed (entries (now (c .before .before .before .before .before .before .before .before .before .before .before .before .before .before .before .args .list))) ((nameIn text (now (c .before .before .before .before .before .before .before .before .before .before .before .before .before .before .before .args .kinds)) ss ls) (c .before .before .before .before .before .before .before .before .before .before .before .before .before .before .before .args .i))) _ _ (c .before .before .before .relation-named .ensures ((nameIn text (now (c .before .before .before .before .before .before .before .before .before .before .before .before .before .before .before .args .kinds)) ss ls) (c .before .before .before .before .before .before .before .before .before .before .before .before .before .before .before .args .i)) (subst (λ (v : ℕ). Spelt ((nameIn text (now (c .before .before .before .before .before .before .before .before .before .before .before .before .before .before .before .args .kinds)) ss ls) (c .before .before .before .before .before .before .before .before .before .before .before .before .before .before .before .args .i)) v) (sym (c .before .before .before .before .code .ensures)) (nm .spelt (c .before .before .before .before .before .before .before .before .before .before .before .before .before .before .before .args .i)))) (c .before .r .given .1)), ((omega arith, omega arith, omega arith), λ w f g. g))
 
 pub name-spec : {M : Type 1} → statement M
 name-spec =
