@@ -54,7 +54,7 @@ fn step(kind: u8, next: u64, after: u64) -> u64
 }
 
 // Fills the place of each token, and the one after the last.
-pub fn count(kinds: &[u8], counts: &mut [u64])
+pub(crate) fn count(kinds: &[u8], counts: &mut [u64])
     requires { ⌜ (length (now kinds) < length (now counts)) × (length (now kinds) < 4000) ⌝ }
     ensures { λ _. ⌜ Counted (now (kinds .entry)) (now (counts .exit)) ⌝ }
 {
@@ -68,28 +68,28 @@ pub fn count(kinds: &[u8], counts: &mut [u64])
     }
 }
 
-pub fn entry(table: &[u64], i: usize) -> u64
+pub(crate) fn entry(table: &[u64], i: usize) -> u64
     ensures { λ r. ⌜ r ≡ getD (now (table .entry)) i 0 ⌝ }
 {
     if i < table.len() { table[i] } else { 0 }
 }
 
 // How many V's stand ahead.
-pub fn ors(counts: &[u64], i: usize) -> usize
+pub(crate) fn ors(counts: &[u64], i: usize) -> usize
     ensures { λ r. ⌜ r ≡ orsIn (getD (now (counts .entry)) i 0) ⌝ }
 {
     (entry(counts, i) % 4096) as usize
 }
 
 // How many ^'s stand ahead, before the next V.
-pub fn ands(counts: &[u64], i: usize) -> usize
+pub(crate) fn ands(counts: &[u64], i: usize) -> usize
     ensures { λ r. ⌜ r ≡ andsIn (getD (now (counts .entry)) i 0) ⌝ }
 {
     (entry(counts, i) / 4096 % 4096) as usize
 }
 
 // The number of the operator ahead.
-pub fn operator(counts: &[u64], i: usize) -> u8
+pub(crate) fn operator(counts: &[u64], i: usize) -> u8
     ensures { λ r. ⌜ r ≡ suc (signIn (getD (now (counts .entry)) i 0)) ⌝ }
 {
     (entry(counts, i) / 16777216 % 8) as u8 + 1

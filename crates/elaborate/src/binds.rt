@@ -198,7 +198,7 @@ fn step(
 }
 
 // Fills the symbols of the RANGE list and what their names stand for, and writes its records; marks say which names are used.
-pub fn bind(
+pub(crate) fn bind(
     kinds: &[u8],
     ids: &[u16],
     numbers: &[u64],

@@ -11,7 +11,7 @@ fn wide(x: u8) -> u64
 }
 
 // Four numbers as one.
-pub fn pack(mode: u8, relation: u8, variable: u8, place: usize) -> u64
+pub(crate) fn pack(mode: u8, relation: u8, variable: u8, place: usize) -> u64
     requires { ⌜ (mode < 4) × (place < 65536) ⌝ }
     ensures { λ r. ⌜ (modeIn r ≡ mode) × (relationIn r ≡ relation) × (variableIn r ≡ variable) × (placeIn r ≡ place) ⌝ }
     ensures { λ r. ⌜ r < 68719476736 ⌝ }
@@ -20,7 +20,7 @@ pub fn pack(mode: u8, relation: u8, variable: u8, place: usize) -> u64
 }
 
 // A frame: the number of the name that it binds, the innermost aggregate's frame round it, and what the name stood for.
-pub fn keep(id: usize, crossing: usize, old: u64) -> u64
+pub(crate) fn keep(id: usize, crossing: usize, old: u64) -> u64
     requires { ⌜ (id < 8192) × (crossing < 8192) × (old < 68719476736) ⌝ }
     ensures { λ r. ⌜ (modeIn r ≡ 1) × (idIn r ≡ id) × (crossIn r ≡ crossing) × (oldIn r ≡ old) ⌝ }
 {

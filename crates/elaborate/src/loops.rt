@@ -16,7 +16,7 @@ ghost use Rattle.elaborate.specs.Counts.{Counted};
 ghost use Rattle.elaborate.specs.Ends.{Ends, Last};
 
 // Writes the records of the tokens from `from` on, with the RANGE list's frame open and n the next variable's number.
-pub fn run(
+pub(crate) fn run(
     kinds: &[u8],
     ids: &[u16],
     numbers: &[u64],

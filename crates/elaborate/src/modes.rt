@@ -40,7 +40,7 @@ fn pick_at(kind: u8, k: u8, x: u8, y: u8) -> u8
 }
 
 // What is to be done at a token.
-pub fn action(mode: u8, kind: u8, point: bool) -> u8
+pub(crate) fn action(mode: u8, kind: u8, point: bool) -> u8
     ensures { λ r. ⌜ r ≡ actionOf mode kind point ⌝ }
 {
     if 4 <= mode {
@@ -110,7 +110,7 @@ fn in_attribute(kind: u8) -> u8
 }
 
 // The mode after a token.
-pub fn next_mode(mode: u8, kind: u8, point: bool) -> u8
+pub(crate) fn next_mode(mode: u8, kind: u8, point: bool) -> u8
     ensures { λ r. ⌜ r ≡ nextOf mode kind point ⌝ }
 {
     if mode == 6 {

@@ -46,7 +46,7 @@ fn compare(out: &mut [u8], at: usize, mode: u8, kind: u8, operator: u8) -> usize
 }
 
 // Writes all that stands before a token's record, and returns the place after it.
-pub fn open(
+pub(crate) fn open(
     out: &mut [u8],
     at: usize,
     mode: u8,

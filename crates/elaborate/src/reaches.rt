@@ -122,7 +122,7 @@ fn leave(known: &mut [u64], frames: &[u64], r: Reach) -> Reach
 }
 
 // The reaches after an action with this record at token i.
-pub fn shift(
+pub(crate) fn shift(
     ids: &[u16],
     known: &mut [u64],
     frames: &mut [u64],

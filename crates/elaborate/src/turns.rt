@@ -93,7 +93,7 @@ fn quiet(mode: u8, a: u8) -> bool
 }
 
 // A turn at token i.
-pub fn turn(
+pub(crate) fn turn(
     kinds: &[u8],
     ids: &[u16],
     numbers: &[u64],
