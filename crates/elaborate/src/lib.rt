@@ -45,8 +45,8 @@ pub fn prepare(kinds: &[u8], ids: &[u16], counts: &mut [u64], marks: &mut [u8]) 
     true
 }
 
-// Writes the records of all tokens, and says where they end, or refuses a name (51).
-pub fn elaborate(
+// Writes the records of all tokens, with tables for what its names stand for and for open parentheses.
+fn elaborate_with(
     kinds: &[u8],
     ids: &[u16],
     numbers: &[u64],
@@ -100,4 +100,97 @@ pub fn elaborate(
         return End::Place(at);
     }
     End::Place(copier::put(out, at, 16))
+}
+
+// Few tokens: the tables are small, none over 2,048 bytes, and soon cleared.
+fn elaborate_short(
+    kinds: &[u8],
+    ids: &[u16],
+    numbers: &[u64],
+    list: &[u8],
+    index: &[u16],
+    counts: &[u64],
+    marks: &[u8],
+    out: &mut [u8],
+) -> End
+    requires { ⌜ (length (now kinds) ≤ 255) × ((x : ℕ) → getD (now ids) x 0 ≤ length (now kinds)) × Counted (now kinds) (now counts)
+        × Indexed (now list) (now index) ⌝ }
+    ensures { λ r. ⌜ ((text ss ls : List ℕ) → Ready text (table (now (kinds .entry)) ss ls (now (numbers .entry))) (now (ids .entry))
+        (now (marks .entry)) → ended (now (out .entry)) 0 (flatText (entries (now (list .entry)))
+        (tokensFrom text (table (now (kinds .entry)) ss ls (now (numbers .entry))) 0)) ≡ outcome r (now (out .exit))) ⌝ }
+{
+    let mut symbols = [0u64; 255];
+    let mut known = [0u64; 256];
+    let mut frames = [0u64; 256];
+    elaborate_with(
+        kinds,
+        ids,
+        numbers,
+        list,
+        index,
+        counts,
+        marks,
+        &mut symbols,
+        &mut known,
+        &mut frames,
+        out,
+    )
+}
+
+// As many tokens as a text can have.
+fn elaborate_long(
+    kinds: &[u8],
+    ids: &[u16],
+    numbers: &[u64],
+    list: &[u8],
+    index: &[u16],
+    counts: &[u64],
+    marks: &[u8],
+    out: &mut [u8],
+) -> End
+    requires { ⌜ (length (now kinds) ≤ 2000) × ((x : ℕ) → getD (now ids) x 0 ≤ length (now kinds)) × Counted (now kinds) (now counts)
+        × Indexed (now list) (now index) ⌝ }
+    ensures { λ r. ⌜ ((text ss ls : List ℕ) → Ready text (table (now (kinds .entry)) ss ls (now (numbers .entry))) (now (ids .entry))
+        (now (marks .entry)) → ended (now (out .entry)) 0 (flatText (entries (now (list .entry)))
+        (tokensFrom text (table (now (kinds .entry)) ss ls (now (numbers .entry))) 0)) ≡ outcome r (now (out .exit))) ⌝ }
+{
+    let mut symbols = [0u64; 2000];
+    let mut known = [0u64; 2001];
+    let mut frames = [0u64; 2001];
+    elaborate_with(
+        kinds,
+        ids,
+        numbers,
+        list,
+        index,
+        counts,
+        marks,
+        &mut symbols,
+        &mut known,
+        &mut frames,
+        out,
+    )
+}
+
+// Writes the records of all tokens, and says where they end, or refuses a name (51).
+pub fn elaborate(
+    kinds: &[u8],
+    ids: &[u16],
+    numbers: &[u64],
+    list: &[u8],
+    index: &[u16],
+    counts: &[u64],
+    marks: &[u8],
+    out: &mut [u8],
+) -> End
+    requires { ⌜ (length (now kinds) ≤ 2000) × ((x : ℕ) → getD (now ids) x 0 ≤ length (now kinds)) × Counted (now kinds) (now counts)
+        × Indexed (now list) (now index) ⌝ }
+    ensures { λ r. ⌜ ((text ss ls : List ℕ) → Ready text (table (now (kinds .entry)) ss ls (now (numbers .entry))) (now (ids .entry))
+        (now (marks .entry)) → ended (now (out .entry)) 0 (flatText (entries (now (list .entry)))
+        (tokensFrom text (table (now (kinds .entry)) ss ls (now (numbers .entry))) 0)) ≡ outcome r (now (out .exit))) ⌝ }
+{
+    if kinds.len() <= 255 {
+        return elaborate_short(kinds, ids, numbers, list, index, counts, marks, out);
+    }
+    elaborate_long(kinds, ids, numbers, list, index, counts, marks, out)
 }

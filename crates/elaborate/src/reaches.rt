@@ -3,8 +3,10 @@ use crate::ahead;
 use crate::frames;
 use kinds::Record;
 ghost use mathlib.Core.Path.{_≡_};
+ghost use mathlib.Core.Bool.{_||_};
 ghost use mathlib.Core.List.{List};
 ghost use Prim.Native.Nat.{ℕ, _+_, _-_, _<_, _≤_};
+ghost use lib.Dec.{eqb};
 ghost use lib.ListN.{length, getD, set};
 ghost use Rattle.quel.specs.Results.{Word};
 ghost use Rattle.quel.specs.Writing.{Reaches, around};
@@ -121,6 +123,23 @@ fn leave(known: &mut [u64], frames: &[u64], r: Reach) -> Reach
     }
 }
 
+// An aggregate, SOME and ( open a frame.
+fn opening(a: u8) -> bool
+    ensures { λ r. ⌜ r ≡ (eqb a 4 || (eqb a 6 || eqb a 7)) ⌝ }
+{
+    if a == 4 {
+        return true;
+    }
+    if a == 6 { true } else { a == 7 }
+}
+
+// ) closes one.
+fn closing(a: u8) -> bool
+    ensures { λ r. ⌜ r ≡ (eqb a 8 || eqb a 9) ⌝ }
+{
+    if a == 8 { true } else { a == 9 }
+}
+
 // The reaches after an action with this record at token i.
 pub(crate) fn shift(
     ids: &[u16],
@@ -139,19 +158,10 @@ pub(crate) fn shift(
         → Stack w (now (ids .entry)) (now (frames .exit)) (t .depth) (t .crossing) (now (known .exit)) (reachAfter a (w (i + 1)) (w (i + 2)) item σ)) ⌝ }
     ensures { λ t. ⌜ (t .depth ≤ r .depth + 1) × (t .crossing < 8192) × ((y : ℕ) → getD (now (known .exit)) y 0 < 68719476736) ⌝ }
 {
-    if a == 4 {
+    if opening(a) {
         return enter(ids, known, frames, r, item, i);
     }
-    if a == 6 {
-        return enter(ids, known, frames, r, item, i);
-    }
-    if a == 7 {
-        return enter(ids, known, frames, r, item, i);
-    }
-    if a == 8 {
-        return leave(known, frames, r);
-    }
-    if a == 9 {
+    if closing(a) {
         return leave(known, frames, r);
     }
     r

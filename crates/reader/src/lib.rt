@@ -43,15 +43,10 @@ fn write(
     index: &[u16],
     counts: &[u64],
     marks: &[u8],
-    symbols: &mut [u64],
-    known: &mut [u64],
-    frames: &mut [u64],
     draft: &mut [u8],
     out: &mut [u8],
 ) -> Reading
-    requires { ⌜ (length (now kinds) < 4000) × (length (now kinds) ≤ length (now symbols)) × (length (now kinds) < length (now known))
-        × (length (now kinds) < length (now frames)) × (length (now draft) ≤ 2048) × (length (now kinds) ≤ 2000) ⌝ }
-    requires { ⌜ ((x : ℕ) → getD (now ids) x 0 ≤ length (now kinds)) × ((x : ℕ) → getD (now known) x 0 ≡ 0)
+    requires { ⌜ (length (now kinds) ≤ 2000) × (length (now draft) ≤ 2048) × ((x : ℕ) → getD (now ids) x 0 ≤ length (now kinds))
         × Counted (now kinds) (now counts) × Indexed (now list) (now index) ⌝ }
     ensures { λ r. ⌜ ((text ss ls : List ℕ) → Ready text (table (now (kinds .entry)) ss ls (now (numbers .entry))) (now (ids .entry))
         (now (marks .entry)) → readingOf r (now (out .exit)) ≡ writing
@@ -65,9 +60,6 @@ fn write(
         index,
         counts,
         marks,
-        symbols,
-        known,
-        frames,
         draft,
     ) else {
         return refused(NAMES);
@@ -79,20 +71,7 @@ fn write(
         copier::copy(out, 0, &draft[..length]);
         return Reading { number: 0, length };
     }
-    let mut again = [0u64; 2001];
-    elaborate::elaborate(
-        kinds,
-        ids,
-        numbers,
-        list,
-        index,
-        counts,
-        marks,
-        symbols,
-        &mut again,
-        frames,
-        out,
-    );
+    elaborate::elaborate(kinds, ids, numbers, list, index, counts, marks, out);
     Reading { number: 0, length }
 }
 
@@ -108,17 +87,13 @@ fn resolve(
     ids: &mut [u16],
     counts: &mut [u64],
     marks: &mut [u8],
-    symbols: &mut [u64],
-    known: &mut [u64],
-    frames: &mut [u64],
     draft: &mut [u8],
     out: &mut [u8],
 ) -> Reading
-    requires { ⌜ (length (now kinds) < 4000) × (length (now kinds) ≤ length (now symbols)) × (length (now kinds) < length (now known))
-        × (length (now kinds) < length (now frames)) × (length (now draft) ≤ 2048) × (length (now kinds) ≤ 2000) ⌝ }
+    requires { ⌜ (length (now kinds) < 4000) × (length (now kinds) ≤ 2000) × (length (now draft) ≤ 2048) ⌝ }
     requires { ⌜ (length (now kinds) ≤ length (now numbers)) × (length (now kinds) ≤ length (now ids)) × (length (now kinds) < length (now counts))
         × (length (now kinds) < length (now marks)) × Coded (now text) (table (now kinds) (now starts) (now lengths) (now numbers))
-        (length (now kinds)) × ((x : ℕ) → getD (now ids) x 0 ≡ 0) × ((x : ℕ) → getD (now marks) x 0 ≡ 0) × ((x : ℕ) → getD (now known) x 0 ≡ 0)
+        (length (now kinds)) × ((x : ℕ) → getD (now ids) x 0 ≡ 0) × ((x : ℕ) → getD (now marks) x 0 ≡ 0)
         × Indexed (now list) (now index) ⌝ }
     ensures { λ r. ⌜ readingOf r (now (out .exit)) ≡ writing (recordsOf (now (text .entry))
         (table (now (kinds .entry)) (now (starts .entry)) (now (lengths .entry)) (now (numbers .entry))) (now (list .entry))) (now (out .entry)) ⌝ }
@@ -127,20 +102,7 @@ fn resolve(
     if !elaborate::prepare(kinds, ids, counts, marks) {
         return refused(NAMES);
     }
-    write(
-        kinds,
-        ids,
-        numbers,
-        list,
-        index,
-        counts,
-        marks,
-        symbols,
-        known,
-        frames,
-        draft,
-        out,
-    )
+    write(kinds, ids, numbers, list, index, counts, marks, draft, out)
 }
 
 // 50 for the text alone, 51 for the name list, then its names; the tables are lent.
@@ -155,20 +117,15 @@ fn read_with(
     ids: &mut [u16],
     counts: &mut [u64],
     marks: &mut [u8],
-    symbols: &mut [u64],
-    known: &mut [u64],
-    frames: &mut [u64],
     spare: &mut [u8],
     out: &mut [u8],
 ) -> Reading
     requires { ⌜ (length (now text) ≤ 2000 → (length (now text) ≤ length (now kinds)) × (length (now text) ≤ length (now starts))
         × (length (now text) ≤ length (now lengths)) × (length (now text) ≤ length (now numbers))) ⌝ }
     requires { ⌜ (length (now text) ≤ 2000 → (length (now text) ≤ length (now ids)) × (length (now text) < length (now counts))
-        × (length (now text) < length (now marks)) × (length (now text) ≤ length (now symbols)) × (length (now text) < length (now known))
-        × (length (now text) < length (now frames))) × (length (now spare) ≤ 2048)
+        × (length (now text) < length (now marks))) × (length (now spare) ≤ 2048)
         × (512 ≤ length (now index)) × (length (now index) ≤ 4608) ⌝ }
-    requires { ⌜ ((x : ℕ) → getD (now index) x 0 ≡ 0) × ((x : ℕ) → getD (now ids) x 0 ≡ 0) × ((x : ℕ) → getD (now marks) x 0 ≡ 0)
-        × ((x : ℕ) → getD (now known) x 0 ≡ 0) ⌝ }
+    requires { ⌜ ((x : ℕ) → getD (now index) x 0 ≡ 0) × ((x : ℕ) → getD (now ids) x 0 ≡ 0) × ((x : ℕ) → getD (now marks) x 0 ≡ 0) ⌝ }
     ensures { λ r. ⌜ readingOf r (now (out .exit)) ≡ readText (now (list .entry)) (now (text .entry)) (now (out .entry)) ⌝ }
 {
     let Outcome::Tokens(n) = tokens::cut(text, kinds, starts, lengths, numbers) else {
@@ -191,9 +148,6 @@ fn read_with(
         ids,
         counts,
         marks,
-        symbols,
-        known,
-        frames,
         spare,
         out,
     )
@@ -212,9 +166,6 @@ fn read_short(text: &[u8], list: &[u8], out: &mut [u8]) -> Reading
     let mut ids = [0u16; 255];
     let mut counts = [0u64; 256];
     let mut marks = [0u8; 256];
-    let mut symbols = [0u64; 255];
-    let mut known = [0u64; 256];
-    let mut frames = [0u64; 256];
     let mut spare = [0u8; 512];
     read_with(
         text,
@@ -227,9 +178,6 @@ fn read_short(text: &[u8], list: &[u8], out: &mut [u8]) -> Reading
         &mut ids,
         &mut counts,
         &mut marks,
-        &mut symbols,
-        &mut known,
-        &mut frames,
         &mut spare,
         out,
     )
@@ -247,9 +195,6 @@ fn read_long(text: &[u8], list: &[u8], out: &mut [u8]) -> Reading
     let mut ids = [0u16; 2000];
     let mut counts = [0u64; 2001];
     let mut marks = [0u8; 2001];
-    let mut symbols = [0u64; 2000];
-    let mut known = [0u64; 2001];
-    let mut frames = [0u64; 2001];
     let mut spare = [0u8; 2048];
     read_with(
         text,
@@ -262,9 +207,6 @@ fn read_long(text: &[u8], list: &[u8], out: &mut [u8]) -> Reading
         &mut ids,
         &mut counts,
         &mut marks,
-        &mut symbols,
-        &mut known,
-        &mut frames,
         &mut spare,
         out,
     )

@@ -32,7 +32,13 @@ returns : tie.Need-returns
 returns c = (λ text ss ls ns g. record { once = sym (not-true (c .before .unique .result) (c .if1 .taken)) ∙ c .before .unique .ensures text ss ls ns g; used = λ z. clash z }, λ z. clash z)
 
 returns-2 : tie.Need-returns-2
-returns-2 c = (λ text ss ls ns g. record { once = sym (not-false (c .before .before .before .before .before .before .before .before .before .before .unique .result) (c .before .before .before .before .before .before .before .before .before .if1 .left)) ∙ c .before .before .before .before .before .before .before .before .before .before .unique .ensures text ss ls ns g; used = λ z main e. used-from text (table (now (c .before .before .before .before .before .before .before .before .before .before .before .before .before .before .before .args .kinds)) ss ls ns) (now (c .before .before .before .before .before .before .before .before .before .before .before .before .before .before .before .args .ids)) _ (c .before .before .before .before .main-place .result) main (c .before .before .before .before .main-place .ensures .0 text ss ls ns) e (c .before .before .uses .ensures text ss ls ns g) }, λ z. c .before .before .before .before .before .before .before .count .ensures)
+returns-2 c =
+    let c₄ = c .before .before .before .before in let main-place = c₄ .main-place in
+    let c₇ = c₄ .before .before .before in let count = c₇ .count in
+    let c₉ = c₇ .before .before in let if1 = c₉ .if1 in
+    let c₁₀ = c₉ .before in let unique = c₁₀ .unique in
+    let c₁₅ = c₁₀ .before .before .before .before .before in let args = c₁₅ .args in
+    (λ text ss ls ns g. record { once = sym (not-false (unique .result) (if1 .left)) ∙ unique .ensures text ss ls ns g; used = λ z main e. used-from text (table (now (args .kinds)) ss ls ns) (now (args .ids)) _ (main-place .result) main (main-place .ensures .0 text ss ls ns) e (c .before .before .uses .ensures text ss ls ns g) }, λ z. count .ensures)
 
 pub prepare-spec : {M : Type 1} → statement M
 prepare-spec =

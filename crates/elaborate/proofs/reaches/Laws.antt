@@ -10,8 +10,9 @@ use lib.ListN.{length, getD, set, List·getD-eq-default}
 use lib.Seq.{getD-set-same, getD-set-other, set-set, set-getD}
 use denote.Enum.Declared.{tagOf, declared}
 use types.Run.{OneOf, miss}
-use mathlib.Core.Bool.{Bool, true, false}
+use mathlib.Core.Bool.{Bool, true, false, _||_}
 use borrow.Author.Tests.{ne-eqb, eqb-true, eqb-false, leb-true, leb-false}
+use Rattle.model.proofs.Tests.{clash}
 use Rattle.quel.specs.Results.{Word}
 use Rattle.quel.specs.Elaboration.{Symbol, headOnly}
 use Rattle.quel.specs.Writing.{Reaches, inner, around}
@@ -140,23 +141,30 @@ small-set (k ∷ known) (suc x) e h l (suc y) = small-set known x e (λ j. h (su
 
 -- which reach an action leaves
 module _ (a : ℕ) (it : Record) (x₁ x₂ : Word) (σ : Reaches) where
-  pub head-reach : Fits a it → a ≡ 4 → framedReach x₁ x₂ it σ ≡ reachAfter a x₁ x₂ it σ
-  head-reach f e = rw (f .head e, e)
+  pub open-reach : Fits a it → (eqb a 4 || (eqb a 6 || eqb a 7)) ≡ true → framedReach x₁ x₂ it σ ≡ reachAfter a x₁ x₂ it σ
+  open-reach f h = go (eqb a 4) (eqb a 6) (eqb a 7) refl refl refl h
+    where
+      go : (b c d : Bool) → eqb a 4 ≡ b → eqb a 6 ≡ c → eqb a 7 ≡ d → (b || (c || d)) ≡ true → framedReach x₁ x₂ it σ ≡ reachAfter a x₁ x₂ it σ
+      go true c d e g k t = let z = eqb-true a 4 e in rw (f .head z, z)
+      go false true d e g k t = let z = eqb-true a 6 g in rw (f .binder z, z)
+      go false false true e g k t = let z = eqb-true a 7 k in rw (f .left z, z)
+      go false false false e g k t = clash t
 
-  pub some-reach : Fits a it → a ≡ 6 → framedReach x₁ x₂ it σ ≡ reachAfter a x₁ x₂ it σ
-  some-reach f e = rw (f .binder e, e)
+  module _ (h : (eqb a 4 || (eqb a 6 || eqb a 7)) ≡ false) where
+    none-open : (eqb a 4 ≡ false) × (eqb a 6 ≡ false) × (eqb a 7 ≡ false)
+    none-open = go (eqb a 4) (eqb a 6) (eqb a 7) h
+      where
+        go : (b c d : Bool) → (b || (c || d)) ≡ false → (b ≡ false) × (c ≡ false) × (d ≡ false)
+        go true c d t = clash (sym t)
+        go false true d t = clash (sym t)
+        go false false true t = clash (sym t)
+        go false false false t = (refl, refl, refl)
 
-  pub left-reach : Fits a it → a ≡ 7 → framedReach x₁ x₂ it σ ≡ reachAfter a x₁ x₂ it σ
-  left-reach f e = rw (f .left e, e)
+    pub close-reach : (eqb a 8 || eqb a 9) ≡ true → around σ ≡ reachAfter a x₁ x₂ it σ
+    close-reach k = rw (none-open .0, none-open .1, none-open .2, k)
 
-  pub right-reach : a ≡ 8 → around σ ≡ reachAfter a x₁ x₂ it σ
-  right-reach e = rw e
-
-  pub end-reach : a ≡ 9 → around σ ≡ reachAfter a x₁ x₂ it σ
-  end-reach e = rw e
-
-  pub same-reach : (a ≡ 4 → ⊥) → (a ≡ 6 → ⊥) → (a ≡ 7 → ⊥) → (a ≡ 8 → ⊥) → (a ≡ 9 → ⊥) → σ ≡ reachAfter a x₁ x₂ it σ
-  same-reach b c d e f = rw (ne-eqb a 4 b, ne-eqb a 6 c, ne-eqb a 7 d, ne-eqb a 8 e, ne-eqb a 9 f)
+    pub same-reach : (eqb a 8 || eqb a 9) ≡ false → σ ≡ reachAfter a x₁ x₂ it σ
+    same-reach k = rw (none-open .0, none-open .1, none-open .2, k)
 
 pub small-after : (p crossing x e : ℕ) (fs known gs after : List ℕ) → Opened p crossing x e fs known gs after → ((y : ℕ) → getD known y 0 < 68719476736) → e < 68719476736 → (y : ℕ) → getD after y 0 < 68719476736
 small-after p crossing x e fs known gs after u h l y = subst (λ (k : List ℕ). getD k y 0 < 68719476736) (sym (u .stands)) (small-set known x e h l y)

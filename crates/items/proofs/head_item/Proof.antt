@@ -18,10 +18,14 @@ use Rattle.items.proofs.head_item.Lts as lts
 use Rattle.items.proofs.over_item.Reads as over-item-reads
 
 returns : tie.Need-returns
-returns c = λ z s. c .over-item .ensures z s ∙ sym (ap (headItem (entries (now (c .before .before .before .before .before .before .args .list))) (c .before .before .before .before .before .before .args .f) (c .before .before .before .before .before .before .args .n) z) (c .before .before .known .given .1))
+returns c =
+    let c₆ = c .before .before .before .before .before .before in let args = c₆ .args in
+    λ z s. c .over-item .ensures z s ∙ sym (ap (headItem (entries (now (args .list))) (args .f) (args .n) z) (c .before .before .known .given .1))
 
 returns-2 : tie.Need-returns-2
-returns-2 c = λ z s. c .over-item2 .ensures z s ∙ sym (ap (headItem (entries (now (c .before .before .before .before .before .before .args .list))) (c .before .before .before .before .before .before .args .f) (c .before .before .before .before .before .before .args .n) z) (c .before .before .known2 .given .1))
+returns-2 c =
+    let c₆ = c .before .before .before .before .before .before in let args = c₆ .args in
+    λ z s. c .over-item2 .ensures z s ∙ sym (ap (headItem (entries (now (args .list))) (args .f) (args .n) z) (c .before .before .known2 .given .1))
 
 returns-3 : tie.Need-returns-3
 returns-3 c = λ z s. sym (ap (headItem (entries (now (c .before .before .before .before .args .list))) (c .before .before .before .before .args .f) (c .before .before .before .before .args .n) z) (c .enum-told .given .1))

@@ -22,7 +22,10 @@ returns : tie.Need-returns
 returns c = λ z s. sym (ap (λ (o : Option ℕ). someBy ((c .before .before .before .before .before .args .n) % 256) o) (found-none (relationNamed (entries (now (c .before .before .before .before .before .args .list))) z) _ (c .before .before .relation-named .ensures z s) (c .enum-told .given .1)))
 
 returns-2 : tie.Need-returns-2
-returns-2 c = λ z s. sym (ap (λ (o : Option ℕ). someBy ((c .before .before .before .before .before .before .args .n) % 256) o) (found-some (relationNamed (entries (now (c .before .before .before .before .before .before .args .list))) z) _ _ (c .before .before .before .relation-named .ensures z s) (c .before .r .given .1)))
+returns-2 c =
+    let c₃ = c .before .before .before in let relation-named = c₃ .relation-named in
+    let c₆ = c₃ .before .before .before in let args = c₆ .args in
+    λ z s. sym (ap (λ (o : Option ℕ). someBy ((args .n) % 256) o) (found-some (relationNamed (entries (now (args .list))) z) _ _ (relation-named .ensures z s) (c .before .r .given .1)))
 
 pub some-item-spec : {M : Type 1} → statement M
 some-item-spec =

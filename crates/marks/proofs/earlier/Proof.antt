@@ -36,7 +36,9 @@ mul-bucket : tie.Need-mul-bucket Inv-loop μ-loop
 mul-bucket c = search needs
 
 shared-slice-read-bucket : tie.Need-shared-slice-read-bucket Inv-loop μ-loop
-shared-slice-read-bucket c = omega (arith, c .before .before .before .before .before .before .before .before .pre .0, c .before .before .before .before .before .before .before .before .pre .1)
+shared-slice-read-bucket c =
+    let c₈ = c .before .before .before .before .before .before .before .before in let pre = c₈ .pre in
+    omega (arith, pre .0, pre .1)
 
 bucket-requires : tie.Need-bucket-requires Inv-loop μ-loop
 bucket-requires c κs = search needs
@@ -45,34 +47,65 @@ size-at-requires : tie.Need-size-at-requires Inv-loop μ-loop
 size-at-requires c κs = search needs
 
 loop-holds : tie.Need-loop-holds Inv-loop μ-loop
-loop-holds c = λ f. walk-start (λ (x : ℕ). x) (drop 512 (now (c .before .before .before .before .before .before .before .before .before .before .args .index))) (λ (x : ℕ). sameWord (nameIn (now (c .before .before .before .before .before .before .before .before .before .before .args .text)) (now (c .before .before .before .before .before .before .before .before .before .before .args .kinds)) (now (c .before .before .before .before .before .before .before .before .before .before .args .starts)) (now (c .before .before .before .before .before .before .before .before .before .before .args .lengths)) x) (nameIn (now (c .before .before .before .before .before .before .before .before .before .before .args .text)) (now (c .before .before .before .before .before .before .before .before .before .before .args .kinds)) (now (c .before .before .before .before .before .before .before .before .before .before .args .starts)) (now (c .before .before .before .before .before .before .before .before .before .before .args .lengths)) (c .before .before .before .before .before .before .before .before .before .before .args .i))) (λ (x : ℕ). (x < (c .before .before .before .before .before .before .before .before .before .before .args .i)) × (1 ≤ length (nameIn (now (c .before .before .before .before .before .before .before .before .before .before .args .text)) (now (c .before .before .before .before .before .before .before .before .before .before .args .kinds)) (now (c .before .before .before .before .before .before .before .before .before .before .args .starts)) (now (c .before .before .before .before .before .before .before .before .before .before .args .lengths)) x))) (f .places) (λ (x : ℕ). bucketOf (nameIn (now (c .before .before .before .before .before .before .before .before .before .before .args .text)) (now (c .before .before .before .before .before .before .before .before .before .before .args .kinds)) (now (c .before .before .before .before .before .before .before .before .before .before .args .starts)) (now (c .before .before .before .before .before .before .before .before .before .before .args .lengths)) x)) (c .before .before .before .before .before .before .before .before .before .before .args .i) (take 512 (now (c .before .before .before .before .before .before .before .before .before .before .args .index))) (c .before .bucket .result) _ (c .before .bucket .ensures .1) (c .size-at .ensures .0 ∙ sym (getD-take 512 (now (c .before .before .before .before .before .before .before .before .before .before .args .index)) (c .before .bucket .result) 0 (c .before .bucket .ensures .1))) (λ y e. ap bucketOf (same-word _ _ e) ∙ sym (c .before .bucket .ensures .0 ∙ ap (λ (v : ℕ). v % 512) (named-code (now (c .before .before .before .before .before .before .before .before .before .before .args .text)) (table (now (c .before .before .before .before .before .before .before .before .before .before .args .kinds)) (now (c .before .before .before .before .before .before .before .before .before .before .args .starts)) (now (c .before .before .before .before .before .before .before .before .before .before .args .lengths)) (now (c .before .before .before .before .before .before .before .before .before .before .args .numbers))) (c .before .before .before .before .before .before .before .before .before .before .pre .3) (c .before .before .before .before .before .before .before .before .before .before .args .i) (c .before .before .before .before .before .before .before .before .before .before .pre .0) (c .before .before .before .before .before .before .before .before .before .before .pre .2)))) (f .held) (f .named)
+loop-holds c =
+    let c₁ = c .before in let bucket = c₁ .bucket in
+    let c₁₀ = c₁ .before .before .before .before .before .before .before .before .before in let args = c₁₀ .args in let pre = c₁₀ .pre in
+    let index = now (args .index) in let kinds = now (args .kinds) in let lengths = now (args .lengths) in let starts = now (args .starts) in let text = now (args .text) in let i = args .i in
+    λ f. walk-start (λ (x : ℕ). x) (drop 512 index) (λ (x : ℕ). sameWord (nameIn text kinds starts lengths x) (nameIn text kinds starts lengths i)) (λ (x : ℕ). (x < i) × (1 ≤ length (nameIn text kinds starts lengths x))) (f .places) (λ (x : ℕ). bucketOf (nameIn text kinds starts lengths x)) i (take 512 index) (bucket .result) _ (bucket .ensures .1) (c .size-at .ensures .0 ∙ sym (getD-take 512 index (bucket .result) 0 (bucket .ensures .1))) (λ y e. ap bucketOf (same-word _ _ e) ∙ sym (bucket .ensures .0 ∙ ap (λ (v : ℕ). v % 512) (named-code text (table kinds starts lengths (now (args .numbers))) (pre .3) i (pre .0) (pre .2)))) (f .held) (f .named)
 
 sub-at : tie.Need-sub-at Inv-loop μ-loop
 sub-at c = search needs
 
 same-names-requires : tie.Need-same-names-requires Inv-loop μ-loop
-same-names-requires c κs = let h = walk-low (λ (x : ℕ). x) (drop 512 (now (c .before .before .before .before .before .before .before .before .before .before .before .before .args .index))) (λ (x : ℕ). sameWord (nameIn (now (c .before .before .before .before .before .before .before .before .before .before .before .before .args .text)) (now (c .before .before .before .before .before .before .before .before .before .before .before .before .args .kinds)) (now (c .before .before .before .before .before .before .before .before .before .before .before .before .args .starts)) (now (c .before .before .before .before .before .before .before .before .before .before .before .before .args .lengths)) x) (nameIn (now (c .before .before .before .before .before .before .before .before .before .before .before .before .args .text)) (now (c .before .before .before .before .before .before .before .before .before .before .before .before .args .kinds)) (now (c .before .before .before .before .before .before .before .before .before .before .before .before .args .starts)) (now (c .before .before .before .before .before .before .before .before .before .before .before .before .args .lengths)) (c .before .before .before .before .before .before .before .before .before .before .before .before .args .i))) (λ (x : ℕ). (x < (c .before .before .before .before .before .before .before .before .before .before .before .before .args .i)) × (1 ≤ length (nameIn (now (c .before .before .before .before .before .before .before .before .before .before .before .before .args .text)) (now (c .before .before .before .before .before .before .before .before .before .before .before .before .args .kinds)) (now (c .before .before .before .before .before .before .before .before .before .before .before .before .args .starts)) (now (c .before .before .before .before .before .before .before .before .before .before .before .before .args .lengths)) x))) (c .before .before .before .before .before .before .before .before .before .before .before .before .pre .4 .places) (c .before .loop .link) (c .before .loop .link - 1) (omega (arith, c .loop-test .taken)) (c .before .loop .inv (c .before .before .before .before .before .before .before .before .before .before .before .before .pre .4)) .0 in let s = spelt-at (now (c .before .before .before .before .before .before .before .before .before .before .before .before .args .text)) (table (now (c .before .before .before .before .before .before .before .before .before .before .before .before .args .kinds)) (now (c .before .before .before .before .before .before .before .before .before .before .before .before .args .starts)) (now (c .before .before .before .before .before .before .before .before .before .before .before .before .args .lengths)) (now (c .before .before .before .before .before .before .before .before .before .before .before .before .args .numbers))) (c .before .before .before .before .before .before .before .before .before .before .before .before .pre .3) (c .before .loop .link - 1) (h .1) in (omega (arith, s .0, c .before .before .before .before .before .before .before .before .before .before .before .before .pre .1), omega (arith, c .before .before .before .before .before .before .before .before .before .before .before .before .pre .0, c .before .before .before .before .before .before .before .before .before .before .before .before .pre .1), s .1, named-spelt (now (c .before .before .before .before .before .before .before .before .before .before .before .before .args .text)) (table (now (c .before .before .before .before .before .before .before .before .before .before .before .before .args .kinds)) (now (c .before .before .before .before .before .before .before .before .before .before .before .before .args .starts)) (now (c .before .before .before .before .before .before .before .before .before .before .before .before .args .lengths)) (now (c .before .before .before .before .before .before .before .before .before .before .before .before .args .numbers))) (c .before .before .before .before .before .before .before .before .before .before .before .before .pre .3) (c .before .before .before .before .before .before .before .before .before .before .before .before .args .i) (c .before .before .before .before .before .before .before .before .before .before .before .before .pre .0) (c .before .before .before .before .before .before .before .before .before .before .before .before .pre .2))
+same-names-requires c κs =
+    let c₁ = c .before in let loop = c₁ .loop in
+    let c₁₂ = c₁ .before .before .before .before .before .before .before .before .before .before .before in let args = c₁₂ .args in let pre = c₁₂ .pre in
+    let kinds = now (args .kinds) in let lengths = now (args .lengths) in let numbers = now (args .numbers) in let starts = now (args .starts) in let text = now (args .text) in let i = args .i in
+    let h = walk-low (λ (x : ℕ). x) (drop 512 (now (args .index))) (λ (x : ℕ). sameWord (nameIn text kinds starts lengths x) (nameIn text kinds starts lengths i)) (λ (x : ℕ). (x < i) × (1 ≤ length (nameIn text kinds starts lengths x))) (pre .4 .places) (loop .link) (loop .link - 1) (omega (arith, c .loop-test .taken)) (loop .inv (pre .4)) .0 in let s = spelt-at text (table kinds starts lengths numbers) (pre .3) (loop .link - 1) (h .1) in (omega (arith, s .0, pre .1), omega (arith, pre .0, pre .1), s .1, named-spelt text (table kinds starts lengths numbers) (pre .3) i (pre .0) (pre .2))
 
 size-at-requires-2 : tie.Need-size-at-requires-2 Inv-loop μ-loop
 size-at-requires-2 c κs = search needs
 
 returns : tie.Need-returns Inv-loop μ-loop
-returns c = λ f. let h = walk-low (λ (x : ℕ). x) (drop 512 (now (c .before .before .before .before .before .before .before .before .before .before .before .before .before .before .before .args .index))) (λ (x : ℕ). sameWord (nameIn (now (c .before .before .before .before .before .before .before .before .before .before .before .before .before .before .before .args .text)) (now (c .before .before .before .before .before .before .before .before .before .before .before .before .before .before .before .args .kinds)) (now (c .before .before .before .before .before .before .before .before .before .before .before .before .before .before .before .args .starts)) (now (c .before .before .before .before .before .before .before .before .before .before .before .before .before .before .before .args .lengths)) x) (nameIn (now (c .before .before .before .before .before .before .before .before .before .before .before .before .before .before .before .args .text)) (now (c .before .before .before .before .before .before .before .before .before .before .before .before .before .before .before .args .kinds)) (now (c .before .before .before .before .before .before .before .before .before .before .before .before .before .before .before .args .starts)) (now (c .before .before .before .before .before .before .before .before .before .before .before .before .before .before .before .args .lengths)) (c .before .before .before .before .before .before .before .before .before .before .before .before .before .before .before .args .i))) (λ (x : ℕ). (x < (c .before .before .before .before .before .before .before .before .before .before .before .before .before .before .before .args .i)) × (1 ≤ length (nameIn (now (c .before .before .before .before .before .before .before .before .before .before .before .before .before .before .before .args .text)) (now (c .before .before .before .before .before .before .before .before .before .before .before .before .before .before .before .args .kinds)) (now (c .before .before .before .before .before .before .before .before .before .before .before .before .before .before .before .args .starts)) (now (c .before .before .before .before .before .before .before .before .before .before .before .before .before .before .before .args .lengths)) x))) (f .places) (c .before .before .before .before .loop .link) (c .before .before .before .before .loop .link - 1) (omega (arith, c .before .before .before .loop-test .taken)) (c .before .before .before .before .loop .inv f) .0 in inr (record { place = c .before .before .before .before .loop .link - 1; before = h .0; name = same-word _ _ (sym (c .before .before .same-names .ensures) ∙ c .before .if1 .taken); number = c .size-at2 .ensures .0 })
+returns c =
+    let c₃ = c .before .before .before in let loop-test = c₃ .loop-test in
+    let c₄ = c₃ .before in let loop = c₄ .loop in
+    let c₁₅ = c₄ .before .before .before .before .before .before .before .before .before .before .before in let args = c₁₅ .args in
+    let kinds = now (args .kinds) in let lengths = now (args .lengths) in let starts = now (args .starts) in let text = now (args .text) in let i = args .i in
+    λ f. let h = walk-low (λ (x : ℕ). x) (drop 512 (now (args .index))) (λ (x : ℕ). sameWord (nameIn text kinds starts lengths x) (nameIn text kinds starts lengths i)) (λ (x : ℕ). (x < i) × (1 ≤ length (nameIn text kinds starts lengths x))) (f .places) (loop .link) (loop .link - 1) (omega (arith, loop-test .taken)) (loop .inv f) .0 in inr (record { place = loop .link - 1; before = h .0; name = same-word _ _ (sym (c .before .before .same-names .ensures) ∙ c .before .if1 .taken); number = c .size-at2 .ensures .0 })
 
 add-size-at : tie.Need-add-size-at Inv-loop μ-loop
-add-size-at c = let h = walk-low (λ (x : ℕ). x) (drop 512 (now (c .before .before .before .before .before .before .before .before .before .before .before .before .before .before .args .index))) (λ (x : ℕ). sameWord (nameIn (now (c .before .before .before .before .before .before .before .before .before .before .before .before .before .before .args .text)) (now (c .before .before .before .before .before .before .before .before .before .before .before .before .before .before .args .kinds)) (now (c .before .before .before .before .before .before .before .before .before .before .before .before .before .before .args .starts)) (now (c .before .before .before .before .before .before .before .before .before .before .before .before .before .before .args .lengths)) x) (nameIn (now (c .before .before .before .before .before .before .before .before .before .before .before .before .before .before .args .text)) (now (c .before .before .before .before .before .before .before .before .before .before .before .before .before .before .args .kinds)) (now (c .before .before .before .before .before .before .before .before .before .before .before .before .before .before .args .starts)) (now (c .before .before .before .before .before .before .before .before .before .before .before .before .before .before .args .lengths)) (c .before .before .before .before .before .before .before .before .before .before .before .before .before .before .args .i))) (λ (x : ℕ). (x < (c .before .before .before .before .before .before .before .before .before .before .before .before .before .before .args .i)) × (1 ≤ length (nameIn (now (c .before .before .before .before .before .before .before .before .before .before .before .before .before .before .args .text)) (now (c .before .before .before .before .before .before .before .before .before .before .before .before .before .before .args .kinds)) (now (c .before .before .before .before .before .before .before .before .before .before .before .before .before .before .args .starts)) (now (c .before .before .before .before .before .before .before .before .before .before .before .before .before .before .args .lengths)) x))) (c .before .before .before .before .before .before .before .before .before .before .before .before .before .before .pre .4 .places) (c .before .before .before .loop .link) (c .before .before .before .loop .link - 1) (omega (arith, c .before .before .loop-test .taken)) (c .before .before .before .loop .inv (c .before .before .before .before .before .before .before .before .before .before .before .before .before .before .pre .4)) .0 .0 in omega (arith, h, c .before .before .before .before .before .before .before .before .before .before .before .before .before .before .pre .0)
+add-size-at c =
+    let c₃ = c .before .before .before in let loop = c₃ .loop in
+    let c₁₄ = c₃ .before .before .before .before .before .before .before .before .before .before .before in let args = c₁₄ .args in let pre = c₁₄ .pre in
+    let kinds = now (args .kinds) in let lengths = now (args .lengths) in let starts = now (args .starts) in let text = now (args .text) in let i = args .i in
+    let h = walk-low (λ (x : ℕ). x) (drop 512 (now (args .index))) (λ (x : ℕ). sameWord (nameIn text kinds starts lengths x) (nameIn text kinds starts lengths i)) (λ (x : ℕ). (x < i) × (1 ≤ length (nameIn text kinds starts lengths x))) (pre .4 .places) (loop .link) (loop .link - 1) (omega (arith, c .before .before .loop-test .taken)) (loop .inv (pre .4)) .0 .0 in omega (arith, h, pre .0)
 
 size-at-requires-3 : tie.Need-size-at-requires-3 Inv-loop μ-loop
 size-at-requires-3 c κs = search needs
 
 loop-less : tie.Need-loop-less Inv-loop μ-loop
-loop-less c = let h = walk-low (λ (x : ℕ). x) (drop 512 (now (c .before .before .before .before .before .before .before .before .before .before .before .before .before .before .before .args .index))) (λ (x : ℕ). sameWord (nameIn (now (c .before .before .before .before .before .before .before .before .before .before .before .before .before .before .before .args .text)) (now (c .before .before .before .before .before .before .before .before .before .before .before .before .before .before .before .args .kinds)) (now (c .before .before .before .before .before .before .before .before .before .before .before .before .before .before .before .args .starts)) (now (c .before .before .before .before .before .before .before .before .before .before .before .before .before .before .before .args .lengths)) x) (nameIn (now (c .before .before .before .before .before .before .before .before .before .before .before .before .before .before .before .args .text)) (now (c .before .before .before .before .before .before .before .before .before .before .before .before .before .before .before .args .kinds)) (now (c .before .before .before .before .before .before .before .before .before .before .before .before .before .before .before .args .starts)) (now (c .before .before .before .before .before .before .before .before .before .before .before .before .before .before .before .args .lengths)) (c .before .before .before .before .before .before .before .before .before .before .before .before .before .before .before .args .i))) (λ (x : ℕ). (x < (c .before .before .before .before .before .before .before .before .before .before .before .before .before .before .before .args .i)) × (1 ≤ length (nameIn (now (c .before .before .before .before .before .before .before .before .before .before .before .before .before .before .before .args .text)) (now (c .before .before .before .before .before .before .before .before .before .before .before .before .before .before .before .args .kinds)) (now (c .before .before .before .before .before .before .before .before .before .before .before .before .before .before .before .args .starts)) (now (c .before .before .before .before .before .before .before .before .before .before .before .before .before .before .before .args .lengths)) x))) (c .before .before .before .before .before .before .before .before .before .before .before .before .before .before .before .pre .4 .places) (c .before .before .before .before .loop .link) (c .before .before .before .before .loop .link - 1) (omega (arith, c .before .before .before .loop-test .taken)) (c .before .before .before .before .loop .inv (c .before .before .before .before .before .before .before .before .before .before .before .before .before .before .before .pre .4)) .1 in omega (arith, h, (c .size-at3 .ensures .0 ∙ sym (getD-drop 512 (now (c .before .before .before .before .before .before .before .before .before .before .before .before .before .before .before .args .index)) (c .before .before .before .before .loop .link - 1) 0)), c .before .before .before .loop-test .taken)
+loop-less c =
+    let c₃ = c .before .before .before in let loop-test = c₃ .loop-test in
+    let c₄ = c₃ .before in let loop = c₄ .loop in
+    let c₁₅ = c₄ .before .before .before .before .before .before .before .before .before .before .before in let args = c₁₅ .args in let pre = c₁₅ .pre in
+    let index = now (args .index) in let kinds = now (args .kinds) in let lengths = now (args .lengths) in let starts = now (args .starts) in let text = now (args .text) in let i = args .i in
+    let h = walk-low (λ (x : ℕ). x) (drop 512 index) (λ (x : ℕ). sameWord (nameIn text kinds starts lengths x) (nameIn text kinds starts lengths i)) (λ (x : ℕ). (x < i) × (1 ≤ length (nameIn text kinds starts lengths x))) (pre .4 .places) (loop .link) (loop .link - 1) (omega (arith, loop-test .taken)) (loop .inv (pre .4)) .1 in omega (arith, h, (c .size-at3 .ensures .0 ∙ sym (getD-drop 512 index (loop .link - 1) 0)), loop-test .taken)
 
 loop-again : tie.Need-loop-again Inv-loop μ-loop
-loop-again c = λ f. walk-on (λ (x : ℕ). x) (drop 512 (now (c .before .before .before .before .before .before .before .before .before .before .before .before .before .before .before .args .index))) (λ (x : ℕ). sameWord (nameIn (now (c .before .before .before .before .before .before .before .before .before .before .before .before .before .before .before .args .text)) (now (c .before .before .before .before .before .before .before .before .before .before .before .before .before .before .before .args .kinds)) (now (c .before .before .before .before .before .before .before .before .before .before .before .before .before .before .before .args .starts)) (now (c .before .before .before .before .before .before .before .before .before .before .before .before .before .before .before .args .lengths)) x) (nameIn (now (c .before .before .before .before .before .before .before .before .before .before .before .before .before .before .before .args .text)) (now (c .before .before .before .before .before .before .before .before .before .before .before .before .before .before .before .args .kinds)) (now (c .before .before .before .before .before .before .before .before .before .before .before .before .before .before .before .args .starts)) (now (c .before .before .before .before .before .before .before .before .before .before .before .before .before .before .before .args .lengths)) (c .before .before .before .before .before .before .before .before .before .before .before .before .before .before .before .args .i))) (λ (x : ℕ). (x < (c .before .before .before .before .before .before .before .before .before .before .before .before .before .before .before .args .i)) × (1 ≤ length (nameIn (now (c .before .before .before .before .before .before .before .before .before .before .before .before .before .before .before .args .text)) (now (c .before .before .before .before .before .before .before .before .before .before .before .before .before .before .before .args .kinds)) (now (c .before .before .before .before .before .before .before .before .before .before .before .before .before .before .before .args .starts)) (now (c .before .before .before .before .before .before .before .before .before .before .before .before .before .before .before .args .lengths)) x))) (f .places) (c .before .before .before .before .loop .link) (c .before .before .before .before .loop .link - 1) (omega (arith, c .before .before .before .loop-test .taken)) (c .before .before .before .before .loop .inv f) _ (sym (c .before .before .same-names .ensures) ∙ c .before .if1 .left) ((c .size-at3 .ensures .0 ∙ sym (getD-drop 512 (now (c .before .before .before .before .before .before .before .before .before .before .before .before .before .before .before .args .index)) (c .before .before .before .before .loop .link - 1) 0)))
+loop-again c =
+    let c₃ = c .before .before .before in let loop-test = c₃ .loop-test in
+    let c₄ = c₃ .before in let loop = c₄ .loop in
+    let c₁₅ = c₄ .before .before .before .before .before .before .before .before .before .before .before in let args = c₁₅ .args in
+    let index = now (args .index) in let kinds = now (args .kinds) in let lengths = now (args .lengths) in let starts = now (args .starts) in let text = now (args .text) in let i = args .i in
+    λ f. walk-on (λ (x : ℕ). x) (drop 512 index) (λ (x : ℕ). sameWord (nameIn text kinds starts lengths x) (nameIn text kinds starts lengths i)) (λ (x : ℕ). (x < i) × (1 ≤ length (nameIn text kinds starts lengths x))) (f .places) (loop .link) (loop .link - 1) (omega (arith, loop-test .taken)) (loop .inv f) _ (sym (c .before .before .same-names .ensures) ∙ c .before .if1 .left) ((c .size-at3 .ensures .0 ∙ sym (getD-drop 512 index (loop .link - 1) 0)))
 
 returns-2 : tie.Need-returns-2 Inv-loop μ-loop
-returns-2 c = λ f. inl (refl, walk-none (λ (x : ℕ). x) (drop 512 (now (c .before .before .before .before .before .before .before .before .before .before .before .before .args .index))) (λ (x : ℕ). sameWord (nameIn (now (c .before .before .before .before .before .before .before .before .before .before .before .before .args .text)) (now (c .before .before .before .before .before .before .before .before .before .before .before .before .args .kinds)) (now (c .before .before .before .before .before .before .before .before .before .before .before .before .args .starts)) (now (c .before .before .before .before .before .before .before .before .before .before .before .before .args .lengths)) x) (nameIn (now (c .before .before .before .before .before .before .before .before .before .before .before .before .args .text)) (now (c .before .before .before .before .before .before .before .before .before .before .before .before .args .kinds)) (now (c .before .before .before .before .before .before .before .before .before .before .before .before .args .starts)) (now (c .before .before .before .before .before .before .before .before .before .before .before .before .args .lengths)) (c .before .before .before .before .before .before .before .before .before .before .before .before .args .i))) (λ (x : ℕ). (x < (c .before .before .before .before .before .before .before .before .before .before .before .before .args .i)) × (1 ≤ length (nameIn (now (c .before .before .before .before .before .before .before .before .before .before .before .before .args .text)) (now (c .before .before .before .before .before .before .before .before .before .before .before .before .args .kinds)) (now (c .before .before .before .before .before .before .before .before .before .before .before .before .args .starts)) (now (c .before .before .before .before .before .before .before .before .before .before .before .before .args .lengths)) x))) (f .places) (c .before .loop .link) (omega (arith, c .loop-test .left)) (c .before .loop .inv f))
+returns-2 c =
+    let c₁ = c .before in let loop = c₁ .loop in
+    let c₁₂ = c₁ .before .before .before .before .before .before .before .before .before .before .before in let args = c₁₂ .args in
+    let kinds = now (args .kinds) in let lengths = now (args .lengths) in let starts = now (args .starts) in let text = now (args .text) in let i = args .i in
+    λ f. inl (refl, walk-none (λ (x : ℕ). x) (drop 512 (now (args .index))) (λ (x : ℕ). sameWord (nameIn text kinds starts lengths x) (nameIn text kinds starts lengths i)) (λ (x : ℕ). (x < i) × (1 ≤ length (nameIn text kinds starts lengths x))) (f .places) (loop .link) (omega (arith, c .loop-test .left)) (loop .inv f))
 
 pub earlier-spec : {M : Type 1} → statement M
 earlier-spec =

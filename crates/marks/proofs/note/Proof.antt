@@ -16,13 +16,21 @@ use Rattle.kinds.proofs.size_at.Reads as size-at-reads
 use Rattle.marks.proofs.is_use.Reads as is-use-reads
 
 returns : tie.Need-returns
-returns c = record { is = sym (ap (λ (b : Bool). cond b (set (now (c .before .before .before .before .before .args .used)) (getD (now (c .before .before .before .before .before .args .ids)) (c .before .before .before .before .before .args .i) 0) 1) (now (c .before .before .before .before .before .args .used))) (sym (c .before .is-use .ensures) ∙ not-true (c .before .is-use .result) (c .if1 .taken))) }
+returns c =
+    let c₁ = c .before in let is-use = c₁ .is-use in
+    let c₅ = c₁ .before .before .before .before in let args = c₅ .args in
+    let used = now (args .used) in
+    record { is = sym (ap (λ (b : Bool). cond b (set used (getD (now (args .ids)) (args .i) 0) 1) used) (sym (is-use .ensures) ∙ not-true (is-use .result) (c .if1 .taken))) }
 
 slice-write-used : tie.Need-slice-write-used
 slice-write-used c = omega (arith, c .size-at .ensures .0, c .before .before .before .before .before .before .pre .1)
 
 returns-2 : tie.Need-returns-2
-returns-2 c = record { is = ap (λ (x : ℕ). set (now (c .before .before .before .before .before .before .args .used)) x 1) (c .size-at .ensures .0) ∙ sym (ap (λ (b : Bool). cond b (set (now (c .before .before .before .before .before .before .args .used)) (getD (now (c .before .before .before .before .before .before .args .ids)) (c .before .before .before .before .before .before .args .i) 0) 1) (now (c .before .before .before .before .before .before .args .used))) (sym (c .before .before .is-use .ensures) ∙ not-false (c .before .before .is-use .result) (c .before .if1 .left))) }
+returns-2 c =
+    let c₂ = c .before .before in let is-use = c₂ .is-use in
+    let c₆ = c₂ .before .before .before .before in let args = c₆ .args in
+    let used = now (args .used) in
+    record { is = ap (λ (x : ℕ). set used x 1) (c .size-at .ensures .0) ∙ sym (ap (λ (b : Bool). cond b (set used (getD (now (args .ids)) (args .i) 0) 1) used) (sym (is-use .ensures) ∙ not-false (is-use .result) (c .before .if1 .left))) }
 
 pub note-spec : {M : Type 1} → statement M
 note-spec =

@@ -14,7 +14,9 @@ use Rattle.marks.proofs.number_long.Lts as lts
 use Rattle.marks.proofs.number_with.Reads as number-with-reads
 
 number-with-requires : tie.Need-number-with-requires
-number-with-requires c κs = ((omega (arith, c .before .before .before .before .before .before .before .before .pre .0 .0), c .before .before .before .before .before .before .before .before .pre .0 .1, c .before .before .before .before .before .before .before .before .pre .0 .2), (omega (arith, c .before .before .before .before .before .before .before .before .pre .0 .0), c .before .before .before .before .before .before .before .before .pre .1 .0, cleared 4512, c .before .before .before .before .before .before .before .before .pre .1 .1))
+number-with-requires c κs =
+    let c₈ = c .before .before .before .before .before .before .before .before in let pre = c₈ .pre in
+    ((omega (arith, pre .0 .0), pre .0 .1, pre .0 .2), (omega (arith, pre .0 .0), pre .1 .0, cleared 4512, pre .1 .1))
 
 pub number-long-spec : {M : Type 1} → statement M
 number-long-spec =

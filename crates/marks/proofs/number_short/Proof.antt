@@ -14,7 +14,9 @@ use Rattle.marks.proofs.number_short.Lts as lts
 use Rattle.marks.proofs.number_with.Reads as number-with-reads
 
 number-with-requires : tie.Need-number-with-requires
-number-with-requires c κs = ((omega (arith, c .before .before .before .before .before .before .before .before .pre .0 .0), c .before .before .before .before .before .before .before .before .pre .0 .1, c .before .before .before .before .before .before .before .before .pre .0 .2), (omega (arith, c .before .before .before .before .before .before .before .before .pre .0 .0), c .before .before .before .before .before .before .before .before .pre .1 .0, cleared 768, c .before .before .before .before .before .before .before .before .pre .1 .1))
+number-with-requires c κs =
+    let c₈ = c .before .before .before .before .before .before .before .before in let pre = c₈ .pre in
+    ((omega (arith, pre .0 .0), pre .0 .1, pre .0 .2), (omega (arith, pre .0 .0), pre .1 .0, cleared 768, pre .1 .1))
 
 pub number-short-spec : {M : Type 1} → statement M
 number-short-spec =

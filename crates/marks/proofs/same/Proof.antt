@@ -32,7 +32,12 @@ shared-slice-read-if2-2 : tie.Need-shared-slice-read-if2-2 Inv-loop μ-loop
 shared-slice-read-if2-2 c = search needs
 
 returns-2 : tie.Need-returns-2 Inv-loop μ-loop
-returns-2 c = sym (c .before .before .before .before .loop .inv .0 ∙ same-drop (now (c .before .before .before .before .before .before .args .a)) (now (c .before .before .before .before .before .before .args .b)) (c .before .before .before .before .loop .i) (c .before .before .before .before .before .if1 .left) (c .before .before .before .loop-test .taken) ∙ rw (ne-eqb _ _ (c .if2 .taken)))
+returns-2 c =
+    let c₃ = c .before .before .before in let loop-test = c₃ .loop-test in
+    let c₄ = c₃ .before in let loop = c₄ .loop in
+    let c₅ = c₄ .before in let if1 = c₅ .if1 in
+    let c₆ = c₅ .before in let args = c₆ .args in
+    sym (loop .inv .0 ∙ same-drop (now (args .a)) (now (args .b)) (loop .i) (if1 .left) (loop-test .taken) ∙ rw (ne-eqb _ _ (c .if2 .taken)))
 
 add-i : tie.Need-add-i Inv-loop μ-loop
 add-i c = search needs
@@ -41,7 +46,12 @@ loop-less : tie.Need-loop-less Inv-loop μ-loop
 loop-less c = search needs
 
 loop-again : tie.Need-loop-again Inv-loop μ-loop
-loop-again c = (c .before .before .before .before .loop .inv .0 ∙ same-drop (now (c .before .before .before .before .before .before .args .a)) (now (c .before .before .before .before .before .before .args .b)) (c .before .before .before .before .loop .i) (c .before .before .before .before .before .if1 .left) (c .before .before .before .loop-test .taken) ∙ rw (eq-eqb _ _ (c .if2 .left)), omega arith)
+loop-again c =
+    let c₃ = c .before .before .before in let loop-test = c₃ .loop-test in
+    let c₄ = c₃ .before in let loop = c₄ .loop in
+    let c₅ = c₄ .before in let if1 = c₅ .if1 in
+    let c₆ = c₅ .before in let args = c₆ .args in
+    (loop .inv .0 ∙ same-drop (now (args .a)) (now (args .b)) (loop .i) (if1 .left) (loop-test .taken) ∙ rw (eq-eqb _ _ (c .if2 .left)), omega arith)
 
 returns-3 : tie.Need-returns-3 Inv-loop μ-loop
 returns-3 c = sym (c .before .loop .inv .0 ∙ same-end (now (c .before .before .before .args .a)) (now (c .before .before .before .args .b)) (c .before .loop .i) (c .before .before .if1 .left) (c .loop-test .left))

@@ -15,10 +15,14 @@ use Rattle.marks.proofs.same.Reads as same-reads
 use Rattle.marks.proofs.word.Reads as word-reads
 
 returns : tie.Need-returns
-returns c = names-differ _ _ _ _ (c .before .before .before .before .before .before .before .before .pre .2) (c .before .before .before .before .before .before .before .before .pre .3) (λ e. c .if1 .taken (sym e))
+returns c =
+    let c₈ = c .before .before .before .before .before .before .before .before in let pre = c₈ .pre in
+    names-differ _ _ _ _ (pre .2) (pre .3) (λ e. c .if1 .taken (sym e))
 
 returns-2 : tie.Need-returns-2
-returns-2 c = names-same _ _ _ _ (c .before .before .before .before .before .before .before .before .before .pre .2) (c .before .before .before .before .before .before .before .before .before .pre .3) (omega (arith, c .before .if1 .left)) (c .if2 .taken)
+returns-2 c =
+    let c₉ = c .before .before .before .before .before .before .before .before .before in let pre = c₉ .pre in
+    names-same _ _ _ _ (pre .2) (pre .3) (omega (arith, c .before .if1 .left)) (c .if2 .taken)
 
 returns-3 : tie.Need-returns-3
 returns-3 c = c .same .ensures ∙ ap₂ sameWord (c .before .before .word .ensures) (c .before .word2 .ensures)

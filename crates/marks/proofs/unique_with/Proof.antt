@@ -26,13 +26,22 @@ loop-holds : tie.Need-loop-holds Inv-loop μ-loop
 loop-holds c = (λ text ss ls ns g. left-start text (now (c .before .before .before .args .kinds)) ss ls ns (now (c .before .before .before .args .ids)) (now (c .before .before .before .args .seen)) (c .before .before .before .pre .3), omega arith, refl)
 
 once-requires : tie.Need-once-requires Inv-loop μ-loop
-once-requires c κs = (c .before .loop-test .taken, omega (arith, c .before .loop-test .taken, c .before .before .before .before .before .before .pre .0), λ x. omega (arith, c .before .before .before .before .before .before .pre .2 x, c .before .before .before .before .before .before .pre .1, c .before .before .loop .inv .2))
+once-requires c κs =
+    let c₁ = c .before in let loop-test = c₁ .loop-test in
+    let c₆ = c₁ .before .before .before .before .before in let pre = c₆ .pre in
+    (loop-test .taken, omega (arith, loop-test .taken, pre .0), λ x. omega (arith, pre .2 x, pre .1, c .before .before .loop .inv .2))
 
 same-length : tie.Need-same-length Inv-loop μ-loop
 same-length c = search needs
 
 returns : tie.Need-returns Inv-loop μ-loop
-returns c = λ text ss ls ns g. left-twice text (now (c .before .before .before .before .before .before .before .before .before .before .args .kinds)) ss ls ns (now (c .before .before .before .before .before .before .before .before .before .before .args .ids)) (c .before .before .before .before .before .before .loop .p) (c .before .before .before .before .before .before .loop .i) _ _ (c .before .before .before .once .result) (c .before .before .before .before .before .loop-test .taken) (c .before .before .before .before .before .before .loop .inv .0 text ss ls ns g) g (omega (arith, c .before .before .before .before .before .before .before .before .before .before .pre .2 (boundPlace (now (c .before .before .before .before .before .before .before .before .before .before .args .kinds)) (c .before .before .before .before .before .before .loop .i)), c .before .before .before .before .before .before .before .before .before .before .pre .1, c .before .before .before .before .before .before .loop .inv .2)) (c .before .before .before .once .ensures) (not-true (c .before .before .before .once .result) (c .if1 .taken))
+returns c =
+    let c₃ = c .before .before .before in let once = c₃ .once in
+    let c₅ = c₃ .before .before in let loop-test = c₅ .loop-test in
+    let c₆ = c₅ .before in let loop = c₆ .loop in
+    let c₁₀ = c₆ .before .before .before .before in let args = c₁₀ .args in let pre = c₁₀ .pre in
+    let kinds = now (args .kinds) in
+    λ text ss ls ns g. left-twice text kinds ss ls ns (now (args .ids)) (loop .p) (loop .i) _ _ (once .result) (loop-test .taken) (loop .inv .0 text ss ls ns g) g (omega (arith, pre .2 (boundPlace kinds (loop .i)), pre .1, loop .inv .2)) (once .ensures) (not-true (once .result) (c .if1 .taken))
 
 shared-slice-read-part : tie.Need-shared-slice-read-part Inv-loop μ-loop
 shared-slice-read-part c = search needs
@@ -47,7 +56,13 @@ loop-less : tie.Need-loop-less Inv-loop μ-loop
 loop-less c = search needs
 
 loop-again : tie.Need-loop-again Inv-loop μ-loop
-loop-again c = (λ text ss ls ns g. left-next text (now (c .before .before .before .before .before .before .before .before .before .before .before .before .args .kinds)) ss ls ns (now (c .before .before .before .before .before .before .before .before .before .before .before .before .args .ids)) (c .before .before .before .before .before .before .before .before .loop .p) (c .before .before .before .before .before .before .before .before .loop .i) _ _ (c .before .before .before .before .before .once .result) (c .before .before .before .before .before .before .before .loop-test .taken) (c .before .before .before .before .before .before .before .before .loop .inv .0 text ss ls ns g) g (omega (arith, c .before .before .before .before .before .before .before .before .before .before .before .before .pre .2 (boundPlace (now (c .before .before .before .before .before .before .before .before .before .before .before .before .args .kinds)) (c .before .before .before .before .before .before .before .before .loop .i)), c .before .before .before .before .before .before .before .before .before .before .before .before .pre .1, c .before .before .before .before .before .before .before .before .loop .inv .2)) (c .before .before .before .before .before .once .ensures) (not-false (c .before .before .before .before .before .once .result) (c .before .before .if1 .left)) _ (c .part .ensures .0), c .part .ensures .1, c .before .before .before .before .before .once .kept .1 .1 .0 ∙ c .before .before .before .before .before .before .before .before .loop .inv .2)
+loop-again c =
+    let c₅ = c .before .before .before .before .before in let once = c₅ .once in
+    let c₇ = c₅ .before .before in let loop-test = c₇ .loop-test in
+    let c₈ = c₇ .before in let loop = c₈ .loop in
+    let c₁₂ = c₈ .before .before .before .before in let args = c₁₂ .args in let pre = c₁₂ .pre in
+    let kinds = now (args .kinds) in
+    (λ text ss ls ns g. left-next text kinds ss ls ns (now (args .ids)) (loop .p) (loop .i) _ _ (once .result) (loop-test .taken) (loop .inv .0 text ss ls ns g) g (omega (arith, pre .2 (boundPlace kinds (loop .i)), pre .1, loop .inv .2)) (once .ensures) (not-false (once .result) (c .before .before .if1 .left)) _ (c .part .ensures .0), c .part .ensures .1, once .kept .1 .1 .0 ∙ loop .inv .2)
 
 same-length-2 : tie.Need-same-length-2 Inv-loop μ-loop
 same-length-2 c = search needs

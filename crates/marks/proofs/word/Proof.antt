@@ -14,13 +14,24 @@ use Rattle.kinds.proofs.tail.Reads as tail-reads
 use Rattle.marks.proofs.head.Reads as head-reads
 
 returns : tie.Need-returns
-returns c = name-past (now (c .before .before .before .before .before .before .args .text)) (now (c .before .before .before .before .before .before .args .kinds)) (now (c .before .before .before .before .before .before .args .starts)) (now (c .before .before .before .before .before .before .args .lengths)) (c .before .before .before .before .before .before .args .i) (c .before .if1 .taken)
+returns c =
+    let c₆ = c .before .before .before .before .before .before in let args = c₆ .args in
+    name-past (now (args .text)) (now (args .kinds)) (now (args .starts)) (now (args .lengths)) (args .i) (c .before .if1 .taken)
 
 returns-2 : tie.Need-returns-2
-returns-2 c = name-other (now (c .before .before .before .before .before .before .before .before .args .text)) (now (c .before .before .before .before .before .before .before .before .args .kinds)) (now (c .before .before .before .before .before .before .before .before .args .starts)) (now (c .before .before .before .before .before .before .before .before .args .lengths)) (c .before .before .before .before .before .before .before .before .args .i) (c .before .if2 .taken)
+returns-2 c =
+    let c₈ = c .before .before .before .before .before .before .before .before in let args = c₈ .args in
+    name-other (now (args .text)) (now (args .kinds)) (now (args .starts)) (now (args .lengths)) (args .i) (c .before .if2 .taken)
 
 returns-3 : tie.Need-returns-3
-returns-3 c = name-there (now (c .before .before .before .before .before .before .before .before .before .before .before .args .text)) (now (c .before .before .before .before .before .before .before .before .before .before .before .args .kinds)) (now (c .before .before .before .before .before .before .before .before .before .before .before .args .starts)) (now (c .before .before .before .before .before .before .before .before .before .before .before .args .lengths)) (c .before .before .before .before .before .before .before .before .before .before .before .args .i) (c .before .before .before .before .before .before .if1 .left) (c .before .before .before .before .if2 .left) (now (c .before .before .tail .result)) _ (c .before .before .tail .ensures ∙ ap (λ (n : ℕ). drop n (now (c .before .before .before .before .before .before .before .before .before .before .before .args .text))) (c .before .before .before .size-at .ensures .0)) (c .head .ensures ∙ ap (λ (n : ℕ). take n (now (c .before .before .tail .result))) (c .before .size-at2 .ensures .0))
+returns-3 c =
+    let c₂ = c .before .before in let tail = c₂ .tail in
+    let c₃ = c₂ .before in let size-at = c₃ .size-at in
+    let c₄ = c₃ .before in let if2 = c₄ .if2 in
+    let c₆ = c₄ .before .before in let if1 = c₆ .if1 in
+    let c₁₁ = c₆ .before .before .before .before .before in let args = c₁₁ .args in
+    let text = now (args .text) in
+    name-there text (now (args .kinds)) (now (args .starts)) (now (args .lengths)) (args .i) (if1 .left) (if2 .left) (now (tail .result)) _ (tail .ensures ∙ ap (λ (n : ℕ). drop n text) (size-at .ensures .0)) (c .head .ensures ∙ ap (λ (n : ℕ). take n (now (tail .result))) (c .before .size-at2 .ensures .0))
 
 pub word-spec : {M : Type 1} → statement M
 word-spec =

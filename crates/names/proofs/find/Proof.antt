@@ -33,7 +33,11 @@ named-requires : tie.Need-named-requires Inv-loop μ-loop
 named-requires c κs = search needs
 
 returns : tie.Need-returns Inv-loop μ-loop
-returns c = λ w s. walk.seek-found (now (c .before .before .before .before .before .args .list)) (c .before .before .before .loop .at) (isNamed (c .before .before .before .before .before .args .kind) (c .before .before .before .before .before .args .relation) w) (c .before .named .result) _ (c .before .before .loop-test .taken) (c .before .named .ensures w s) (c .before .before .before .loop .inv w s) (c .if1 .taken)
+returns c =
+    let c₁ = c .before in let named = c₁ .named in
+    let c₃ = c₁ .before .before in let loop = c₃ .loop in
+    let c₅ = c₃ .before .before in let args = c₅ .args in
+    λ w s. walk.seek-found (now (args .list)) (loop .at) (isNamed (args .kind) (args .relation) w) (named .result) _ (c .before .before .loop-test .taken) (named .ensures w s) (loop .inv w s) (c .if1 .taken)
 
 byte-requires : tie.Need-byte-requires Inv-loop μ-loop
 byte-requires c κs = search needs
@@ -51,7 +55,13 @@ loop-less : tie.Need-loop-less Inv-loop μ-loop
 loop-less c = search needs
 
 loop-again : tie.Need-loop-again Inv-loop μ-loop
-loop-again c = λ w s. walk.seek-on (now (c .before .before .before .before .before .before .before .args .list)) (c .before .before .before .before .before .loop .at) (c .before .byte .result) (c .place .result) (c .before .before .before .before .loop-test .taken) (c .before .byte .ensures) (c .place .ensures .0) (isNamed (c .before .before .before .before .before .before .before .args .kind) (c .before .before .before .before .before .before .before .args .relation) w) (c .before .before .before .named .result) (c .before .before .before .named .ensures w s) _ (c .before .before .before .before .before .loop .inv w s) (c .before .before .if1 .left)
+loop-again c =
+    let c₁ = c .before in let byte = c₁ .byte in
+    let c₃ = c₁ .before .before in let named = c₃ .named in
+    let c₄ = c₃ .before in let loop-test = c₄ .loop-test in
+    let c₅ = c₄ .before in let loop = c₅ .loop in
+    let c₇ = c₅ .before .before in let args = c₇ .args in
+    λ w s. walk.seek-on (now (args .list)) (loop .at) (byte .result) (c .place .result) (loop-test .taken) (byte .ensures) (c .place .ensures .0) (isNamed (args .kind) (args .relation) w) (named .result) (named .ensures w s) _ (loop .inv w s) (c .before .before .if1 .left)
 
 returns-2 : tie.Need-returns-2 Inv-loop μ-loop
 returns-2 c = λ w s. walk.seek-end (now (c .before .before .before .args .list)) (c .before .loop .at) (isNamed (c .before .before .before .args .kind) (c .before .before .before .args .relation) w) _ (c .loop-test .left) (c .before .loop .inv w s)

@@ -40,31 +40,61 @@ size-at-requires : tie.Need-size-at-requires Inv-loop μ-loop
 size-at-requires c κs = search needs
 
 loop-holds : tie.Need-loop-holds Inv-loop μ-loop
-loop-holds c = λ f l. (walk-start (λ (i : ℕ). i / 14) (drop 512 (now (c .before .before .before .before .args .index))) (λ (i : ℕ). false) (Sound (now (c .before .before .before .before .args .list))) (f .places) (λ (i : ℕ). bucketOf (nameOf (now (c .before .before .before .before .args .list)) i)) (f .top) (take 512 (now (c .before .before .before .before .args .index))) (c .before .bucket .result) _ (c .before .bucket .ensures .1) (c .size-at .ensures .0 ∙ sym (getD-take 512 (now (c .before .before .before .before .args .index)) (c .before .bucket .result) 0 (c .before .bucket .ensures .1))) (λ i e. clash e) (f .held) (index-each (now (c .before .before .before .before .args .list)) (take 512 (now (c .before .before .before .before .args .index))) (drop 512 (now (c .before .before .before .before .args .index))) f l), λ w s. walk-start (λ (i : ℕ). i / 14) (drop 512 (now (c .before .before .before .before .args .index))) (λ (i : ℕ). isNamed (c .before .before .before .before .args .kind) (c .before .before .before .before .args .relation) w (drop i (now (c .before .before .before .before .args .list)))) (Sound (now (c .before .before .before .before .args .list))) (f .places) (λ (i : ℕ). bucketOf (nameOf (now (c .before .before .before .before .args .list)) i)) (f .top) (take 512 (now (c .before .before .before .before .args .index))) (c .before .bucket .result) _ (c .before .bucket .ensures .1) (c .size-at .ensures .0 ∙ sym (getD-take 512 (now (c .before .before .before .before .args .index)) (c .before .bucket .result) 0 (c .before .bucket .ensures .1))) (λ i e. ap bucketOf (named-name (now (c .before .before .before .before .args .list)) i (c .before .before .before .before .args .kind) (c .before .before .before .before .args .relation) w e) ∙ sym (c .before .bucket .ensures .0 ∙ ap (λ (v : ℕ). v % 512) (s .code))) (f .held) (index-each (now (c .before .before .before .before .args .list)) (take 512 (now (c .before .before .before .before .args .index))) (drop 512 (now (c .before .before .before .before .args .index))) f l))
+loop-holds c =
+    let c₁ = c .before in let bucket = c₁ .bucket in
+    let c₄ = c₁ .before .before .before in let args = c₄ .args in
+    let index = now (args .index) in let list = now (args .list) in let kind = args .kind in let relation = args .relation in
+    λ f l. (walk-start (λ (i : ℕ). i / 14) (drop 512 index) (λ (i : ℕ). false) (Sound list) (f .places) (λ (i : ℕ). bucketOf (nameOf list i)) (f .top) (take 512 index) (bucket .result) _ (bucket .ensures .1) (c .size-at .ensures .0 ∙ sym (getD-take 512 index (bucket .result) 0 (bucket .ensures .1))) (λ i e. clash e) (f .held) (index-each list (take 512 index) (drop 512 index) f l), λ w s. walk-start (λ (i : ℕ). i / 14) (drop 512 index) (λ (i : ℕ). isNamed kind relation w (drop i list)) (Sound list) (f .places) (λ (i : ℕ). bucketOf (nameOf list i)) (f .top) (take 512 index) (bucket .result) _ (bucket .ensures .1) (c .size-at .ensures .0 ∙ sym (getD-take 512 index (bucket .result) 0 (bucket .ensures .1))) (λ i e. ap bucketOf (named-name list i kind relation w e) ∙ sym (bucket .ensures .0 ∙ ap (λ (v : ℕ). v % 512) (s .code))) (f .held) (index-each list (take 512 index) (drop 512 index) f l))
 
 sub-i : tie.Need-sub-i Inv-loop μ-loop
 sub-i c = search needs
 
 named-requires : tie.Need-named-requires Inv-loop μ-loop
-named-requires c κs = walk-low (λ (i : ℕ). i / 14) (drop 512 (now (c .before .before .before .before .before .before .args .index))) (λ (i : ℕ). false) (Sound (now (c .before .before .before .before .before .before .args .list))) (c .before .before .before .before .before .before .pre .1 .chains .places) (c .before .loop .link) (c .before .loop .link - 1) (omega (arith, c .loop-test .taken)) (c .before .loop .inv (c .before .before .before .before .before .before .pre .1 .chains) (room-of (now (c .before .before .before .before .before .before .args .list)) (now (c .before .before .before .before .before .before .args .index)) (c .before .before .before .before .before .before .pre .0)) .0) .0 .within
+named-requires c κs =
+    let c₁ = c .before in let loop = c₁ .loop in
+    let c₆ = c₁ .before .before .before .before .before in let args = c₆ .args in let pre = c₆ .pre in
+    let index = now (args .index) in let list = now (args .list) in
+    walk-low (λ (i : ℕ). i / 14) (drop 512 index) (λ (i : ℕ). false) (Sound list) (pre .1 .chains .places) (loop .link) (loop .link - 1) (omega (arith, c .loop-test .taken)) (loop .inv (pre .1 .chains) (room-of list index (pre .0)) .0) .0 .within
 
 returns : tie.Need-returns Inv-loop μ-loop
-returns c = λ w s. sym (walk-low (λ (i : ℕ). i / 14) (drop 512 (now (c .before .before .before .before .before .before .before .before .args .index))) (λ (i : ℕ). isNamed (c .before .before .before .before .before .before .before .before .args .kind) (c .before .before .before .before .before .before .before .before .args .relation) w (drop i (now (c .before .before .before .before .before .before .before .before .args .list)))) (Sound (now (c .before .before .before .before .before .before .before .before .args .list))) (c .before .before .before .before .before .before .before .before .pre .1 .chains .places) (c .before .before .before .loop .link) (c .before .before .before .loop .link - 1) (omega (arith, c .before .before .loop-test .taken)) (c .before .before .before .loop .inv (c .before .before .before .before .before .before .before .before .pre .1 .chains) (room-of (now (c .before .before .before .before .before .before .before .before .args .list)) (now (c .before .before .before .before .before .before .before .before .args .index)) (c .before .before .before .before .before .before .before .before .pre .0)) .1 w s) .0 .hit (c .before .before .before .before .before .before .before .before .args .kind) (c .before .before .before .before .before .before .before .before .args .relation) w (sym (c .before .named .ensures w s) ∙ c .if1 .taken))
+returns c =
+    let c₃ = c .before .before .before in let loop = c₃ .loop in
+    let c₈ = c₃ .before .before .before .before .before in let args = c₈ .args in let pre = c₈ .pre in
+    let index = now (args .index) in let list = now (args .list) in let kind = args .kind in let relation = args .relation in
+    λ w s. sym (walk-low (λ (i : ℕ). i / 14) (drop 512 index) (λ (i : ℕ). isNamed kind relation w (drop i list)) (Sound list) (pre .1 .chains .places) (loop .link) (loop .link - 1) (omega (arith, c .before .before .loop-test .taken)) (loop .inv (pre .1 .chains) (room-of list index (pre .0)) .1 w s) .0 .hit kind relation w (sym (c .before .named .ensures w s) ∙ c .if1 .taken))
 
 add-size-at : tie.Need-add-size-at Inv-loop μ-loop
-add-size-at c = omega (arith, walk-low (λ (i : ℕ). i / 14) (drop 512 (now (c .before .before .before .before .before .before .before .before .args .index))) (λ (i : ℕ). false) (Sound (now (c .before .before .before .before .before .before .before .before .args .list))) (c .before .before .before .before .before .before .before .before .pre .1 .chains .places) (c .before .before .before .loop .link) (c .before .before .before .loop .link - 1) (omega (arith, c .before .before .loop-test .taken)) (c .before .before .before .loop .inv (c .before .before .before .before .before .before .before .before .pre .1 .chains) (room-of (now (c .before .before .before .before .before .before .before .before .args .list)) (now (c .before .before .before .before .before .before .before .before .args .index)) (c .before .before .before .before .before .before .before .before .pre .0)) .0) .0 .within)
+add-size-at c =
+    let c₃ = c .before .before .before in let loop = c₃ .loop in
+    let c₈ = c₃ .before .before .before .before .before in let args = c₈ .args in let pre = c₈ .pre in
+    let index = now (args .index) in let list = now (args .list) in
+    omega (arith, walk-low (λ (i : ℕ). i / 14) (drop 512 index) (λ (i : ℕ). false) (Sound list) (pre .1 .chains .places) (loop .link) (loop .link - 1) (omega (arith, c .before .before .loop-test .taken)) (loop .inv (pre .1 .chains) (room-of list index (pre .0)) .0) .0 .within)
 
 size-at-requires-2 : tie.Need-size-at-requires-2 Inv-loop μ-loop
 size-at-requires-2 c κs = search needs
 
 loop-less : tie.Need-loop-less Inv-loop μ-loop
-loop-less c = omega (arith, walk-low (λ (i : ℕ). i / 14) (drop 512 (now (c .before .before .before .before .before .before .before .before .before .args .index))) (λ (i : ℕ). false) (Sound (now (c .before .before .before .before .before .before .before .before .before .args .list))) (c .before .before .before .before .before .before .before .before .before .pre .1 .chains .places) (c .before .before .before .before .loop .link) (c .before .before .before .before .loop .link - 1) (omega (arith, c .before .before .before .loop-test .taken)) (c .before .before .before .before .loop .inv (c .before .before .before .before .before .before .before .before .before .pre .1 .chains) (room-of (now (c .before .before .before .before .before .before .before .before .before .args .list)) (now (c .before .before .before .before .before .before .before .before .before .args .index)) (c .before .before .before .before .before .before .before .before .before .pre .0)) .0) .1, (c .size-at2 .ensures .0 ∙ sym (getD-drop 512 (now (c .before .before .before .before .before .before .before .before .before .args .index)) ((c .before .before .before .before .loop .link - 1) / 14) 0)), c .before .before .before .loop-test .taken)
+loop-less c =
+    let c₃ = c .before .before .before in let loop-test = c₃ .loop-test in
+    let c₄ = c₃ .before in let loop = c₄ .loop in
+    let c₉ = c₄ .before .before .before .before .before in let args = c₉ .args in let pre = c₉ .pre in
+    let index = now (args .index) in let list = now (args .list) in
+    omega (arith, walk-low (λ (i : ℕ). i / 14) (drop 512 index) (λ (i : ℕ). false) (Sound list) (pre .1 .chains .places) (loop .link) (loop .link - 1) (omega (arith, loop-test .taken)) (loop .inv (pre .1 .chains) (room-of list index (pre .0)) .0) .1, (c .size-at2 .ensures .0 ∙ sym (getD-drop 512 index ((loop .link - 1) / 14) 0)), loop-test .taken)
 
 loop-again : tie.Need-loop-again Inv-loop μ-loop
-loop-again c = λ f l. (walk-on (λ (i : ℕ). i / 14) (drop 512 (now (c .before .before .before .before .before .before .before .before .before .args .index))) (λ (i : ℕ). false) (Sound (now (c .before .before .before .before .before .before .before .before .before .args .list))) (f .places) (c .before .before .before .before .loop .link) (c .before .before .before .before .loop .link - 1) (omega (arith, c .before .before .before .loop-test .taken)) (c .before .before .before .before .loop .inv f l .0) _ refl ((c .size-at2 .ensures .0 ∙ sym (getD-drop 512 (now (c .before .before .before .before .before .before .before .before .before .args .index)) ((c .before .before .before .before .loop .link - 1) / 14) 0))), λ w s. walk-on (λ (i : ℕ). i / 14) (drop 512 (now (c .before .before .before .before .before .before .before .before .before .args .index))) (λ (i : ℕ). isNamed (c .before .before .before .before .before .before .before .before .before .args .kind) (c .before .before .before .before .before .before .before .before .before .args .relation) w (drop i (now (c .before .before .before .before .before .before .before .before .before .args .list)))) (Sound (now (c .before .before .before .before .before .before .before .before .before .args .list))) (f .places) (c .before .before .before .before .loop .link) (c .before .before .before .before .loop .link - 1) (omega (arith, c .before .before .before .loop-test .taken)) (c .before .before .before .before .loop .inv f l .1 w s) _ (sym (c .before .before .named .ensures w s) ∙ c .before .if1 .left) ((c .size-at2 .ensures .0 ∙ sym (getD-drop 512 (now (c .before .before .before .before .before .before .before .before .before .args .index)) ((c .before .before .before .before .loop .link - 1) / 14) 0))))
+loop-again c =
+    let c₃ = c .before .before .before in let loop-test = c₃ .loop-test in
+    let c₄ = c₃ .before in let loop = c₄ .loop in
+    let c₉ = c₄ .before .before .before .before .before in let args = c₉ .args in
+    let index = now (args .index) in let list = now (args .list) in
+    λ f l. (walk-on (λ (i : ℕ). i / 14) (drop 512 index) (λ (i : ℕ). false) (Sound list) (f .places) (loop .link) (loop .link - 1) (omega (arith, loop-test .taken)) (loop .inv f l .0) _ refl ((c .size-at2 .ensures .0 ∙ sym (getD-drop 512 index ((loop .link - 1) / 14) 0))), λ w s. walk-on (λ (i : ℕ). i / 14) (drop 512 index) (λ (i : ℕ). isNamed (args .kind) (args .relation) w (drop i list)) (Sound list) (f .places) (loop .link) (loop .link - 1) (omega (arith, loop-test .taken)) (loop .inv f l .1 w s) _ (sym (c .before .before .named .ensures w s) ∙ c .before .if1 .left) ((c .size-at2 .ensures .0 ∙ sym (getD-drop 512 index ((loop .link - 1) / 14) 0))))
 
 returns-2 : tie.Need-returns-2 Inv-loop μ-loop
-returns-2 c = λ w s. index-none (now (c .before .before .before .before .before .before .args .list)) (take 512 (now (c .before .before .before .before .before .before .args .index))) (drop 512 (now (c .before .before .before .before .before .before .args .index))) (c .before .before .before .before .before .before .pre .1 .chains) (room-of (now (c .before .before .before .before .before .before .args .list)) (now (c .before .before .before .before .before .before .args .index)) (c .before .before .before .before .before .before .pre .0)) (c .before .before .before .before .before .before .args .kind) (c .before .before .before .before .before .before .args .relation) w (walk-none (λ (i : ℕ). i / 14) (drop 512 (now (c .before .before .before .before .before .before .args .index))) (λ (i : ℕ). isNamed (c .before .before .before .before .before .before .args .kind) (c .before .before .before .before .before .before .args .relation) w (drop i (now (c .before .before .before .before .before .before .args .list)))) (Sound (now (c .before .before .before .before .before .before .args .list))) (c .before .before .before .before .before .before .pre .1 .chains .places) (c .before .loop .link) (omega (arith, c .loop-test .left)) (c .before .loop .inv (c .before .before .before .before .before .before .pre .1 .chains) (room-of (now (c .before .before .before .before .before .before .args .list)) (now (c .before .before .before .before .before .before .args .index)) (c .before .before .before .before .before .before .pre .0)) .1 w s))
+returns-2 c =
+    let c₁ = c .before in let loop = c₁ .loop in
+    let c₆ = c₁ .before .before .before .before .before in let args = c₆ .args in let pre = c₆ .pre in
+    let index = now (args .index) in let list = now (args .list) in let kind = args .kind in let relation = args .relation in
+    λ w s. index-none list (take 512 index) (drop 512 index) (pre .1 .chains) (room-of list index (pre .0)) kind relation w (walk-none (λ (i : ℕ). i / 14) (drop 512 index) (λ (i : ℕ). isNamed kind relation w (drop i list)) (Sound list) (pre .1 .chains .places) (loop .link) (omega (arith, c .loop-test .left)) (loop .inv (pre .1 .chains) (room-of list index (pre .0)) .1 w s))
 
 pub follow-spec : {M : Type 1} → statement M
 follow-spec =

@@ -47,31 +47,65 @@ size-at-requires : tie.Need-size-at-requires Inv-loop μ-loop
 size-at-requires c κs = search needs
 
 loop-holds : tie.Need-loop-holds Inv-loop μ-loop
-loop-holds c = λ xs f. walk-start (λ (i : ℕ). i / 14) (drop 512 (now (c .before .before .before .before .before .before .args .index))) (λ (i : ℕ). like (now (c .before .before .before .before .before .before .args .list)) (c .before .before .before .before .before .before .args .at) (drop i (now (c .before .before .before .before .before .before .args .list)))) (λ (i : ℕ). i < (c .before .before .before .before .before .before .args .at)) xs (λ (i : ℕ). bucketOf (nameOf (now (c .before .before .before .before .before .before .args .list)) i)) (c .before .before .before .before .before .before .args .at) (take 512 (now (c .before .before .before .before .before .before .args .index))) (c .before .bucket .result) _ (c .before .bucket .ensures .1) (c .size-at .ensures .0 ∙ sym (getD-take 512 (now (c .before .before .before .before .before .before .args .index)) (c .before .bucket .result) 0 (c .before .bucket .ensures .1))) (λ i e. like-bucket (now (c .before .before .before .before .before .before .args .list)) (c .before .before .before .before .before .before .args .at) i e ∙ sym (c .before .bucket .ensures .0 ∙ ap (λ (v : ℕ). v % 512) (c .before .before .before .before .before .before .pre .1 .code))) f (held-low _ (λ (i : ℕ). i / 14) (c .before .before .before .before .before .before .args .at) (take 512 (now (c .before .before .before .before .before .before .args .index))) (drop 512 (now (c .before .before .before .before .before .before .args .index))) xs f)
+loop-holds c =
+    let c₁ = c .before in let bucket = c₁ .bucket in
+    let c₆ = c₁ .before .before .before .before .before in let args = c₆ .args in let pre = c₆ .pre in
+    let index = now (args .index) in let list = now (args .list) in
+    λ xs f. walk-start (λ (i : ℕ). i / 14) (drop 512 index) (λ (i : ℕ). like list (args .at) (drop i list)) (λ (i : ℕ). i < (args .at)) xs (λ (i : ℕ). bucketOf (nameOf list i)) (args .at) (take 512 index) (bucket .result) _ (bucket .ensures .1) (c .size-at .ensures .0 ∙ sym (getD-take 512 index (bucket .result) 0 (bucket .ensures .1))) (λ i e. like-bucket list (args .at) i e ∙ sym (bucket .ensures .0 ∙ ap (λ (v : ℕ). v % 512) (pre .1 .code))) f (held-low _ (λ (i : ℕ). i / 14) (args .at) (take 512 index) (drop 512 index) xs f)
 
 sub-i : tie.Need-sub-i Inv-loop μ-loop
 sub-i c = search needs
 
 named-requires : tie.Need-named-requires Inv-loop μ-loop
-named-requires c κs = omega (arith, walk-low (λ (i : ℕ). i / 14) (drop 512 (now (c .before .before .before .before .before .before .before .before .args .index))) (λ (i : ℕ). like (now (c .before .before .before .before .before .before .before .before .args .list)) (c .before .before .before .before .before .before .before .before .args .at) (drop i (now (c .before .before .before .before .before .before .before .before .args .list)))) (λ (i : ℕ). i < (c .before .before .before .before .before .before .before .before .args .at)) (c .before .before .before .before .before .before .before .before .pre .2 .places) (c .before .loop .link) (c .before .loop .link - 1) (omega (arith, c .loop-test .taken)) (c .before .loop .inv (c .before .before .before .before .before .before .before .before .pre .2 .places) (c .before .before .before .before .before .before .before .before .pre .2 .held)) .0, c .before .before .before .before .before .before .before .before .pre .0)
+named-requires c κs =
+    let c₁ = c .before in let loop = c₁ .loop in
+    let c₈ = c₁ .before .before .before .before .before .before .before in let args = c₈ .args in let pre = c₈ .pre in
+    let list = now (args .list) in
+    omega (arith, walk-low (λ (i : ℕ). i / 14) (drop 512 (now (args .index))) (λ (i : ℕ). like list (args .at) (drop i list)) (λ (i : ℕ). i < (args .at)) (pre .2 .places) (loop .link) (loop .link - 1) (omega (arith, c .loop-test .taken)) (loop .inv (pre .2 .places) (pre .2 .held)) .0, pre .0)
 
 returns : tie.Need-returns Inv-loop μ-loop
-returns c = λ xs f. sym (walk-here (λ (i : ℕ). i / 14) (drop 512 (now (c .before .before .before .before .before .before .before .before .before .before .args .index))) (λ (i : ℕ). like (now (c .before .before .before .before .before .before .before .before .before .before .args .list)) (c .before .before .before .before .before .before .before .before .before .before .args .at) (drop i (now (c .before .before .before .before .before .before .before .before .before .before .args .list)))) (λ (i : ℕ). i < (c .before .before .before .before .before .before .before .before .before .before .args .at)) xs (c .before .before .before .loop .link) (c .before .before .before .loop .link - 1) (omega (arith, c .before .before .loop-test .taken)) (c .before .before .before .loop .inv xs f) ((ap₂ (λ (a b : ℕ). isNamed a b (nameOf (now (c .before .before .before .before .before .before .before .before .before .before .args .list)) (c .before .before .before .before .before .before .before .before .before .before .args .at)) (drop (c .before .before .before .loop .link - 1) (now (c .before .before .before .before .before .before .before .before .before .before .args .list)))) (sym (c .before .before .before .before .before .before .before .byte .ensures)) (sym (c .before .before .before .before .before .before .byte2 .ensures)) ∙ sym (c .before .named .ensures (nameOf (now (c .before .before .before .before .before .before .before .before .before .before .args .list)) (c .before .before .before .before .before .before .before .before .before .before .args .at)) (c .before .before .before .before .before .before .before .before .before .before .pre .1))) ∙ c .if1 .taken))
+returns c =
+    let c₃ = c .before .before .before in let loop = c₃ .loop in
+    let c₆ = c₃ .before .before .before in let byte2 = c₆ .byte2 in
+    let c₇ = c₆ .before in let byte = c₇ .byte in
+    let c₁₀ = c₇ .before .before .before in let args = c₁₀ .args in let pre = c₁₀ .pre in
+    let list = now (args .list) in
+    λ xs f. sym (walk-here (λ (i : ℕ). i / 14) (drop 512 (now (args .index))) (λ (i : ℕ). like list (args .at) (drop i list)) (λ (i : ℕ). i < (args .at)) xs (loop .link) (loop .link - 1) (omega (arith, c .before .before .loop-test .taken)) (loop .inv xs f) ((ap₂ (λ (a b : ℕ). isNamed a b (nameOf list (args .at)) (drop (loop .link - 1) list)) (sym (byte .ensures)) (sym (byte2 .ensures)) ∙ sym (c .before .named .ensures (nameOf list (args .at)) (pre .1))) ∙ c .if1 .taken))
 
 add-size-at : tie.Need-add-size-at Inv-loop μ-loop
-add-size-at c = omega (arith, walk-low (λ (i : ℕ). i / 14) (drop 512 (now (c .before .before .before .before .before .before .before .before .before .before .args .index))) (λ (i : ℕ). like (now (c .before .before .before .before .before .before .before .before .before .before .args .list)) (c .before .before .before .before .before .before .before .before .before .before .args .at) (drop i (now (c .before .before .before .before .before .before .before .before .before .before .args .list)))) (λ (i : ℕ). i < (c .before .before .before .before .before .before .before .before .before .before .args .at)) (c .before .before .before .before .before .before .before .before .before .before .pre .2 .places) (c .before .before .before .loop .link) (c .before .before .before .loop .link - 1) (omega (arith, c .before .before .loop-test .taken)) (c .before .before .before .loop .inv (c .before .before .before .before .before .before .before .before .before .before .pre .2 .places) (c .before .before .before .before .before .before .before .before .before .before .pre .2 .held)) .0, c .before .before .before .before .before .before .before .before .before .before .pre .0)
+add-size-at c =
+    let c₃ = c .before .before .before in let loop = c₃ .loop in
+    let c₁₀ = c₃ .before .before .before .before .before .before .before in let args = c₁₀ .args in let pre = c₁₀ .pre in
+    let list = now (args .list) in
+    omega (arith, walk-low (λ (i : ℕ). i / 14) (drop 512 (now (args .index))) (λ (i : ℕ). like list (args .at) (drop i list)) (λ (i : ℕ). i < (args .at)) (pre .2 .places) (loop .link) (loop .link - 1) (omega (arith, c .before .before .loop-test .taken)) (loop .inv (pre .2 .places) (pre .2 .held)) .0, pre .0)
 
 size-at-requires-2 : tie.Need-size-at-requires-2 Inv-loop μ-loop
 size-at-requires-2 c κs = search needs
 
 loop-less : tie.Need-loop-less Inv-loop μ-loop
-loop-less c = omega (arith, walk-low (λ (i : ℕ). i / 14) (drop 512 (now (c .before .before .before .before .before .before .before .before .before .before .before .args .index))) (λ (i : ℕ). like (now (c .before .before .before .before .before .before .before .before .before .before .before .args .list)) (c .before .before .before .before .before .before .before .before .before .before .before .args .at) (drop i (now (c .before .before .before .before .before .before .before .before .before .before .before .args .list)))) (λ (i : ℕ). i < (c .before .before .before .before .before .before .before .before .before .before .before .args .at)) (c .before .before .before .before .before .before .before .before .before .before .before .pre .2 .places) (c .before .before .before .before .loop .link) (c .before .before .before .before .loop .link - 1) (omega (arith, c .before .before .before .loop-test .taken)) (c .before .before .before .before .loop .inv (c .before .before .before .before .before .before .before .before .before .before .before .pre .2 .places) (c .before .before .before .before .before .before .before .before .before .before .before .pre .2 .held)) .1, (c .size-at2 .ensures .0 ∙ sym (getD-drop 512 (now (c .before .before .before .before .before .before .before .before .before .before .before .args .index)) ((c .before .before .before .before .loop .link - 1) / 14) 0)), c .before .before .before .loop-test .taken)
+loop-less c =
+    let c₃ = c .before .before .before in let loop-test = c₃ .loop-test in
+    let c₄ = c₃ .before in let loop = c₄ .loop in
+    let c₁₁ = c₄ .before .before .before .before .before .before .before in let args = c₁₁ .args in let pre = c₁₁ .pre in
+    let index = now (args .index) in let list = now (args .list) in
+    omega (arith, walk-low (λ (i : ℕ). i / 14) (drop 512 index) (λ (i : ℕ). like list (args .at) (drop i list)) (λ (i : ℕ). i < (args .at)) (pre .2 .places) (loop .link) (loop .link - 1) (omega (arith, loop-test .taken)) (loop .inv (pre .2 .places) (pre .2 .held)) .1, (c .size-at2 .ensures .0 ∙ sym (getD-drop 512 index ((loop .link - 1) / 14) 0)), loop-test .taken)
 
 loop-again : tie.Need-loop-again Inv-loop μ-loop
-loop-again c = λ xs f. walk-on (λ (i : ℕ). i / 14) (drop 512 (now (c .before .before .before .before .before .before .before .before .before .before .before .args .index))) (λ (i : ℕ). like (now (c .before .before .before .before .before .before .before .before .before .before .before .args .list)) (c .before .before .before .before .before .before .before .before .before .before .before .args .at) (drop i (now (c .before .before .before .before .before .before .before .before .before .before .before .args .list)))) (λ (i : ℕ). i < (c .before .before .before .before .before .before .before .before .before .before .before .args .at)) xs (c .before .before .before .before .loop .link) (c .before .before .before .before .loop .link - 1) (omega (arith, c .before .before .before .loop-test .taken)) (c .before .before .before .before .loop .inv xs f) _ ((ap₂ (λ (a b : ℕ). isNamed a b (nameOf (now (c .before .before .before .before .before .before .before .before .before .before .before .args .list)) (c .before .before .before .before .before .before .before .before .before .before .before .args .at)) (drop (c .before .before .before .before .loop .link - 1) (now (c .before .before .before .before .before .before .before .before .before .before .before .args .list)))) (sym (c .before .before .before .before .before .before .before .before .byte .ensures)) (sym (c .before .before .before .before .before .before .before .byte2 .ensures)) ∙ sym (c .before .before .named .ensures (nameOf (now (c .before .before .before .before .before .before .before .before .before .before .before .args .list)) (c .before .before .before .before .before .before .before .before .before .before .before .args .at)) (c .before .before .before .before .before .before .before .before .before .before .before .pre .1))) ∙ c .before .if1 .left) ((c .size-at2 .ensures .0 ∙ sym (getD-drop 512 (now (c .before .before .before .before .before .before .before .before .before .before .before .args .index)) ((c .before .before .before .before .loop .link - 1) / 14) 0)))
+loop-again c =
+    let c₃ = c .before .before .before in let loop-test = c₃ .loop-test in
+    let c₄ = c₃ .before in let loop = c₄ .loop in
+    let c₇ = c₄ .before .before .before in let byte2 = c₇ .byte2 in
+    let c₈ = c₇ .before in let byte = c₈ .byte in
+    let c₁₁ = c₈ .before .before .before in let args = c₁₁ .args in let pre = c₁₁ .pre in
+    let index = now (args .index) in let list = now (args .list) in
+    λ xs f. walk-on (λ (i : ℕ). i / 14) (drop 512 index) (λ (i : ℕ). like list (args .at) (drop i list)) (λ (i : ℕ). i < (args .at)) xs (loop .link) (loop .link - 1) (omega (arith, loop-test .taken)) (loop .inv xs f) _ ((ap₂ (λ (a b : ℕ). isNamed a b (nameOf list (args .at)) (drop (loop .link - 1) list)) (sym (byte .ensures)) (sym (byte2 .ensures)) ∙ sym (c .before .before .named .ensures (nameOf list (args .at)) (pre .1))) ∙ c .before .if1 .left) ((c .size-at2 .ensures .0 ∙ sym (getD-drop 512 index ((loop .link - 1) / 14) 0)))
 
 returns-2 : tie.Need-returns-2 Inv-loop μ-loop
-returns-2 c = λ xs f. sym (walk-none (λ (i : ℕ). i / 14) (drop 512 (now (c .before .before .before .before .before .before .before .before .args .index))) (λ (i : ℕ). like (now (c .before .before .before .before .before .before .before .before .args .list)) (c .before .before .before .before .before .before .before .before .args .at) (drop i (now (c .before .before .before .before .before .before .before .before .args .list)))) (λ (i : ℕ). i < (c .before .before .before .before .before .before .before .before .args .at)) xs (c .before .loop .link) (omega (arith, c .loop-test .left)) (c .before .loop .inv xs f))
+returns-2 c =
+    let c₁ = c .before in let loop = c₁ .loop in
+    let c₈ = c₁ .before .before .before .before .before .before .before in let args = c₈ .args in
+    let list = now (args .list) in
+    λ xs f. sym (walk-none (λ (i : ℕ). i / 14) (drop 512 (now (args .index))) (λ (i : ℕ). like list (args .at) (drop i list)) (λ (i : ℕ). i < (args .at)) xs (loop .link) (omega (arith, c .loop-test .left)) (loop .inv xs f))
 
 pub known-spec : {M : Type 1} → statement M
 known-spec =

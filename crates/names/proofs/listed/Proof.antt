@@ -42,16 +42,32 @@ same-length : tie.Need-same-length Inv-loop μ-loop
 same-length c = search needs
 
 returns : tie.Need-returns Inv-loop μ-loop
-returns c = (left-bad (now (c .before .before .before .before .before .before .args .list)) (length (drop 512 (now (c .before .before .before .before .before .before .args .index)))) (c .before .before .before .loop .at) _ _ (c .before .before .loop-test .taken) (c .before .before .before .loop .inv .0) (not-well (now (c .before .before .before .before .before .before .args .list)) (c .before .before .before .loop .at) _ (c .before .record-code .ensures) (c .if1 .taken)), λ z. clash z)
+returns c =
+    let c₃ = c .before .before .before in let loop = c₃ .loop in
+    let c₆ = c₃ .before .before .before in let args = c₆ .args in
+    let list = now (args .list) in
+    (left-bad list (length (drop 512 (now (args .index)))) (loop .at) _ _ (c .before .before .loop-test .taken) (loop .inv .0) (not-well list (loop .at) _ (c .before .record-code .ensures) (c .if1 .taken)), λ z. clash z)
 
 fresh-requires : tie.Need-fresh-requires Inv-loop μ-loop
-fresh-requires c κs = (omega (arith, c .before .before .before .loop-test .taken), c .before .before .record-code .ensures, omega (arith, c .before .if1 .left), omega (arith, c .before .before .before .before .loop .inv .1, c .before .before .before .before .before .before .before .pre .0), omega (arith, c .before .before .before .before .loop .inv .1, c .before .before .before .before .before .before .before .pre .1), chained (now (c .before .before .before .before .before .before .before .args .list)) (length (drop 512 (now (c .before .before .before .before .before .before .before .args .index)))) _ _ _ (c .before .before .before .before .loop .inv .0))
+fresh-requires c κs =
+    let c₃ = c .before .before .before in let loop-test = c₃ .loop-test in
+    let c₄ = c₃ .before in let loop = c₄ .loop in
+    let c₇ = c₄ .before .before .before in let args = c₇ .args in let pre = c₇ .pre in
+    (omega (arith, loop-test .taken), c .before .before .record-code .ensures, omega (arith, c .before .if1 .left), omega (arith, loop .inv .1, pre .0), omega (arith, loop .inv .1, pre .1), chained (now (args .list)) (length (drop 512 (now (args .index)))) _ _ _ (loop .inv .0))
 
 same-length-2 : tie.Need-same-length-2 Inv-loop μ-loop
 same-length-2 c = search needs
 
 returns-2 : tie.Need-returns-2 Inv-loop μ-loop
-returns-2 c = (left-twice (now (c .before .before .before .before .before .before .before .before .before .before .before .args .list)) (length (drop 512 (now (c .before .before .before .before .before .before .before .before .before .before .before .args .index)))) (c .before .before .before .before .before .before .before .before .loop .at) _ _ (c .before .before .before .before .before .before .before .loop-test .taken) (c .before .before .before .before .before .before .before .before .loop .inv .0) (is-well (now (c .before .before .before .before .before .before .before .before .before .before .before .args .list)) (c .before .before .before .before .before .before .before .before .loop .at) _ (c .before .before .before .before .before .before .record-code .ensures) (omega (arith, c .before .before .before .before .before .if1 .left)) .0) _ _ (c .before .before .before .fresh .result) (c .before .before .before .fresh .ensures (c .before .before .before .before .before .before .before .before .loop .inv .0 .places) (c .before .before .before .before .before .before .before .before .loop .inv .0 .held)) (not-true (c .before .before .before .fresh .result) (c .if2 .taken)), λ z. clash z)
+returns-2 c =
+    let c₃ = c .before .before .before in let fresh = c₃ .fresh in
+    let c₅ = c₃ .before .before in let if1 = c₅ .if1 in
+    let c₆ = c₅ .before in let record-code = c₆ .record-code in
+    let c₇ = c₆ .before in let loop-test = c₇ .loop-test in
+    let c₈ = c₇ .before in let loop = c₈ .loop in
+    let c₁₁ = c₈ .before .before .before in let args = c₁₁ .args in
+    let list = now (args .list) in
+    (left-twice list (length (drop 512 (now (args .index)))) (loop .at) _ _ (loop-test .taken) (loop .inv .0) (is-well list (loop .at) _ (record-code .ensures) (omega (arith, if1 .left)) .0) _ _ (fresh .result) (fresh .ensures (loop .inv .0 .places) (loop .inv .0 .held)) (not-true (fresh .result) (c .if2 .taken)), λ z. clash z)
 
 byte-requires : tie.Need-byte-requires Inv-loop μ-loop
 byte-requires c κs = search needs
@@ -69,13 +85,25 @@ loop-less : tie.Need-loop-less Inv-loop μ-loop
 loop-less c = search needs
 
 loop-again : tie.Need-loop-again Inv-loop μ-loop
-loop-again c = (left-next (now (c .before .before .before .before .before .before .before .before .before .before .before .before .before .args .list)) (length (drop 512 (now (c .before .before .before .before .before .before .before .before .before .before .before .before .before .args .index)))) (c .before .before .before .before .before .before .before .before .before .before .loop .at) _ _ (c .before .before .before .before .before .before .before .before .before .loop-test .taken) (c .before .before .before .before .before .before .before .before .before .before .loop .inv .0) (is-well (now (c .before .before .before .before .before .before .before .before .before .before .before .before .before .args .list)) (c .before .before .before .before .before .before .before .before .before .before .loop .at) _ (c .before .before .before .before .before .before .before .before .record-code .ensures) (omega (arith, c .before .before .before .before .before .before .before .if1 .left)) .0) _ _ (c .before .before .before .before .before .fresh .result) (c .before .before .before .before .before .fresh .ensures (c .before .before .before .before .before .before .before .before .before .before .loop .inv .0 .places) (c .before .before .before .before .before .before .before .before .before .before .loop .inv .0 .held)) (not-false (c .before .before .before .before .before .fresh .result) (c .before .before .if2 .left)) (nexts-same (c .before .before .before .before .before .fresh .last .1 .1 .1 .0) (now (c .before .before .before .before .before .before .before .before .before .before .before .before .before .args .index)) (c .before .before .before .before .before .fresh .kept .1 .1 .1 .0 ∙ c .before .before .before .before .before .before .before .before .before .before .loop .inv .1)) (here-room (now (c .before .before .before .before .before .before .before .before .before .before .before .before .before .args .list)) (c .before .before .before .before .before .before .before .before .before .before .loop .at) _ (c .before .before .before .before .before .before .before .before .record-code .ensures) (omega (arith, c .before .before .before .before .before .before .before .if1 .left))) _ (ap (λ (i : ℕ). c .before .before .before .before .before .before .before .before .before .before .loop .at + (i + 12)) (c .place .ensures .0 ∙ ap placeOf (c .before .byte .ensures))), c .before .before .before .before .before .fresh .kept .1 .1 .1 .0 ∙ c .before .before .before .before .before .before .before .before .before .before .loop .inv .1)
+loop-again c =
+    let c₅ = c .before .before .before .before .before in let fresh = c₅ .fresh in
+    let c₇ = c₅ .before .before in let if1 = c₇ .if1 in
+    let c₈ = c₇ .before in let record-code = c₈ .record-code in
+    let c₉ = c₈ .before in let loop-test = c₉ .loop-test in
+    let c₁₀ = c₉ .before in let loop = c₁₀ .loop in
+    let c₁₃ = c₁₀ .before .before .before in let args = c₁₃ .args in
+    let index = now (args .index) in let list = now (args .list) in
+    (left-next list (length (drop 512 index)) (loop .at) _ _ (loop-test .taken) (loop .inv .0) (is-well list (loop .at) _ (record-code .ensures) (omega (arith, if1 .left)) .0) _ _ (fresh .result) (fresh .ensures (loop .inv .0 .places) (loop .inv .0 .held)) (not-false (fresh .result) (c .before .before .if2 .left)) (nexts-same (fresh .last .1 .1 .1 .0) index (fresh .kept .1 .1 .1 .0 ∙ loop .inv .1)) (here-room list (loop .at) _ (record-code .ensures) (omega (arith, if1 .left))) _ (ap (λ (i : ℕ). loop .at + (i + 12)) (c .place .ensures .0 ∙ ap placeOf (c .before .byte .ensures))), fresh .kept .1 .1 .1 .0 ∙ loop .inv .1)
 
 same-length-3 : tie.Need-same-length-3 Inv-loop μ-loop
 same-length-3 c = search needs
 
 returns-3 : tie.Need-returns-3 Inv-loop μ-loop
-returns-3 c = (left-end (now (c .before .before .before .before .args .list)) (length (drop 512 (now (c .before .before .before .before .args .index)))) (c .before .loop .at) _ _ (c .loop-test .left) (c .before .loop .inv .0), λ z. record { room = omega (arith, c .before .loop .inv .1, c .before .before .before .before .pre .0); most = omega (arith, c .before .loop .inv .1, c .before .before .before .before .pre .1); chains = left-indexed (now (c .before .before .before .before .args .list)) (length (drop 512 (now (c .before .before .before .before .args .index)))) (c .before .loop .at) _ _ (nexts-same (c .before .loop .index) (now (c .before .before .before .before .args .index)) (c .before .loop .inv .1)) (c .loop-test .left) (c .before .loop .inv .0) })
+returns-3 c =
+    let c₁ = c .before in let loop = c₁ .loop in
+    let c₄ = c₁ .before .before .before in let args = c₄ .args in let pre = c₄ .pre in
+    let index = now (args .index) in let list = now (args .list) in
+    (left-end list (length (drop 512 index)) (loop .at) _ _ (c .loop-test .left) (loop .inv .0), λ z. record { room = omega (arith, loop .inv .1, pre .0); most = omega (arith, loop .inv .1, pre .1); chains = left-indexed list (length (drop 512 index)) (loop .at) _ _ (nexts-same (loop .index) index (loop .inv .1)) (c .loop-test .left) (loop .inv .0) })
 
 pub listed-spec : {M : Type 1} → statement M
 listed-spec =

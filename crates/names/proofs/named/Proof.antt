@@ -26,10 +26,21 @@ returns : tie.Need-returns
 returns c = λ w s. walk.named-kind (now (c .before .before .before .args .list)) (c .before .before .before .args .at) (c .before .byte .result) (c .before .before .before .args .kind) (c .before .before .before .args .relation) w (c .before .byte .ensures) (c .if1 .taken)
 
 returns-2 : tie.Need-returns-2
-returns-2 c = λ w s. walk.named-apart (now (c .before .before .before .before .before .args .list)) (c .before .before .before .before .before .args .at) (c .before .before .before .byte .result) (c .before .before .before .before .before .args .kind) (c .before .before .before .before .before .args .relation) w (c .before .before .before .byte .ensures) (c .before .before .if1 .left) (c .before .belongs .result) (c .before .belongs .ensures) (c .if2 .taken)
+returns-2 c =
+    let c₁ = c .before in let belongs = c₁ .belongs in
+    let c₃ = c₁ .before .before in let byte = c₃ .byte in
+    let c₅ = c₃ .before .before in let args = c₅ .args in
+    λ w s. walk.named-apart (now (args .list)) (args .at) (byte .result) (args .kind) (args .relation) w (byte .ensures) (c .before .before .if1 .left) (belongs .result) (belongs .ensures) (c .if2 .taken)
 
 returns-3 : tie.Need-returns-3
-returns-3 c = λ w s. walk.named-is (now (c .before .before .before .before .before .before .before .args .list)) (c .before .before .before .before .before .before .before .args .at) (c .before .before .before .before .before .byte .result) (c .before .before .before .before .before .before .before .args .kind) (c .before .before .before .before .before .before .before .args .relation) w (c .before .before .before .before .before .byte .ensures) (c .before .before .before .before .if1 .left) (c .before .before .before .belongs .result) (c .before .before .before .belongs .ensures) (c .before .place .result) _ (c .before .before .if2 .left) (c .before .place .ensures .0) (words.same-code-as (now (c .before .before .before .before .before .before .before .args .list)) ((c .before .before .before .before .before .before .before .args .at) + c .before .place .result) _ (c .before .before .before .before .before .before .before .args .code) w (c .letters .ensures .1) s)
+returns-3 c =
+    let c₁ = c .before in let place = c₁ .place in
+    let c₃ = c₁ .before .before in let belongs = c₃ .belongs in
+    let c₄ = c₃ .before in let if1 = c₄ .if1 in
+    let c₅ = c₄ .before in let byte = c₅ .byte in
+    let c₇ = c₅ .before .before in let args = c₇ .args in
+    let list = now (args .list) in
+    λ w s. walk.named-is list (args .at) (byte .result) (args .kind) (args .relation) w (byte .ensures) (if1 .left) (belongs .result) (belongs .ensures) (place .result) _ (c .before .before .if2 .left) (place .ensures .0) (words.same-code-as list ((args .at) + place .result) _ (args .code) w (c .letters .ensures .1) s)
 
 pub named-spec : {M : Type 1} → statement M
 named-spec =

@@ -21,7 +21,11 @@ returns-2 : tie.Need-returns-2
 returns-2 c = letters-high (now (c .before .before .before .before .args .list)) (c .before .before .before .before .args .at) (c .before .before .byte .result) (c .before .before .byte .ensures) (c .if2 .taken)
 
 returns-3 : tie.Need-returns-3
-returns-3 c = letters-between (now (c .before .before .before .before .before .before .args .list)) (c .before .before .before .before .before .before .args .at) (c .before .before .before .before .byte .result) (c .before .before .before .before .byte .ensures) _ _ (c .before .before .before .if1 .left) (c .before .before .if2 .left) (c .before .place .ensures .0) (c .good-code .ensures)
+returns-3 c =
+    let c₃ = c .before .before .before in let if1 = c₃ .if1 in
+    let c₄ = c₃ .before in let byte = c₄ .byte in
+    let c₆ = c₄ .before .before in let args = c₆ .args in
+    letters-between (now (args .list)) (args .at) (byte .result) (byte .ensures) _ _ (if1 .left) (c .before .before .if2 .left) (c .before .place .ensures .0) (c .good-code .ensures)
 
 pub record-code-spec : {M : Type 1} → statement M
 record-code-spec =

@@ -14,15 +14,14 @@ use Rattle.reader.proofs.read_short.Lts as lts
 use Rattle.reader.proofs.read_with.Reads as read-with-reads
 
 read-with-requires : tie.Need-read-with-requires
-read-with-requires c κs = (λ l. (omega (arith, c .before .before .before .before .before .before .before .before .before .before .before .before .before .before .before .before .pre), omega (arith, c .before .before .before .before .before .before .before .before .before .before .before .before .before .before .before .before .pre), omega (arith, c .before .before .before .before .before .before .before .before .before .before .before .before .before .before .before .before .pre), omega (arith, c .before .before .before .before .before .before .before .before .before .before .before .before .before .before .before .before .pre)), ((λ l. (omega (arith, c .before .before .before .before .before .before .before .before .before .before .before .before .before .before .before .before .pre), omega (arith, c .before .before .before .before .before .before .before .before .before .before .before .before .before .before .before .before .pre), omega (arith, c .before .before .before .before .before .before .before .before .before .before .before .before .before .before .before .before .pre), omega (arith, c .before .before .before .before .before .before .before .before .before .before .before .before .before .before .before .before .pre), omega (arith, c .before .before .before .before .before .before .before .before .before .before .before .before .before .before .before .before .pre), omega (arith, c .before .before .before .before .before .before .before .before .before .before .before .before .before .before .before .before .pre)), omega arith, omega arith, omega arith), (cleared 768, cleared 255, cleared 256, cleared 256)))
+read-with-requires c κs =
+    let c₁₃ = c .before .before .before .before .before .before .before .before .before .before .before .before .before in let pre = c₁₃ .pre in
+    (λ l. (omega (arith, pre), omega (arith, pre), omega (arith, pre), omega (arith, pre)), ((λ l. (omega (arith, pre), omega (arith, pre), omega (arith, pre)), omega arith, omega arith, omega arith), (cleared 768, cleared 255, cleared 256)))
 
 pub read-short-spec : {M : Type 1} → statement M
 read-short-spec =
     tie.close
     (tie.spec
-    (λ c. search needs)
-    (λ c. search needs)
-    (λ c. search needs)
     (λ c. search needs)
     (λ c. search needs)
     (λ c. search needs)

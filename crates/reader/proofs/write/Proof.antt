@@ -19,28 +19,63 @@ use Rattle.elaborate.proofs.elaborate.Reads as elaborate-reads
 use Rattle.reader.proofs.refused.Reads as refused-reads
 
 elaborate-requires : tie.Need-elaborate-requires
-elaborate-requires c κs = ((omega (arith, c .before .before .before .before .before .before .before .before .before .before .before .before .before .before .before .before .pre .0 .0), c .before .before .before .before .before .before .before .before .before .before .before .before .before .before .before .before .pre .0 .1, c .before .before .before .before .before .before .before .before .before .before .before .before .before .before .before .before .pre .0 .2, c .before .before .before .before .before .before .before .before .before .before .before .before .before .before .before .before .pre .0 .3, c .before .before .before .before .before .before .before .before .before .before .before .before .before .before .before .before .pre .1 .0, c .before .before .before .before .before .before .before .before .before .before .before .before .before .before .before .before .pre .1 .1), (c .before .before .before .before .before .before .before .before .before .before .before .before .before .before .before .before .pre .1 .2, c .before .before .before .before .before .before .before .before .before .before .before .before .before .before .before .before .pre .1 .3))
+elaborate-requires c κs =
+    let c₁₀ = c .before .before .before .before .before .before .before .before .before .before in let pre = c₁₀ .pre in
+    (pre .0, pre .2, pre .3, pre .4)
 
 returns : tie.Need-returns
-returns c = λ text ss ls rd. no-name (c .before .before .before .before .before .before .before .before .before .before .before .elaborate .result) (recordsOf text (table (now (c .before .before .before .before .before .before .before .before .before .before .before .before .before .before .before .before .before .before .before .before .before .before .before .before .before .before .before .before .args .kinds)) ss ls (now (c .before .before .before .before .before .before .before .before .before .before .before .before .before .before .before .before .before .before .before .before .before .before .before .before .before .before .before .before .args .numbers))) (now (c .before .before .before .before .before .before .before .before .before .before .before .before .before .before .before .before .before .before .before .before .before .before .before .before .before .before .before .before .args .list))) (now (c .before .before .before .before .before .before .before .before .before .before .before .before .before .before .before .before .before .before .before .before .before .before .before .before .before .before .before .before .args .out)) (measures (now (c .before .before .before .before .before .before .before .before .before .before .before .before .before .before .before .before .before .before .before .before .before .before .before .before .before .before .before .before .args .draft)) (c .before .before .before .before .before .before .before .before .before .before .before .elaborate .last .1 .1 .1 .1 .1 .1 .1 .1 .1 .1 .0) (recordsOf text (table (now (c .before .before .before .before .before .before .before .before .before .before .before .before .before .before .before .before .before .before .before .before .before .before .before .before .before .before .before .before .args .kinds)) ss ls (now (c .before .before .before .before .before .before .before .before .before .before .before .before .before .before .before .before .before .before .before .before .before .before .before .before .before .before .before .before .args .numbers))) (now (c .before .before .before .before .before .before .before .before .before .before .before .before .before .before .before .before .before .before .before .before .before .before .before .before .before .before .before .before .args .list))) (c .before .before .before .before .before .before .before .before .before .before .before .elaborate .result) (c .before .before .before .before .before .before .before .before .before .before .before .elaborate .ensures text ss ls rd)) (c .before .enum-told .given .1) _ (c .refused .ensures)
+returns c =
+    let c₅ = c .before .before .before .before .before in let elaborate = c₅ .elaborate in
+    let c₁₆ = c₅ .before .before .before .before .before .before .before .before .before .before .before in let args = c₁₆ .args in
+    let kinds = now (args .kinds) in let list = now (args .list) in let numbers = now (args .numbers) in
+    λ text ss ls rd. no-name (elaborate .result) (recordsOf text (table kinds ss ls numbers) list) (now (args .out)) (measures (now (args .draft)) (elaborate .last .1 .1 .1 .1 .1 .1 .1 .0) (recordsOf text (table kinds ss ls numbers) list) (elaborate .result) (elaborate .ensures text ss ls rd)) (c .before .enum-told .given .1) _ (c .refused .ensures)
 
 returns-2 : tie.Need-returns-2
-returns-2 c = λ text ss ls rd. too-long (c .before .before .before .before .before .before .before .before .before .before .before .before .before .elaborate .result) (recordsOf text (table (now (c .before .before .before .before .before .before .before .before .before .before .before .before .before .before .before .before .before .before .before .before .before .before .before .before .before .before .before .before .before .before .args .kinds)) ss ls (now (c .before .before .before .before .before .before .before .before .before .before .before .before .before .before .before .before .before .before .before .before .before .before .before .before .before .before .before .before .before .before .args .numbers))) (now (c .before .before .before .before .before .before .before .before .before .before .before .before .before .before .before .before .before .before .before .before .before .before .before .before .before .before .before .before .before .before .args .list))) (now (c .before .before .before .before .before .before .before .before .before .before .before .before .before .before .before .before .before .before .before .before .before .before .before .before .before .before .before .before .before .before .args .out)) (measures (now (c .before .before .before .before .before .before .before .before .before .before .before .before .before .before .before .before .before .before .before .before .before .before .before .before .before .before .before .before .before .before .args .draft)) (c .before .before .before .before .before .before .before .before .before .before .before .before .before .elaborate .last .1 .1 .1 .1 .1 .1 .1 .1 .1 .1 .0) (recordsOf text (table (now (c .before .before .before .before .before .before .before .before .before .before .before .before .before .before .before .before .before .before .before .before .before .before .before .before .before .before .before .before .before .before .args .kinds)) ss ls (now (c .before .before .before .before .before .before .before .before .before .before .before .before .before .before .before .before .before .before .before .before .before .before .before .before .before .before .before .before .before .before .args .numbers))) (now (c .before .before .before .before .before .before .before .before .before .before .before .before .before .before .before .before .before .before .before .before .before .before .before .before .before .before .before .before .before .before .args .list))) (c .before .before .before .before .before .before .before .before .before .before .before .before .before .elaborate .result) (c .before .before .before .before .before .before .before .before .before .before .before .before .before .elaborate .ensures text ss ls rd)) (c .before .before .before .length .given .0 .0) (c .before .before .before .length .given .1) (c .before .if1 .taken) _ (c .refused2 .ensures)
+returns-2 c =
+    let c₃ = c .before .before .before in let length = c₃ .length in
+    let c₇ = c₃ .before .before .before .before in let elaborate = c₇ .elaborate in
+    let c₁₈ = c₇ .before .before .before .before .before .before .before .before .before .before .before in let args = c₁₈ .args in
+    let kinds = now (args .kinds) in let list = now (args .list) in let numbers = now (args .numbers) in
+    λ text ss ls rd. too-long (elaborate .result) (recordsOf text (table kinds ss ls numbers) list) (now (args .out)) (measures (now (args .draft)) (elaborate .last .1 .1 .1 .1 .1 .1 .1 .0) (recordsOf text (table kinds ss ls numbers) list) (elaborate .result) (elaborate .ensures text ss ls rd)) (length .given .0 .0) (length .given .1) (c .before .if1 .taken) _ (c .refused2 .ensures)
 
 slice-aggregate-copy : tie.Need-slice-aggregate-copy
-slice-aggregate-copy c = sym (length-take-le (c .before .before .before .before .before .length .given .0 .0) (c .before .before .before .before .before .before .before .before .before .before .before .before .before .before .before .elaborate .last .1 .1 .1 .1 .1 .1 .1 .1 .1 .1 .0) (c .before .before .if2 .taken))
+slice-aggregate-copy c =
+    let c₅ = c .before .before .before .before .before in let length = c₅ .length in
+    let c₉ = c₅ .before .before .before .before in let elaborate = c₉ .elaborate in
+    sym (length-take-le (length .given .0 .0) (elaborate .last .1 .1 .1 .1 .1 .1 .1 .0) (c .before .before .if2 .taken))
 
 copy-requires : tie.Need-copy-requires
-copy-requires c κs = omega (arith, length-take-le (c .before .before .before .before .before .length .given .0 .0) (c .before .before .before .before .before .before .before .before .before .before .before .before .before .before .before .elaborate .last .1 .1 .1 .1 .1 .1 .1 .1 .1 .1 .0) (c .before .before .if2 .taken), c .before .before .if2 .taken, c .before .before .before .before .before .before .before .before .before .before .before .before .before .before .before .elaborate .kept .1 .1 .1 .1 .1 .1 .1 .1 .1 .1 .0, c .before .before .before .before .before .before .before .before .before .before .before .before .before .before .before .before .before .before .before .before .before .before .before .before .before .before .before .before .before .before .before .before .pre .0 .4)
+copy-requires c κs =
+    let c₂ = c .before .before in let if2 = c₂ .if2 in
+    let c₅ = c₂ .before .before .before in let length = c₅ .length in
+    let c₉ = c₅ .before .before .before .before in let elaborate = c₉ .elaborate in
+    let c₂₀ = c₉ .before .before .before .before .before .before .before .before .before .before .before in let pre = c₂₀ .pre in
+    omega (arith, length-take-le (length .given .0 .0) (elaborate .last .1 .1 .1 .1 .1 .1 .1 .0) (if2 .taken), if2 .taken, elaborate .kept .1 .1 .1 .1 .1 .1 .1 .0, pre .1)
 
 returns-3 : tie.Need-returns-3
-returns-3 c = λ text ss ls rd. copied (c .before .before .before .before .before .before .before .before .before .before .before .before .before .before .before .before .before .before .elaborate .result) (recordsOf text (table (now (c .before .before .before .before .before .before .before .before .before .before .before .before .before .before .before .before .before .before .before .before .before .before .before .before .before .before .before .before .before .before .before .before .before .before .before .args .kinds)) ss ls (now (c .before .before .before .before .before .before .before .before .before .before .before .before .before .before .before .before .before .before .before .before .before .before .before .before .before .before .before .before .before .before .before .before .before .before .before .args .numbers))) (now (c .before .before .before .before .before .before .before .before .before .before .before .before .before .before .before .before .before .before .before .before .before .before .before .before .before .before .before .before .before .before .before .before .before .before .before .args .list))) (now (c .before .before .before .before .before .before .before .before .before .before .before .before .before .before .before .before .before .before .before .before .before .before .before .before .before .before .before .before .before .before .before .before .before .before .before .args .out)) (measures (now (c .before .before .before .before .before .before .before .before .before .before .before .before .before .before .before .before .before .before .before .before .before .before .before .before .before .before .before .before .before .before .before .before .before .before .before .args .draft)) (c .before .before .before .before .before .before .before .before .before .before .before .before .before .before .before .before .before .before .elaborate .last .1 .1 .1 .1 .1 .1 .1 .1 .1 .1 .0) (recordsOf text (table (now (c .before .before .before .before .before .before .before .before .before .before .before .before .before .before .before .before .before .before .before .before .before .before .before .before .before .before .before .before .before .before .before .before .before .before .before .args .kinds)) ss ls (now (c .before .before .before .before .before .before .before .before .before .before .before .before .before .before .before .before .before .before .before .before .before .before .before .before .before .before .before .before .before .before .before .before .before .before .before .args .numbers))) (now (c .before .before .before .before .before .before .before .before .before .before .before .before .before .before .before .before .before .before .before .before .before .before .before .before .before .before .before .before .before .before .before .before .before .before .before .args .list))) (c .before .before .before .before .before .before .before .before .before .before .before .before .before .before .before .before .before .before .elaborate .result) (c .before .before .before .before .before .before .before .before .before .before .before .before .before .before .before .before .before .before .elaborate .ensures text ss ls rd)) (c .before .before .before .before .before .before .before .before .length .given .0 .0) (c .before .before .before .before .before .before .before .before .length .given .1) (c .before .before .before .before .before .before .if1 .left) (now (c .before .before .before .before .before .before .before .before .before .before .before .before .before .before .before .before .before .before .before .before .before .before .before .before .before .before .before .before .before .before .before .before .before .before .before .args .draft)) (c .before .before .before .before .before .before .before .before .before .before .before .before .before .before .before .before .before .before .elaborate .last .1 .1 .1 .1 .1 .1 .1 .1 .1 .1 .0) (omega (arith, c .before .before .before .before .before .if2 .taken, c .before .before .before .before .before .before .before .before .before .before .before .before .before .before .before .before .before .before .elaborate .kept .1 .1 .1 .1 .1 .1 .1 .1 .1 .1 .0)) (c .before .before .before .before .before .before .before .before .before .before .before .before .before .before .before .before .before .before .elaborate .ensures text ss ls rd) _ (c .before .before .copy .ensures .1)
+returns-3 c =
+    let c₅ = c .before .before .before .before .before in let if2 = c₅ .if2 in
+    let c₆ = c₅ .before in let if1 = c₆ .if1 in
+    let c₈ = c₆ .before .before in let length = c₈ .length in
+    let c₁₂ = c₈ .before .before .before .before in let elaborate = c₁₂ .elaborate in
+    let c₂₃ = c₁₂ .before .before .before .before .before .before .before .before .before .before .before in let args = c₂₃ .args in
+    let draft = now (args .draft) in let kinds = now (args .kinds) in let list = now (args .list) in let numbers = now (args .numbers) in
+    λ text ss ls rd. copied (elaborate .result) (recordsOf text (table kinds ss ls numbers) list) (now (args .out)) (measures draft (elaborate .last .1 .1 .1 .1 .1 .1 .1 .0) (recordsOf text (table kinds ss ls numbers) list) (elaborate .result) (elaborate .ensures text ss ls rd)) (length .given .0 .0) (length .given .1) (if1 .left) draft (elaborate .last .1 .1 .1 .1 .1 .1 .1 .0) (omega (arith, if2 .taken, elaborate .kept .1 .1 .1 .1 .1 .1 .1 .0)) (elaborate .ensures text ss ls rd) _ (c .before .before .copy .ensures .1)
 
 elaborate-requires-2 : tie.Need-elaborate-requires-2
-elaborate-requires-2 c κs = ((omega (arith, c .before .before .before .before .before .before .before .before .before .before .before .before .before .before .before .before .before .before .before .before .before .before .before .before .before .before .before .before .before .before .before .before .before .before .pre .0 .0), omega (arith, c .before .before .before .before .before .before .before .before .before .before .before .before .before .before .before .before .before .elaborate .kept .1 .1 .1 .1 .1 .1 .1 .0, c .before .before .before .before .before .before .before .before .before .before .before .before .before .before .before .before .before .before .before .before .before .before .before .before .before .before .before .before .before .before .before .before .before .before .pre .0 .1), omega (arith, c .before .before .before .before .before .before .before .before .before .before .before .before .before .before .before .before .before .before .before .before .before .before .before .before .before .before .before .before .before .before .before .before .before .before .pre .0 .5), omega (arith, c .before .before .before .before .before .before .before .before .before .before .before .before .before .before .before .before .before .elaborate .kept .1 .1 .1 .1 .1 .1 .1 .1 .1 .0, c .before .before .before .before .before .before .before .before .before .before .before .before .before .before .before .before .before .before .before .before .before .before .before .before .before .before .before .before .before .before .before .before .before .before .pre .0 .3), c .before .before .before .before .before .before .before .before .before .before .before .before .before .before .before .before .before .before .before .before .before .before .before .before .before .before .before .before .before .before .before .before .before .before .pre .1 .0, cleared 2001), (c .before .before .before .before .before .before .before .before .before .before .before .before .before .before .before .before .before .before .before .before .before .before .before .before .before .before .before .before .before .before .before .before .before .before .pre .1 .2, c .before .before .before .before .before .before .before .before .before .before .before .before .before .before .before .before .before .before .before .before .before .before .before .before .before .before .before .before .before .before .before .before .before .before .pre .1 .3))
+elaborate-requires-2 c κs =
+    let c₁₉ = c .before .before .before .before .before .before .before .before .before .before .before .before .before .before .before .before .before .before .before in let pre = c₁₉ .pre in
+    (pre .0, pre .2, pre .3, pre .4)
 
 returns-4 : tie.Need-returns-4
-returns-4 c = λ text ss ls rd. fits (c .before .before .before .before .before .before .before .before .before .before .before .before .before .before .before .before .before .before .before .before .before .before .before .before .before .elaborate .result) (recordsOf text (table (now (c .before .before .before .before .before .before .before .before .before .before .before .before .before .before .before .before .before .before .before .before .before .before .before .before .before .before .before .before .before .before .before .before .before .before .before .before .before .before .before .before .before .before .args .kinds)) ss ls (now (c .before .before .before .before .before .before .before .before .before .before .before .before .before .before .before .before .before .before .before .before .before .before .before .before .before .before .before .before .before .before .before .before .before .before .before .before .before .before .before .before .before .before .args .numbers))) (now (c .before .before .before .before .before .before .before .before .before .before .before .before .before .before .before .before .before .before .before .before .before .before .before .before .before .before .before .before .before .before .before .before .before .before .before .before .before .before .before .before .before .before .args .list))) (now (c .before .before .before .before .before .before .before .before .before .before .before .before .before .before .before .before .before .before .before .before .before .before .before .before .before .before .before .before .before .before .before .before .before .before .before .before .before .before .before .before .before .before .args .out)) (measures (now (c .before .before .before .before .before .before .before .before .before .before .before .before .before .before .before .before .before .before .before .before .before .before .before .before .before .before .before .before .before .before .before .before .before .before .before .before .before .before .before .before .before .before .args .draft)) (c .before .before .before .before .before .before .before .before .before .before .before .before .before .before .before .before .before .before .before .before .before .before .before .before .before .elaborate .last .1 .1 .1 .1 .1 .1 .1 .1 .1 .1 .0) (recordsOf text (table (now (c .before .before .before .before .before .before .before .before .before .before .before .before .before .before .before .before .before .before .before .before .before .before .before .before .before .before .before .before .before .before .before .before .before .before .before .before .before .before .before .before .before .before .args .kinds)) ss ls (now (c .before .before .before .before .before .before .before .before .before .before .before .before .before .before .before .before .before .before .before .before .before .before .before .before .before .before .before .before .before .before .before .before .before .before .before .before .before .before .before .before .before .before .args .numbers))) (now (c .before .before .before .before .before .before .before .before .before .before .before .before .before .before .before .before .before .before .before .before .before .before .before .before .before .before .before .before .before .before .before .before .before .before .before .before .before .before .before .before .before .before .args .list))) (c .before .before .before .before .before .before .before .before .before .before .before .before .before .before .before .before .before .before .before .before .before .before .before .before .before .elaborate .result) (c .before .before .before .before .before .before .before .before .before .before .before .before .before .before .before .before .before .before .before .before .before .before .before .before .before .elaborate .ensures text ss ls rd)) (c .before .before .before .before .before .before .before .before .before .before .before .before .before .before .before .length .given .0 .0) (c .before .before .before .before .before .before .before .before .before .before .before .before .before .before .before .length .given .1) (c .before .before .before .before .before .before .before .before .before .before .before .before .before .if1 .left) (c .before .before .before .before .before .before .before .elaborate2 .result) _ (c .before .before .before .before .before .before .before .elaborate2 .ensures text ss ls rd)
+returns-4 c =
+    let c₂ = c .before .before in let elaborate2 = c₂ .elaborate2 in
+    let c₅ = c₂ .before .before .before in let if1 = c₅ .if1 in
+    let c₇ = c₅ .before .before in let length = c₇ .length in
+    let c₁₁ = c₇ .before .before .before .before in let elaborate = c₁₁ .elaborate in
+    let c₂₂ = c₁₁ .before .before .before .before .before .before .before .before .before .before .before in let args = c₂₂ .args in
+    let kinds = now (args .kinds) in let list = now (args .list) in let numbers = now (args .numbers) in
+    λ text ss ls rd. fits (elaborate .result) (recordsOf text (table kinds ss ls numbers) list) (now (args .out)) (measures (now (args .draft)) (elaborate .last .1 .1 .1 .1 .1 .1 .1 .0) (recordsOf text (table kinds ss ls numbers) list) (elaborate .result) (elaborate .ensures text ss ls rd)) (length .given .0 .0) (length .given .1) (if1 .left) (elaborate2 .result) _ (elaborate2 .ensures text ss ls rd)
 
 pub write-spec : {M : Type 1} → statement M
 write-spec =
@@ -51,14 +86,8 @@ write-spec =
     (λ c. search needs)
     (λ c κs. search needs)
     (λ c. search needs)
-    (λ c. search needs)
-    (λ c. search needs)
-    (λ c. search needs)
     returns
     (λ c κs. search needs)
-    (λ c. search needs)
-    (λ c. search needs)
-    (λ c. search needs)
     (λ c. search needs)
     returns-2
     (λ c. search needs)
@@ -66,15 +95,8 @@ write-spec =
     copy-requires
     (λ c. search needs)
     (λ c. search needs)
-    (λ c. search needs)
-    (λ c. search needs)
-    (λ c. search needs)
     returns-3
-    (λ c. search needs)
     elaborate-requires-2
-    (λ c. search needs)
-    (λ c. search needs)
-    (λ c. search needs)
     (λ c. search needs)
     (λ c. search needs)
     returns-4)

@@ -27,13 +27,27 @@ use Rattle.items.proofs.code.Reads as code-reads
 use Rattle.names.proofs.relation_named.Reads as relation-named-reads
 
 returns : tie.Need-returns
-returns c = (λ text ss ls ns main nm u. c .before .before .before .before .before .before .symbol .ensures .0 text ss ls ns (entries (now (c .before .before .before .before .before .before .before .before .before .before .before .before .before .before .before .before .before .before .before .before .args .list))) main u, (c .before .before .before .before .before .before .symbol .ensures .1 .0, c .before .before .before .before .before .before .symbol .ensures .1 .1))
+returns c =
+    let c₆ = c .before .before .before .before .before .before in let symbol = c₆ .symbol in
+    let c₂₀ = c₆ .before .before .before .before .before .before .before .before .before .before .before .before .before .before in let args = c₂₀ .args in
+    (λ text ss ls ns main nm u. symbol .ensures .0 text ss ls ns (entries (now (args .list))) main u, (symbol .ensures .1 .0, symbol .ensures .1 .1))
 
 returns-2 : tie.Need-returns-2
-returns-2 c = (λ text ss ls ns main nm u. unknown text (table (now (c .before .before .before .before .before .before .before .before .before .before .before .before .before .before .args .kinds)) ss ls ns) (entries (now (c .before .before .before .before .before .before .before .before .before .before .before .before .before .before .args .list))) main (c .before .before .before .before .before .before .before .before .before .before .before .before .before .before .args .i) (c .before .before .before .before .before .before .before .before .before .before .before .before .before .before .pre .0 .0) (c .before .before .before .before .before .before .before .before .before .before .before .before .before .before .args .s) (now (c .before .before .before .before .before .before .before .before .before .before .before .before .before .before .args .symbols)) (now (c .before .before .before .before .before .before .before .before .before .before .before .before .before .before .args .out)) (c .before .before .before .before .before .before .before .before .before .before .before .before .before .before .pre .0 .6) (c .before .before .before .before .if1 .left) (found-none (relationNamed (entries (now (c .before .before .before .before .before .before .before .before .before .before .before .before .before .before .args .list))) ((nameIn text (now (c .before .before .before .before .before .before .before .before .before .before .before .before .before .before .args .kinds)) ss ls) (c .before .before .before .before .before .before .before .before .before .before .before .before .before .before .args .i))) _ (c .before .before .relation-named .ensures ((nameIn text (now (c .before .before .before .before .before .before .before .before .before .before .before .before .before .before .args .kinds)) ss ls) (c .before .before .before .before .before .before .before .before .before .before .before .before .before .before .args .i)) (subst (λ (v : ℕ). Spelt ((nameIn text (now (c .before .before .before .before .before .before .before .before .before .before .before .before .before .before .args .kinds)) ss ls) (c .before .before .before .before .before .before .before .before .before .before .before .before .before .before .args .i)) v) (sym (c .before .before .before .code .ensures)) (nm .spelt (c .before .before .before .before .before .before .before .before .before .before .before .before .before .before .args .i)))) (c .enum-told .given .1)), (tt, λ w f g. tt))
+returns-2 c =
+    let c₃ = c .before .before .before in let code = c₃ .code in
+    let c₄ = c₃ .before in let if1 = c₄ .if1 in
+    let c₁₄ = c₄ .before .before .before .before .before .before .before .before .before .before in let args = c₁₄ .args in let pre = c₁₄ .pre in
+    let kinds = now (args .kinds) in let list = now (args .list) in let i = args .i in
+    (λ text ss ls ns main nm u. unknown text (table kinds ss ls ns) (entries list) main i (pre .0 .0) (args .s) (now (args .symbols)) (now (args .out)) (pre .0 .6) (if1 .left) (found-none (relationNamed (entries list) ((nameIn text kinds ss ls) i)) _ (c .before .before .relation-named .ensures ((nameIn text kinds ss ls) i) (subst (λ (v : ℕ). Spelt ((nameIn text kinds ss ls) i) v) (sym (code .ensures)) (nm .spelt i))) (c .enum-told .given .1)), (tt, λ w f g. tt))
 
 returns-3 : tie.Need-returns-3
-returns-3 c = (λ text ss ls ns main nm u. known text (table (now (c .before .before .before .before .before .before .before .before .before .before .before .before .before .before .before .args .kinds)) ss ls ns) (entries (now (c .before .before .before .before .before .before .before .before .before .before .before .before .before .before .before .args .list))) main (c .before .before .before .before .before .before .before .before .before .before .before .before .before .before .before .args .i) (c .before .before .before .before .before .before .before .before .before .before .before .before .before .before .before .pre .0 .0) (c .before .before .before .before .before .before .before .before .before .before .before .before .before .before .before .args .s) (now (c .before .before .before .before .before .before .before .before .before .before .before .before .before .before .before .args .symbols)) (now (c .before .before .before .before .before .before .before .before .before .before .before .before .before .before .before .args .out)) (c .before .before .before .before .before .before .before .before .before .before .before .before .before .before .before .pre .0 .6) (c .before .before .before .before .before .if1 .left) _ (found-some (relationNamed (entries (now (c .before .before .before .before .before .before .before .before .before .before .before .before .before .before .before .args .list))) ((nameIn text (now (c .before .before .before .before .before .before .before .before .before .before .before .before .before .before .before .args .kinds)) ss ls) (c .before .before .before .before .before .before .before .before .before .before .before .before .before .before .before .args .i))) _ _ (c .before .before .before .relation-named .ensures ((nameIn text (now (c .before .before .before .before .before .before .before .before .before .before .before .before .before .before .before .args .kinds)) ss ls) (c .before .before .before .before .before .before .before .before .before .before .before .before .before .before .before .args .i)) (subst (λ (v : ℕ). Spelt ((nameIn text (now (c .before .before .before .before .before .before .before .before .before .before .before .before .before .before .before .args .kinds)) ss ls) (c .before .before .before .before .before .before .before .before .before .before .before .before .before .before .before .args .i)) v) (sym (c .before .before .before .before .code .ensures)) (nm .spelt (c .before .before .before .before .before .before .before .before .before .before .before .before .before .before .before .args .i)))) (c .before .r .given .1)), ((omega arith, omega arith, omega arith), λ w f g. g))
+returns-3 c =
+    let c₃ = c .before .before .before in let relation-named = c₃ .relation-named in
+    let c₄ = c₃ .before in let code = c₄ .code in
+    let c₅ = c₄ .before in let if1 = c₅ .if1 in
+    let c₁₅ = c₅ .before .before .before .before .before .before .before .before .before .before in let args = c₁₅ .args in let pre = c₁₅ .pre in
+    let kinds = now (args .kinds) in let list = now (args .list) in let i = args .i in
+    (λ text ss ls ns main nm u. known text (table kinds ss ls ns) (entries list) main i (pre .0 .0) (args .s) (now (args .symbols)) (now (args .out)) (pre .0 .6) (if1 .left) _ (found-some (relationNamed (entries list) ((nameIn text kinds ss ls) i)) _ _ (relation-named .ensures ((nameIn text kinds ss ls) i) (subst (λ (v : ℕ). Spelt ((nameIn text kinds ss ls) i) v) (sym (code .ensures)) (nm .spelt i))) (c .before .r .given .1)), ((omega arith, omega arith, omega arith), λ w f g. g))
 
 pub name-spec : {M : Type 1} → statement M
 name-spec =

@@ -24,13 +24,20 @@ use Rattle.elaborate.proofs.binds.step.Lts as lts
 use Rattle.elaborate.proofs.binds.name.Reads as name-reads
 
 name-requires : tie.Need-name-requires
-name-requires c κs = ((c .before .before .before .before .before .before .before .before .before .before .before .before .before .before .pre .0 .0, c .before .before .before .before .before .before .before .before .before .before .before .before .before .before .pre .0 .1, c .before .before .before .before .before .before .before .before .before .before .before .before .before .before .pre .0 .2, c .before .before .before .before .before .before .before .before .before .before .before .before .before .before .pre .0 .3, c .before .before .before .before .before .before .before .before .before .before .before .before .before .before .pre .0 .4, c .before .before .before .before .before .before .before .before .before .before .before .before .before .before .pre .0 .5, c .before .before .before .if1 .taken), c .before .before .before .before .before .before .before .before .before .before .before .before .before .before .pre .1)
+name-requires c κs =
+    let c₃ = c .before .before .before in let if1 = c₃ .if1 in
+    let c₁₄ = c₃ .before .before .before .before .before .before .before .before .before .before .before in let pre = c₁₄ .pre in
+    ((pre .0 .0, pre .0 .1, pre .0 .2, pre .0 .3, pre .0 .4, pre .0 .5, if1 .taken), pre .1)
 
 returns-2 : tie.Need-returns-2
-returns-2 c = (λ text ss ls ns main nm u. close text (table (now (c .before .before .before .before .before .before .before .before .before .before .before .before .args .kinds)) ss ls ns) (entries (now (c .before .before .before .before .before .before .before .before .before .before .before .before .args .list))) main (c .before .before .before .before .before .before .before .before .before .before .before .before .args .i) (c .before .before .before .before .before .before .before .before .before .before .before .before .pre .0 .0) (c .before .before .before .before .before .before .before .before .before .before .before .before .args .s) (now (c .before .before .before .before .before .before .before .before .before .before .before .before .args .symbols)) (now (c .before .before .before .before .before .before .before .before .before .before .before .before .args .out)) (c .if2 .taken), ((omega arith, omega arith, omega arith), λ w f g. g))
+returns-2 c =
+    let c₁₂ = c .before .before .before .before .before .before .before .before .before .before .before .before in let args = c₁₂ .args in let pre = c₁₂ .pre in
+    (λ text ss ls ns main nm u. close text (table (now (args .kinds)) ss ls ns) (entries (now (args .list))) main (args .i) (pre .0 .0) (args .s) (now (args .symbols)) (now (args .out)) (c .if2 .taken), ((omega arith, omega arith, omega arith), λ w f g. g))
 
 returns-3 : tie.Need-returns-3
-returns-3 c = (λ text ss ls ns main nm u. pass text (table (now (c .before .before .before .before .before .before .before .before .before .before .before .before .args .kinds)) ss ls ns) (entries (now (c .before .before .before .before .before .before .before .before .before .before .before .before .args .list))) main (c .before .before .before .before .before .before .before .before .before .before .before .before .args .i) (c .before .before .before .before .before .before .before .before .before .before .before .before .pre .0 .0) (c .before .before .before .before .before .before .before .before .before .before .before .before .args .s) (now (c .before .before .before .before .before .before .before .before .before .before .before .before .args .symbols)) (now (c .before .before .before .before .before .before .before .before .before .before .before .before .args .out)) (c .before .if1 .left) (c .before .before .before .before .before .before .before .before .before .before .before .before .pre .0 .6) (c .if2 .left), ((omega arith, omega arith, omega arith), λ w f g. g))
+returns-3 c =
+    let c₁₂ = c .before .before .before .before .before .before .before .before .before .before .before .before in let args = c₁₂ .args in let pre = c₁₂ .pre in
+    (λ text ss ls ns main nm u. pass text (table (now (args .kinds)) ss ls ns) (entries (now (args .list))) main (args .i) (pre .0 .0) (args .s) (now (args .symbols)) (now (args .out)) (c .before .if1 .left) (pre .0 .6) (c .if2 .left), ((omega arith, omega arith, omega arith), λ w f g. g))
 
 pub step-spec : {M : Type 1} → statement M
 step-spec =

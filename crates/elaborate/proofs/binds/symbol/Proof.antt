@@ -32,13 +32,37 @@ use Rattle.kinds.proofs.byte.Reads as byte-reads
 use Rattle.kinds.proofs.size_at.Reads as size-at-reads
 
 returns : tie.Need-returns
-returns c = (λ text ss ls ns es main u. unused text (table (now (c .before .before .before .before .before .before .before .before .before .before .before .before .before .before .before .before .before .before .before .args .kinds)) ss ls ns) es main (c .before .before .before .before .before .before .before .before .before .before .before .before .before .before .before .before .before .before .before .args .i) (c .before .before .before .before .before .before .before .before .before .before .before .before .before .before .before .before .before .before .before .pre .0) (c .before .before .before .before .before .before .before .before .before .before .before .before .before .before .before .before .before .before .before .args .s) (now (c .before .before .before .before .before .before .before .before .before .before .before .before .before .before .before .before .before .before .before .args .symbols)) (now (c .before .before .before .before .before .before .before .before .before .before .before .before .before .before .before .before .before .before .before .args .out)) (c .before .before .before .before .before .before .before .before .before .before .before .before .before .before .before .before .before .before .before .pre .6) (c .before .before .before .before .before .before .before .before .before .before .before .before .before .before .before .before .before .before .before .pre .7) (c .before .before .before .before .before .before .before .before .before .before .before .before .before .before .before .before .before .before .before .pre .2) (not (eqb (c .before .before .before .before .before .before .before .before .before .before .before .byte .result) 0)) (ap (λ (v : ℕ). not (eqb v 0)) (c .before .before .before .before .before .before .before .before .before .before .before .byte .ensures ∙ ap (λ (j : ℕ). getD (now (c .before .before .before .before .before .before .before .before .before .before .before .before .before .before .before .before .before .before .before .args .marks)) j 0) (c .before .before .before .before .before .before .before .before .before .before .before .before .size-at .ensures .0)) ∙ u .at (c .before .before .before .before .before .before .before .before .before .before .before .before .before .before .before .before .before .before .before .args .i)) (c .before .before .before .before .before .before .before .before .before .flag .result) (c .before .before .before .before .before .before .before .before .pack .result) (c .before .before .before .before .before .before .before .before .before .flag .ensures .0) (c .before .before .before .before .before .before .before .before .pack .ensures .0 .0) (c .before .before .before .before .before .before .before .before .pack .ensures .0 .1) (c .before .before .before .before .before .before .before .before .pack .ensures .0 .2) (c .before .before .before .before .before .before .before .before .pack .ensures .0 .3) (not-true (not (eqb (c .before .before .before .before .before .before .before .before .before .before .before .byte .result) 0)) (c .before .if1 .taken)), ((omega arith, omega arith, omega arith), λ w f g. stands-more w (now (c .before .before .before .before .before .before .before .before .before .before .before .before .before .before .before .before .before .before .before .args .ids)) (now (c .before .before .before .before .before .before .before .before .before .before .before .before .before .before .before .before .before .before .before .args .symbols)) (now (c .before .before .before .before .before .before .before .before .before .before .before .before .before .before .before .before .before .before .before .args .known)) ((c .before .before .before .before .before .before .before .before .before .before .before .before .before .before .before .before .before .before .before .args .s) .count) f (c .before .before .before .before .before .before .before .before .before .before .before .before .before .before .before .before .before .before .before .pre .2) g (c .before .before .before .before .before .before .before .before .pack .result) (c .before .before .before .before .before .pack2 .result) (c .before .before .before .before .before .before .before .before .before .before .before .before .before .before .before .before .before .before .before .args .i) (not (eqb (c .before .before .before .before .before .before .before .before .before .before .before .byte .result) 0)) (c .before .before .before .before .before .before .before .before .pack .ensures .0 .3) (c .before .before .before .before .before .before .before .before .pack .ensures .0 .0 ∙ c .before .before .before .before .before .before .before .before .before .flag .ensures .0) (c .before .before .before .before .before .pack2 .ensures .0 .0 ∙ c .before .before .before .before .before .before .entered .ensures .0) (c .before .before .before .before .before .pack2 .ensures .0 .1 ∙ sym (c .before .before .before .before .before .before .before .before .pack .ensures .0 .1)) (c .before .before .before .before .before .pack2 .ensures .0 .2 ∙ sym (c .before .before .before .before .before .before .before .before .pack .ensures .0 .2)) (c .before .before .before .before .before .pack2 .ensures .0 .3) (c .before .before .before .before .before .before .before .before .before .before .before .before .before .before .before .before .before .before .before .pre .8) _ (c .before .before .before .before .settle .ensures ∙ ap (λ (x : ℕ). cond (eqb (modeIn (getD (now (c .before .before .before .before .before .before .before .before .before .before .before .before .before .before .before .before .before .before .before .args .known)) x 0)) 0) (set (now (c .before .before .before .before .before .before .before .before .before .before .before .before .before .before .before .before .before .before .before .args .known)) x (c .before .before .before .before .before .pack2 .result)) (now (c .before .before .before .before .before .before .before .before .before .before .before .before .before .before .before .before .before .before .before .args .known))) (c .before .before .before .before .before .before .before .before .before .before .before .before .size-at .ensures .0))))
+returns c =
+    let c₄ = c .before .before .before .before in let settle = c₄ .settle in
+    let c₅ = c₄ .before in let pack2 = c₅ .pack2 in
+    let c₆ = c₅ .before in let entered = c₆ .entered in
+    let c₈ = c₆ .before .before in let pack = c₈ .pack in
+    let c₉ = c₈ .before in let flag = c₉ .flag in
+    let c₁₁ = c₉ .before .before in let byte = c₁₁ .byte in
+    let c₁₂ = c₁₁ .before in let size-at = c₁₂ .size-at in
+    let c₁₉ = c₁₂ .before .before .before .before .before .before .before in let args = c₁₉ .args in let pre = c₁₉ .pre in
+    let known = now (args .known) in let symbols = now (args .symbols) in let i = args .i in let s = args .s in
+    (λ text ss ls ns es main u. unused text (table (now (args .kinds)) ss ls ns) es main i (pre .0) s symbols (now (args .out)) (pre .6) (pre .7) (pre .2) (not (eqb (byte .result) 0)) (ap (λ (v : ℕ). not (eqb v 0)) (byte .ensures ∙ ap (λ (j : ℕ). getD (now (args .marks)) j 0) (size-at .ensures .0)) ∙ u .at i) (flag .result) (pack .result) (flag .ensures .0) (pack .ensures .0 .0) (pack .ensures .0 .1) (pack .ensures .0 .2) (pack .ensures .0 .3) (not-true (not (eqb (byte .result) 0)) (c .before .if1 .taken)), ((omega arith, omega arith, omega arith), λ w f g. stands-more w (now (args .ids)) symbols known (s .count) f (pre .2) g (pack .result) (pack2 .result) i (not (eqb (byte .result) 0)) (pack .ensures .0 .3) (pack .ensures .0 .0 ∙ flag .ensures .0) (pack2 .ensures .0 .0 ∙ entered .ensures .0) (pack2 .ensures .0 .1 ∙ sym (pack .ensures .0 .1)) (pack2 .ensures .0 .2 ∙ sym (pack .ensures .0 .2)) (pack2 .ensures .0 .3) (pre .8) _ (settle .ensures ∙ ap (λ (x : ℕ). cond (eqb (modeIn (getD known x 0)) 0) (set known x (pack2 .result)) known) (size-at .ensures .0))))
 
 add-t29 : tie.Need-add-t29
-add-t29 c = record { fits = count-fits _ (c .before .before .before .before .before .before .before .before .before .before .before .before .before .before .before .before .before .before .before .before .before .before .before .before .before .pre .3) }
+add-t29 c =
+    let c₂₅ = c .before .before .before .before .before .before .before .before .before .before .before .before .before .before .before .before .before .before .before .before .before .before .before .before .before in let pre = c₂₅ .pre in
+    record { fits = count-fits _ (pre .3) }
 
 returns-2 : tie.Need-returns-2
-returns-2 c = (λ text ss ls ns es main u. used-one text (table (now (c .before .before .before .before .before .before .before .before .before .before .before .before .before .before .before .before .before .before .before .before .before .before .before .before .before .args .kinds)) ss ls ns) es main (c .before .before .before .before .before .before .before .before .before .before .before .before .before .before .before .before .before .before .before .before .before .before .before .before .before .args .i) (c .before .before .before .before .before .before .before .before .before .before .before .before .before .before .before .before .before .before .before .before .before .before .before .before .before .pre .0) (c .before .before .before .before .before .before .before .before .before .before .before .before .before .before .before .before .before .before .before .before .before .before .before .before .before .args .s) (now (c .before .before .before .before .before .before .before .before .before .before .before .before .before .before .before .before .before .before .before .before .before .before .before .before .before .args .symbols)) (now (c .before .before .before .before .before .before .before .before .before .before .before .before .before .before .before .before .before .before .before .before .before .before .before .before .before .args .out)) (c .before .before .before .before .before .before .before .before .before .before .before .before .before .before .before .before .before .before .before .before .before .before .before .before .before .pre .6) (c .before .before .before .before .before .before .before .before .before .before .before .before .before .before .before .before .before .before .before .before .before .before .before .before .before .pre .7) (c .before .before .before .before .before .before .before .before .before .before .before .before .before .before .before .before .before .before .before .before .before .before .before .before .before .pre .2) (not (eqb (c .before .before .before .before .before .before .before .before .before .before .before .before .before .before .before .before .before .byte .result) 0)) (ap (λ (v : ℕ). not (eqb v 0)) (c .before .before .before .before .before .before .before .before .before .before .before .before .before .before .before .before .before .byte .ensures ∙ ap (λ (j : ℕ). getD (now (c .before .before .before .before .before .before .before .before .before .before .before .before .before .before .before .before .before .before .before .before .before .before .before .before .before .args .marks)) j 0) (c .before .before .before .before .before .before .before .before .before .before .before .before .before .before .before .before .before .before .size-at .ensures .0)) ∙ u .at (c .before .before .before .before .before .before .before .before .before .before .before .before .before .before .before .before .before .before .before .before .before .before .before .before .before .args .i)) (c .before .before .before .before .before .before .before .before .before .before .before .before .before .before .before .flag .result) (c .before .before .before .before .before .before .before .before .before .before .before .before .before .before .pack .result) (c .before .before .before .before .before .before .before .before .before .before .before .before .before .before .before .flag .ensures .0) (c .before .before .before .before .before .before .before .before .before .before .before .before .before .before .pack .ensures .0 .0) (c .before .before .before .before .before .before .before .before .before .before .before .before .before .before .pack .ensures .0 .1) (c .before .before .before .before .before .before .before .before .before .before .before .before .before .before .pack .ensures .0 .2) (c .before .before .before .before .before .before .before .before .before .before .before .before .before .before .pack .ensures .0 .3) (not-false (not (eqb (c .before .before .before .before .before .before .before .before .before .before .before .before .before .before .before .before .before .byte .result) 0)) (c .before .before .before .before .before .before .before .if1 .left)) _ _ (c .before .before .before .before .copy .ensures .0) (c .before .before .before .before .copy .ensures .1), ((omega arith, omega arith, omega (arith, c .before .before .before .before .copy .ensures .0)), λ w f g. stands-more w (now (c .before .before .before .before .before .before .before .before .before .before .before .before .before .before .before .before .before .before .before .before .before .before .before .before .before .args .ids)) (now (c .before .before .before .before .before .before .before .before .before .before .before .before .before .before .before .before .before .before .before .before .before .before .before .before .before .args .symbols)) (now (c .before .before .before .before .before .before .before .before .before .before .before .before .before .before .before .before .before .before .before .before .before .before .before .before .before .args .known)) ((c .before .before .before .before .before .before .before .before .before .before .before .before .before .before .before .before .before .before .before .before .before .before .before .before .before .args .s) .count) f (c .before .before .before .before .before .before .before .before .before .before .before .before .before .before .before .before .before .before .before .before .before .before .before .before .before .pre .2) g (c .before .before .before .before .before .before .before .before .before .before .before .before .before .before .pack .result) (c .before .before .before .before .before .before .before .before .before .before .before .pack2 .result) (c .before .before .before .before .before .before .before .before .before .before .before .before .before .before .before .before .before .before .before .before .before .before .before .before .before .args .i) (not (eqb (c .before .before .before .before .before .before .before .before .before .before .before .before .before .before .before .before .before .byte .result) 0)) (c .before .before .before .before .before .before .before .before .before .before .before .before .before .before .pack .ensures .0 .3) (c .before .before .before .before .before .before .before .before .before .before .before .before .before .before .pack .ensures .0 .0 ∙ c .before .before .before .before .before .before .before .before .before .before .before .before .before .before .before .flag .ensures .0) (c .before .before .before .before .before .before .before .before .before .before .before .pack2 .ensures .0 .0 ∙ c .before .before .before .before .before .before .before .before .before .before .before .before .entered .ensures .0) (c .before .before .before .before .before .before .before .before .before .before .before .pack2 .ensures .0 .1 ∙ sym (c .before .before .before .before .before .before .before .before .before .before .before .before .before .before .pack .ensures .0 .1)) (c .before .before .before .before .before .before .before .before .before .before .before .pack2 .ensures .0 .2 ∙ sym (c .before .before .before .before .before .before .before .before .before .before .before .before .before .before .pack .ensures .0 .2)) (c .before .before .before .before .before .before .before .before .before .before .before .pack2 .ensures .0 .3) (c .before .before .before .before .before .before .before .before .before .before .before .before .before .before .before .before .before .before .before .before .before .before .before .before .before .pre .8) _ (c .before .before .before .before .before .before .before .before .before .before .settle .ensures ∙ ap (λ (x : ℕ). cond (eqb (modeIn (getD (now (c .before .before .before .before .before .before .before .before .before .before .before .before .before .before .before .before .before .before .before .before .before .before .before .before .before .args .known)) x 0)) 0) (set (now (c .before .before .before .before .before .before .before .before .before .before .before .before .before .before .before .before .before .before .before .before .before .before .before .before .before .args .known)) x (c .before .before .before .before .before .before .before .before .before .before .before .pack2 .result)) (now (c .before .before .before .before .before .before .before .before .before .before .before .before .before .before .before .before .before .before .before .before .before .before .before .before .before .args .known))) (c .before .before .before .before .before .before .before .before .before .before .before .before .before .before .before .before .before .before .size-at .ensures .0))))
+returns-2 c =
+    let c₄ = c .before .before .before .before in let copy = c₄ .copy in
+    let c₇ = c₄ .before .before .before in let if1 = c₇ .if1 in
+    let c₁₀ = c₇ .before .before .before in let settle = c₁₀ .settle in
+    let c₁₁ = c₁₀ .before in let pack2 = c₁₁ .pack2 in
+    let c₁₂ = c₁₁ .before in let entered = c₁₂ .entered in
+    let c₁₄ = c₁₂ .before .before in let pack = c₁₄ .pack in
+    let c₁₅ = c₁₄ .before in let flag = c₁₅ .flag in
+    let c₁₇ = c₁₅ .before .before in let byte = c₁₇ .byte in
+    let c₁₈ = c₁₇ .before in let size-at = c₁₈ .size-at in
+    let c₂₅ = c₁₈ .before .before .before .before .before .before .before in let args = c₂₅ .args in let pre = c₂₅ .pre in
+    let known = now (args .known) in let symbols = now (args .symbols) in let i = args .i in let s = args .s in
+    (λ text ss ls ns es main u. used-one text (table (now (args .kinds)) ss ls ns) es main i (pre .0) s symbols (now (args .out)) (pre .6) (pre .7) (pre .2) (not (eqb (byte .result) 0)) (ap (λ (v : ℕ). not (eqb v 0)) (byte .ensures ∙ ap (λ (j : ℕ). getD (now (args .marks)) j 0) (size-at .ensures .0)) ∙ u .at i) (flag .result) (pack .result) (flag .ensures .0) (pack .ensures .0 .0) (pack .ensures .0 .1) (pack .ensures .0 .2) (pack .ensures .0 .3) (not-false (not (eqb (byte .result) 0)) (if1 .left)) _ _ (copy .ensures .0) (copy .ensures .1), ((omega arith, omega arith, omega (arith, copy .ensures .0)), λ w f g. stands-more w (now (args .ids)) symbols known (s .count) f (pre .2) g (pack .result) (pack2 .result) i (not (eqb (byte .result) 0)) (pack .ensures .0 .3) (pack .ensures .0 .0 ∙ flag .ensures .0) (pack2 .ensures .0 .0 ∙ entered .ensures .0) (pack2 .ensures .0 .1 ∙ sym (pack .ensures .0 .1)) (pack2 .ensures .0 .2 ∙ sym (pack .ensures .0 .2)) (pack2 .ensures .0 .3) (pre .8) _ (settle .ensures ∙ ap (λ (x : ℕ). cond (eqb (modeIn (getD known x 0)) 0) (set known x (pack2 .result)) known) (size-at .ensures .0))))
 
 pub symbol-spec : {M : Type 1} → statement M
 symbol-spec =

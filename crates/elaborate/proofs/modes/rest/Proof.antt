@@ -25,11 +25,22 @@ returns-3 c = rw (ne-eqb (c .before .before .before .before .args .kind) 0 (c .b
 
 returns-4 : tie.Need-returns-4
 unfolding restOf
-returns-4 c = rw (ne-eqb (c .before .before .before .before .before .args .kind) 0 (c .before .before .before .before .if1 .left), sym (c .before .before .before .is-function .ensures) ∙ c .before .before .if2 .left, ne-eqb (c .before .before .before .before .before .args .kind) 18 (c .before .if3 .left), eq-eqb (c .before .before .before .before .before .args .kind) 19 (c .if4 .taken))
+returns-4 c =
+    let c₃ = c .before .before .before in let is-function = c₃ .is-function in
+    let c₄ = c₃ .before in let if1 = c₄ .if1 in
+    let c₅ = c₄ .before in let args = c₅ .args in
+    let kind = args .kind in
+    rw (ne-eqb kind 0 (if1 .left), sym (is-function .ensures) ∙ c .before .before .if2 .left, ne-eqb kind 18 (c .before .if3 .left), eq-eqb kind 19 (c .if4 .taken))
 
 returns-5 : tie.Need-returns-5
 unfolding restOf
-returns-5 c = rw (ne-eqb (c .before .before .before .before .before .before .args .kind) 0 (c .before .before .before .before .before .if1 .left), sym (c .before .before .before .before .is-function .ensures) ∙ c .before .before .before .if2 .left, ne-eqb (c .before .before .before .before .before .before .args .kind) 18 (c .before .before .if3 .left), ne-eqb (c .before .before .before .before .before .before .args .kind) 19 (c .before .if4 .left)) (c .pick-at .ensures)
+returns-5 c =
+    let c₃ = c .before .before .before in let if2 = c₃ .if2 in
+    let c₄ = c₃ .before in let is-function = c₄ .is-function in
+    let c₅ = c₄ .before in let if1 = c₅ .if1 in
+    let c₆ = c₅ .before in let args = c₆ .args in
+    let kind = args .kind in
+    rw (ne-eqb kind 0 (if1 .left), sym (is-function .ensures) ∙ if2 .left, ne-eqb kind 18 (c .before .before .if3 .left), ne-eqb kind 19 (c .before .if4 .left)) (c .pick-at .ensures)
 
 pub rest-spec : {M : Type 1} → statement M
 rest-spec =

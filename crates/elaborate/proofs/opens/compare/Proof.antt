@@ -18,7 +18,12 @@ returns-2 : tie.Need-returns-2
 returns-2 c = no-operand (now (c .before .before .before .args .out)) (c .before .before .before .args .at) (c .before .before .before .args .mode) (c .before .before .before .args .kind) _ (c .before .if1 .left) (c .if2 .taken)
 
 returns-3 : tie.Need-returns-3
-returns-3 c = a-sign (now (c .before .before .before .before .before .before .before .before .args .out)) (c .before .before .before .before .before .before .before .before .args .at) (c .before .before .before .before .before .before .before .before .args .mode) (c .before .before .before .before .before .before .before .before .args .kind) (c .before .before .before .before .before .before .before .before .args .operator) (c .before .before .before .before .before .before .if1 .left) (c .before .before .before .before .before .if2 .left) _ _ (c .before .before .copy .ensures .0) (c .before .before .copy .ensures .1)
+returns-3 c =
+    let c₂ = c .before .before in let copy = c₂ .copy in
+    let c₅ = c₂ .before .before .before in let if2 = c₅ .if2 in
+    let c₆ = c₅ .before in let if1 = c₆ .if1 in
+    let c₈ = c₆ .before .before in let args = c₈ .args in
+    a-sign (now (args .out)) (args .at) (args .mode) (args .kind) (args .operator) (if1 .left) (if2 .left) _ _ (copy .ensures .0) (copy .ensures .1)
 
 pub compare-spec : {M : Type 1} → statement M
 compare-spec =

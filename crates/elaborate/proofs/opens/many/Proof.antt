@@ -36,7 +36,11 @@ loop-less : tie.Need-loop-less Inv-loop μ-loop
 loop-less c = search needs
 
 loop-again : tie.Need-loop-again Inv-loop μ-loop
-loop-again c = (often-turn (now (c .before .before .before .before .before .before .before .args .out)) (c .before .before .before .before .before .loop .out) _ (c .before .before .before .before .before .before .before .args .at) (c .before .before .before .before .before .loop .i) (c .before .before .before .before .before .before .before .args .b) (c .before .before .before .before .before .loop .inv .0) (c .before .before .put .ensures .1), c .before .before .put .kept .0 ∙ c .before .before .before .before .before .loop .inv .1, omega arith)
+loop-again c =
+    let c₂ = c .before .before in let put = c₂ .put in
+    let c₅ = c₂ .before .before .before in let loop = c₅ .loop in
+    let c₇ = c₅ .before .before in let args = c₇ .args in
+    (often-turn (now (args .out)) (loop .out) _ (args .at) (loop .i) (args .b) (loop .inv .0) (put .ensures .1), put .kept .0 ∙ loop .inv .1, omega arith)
 
 add-result : tie.Need-add-result Inv-loop μ-loop
 add-result c = search needs
@@ -45,7 +49,10 @@ same-length : tie.Need-same-length Inv-loop μ-loop
 same-length c = c .before .loop .inv .1
 
 returns : tie.Need-returns Inv-loop μ-loop
-returns c = (omega arith, often-done (now (c .before .before .before .args .out)) (c .before .loop .out) (c .before .before .before .args .at) (c .before .loop .i) (c .before .before .before .args .n) (c .before .before .before .args .b) (omega arith) (c .before .loop .inv .0))
+returns c =
+    let c₁ = c .before in let loop = c₁ .loop in
+    let c₃ = c₁ .before .before in let args = c₃ .args in
+    (omega arith, often-done (now (args .out)) (loop .out) (args .at) (loop .i) (args .n) (args .b) (omega arith) (loop .inv .0))
 
 pub many-spec : {M : Type 1} → statement M
 many-spec =

@@ -10,7 +10,14 @@ use Rattle.elaborate.proofs.opens.many.Reads as many-reads
 use Rattle.elaborate.proofs.opens.when.Reads as when-reads
 
 returns : tie.Need-returns
-returns c = opened-all (now (c .before .before .before .before .before .before .before .before .before .before .before .before .before .before .before .args .out)) _ _ _ (c .before .before .before .before .before .before .before .before .before .before .before .before .before .before .before .args .at) _ _ _ _ _ _ _ _ (c .before .before .before .before .before .before .before .before .before .before .before .before .when .ensures .0) (c .before .before .before .before .before .before .before .when2 .ensures .0) (c .before .before .before .before .before .before .before .before .before .before .before .many .ensures .0) (c .before .before .before .before .before .before .before .before .before .before .before .many .ensures .1) (c .before .before .before .before .before .before .many2 .ensures .0) (c .before .before .before .before .before .before .many2 .ensures .1) (c .before .before .compare .ensures .0) (c .before .before .compare .ensures .1)
+returns c =
+    let c₂ = c .before .before in let compare = c₂ .compare in
+    let c₆ = c₂ .before .before .before .before in let many2 = c₆ .many2 in
+    let c₇ = c₆ .before in let when2 = c₇ .when2 in
+    let c₁₁ = c₇ .before .before .before .before in let many = c₁₁ .many in
+    let c₁₂ = c₁₁ .before in let when = c₁₂ .when in
+    let c₁₅ = c₁₂ .before .before .before in let args = c₁₅ .args in
+    opened-all (now (args .out)) _ _ _ (args .at) _ _ _ _ _ _ _ _ (when .ensures .0) (when2 .ensures .0) (many .ensures .0) (many .ensures .1) (many2 .ensures .0) (many2 .ensures .1) (compare .ensures .0) (compare .ensures .1)
 
 pub open-spec : {M : Type 1} → statement M
 open-spec =

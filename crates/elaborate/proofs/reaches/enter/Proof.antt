@@ -9,7 +9,7 @@ use borrow.Author.Tests.{eq-eqb, ne-eqb}
 use lib.Seq.{set-out}
 use lib.ListN.{length-set}
 use Rattle.items.specs.Reach.{modeIn}
-use Rattle.elaborate.proofs.reaches.Laws.{clear-more, clear-all, enter-some, enter-head, enter-none, binds-none, small-after, leave-none, leave-last, leave-frame, small-set, head-reach, some-reach, left-reach, right-reach, end-reach, same-reach, stack-top}
+use Rattle.elaborate.proofs.reaches.Laws.{clear-more, clear-all, enter-some, enter-head, enter-none, binds-none, small-after, leave-none, leave-last, leave-frame, small-set}
 use borrow.Author.Needs.{needs}
 use Rattle.elaborate.proofs.reaches.enter.Statement.{statement}
 use Rattle.elaborate.proofs.reaches.enter.Tie as tie
@@ -21,19 +21,45 @@ use Rattle.elaborate.proofs.reaches.push.Reads as push-reads
 use Rattle.kinds.proofs.size_at.Reads as size-at-reads
 
 push-requires : tie.Need-push-requires
-push-requires c κs = (c .before .before .before .before .before .before .before .before .before .before .pre .0, c .before .before .before .before .before .before .before .before .before .before .pre .2, omega (arith, c .before .before .before .size-at .ensures .0, c .before .before .before .before .before .before .before .before .before .before .pre .4 ((c .before .before .before .before .before .before .before .before .before .before .args .i) + 1)), c .before .before .before .before .before .before .before .before .before .before .pre .6)
+push-requires c κs =
+    let c₃ = c .before .before .before in let size-at = c₃ .size-at in
+    let c₁₀ = c₃ .before .before .before .before .before .before .before in let args = c₁₀ .args in let pre = c₁₀ .pre in
+    (pre .0, pre .2, omega (arith, size-at .ensures .0, pre .4 ((args .i) + 1)), pre .6)
 
 push-requires-2 : tie.Need-push-requires-2
-push-requires-2 c κs = (c .before .before .before .before .before .before .before .before .before .before .pre .0, c .before .before .before .before .before .before .before .before .before .before .pre .2, omega (arith, c .before .before .before .size-at2 .ensures .0, c .before .before .before .before .before .before .before .before .before .before .pre .4 ((c .before .before .before .before .before .before .before .before .before .before .args .i) + 2)), c .before .before .before .before .before .before .before .before .before .before .pre .6)
+push-requires-2 c κs =
+    let c₃ = c .before .before .before in let size-at2 = c₃ .size-at2 in
+    let c₁₀ = c₃ .before .before .before .before .before .before .before in let args = c₁₀ .args in let pre = c₁₀ .pre in
+    (pre .0, pre .2, omega (arith, size-at2 .ensures .0, pre .4 ((args .i) + 2)), pre .6)
 
 returns : tie.Need-returns
-returns c = (λ w σ sm st. enter-some w (now (c .before .before .before .before .before .before .before .before .before .before .before .before .before .before .before .args .ids)) (now (c .before .before .before .before .before .before .before .before .before .before .before .before .before .before .before .args .frames)) ((c .before .before .before .before .before .before .before .before .before .before .before .before .before .before .before .args .r) .depth) ((c .before .before .before .before .before .before .before .before .before .before .before .before .before .before .before .args .r) .crossing) (now (c .before .before .before .before .before .before .before .before .before .before .before .before .before .before .before .args .known)) σ _ _ _ _ (c .before .before .before .before .before .before .before .before .before .before .before .before .before .before .before .pre .0) st (c .before .before .before .before .push .ensures) sm (c .before .before .before .before .before .before .before .before .before .before .before .before .before .before .before .pre .5) (c .before .before .before .before .before .before .before .before .before .before .before .before .before .before .before .args .i) _ _ (c .before .before .before .before .before .before .before .before .before .before .before .before .before .before .before .args .item) (c .before .before .before .before .before .pack .ensures .0 .0) (c .before .before .before .before .before .pack .ensures .0 .1) (c .before .before .before .before .before .pack .ensures .0 .2) (c .before .before .before .before .before .pack .ensures .0 .3) (c .before .before .before .before .before .before .before .before .size-at .ensures .0) (c .before .before .before .before .before .before .before .before .before .before .item .given .1), (refl, c .before .before .before .before .before .before .before .before .before .before .before .before .before .before .before .pre .2, small-after _ _ _ _ _ (now (c .before .before .before .before .before .before .before .before .before .before .before .before .before .before .before .args .known)) _ _ (c .before .before .before .before .push .ensures) (c .before .before .before .before .before .before .before .before .before .before .before .before .before .before .before .pre .6) (c .before .before .before .before .before .pack .ensures .1)))
+returns c =
+    let c₄ = c .before .before .before .before in let push = c₄ .push in
+    let c₅ = c₄ .before in let pack = c₅ .pack in
+    let c₈ = c₅ .before .before .before in let size-at = c₈ .size-at in
+    let c₁₀ = c₈ .before .before in let item = c₁₀ .item in
+    let c₁₅ = c₁₀ .before .before .before .before .before in let args = c₁₅ .args in let pre = c₁₅ .pre in
+    let known = now (args .known) in let r = args .r in
+    (λ w σ sm st. enter-some w (now (args .ids)) (now (args .frames)) (r .depth) (r .crossing) known σ _ _ _ _ (pre .0) st (push .ensures) sm (pre .5) (args .i) _ _ (args .item) (pack .ensures .0 .0) (pack .ensures .0 .1) (pack .ensures .0 .2) (pack .ensures .0 .3) (size-at .ensures .0) (item .given .1), (refl, pre .2, small-after _ _ _ _ _ known _ _ (push .ensures) (pre .6) (pack .ensures .1)))
 
 returns-2 : tie.Need-returns-2
-returns-2 c = (λ w σ sm st. enter-head w (now (c .before .before .before .before .before .before .before .before .before .before .before .before .before .before .before .args .ids)) (now (c .before .before .before .before .before .before .before .before .before .before .before .before .before .before .before .args .frames)) ((c .before .before .before .before .before .before .before .before .before .before .before .before .before .before .before .args .r) .depth) ((c .before .before .before .before .before .before .before .before .before .before .before .before .before .before .before .args .r) .crossing) (now (c .before .before .before .before .before .before .before .before .before .before .before .before .before .before .before .args .known)) σ _ _ _ _ (c .before .before .before .before .before .before .before .before .before .before .before .before .before .before .before .pre .0) st (c .before .before .before .before .push2 .ensures) sm (c .before .before .before .before .before .before .before .before .before .before .before .before .before .before .before .pre .5) (c .before .before .before .before .before .before .before .before .before .before .before .before .before .before .before .args .i) _ _ (c .before .before .before .before .before .before .before .before .before .before .before .before .before .before .before .args .item) (c .before .before .before .before .before .pack2 .ensures .0 .0) (c .before .before .before .before .before .pack2 .ensures .0 .1) (c .before .before .before .before .before .pack2 .ensures .0 .2) (c .before .before .before .before .before .pack2 .ensures .0 .3) _ _ (c .before .before .before .before .before .before .before .before .size-at2 .ensures .0) (c .before .before .before .before .before .before .before .before .before .before .item2 .given .1), (refl, omega (arith, c .before .before .before .before .before .before .before .before .before .before .before .before .before .before .before .pre .1), small-after _ _ _ _ _ (now (c .before .before .before .before .before .before .before .before .before .before .before .before .before .before .before .args .known)) _ _ (c .before .before .before .before .push2 .ensures) (c .before .before .before .before .before .before .before .before .before .before .before .before .before .before .before .pre .6) (c .before .before .before .before .before .pack2 .ensures .1)))
+returns-2 c =
+    let c₄ = c .before .before .before .before in let push2 = c₄ .push2 in
+    let c₅ = c₄ .before in let pack2 = c₅ .pack2 in
+    let c₈ = c₅ .before .before .before in let size-at2 = c₈ .size-at2 in
+    let c₁₀ = c₈ .before .before in let item2 = c₁₀ .item2 in
+    let c₁₅ = c₁₀ .before .before .before .before .before in let args = c₁₅ .args in let pre = c₁₅ .pre in
+    let known = now (args .known) in let r = args .r in
+    (λ w σ sm st. enter-head w (now (args .ids)) (now (args .frames)) (r .depth) (r .crossing) known σ _ _ _ _ (pre .0) st (push2 .ensures) sm (pre .5) (args .i) _ _ (args .item) (pack2 .ensures .0 .0) (pack2 .ensures .0 .1) (pack2 .ensures .0 .2) (pack2 .ensures .0 .3) _ _ (size-at2 .ensures .0) (item2 .given .1), (refl, omega (arith, pre .1), small-after _ _ _ _ _ known _ _ (push2 .ensures) (pre .6) (pack2 .ensures .1)))
 
 returns-3 : tie.Need-returns-3
-returns-3 c = (λ w σ sm st. enter-none w (now (c .before .before .before .before .before .before .before .before .before .before .before .before .before .args .ids)) (now (c .before .before .before .before .before .before .before .before .before .before .before .before .before .args .frames)) ((c .before .before .before .before .before .before .before .before .before .before .before .before .before .args .r) .depth) ((c .before .before .before .before .before .before .before .before .before .before .before .before .before .args .r) .crossing) (now (c .before .before .before .before .before .before .before .before .before .before .before .before .before .args .known)) σ _ _ _ _ (c .before .before .before .before .before .before .before .before .before .before .before .before .before .pre .0) st (c .before .before .before .before .push3 .ensures) _ _ (c .before .before .before .before .before .before .before .before .before .before .before .before .before .args .item) refl (c .before .before .before .before .before .before .before .entry .ensures) (binds-none (c .before .before .before .before .before .before .before .before .before .before .before .before .before .args .item) (c .before .before .before .before .before .before .before .before .before .match .keys3)), (refl, c .before .before .before .before .before .before .before .before .before .before .before .before .before .pre .2, small-after _ _ _ _ _ (now (c .before .before .before .before .before .before .before .before .before .before .before .before .before .args .known)) _ _ (c .before .before .before .before .push3 .ensures) (c .before .before .before .before .before .before .before .before .before .before .before .before .before .pre .6) (omega (arith, c .before .before .before .before .before .before .before .entry .ensures, c .before .before .before .before .before .before .before .before .before .before .before .before .before .pre .6 0))))
+returns-3 c =
+    let c₄ = c .before .before .before .before in let push3 = c₄ .push3 in
+    let c₇ = c₄ .before .before .before in let entry = c₇ .entry in
+    let c₉ = c₇ .before .before in let match = c₉ .match in
+    let c₁₃ = c₉ .before .before .before .before in let args = c₁₃ .args in let pre = c₁₃ .pre in
+    let known = now (args .known) in let item = args .item in let r = args .r in
+    (λ w σ sm st. enter-none w (now (args .ids)) (now (args .frames)) (r .depth) (r .crossing) known σ _ _ _ _ (pre .0) st (push3 .ensures) _ _ item refl (entry .ensures) (binds-none item (match .keys3)), (refl, pre .2, small-after _ _ _ _ _ known _ _ (push3 .ensures) (pre .6) (omega (arith, entry .ensures, pre .6 0))))
 
 pub enter-spec : {M : Type 1} → statement M
 enter-spec =

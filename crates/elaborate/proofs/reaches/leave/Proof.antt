@@ -9,7 +9,7 @@ use borrow.Author.Tests.{eq-eqb, ne-eqb}
 use lib.Seq.{set-out}
 use lib.ListN.{length-set}
 use Rattle.items.specs.Reach.{modeIn}
-use Rattle.elaborate.proofs.reaches.Laws.{clear-more, clear-all, enter-some, enter-head, enter-none, binds-none, small-after, leave-none, leave-last, leave-frame, small-set, head-reach, some-reach, left-reach, right-reach, end-reach, same-reach, stack-top}
+use Rattle.elaborate.proofs.reaches.Laws.{clear-more, clear-all, enter-some, enter-head, enter-none, binds-none, small-after, leave-none, leave-last, leave-frame, small-set}
 use borrow.Author.Needs.{needs}
 use Rattle.elaborate.proofs.reaches.leave.Statement.{statement}
 use Rattle.elaborate.proofs.reaches.leave.Tie as tie
@@ -20,13 +20,30 @@ use Rattle.elaborate.proofs.reaches.forget.Reads as forget-reads
 use Rattle.elaborate.proofs.reaches.store.Reads as store-reads
 
 returns : tie.Need-returns
-returns c = (λ w ids σ st. leave-none w ids (now (c .before .before .before .args .frames)) ((c .before .before .before .args .r) .depth) ((c .before .before .before .args .r) .crossing) (now (c .before .before .before .args .known)) σ (c .if1 .taken) st, (omega arith, c .before .before .before .pre .0, c .before .before .before .pre .1))
+returns c =
+    let c₃ = c .before .before .before in let args = c₃ .args in let pre = c₃ .pre in
+    let r = args .r in
+    (λ w ids σ st. leave-none w ids (now (args .frames)) (r .depth) (r .crossing) (now (args .known)) σ (c .if1 .taken) st, (omega arith, pre .0, pre .1))
 
 returns-2 : tie.Need-returns-2
-returns-2 c = (λ w ids σ st. leave-last w ids (now (c .before .before .before .before .before .before .before .before .before .args .frames)) ((c .before .before .before .before .before .before .before .before .before .args .r) .depth) ((c .before .before .before .before .before .before .before .before .before .args .r) .crossing) (now (c .before .before .before .before .before .before .before .before .before .args .known)) σ _ (c .before .before .before .before .before .before .if1 .left) (c .before .before .before .before .before .entry .ensures) (c .before .before .before .before .if2 .taken) _ (c .before .before .forget .ensures) st, (omega arith, omega arith, λ y. omega (arith, c .before .before .forget .ensures y)))
+returns-2 c =
+    let c₂ = c .before .before in let forget = c₂ .forget in
+    let c₄ = c₂ .before .before in let if2 = c₄ .if2 in
+    let c₅ = c₄ .before in let entry = c₅ .entry in
+    let c₆ = c₅ .before in let if1 = c₆ .if1 in
+    let c₉ = c₆ .before .before .before in let args = c₉ .args in
+    let r = args .r in
+    (λ w ids σ st. leave-last w ids (now (args .frames)) (r .depth) (r .crossing) (now (args .known)) σ _ (if1 .left) (entry .ensures) (if2 .taken) _ (forget .ensures) st, (omega arith, omega arith, λ y. omega (arith, forget .ensures y)))
 
 returns-3 : tie.Need-returns-3
-returns-3 c = (λ w ids σ st. leave-frame w ids (now (c .before .before .before .before .before .before .before .before .before .args .frames)) ((c .before .before .before .before .before .before .before .before .before .args .r) .depth) ((c .before .before .before .before .before .before .before .before .before .args .r) .crossing) (now (c .before .before .before .before .before .before .before .before .before .args .known)) σ _ (c .before .before .before .before .before .before .if1 .left) (c .before .before .before .before .before .entry .ensures) (c .before .before .before .before .if2 .left) _ (c .before .before .store .ensures) st, (omega arith, omega arith, λ y. subst (λ (k : List ℕ). getD k y 0 < 68719476736) (sym (c .before .before .store .ensures)) (small-set (now (c .before .before .before .before .before .before .before .before .before .args .known)) _ _ (c .before .before .before .before .before .before .before .before .before .pre .1) (omega arith) y)))
+returns-3 c =
+    let c₂ = c .before .before in let store = c₂ .store in
+    let c₄ = c₂ .before .before in let if2 = c₄ .if2 in
+    let c₅ = c₄ .before in let entry = c₅ .entry in
+    let c₆ = c₅ .before in let if1 = c₆ .if1 in
+    let c₉ = c₆ .before .before .before in let args = c₉ .args in let pre = c₉ .pre in
+    let known = now (args .known) in let r = args .r in
+    (λ w ids σ st. leave-frame w ids (now (args .frames)) (r .depth) (r .crossing) known σ _ (if1 .left) (entry .ensures) (if2 .left) _ (store .ensures) st, (omega arith, omega arith, λ y. subst (λ (k : List ℕ). getD k y 0 < 68719476736) (sym (store .ensures)) (small-set known _ _ (pre .1) (omega arith) y)))
 
 pub leave-spec : {M : Type 1} → statement M
 leave-spec =

@@ -1,65 +1,59 @@
 use native.Mathlib.Omega.{arith}
 use denote.Ref.{now}
-use mathlib.Core.Path.{_≡_, refl, sym, ap, ap₂, subst, _∙_}
-use Prim.Native.Nat.{ℕ, _+_, _-_, _≤_, _<_}
-use mathlib.Core.List.{List, []}
-use lib.ListN.{length, getD, set}
-use mathlib.Core.Bool.{Bool, cond}
-use borrow.Author.Tests.{eq-eqb, ne-eqb}
-use lib.Seq.{set-out}
-use lib.ListN.{length-set}
-use Rattle.items.specs.Reach.{modeIn}
-use Rattle.elaborate.proofs.reaches.Laws.{clear-more, clear-all, enter-some, enter-head, enter-none, binds-none, small-after, leave-none, leave-last, leave-frame, small-set, head-reach, some-reach, left-reach, right-reach, end-reach, same-reach, stack-top}
-use Rattle.elaborate.specs.Frames.{Stack}
+use mathlib.Core.Path.{_≡_, refl, sym, ap, subst, _∙_}
+use Prim.Native.Nat.{ℕ, _+_}
 use Rattle.quel.specs.Writing.{Reaches}
+use Rattle.elaborate.specs.Frames.{Stack}
+use Rattle.elaborate.proofs.reaches.Laws.{open-reach, close-reach, same-reach}
 use borrow.Author.Needs.{needs}
 use Rattle.elaborate.proofs.reaches.shift.Statement.{statement}
 use Rattle.elaborate.proofs.reaches.shift.Tie as tie
 use Rattle.elaborate.proofs.reaches.shift.Reads as reads
 use Rattle.elaborate.proofs.reaches.shift.Lts as lts
+use Rattle.elaborate.proofs.reaches.closing.Reads as closing-reads
 use Rattle.elaborate.proofs.reaches.enter.Reads as enter-reads
 use Rattle.elaborate.proofs.reaches.leave.Reads as leave-reads
+use Rattle.elaborate.proofs.reaches.opening.Reads as opening-reads
 
 returns : tie.Need-returns
-returns c = (λ f w σ sm st. subst (λ (τ : Reaches). Stack w (now (c .before .before .before .before .before .before .before .before .before .before .before .args .ids)) (c .before .before .before .before .enter .last .1 .1 .0) (c .before .before .before .before .enter .result .depth) (c .before .before .before .before .enter .result .crossing) (c .before .before .before .before .enter .last .1 .0) τ) (head-reach (c .before .before .before .before .before .before .before .before .before .before .before .args .a) (c .before .before .before .before .before .before .before .before .before .before .before .args .item) (w ((c .before .before .before .before .before .before .before .before .before .before .before .args .i) + 1)) (w ((c .before .before .before .before .before .before .before .before .before .before .before .args .i) + 2)) σ f (c .before .before .before .before .before .before .before .if1 .taken)) (c .before .before .before .before .enter .ensures .0 w σ sm st), (omega (arith, c .before .before .before .before .enter .ensures .1 .0), c .before .before .before .before .enter .ensures .1 .1, c .before .before .before .before .enter .ensures .1 .2))
+returns c =
+    let c₄ = c .before .before .before .before in let enter = c₄ .enter in
+    let c₇ = c₄ .before .before .before in let if1 = c₇ .if1 in
+    let c₈ = c₇ .before in let opening = c₈ .opening in
+    let c₁₂ = c₈ .before .before .before .before in let args = c₁₂ .args in
+    let i = args .i in
+    (λ f w σ sm st. subst (λ (τ : Reaches). Stack w (now (args .ids)) (enter .last .1 .1 .0) (enter .result .depth) (enter .result .crossing) (enter .last .1 .0) τ) (open-reach (args .a) (args .item) (w (i + 1)) (w (i + 2)) σ f (sym (opening .ensures) ∙ if1 .taken)) (enter .ensures .0 w σ sm st), (omega (arith, enter .ensures .1 .0), enter .ensures .1 .1, enter .ensures .1 .2))
 
 returns-2 : tie.Need-returns-2
-returns-2 c = (λ f w σ sm st. subst (λ (τ : Reaches). Stack w (now (c .before .before .before .before .before .before .before .before .before .before .before .before .args .ids)) (c .before .before .before .before .enter2 .last .1 .1 .0) (c .before .before .before .before .enter2 .result .depth) (c .before .before .before .before .enter2 .result .crossing) (c .before .before .before .before .enter2 .last .1 .0) τ) (some-reach (c .before .before .before .before .before .before .before .before .before .before .before .before .args .a) (c .before .before .before .before .before .before .before .before .before .before .before .before .args .item) (w ((c .before .before .before .before .before .before .before .before .before .before .before .before .args .i) + 1)) (w ((c .before .before .before .before .before .before .before .before .before .before .before .before .args .i) + 2)) σ f (c .before .before .before .before .before .before .before .if2 .taken)) (c .before .before .before .before .enter2 .ensures .0 w σ sm st), (omega (arith, c .before .before .before .before .enter2 .ensures .1 .0), c .before .before .before .before .enter2 .ensures .1 .1, c .before .before .before .before .enter2 .ensures .1 .2))
+returns-2 c =
+    let c₂ = c .before .before in let leave = c₂ .leave in
+    let c₅ = c₂ .before .before .before in let if2 = c₅ .if2 in
+    let c₆ = c₅ .before in let closing = c₆ .closing in
+    let c₇ = c₆ .before in let if1 = c₇ .if1 in
+    let c₈ = c₇ .before in let opening = c₈ .opening in
+    let c₁₂ = c₈ .before .before .before .before in let args = c₁₂ .args in
+    let ids = now (args .ids) in let i = args .i in
+    (λ f w σ sm st. subst (λ (τ : Reaches). Stack w ids (now (args .frames)) (leave .result .depth) (leave .result .crossing) (leave .last .0) τ) (close-reach (args .a) (args .item) (w (i + 1)) (w (i + 2)) σ (sym (opening .ensures) ∙ if1 .left) (sym (closing .ensures) ∙ if2 .taken)) (leave .ensures .0 w ids σ st), (omega (arith, leave .ensures .1 .0), leave .ensures .1 .1, leave .ensures .1 .2))
 
 returns-3 : tie.Need-returns-3
-returns-3 c = (λ f w σ sm st. subst (λ (τ : Reaches). Stack w (now (c .before .before .before .before .before .before .before .before .before .before .before .before .before .args .ids)) (c .before .before .before .before .enter3 .last .1 .1 .0) (c .before .before .before .before .enter3 .result .depth) (c .before .before .before .before .enter3 .result .crossing) (c .before .before .before .before .enter3 .last .1 .0) τ) (left-reach (c .before .before .before .before .before .before .before .before .before .before .before .before .before .args .a) (c .before .before .before .before .before .before .before .before .before .before .before .before .before .args .item) (w ((c .before .before .before .before .before .before .before .before .before .before .before .before .before .args .i) + 1)) (w ((c .before .before .before .before .before .before .before .before .before .before .before .before .before .args .i) + 2)) σ f (c .before .before .before .before .before .before .before .if3 .taken)) (c .before .before .before .before .enter3 .ensures .0 w σ sm st), (omega (arith, c .before .before .before .before .enter3 .ensures .1 .0), c .before .before .before .before .enter3 .ensures .1 .1, c .before .before .before .before .enter3 .ensures .1 .2))
-
-returns-4 : tie.Need-returns-4
-returns-4 c = (λ f w σ sm st. subst (λ (τ : Reaches). Stack w (now (c .before .before .before .before .before .before .before .before .before .before .before .before .args .ids)) (now (c .before .before .before .before .before .before .before .before .before .before .before .before .args .frames)) (c .before .before .leave .result .depth) (c .before .before .leave .result .crossing) (c .before .before .leave .last .0) τ) (right-reach (c .before .before .before .before .before .before .before .before .before .before .before .before .args .a) (c .before .before .before .before .before .before .before .before .before .before .before .before .args .item) (w ((c .before .before .before .before .before .before .before .before .before .before .before .before .args .i) + 1)) (w ((c .before .before .before .before .before .before .before .before .before .before .before .before .args .i) + 2)) σ (c .before .before .before .before .before .if4 .taken)) (c .before .before .leave .ensures .0 w (now (c .before .before .before .before .before .before .before .before .before .before .before .before .args .ids)) σ st), (omega (arith, c .before .before .leave .ensures .1 .0), c .before .before .leave .ensures .1 .1, c .before .before .leave .ensures .1 .2))
-
-returns-5 : tie.Need-returns-5
-returns-5 c = (λ f w σ sm st. subst (λ (τ : Reaches). Stack w (now (c .before .before .before .before .before .before .before .before .before .before .before .before .before .args .ids)) (now (c .before .before .before .before .before .before .before .before .before .before .before .before .before .args .frames)) (c .before .before .leave2 .result .depth) (c .before .before .leave2 .result .crossing) (c .before .before .leave2 .last .0) τ) (end-reach (c .before .before .before .before .before .before .before .before .before .before .before .before .before .args .a) (c .before .before .before .before .before .before .before .before .before .before .before .before .before .args .item) (w ((c .before .before .before .before .before .before .before .before .before .before .before .before .before .args .i) + 1)) (w ((c .before .before .before .before .before .before .before .before .before .before .before .before .before .args .i) + 2)) σ (c .before .before .before .before .before .if5 .taken)) (c .before .before .leave2 .ensures .0 w (now (c .before .before .before .before .before .before .before .before .before .before .before .before .before .args .ids)) σ st), (omega (arith, c .before .before .leave2 .ensures .1 .0), c .before .before .leave2 .ensures .1 .1, c .before .before .leave2 .ensures .1 .2))
-
-returns-6 : tie.Need-returns-6
-returns-6 c = (λ f w σ sm st. subst (λ (τ : Reaches). Stack w (now (c .before .before .before .before .before .before .before .before .args .ids)) (now (c .before .before .before .before .before .before .before .before .args .frames)) ((c .before .before .before .before .before .before .before .before .args .r) .depth) ((c .before .before .before .before .before .before .before .before .args .r) .crossing) (now (c .before .before .before .before .before .before .before .before .args .known)) τ) (same-reach (c .before .before .before .before .before .before .before .before .args .a) (c .before .before .before .before .before .before .before .before .args .item) (w ((c .before .before .before .before .before .before .before .before .args .i) + 1)) (w ((c .before .before .before .before .before .before .before .before .args .i) + 2)) σ (c .before .before .before .before .if1 .left) (c .before .before .before .if2 .left) (c .before .before .if3 .left) (c .before .if4 .left) (c .if5 .left)) st, (omega arith, c .before .before .before .before .before .before .before .before .pre .2, c .before .before .before .before .before .before .before .before .pre .6))
+returns-3 c =
+    let c₃ = c .before .before .before in let opening = c₃ .opening in
+    let c₇ = c₃ .before .before .before .before in let args = c₇ .args in let pre = c₇ .pre in
+    let i = args .i in let r = args .r in
+    (λ f w σ sm st. subst (λ (τ : Reaches). Stack w (now (args .ids)) (now (args .frames)) (r .depth) (r .crossing) (now (args .known)) τ) (same-reach (args .a) (args .item) (w (i + 1)) (w (i + 2)) σ (sym (opening .ensures) ∙ c .before .before .if1 .left) (sym (c .before .closing .ensures) ∙ c .if2 .left)) st, (omega arith, pre .2, pre .6))
 
 pub shift-spec : {M : Type 1} → statement M
 shift-spec =
     tie.close
     (tie.spec
     (λ c κs. search needs)
+    (λ c κs. search needs)
     (λ c. search needs)
     (λ c. search needs)
     returns
     (λ c κs. search needs)
+    (λ c κs. search needs)
     (λ c. search needs)
     (λ c. search needs)
     returns-2
-    (λ c κs. search needs)
-    (λ c. search needs)
-    (λ c. search needs)
-    returns-3
-    (λ c κs. search needs)
-    (λ c. search needs)
-    (λ c. search needs)
-    returns-4
-    (λ c κs. search needs)
-    (λ c. search needs)
-    (λ c. search needs)
-    returns-5
-    returns-6)
+    returns-3)

@@ -39,19 +39,45 @@ use Rattle.items.proofs.item_at.Reads as item-at-reads
 use Rattle.marks.proofs.is_point.Reads as is-point-reads
 
 returns : tie.Need-returns
-returns c = (λ text ss ls σ nm st. record { reaches = σ; stack = st; ends = λ z. ends-put text (table (now (c .before .before .before .before .before .before .before .before .before .before .before .before .before .before .before .args .kinds)) ss ls (now (c .before .before .before .before .before .before .before .before .before .before .before .before .before .before .before .args .numbers))) (now (c .before .before .before .before .before .before .before .before .before .before .before .before .before .before .before .args .counts)) (c .before .before .before .before .before .before .before .before .before .before .before .before .before .before .before .pre .0 .6) (c .before .before .before .before .before .before .before .before .before .before .before .before .before .before .before .args .i) (c .before .before .before .before .before .before .before .before .before .before .before .before .before .before .before .pre .0 .0) (entries (now (c .before .before .before .before .before .before .before .before .before .before .before .before .before .before .before .args .list))) z ((c .before .before .before .before .before .before .before .before .before .before .before .before .before .before .before .args .s) .mode) (c .before .before .before .before .before .before .before .before .before .before .before .before .before .before .before .pre .0 .3) σ ((c .before .before .before .before .before .before .before .before .before .before .before .before .before .before .before .args .s) .n) (now (c .before .before .before .before .before .before .before .before .before .before .before .before .before .before .before .args .out)) (now (c .before .before .before .before .before .before .before .before .before .before .before .before .before .before .before .args .out)) ((c .before .before .before .before .before .before .before .before .before .before .before .before .before .before .before .args .s) .at) ((c .before .before .before .before .before .before .before .before .before .before .before .before .before .before .before .args .s) .at) R.Short (I.Put R.Short) (c .before .before .before .action .result) _ (c .before .before .before .before .is-point .result) refl (c .before .before .before .before .is-point .ensures) (c .before .before .before .action .ensures) (sym (ap (λ (y : ℕ). itemOf (entries (now (c .before .before .before .before .before .before .before .before .before .before .before .before .before .before .before .args .list))) y (getD (now (c .before .before .before .before .before .before .before .before .before .before .before .before .before .before .before .args .kinds)) (c .before .before .before .before .before .before .before .before .before .before .before .before .before .before .before .args .i) 0 - 1) (getD (now (c .before .before .before .before .before .before .before .before .before .before .before .before .before .before .before .args .numbers)) (c .before .before .before .before .before .before .before .before .before .before .before .before .before .before .before .args .i) 0) ((nameIn text (now (c .before .before .before .before .before .before .before .before .before .before .before .before .before .before .before .args .kinds)) ss ls) (c .before .before .before .before .before .before .before .before .before .before .before .before .before .before .before .args .i)) ((nameIn text (now (c .before .before .before .before .before .before .before .before .before .before .before .before .before .before .before .args .kinds)) ss ls) ((c .before .before .before .before .before .before .before .before .before .before .before .before .before .before .before .args .i) + 2)) ((nameIn text (now (c .before .before .before .before .before .before .before .before .before .before .before .before .before .before .before .args .kinds)) ss ls) ((c .before .before .before .before .before .before .before .before .before .before .before .before .before .before .before .args .i) + 3)) ((nameIn text (now (c .before .before .before .before .before .before .before .before .before .before .before .before .before .before .before .args .kinds)) ss ls) ((c .before .before .before .before .before .before .before .before .before .before .before .before .before .before .before .args .i) + 4)) (inner σ) ((c .before .before .before .before .before .before .before .before .before .before .before .before .before .before .before .args .s) .n)) ((quiet-parts ((c .before .before .before .before .before .before .before .before .before .before .before .before .before .before .before .args .s) .mode) (c .before .before .before .action .result) (sym (c .before .quiet .ensures) ∙ c .if1 .taken)) .1))) refl _ (c .before .before .next-mode .ensures) _ (sym (ap (λ (y : ℕ). reachAfter y ((nameIn text (now (c .before .before .before .before .before .before .before .before .before .before .before .before .before .before .before .args .kinds)) ss ls) ((c .before .before .before .before .before .before .before .before .before .before .before .before .before .before .before .args .i) + 1)) ((nameIn text (now (c .before .before .before .before .before .before .before .before .before .before .before .before .before .before .before .args .kinds)) ss ls) ((c .before .before .before .before .before .before .before .before .before .before .before .before .before .before .before .args .i) + 2)) R.Short σ) ((quiet-parts ((c .before .before .before .before .before .before .before .before .before .before .before .before .before .before .before .args .s) .mode) (c .before .before .before .action .result) (sym (c .before .quiet .ensures) ∙ c .if1 .taken)) .1))) _ (sym (ap (λ (y : ℕ). numberAfter y ((c .before .before .before .before .before .before .before .before .before .before .before .before .before .before .before .args .s) .n)) ((quiet-parts ((c .before .before .before .before .before .before .before .before .before .before .before .before .before .before .before .args .s) .mode) (c .before .before .before .action .result) (sym (c .before .quiet .ensures) ∙ c .if1 .taken)) .1))) ((quiet-write (now (c .before .before .before .before .before .before .before .before .before .before .before .before .before .before .before .args .out)) ((c .before .before .before .before .before .before .before .before .before .before .before .before .before .before .before .args .s) .at) ((c .before .before .before .before .before .before .before .before .before .before .before .before .before .before .before .args .s) .mode) (getD (now (c .before .before .before .before .before .before .before .before .before .before .before .before .before .before .before .args .kinds)) (c .before .before .before .before .before .before .before .before .before .before .before .before .before .before .before .args .i) 0) (orsIn (getD (now (c .before .before .before .before .before .before .before .before .before .before .before .before .before .before .before .args .counts)) (c .before .before .before .before .before .before .before .before .before .before .before .before .before .before .before .args .i) 0)) (andsIn (getD (now (c .before .before .before .before .before .before .before .before .before .before .before .before .before .before .before .args .counts)) (c .before .before .before .before .before .before .before .before .before .before .before .before .before .before .before .args .i) 0)) (1 + signIn (getD (now (c .before .before .before .before .before .before .before .before .before .before .before .before .before .before .before .args .counts)) ((c .before .before .before .before .before .before .before .before .before .before .before .before .before .before .before .args .i) + 1) 0)) ((quiet-parts ((c .before .before .before .before .before .before .before .before .before .before .before .before .before .before .before .args .s) .mode) (c .before .before .before .action .result) (sym (c .before .quiet .ensures) ∙ c .if1 .taken)) .0)) .0) ((quiet-write (now (c .before .before .before .before .before .before .before .before .before .before .before .before .before .before .before .args .out)) ((c .before .before .before .before .before .before .before .before .before .before .before .before .before .before .before .args .s) .at) ((c .before .before .before .before .before .before .before .before .before .before .before .before .before .before .before .args .s) .mode) (getD (now (c .before .before .before .before .before .before .before .before .before .before .before .before .before .before .before .args .kinds)) (c .before .before .before .before .before .before .before .before .before .before .before .before .before .before .before .args .i) 0) (orsIn (getD (now (c .before .before .before .before .before .before .before .before .before .before .before .before .before .before .before .args .counts)) (c .before .before .before .before .before .before .before .before .before .before .before .before .before .before .before .args .i) 0)) (andsIn (getD (now (c .before .before .before .before .before .before .before .before .before .before .before .before .before .before .before .args .counts)) (c .before .before .before .before .before .before .before .before .before .before .before .before .before .before .before .args .i) 0)) (1 + signIn (getD (now (c .before .before .before .before .before .before .before .before .before .before .before .before .before .before .before .args .counts)) ((c .before .before .before .before .before .before .before .before .before .before .before .before .before .before .before .args .i) + 1) 0)) ((quiet-parts ((c .before .before .before .before .before .before .before .before .before .before .before .before .before .before .before .args .s) .mode) (c .before .before .before .action .result) (sym (c .before .quiet .ensures) ∙ c .if1 .taken)) .0)) .1) }, ((omega (arith, c .before .before .next-mode .ensures, mode-most ((c .before .before .before .before .before .before .before .before .before .before .before .before .before .before .before .args .s) .mode) (getD (now (c .before .before .before .before .before .before .before .before .before .before .before .before .before .before .before .args .kinds)) (c .before .before .before .before .before .before .before .before .before .before .before .before .before .before .before .args .i) 0) (c .before .before .before .before .is-point .result) (c .before .before .before .before .before .before .before .before .before .before .before .before .before .before .before .pre .0 .3)), omega arith, omega arith, omega arith, c .before .before .before .before .before .before .before .before .before .before .before .before .before .before .before .pre .1 .1), c .before .before .before .before .before .before .before .before .before .before .before .before .before .before .before .pre .1 .4))
+returns c =
+    let c₁ = c .before in let quiet = c₁ .quiet in
+    let c₂ = c₁ .before in let next-mode = c₂ .next-mode in
+    let c₃ = c₂ .before in let action = c₃ .action in
+    let c₄ = c₃ .before in let is-point = c₄ .is-point in
+    let c₁₅ = c₄ .before .before .before .before .before .before .before .before .before .before .before in let args = c₁₅ .args in let pre = c₁₅ .pre in
+    let counts = now (args .counts) in let kinds = now (args .kinds) in let list = now (args .list) in let numbers = now (args .numbers) in let out = now (args .out) in let i = args .i in let s = args .s in
+    (λ text ss ls σ nm st. record { reaches = σ; stack = st; ends = λ z. ends-put text (table kinds ss ls numbers) counts (pre .0 .6) i (pre .0 .0) (entries list) z (s .mode) (pre .0 .3) σ (s .n) out out (s .at) (s .at) R.Short (I.Put R.Short) (action .result) _ (is-point .result) refl (is-point .ensures) (action .ensures) (sym (ap (λ (y : ℕ). itemOf (entries list) y (getD kinds i 0 - 1) (getD numbers i 0) ((nameIn text kinds ss ls) i) ((nameIn text kinds ss ls) (i + 2)) ((nameIn text kinds ss ls) (i + 3)) ((nameIn text kinds ss ls) (i + 4)) (inner σ) (s .n)) ((quiet-parts (s .mode) (action .result) (sym (quiet .ensures) ∙ c .if1 .taken)) .1))) refl _ (next-mode .ensures) _ (sym (ap (λ (y : ℕ). reachAfter y ((nameIn text kinds ss ls) (i + 1)) ((nameIn text kinds ss ls) (i + 2)) R.Short σ) ((quiet-parts (s .mode) (action .result) (sym (quiet .ensures) ∙ c .if1 .taken)) .1))) _ (sym (ap (λ (y : ℕ). numberAfter y (s .n)) ((quiet-parts (s .mode) (action .result) (sym (quiet .ensures) ∙ c .if1 .taken)) .1))) ((quiet-write out (s .at) (s .mode) (getD kinds i 0) (orsIn (getD counts i 0)) (andsIn (getD counts i 0)) (1 + signIn (getD counts (i + 1) 0)) ((quiet-parts (s .mode) (action .result) (sym (quiet .ensures) ∙ c .if1 .taken)) .0)) .0) ((quiet-write out (s .at) (s .mode) (getD kinds i 0) (orsIn (getD counts i 0)) (andsIn (getD counts i 0)) (1 + signIn (getD counts (i + 1) 0)) ((quiet-parts (s .mode) (action .result) (sym (quiet .ensures) ∙ c .if1 .taken)) .0)) .1) }, ((omega (arith, next-mode .ensures, mode-most (s .mode) (getD kinds i 0) (is-point .result) (pre .0 .3)), omega arith, omega arith, omega arith, pre .1 .1), pre .1 .4))
 
 returns-2 : tie.Need-returns-2
-returns-2 c = (λ text ss ls σ nm st. λ z. ends-refused text (table (now (c .before .before .before .before .before .before .before .before .before .before .before .before .before .before .before .before .before .before .before .args .kinds)) ss ls (now (c .before .before .before .before .before .before .before .before .before .before .before .before .before .before .before .before .before .before .before .args .numbers))) (now (c .before .before .before .before .before .before .before .before .before .before .before .before .before .before .before .before .before .before .before .args .counts)) (c .before .before .before .before .before .before .before .before .before .before .before .before .before .before .before .before .before .before .before .pre .0 .6) (c .before .before .before .before .before .before .before .before .before .before .before .before .before .before .before .before .before .before .before .args .i) (c .before .before .before .before .before .before .before .before .before .before .before .before .before .before .before .before .before .before .before .pre .0 .0) (entries (now (c .before .before .before .before .before .before .before .before .before .before .before .before .before .before .before .before .before .before .before .args .list))) z ((c .before .before .before .before .before .before .before .before .before .before .before .before .before .before .before .before .before .before .before .args .s) .mode) (c .before .before .before .before .before .before .before .before .before .before .before .before .before .before .before .before .before .before .before .pre .0 .3) σ ((c .before .before .before .before .before .before .before .before .before .before .before .before .before .before .before .before .before .before .before .args .s) .n) (now (c .before .before .before .before .before .before .before .before .before .before .before .before .before .before .before .before .before .before .before .args .out)) (now (c .before .before .before .before .before .before .before .before .before .before .before .before .before .before .before .before .before .before .before .args .out)) ((c .before .before .before .before .before .before .before .before .before .before .before .before .before .before .before .before .before .before .before .args .s) .at) 0 R.Short _ (c .before .before .before .before .before .before .before .action .result) _ (c .before .before .before .before .before .before .before .before .is-point .result) refl (c .before .before .before .before .before .before .before .before .is-point .ensures) (c .before .before .before .before .before .before .before .action .ensures) (c .before .before .item-at .ensures (nameIn text (now (c .before .before .before .before .before .before .before .before .before .before .before .before .before .before .before .before .before .before .before .args .kinds)) ss ls) (inner σ) ((c .before .before .before .before .before .before .before .before .before .before .before .before .before .before .before .before .before .before .before .args .s) .depth) nm (stack-top (nameIn text (now (c .before .before .before .before .before .before .before .before .before .before .before .before .before .before .before .before .before .before .before .args .kinds)) ss ls) (now (c .before .before .before .before .before .before .before .before .before .before .before .before .before .before .before .before .before .before .before .args .ids)) (now (c .before .before .before .before .before .before .before .before .before .before .before .before .before .before .before .before .before .before .before .args .frames)) ((c .before .before .before .before .before .before .before .before .before .before .before .before .before .before .before .before .before .before .before .args .s) .depth) ((c .before .before .before .before .before .before .before .before .before .before .before .before .before .before .before .before .before .before .before .args .s) .crossing) (now (c .before .before .before .before .before .before .before .before .before .before .before .before .before .before .before .before .before .before .before .args .known)) σ st)) (c .enum-told .given .1), (tt, c .before .before .before .before .before .before .before .before .before .before .before .before .before .before .before .before .before .before .before .pre .1 .4))
+returns-2 c =
+    let c₇ = c .before .before .before .before .before .before .before in let action = c₇ .action in
+    let c₈ = c₇ .before in let is-point = c₈ .is-point in
+    let c₁₉ = c₈ .before .before .before .before .before .before .before .before .before .before .before in let args = c₁₉ .args in let pre = c₁₉ .pre in
+    let kinds = now (args .kinds) in let out = now (args .out) in let s = args .s in
+    (λ text ss ls σ nm st. λ z. ends-refused text (table kinds ss ls (now (args .numbers))) (now (args .counts)) (pre .0 .6) (args .i) (pre .0 .0) (entries (now (args .list))) z (s .mode) (pre .0 .3) σ (s .n) out out (s .at) 0 R.Short _ (action .result) _ (is-point .result) refl (is-point .ensures) (action .ensures) (c .before .before .item-at .ensures (nameIn text kinds ss ls) (inner σ) (s .depth) nm (stack-top (nameIn text kinds ss ls) (now (args .ids)) (now (args .frames)) (s .depth) (s .crossing) (now (args .known)) σ st)) (c .enum-told .given .1), (tt, pre .1 .4))
 
 shift-requires : tie.Need-shift-requires
-shift-requires c κs = (c .before .before .before .before .before .before .before .before .before .before .before .before .before .before .before .before .before .before .before .before .before .before .before .before .before .before .pre .0 .2, c .before .before .before .before .before .before .before .before .before .before .before .before .before .before .before .before .before .before .before .before .before .before .before .before .before .before .pre .1 .0, c .before .before .before .before .before .before .before .before .before .before .before .before .before .before .before .before .before .before .before .before .before .before .before .before .before .before .pre .1 .1, omega (arith, c .before .before .before .before .before .before .before .before .before .before .before .before .before .before .before .before .before .before .before .before .before .before .before .before .before .before .pre .0 .0, c .before .before .before .before .before .before .before .before .before .before .before .before .before .before .before .before .before .before .before .before .before .before .before .before .before .before .pre .0 .1), c .before .before .before .before .before .before .before .before .before .before .before .before .before .before .before .before .before .before .before .before .before .before .before .before .before .before .pre .1 .2, c .before .before .before .before .before .before .before .before .before .before .before .before .before .before .before .before .before .before .before .before .before .before .before .before .before .before .pre .1 .3, c .before .before .before .before .before .before .before .before .before .before .before .before .before .before .before .before .before .before .before .before .before .before .before .before .before .before .pre .1 .4)
+shift-requires c κs =
+    let c₂₆ = c .before .before .before .before .before .before .before .before .before .before .before .before .before .before .before .before .before .before .before .before .before .before .before .before .before .before in let pre = c₂₆ .pre in
+    (pre .0 .2, pre .1 .0, pre .1 .1, omega (arith, pre .0 .0, pre .0 .1), pre .1 .2, pre .1 .3, pre .1 .4)
 
 number-requires : tie.Need-number-requires
-number-requires c κs = c .before .before .before .before .before .before .before .before .before .before .before .before .before .before .before .before .before .before .before .before .before .before .before .before .before .before .before .before .before .before .before .pre .0 .4
+number-requires c κs =
+    let c₃₁ = c .before .before .before .before .before .before .before .before .before .before .before .before .before .before .before .before .before .before .before .before .before .before .before .before .before .before .before .before .before .before .before in let pre = c₃₁ .pre in
+    pre .0 .4
 
 returns-3 : tie.Need-returns-3
-returns-3 c = (λ text ss ls σ nm st. record { reaches = reachAfter (c .before .before .before .before .before .before .before .before .before .before .before .before .before .before .before .before .before .before .before .before .action .result) ((nameIn text (now (c .before .before .before .before .before .before .before .before .before .before .before .before .before .before .before .before .before .before .before .before .before .before .before .before .before .before .before .before .before .before .before .before .args .kinds)) ss ls) ((c .before .before .before .before .before .before .before .before .before .before .before .before .before .before .before .before .before .before .before .before .before .before .before .before .before .before .before .before .before .before .before .before .args .i) + 1)) ((nameIn text (now (c .before .before .before .before .before .before .before .before .before .before .before .before .before .before .before .before .before .before .before .before .before .before .before .before .before .before .before .before .before .before .before .before .args .kinds)) ss ls) ((c .before .before .before .before .before .before .before .before .before .before .before .before .before .before .before .before .before .before .before .before .before .before .before .before .before .before .before .before .before .before .before .before .args .i) + 2)) (c .before .before .before .before .before .before .before .before .before .before .before .before .before .r .given .0 .0) σ; stack = c .before .before .before .before .before .shift .ensures .0 (fits (entries (now (c .before .before .before .before .before .before .before .before .before .before .before .before .before .before .before .before .before .before .before .before .before .before .before .before .before .before .before .before .before .before .before .before .args .list))) (c .before .before .before .before .before .before .before .before .before .before .before .before .before .before .before .before .before .before .before .before .action .result) (getD (now (c .before .before .before .before .before .before .before .before .before .before .before .before .before .before .before .before .before .before .before .before .before .before .before .before .before .before .before .before .before .before .before .before .args .kinds)) (c .before .before .before .before .before .before .before .before .before .before .before .before .before .before .before .before .before .before .before .before .before .before .before .before .before .before .before .before .before .before .before .before .args .i) 0 - 1) (getD (now (c .before .before .before .before .before .before .before .before .before .before .before .before .before .before .before .before .before .before .before .before .before .before .before .before .before .before .before .before .before .before .before .before .args .numbers)) (c .before .before .before .before .before .before .before .before .before .before .before .before .before .before .before .before .before .before .before .before .before .before .before .before .before .before .before .before .before .before .before .before .args .i) 0) ((nameIn text (now (c .before .before .before .before .before .before .before .before .before .before .before .before .before .before .before .before .before .before .before .before .before .before .before .before .before .before .before .before .before .before .before .before .args .kinds)) ss ls) (c .before .before .before .before .before .before .before .before .before .before .before .before .before .before .before .before .before .before .before .before .before .before .before .before .before .before .before .before .before .before .before .before .args .i)) ((nameIn text (now (c .before .before .before .before .before .before .before .before .before .before .before .before .before .before .before .before .before .before .before .before .before .before .before .before .before .before .before .before .before .before .before .before .args .kinds)) ss ls) ((c .before .before .before .before .before .before .before .before .before .before .before .before .before .before .before .before .before .before .before .before .before .before .before .before .before .before .before .before .before .before .before .before .args .i) + 2)) ((nameIn text (now (c .before .before .before .before .before .before .before .before .before .before .before .before .before .before .before .before .before .before .before .before .before .before .before .before .before .before .before .before .before .before .before .before .args .kinds)) ss ls) ((c .before .before .before .before .before .before .before .before .before .before .before .before .before .before .before .before .before .before .before .before .before .before .before .before .before .before .before .before .before .before .before .before .args .i) + 3)) ((nameIn text (now (c .before .before .before .before .before .before .before .before .before .before .before .before .before .before .before .before .before .before .before .before .before .before .before .before .before .before .before .before .before .before .before .before .args .kinds)) ss ls) ((c .before .before .before .before .before .before .before .before .before .before .before .before .before .before .before .before .before .before .before .before .before .before .before .before .before .before .before .before .before .before .before .before .args .i) + 4)) (inner σ) ((c .before .before .before .before .before .before .before .before .before .before .before .before .before .before .before .before .before .before .before .before .before .before .before .before .before .before .before .before .before .before .before .before .args .s) .n) _ _ (c .before .before .before .before .before .before .before .before .before .before .before .before .before .before .before .item-at .ensures (nameIn text (now (c .before .before .before .before .before .before .before .before .before .before .before .before .before .before .before .before .before .before .before .before .before .before .before .before .before .before .before .before .before .before .before .before .args .kinds)) ss ls) (inner σ) ((c .before .before .before .before .before .before .before .before .before .before .before .before .before .before .before .before .before .before .before .before .before .before .before .before .before .before .before .before .before .before .before .before .args .s) .depth) nm (stack-top (nameIn text (now (c .before .before .before .before .before .before .before .before .before .before .before .before .before .before .before .before .before .before .before .before .before .before .before .before .before .before .before .before .before .before .before .before .args .kinds)) ss ls) (now (c .before .before .before .before .before .before .before .before .before .before .before .before .before .before .before .before .before .before .before .before .before .before .before .before .before .before .before .before .before .before .before .before .args .ids)) (now (c .before .before .before .before .before .before .before .before .before .before .before .before .before .before .before .before .before .before .before .before .before .before .before .before .before .before .before .before .before .before .before .before .args .frames)) ((c .before .before .before .before .before .before .before .before .before .before .before .before .before .before .before .before .before .before .before .before .before .before .before .before .before .before .before .before .before .before .before .before .args .s) .depth) ((c .before .before .before .before .before .before .before .before .before .before .before .before .before .before .before .before .before .before .before .before .before .before .before .before .before .before .before .before .before .before .before .before .args .s) .crossing) (now (c .before .before .before .before .before .before .before .before .before .before .before .before .before .before .before .before .before .before .before .before .before .before .before .before .before .before .before .before .before .before .before .before .args .known)) σ st)) (c .before .before .before .before .before .before .before .before .before .before .before .before .before .r .given .1)) (nameIn text (now (c .before .before .before .before .before .before .before .before .before .before .before .before .before .before .before .before .before .before .before .before .before .before .before .before .before .before .before .before .before .before .before .before .args .kinds)) ss ls) σ (nm .same) st; ends = λ z. ends-put text (table (now (c .before .before .before .before .before .before .before .before .before .before .before .before .before .before .before .before .before .before .before .before .before .before .before .before .before .before .before .before .before .before .before .before .args .kinds)) ss ls (now (c .before .before .before .before .before .before .before .before .before .before .before .before .before .before .before .before .before .before .before .before .before .before .before .before .before .before .before .before .before .before .before .before .args .numbers))) (now (c .before .before .before .before .before .before .before .before .before .before .before .before .before .before .before .before .before .before .before .before .before .before .before .before .before .before .before .before .before .before .before .before .args .counts)) (c .before .before .before .before .before .before .before .before .before .before .before .before .before .before .before .before .before .before .before .before .before .before .before .before .before .before .before .before .before .before .before .before .pre .0 .6) (c .before .before .before .before .before .before .before .before .before .before .before .before .before .before .before .before .before .before .before .before .before .before .before .before .before .before .before .before .before .before .before .before .args .i) (c .before .before .before .before .before .before .before .before .before .before .before .before .before .before .before .before .before .before .before .before .before .before .before .before .before .before .before .before .before .before .before .before .pre .0 .0) (entries (now (c .before .before .before .before .before .before .before .before .before .before .before .before .before .before .before .before .before .before .before .before .before .before .before .before .before .before .before .before .before .before .before .before .args .list))) z ((c .before .before .before .before .before .before .before .before .before .before .before .before .before .before .before .before .before .before .before .before .before .before .before .before .before .before .before .before .before .before .before .before .args .s) .mode) (c .before .before .before .before .before .before .before .before .before .before .before .before .before .before .before .before .before .before .before .before .before .before .before .before .before .before .before .before .before .before .before .before .pre .0 .3) σ ((c .before .before .before .before .before .before .before .before .before .before .before .before .before .before .before .before .before .before .before .before .before .before .before .before .before .before .before .before .before .before .before .before .args .s) .n) (now (c .before .before .before .before .before .before .before .before .before .before .before .before .before .before .before .before .before .before .before .before .before .before .before .before .before .before .before .before .before .before .before .before .args .out)) _ ((c .before .before .before .before .before .before .before .before .before .before .before .before .before .before .before .before .before .before .before .before .before .before .before .before .before .before .before .before .before .before .before .before .args .s) .at) _ _ _ (c .before .before .before .before .before .before .before .before .before .before .before .before .before .before .before .before .before .before .before .before .action .result) _ (c .before .before .before .before .before .before .before .before .before .before .before .before .before .before .before .before .before .before .before .before .before .is-point .result) refl (c .before .before .before .before .before .before .before .before .before .before .before .before .before .before .before .before .before .before .before .before .before .is-point .ensures) (c .before .before .before .before .before .before .before .before .before .before .before .before .before .before .before .before .before .before .before .before .action .ensures) (c .before .before .before .before .before .before .before .before .before .before .before .before .before .before .before .item-at .ensures (nameIn text (now (c .before .before .before .before .before .before .before .before .before .before .before .before .before .before .before .before .before .before .before .before .before .before .before .before .before .before .before .before .before .before .before .before .args .kinds)) ss ls) (inner σ) ((c .before .before .before .before .before .before .before .before .before .before .before .before .before .before .before .before .before .before .before .before .before .before .before .before .before .before .before .before .before .before .before .before .args .s) .depth) nm (stack-top (nameIn text (now (c .before .before .before .before .before .before .before .before .before .before .before .before .before .before .before .before .before .before .before .before .before .before .before .before .before .before .before .before .before .before .before .before .args .kinds)) ss ls) (now (c .before .before .before .before .before .before .before .before .before .before .before .before .before .before .before .before .before .before .before .before .before .before .before .before .before .before .before .before .before .before .before .before .args .ids)) (now (c .before .before .before .before .before .before .before .before .before .before .before .before .before .before .before .before .before .before .before .before .before .before .before .before .before .before .before .before .before .before .before .before .args .frames)) ((c .before .before .before .before .before .before .before .before .before .before .before .before .before .before .before .before .before .before .before .before .before .before .before .before .before .before .before .before .before .before .before .before .args .s) .depth) ((c .before .before .before .before .before .before .before .before .before .before .before .before .before .before .before .before .before .before .before .before .before .before .before .before .before .before .before .before .before .before .before .before .args .s) .crossing) (now (c .before .before .before .before .before .before .before .before .before .before .before .before .before .before .before .before .before .before .before .before .before .before .before .before .before .before .before .before .before .before .before .before .args .known)) σ st)) (c .before .before .before .before .before .before .before .before .before .before .before .before .before .r .given .1) _ (c .before .before .before .before .before .before .before .before .before .before .before .before .before .before .before .before .before .before .before .next-mode .ensures) _ refl _ (c .number .ensures .0) (c .before .before .before .before .before .before .before .before .before .before .write .ensures .0) (c .before .before .before .before .before .before .before .before .before .before .write .ensures .1 .0) }, ((omega (arith, c .before .before .before .before .before .before .before .before .before .before .before .before .before .before .before .before .before .before .before .next-mode .ensures, mode-most ((c .before .before .before .before .before .before .before .before .before .before .before .before .before .before .before .before .before .before .before .before .before .before .before .before .before .before .before .before .before .before .before .before .args .s) .mode) (getD (now (c .before .before .before .before .before .before .before .before .before .before .before .before .before .before .before .before .before .before .before .before .before .before .before .before .before .before .before .before .before .before .before .before .args .kinds)) (c .before .before .before .before .before .before .before .before .before .before .before .before .before .before .before .before .before .before .before .before .before .before .before .before .before .before .before .before .before .before .before .before .args .i) 0) (c .before .before .before .before .before .before .before .before .before .before .before .before .before .before .before .before .before .before .before .before .before .is-point .result) (c .before .before .before .before .before .before .before .before .before .before .before .before .before .before .before .before .before .before .before .before .before .before .before .before .before .before .before .before .before .before .before .before .pre .0 .3)), c .before .before .before .before .before .shift .ensures .1 .0, c .number .ensures .1, c .before .before .before .before .before .before .before .before .before .before .write .ensures .1 .1, c .before .before .before .before .before .shift .ensures .1 .1), c .before .before .before .before .before .shift .ensures .1 .2))
+returns-3 c =
+    let c₅ = c .before .before .before .before .before in let shift = c₅ .shift in
+    let c₁₀ = c₅ .before .before .before .before .before in let write = c₁₀ .write in
+    let c₁₃ = c₁₀ .before .before .before in let r = c₁₃ .r in
+    let c₁₅ = c₁₃ .before .before in let item-at = c₁₅ .item-at in
+    let c₁₉ = c₁₅ .before .before .before .before in let next-mode = c₁₉ .next-mode in
+    let c₂₀ = c₁₉ .before in let action = c₂₀ .action in
+    let c₂₁ = c₂₀ .before in let is-point = c₂₁ .is-point in
+    let c₃₂ = c₂₁ .before .before .before .before .before .before .before .before .before .before .before in let args = c₃₂ .args in let pre = c₃₂ .pre in
+    let frames = now (args .frames) in let ids = now (args .ids) in let kinds = now (args .kinds) in let known = now (args .known) in let list = now (args .list) in let numbers = now (args .numbers) in let i = args .i in let s = args .s in
+    (λ text ss ls σ nm st. record { reaches = reachAfter (action .result) ((nameIn text kinds ss ls) (i + 1)) ((nameIn text kinds ss ls) (i + 2)) (r .given .0 .0) σ; stack = shift .ensures .0 (fits (entries list) (action .result) (getD kinds i 0 - 1) (getD numbers i 0) ((nameIn text kinds ss ls) i) ((nameIn text kinds ss ls) (i + 2)) ((nameIn text kinds ss ls) (i + 3)) ((nameIn text kinds ss ls) (i + 4)) (inner σ) (s .n) _ _ (item-at .ensures (nameIn text kinds ss ls) (inner σ) (s .depth) nm (stack-top (nameIn text kinds ss ls) ids frames (s .depth) (s .crossing) known σ st)) (r .given .1)) (nameIn text kinds ss ls) σ (nm .same) st; ends = λ z. ends-put text (table kinds ss ls numbers) (now (args .counts)) (pre .0 .6) i (pre .0 .0) (entries list) z (s .mode) (pre .0 .3) σ (s .n) (now (args .out)) _ (s .at) _ _ _ (action .result) _ (is-point .result) refl (is-point .ensures) (action .ensures) (item-at .ensures (nameIn text kinds ss ls) (inner σ) (s .depth) nm (stack-top (nameIn text kinds ss ls) ids frames (s .depth) (s .crossing) known σ st)) (r .given .1) _ (next-mode .ensures) _ refl _ (c .number .ensures .0) (write .ensures .0) (write .ensures .1 .0) }, ((omega (arith, next-mode .ensures, mode-most (s .mode) (getD kinds i 0) (is-point .result) (pre .0 .3)), shift .ensures .1 .0, c .number .ensures .1, write .ensures .1 .1, shift .ensures .1 .1), shift .ensures .1 .2))
 
 pub turn-spec : {M : Type 1} → statement M
 turn-spec =
