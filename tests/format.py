@@ -62,6 +62,21 @@ def read(name, pattern):
     return groups[0] if len(groups) == 1 else groups
 
 
+def limit(name, pattern):
+    """What the fields of `limits` that a definition reads are: a number, or the five of a query."""
+    found = re.search(pattern.replace("FIELD", r"\(?limits \.([\w-]+)\)?"), definition(name))
+    if not found:
+        sys.exit(f"format.py: the definition of {name} is not as this test reads it: {pattern}")
+    query = r"record \{ bytes = (\d+); nesting = (\d+); bound = (\d+); ranges = (\d+); targets = (\d+) \}"
+    values = []
+    for field in found.groups():
+        value = re.search(rf"[ {{]{field} = (?:(\d+)|{query});", definition("limits"))
+        if not value:
+            sys.exit(f"format.py: limits has no {field}")
+        values.append(int(value[1]) if value[1] else [int(text) for text in value.groups()[1:]])
+    return values[0] if len(values) == 1 else values
+
+
 def by_kind(name):
     return {kind: int(value) for kind, value in re.findall(rf"^\s*{name} k-(\w+) = (\d+)", SPECS, re.M)}
 
@@ -157,11 +172,10 @@ def refusals():
 
 
 def limits():
-    fields = r"bytes = (\d+); nesting = (\d+); bound = (\d+); ranges = (\d+); targets = (\d+)"
-    ask, plain = read("guardedLimits", fields), read("plainLimits", fields)
-    permit = read("permitFits", r"\[\]\)\) (\d+) &&.*levels.* (\d+) &&.*bindings.* (\d+)")
-    relations = read("fails10", r"ltb (\d+) \(length")
-    attributes, rows = read("readCatalogue", r"leb w (\d+)\).*leb \(a \+ 256 \* b\) (\d+)")
+    ask, plain = limit("guardedLimits", "FIELD"), limit("plainLimits", "FIELD")
+    permit = limit("permitFits", r"\[\]\)\) FIELD &&.*levels.* FIELD &&.*bindings.* FIELD")
+    relations = limit("fails10", r"ltb FIELD \(length")
+    attributes, rows = limit("readCatalogue", r"leb w FIELD\).*leb \(a \+ 256 \* b\) FIELD")
 
     def refuses(name, *parts):
         """The number of a check whose definition uses all these."""
@@ -171,12 +185,12 @@ def limits():
         "relations": [refuses(10, "length"), relations, relations],
         "attributes of a relation": [refuses(10, "catalogueRead"), attributes, attributes],
         "rows of a relation": [refuses(10, "catalogueRead"), rows, rows],
-        "bytes of the permit list": [20, read("fails20", r"ltb (\d+)")],
-        "permits": [21, read("fails21", r"ltb (\d+)")],
+        "bytes of the permit list": [20, limit("fails20", "ltb FIELD")],
+        "permits": [21, limit("fails21", "ltb FIELD")],
         "bytes of a permit, all its records": [refuses(21, "permitFits"), permit[0]],
         "levels of a permit's condition": [refuses(21, "permitFits"), permit[1]],
         "binding records of a permit": [refuses(21, "permitFits"), permit[2]],
-        "largest variable of a permit": [refuses(22, "permitKnown"), read("permitKnown", r"inScope sh (\d+)") - 1],
+        "largest variable of a permit": [refuses(22, "permitKnown"), limit("permitKnown", "inScope sh FIELD") - 1],
         "bytes of a question": [refuses(30, ".bytes"), ask[0], plain[0]],
         "ranges": [refuses(31, ".ranges"), ask[3], plain[3]],
         "targets": [refuses(31, ".targets"), ask[4], plain[4]],
