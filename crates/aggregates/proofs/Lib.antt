@@ -1,3 +1,4 @@
 pub mod Steps
 pub mod Faithful
 pub mod Taking
+pub mod Remembers

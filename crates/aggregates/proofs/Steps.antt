@@ -9,11 +9,14 @@ use denote.Enum.Declared.{tagOf, declared}
 use types.Run.{OneOf, miss}
 use Rattle.model.specs.Syntax.{Condition, Term, TRUE, FALSE}
 use Rattle.model.specs.Meaning.{Assignment, Rows, Value}
-use Rattle.kinds.proofs.Record.{enum}
+use Rattle.kinds.proofs.ConditionRecord as a-condition
+use Rattle.kinds.proofs.TermRecord as a-term
 use Rattle.kinds.specs.Tables.{recordLength}
-use Rattle.kinds.specs.Record.{recordAt}
-use Rattle.kinds.specs.declared.Record.{Record}
-use Rattle.kinds.specs.declared.Record.the-variants as R
+use Rattle.kinds.specs.Places.{conditionAt, termAt}
+use Rattle.kinds.specs.declared.ConditionRecord.{ConditionRecord}
+use Rattle.kinds.specs.declared.ConditionRecord.the-variants as C
+use Rattle.kinds.specs.declared.TermRecord.{TermRecord}
+use Rattle.kinds.specs.declared.TermRecord.the-variants as T
 use Rattle.numbers.specs.Memo.{remembered}
 use Rattle.sizes.specs.Decode.{first, second, conditionBy, termBy, nothing, decode, decodeT}
 use Rattle.sizes.specs.Parts.{targetsAt}
@@ -33,22 +36,22 @@ module _ (S : Rows) (e : Assignment) (q z : List ℕ) (m : List ℤ) where
   none-leftT l h = rw h
 
   -- by the record that q starts with
-  filled-is : (l : ℕ) (r : Record) → (l ≡ 0 → ⊥) → r ≡ recordAt q → filledC (conditionBy r (λ x y. decode (l - 1) x y) (λ x y. decodeT (l - 1) x y) q z) S e m ≡ filledC (decode l q z) S e m
+  filled-is : (l : ℕ) (r : ConditionRecord) → (l ≡ 0 → ⊥) → r ≡ conditionAt q → filledC (conditionBy r (λ x y. decode (l - 1) x y) (λ x y. decodeT (l - 1) x y) q z) S e m ≡ filledC (decode l q z) S e m
   unfolding decode
   filled-is zero r h k = absurd (h refl)
   filled-is (suc l) r h k = rw (sub-one, k)
 
-  filledT-is : (l : ℕ) (r : Record) → (l ≡ 0 → ⊥) → r ≡ recordAt q → filledT (termBy r (λ x y. decode (l - 1) x y) q z) S e m ≡ filledT (decodeT l q z) S e m
+  filledT-is : (l : ℕ) (r : TermRecord) → (l ≡ 0 → ⊥) → r ≡ termAt q → filledT (termBy r (λ x y. decode (l - 1) x y) q z) S e m ≡ filledT (decodeT l q z) S e m
   unfolding decode
   filledT-is zero r h k = absurd (h refl)
   filledT-is (suc l) r h k = rw (sub-one, k)
 
-  decoded : (l : ℕ) (r : Record) → (l ≡ 0 → ⊥) → r ≡ recordAt q → decodeT l q z ≡ termBy r (λ x y. decode (l - 1) x y) q z
+  decoded : (l : ℕ) (r : TermRecord) → (l ≡ 0 → ⊥) → r ≡ termAt q → decodeT l q z ≡ termBy r (λ x y. decode (l - 1) x y) q z
   unfolding decode
   decoded zero r h k = absurd (h refl)
   decoded (suc l) r h k = rw (sub-one, k)
 
-  module _ (l k a : ℕ) (r : Record) (nz : l ≡ 0 → ⊥) (ek : k ≡ getD q 0 0) (ea : a ≡ recordLength k) (er : r ≡ recordAt q) (x y : List ℕ) (ex : x ≡ drop a q) (ey : y ≡ drop a z) where
+  module _ (l k a : ℕ) (r : ConditionRecord) (nz : l ≡ 0 → ⊥) (ek : k ≡ getD q 0 0) (ea : a ≡ recordLength k) (er : r ≡ conditionAt q) (x y : List ℕ) (ex : x ≡ drop a q) (ey : y ≡ drop a z) where
     at-first : a ≡ first q
     at-first = ea ∙ ap recordLength ek
 
@@ -58,24 +61,13 @@ module _ (S : Rows) (e : Assignment) (q z : List ℕ) (m : List ℤ) where
     childT : (w : List ℤ) → filledT (decodeT (l - 1) x y) S e w ≡ filledT (decodeT (l - 1) (drop (first q) q) (drop (first q) z)) S e w
     childT w = ap₂ (λ (i j : List ℕ). filledT (decodeT (l - 1) i j) S e w) (ex ∙ ap (λ n. drop n q) at-first) (ey ∙ ap (λ n. drop n z) at-first)
 
-    pub not-is : (o : List ℤ) → r ≡ R.Not → o ≡ filledC (decode (l - 1) x y) S e m → o ≡ filledC (decode l q z) S e m
+    pub not-is : (o : List ℤ) → r ≡ C.Not → o ≡ filledC (decode (l - 1) x y) S e m → o ≡ filledC (decode l q z) S e m
     unfolding filledC
-    not-is o h eo = eo ∙ child m ∙ filled-is l R.Not nz (sym h ∙ er)
+    not-is o h eo = eo ∙ child m ∙ filled-is l C.Not nz (sym h ∙ er)
 
-    pub some-is : (v s : ℕ) (o : List ℤ) → r ≡ R.Some v s → o ≡ filledC (decode (l - 1) x y) S e m → o ≡ filledC (decode l q z) S e m
+    pub some-is : (v s : ℕ) (o : List ℤ) → r ≡ C.Some v s → o ≡ filledC (decode (l - 1) x y) S e m → o ≡ filledC (decode l q z) S e m
     unfolding filledC
-    some-is v s o h eo = eo ∙ child m ∙ filled-is l (R.Some v s) nz (sym h ∙ er)
-
-    -- an aggregate: its condition, then itself
-    pub aggregate-is : (f v s t : ℕ) (n o : List ℤ) (u : Value) → r ≡ R.Aggregate f v s t → n ≡ filledC (decode (l - 1) x y) S e m → u ≡ valueBy n (decodeT l q z) S e → o ≡ remembered n v u
-        → o ≡ filledT (decodeT l q z) S e m
-    unfolding filledC
-    aggregate-is f v s t n o u h en eu eo =
-        let p : n ≡ filledC (decode (l - 1) (drop (first q) q) (drop (first q) z)) S e m = en ∙ child m in
-        eo ∙ ap (remembered n v) eu
-        ∙ ap (λ (j : List ℤ). remembered j v (valueBy j (decodeT l q z) S e)) p
-        ∙ ap (λ (i : Term). remembered (filledC (decode (l - 1) (drop (first q) q) (drop (first q) z)) S e m) v (valueBy (filledC (decode (l - 1) (drop (first q) q) (drop (first q) z)) S e m) i S e)) (decoded l (R.Aggregate f v s t) nz (sym h ∙ er))
-        ∙ filledT-is l (R.Aggregate f v s t) nz (sym h ∙ er)
+    some-is v s o h eo = eo ∙ child m ∙ filled-is l (C.Some v s) nz (sym h ∙ er)
 
     module _ (s b : ℕ) (u w : List ℕ) (es : s ≡ getD z a 0) (eb : b ≡ a + s) (eu : u ≡ drop b q) (ew : w ≡ drop b z) where
       at-second : b ≡ second q z
@@ -93,60 +85,61 @@ module _ (S : Rows) (e : Assignment) (q z : List ℕ) (m : List ℤ) where
           both : o ≡ filledC (decode (l - 1) (drop (second q z) q) (drop (second q z) z)) S e (filledC (decode (l - 1) (drop (first q) q) (drop (first q) z)) S e m)
           both = eo ∙ ap₂ (λ (i : Assignment) (j : List ℤ). filledC (decode (l - 1) u w) S i j) ee (en ∙ child m) ∙ next _
 
-          pub and-is : r ≡ R.And → o ≡ filledC (decode l q z) S e m
+          pub and-is : r ≡ C.And → o ≡ filledC (decode l q z) S e m
           unfolding filledC
-          and-is h = both ∙ filled-is l R.And nz (sym h ∙ er)
+          and-is h = both ∙ filled-is l C.And nz (sym h ∙ er)
 
-          pub or-is : r ≡ R.Or → o ≡ filledC (decode l q z) S e m
+          pub or-is : r ≡ C.Or → o ≡ filledC (decode l q z) S e m
           unfolding filledC
-          or-is h = both ∙ filled-is l R.Or nz (sym h ∙ er)
+          or-is h = both ∙ filled-is l C.Or nz (sym h ∙ er)
 
-        pub compare-is : (p : ℕ) → r ≡ R.Compare p → n ≡ filledT (decodeT (l - 1) x y) S e m → o ≡ filledT (decodeT (l - 1) u w) S e₁ n → o ≡ filledC (decode l q z) S e m
+        pub compare-is : (p : ℕ) → r ≡ C.Compare p → n ≡ filledT (decodeT (l - 1) x y) S e m → o ≡ filledT (decodeT (l - 1) u w) S e₁ n → o ≡ filledC (decode l q z) S e m
         unfolding filledC
         compare-is p h en eo =
-            eo ∙ ap₂ (λ (i : Assignment) (j : List ℤ). filledT (decodeT (l - 1) u w) S i j) ee (en ∙ childT m) ∙ nextT _ ∙ filled-is l (R.Compare p) nz (sym h ∙ er)
+            eo ∙ ap₂ (λ (i : Assignment) (j : List ℤ). filledT (decodeT (l - 1) u w) S i j) ee (en ∙ childT m) ∙ nextT _ ∙ filled-is l (C.Compare p) nz (sym h ∙ er)
+
+  module _ (l k a : ℕ) (r : TermRecord) (nz : l ≡ 0 → ⊥) (ek : k ≡ getD q 0 0) (ea : a ≡ recordLength k) (er : r ≡ termAt q) (x y : List ℕ) (ex : x ≡ drop a q) (ey : y ≡ drop a z) where
+    inner : filledC (decode (l - 1) x y) S e m ≡ filledC (decode (l - 1) (drop (first q) q) (drop (first q) z)) S e m
+    inner =
+        let at-first = ea ∙ ap recordLength ek in
+        ap₂ (λ (i j : List ℕ). filledC (decode (l - 1) i j) S e m) (ex ∙ ap (λ n. drop n q) at-first) (ey ∙ ap (λ n. drop n z) at-first)
+
+    -- an aggregate: its condition, then itself
+    pub aggregate-is : (f v s t : ℕ) (n o : List ℤ) (u : Value) → r ≡ T.Aggregate f v s t → n ≡ filledC (decode (l - 1) x y) S e m → u ≡ valueBy n (decodeT l q z) S e → o ≡ remembered n v u
+        → o ≡ filledT (decodeT l q z) S e m
+    unfolding filledC
+    aggregate-is f v s t n o u h en eu eo =
+        let p : n ≡ filledC (decode (l - 1) (drop (first q) q) (drop (first q) z)) S e m = en ∙ inner in
+        eo ∙ ap (remembered n v) eu
+        ∙ ap (λ (j : List ℤ). remembered j v (valueBy j (decodeT l q z) S e)) p
+        ∙ ap (λ (i : Term). remembered (filledC (decode (l - 1) (drop (first q) q) (drop (first q) z)) S e m) v (valueBy (filledC (decode (l - 1) (drop (first q) q) (drop (first q) z)) S e m) i S e)) (decoded l (T.Aggregate f v s t) nz (sym h ∙ er))
+        ∙ filledT-is l (T.Aggregate f v s t) nz (sym h ∙ er)
 
 -- other records bind no aggregate
-rest-condition : (f : List ℕ → List ℕ → Condition) (g : List ℕ → List ℕ → Term) (q z : List ℕ) (r : Record) (S : Rows) (e : Assignment) (m : List ℤ)
-    → OneOf (0 ∷ 1 ∷ 2 ∷ 8 ∷ 9 ∷ 10 ∷ 11 ∷ 12 ∷ 13 ∷ []) (tagOf (declared enum) r) → filledC (conditionBy r f g q z) S e m ≡ m
+rest-condition : (f : List ℕ → List ℕ → Condition) (g : List ℕ → List ℕ → Term) (q z : List ℕ) (r : ConditionRecord) (S : Rows) (e : Assignment) (m : List ℤ)
+    → OneOf (0 ∷ 1 ∷ 7 ∷ []) (tagOf (declared a-condition.enum) r) → filledC (conditionBy r f g q z) S e m ≡ m
 unfolding filledC
-rest-condition f g q z (R.Range v r) S e m h = refl
-rest-condition f g q z R.True S e m h = refl
-rest-condition f g q z R.False S e m h = refl
-rest-condition f g q z R.Not S e m h = absurd (miss (0 ∷ 1 ∷ 2 ∷ 8 ∷ 9 ∷ 10 ∷ 11 ∷ 12 ∷ 13 ∷ []) 3 tt h)
-rest-condition f g q z R.And S e m h = absurd (miss (0 ∷ 1 ∷ 2 ∷ 8 ∷ 9 ∷ 10 ∷ 11 ∷ 12 ∷ 13 ∷ []) 4 tt h)
-rest-condition f g q z R.Or S e m h = absurd (miss (0 ∷ 1 ∷ 2 ∷ 8 ∷ 9 ∷ 10 ∷ 11 ∷ 12 ∷ 13 ∷ []) 5 tt h)
-rest-condition f g q z (R.Compare o) S e m h = absurd (miss (0 ∷ 1 ∷ 2 ∷ 8 ∷ 9 ∷ 10 ∷ 11 ∷ 12 ∷ 13 ∷ []) 6 tt h)
-rest-condition f g q z (R.Some v r) S e m h = absurd (miss (0 ∷ 1 ∷ 2 ∷ 8 ∷ 9 ∷ 10 ∷ 11 ∷ 12 ∷ 13 ∷ []) 7 tt h)
-rest-condition f g q z (R.Constant a b c d) S e m h = refl
-rest-condition f g q z (R.Attribute v a) S e m h = refl
-rest-condition f g q z (R.Aggregate k v r a) S e m h = refl
-rest-condition f g q z (R.Permit a b c) S e m h = refl
-rest-condition f g q z R.Unknown S e m h = refl
-rest-condition f g q z R.Short S e m h = refl
+rest-condition f g q z C.True S e m h = refl
+rest-condition f g q z C.False S e m h = refl
+rest-condition f g q z C.Not S e m h = absurd (miss (0 ∷ 1 ∷ 7 ∷ []) 2 tt h)
+rest-condition f g q z C.And S e m h = absurd (miss (0 ∷ 1 ∷ 7 ∷ []) 3 tt h)
+rest-condition f g q z C.Or S e m h = absurd (miss (0 ∷ 1 ∷ 7 ∷ []) 4 tt h)
+rest-condition f g q z (C.Compare o) S e m h = absurd (miss (0 ∷ 1 ∷ 7 ∷ []) 5 tt h)
+rest-condition f g q z (C.Some v r) S e m h = absurd (miss (0 ∷ 1 ∷ 7 ∷ []) 6 tt h)
+rest-condition f g q z C.Other S e m h = refl
 
-pub no-aggregate : (S : Rows) (e : Assignment) (q z : List ℕ) (m : List ℤ) (l : ℕ) (r : Record) → (l ≡ 0 → ⊥) → r ≡ recordAt q → OneOf (0 ∷ 1 ∷ 2 ∷ 8 ∷ 9 ∷ 10 ∷ 11 ∷ 12 ∷ 13 ∷ []) (tagOf (declared enum) r)
+pub no-aggregate : (S : Rows) (e : Assignment) (q z : List ℕ) (m : List ℤ) (l : ℕ) (r : ConditionRecord) → (l ≡ 0 → ⊥) → r ≡ conditionAt q → OneOf (0 ∷ 1 ∷ 7 ∷ []) (tagOf (declared a-condition.enum) r)
     → m ≡ filledC (decode l q z) S e m
 no-aggregate S e q z m l r nz er h = sym (rest-condition (λ x y. decode (l - 1) x y) (λ x y. decodeT (l - 1) x y) q z r S e m h) ∙ filled-is S e q z m l r nz er
 
-rest-term : (f : List ℕ → List ℕ → Condition) (q z : List ℕ) (r : Record) (S : Rows) (e : Assignment) (m : List ℤ) → OneOf (0 ∷ 1 ∷ 2 ∷ 3 ∷ 4 ∷ 5 ∷ 6 ∷ 7 ∷ 8 ∷ 9 ∷ 11 ∷ 12 ∷ 13 ∷ []) (tagOf (declared enum) r) → filledT (termBy r f q z) S e m ≡ m
+rest-term : (f : List ℕ → List ℕ → Condition) (q z : List ℕ) (r : TermRecord) (S : Rows) (e : Assignment) (m : List ℤ) → OneOf (0 ∷ 1 ∷ 3 ∷ []) (tagOf (declared a-term.enum) r) → filledT (termBy r f q z) S e m ≡ m
 unfolding filledC
-rest-term f q z (R.Range v r) S e m h = refl
-rest-term f q z R.True S e m h = refl
-rest-term f q z R.False S e m h = refl
-rest-term f q z R.Not S e m h = refl
-rest-term f q z R.And S e m h = refl
-rest-term f q z R.Or S e m h = refl
-rest-term f q z (R.Compare o) S e m h = refl
-rest-term f q z (R.Some v r) S e m h = refl
-rest-term f q z (R.Constant a b c d) S e m h = refl
-rest-term f q z (R.Attribute v a) S e m h = refl
-rest-term f q z (R.Aggregate k v r a) S e m h = absurd (miss (0 ∷ 1 ∷ 2 ∷ 3 ∷ 4 ∷ 5 ∷ 6 ∷ 7 ∷ 8 ∷ 9 ∷ 11 ∷ 12 ∷ 13 ∷ []) 10 tt h)
-rest-term f q z (R.Permit a b c) S e m h = refl
-rest-term f q z R.Unknown S e m h = refl
-rest-term f q z R.Short S e m h = refl
+rest-term f q z (T.Constant a b c d) S e m h = refl
+rest-term f q z (T.Attribute v a) S e m h = refl
+rest-term f q z (T.Aggregate k v r a) S e m h = absurd (miss (0 ∷ 1 ∷ 3 ∷ []) 2 tt h)
+rest-term f q z T.Other S e m h = refl
 
-pub no-term : (S : Rows) (e : Assignment) (q z : List ℕ) (m : List ℤ) (l : ℕ) (r : Record) → (l ≡ 0 → ⊥) → r ≡ recordAt q → OneOf (0 ∷ 1 ∷ 2 ∷ 3 ∷ 4 ∷ 5 ∷ 6 ∷ 7 ∷ 8 ∷ 9 ∷ 11 ∷ 12 ∷ 13 ∷ []) (tagOf (declared enum) r)
+pub no-term : (S : Rows) (e : Assignment) (q z : List ℕ) (m : List ℤ) (l : ℕ) (r : TermRecord) → (l ≡ 0 → ⊥) → r ≡ termAt q → OneOf (0 ∷ 1 ∷ 3 ∷ []) (tagOf (declared a-term.enum) r)
     → m ≡ filledT (decodeT l q z) S e m
 no-term S e q z m l r nz er h = sym (rest-term (λ x y. decode (l - 1) x y) q z r S e m h) ∙ filledT-is S e q z m l r nz er
 

@@ -1,21 +1,22 @@
 // Each aggregate of a query is evaluated once: a legal one is closed, so it has one value. A memo keeps it by its variable.
-use kinds::Record;
+use kinds::ConditionRecord;
+use kinds::TermRecord;
 use numbers::Accumulator;
 use numbers::Ratio;
 ghost use mathlib.Core.Path.{_≡_};
 ghost use mathlib.Core.Bool.{true, cond};
 ghost use Prim.Native.Nat.{_+_, _≤_, _<_};
 ghost use lib.IntN.{pos};
-ghost use lib.ListN.{length, getD};
+ghost use lib.ListN.{length, getD, set};
 ghost use Rattle.sizes.specs.Decode.{decode, decodeT};
 ghost use Rattle.sizes.specs.Parts.{targetsAt};
 ghost use Rattle.walks.specs.Walks.{rowsBy};
-ghost use Rattle.numbers.specs.Numbers.{valueOf, added, Small, Bounded, Accumulates};
+ghost use Rattle.numbers.specs.Numbers.{valueOf, Small, Accumulates};
+ghost use Rattle.numbers.specs.Memo as Memo;
 ghost use Rattle.evaluator.specs.Evaluation.{valueAt, valuesOn};
 ghost use Rattle.walks.specs.Assigned.{assigned};
 ghost use Rattle.decide.specs.Keys.{Faithful};
 ghost use Rattle.aggregates.specs.Taken.{bothFrom, takenBy};
-ghost use Rattle.branches.specs.Branches.{runs};
 ghost use Rattle.aggregates.specs.Filled.{filledC, filledT, filledTs};
 
 // Whether a level can stand in a table of branches.
@@ -29,30 +30,6 @@ fn compiled(level: usize) -> bool
         return false;
     }
     true
-}
-
-// Whether branch `start` leads to 0; no call where it is 0.
-fn leads(
-    t: &[u16],
-    xs: &[i32],
-    start: usize,
-    q: &[u8],
-    z: &[u16],
-    walks: &[u16],
-    chains: &[u16],
-    vs: &[i32],
-    memo: &[i64],
-    env: &mut [usize],
-) -> bool
-    requires { ⌜ (256 ≤ length (now env)) × (start ≤ 65535) × Faithful (now t) (now walks) (now vs) (now chains) ⌝ }
-    ensures { λ r. ⌜ r ≡ runs (now (t .entry)) (now (xs .entry)) (now (q .entry)) (now (z .entry)) (now (walks .entry)) (now (vs .entry))
-        (now (memo .entry)) start (assigned (now (vs .entry)) (now (env .entry))) ⌝ }
-    ensures { λ _. ⌜ now (env .exit) ≡ now (env .entry) ⌝ }
-{
-    if start == 0 {
-        return true;
-    }
-    decide::holds(t, xs, start, q, z, walks, chains, vs, memo, env)
 }
 
 // Whether the conjuncts hold of a table with no ranges, comparisons first, of which those before branch `next` do.
@@ -73,39 +50,11 @@ fn both(
         (now (memo .entry)) next (assigned (now (vs .entry)) (now (env .entry))) ⌝ }
     ensures { λ _. ⌜ now (env .exit) ≡ now (env .entry) ⌝ }
 {
-    if !leads(t, xs, next, q, z, walks, chains, vs, memo, env) {
+    if !decide::leads(t, xs, next, q, z, walks, chains, vs, memo, env) {
         return false;
     }
     let second = kinds::size_at(t, 1);
-    leads(t, xs, second, q, z, walks, chains, vs, memo, env)
-}
-
-// What was taken, and an attribute of the row at a place where the conjuncts hold.
-fn with_row(
-    t: &[u16],
-    xs: &[i32],
-    next: usize,
-    q: &[u8],
-    z: &[u16],
-    walks: &[u16],
-    chains: &[u16],
-    vs: &[i32],
-    memo: &[i64],
-    env: &mut [usize],
-    row: usize,
-    attribute: u8,
-    taken: Accumulator,
-) -> Accumulator
-    requires { ⌜ (256 ≤ length (now env)) × (next ≤ 65535) × (taken .count < 65535) × Bounded taken × Faithful (now t) (now walks) (now vs) (now chains) ⌝ }
-    ensures { λ r. ⌜ r ≡ cond (bothFrom (now (t .entry)) (now (xs .entry)) (now (q .entry)) (now (z .entry)) (now (walks .entry)) (now (vs .entry))
-        (now (memo .entry)) next (assigned (now (vs .entry)) (now (env .entry)))) (added taken (getD (now (vs .entry)) (row + attribute) (pos 0))) taken ⌝ }
-    ensures { λ r. ⌜ Bounded r ⌝ }
-    ensures { λ _. ⌜ now (env .exit) ≡ now (env .entry) ⌝ }
-{
-    if !both(t, xs, next, q, z, walks, chains, vs, memo, env) {
-        return taken;
-    }
-    numbers::add(taken, catalogue::value(vs, row, attribute as usize))
+    decide::leads(t, xs, second, q, z, walks, chains, vs, memo, env)
 }
 
 // The attribute of each row of the variable for which the conjuncts hold. Its own rows have no chain.
@@ -130,37 +79,26 @@ fn take(
 {
     let walk = walks::walk_of(walks, variable);
     let n = walk.count;
-    let old = evaluator::place(env, variable);
+    let old = env[variable as usize];
     let start = kinds::size_at(t, 0);
     let none = [0u16; 1];
     let cursor = decide::seeks::prepare(t, xs, start, variable, &none, vs, memo, env);
     let next = cursor.next;
-    let mut taken = numbers::empty();
+    let mut taken = numbers::EMPTY;
     let mut i = 0;
     loop {
         let j = decide::seeks::next_row(cursor, vs, walks, walk, &none, i);
         if n <= j {
-            evaluator::set_place(env, variable, old);
+            env[variable as usize] = old;
             return taken;
         }
-        let row = walks::place(walks, walk, j);
-        evaluator::set_place(env, variable, row);
-        taken = with_row(
-            t,
-            xs,
-            next,
-            q,
-            z,
-            walks,
-            chains,
-            vs,
-            memo,
-            env,
-            row,
-            attribute,
-            taken,
-        );
         i = j + 1;
+        let row = walks::place(walks, walk, j);
+        env[variable as usize] = row;
+        if !both(t, xs, next, q, z, walks, chains, vs, memo, env) {
+            continue;
+        }
+        taken = numbers::add(taken, catalogue::value(vs, row, attribute as usize));
     }
 }
 
@@ -184,7 +122,7 @@ fn take_linked(
     ensures { λ _. ⌜ now (env .exit) ≡ now (env .entry) ⌝ }
 {
     let mut chains = [0u16; 2116];
-    decide::seeks::add_searches(t, walks, vs, &mut chains, 64);
+    decide::seeks::link(q, 0, t, walks, vs, &mut chains);
     take(
         t,
         xs,
@@ -198,6 +136,21 @@ fn take_linked(
         variable,
         attribute,
     )
+}
+
+// Whether a branch asks for a row. It promises nothing: it only tells whether chains can be of use.
+fn asks(t: &[u16]) -> bool {
+    let mut p = 16;
+    while p < 512 {
+        if kinds::size_at(t, p) == 256 {
+            return true;
+        }
+        if kinds::size_at(t, p + 5) == kinds::size_at(t, p + 6) {
+            return false;
+        }
+        p += 8;
+    }
+    false
 }
 
 // The attribute of each row of the variable that meets the condition that q starts with. With no ranges the plan looks at no catalogue: any bytes will do.
@@ -221,7 +174,7 @@ fn gather(
     let mut t = [0u16; 512];
     let mut xs = [0i32; 128];
     conjuncts::plan(q, z, 0, 0, level, memo, &mut t, &mut xs);
-    if decide::seeks::searches(&t, walks) {
+    if asks(&t) {
         return take_linked(&t, &xs, q, z, walks, vs, memo, env, variable, attribute);
     }
     let chains = [0u16; 1];
@@ -259,7 +212,7 @@ fn value(
     if !compiled(level) {
         return evaluator::term(q, z, level, walks, vs, memo, env);
     }
-    let Record::Aggregate(function, variable, _, attribute) = kinds::read(q) else {
+    let TermRecord::Aggregate(function, variable, _, attribute) = kinds::term_record(q) else {
         return evaluator::term(q, z, level, walks, vs, memo, env);
     };
     if numbers::knows(memo, variable) {
@@ -271,6 +224,42 @@ fn value(
     let l = level - 1;
     let taken = gather(x, y, l, walks, vs, memo, env, variable, attribute);
     numbers::finish(function, taken)
+}
+
+fn store(memo: &mut [i64], i: usize, x: i64)
+    ensures { λ _. ⌜ now (memo .exit) ≡ set (now (memo .entry)) i x ⌝ }
+{
+    if i < memo.len() {
+        memo[i] = x;
+    }
+}
+
+// Nothing is kept with the numerator 0, so that a value is kept in one way.
+fn numerator(x: Ratio) -> i64
+    requires { ⌜ Small x ⌝ }
+    ensures { λ r. ⌜ r ≡ Memo.numeratorOf (valueOf x) ⌝ }
+{
+    let n = x.numerator;
+    let d = x.denominator;
+    if d <= 0 { 0 } else { n }
+}
+
+fn mark(x: Ratio) -> i64
+    requires { ⌜ Small x ⌝ }
+    ensures { λ r. ⌜ r ≡ Memo.markOf (valueOf x) ⌝ }
+{
+    let d = x.denominator;
+    d + 1
+}
+
+// Keeps a variable's value in the memo.
+fn remember(memo: &mut [i64], variable: u8, x: Ratio)
+    requires { ⌜ Small x ⌝ }
+    ensures { λ _. ⌜ now (memo .exit) ≡ Memo.remembered (now (memo .entry)) variable (valueOf x) ⌝ }
+{
+    let i = 2 * (variable as usize);
+    store(memo, i, numerator(x));
+    store(memo, i + 1, mark(x));
 }
 
 // The aggregates of the condition that q starts with.
@@ -298,26 +287,26 @@ pub fn condition(
     let y = kinds::tail_sizes(z, a);
     let u = kinds::tail(q, b);
     let v = kinds::tail_sizes(z, b);
-    match kinds::read(q) {
-        Record::Not => {
+    match kinds::condition_record(q) {
+        ConditionRecord::Not => {
             condition(x, y, l, walks, vs, env, memo);
         }
-        Record::And => {
-            condition(x, y, l, walks, vs, env, memo);
-            condition(u, v, l, walks, vs, env, memo);
-        }
-        Record::Or => {
+        ConditionRecord::And => {
             condition(x, y, l, walks, vs, env, memo);
             condition(u, v, l, walks, vs, env, memo);
         }
-        Record::Compare(_) => {
+        ConditionRecord::Or => {
+            condition(x, y, l, walks, vs, env, memo);
+            condition(u, v, l, walks, vs, env, memo);
+        }
+        ConditionRecord::Compare(_) => {
             term(x, y, l, walks, vs, env, memo);
             term(u, v, l, walks, vs, env, memo);
         }
-        Record::Some(_, _) => {
+        ConditionRecord::Some(_, _) => {
             condition(x, y, l, walks, vs, env, memo);
         }
-        _ => {}
+        ConditionRecord::True | ConditionRecord::False | ConditionRecord::Other => {}
     }
 }
 
@@ -339,7 +328,7 @@ fn term(
     if level == 0 {
         return;
     }
-    let Record::Aggregate(_, variable, _, _) = kinds::read(q) else {
+    let TermRecord::Aggregate(_, variable, _, _) = kinds::term_record(q) else {
         return;
     };
     let a = kinds::record_length(kinds::byte(q, 0));
@@ -353,7 +342,7 @@ fn term(
         memo,
     );
     let x = value(q, z, level, walks, vs, memo, env);
-    numbers::remember(memo, variable, x);
+    remember(memo, variable, x);
 }
 
 // The same of a target. `value` has two callers by this, so its tables are no part of what the recursion takes of the stack for each aggregate inside
@@ -375,7 +364,7 @@ fn target_term(
     if level == 0 {
         return;
     }
-    let Record::Aggregate(_, variable, _, _) = kinds::read(q) else {
+    let TermRecord::Aggregate(_, variable, _, _) = kinds::term_record(q) else {
         return;
     };
     let a = kinds::record_length(kinds::byte(q, 0));
@@ -389,7 +378,7 @@ fn target_term(
         memo,
     );
     let x = value(q, z, level, walks, vs, memo, env);
-    numbers::remember(memo, variable, x);
+    remember(memo, variable, x);
 }
 
 // The aggregates of so many targets.

@@ -45,12 +45,5 @@ pub put-is : (ws : List ℕ) (v : ℕ) (x : Walk) (k i : ℕ) → k ≡ v → i 
 unfolding written
 put-is ws v x k i ek ei a b c d y ea eb ec ed ey = ey ∙ rw (ed, ec, eb, ea, ei, ek)
 
--- 1 stands for the walk from the last row, 0 for that from the first
-pub start-last : (b l : Bool) → b ≡ true → b ≡ l → _≡_ {A = ℕ} 1 (cond l 1 0)
-start-last b l h e = rw (← e, h)
-
-pub start-first : (b l : Bool) → b ≡ false → b ≡ l → _≡_ {A = ℕ} 0 (cond l 1 0)
-start-first b l h e = rw (← e, h)
-
 pub whole-is : (cb : List ℕ) (r n b w s : ℕ) → n ≡ rowsOf cb r → b ≡ baseOf cb r → w ≡ attributesOf cb r → s ≡ cond (latestOf cb r) 1 0 → record { start = s; count = n; base = b; width = w } ≡ wholeOf cb r
 whole-is cb r n b w s en eb ew es = rw (en, eb, ew, es)

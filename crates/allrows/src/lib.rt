@@ -5,7 +5,6 @@ ghost use mathlib.Core.Path.{_≡_};
 ghost use Prim.Native.Nat.{_≤_};
 ghost use lib.ListN.{set};
 ghost use mathlib.Core.Bool.{cond};
-ghost use Rattle.catalogue.specs.Layout.{latestOf};
 ghost use Rattle.walks.specs.Walks.{Fits};
 ghost use Rattle.scans.specs.Flat.{boundBy, flatBindings};
 ghost use Rattle.allrows.specs.Filled.{written, wholeOf, filledBy};
@@ -23,7 +22,7 @@ fn narrow(x: usize) -> u16
     x as u16
 }
 
-pub fn store(walks: &mut [u16], i: usize, x: usize)
+fn store(walks: &mut [u16], i: usize, x: usize)
     requires { ⌜ x ≤ 65535 ⌝ }
     ensures { λ _. ⌜ now (walks .exit) ≡ set (now (walks .entry)) i x ⌝ }
 {
@@ -46,14 +45,10 @@ pub fn put(walks: &mut [u16], variable: u8, walk: Walk)
 }
 
 // Where the walk of all rows of a relation starts: 0 stands for the first row, 1 for the last.
-fn start_of(catalogue: &[u8], relation: u8) -> usize
-    ensures { λ r. ⌜ (r ≡ cond (latestOf (now (catalogue .entry)) relation) 1 0) × (r ≤ 1) ⌝ }
+fn start_of(latest: bool) -> usize
+    ensures { λ r. ⌜ (r ≡ cond latest 1 0) × (r ≤ 1) ⌝ }
 {
-    if catalogue::latest(catalogue, relation) {
-        1
-    } else {
-        0
-    }
+    if latest { 1 } else { 0 }
 }
 
 // All rows of a relation.
@@ -61,15 +56,14 @@ pub fn whole(catalogue: &[u8], relation: u8) -> Walk
     ensures { λ r. ⌜ r ≡ wholeOf (now (catalogue .entry)) relation ⌝ }
     ensures { λ r. ⌜ Fits r ⌝ }
 {
-    let count = catalogue::rows(catalogue, relation);
+    let known = catalogue::entry(catalogue, relation);
     let base = catalogue::base(catalogue, relation);
-    let width = catalogue::attributes(catalogue, relation);
-    let start = start_of(catalogue, relation);
+    let start = start_of(known.latest);
     Walk {
         start,
-        count,
+        count: known.rows,
         base,
-        width,
+        width: known.attributes,
     }
 }
 

@@ -16,8 +16,9 @@ use Rattle.model.specs.Meaning.{Assignment, holdsWith}
 use Rattle.kinds.specs.Tables.{recordLength}
 use Rattle.kinds.specs.Record.{filled, recordAt}
 use Rattle.kinds.proofs.Records.{whole-record}
-use Rattle.kinds.specs.declared.Record.{Record}
-use Rattle.kinds.specs.declared.Record.the-variants as R
+use Rattle.kinds.specs.Places.{conditionAt}
+use Rattle.kinds.specs.declared.ConditionRecord.{ConditionRecord}
+use Rattle.kinds.specs.declared.ConditionRecord.the-variants as C
 use Rattle.sizes.specs.Decode.{first, second, conditionBy, decode, decodeT}
 use Rattle.numbers.specs.Recalled.{holdsBy}
 use Rattle.walks.specs.Walks.{rowsBy}
@@ -40,13 +41,13 @@ no-parts x n l place q z ex h = absurd (h (ap (λ (y : Parts). y .kind) ex))
 by-node : (k : ℕ) (f : List ℕ → List ℕ → Condition) (l : ℕ) (q z : List ℕ) → conditionBy (node k) f (λ x y. decodeT l x y) q z ≡ joined k (f (drop (first q) q) (drop (first q) z)) (f (drop (second q z) q) (drop (second q z) z))
 by-node k f l q z = go (eqb k 1) (eqb k 2)
   where
-    go : (a b : Bool) → conditionBy (cond a R.Not (cond b R.And R.Or)) f (λ x y. decodeT l x y) q z
+    go : (a b : Bool) → conditionBy (cond a C.Not (cond b C.And C.Or)) f (λ x y. decodeT l x y) q z
         ≡ cond a (NOT (f (drop (first q) q) (drop (first q) z))) (cond b (AND (f (drop (first q) q) (drop (first q) z)) (f (drop (second q z) q) (drop (second q z) z))) (OR (f (drop (first q) q) (drop (first q) z)) (f (drop (second q z) q) (drop (second q z) z))))
     go true b = refl
     go false true = refl
     go false false = refl
 
-module _ (x : Parts) (n l place : ℕ) (q z here : List ℕ) (k b a s : ℕ) (nz : l ≡ 0 → ⊥) (eh : here ≡ drop place q) (ek : (k ≡ 0 → ⊥) → recordAt here ≡ node k) (eb : b ≡ getD here 0 0) (ea : a ≡ recordLength b)
+module _ (x : Parts) (n l place : ℕ) (q z here : List ℕ) (k b a s : ℕ) (nz : l ≡ 0 → ⊥) (eh : here ≡ drop place q) (ek : (k ≡ 0 → ⊥) → conditionAt here ≡ node k) (eb : b ≡ getD here 0 0) (ea : a ≡ recordLength b)
     (es : s ≡ getD z (place + a) 0) (le : place + a + s ≤ 65535) (ex : x ≡ record { kind = k; first = place + a; second = place + a + s }) where
   at-first : x .first ≡ place + first (drop place q)
   at-first = ap (λ (y : Parts). y .first) ex ∙ ap (λ j. place + j) (ea ∙ ap recordLength (eb ∙ ap (λ (y : List ℕ). getD y 0 0) eh))
@@ -69,7 +70,7 @@ module _ (x : Parts) (n l place : ℕ) (q z here : List ℕ) (k b a s : ℕ) (nz
         first = omega (arith, ap (λ (y : Parts). y .first) ex);
         second = omega (arith, ap (λ (y : Parts). y .second) ex);
         whole =
-            sym (condition-is [] (drop place q) l (node k) nz (sym (ek (λ e. h (ex-kind ∙ e))) ∙ ap recordAt eh) (drop place z))
+            sym (condition-is [] (drop place q) l (node k) nz (sym (ek (λ e. h (ex-kind ∙ e))) ∙ ap conditionAt eh) (drop place z))
             ∙ by-node k (λ u w. decode (l - 1) u w) (l - 1) (drop place q) (drop place z)
             ∙ ap₂ (joined k) (ap₂ (decode (l - 1)) (part q (x .first) (first (drop place q)) at-first) (part z (x .first) (first (drop place q)) at-first))
             (ap₂ (decode (l - 1)) (part q (x .second) (second (drop place q) (drop place z)) at-second) (part z (x .second) (second (drop place q) (drop place z)) at-second))
@@ -80,7 +81,7 @@ module _ (x : Parts) (n l place : ℕ) (q z here : List ℕ) (k b a s : ℕ) (nz
 pub no-search : (x : Search) (n l place : ℕ) (q : List ℕ) → x ≡ record { place = 0; variable = 0 } → (x .place ≡ 0 → ⊥) → Searched (x .place) (x .variable) n l place q
 no-search x n l place q ex h = absurd (h (ap (λ (y : Search). y .place) ex))
 
-pub search-found : (n l place : ℕ) (q here : List ℕ) (b a v g u : ℕ) (r : Record) → (l ≡ 0 → ⊥) → 2 ≤ n → here ≡ drop place q → r ≡ recordAt here → r ≡ R.Some v g → b ≡ getD here 0 0 → a ≡ recordLength b → place + a ≤ 65535 → u ≡ v → u ≤ 255 → Searched (place + a) u n l place q
+pub search-found : (n l place : ℕ) (q here : List ℕ) (b a v g u : ℕ) (r : ConditionRecord) → (l ≡ 0 → ⊥) → 2 ≤ n → here ≡ drop place q → r ≡ conditionAt here → r ≡ C.Some v g → b ≡ getD here 0 0 → a ≡ recordLength b → place + a ≤ 65535 → u ≡ v → u ≤ 255 → Searched (place + a) u n l place q
 search-found n l place q here b a v g u r nz room eh er es eb ea le eu hu =
     record {
       room = room;
@@ -89,7 +90,7 @@ search-found n l place q here b a v g u r nz room eh er es eb ea le eu hu =
       byte = omega arith;
       relation = g;
       whole = λ z.
-          sym (condition-is [] (drop place q) l (R.Some v g) nz (sym es ∙ er ∙ ap recordAt eh) (drop place z))
+          sym (condition-is [] (drop place q) l (C.Some v g) nz (sym es ∙ er ∙ ap conditionAt eh) (drop place z))
           ∙ ap₂ (λ (x y : List ℕ). SOME v g (decode (l - 1) x y)) (part q) (part z)
           ∙ ap (λ (w : ℕ). SOME w g (decode (l - 1) (drop (place + a) q) (drop (place + a) z))) (sym eu);
     }

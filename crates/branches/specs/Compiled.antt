@@ -8,8 +8,8 @@ use lib.IntN.{ℤ, pos}
 use lib.ListN.{getD, drop}
 use Rattle.model.specs.Syntax.{Condition, Term, NOT, AND, OR, SOME}
 use Rattle.model.specs.Meaning.{Assignment, Rows, Value, compare}
-use Rattle.kinds.specs.declared.Record.{Record}
-use Rattle.kinds.specs.declared.Record.the-variants as R
+use Rattle.kinds.specs.declared.ConditionRecord.{ConditionRecord}
+use Rattle.kinds.specs.declared.ConditionRecord.the-variants as C
 use Rattle.sizes.specs.Decode.{decode}
 use Rattle.numbers.specs.Recalled.{holdsBy, valueBy}
 use Rattle.walks.specs.Walks.{rowsBy}
@@ -47,8 +47,8 @@ pub record Compiled (k r met unmet : ℕ) (t t′ : List ℕ) (xs xs′ : List �
   pub means : (ws : List ℕ) (vs : List ℤ) (e : Assignment) → runs t′ xs′ q z ws vs m r e ≡ cond (holdsBy m c (rowsBy ws vs) e) (runs t xs q z ws vs m met e) (runs t xs q z ws vs m unmet e)
 
 -- 1 NOT, 2 AND, 3 OR: the record, and the condition of its parts
-abbrev pub node : ℕ → Record
-node k = cond (eqb k 1) R.Not (cond (eqb k 2) R.And R.Or)
+abbrev pub node : ℕ → ConditionRecord
+node k = cond (eqb k 1) C.Not (cond (eqb k 2) C.And C.Or)
 
 abbrev pub joined : ℕ → Condition → Condition → Condition
 joined k c d = cond (eqb k 1) (NOT c) (cond (eqb k 2) (AND c d) (OR c d))

@@ -1,6 +1,7 @@
 // The condition of a query as a table of branches (specs/Branches), so that no record is read again for each row. A comparison of attributes,
 // numbers and known aggregates is kept as such, SOME by its place in the query.
-use kinds::Record;
+use kinds::ConditionRecord;
+use kinds::TermRecord;
 use numbers::Ratio;
 ghost use mathlib.Core.Path.{_≡_};
 ghost use Prim.Native.Nat.{ℕ, _+_, _*_, _≤_, _<_};
@@ -11,7 +12,7 @@ ghost use mathlib.Core.Bool.{true, false};
 ghost use mathlib.Core.List.{List, [], _∷_};
 ghost use Rattle.model.specs.Syntax.{Condition, AGGREGATE};
 ghost use Rattle.numbers.specs.Numbers.{valueOf, Small};
-ghost use Rattle.kinds.specs.Record.{recordAt};
+ghost use Rattle.kinds.specs.Places.{conditionAt};
 ghost use Rattle.sizes.specs.Decode.{decode, decodeT};
 ghost use Rattle.walks.specs.Assigned.{assigned};
 ghost use Rattle.branches.specs.Branches as B;
@@ -151,11 +152,11 @@ fn operand_at(q: &[u8], level: usize, memo: &[i64]) -> Operand
     if level == 0 {
         return unknown();
     }
-    match kinds::read(q) {
-        Record::Constant(a, b, c, d) => number_of(kinds::constant(a, b, c, d)),
-        Record::Attribute(variable, attribute) => attribute_of(variable, attribute),
-        Record::Aggregate(_, variable, _, _) => aggregate_of(memo, variable),
-        _ => unknown(),
+    match kinds::term_record(q) {
+        TermRecord::Constant(a, b, c, d) => number_of(kinds::constant(a, b, c, d)),
+        TermRecord::Attribute(variable, attribute) => attribute_of(variable, attribute),
+        TermRecord::Aggregate(_, variable, _, _) => aggregate_of(memo, variable),
+        TermRecord::Other => unknown(),
     }
 }
 
@@ -176,7 +177,7 @@ fn comparison_at(q: &[u8], z: &[u16], level: usize, memo: &[i64]) -> Comparison
     if level == 0 {
         return compared(0, unknown(), unknown());
     }
-    let Record::Compare(operator) = kinds::read(q) else {
+    let ConditionRecord::Compare(operator) = kinds::condition_record(q) else {
         return compared(0, unknown(), unknown());
     };
     let a = kinds::record_length(kinds::byte(q, 0));
@@ -235,6 +236,18 @@ fn write_numbers(xs: &mut [i32], k: usize, x: i32, y: i32)
     xs[i + 1] = y;
 }
 
+// Where a condition leads that holds, and one that does not.
+pub struct Ways {
+    pub met: usize,
+    pub unmet: usize,
+}
+
+// The branches that are free: from one on, and below an end.
+pub struct Room {
+    pub next: usize,
+    pub end: usize,
+}
+
 // Branch k for the condition at a place: a comparison where it is one.
 fn single(
     q: &[u8],
@@ -245,14 +258,15 @@ fn single(
     t: &mut [u16],
     xs: &mut [i32],
     k: usize,
-    met: usize,
-    unmet: usize,
+    ways: Ways,
 )
-    requires { ⌜ (8 * k + 8 ≤ length (now t)) × (2 * k + 2 ≤ length (now xs)) × (2 ≤ k) × (k < 64) × (met < k) × (unmet < k) × (place ≤ 65535)
+    requires { ⌜ (8 * k + 8 ≤ length (now t)) × (2 * k + 2 ≤ length (now xs)) × (2 ≤ k) × (k < 64) × (ways .met < k) × (ways .unmet < k) × (place ≤ 65535)
         × (level ≤ 65535) ⌝ }
-    ensures { λ _. ⌜ C.Compiled k k met unmet (now (t .entry)) (now (t .exit)) (now (xs .entry)) (now (xs .exit)) (now (q .entry)) (now (z .entry))
-        (now (memo .entry)) (decode level (drop place (now (q .entry))) (drop place (now (z .entry)))) ⌝ }
+    ensures { λ _. ⌜ C.Compiled k k (ways .met) (ways .unmet) (now (t .entry)) (now (t .exit)) (now (xs .entry)) (now (xs .exit))
+        (now (q .entry)) (now (z .entry)) (now (memo .entry)) (decode level (drop place (now (q .entry))) (drop place (now (z .entry)))) ⌝ }
 {
+    let met = ways.met;
+    let unmet = ways.unmet;
     let c = kinds::tail(q, place);
     let sizes = kinds::tail_sizes(z, place);
     let x = comparison_at(c, sizes, level, memo);
@@ -296,7 +310,7 @@ fn parts_of(kind: usize, first: usize, second: usize) -> Parts
 
 // These three kinds have no body, so the byte of the kind is the whole record.
 fn kind_at(q: &[u8]) -> usize
-    ensures { λ r. ⌜ ((r ≡ 0 → ⊥) → recordAt (now (q .entry)) ≡ C.node r) ⌝ }
+    ensures { λ r. ⌜ ((r ≡ 0 → ⊥) → conditionAt (now (q .entry)) ≡ C.node r) ⌝ }
 {
     match kinds::byte(q, 0) {
         18 => 1,
@@ -358,7 +372,7 @@ fn search_at(q: &[u8], place: usize, level: usize, room: usize) -> Search
         return no_search();
     }
     let here = kinds::tail(q, place);
-    let Record::Some(variable, _) = kinds::read(here) else {
+    let ConditionRecord::Some(variable, _) = kinds::condition_record(here) else {
         return no_search();
     };
     let inner = place + kinds::record_length(kinds::byte(here, 0));
@@ -371,7 +385,7 @@ fn search_at(q: &[u8], place: usize, level: usize, room: usize) -> Search
     }
 }
 
-// Branches from k on and below `end` for the condition at a place; the number of the last, with which it starts. The second part of an
+// Branches in a room for the condition at a place; the number of the last, with which it starts. The second part of an
 // AND or an OR comes first, so that the first part can lead to it.
 pub fn compile(
     q: &[u8],
@@ -381,39 +395,51 @@ pub fn compile(
     memo: &[i64],
     t: &mut [u16],
     xs: &mut [i32],
-    k: usize,
-    end: usize,
-    met: usize,
-    unmet: usize,
+    room: Room,
+    ways: Ways,
 ) -> usize
-    requires { ⌜ (8 * end ≤ length (now t)) × (2 * end ≤ length (now xs)) × (2 ≤ k) × (k < end) × (end ≤ 64) × (met < k) × (unmet < k)
-        × (place ≤ 65535) × (level ≤ 65535) ⌝ }
-    ensures { λ r. ⌜ (k ≤ r) × (r < end) ⌝ }
-    ensures { λ r. ⌜ C.Compiled k r met unmet (now (t .entry)) (now (t .exit)) (now (xs .entry)) (now (xs .exit)) (now (q .entry)) (now (z .entry))
-        (now (memo .entry)) (decode level (drop place (now (q .entry))) (drop place (now (z .entry)))) ⌝ }
+    requires { ⌜ (8 * room .end ≤ length (now t)) × (2 * room .end ≤ length (now xs)) × (2 ≤ room .next) × (room .next < room .end)
+        × (room .end ≤ 64) × (ways .met < room .next) × (ways .unmet < room .next) × (place ≤ 65535) × (level ≤ 65535) ⌝ }
+    ensures { λ r. ⌜ (room .next ≤ r) × (r < room .end) ⌝ }
+    ensures { λ r. ⌜ C.Compiled (room .next) r (ways .met) (ways .unmet) (now (t .entry)) (now (t .exit)) (now (xs .entry)) (now (xs .exit))
+        (now (q .entry)) (now (z .entry)) (now (memo .entry)) (decode level (drop place (now (q .entry))) (drop place (now (z .entry)))) ⌝ }
 {
+    let k = room.next;
+    let end = room.end;
+    let m = ways.met;
+    let u = ways.unmet;
     let x = parts_at(q, z, place, level, end - k);
     let kind = x.kind;
     if kind == 0 {
         let s = search_at(q, place, level, end - k);
         let inner = s.place;
         if inner == 0 {
-            single(q, z, place, level, memo, t, xs, k, met, unmet);
+            single(q, z, place, level, memo, t, xs, k, ways);
             return k;
         }
-        let r = compile(q, z, inner, level - 1, memo, t, xs, k, end - 1, 0, 1);
-        write(t, r + 1, 256, s.variable, narrow(r), 0, 0, met, unmet);
+        let last = end - 1;
+        let inside = Room { next: k, end: last };
+        let ends = Ways { met: 0, unmet: 1 };
+        let r = compile(q, z, inner, level - 1, memo, t, xs, inside, ends);
+        write(t, r + 1, 256, s.variable, narrow(r), 0, 0, m, u);
         return r + 1;
     }
     let first = x.first;
     let second = x.second;
     let l = level - 1;
     if kind == 1 {
-        return compile(q, z, first, l, memo, t, xs, k, end, unmet, met);
+        let turned = Ways { met: u, unmet: m };
+        return compile(q, z, first, l, memo, t, xs, room, turned);
     }
-    let r = compile(q, z, second, l, memo, t, xs, k, end - 1, met, unmet);
+    let last = end - 1;
+    let left = Room { next: k, end: last };
+    let r = compile(q, z, second, l, memo, t, xs, left, ways);
+    let next = r + 1;
+    let rest = Room { next, end };
     if kind == 2 {
-        return compile(q, z, first, l, memo, t, xs, r + 1, end, r, unmet);
+        let both = Ways { met: r, unmet: u };
+        return compile(q, z, first, l, memo, t, xs, rest, both);
     }
-    compile(q, z, first, l, memo, t, xs, r + 1, end, met, r)
+    let either = Ways { met: m, unmet: r };
+    compile(q, z, first, l, memo, t, xs, rest, either)
 }

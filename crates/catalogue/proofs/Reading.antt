@@ -9,8 +9,8 @@ use lib.Dec.{eqb, leb, ltb}
 use lib.IntN.{ℤ, pos}
 use lib.ListN.{length, getD, drop, length-drop, length-map, List·getD-eq-default}
 use lib.Seq.{getD-drop, drop-drop}
-use borrow.Author.Tests.{eqb-true, eqb-false, eq-eqb, ne-eqb, leb-true, ltb-true, ltb-false, le-ltb}
-use Rattle.model.proofs.Tests.{and-inv, or-no}
+use borrow.Author.Tests.{eqb-false, eq-eqb, ne-eqb, leb-true, ltb-false, le-ltb}
+use Rattle.model.proofs.Tests.{and-inv, or-no, by-lt}
 use Rattle.model.specs.Lists as S
 use Rattle.model.specs.Encoding.{Read, need, then, failed}
 use Rattle.model.specs.Encoding as E
@@ -174,13 +174,6 @@ refused c h = go (fails10 c) refl
     go : (b : Bool) → fails10 c ≡ b → b ≡ true
     go true e = refl
     go false e = absurd (h (passes-valid c e))
-
-by-lt : {P : Type 0} (a b : ℕ) → (a < b → P) → (b ≤ a → P) → P
-by-lt {P} a b f g = go (ltb a b) refl
-  where
-    go : (t : Bool) → ltb a b ≡ t → P
-    go true e = f (ltb-true a b e)
-    go false e = g (ltb-false a b e)
 
 -- past the end every number is 0
 drop-length : (n : ℕ) (c : List ℕ) → length c ≡ 4 * suc n → length (drop 4 c) ≡ 4 * n

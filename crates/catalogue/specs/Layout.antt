@@ -3,12 +3,13 @@
 use Prim.Native.Nat.{ℕ, zero, suc, _+_, _*_, _/_}
 use mathlib.Core.Bool.{Bool, not, _&&_, _||_}
 use mathlib.Core.List.{List, [], _∷_, map}
-use lib.Dec.{eqb, leb}
+use lib.Dec.{eqb, leb, ltb}
 use lib.IntN.{ℤ, pos}
 use lib.ListN.{length, getD}
 use Rattle.model.specs.Lists.{filter}
 use Rattle.model.specs.Meaning.{Tuple}
 use Rattle.model.specs.Catalogue.{walk}
+use Rattle.catalogue.specs.declared.Relation.{Relation}
 
 unfoldable pub kindOf : List ℕ → ℕ → ℕ
 kindOf c r = getD c (4 * r) 0
@@ -29,6 +30,10 @@ latestOf c r = eqb (kindOf c r) 50
 -- how many relations
 abbrev pub countOf : List ℕ → ℕ
 countOf c = length c / 4
+
+-- a relation, as its record says it
+abbrev pub relationOf : List ℕ → ℕ → Relation
+relationOf c r = record { listed = ltb r (countOf c); stored = storedOf c r; latest = latestOf c r; attributes = attributesOf c r; rows = rowsOf c r }
 
 -- where the values of relation r begin; of relation 16, how many values there are in all
 unfoldable pub baseOf : List ℕ → ℕ → ℕ

@@ -8,6 +8,17 @@ ghost use lib.ListN.{length, getD};
 ghost use Rattle.model.specs.Checks.{fails10, refusal, keeperChecks};
 ghost use Rattle.catalogue.specs.Layout as L;
 
+// What the catalogue says of a relation.
+pub struct Relation {
+    // whether there is such a relation
+    pub listed: bool,
+    pub stored: bool,
+    // whether its latest row is met first
+    pub latest: bool,
+    pub attributes: usize,
+    pub rows: usize,
+}
+
 fn wide(x: u8) -> usize
     ensures { λ r. ⌜ r ≡ x ⌝ }
 {
@@ -28,14 +39,14 @@ fn kind(catalogue: &[u8], relation: u8) -> usize
     byte(catalogue, 4 * wide(relation))
 }
 
-pub fn attributes(catalogue: &[u8], relation: u8) -> usize
+fn attributes(catalogue: &[u8], relation: u8) -> usize
     ensures { λ r. ⌜ r ≡ L.attributesOf (now (catalogue .entry)) relation ⌝ }
     ensures { λ r. ⌜ r ≤ 255 ⌝ }
 {
     byte(catalogue, 4 * wide(relation) + 1)
 }
 
-pub fn rows(catalogue: &[u8], relation: u8) -> usize
+fn rows(catalogue: &[u8], relation: u8) -> usize
     ensures { λ r. ⌜ r ≡ L.rowsOf (now (catalogue .entry)) relation ⌝ }
     ensures { λ r. ⌜ r ≤ 65535 ⌝ }
 {
@@ -43,24 +54,43 @@ pub fn rows(catalogue: &[u8], relation: u8) -> usize
     byte(catalogue, at + 2) + 256 * byte(catalogue, at + 3)
 }
 
-pub fn stored(catalogue: &[u8], relation: u8) -> bool
+fn stored(catalogue: &[u8], relation: u8) -> bool
     ensures { λ r. ⌜ r ≡ L.storedOf (now (catalogue .entry)) relation ⌝ }
 {
     kind(catalogue, relation) != 49
 }
 
 // Whether its latest row is met first.
-pub fn latest(catalogue: &[u8], relation: u8) -> bool
+fn latest(catalogue: &[u8], relation: u8) -> bool
     ensures { λ r. ⌜ r ≡ L.latestOf (now (catalogue .entry)) relation ⌝ }
 {
     kind(catalogue, relation) == 50
 }
 
 // How many relations there are.
-pub fn count(catalogue: &[u8]) -> usize
+fn count(catalogue: &[u8]) -> usize
     ensures { λ r. ⌜ r ≡ L.countOf (now (catalogue .entry)) ⌝ }
 {
     catalogue.len() / 4
+}
+
+// What the catalogue says of a relation; past its bytes they are read as 0.
+pub fn entry(catalogue: &[u8], relation: u8) -> Relation
+    ensures { λ r. ⌜ r ≡ L.relationOf (now (catalogue .entry)) relation ⌝ }
+    ensures { λ r. ⌜ (r .attributes ≤ 255) × (r .rows ≤ 65535) ⌝ }
+{
+    let attributes = attributes(catalogue, relation);
+    let rows = rows(catalogue, relation);
+    let listed = wide(relation) < count(catalogue);
+    let stored = stored(catalogue, relation);
+    let latest = latest(catalogue, relation);
+    Relation {
+        listed,
+        stored,
+        latest,
+        attributes,
+        rows,
+    }
 }
 
 // Where the values of a relation begin.

@@ -46,7 +46,8 @@ stored-past m p x h = go (x .size)
 measured-past : (m l : ℕ) (t : Bool) (q : List ℕ) (p : ℕ) (z : List ℕ) → Before m p q → drop m (measured l t q p z .table) ≡ drop m z
 unfolding measured recordAt
 measured-past m zero t q p z h = refl
-measured-past m (suc l) t [] p z h = refl
+measured-past m (suc l) true [] p z h = refl
+measured-past m (suc l) false [] p z h = refl
 measured-past m (suc l) t (k ∷ r) p z h = go (λ s q p z h. measured-past m l s q p z h) (accepts t (recordAt (k ∷ r)))
   where
     go : ((s : Bool) (q : List ℕ) (p : ℕ) (z : List ℕ) → Before m p q → drop m (measured l s q p z .table) ≡ drop m z) → (b : Bool)

@@ -19,12 +19,15 @@ use Rattle.model.specs.Catalogue.{Shape, attributesAt}
 use Rattle.model.specs.Scope.{Scope, knownBinding, knownAttribute, inScope, inScopeT}
 use Rattle.kinds.specs.Tables.{recordLength, ofKind, conditionsOf, termsOf}
 use Rattle.kinds.specs.Record.{recordAt}
-use Rattle.kinds.specs.declared.Record.{Record}
-use Rattle.kinds.specs.declared.Record.the-variants as R
-use Rattle.kinds.proofs.Record.{enum}
+use Rattle.kinds.specs.Places.{conditionAt, termAt}
+use Rattle.kinds.specs.declared.ConditionRecord.{ConditionRecord}
+use Rattle.kinds.specs.declared.ConditionRecord.the-variants as C
+use Rattle.kinds.specs.declared.TermRecord.{TermRecord}
+use Rattle.kinds.specs.declared.TermRecord.the-variants as T
+use Rattle.kinds.proofs.ConditionRecord.{enum}
 use Rattle.kinds.proofs.Records.{whole-record}
 use Rattle.sizes.specs.declared.Size.the-variants as S
-use Rattle.sizes.specs.Measured.{Measured, leaves, accepts, childrenOf, childTerm, children, store, measured, conditionTable, termTable}
+use Rattle.sizes.specs.Measured.{Measured, leaves, acceptsCondition, acceptsTerm, accepts, childrenOf, childTerm, children, store, measured, conditionTable, termTable}
 use Rattle.sizes.proofs.Reader.{agree, condition-taken, term-taken}
 use Rattle.sizes.proofs.Steps.{zero-is, wrong, whole}
 use Rattle.conditions.specs.Reach.{scopeOf, someInScope, aggregateInScope}
@@ -34,7 +37,7 @@ use Rattle.conditions.specs.declared.Reading.{Reading}
 use Rattle.conditions.specs.declared.Reading.the-variants.{Whole, Refused}
 use Rattle.conditions.specs.Answers.{answer, two, both, conditionReading, termReading, someReading, aggregateReading, conditionsReading, termsReading, twoMeasured, sizeOf, bytesOf, held, grown, kept}
 use Rattle.conditions.proofs.Parts.{answer-size, answer-refused, bytes-fit, wrap, two-fits, two-then, two-stop, two-go, one-inner, inner-stop, inner-go, parent-is}
-use Rattle.conditions.proofs.Records.{begins, truth, joining, truth-at, join-at, lengths}
+use Rattle.conditions.proofs.Records.{begins, beginsT, truth, joining, truth-at, join-at, lengths}
 
 -- an answer with its table is what is measured
 module _ (sh : Shape) (limit l : ℕ) (σ : Scope) (q : List ℕ) (p : ℕ) (z : List ℕ) where
@@ -77,53 +80,29 @@ module _ (sh : Shape) (limit l : ℕ) (σ : Scope) (q : List ℕ) (p : ℕ) (z :
   no-levelT h = none-term (zero-is l true (drop p q) p z h)
 
   -- a record that can stand for none
-  module _ (nz : l ≡ 0 → ⊥) (x : List ℕ) (ex : x ≡ drop p q) (y : Record) (ey : y ≡ recordAt x) where
-    not-accepted : (t : Bool) → accepts t y ≡ false → leaves S.Refused z ≡ measured l t (drop p q) p z
-    not-accepted t h = wrong l t (drop p q) p z nz y (accepts t y) (ey ∙ ap recordAt ex) refl (rw h)
+  module _ (nz : l ≡ 0 → ⊥) (x : List ℕ) (ex : x ≡ drop p q) where
+    not-accepted : (t : Bool) → accepts t (recordAt (drop p q)) ≡ false → leaves S.Refused z ≡ measured l t (drop p q) p z
+    not-accepted t h = wrong l t (drop p q) p z nz (accepts t (recordAt (drop p q))) refl (rw h)
 
-    pub no-operator : (o : ℕ) (b : Bool) → y ≡ R.Compare o → b ≡ isOperator o → not b ≡ true → (Refused ≡ conditionReading sh limit l σ (drop p q)) × (z ≡ conditionTable l q p z)
-    no-operator o b e eb h = none-condition (not-accepted false (ap (accepts false) e ∙ sym eb ∙ not-true b h))
+    module _ (y : ConditionRecord) (ey : y ≡ conditionAt x) where
+      refused : (c : ConditionRecord) → y ≡ c → acceptsCondition c ≡ false → (Refused ≡ conditionReading sh limit l σ (drop p q)) × (z ≡ conditionTable l q p z)
+      refused c e h = none-condition (not-accepted false (ap acceptsCondition (sym (ap conditionAt ex) ∙ sym ey ∙ e) ∙ h))
 
-    pub no-function : (f v r a : ℕ) (b : Bool) → y ≡ R.Aggregate f v r a → b ≡ isFunction f → not b ≡ true → (Refused ≡ termReading sh limit l σ (drop p q)) × (z ≡ termTable l q p z)
-    no-function f v r a b e eb h = none-term (not-accepted true (ap (accepts true) e ∙ sym eb ∙ not-true b h))
+      pub no-operator : (o : ℕ) (b : Bool) → y ≡ C.Compare o → b ≡ isOperator o → not b ≡ true → (Refused ≡ conditionReading sh limit l σ (drop p q)) × (z ≡ conditionTable l q p z)
+      no-operator o b e eb h = refused (C.Compare o) e (sym eb ∙ not-true b h)
 
-    others : (y : Record) → OneOf (0 ∷ 8 ∷ 9 ∷ 10 ∷ 11 ∷ 12 ∷ 13 ∷ []) (tagOf (declared enum) y) → accepts false y ≡ false
-    others (R.Range v w) k = refl
-    others R.True k = absurd (miss (0 ∷ 8 ∷ 9 ∷ 10 ∷ 11 ∷ 12 ∷ 13 ∷ []) 1 tt k)
-    others R.False k = absurd (miss (0 ∷ 8 ∷ 9 ∷ 10 ∷ 11 ∷ 12 ∷ 13 ∷ []) 2 tt k)
-    others R.Not k = absurd (miss (0 ∷ 8 ∷ 9 ∷ 10 ∷ 11 ∷ 12 ∷ 13 ∷ []) 3 tt k)
-    others R.And k = absurd (miss (0 ∷ 8 ∷ 9 ∷ 10 ∷ 11 ∷ 12 ∷ 13 ∷ []) 4 tt k)
-    others R.Or k = absurd (miss (0 ∷ 8 ∷ 9 ∷ 10 ∷ 11 ∷ 12 ∷ 13 ∷ []) 5 tt k)
-    others (R.Compare o) k = absurd (miss (0 ∷ 8 ∷ 9 ∷ 10 ∷ 11 ∷ 12 ∷ 13 ∷ []) 6 tt k)
-    others (R.Some v w) k = absurd (miss (0 ∷ 8 ∷ 9 ∷ 10 ∷ 11 ∷ 12 ∷ 13 ∷ []) 7 tt k)
-    others (R.Constant a b c d) k = refl
-    others (R.Attribute v a) k = refl
-    others (R.Aggregate h v w a) k = refl
-    others (R.Permit a b c) k = refl
-    others R.Unknown k = refl
-    others R.Short k = refl
+      pub no-condition : y ≡ C.Other → (Refused ≡ conditionReading sh limit l σ (drop p q)) × (z ≡ conditionTable l q p z)
+      no-condition e = refused C.Other e refl
 
-    pub no-condition : OneOf (0 ∷ 8 ∷ 9 ∷ 10 ∷ 11 ∷ 12 ∷ 13 ∷ []) (tagOf (declared enum) y) → (Refused ≡ conditionReading sh limit l σ (drop p q)) × (z ≡ conditionTable l q p z)
-    no-condition o = none-condition (not-accepted false (others y o))
+    module _ (y : TermRecord) (ey : y ≡ termAt x) where
+      refusedT : (c : TermRecord) → y ≡ c → acceptsTerm c ≡ false → (Refused ≡ termReading sh limit l σ (drop p q)) × (z ≡ termTable l q p z)
+      refusedT c e h = none-term (not-accepted true (ap acceptsTerm (sym (ap termAt ex) ∙ sym ey ∙ e) ∙ h))
 
-    othersT : (y : Record) → OneOf (0 ∷ 1 ∷ 2 ∷ 3 ∷ 4 ∷ 5 ∷ 6 ∷ 7 ∷ 11 ∷ 12 ∷ 13 ∷ []) (tagOf (declared enum) y) → accepts true y ≡ false
-    othersT (R.Range v w) k = refl
-    othersT R.True k = refl
-    othersT R.False k = refl
-    othersT R.Not k = refl
-    othersT R.And k = refl
-    othersT R.Or k = refl
-    othersT (R.Compare o) k = refl
-    othersT (R.Some v w) k = refl
-    othersT (R.Constant a b c d) k = absurd (miss (0 ∷ 1 ∷ 2 ∷ 3 ∷ 4 ∷ 5 ∷ 6 ∷ 7 ∷ 11 ∷ 12 ∷ 13 ∷ []) 8 tt k)
-    othersT (R.Attribute v a) k = absurd (miss (0 ∷ 1 ∷ 2 ∷ 3 ∷ 4 ∷ 5 ∷ 6 ∷ 7 ∷ 11 ∷ 12 ∷ 13 ∷ []) 9 tt k)
-    othersT (R.Aggregate h v w a) k = absurd (miss (0 ∷ 1 ∷ 2 ∷ 3 ∷ 4 ∷ 5 ∷ 6 ∷ 7 ∷ 11 ∷ 12 ∷ 13 ∷ []) 10 tt k)
-    othersT (R.Permit a b c) k = refl
-    othersT R.Unknown k = refl
-    othersT R.Short k = refl
+      pub no-function : (f v r a : ℕ) (b : Bool) → y ≡ T.Aggregate f v r a → b ≡ isFunction f → not b ≡ true → (Refused ≡ termReading sh limit l σ (drop p q)) × (z ≡ termTable l q p z)
+      no-function f v r a b e eb h = refusedT (T.Aggregate f v r a) e (sym eb ∙ not-true b h)
 
-    pub no-term : OneOf (0 ∷ 1 ∷ 2 ∷ 3 ∷ 4 ∷ 5 ∷ 6 ∷ 7 ∷ 11 ∷ 12 ∷ 13 ∷ []) (tagOf (declared enum) y) → (Refused ≡ termReading sh limit l σ (drop p q)) × (z ≡ termTable l q p z)
-    no-term o = none-term (not-accepted true (othersT y o))
+      pub no-term : y ≡ T.Other → (Refused ≡ termReading sh limit l σ (drop p q)) × (z ≡ termTable l q p z)
+      no-term e = refusedT T.Other e refl
 
 -- the bytes that were read end within the query
 module _ (q : List ℕ) (p : ℕ) (h : p ≤ length q) where
@@ -215,17 +194,17 @@ same-lengths : (recordLength 17 ≡ recordLength 16) × (recordLength 20 ≡ rec
 unfolding recordLength ofKind kindOf find
 same-lengths = (refl, refl)
 
--- the record y that stands at p, its kind byte k, its length a by the table, its n children
-module _ (l : ℕ) (nz : l ≡ 0 → ⊥) (q : List ℕ) (p : ℕ) (z : List ℕ) (y : Record) (ey : y ≡ recordAt (drop p q)) (t : Bool) (ht : accepts t y ≡ true) (k a : ℕ) (ek : k ≡ getD (drop p q) 0 0) (ea : a ≡ recordLength k) where
+-- the record that stands at p, its kind byte k, its length a by the table, its n children
+module _ (l : ℕ) (nz : l ≡ 0 → ⊥) (q : List ℕ) (p : ℕ) (z : List ℕ) (t : Bool) (ht : accepts t (recordAt (drop p q)) ≡ true) (k a : ℕ) (ek : k ≡ getD (drop p q) 0 0) (ea : a ≡ recordLength k) where
   leaf-table : childrenOf k ≡ 0 → (w : List ℕ) → w ≡ store z p a → w ≡ measured l t (drop p q) p z .table
   unfolding children
-  leaf-table en w ew = ew ∙ ap (λ (m : Measured). m .table) (whole l t (drop p q) p z nz y (accepts t y) k 0 a (childTerm k) ey refl (rw ht) ek (sym en) refl ea)
+  leaf-table en w ew = ew ∙ ap (λ (m : Measured). m .table) (whole l t (drop p q) p z nz (accepts t (recordAt (drop p q))) k 0 a (childTerm k) refl (rw ht) ek (sym en) refl ea)
 
   parent-table : (n : ℕ) (s : Bool) → childrenOf k ≡ n → childTerm k ≡ s → (r : Reading) (u w : List ℕ) → w ≡ kept p a r u → leaves (sizeOf r) u ≡ children n 0 (λ x m y. measured (l - 1) s x m y) (drop (p + a) q) (p + a) z → w ≡ measured l t (drop p q) p z .table
   parent-table n s en es r u w ew e =
       ap (λ (m : Measured). m .table) (
       parent-is (λ x m y. measured (l - 1) s x m y) n a (drop p q) (drop (p + a) q) p z r u w (sym (drop-drop a p q)) ew e
-      ∙ whole l t (drop p q) p z nz y (accepts t y) k n a s ey refl (rw ht) ek (sym en) (sym es) ea
+      ∙ whole l t (drop p q) p z nz (accepts t (recordAt (drop p q))) k n a s refl (rw ht) ek (sym en) (sym es) ea
       )
 
 -- a record with no child
@@ -233,7 +212,7 @@ leaf-answer : {A : Type 0} (s : A → Bool) (c : A) (b : Bool) (u v : List ℕ) 
 leaf-answer s c b u v a w ew es e = ap₂ Whole (omega (arith, e)) (sym es) ∙ sym (ap (answer u s) ew)
 
 -- the record k that stands at p, its length a by the table, and what was read of its children
-module _ (sh : Shape) (limit l : ℕ) (nz : l ≡ 0 → ⊥) (σ : Scope) (q : List ℕ) (p : ℕ) (z x : List ℕ) (ex : x ≡ drop p q) (k : Record) (ek : k ≡ recordAt x) where
+module _ (sh : Shape) (limit l : ℕ) (nz : l ≡ 0 → ⊥) (σ : Scope) (q : List ℕ) (p : ℕ) (z x : List ℕ) (ex : x ≡ drop p q) where
   Condition-read : Reading → List ℕ → Type 0
   Condition-read r w = (r ≡ conditionReading sh limit l σ (drop p q)) × (w ≡ conditionTable l q p z)
 
@@ -242,9 +221,6 @@ module _ (sh : Shape) (limit l : ℕ) (nz : l ≡ 0 → ⊥) (σ : Scope) (q : L
 
   level : l ≡ suc (l - 1)
   level = omega (arith, nz)
-
-  record-is : k ≡ recordAt (drop p q)
-  record-is = ek ∙ ap recordAt ex
 
   next : (a b : ℕ) → b ≡ a → drop a (drop p q) ≡ drop (p + b) q
   next a b e = drop-drop a p q ∙ ap (λ i. drop (p + i) q) (sym e)
@@ -258,97 +234,107 @@ module _ (sh : Shape) (limit l : ℕ) (nz : l ≡ 0 → ⊥) (σ : Scope) (q : L
     unfolding termReading
     armT m es rd = er′ ∙ ap (grown a) er ∙ wrap a m s (λ t. inScopeT sh limit t σ) es (drop (p + a) q) (drop p q) len w f ∙ ap (answer (drop p q) (λ t. inScopeT sh limit t σ)) (sym rd)
 
-  module _ (a : ℕ) where
-    pub truth-is : (r : Reading) (w : List ℕ) → a ≡ recordLength 16 → OneOf (1 ∷ 2 ∷ []) (tagOf (declared enum) k) → r ≡ Whole a true → w ≡ store z p a → (r ≡ conditionReading sh limit l σ (drop p q)) × (w ≡ conditionTable l q p z)
-    unfolding conditionReading conditionTable readCondition onKind kindOf find conditionBody inScope
-    truth-is r w ea o er ew = let t = truth-at q x p ex k ek o in go (t .0) (t .1)
-      where
-        go : (b : Bool) → drop p q ≡ truth b ∷ drop 1 (drop p q) → (r ≡ conditionReading sh limit l σ (drop p q)) × (w ≡ conditionTable l q p z)
-        go true h = (
-          er ∙ leaf-answer (λ c. inScope sh limit c σ) TRUE true (drop p q) (drop 1 (drop p q)) a (readCondition l (drop p q)) (ap₂ readCondition level h) refl (omega (arith, ap length h, ea ∙ lengths .0)),
-          leaf-table l nz q p z k record-is false (ap (accepts false) (record-is ∙ ap recordAt h ∙ whole-record 16 (drop 1 (drop p q)) k-true refl (omega arith))) 16 a (sym (ap (λ v. getD v 0 0) h)) ea (counts .0) w ew,
-        )
-        go false h = (
-          er ∙ leaf-answer (λ c. inScope sh limit c σ) FALSE true (drop p q) (drop 1 (drop p q)) a (readCondition l (drop p q)) (ap₂ readCondition level h) refl (omega (arith, ap length h, ea ∙ lengths .0)),
-          leaf-table l nz q p z k record-is false (ap (accepts false) (record-is ∙ ap recordAt h ∙ whole-record 17 (drop 1 (drop p q)) k-false refl (omega arith))) 17 a (sym (ap (λ v. getD v 0 0) h)) (ea ∙ sym (same-lengths .0)) (counts .1) w ew,
-        )
+  module _ (k : ConditionRecord) (ek : k ≡ conditionAt x) where
+    record-is : k ≡ conditionAt (drop p q)
+    record-is = ek ∙ ap conditionAt ex
 
-    pub constant-is : (r : Reading) (w : List ℕ) (b c d e : ℕ) → a ≡ recordLength 32 → k ≡ R.Constant b c d e → r ≡ Whole a true → w ≡ store z p a → (r ≡ termReading sh limit l σ (drop p q)) × (w ≡ termTable l q p z)
-    unfolding termReading termTable readCondition onKind kindOf find termBody inScope
-    constant-is r w b c d e ea f er ew =
-        let h = begins q x p ex k ek (R.Constant b c d e) f in (
-          er ∙ leaf-answer (λ t. inScopeT sh limit t σ) (CONSTANT b c d e) true (drop p q) (drop 5 (drop p q)) a (readTerm l (drop p q)) (ap₂ readTerm level h) refl (omega (arith, ap length h, ea ∙ lengths .5)),
-          leaf-table l nz q p z k record-is true (ap (accepts true) f) 32 a (sym (ap (λ v. getD v 0 0) h)) ea (counts .7) w ew,
-        )
-
-    pub attribute-is : (r : Reading) (w : List ℕ) (v b : ℕ) (d : Bool) → a ≡ recordLength 33 → k ≡ R.Attribute v b → d ≡ knownAttribute sh (σ v) b → r ≡ Whole a d → w ≡ store z p a → (r ≡ termReading sh limit l σ (drop p q)) × (w ≡ termTable l q p z)
-    unfolding termReading termTable readCondition onKind kindOf find termBody inScope
-    attribute-is r w v b d ea f ed er ew =
-        let h = begins q x p ex k ek (R.Attribute v b) f in (
-          er ∙ leaf-answer (λ t. inScopeT sh limit t σ) (ATTRIBUTE v b) d (drop p q) (drop 3 (drop p q)) a (readTerm l (drop p q)) (ap₂ readTerm level h) (sym ed) (omega (arith, ap length h, ea ∙ lengths .6)),
-          leaf-table l nz q p z k record-is true (ap (accepts true) f) 33 a (sym (ap (λ v. getD v 0 0) h)) ea (counts .8) w ew,
-        )
-
-    module _ (r r′ : Reading) (u w : List ℕ) (er′ : r′ ≡ grown a r) (ew : w ≡ kept p a r u) where
-      pub not-is : a ≡ recordLength 18 → k ≡ R.Not → r ≡ conditionReading sh limit (l - 1) σ (drop (p + a) q) → u ≡ conditionTable (l - 1) q (p + a) z → (r′ ≡ conditionReading sh limit l σ (drop p q)) × (w ≡ conditionTable l q p z)
+    module _ (a : ℕ) where
+      pub truth-is : (r : Reading) (w : List ℕ) → a ≡ recordLength 16 → OneOf (0 ∷ 1 ∷ []) (tagOf (declared enum) k) → r ≡ Whole a true → w ≡ store z p a → (r ≡ conditionReading sh limit l σ (drop p q)) × (w ≡ conditionTable l q p z)
       unfolding conditionReading conditionTable readCondition onKind kindOf find conditionBody inScope
-      not-is ea e er eu =
-          let h = begins q x p ex k ek R.Not e in let n = ea ∙ lengths .1 in
-          let b : drop p q ≡ 18 ∷ drop (p + a) q = h ∙ ap (λ v. 18 ∷ v) (next 1 a n) in (
-            arm a (λ c. inScope sh limit c σ) (readCondition (l - 1) (drop (p + a) q)) (λ c r i. condition-taken (l - 1) (drop (p + a) q) c r i .fits) (omega (arith, ap length b, n)) r r′ er er′ NOT (λ c. refl) (ap₂ readCondition level b),
-            parent-table l nz q p z k record-is false (ap (accepts false) e) 18 a (sym (ap (λ v. getD v 0 0) h)) ea 1 false (counts .2) (sorts .0) r u w ew
-                (one-inner (λ x m y. measured (l - 1) false x m y) (drop (p + a) q) (p + a) z r u (measured-condition sh limit (l - 1) σ q (p + a) z r u er eu)),
-          )
-
-      pub some-is : (v m : ℕ) → a ≡ recordLength 22 → k ≡ R.Some v m → r ≡ someReading sh limit (l - 1) (record { variable = v; relation = m }) σ (drop (p + a) q) → u ≡ conditionTable (l - 1) q (p + a) z → (r′ ≡ conditionReading sh limit l σ (drop p q)) × (w ≡ conditionTable l q p z)
-      unfolding conditionReading someReading conditionTable readCondition onKind kindOf find conditionBody inScope
-      some-is v m ea e er eu =
-          let h = begins q x p ex k ek (R.Some v m) e in let n = ea ∙ lengths .4 in
-          let b : drop p q ≡ 22 ∷ v ∷ m ∷ drop (p + a) q = h ∙ ap (λ y. 22 ∷ v ∷ m ∷ y) (next 3 a n) in (
-            arm a (λ c. someInScope sh limit (record { variable = v; relation = m }) c σ) (readCondition (l - 1) (drop (p + a) q)) (λ c r i. condition-taken (l - 1) (drop (p + a) q) c r i .fits) (omega (arith, ap length b, n)) r r′ er er′ (SOME v m) (λ c. refl) (ap₂ readCondition level b),
-            parent-table l nz q p z k record-is false (ap (accepts false) e) 22 a (sym (ap (λ v. getD v 0 0) h)) ea 1 false (counts .6) (sorts .4) r u w ew
-                (one-inner (λ x m y. measured (l - 1) false x m y) (drop (p + a) q) (p + a) z r u (measured-some sh limit (l - 1) σ q (p + a) z (record { variable = v; relation = m }) r u er eu)),
-          )
-
-      pub aggregate-is : (f v m i : ℕ) (d : Bool) → a ≡ recordLength 34 → k ≡ R.Aggregate f v m i → d ≡ isFunction f → not d ≡ false → r ≡ aggregateReading sh limit (l - 1) (record { variable = v; relation = m }) i (drop (p + a) q) → u ≡ conditionTable (l - 1) q (p + a) z → (r′ ≡ termReading sh limit l σ (drop p q)) × (w ≡ termTable l q p z)
-      unfolding termReading aggregateReading termTable readCondition onKind kindOf find termBody inScope
-      aggregate-is f v m i d ea e ed hd er eu =
-          let h = begins q x p ex k ek (R.Aggregate f v m i) e in let n = ea ∙ lengths .7 in let known = sym ed ∙ not-false d hd in
-          let b : drop p q ≡ 34 ∷ f ∷ v ∷ m ∷ i ∷ drop (p + a) q = h ∙ ap (λ y. 34 ∷ f ∷ v ∷ m ∷ i ∷ y) (next 5 a n) in (
-            armT a (λ c. aggregateInScope sh limit (record { variable = v; relation = m }) i c) (readCondition (l - 1) (drop (p + a) q)) (λ c r i. condition-taken (l - 1) (drop (p + a) q) c r i .fits) (omega (arith, ap length b, n)) r r′ er er′ (AGGREGATE f v m i) (λ c. refl)
-                (ap₂ readTerm level b ∙ ap (λ g. need g (then (readCondition (l - 1) (drop (p + a) q)) λ c r. ok (AGGREGATE f v m i c) r)) known),
-            parent-table l nz q p z k record-is true (ap (accepts true) e ∙ known) 34 a (sym (ap (λ v. getD v 0 0) h)) ea 1 false (counts .9) (sorts .5) r u w ew
-                (one-inner (λ x m y. measured (l - 1) false x m y) (drop (p + a) q) (p + a) z r u (measured-aggregate sh limit (l - 1) σ q (p + a) z (record { variable = v; relation = m }) i r u er eu)),
-          )
-
-      pub both-is : a ≡ recordLength 19 → OneOf (4 ∷ 5 ∷ []) (tagOf (declared enum) k) → r ≡ conditionsReading sh limit (l - 1) σ (drop (p + a) q) → leaves (sizeOf r) u ≡ twoMeasured false (l - 1) q (p + a) z → (r′ ≡ conditionReading sh limit l σ (drop p q)) × (w ≡ conditionTable l q p z)
-      unfolding conditionReading conditionsReading twoMeasured conditionTable readCondition onKind kindOf find conditionBody inScope
-      both-is ea o er eu = let t = join-at q x p ex k ek o in go (t .0) (t .1)
+      truth-is r w ea o er ew = let t = truth-at q x p ex k ek o in go (t .0) (t .1)
         where
-          go : (b : Bool) → drop p q ≡ joining b ∷ drop 1 (drop p q) → (r′ ≡ conditionReading sh limit l σ (drop p q)) × (w ≡ conditionTable l q p z)
-          go true h =
-              let n = ea ∙ lengths .2 in let b : drop p q ≡ 19 ∷ drop (p + a) q = h ∙ ap (λ v. 19 ∷ v) (next 1 a n) in (
-                arm a (both (λ c. inScope sh limit c σ)) (two (λ x. readCondition (l - 1) x) (drop (p + a) q)) (two-fits (λ x. readCondition (l - 1) x) (condition-taken (l - 1)) (drop (p + a) q)) (omega (arith, ap length b, n)) r r′ er er′
-                    (λ c. AND (c .left) (c .right)) (λ c. refl) (ap₂ readCondition level b ∙ sym (two-then (λ x. readCondition (l - 1) x) (condition-taken (l - 1)) AND (drop (p + a) q))),
-                parent-table l nz q p z k record-is false (ap (accepts false) (record-is ∙ ap recordAt h ∙ whole-record 19 (drop 1 (drop p q)) k-and refl (omega arith))) 19 a (sym (ap (λ v. getD v 0 0) h)) ea 2 false (counts .3) (sorts .1) r u w ew eu,
-              )
-          go false h =
-              let n = ea ∙ lengths .2 in let b : drop p q ≡ 20 ∷ drop (p + a) q = h ∙ ap (λ v. 20 ∷ v) (next 1 a n) in (
-                arm a (both (λ c. inScope sh limit c σ)) (two (λ x. readCondition (l - 1) x) (drop (p + a) q)) (two-fits (λ x. readCondition (l - 1) x) (condition-taken (l - 1)) (drop (p + a) q)) (omega (arith, ap length b, n)) r r′ er er′
-                    (λ c. OR (c .left) (c .right)) (λ c. refl) (ap₂ readCondition level b ∙ sym (two-then (λ x. readCondition (l - 1) x) (condition-taken (l - 1)) OR (drop (p + a) q))),
-                parent-table l nz q p z k record-is false (ap (accepts false) (record-is ∙ ap recordAt h ∙ whole-record 20 (drop 1 (drop p q)) k-or refl (omega arith))) 20 a (sym (ap (λ v. getD v 0 0) h)) (ea ∙ sym (same-lengths .1)) 2 false (counts .4) (sorts .2) r u w ew eu,
-              )
-
-      pub compare-is : (o : ℕ) (d : Bool) → a ≡ recordLength 21 → k ≡ R.Compare o → d ≡ isOperator o → not d ≡ false → r ≡ termsReading sh limit (l - 1) σ (drop (p + a) q) → leaves (sizeOf r) u ≡ twoMeasured true (l - 1) q (p + a) z → (r′ ≡ conditionReading sh limit l σ (drop p q)) × (w ≡ conditionTable l q p z)
-      unfolding conditionReading termsReading twoMeasured conditionTable readCondition onKind kindOf find conditionBody inScope
-      compare-is o d ea e ed hd er eu =
-          let h = begins q x p ex k ek (R.Compare o) e in let n = ea ∙ lengths .3 in let known = sym ed ∙ not-false d hd in
-          let b : drop p q ≡ 21 ∷ o ∷ drop (p + a) q = h ∙ ap (λ v. 21 ∷ o ∷ v) (next 2 a n) in (
-            arm a (both (λ t. inScopeT sh limit t σ)) (two (λ x. readTerm (l - 1) x) (drop (p + a) q)) (two-fits (λ x. readTerm (l - 1) x) (term-taken (l - 1)) (drop (p + a) q)) (omega (arith, ap length b, n)) r r′ er er′
-                (λ c. COMPARE o (c .left) (c .right)) (λ c. refl)
-                (ap₂ readCondition level b ∙ ap (λ g. need g (then (readTerm (l - 1) (drop (p + a) q)) λ s r. then (readTerm (l - 1) r) λ t r. ok (COMPARE o s t) r)) known ∙ sym (two-then (λ x. readTerm (l - 1) x) (term-taken (l - 1)) (COMPARE o) (drop (p + a) q))),
-            parent-table l nz q p z k record-is false (ap (accepts false) e ∙ known) 21 a (sym (ap (λ v. getD v 0 0) h)) ea 2 true (counts .5) (sorts .3) r u w ew eu,
+          go : (b : Bool) → drop p q ≡ truth b ∷ drop 1 (drop p q) → (r ≡ conditionReading sh limit l σ (drop p q)) × (w ≡ conditionTable l q p z)
+          go true h = (
+            er ∙ leaf-answer (λ c. inScope sh limit c σ) TRUE true (drop p q) (drop 1 (drop p q)) a (readCondition l (drop p q)) (ap₂ readCondition level h) refl (omega (arith, ap length h, ea ∙ lengths .0)),
+            leaf-table l nz q p z false (ap (accepts false) (ap recordAt h ∙ whole-record 16 (drop 1 (drop p q)) k-true refl (omega arith))) 16 a (sym (ap (λ v. getD v 0 0) h)) ea (counts .0) w ew,
           )
+          go false h = (
+            er ∙ leaf-answer (λ c. inScope sh limit c σ) FALSE true (drop p q) (drop 1 (drop p q)) a (readCondition l (drop p q)) (ap₂ readCondition level h) refl (omega (arith, ap length h, ea ∙ lengths .0)),
+            leaf-table l nz q p z false (ap (accepts false) (ap recordAt h ∙ whole-record 17 (drop 1 (drop p q)) k-false refl (omega arith))) 17 a (sym (ap (λ v. getD v 0 0) h)) (ea ∙ sym (same-lengths .0)) (counts .1) w ew,
+          )
+
+      module _ (r r′ : Reading) (u w : List ℕ) (er′ : r′ ≡ grown a r) (ew : w ≡ kept p a r u) where
+        pub not-is : a ≡ recordLength 18 → k ≡ C.Not → r ≡ conditionReading sh limit (l - 1) σ (drop (p + a) q) → u ≡ conditionTable (l - 1) q (p + a) z → (r′ ≡ conditionReading sh limit l σ (drop p q)) × (w ≡ conditionTable l q p z)
+        unfolding conditionReading conditionTable readCondition onKind kindOf find conditionBody inScope
+        not-is ea e er eu =
+            let h = begins q x p ex k ek C.Not e in let n = ea ∙ lengths .1 in
+            let b : drop p q ≡ 18 ∷ drop (p + a) q = h ∙ ap (λ v. 18 ∷ v) (next 1 a n) in (
+              arm a (λ c. inScope sh limit c σ) (readCondition (l - 1) (drop (p + a) q)) (λ c r i. condition-taken (l - 1) (drop (p + a) q) c r i .fits) (omega (arith, ap length b, n)) r r′ er er′ NOT (λ c. refl) (ap₂ readCondition level b),
+              parent-table l nz q p z false (ap acceptsCondition (sym record-is ∙ e)) 18 a (sym (ap (λ v. getD v 0 0) h)) ea 1 false (counts .2) (sorts .0) r u w ew
+                  (one-inner (λ x m y. measured (l - 1) false x m y) (drop (p + a) q) (p + a) z r u (measured-condition sh limit (l - 1) σ q (p + a) z r u er eu)),
+            )
+
+        pub some-is : (v m : ℕ) → a ≡ recordLength 22 → k ≡ C.Some v m → r ≡ someReading sh limit (l - 1) (record { variable = v; relation = m }) σ (drop (p + a) q) → u ≡ conditionTable (l - 1) q (p + a) z → (r′ ≡ conditionReading sh limit l σ (drop p q)) × (w ≡ conditionTable l q p z)
+        unfolding conditionReading someReading conditionTable readCondition onKind kindOf find conditionBody inScope
+        some-is v m ea e er eu =
+            let h = begins q x p ex k ek (C.Some v m) e in let n = ea ∙ lengths .4 in
+            let b : drop p q ≡ 22 ∷ v ∷ m ∷ drop (p + a) q = h ∙ ap (λ y. 22 ∷ v ∷ m ∷ y) (next 3 a n) in (
+              arm a (λ c. someInScope sh limit (record { variable = v; relation = m }) c σ) (readCondition (l - 1) (drop (p + a) q)) (λ c r i. condition-taken (l - 1) (drop (p + a) q) c r i .fits) (omega (arith, ap length b, n)) r r′ er er′ (SOME v m) (λ c. refl) (ap₂ readCondition level b),
+              parent-table l nz q p z false (ap acceptsCondition (sym record-is ∙ e)) 22 a (sym (ap (λ v. getD v 0 0) h)) ea 1 false (counts .6) (sorts .4) r u w ew
+                  (one-inner (λ x m y. measured (l - 1) false x m y) (drop (p + a) q) (p + a) z r u (measured-some sh limit (l - 1) σ q (p + a) z (record { variable = v; relation = m }) r u er eu)),
+            )
+
+        pub both-is : a ≡ recordLength 19 → OneOf (3 ∷ 4 ∷ []) (tagOf (declared enum) k) → r ≡ conditionsReading sh limit (l - 1) σ (drop (p + a) q) → leaves (sizeOf r) u ≡ twoMeasured false (l - 1) q (p + a) z → (r′ ≡ conditionReading sh limit l σ (drop p q)) × (w ≡ conditionTable l q p z)
+        unfolding conditionReading conditionsReading twoMeasured conditionTable readCondition onKind kindOf find conditionBody inScope
+        both-is ea o er eu = let t = join-at q x p ex k ek o in go (t .0) (t .1)
+          where
+            go : (b : Bool) → drop p q ≡ joining b ∷ drop 1 (drop p q) → (r′ ≡ conditionReading sh limit l σ (drop p q)) × (w ≡ conditionTable l q p z)
+            go true h =
+                let n = ea ∙ lengths .2 in let b : drop p q ≡ 19 ∷ drop (p + a) q = h ∙ ap (λ v. 19 ∷ v) (next 1 a n) in (
+                  arm a (both (λ c. inScope sh limit c σ)) (two (λ x. readCondition (l - 1) x) (drop (p + a) q)) (two-fits (λ x. readCondition (l - 1) x) (condition-taken (l - 1)) (drop (p + a) q)) (omega (arith, ap length b, n)) r r′ er er′
+                      (λ c. AND (c .left) (c .right)) (λ c. refl) (ap₂ readCondition level b ∙ sym (two-then (λ x. readCondition (l - 1) x) (condition-taken (l - 1)) AND (drop (p + a) q))),
+                  parent-table l nz q p z false (ap (accepts false) (ap recordAt h ∙ whole-record 19 (drop 1 (drop p q)) k-and refl (omega arith))) 19 a (sym (ap (λ v. getD v 0 0) h)) ea 2 false (counts .3) (sorts .1) r u w ew eu,
+                )
+            go false h =
+                let n = ea ∙ lengths .2 in let b : drop p q ≡ 20 ∷ drop (p + a) q = h ∙ ap (λ v. 20 ∷ v) (next 1 a n) in (
+                  arm a (both (λ c. inScope sh limit c σ)) (two (λ x. readCondition (l - 1) x) (drop (p + a) q)) (two-fits (λ x. readCondition (l - 1) x) (condition-taken (l - 1)) (drop (p + a) q)) (omega (arith, ap length b, n)) r r′ er er′
+                      (λ c. OR (c .left) (c .right)) (λ c. refl) (ap₂ readCondition level b ∙ sym (two-then (λ x. readCondition (l - 1) x) (condition-taken (l - 1)) OR (drop (p + a) q))),
+                  parent-table l nz q p z false (ap (accepts false) (ap recordAt h ∙ whole-record 20 (drop 1 (drop p q)) k-or refl (omega arith))) 20 a (sym (ap (λ v. getD v 0 0) h)) (ea ∙ sym (same-lengths .1)) 2 false (counts .4) (sorts .2) r u w ew eu,
+                )
+
+        pub compare-is : (o : ℕ) (d : Bool) → a ≡ recordLength 21 → k ≡ C.Compare o → d ≡ isOperator o → not d ≡ false → r ≡ termsReading sh limit (l - 1) σ (drop (p + a) q) → leaves (sizeOf r) u ≡ twoMeasured true (l - 1) q (p + a) z → (r′ ≡ conditionReading sh limit l σ (drop p q)) × (w ≡ conditionTable l q p z)
+        unfolding conditionReading termsReading twoMeasured conditionTable readCondition onKind kindOf find conditionBody inScope
+        compare-is o d ea e ed hd er eu =
+            let h = begins q x p ex k ek (C.Compare o) e in let n = ea ∙ lengths .3 in let known = sym ed ∙ not-false d hd in
+            let b : drop p q ≡ 21 ∷ o ∷ drop (p + a) q = h ∙ ap (λ v. 21 ∷ o ∷ v) (next 2 a n) in (
+              arm a (both (λ t. inScopeT sh limit t σ)) (two (λ x. readTerm (l - 1) x) (drop (p + a) q)) (two-fits (λ x. readTerm (l - 1) x) (term-taken (l - 1)) (drop (p + a) q)) (omega (arith, ap length b, n)) r r′ er er′
+                  (λ c. COMPARE o (c .left) (c .right)) (λ c. refl)
+                  (ap₂ readCondition level b ∙ ap (λ g. need g (then (readTerm (l - 1) (drop (p + a) q)) λ s r. then (readTerm (l - 1) r) λ t r. ok (COMPARE o s t) r)) known ∙ sym (two-then (λ x. readTerm (l - 1) x) (term-taken (l - 1)) (COMPARE o) (drop (p + a) q))),
+              parent-table l nz q p z false (ap acceptsCondition (sym record-is ∙ e) ∙ known) 21 a (sym (ap (λ v. getD v 0 0) h)) ea 2 true (counts .5) (sorts .3) r u w ew eu,
+            )
+
+  module _ (k : TermRecord) (ek : k ≡ termAt x) where
+    term-is : k ≡ termAt (drop p q)
+    term-is = ek ∙ ap termAt ex
+
+    module _ (a : ℕ) where
+      pub constant-is : (r : Reading) (w : List ℕ) (b c d e : ℕ) → a ≡ recordLength 32 → k ≡ T.Constant b c d e → r ≡ Whole a true → w ≡ store z p a → (r ≡ termReading sh limit l σ (drop p q)) × (w ≡ termTable l q p z)
+      unfolding termReading termTable readCondition onKind kindOf find termBody inScope
+      constant-is r w b c d e ea f er ew =
+          let h = beginsT q x p ex k ek (T.Constant b c d e) f in (
+            er ∙ leaf-answer (λ t. inScopeT sh limit t σ) (CONSTANT b c d e) true (drop p q) (drop 5 (drop p q)) a (readTerm l (drop p q)) (ap₂ readTerm level h) refl (omega (arith, ap length h, ea ∙ lengths .5)),
+            leaf-table l nz q p z true (ap acceptsTerm (sym term-is ∙ f)) 32 a (sym (ap (λ v. getD v 0 0) h)) ea (counts .7) w ew,
+          )
+
+      pub attribute-is : (r : Reading) (w : List ℕ) (v b : ℕ) (d : Bool) → a ≡ recordLength 33 → k ≡ T.Attribute v b → d ≡ knownAttribute sh (σ v) b → r ≡ Whole a d → w ≡ store z p a → (r ≡ termReading sh limit l σ (drop p q)) × (w ≡ termTable l q p z)
+      unfolding termReading termTable readCondition onKind kindOf find termBody inScope
+      attribute-is r w v b d ea f ed er ew =
+          let h = beginsT q x p ex k ek (T.Attribute v b) f in (
+            er ∙ leaf-answer (λ t. inScopeT sh limit t σ) (ATTRIBUTE v b) d (drop p q) (drop 3 (drop p q)) a (readTerm l (drop p q)) (ap₂ readTerm level h) (sym ed) (omega (arith, ap length h, ea ∙ lengths .6)),
+            leaf-table l nz q p z true (ap acceptsTerm (sym term-is ∙ f)) 33 a (sym (ap (λ v. getD v 0 0) h)) ea (counts .8) w ew,
+          )
+
+      module _ (r r′ : Reading) (u w : List ℕ) (er′ : r′ ≡ grown a r) (ew : w ≡ kept p a r u) where
+        pub aggregate-is : (f v m i : ℕ) (d : Bool) → a ≡ recordLength 34 → k ≡ T.Aggregate f v m i → d ≡ isFunction f → not d ≡ false → r ≡ aggregateReading sh limit (l - 1) (record { variable = v; relation = m }) i (drop (p + a) q) → u ≡ conditionTable (l - 1) q (p + a) z → (r′ ≡ termReading sh limit l σ (drop p q)) × (w ≡ termTable l q p z)
+        unfolding termReading aggregateReading termTable readCondition onKind kindOf find termBody inScope
+        aggregate-is f v m i d ea e ed hd er eu =
+            let h = beginsT q x p ex k ek (T.Aggregate f v m i) e in let n = ea ∙ lengths .7 in let known = sym ed ∙ not-false d hd in
+            let b : drop p q ≡ 34 ∷ f ∷ v ∷ m ∷ i ∷ drop (p + a) q = h ∙ ap (λ y. 34 ∷ f ∷ v ∷ m ∷ i ∷ y) (next 5 a n) in (
+              armT a (λ c. aggregateInScope sh limit (record { variable = v; relation = m }) i c) (readCondition (l - 1) (drop (p + a) q)) (λ c r i. condition-taken (l - 1) (drop (p + a) q) c r i .fits) (omega (arith, ap length b, n)) r r′ er er′ (AGGREGATE f v m i) (λ c. refl)
+                  (ap₂ readTerm level b ∙ ap (λ g. need g (then (readCondition (l - 1) (drop (p + a) q)) λ c r. ok (AGGREGATE f v m i c) r)) known),
+              parent-table l nz q p z true (ap acceptsTerm (sym term-is ∙ e) ∙ known) 34 a (sym (ap (λ v. getD v 0 0) h)) ea 1 false (counts .9) (sorts .5) r u w ew
+                  (one-inner (λ x m y. measured (l - 1) false x m y) (drop (p + a) q) (p + a) z r u (measured-aggregate sh limit (l - 1) σ q (p + a) z (record { variable = v; relation = m }) i r u er eu)),
+            )
 
 -- what more must hold
 also-answer : {A : Type 0} (b : Bool) (x : List ℕ) (s t : A → Bool) → ((c : A) → (b && s c) ≡ t c) → (w : Read A) → held b (answer x s w) ≡ answer x t w

@@ -2,7 +2,8 @@
 // their scope. What is out of scope is read on, so that the answer says both: whether it can be read, and whether it is in scope.
 pub mod scope;
 
-use kinds::Record;
+use kinds::ConditionRecord;
+use kinds::TermRecord;
 ghost use mathlib.Core.Path.{_≡_};
 ghost use mathlib.Core.Bool.{true, false};
 ghost use Prim.Native.Nat.{_+_, _≤_, _<_};
@@ -31,12 +32,25 @@ fn also(r: Reading, known: bool) -> Reading
     Reading::Whole(n, inside)
 }
 
+// Keeps a size in the table.
+fn put(z: &mut [u16], at: usize, n: usize)
+    ensures { λ _. ⌜ now (z .exit) ≡ store (now (z .entry)) at n ⌝ }
+{
+    if 65536 <= n {
+        return;
+    }
+    if z.len() <= at {
+        return;
+    }
+    z[at] = n as u16;
+}
+
 // Keeps the size of a record with no child.
 fn leaf(z: &mut [u16], at: usize, n: usize, inside: bool) -> Reading
     ensures { λ r. ⌜ r ≡ Reading.Whole n inside ⌝ }
     ensures { λ _. ⌜ now (z .exit) ≡ store (now (z .entry)) at n ⌝ }
 {
-    sizes::put(z, at, n);
+    put(z, at, n);
     Reading::Whole(n, inside)
 }
 
@@ -71,32 +85,37 @@ pub fn condition(
         return Reading::Refused;
     }
     let l = level - 1;
-    match kinds::read(kinds::tail(q, at)) {
-        Record::True | Record::False => leaf(z, at, kinds::record_length(16), true),
-        Record::Not => {
+    match kinds::condition_record(kinds::tail(q, at)) {
+        ConditionRecord::True | ConditionRecord::False => leaf(
+            z,
+            at,
+            kinds::record_length(16),
+            true,
+        ),
+        ConditionRecord::Not => {
             let a = kinds::record_length(18);
             let inner = condition(q, z, at + a, l, catalogue, limit, reach);
             parent(z, at, a, inner)
         }
-        Record::And | Record::Or => {
+        ConditionRecord::And | ConditionRecord::Or => {
             let a = kinds::record_length(19);
             let inner = conditions(q, z, at + a, l, catalogue, limit, reach);
             parent(z, at, a, inner)
         }
-        Record::Compare(o) => {
-            if !kinds::is_operator(o) {
+        ConditionRecord::Compare(o) => {
+            if !kinds::is_code(false, o) {
                 return Reading::Refused;
             }
             let a = kinds::record_length(21);
             let inner = terms(q, z, at + a, l, catalogue, limit, reach);
             parent(z, at, a, inner)
         }
-        Record::Some(v, r) => {
+        ConditionRecord::Some(v, r) => {
             let a = kinds::record_length(22);
             let inner = some(q, z, at + a, l, catalogue, limit, reach, v, r);
             parent(z, at, a, inner)
         }
-        _ => Reading::Refused,
+        ConditionRecord::Other => Reading::Refused,
     }
 }
 
@@ -213,20 +232,20 @@ pub fn term(
     if level == 0 {
         return Reading::Refused;
     }
-    match kinds::read(kinds::tail(q, at)) {
-        Record::Constant(_, _, _, _) => leaf(z, at, kinds::record_length(32), true),
-        Record::Attribute(v, a) => {
+    match kinds::term_record(kinds::tail(q, at)) {
+        TermRecord::Constant(_, _, _, _) => leaf(z, at, kinds::record_length(32), true),
+        TermRecord::Attribute(v, a) => {
             let inside = scope::attribute(catalogue, reach, v, a);
             leaf(z, at, kinds::record_length(33), inside)
         }
-        Record::Aggregate(f, v, r, a) => {
-            if !kinds::is_function(f) {
+        TermRecord::Aggregate(f, v, r, a) => {
+            if !kinds::is_code(true, f) {
                 return Reading::Refused;
             }
             let k = kinds::record_length(34);
             let inner = aggregate(q, z, at + k, level - 1, catalogue, limit, v, r, a);
             parent(z, at, k, inner)
         }
-        _ => Reading::Refused,
+        TermRecord::Other => Reading::Refused,
     }
 }

@@ -24,20 +24,21 @@ fn wide_entry(x: u16) -> usize
 pub(crate) fn has(catalogue: &[u8], relation: usize, attribute: u8) -> bool
     ensures { λ r. ⌜ r ≡ ltb attribute (attributesAt (shapeIn (now (catalogue .entry))) relation) ⌝ }
 {
-    if catalogue::count(catalogue) <= relation {
+    if catalogue.len() / 4 <= relation {
         return false;
     }
     attribute < kinds::byte(catalogue, 4 * relation + 1)
 }
 
 // Whether a variable and its relation have known numbers.
-pub fn known(catalogue: &[u8], limit: u8, variable: u8, relation: u8) -> bool
+pub(crate) fn known(catalogue: &[u8], limit: u8, variable: u8, relation: u8) -> bool
     ensures { λ r. ⌜ r ≡ knownBinding (shapeIn (now (catalogue .entry))) limit (record { variable = variable; relation = relation }) ⌝ }
 {
     if limit <= variable {
         return false;
     }
-    wide(relation) < catalogue::count(catalogue)
+    let known = catalogue::entry(catalogue, relation);
+    known.listed
 }
 
 // Whether the variable is in reach and its relation has the attribute.
@@ -78,8 +79,17 @@ fn entry_for(relation: u8) -> u16
 }
 
 // Puts a variable in reach.
-pub fn bind(reach: &mut [u16], variable: u8, relation: u8)
+pub(crate) fn bind(reach: &mut [u16], variable: u8, relation: u8)
     ensures { λ _. ⌜ now (reach .exit) ≡ set (now (reach .entry)) variable (relation + 1) ⌝ }
 {
     put(reach, variable, entry_for(relation));
+}
+
+// Puts a variable in reach; whether it and its relation have known numbers.
+pub fn enter(catalogue: &[u8], reach: &mut [u16], limit: u8, variable: u8, relation: u8) -> bool
+    ensures { λ r. ⌜ r ≡ knownBinding (shapeIn (now (catalogue .entry))) limit (record { variable = variable; relation = relation }) ⌝ }
+    ensures { λ _. ⌜ now (reach .exit) ≡ set (now (reach .entry)) variable (relation + 1) ⌝ }
+{
+    bind(reach, variable, relation);
+    known(catalogue, limit, variable, relation)
 }

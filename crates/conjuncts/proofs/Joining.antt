@@ -15,7 +15,8 @@ use Rattle.model.specs.Lists.{any, contains}
 use Rattle.model.specs.Syntax.{Condition, TRUE, AND, Binding, variables}
 use Rattle.model.specs.Meaning.{Assignment, holdsWith}
 use Rattle.model.proofs.Tests.{and-true, or-no}
-use Rattle.kinds.specs.declared.Record.the-variants as R
+use Rattle.kinds.specs.declared.ConditionRecord.the-variants as C
+use Rattle.kinds.specs.Places.{conditionOf}
 use Rattle.sizes.specs.Decode.{decode}
 use Rattle.numbers.specs.Recalled.{holdsBy}
 use Rattle.walks.specs.Walks.{rowsBy}
@@ -147,7 +148,7 @@ joined-true k t xs q z m c bs b h =
 
 pub true-there : (q : List ℕ) (place l b : ℕ) → (l ≡ 0 → ⊥) → b ≡ getD q place 0 → b ≡ 16 → (z : List ℕ) → decode l (drop place q) z ≡ TRUE
 unfolding kindOf find
-true-there q place l b nz eb h z = sym (condition-is [] (drop place q) l R.True nz (sym (bare (drop place q) 15 k-true (first-at place q ∙ sym eb ∙ h) refl refl)) z)
+true-there q place l b nz eb h z = sym (condition-is [] (drop place q) l C.True nz (sym (ap conditionOf (bare (drop place q) 15 k-true (first-at place q ∙ sym eb ∙ h) refl refl))) z)
 
 pub joined-both : (n r : ℕ) (t t₁ t₂ : List ℕ) (xs xs₁ xs₂ : List ℤ) (q z : List ℕ) (m : List ℤ) (c d : Condition) (bs : List Binding) → Joined n t t₁ xs xs₁ q z m d bs → Joined r t₁ t₂ xs₁ xs₂ q z m c bs → Joined r t t₂ xs xs₂ q z m (AND c d) bs
 unfolding holdsWith

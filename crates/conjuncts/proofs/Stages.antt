@@ -20,6 +20,7 @@ use Rattle.model.proofs.Reading.{find-inv}
 use Rattle.model.proofs.Tests.{or-no}
 use Rattle.kinds.specs.Tables.{recordLength, conditionsOf, termsOf, ofKind}
 use Rattle.kinds.specs.Record.{recordAt, within, filled}
+use Rattle.kinds.specs.Places.{conditionOf, termOf}
 use Rattle.kinds.specs.declared.Record.{Record}
 use Rattle.kinds.specs.declared.Record.the-variants as R
 use Rattle.kinds.proofs.Entries.{of-none, of-some}
@@ -105,7 +106,7 @@ module _ (s : ℕ) (bs : List Binding) (l : ℕ) (q z : List ℕ) where
   Part i = Settled s l (drop i q) (drop i z) bs
 
   by-kind : (x : Kind) (whole? : Bool) (a b c d : ℕ) → (x ≡ k-attribute → contains a (variables (drop s bs)) ≡ false) → (1 ≤ childConditions x + childTerms x → Part (first q)) → (2 ≤ childConditions x + childTerms x → Part (second q z))
-      → Stable (conditionBy (cond whole? (filled a b c d x) R.Short) (λ x y. decode l x y) (λ x y. decodeT l x y) q z) s bs × StableT (termBy (cond whole? (filled a b c d x) R.Short) (λ x y. decode l x y) q z) s bs
+      → Stable (conditionBy (conditionOf (cond whole? (filled a b c d x) R.Short)) (λ x y. decode l x y) (λ x y. decodeT l x y) q z) s bs × StableT (termBy (termOf (cond whole? (filled a b c d x) R.Short)) (λ x y. decode l x y) q z) s bs
   unfolding holdsWith
   by-kind x false a b c d att one two = (λ m R e e′ k. refl, λ m R e e′ k. refl)
   by-kind k-range true a b c d att one two = (λ m R e e′ k. refl, λ m R e e′ k. refl)
@@ -130,12 +131,12 @@ settled : (s l : ℕ) (q z : List ℕ) (bs : List Binding) → (l ≡ 0 → ⊥)
 unfolding recordAt childrenOf conditionsOf termsOf holdsWith kindOf
 settled s l [] z bs nz att one two = of R.Short refl (λ m R e e′ k. refl) (λ m R e e′ k. refl)
   where
-    of : (y : Record) → recordAt [] ≡ y → Stable (conditionBy y (λ x y. decode (l - 1) x y) (λ x y. decodeT (l - 1) x y) [] z) s bs → StableT (termBy y (λ x y. decode (l - 1) x y) [] z) s bs → Settled s l [] z bs
-    of y e c t = record { condition = rw (decode-step l [] z y nz e) c; term = rw (decodeT-step l [] z y nz e) t }
+    of : (y : Record) → recordAt [] ≡ y → Stable (conditionBy (conditionOf y) (λ x y. decode (l - 1) x y) (λ x y. decodeT (l - 1) x y) [] z) s bs → StableT (termBy (termOf y) (λ x y. decode (l - 1) x y) [] z) s bs → Settled s l [] z bs
+    of y e c t = record { condition = rw (decode-step l [] z (conditionOf y) nz (ap conditionOf e)) c; term = rw (decodeT-step l [] z (termOf y) nz (ap termOf e)) t }
 settled s l (k ∷ r) z bs nz att one two = go (kindOf k) refl
   where
-    of : (y : Record) → recordAt (k ∷ r) ≡ y → Stable (conditionBy y (λ x y. decode (l - 1) x y) (λ x y. decodeT (l - 1) x y) (k ∷ r) z) s bs → StableT (termBy y (λ x y. decode (l - 1) x y) (k ∷ r) z) s bs → Settled s l (k ∷ r) z bs
-    of y e c t = record { condition = rw (decode-step l (k ∷ r) z y nz e) c; term = rw (decodeT-step l (k ∷ r) z y nz e) t }
+    of : (y : Record) → recordAt (k ∷ r) ≡ y → Stable (conditionBy (conditionOf y) (λ x y. decode (l - 1) x y) (λ x y. decodeT (l - 1) x y) (k ∷ r) z) s bs → StableT (termBy (termOf y) (λ x y. decode (l - 1) x y) (k ∷ r) z) s bs → Settled s l (k ∷ r) z bs
+    of y e c t = record { condition = rw (decode-step l (k ∷ r) z (conditionOf y) nz (ap conditionOf e)) c; term = rw (decodeT-step l (k ∷ r) z (termOf y) nz (ap termOf e)) t }
 
     go : (o : Option Kind) → kindOf k ≡ o → Settled s l (k ∷ r) z bs
     go none e = of R.Unknown (of-none R.Unknown (λ x. within x r) k e) (λ m R e e′ k. refl) (λ m R e e′ k. refl)

@@ -1,5 +1,7 @@
 // The condition of a query, split at its ANDs into conjuncts. Each is compiled into branches before those of its stage, so that it is tried as
 // soon as the range variables it uses are bound (specs/Stages).
+use branches::Room;
+use branches::Ways;
 ghost use mathlib.Core.Path.{_≡_};
 ghost use Prim.Native.Nat.{ℕ, _+_, _*_, _≤_, _<_};
 ghost use lib.IntN.{ℤ};
@@ -49,7 +51,9 @@ fn stage(q: &[u8], z: &[u16], ranges: usize, place: usize, level: usize) -> usiz
     if kind == 33 {
         return range_of(q, ranges, kinds::byte(q, place + 1));
     }
-    let n = kinds::child_conditions(kind) + kinds::child_terms(kind);
+    let children = kinds::child_counts(kind);
+    let conditions = children.conditions;
+    let n = conditions + children.terms;
     if n == 0 {
         return 0;
     }
@@ -120,7 +124,7 @@ fn always(q: &[u8], place: usize, level: usize) -> bool
     kinds::byte(q, place) == 16
 }
 
-// The condition at a place before what stands at its stage, in branches from k on; the number of the next.
+// The condition at a place before what stands at its stage, in branches of a room; the number of the next.
 fn join(
     q: &[u8],
     z: &[u16],
@@ -130,27 +134,31 @@ fn join(
     memo: &[i64],
     t: &mut [u16],
     xs: &mut [i32],
-    k: usize,
-    end: usize,
+    room: Room,
 ) -> usize
-    requires { ⌜ (8 * end ≤ length (now t)) × (2 * end ≤ length (now xs)) × (2 ≤ k) × (k < end) × (end ≤ 64) × (ranges ≤ 7) × (place ≤ 65535)
-        × (level ≤ 65535) × F.Begun k (now t) ⌝ }
-    ensures { λ r. ⌜ (k ≤ r) × (r ≤ end) ⌝ }
+    requires { ⌜ (8 * room .end ≤ length (now t)) × (2 * room .end ≤ length (now xs)) × (2 ≤ room .next) × (room .next < room .end)
+        × (room .end ≤ 64) × (ranges ≤ 7) × (place ≤ 65535) × (level ≤ 65535) × F.Begun (room .next) (now t) ⌝ }
+    ensures { λ r. ⌜ (room .next ≤ r) × (r ≤ room .end) ⌝ }
     ensures { λ r. ⌜ F.Joined r (now (t .entry)) (now (t .exit)) (now (xs .entry)) (now (xs .exit)) (now (q .entry)) (now (z .entry))
         (now (memo .entry)) (decode level (drop place (now (q .entry))) (drop place (now (z .entry)))) (rangesAt ranges (now (q .entry))) ⌝ }
 {
+    let k = room.next;
     if always(q, place, level) {
         return k;
     }
     let bound = stage_at(q, z, ranges, place, level);
     let s = stage_number(q, place, bound, t);
     let after = kinds::size_at(t, s);
-    let r = branches::compile(q, z, place, level, memo, t, xs, k, end, after, 1);
+    let ways = Ways {
+        met: after,
+        unmet: 1,
+    };
+    let r = branches::compile(q, z, place, level, memo, t, xs, room, ways);
     t[s] = narrow(r);
     r + 1
 }
 
-// The conjuncts of the condition at a place, the last first, in branches from k on and below `end`; the number of the next.
+// The conjuncts of the condition at a place, the last first, in branches of a room; the number of the next.
 fn split(
     q: &[u8],
     z: &[u16],
@@ -160,25 +168,28 @@ fn split(
     memo: &[i64],
     t: &mut [u16],
     xs: &mut [i32],
-    k: usize,
-    end: usize,
+    room: Room,
 ) -> usize
-    requires { ⌜ (8 * end ≤ length (now t)) × (2 * end ≤ length (now xs)) × (2 ≤ k) × (k < end) × (end ≤ 64) × (ranges ≤ 7) × (place ≤ 65535)
-        × (level ≤ 65535) × F.Begun k (now t) ⌝ }
-    ensures { λ r. ⌜ (k ≤ r) × (r ≤ end) ⌝ }
+    requires { ⌜ (8 * room .end ≤ length (now t)) × (2 * room .end ≤ length (now xs)) × (2 ≤ room .next) × (room .next < room .end)
+        × (room .end ≤ 64) × (ranges ≤ 7) × (place ≤ 65535) × (level ≤ 65535) × F.Begun (room .next) (now t) ⌝ }
+    ensures { λ r. ⌜ (room .next ≤ r) × (r ≤ room .end) ⌝ }
     ensures { λ r. ⌜ F.Joined r (now (t .entry)) (now (t .exit)) (now (xs .entry)) (now (xs .exit)) (now (q .entry)) (now (z .entry))
         (now (memo .entry)) (decode level (drop place (now (q .entry))) (drop place (now (z .entry)))) (rangesAt ranges (now (q .entry))) ⌝ }
 {
+    let k = room.next;
+    let end = room.end;
     let x = branches::parts_at(q, z, place, level, end - k);
     let first = x.first;
     let second = x.second;
     if x.kind != 2 {
-        return join(q, z, ranges, place, level, memo, t, xs, k, end);
+        return join(q, z, ranges, place, level, memo, t, xs, room);
     }
     let l = level - 1;
     let last = end - 1;
-    let n = split(q, z, ranges, second, l, memo, t, xs, k, last);
-    split(q, z, ranges, first, l, memo, t, xs, n, end)
+    let left = Room { next: k, end: last };
+    let next = split(q, z, ranges, second, l, memo, t, xs, left);
+    let rest = Room { next, end };
+    split(q, z, ranges, first, l, memo, t, xs, rest)
 }
 
 // The condition at a place of a query with so many RANGE records, in a cleared table of at most 62 branches.
@@ -196,5 +207,6 @@ pub fn plan(
     ensures { λ _. ⌜ ((ws : List ℕ) (vs : List ℤ) → S.Planned (now (t .exit)) (now (xs .exit)) (now (q .entry)) (now (z .entry)) ws vs
         (now (memo .entry)) (decode level (drop condition (now (q .entry))) (drop condition (now (z .entry)))) (rangesAt ranges (now (q .entry)))) ⌝ }
 {
-    split(q, z, ranges, condition, level, memo, t, xs, 2, 64);
+    let room = Room { next: 2, end: 64 };
+    split(q, z, ranges, condition, level, memo, t, xs, room);
 }

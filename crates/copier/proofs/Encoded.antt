@@ -15,8 +15,8 @@ use Rattle.model.specs.Rewriting.{rename, renameT, newNumber, copyFor, disjunct
 use Rattle.model.specs.Kinds.{Kind, k-true, k-false, k-not, k-and, k-or, k-compare, k-some, k-constant, k-attribute, k-aggregate, code, bodyLength}
 use Rattle.kinds.specs.Record.{filled}
 use Rattle.kinds.specs.declared.Record.{Record}
-use Rattle.scans.specs.Flat.{flat, flatBindings, recordsOf, recordsAfter}
-use Rattle.scans.proofs.Whole.{at, bindings-condition}
+use Rattle.scans.specs.Flat.{flat}
+use Rattle.scans.proofs.Whole.{at, nothing-flat, bindings-condition}
 use Rattle.copier.specs.Copied.{recordBytes, renamedRecord, numberIn, copiedRecord, copiedBytes}
 use Rattle.copier.specs.Guard.{picked, newInPart, disjunctionBytes, bitsOf, PartsOf}
 use Rattle.copier.proofs.Turns.{picked-none}
@@ -42,10 +42,6 @@ module _ (ρ : ℕ → ℕ) where
     renamed-flatT (CONSTANT a b c d) r = at f k-constant (a ∷ b ∷ c ∷ d ∷ r) (omega arith)
     renamed-flatT (ATTRIBUTE v a) r = at f k-attribute (v ∷ a ∷ r) (omega arith)
     renamed-flatT (AGGREGATE h v x a c) r = at f k-aggregate (h ∷ v ∷ x ∷ a ∷ encode c r) (omega arith) ∙ ap (λ (l : List ℕ). 34 ∷ h ∷ ρ v ∷ x ∷ a ∷ l) (renamed-flat c r)
-
-nothing-flat : {A : Type 0} (f : Record → List A) → flat f [] ≡ []
-unfolding flat concatMap recordsOf recordsAfter
-nothing-flat f = refl
 
 number-same : (c : Condition) (v n : ℕ) → numberIn (encode c []) v n ≡ newNumber c v n
 unfolding numberIn newNumber

@@ -26,7 +26,7 @@ fn key(values: &[i32], walks: &[u16], walk: Walk, attribute: usize, i: usize) ->
     requires { ⌜ Fits walk × (i ≤ 65535) ⌝ }
     ensures { λ r. ⌜ r ≡ C.keyAt (now (values .entry)) (now (walks .entry)) walk attribute i ⌝ }
 {
-    numbers::wide(catalogue::value(values, walks::place(walks, walk, i), attribute))
+    catalogue::value(values, walks::place(walks, walk, i), attribute) as i64
 }
 
 fn narrow(x: usize) -> u16

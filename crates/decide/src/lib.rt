@@ -109,8 +109,32 @@ fn run(
     at
 }
 
-// Whether branch `start` leads to 0.
-pub fn holds(
+// Whether branch `start` leads to 0; 0 is that end, so that a stage with no conjunct costs no call.
+pub fn leads(
+    t: &[u16],
+    xs: &[i32],
+    start: usize,
+    q: &[u8],
+    z: &[u16],
+    walks: &[u16],
+    chains: &[u16],
+    values: &[i32],
+    memo: &[i64],
+    env: &mut [usize],
+) -> bool
+    requires { ⌜ (256 ≤ length (now env)) × (start ≤ 65535) × Faithful (now t) (now walks) (now values) (now chains) ⌝ }
+    ensures { λ r. ⌜ r ≡ B.runs (now (t .entry)) (now (xs .entry)) (now (q .entry)) (now (z .entry)) (now (walks .entry)) (now (values .entry))
+        (now (memo .entry)) start (assigned (now (values .entry)) (now (env .entry))) ⌝ }
+    ensures { λ _. ⌜ now (env .exit) ≡ now (env .entry) ⌝ }
+{
+    if start == 0 {
+        return true;
+    }
+    holds(t, xs, start, q, z, walks, chains, values, memo, env)
+}
+
+// The same for a branch.
+fn holds(
     t: &[u16],
     xs: &[i32],
     start: usize,
@@ -184,22 +208,22 @@ fn first_row(
 {
     let walk = walks::walk_of(walks, variable);
     let n = walk.count;
-    let old = evaluator::place(env, variable);
+    let old = env[variable as usize];
     let cursor = seeks::prepare(t, xs, start, variable, chains, values, memo, env);
     let next = cursor.next;
     let mut i = 0;
     loop {
         let j = seeks::next_row(cursor, values, walks, walk, chains, i);
         if n <= j {
-            evaluator::set_place(env, variable, old);
+            env[variable as usize] = old;
             return Search {
                 found: false,
                 tried: n,
             };
         }
-        evaluator::set_place(env, variable, walks::place(walks, walk, j));
+        env[variable as usize] = walks::place(walks, walk, j);
         if holds(t, xs, next, q, z, walks, chains, values, memo, env) {
-            evaluator::set_place(env, variable, old);
+            env[variable as usize] = old;
             let tried = j + 1;
             return Search { found: true, tried };
         }

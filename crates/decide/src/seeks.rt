@@ -27,7 +27,7 @@ fn scaled(a: i32, d: i64) -> i64
     requires { ⌜ natAbs d ≤ 65535 ⌝ }
     ensures { λ r. ⌜ r ≡ a *ℤ d ⌝ }
 {
-    numbers::wide(a) * d
+    a as i64 * d
 }
 
 // A comparison of an attribute with a number, so turned that no row asks for its operator: a value is between two bounds, or it is wanted that it is
@@ -469,7 +469,7 @@ fn add_key(
 
 // Chains from place `free` on for the rows of a variable by the equality that leads from branch `start`, where there is one, or by two of which a row
 // must meet one; the next free place.
-pub fn add(
+fn add(
     t: &[u16],
     start: usize,
     variable: u8,
@@ -541,13 +541,7 @@ fn used(t: &[u16], i: usize) -> bool
 }
 
 // Chains for the branches of a table that ask for a row; the next free place.
-pub fn add_searches(
-    t: &[u16],
-    walks: &[u16],
-    values: &[i32],
-    chains: &mut [u16],
-    free: usize,
-) -> usize
+fn add_searches(t: &[u16], walks: &[u16], values: &[i32], chains: &mut [u16], free: usize) -> usize
     requires { ⌜ K.Filling free (now t) (now walks) (now values) (now chains) ⌝ }
     ensures { λ r. ⌜ K.Filling r (now (t .entry)) (now (walks .entry)) (now (values .entry)) (now (chains .exit)) ⌝ }
 {
@@ -563,34 +557,21 @@ pub fn add_searches(
     next
 }
 
-// Whether branch i asks for a row of so many that a chain may pay.
-fn asks(t: &[u16], walks: &[u16], i: usize) -> bool
-    requires { ⌜ i < 64 ⌝ }
+// Chains for what is walked again and again, in a cleared table: the ranges of a query after the first, and the rows that a branch asks for. With no range
+// the query is not looked at.
+pub fn link(q: &[u8], ranges: usize, t: &[u16], walks: &[u16], values: &[i32], chains: &mut [u16])
+    requires { ⌜ (ranges ≤ 7) × ((i : ℕ) → getD (now chains) i 0 ≡ 0) ⌝ }
+    ensures { λ _. ⌜ K.Faithful (now (t .entry)) (now (walks .entry)) (now (values .entry)) (now (chains .exit)) ⌝ }
 {
-    if kinds::size_at(t, 8 * i) != 256 {
-        return false;
+    let mut free = 64;
+    let mut d = 1;
+    while d < ranges {
+        let start = kinds::size_at(t, 2 * d + 2);
+        let variable = kinds::byte(q, 3 * d + 1);
+        free = add(t, start, variable, walks, values, chains, free);
+        d += 1;
     }
-    let v = kinds::size_at(t, 8 * i + 1);
-    if 255 < v {
-        return false;
-    }
-    let walk = walks::walk_of(walks, byte_of(v));
-    8 <= walk.count
-}
-
-// Whether a branch of a table does. It promises nothing: it only tells whether chains can be of use.
-pub fn searches(t: &[u16], walks: &[u16]) -> bool {
-    let mut i = 2;
-    while i < 64 {
-        if !used(t, i) {
-            return false;
-        }
-        if asks(t, walks, i) {
-            return true;
-        }
-        i += 1;
-    }
-    false
+    add_searches(t, walks, values, chains, free);
 }
 
 // The place of the chain for a variable by branch `start`, 0 where there is none.

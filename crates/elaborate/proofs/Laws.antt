@@ -6,7 +6,7 @@ use mathlib.Core.Option.{none}
 use mathlib.Core.Path.{_≡_, refl, sym, ap, ap₂, _∙_, subst}
 use native.Mathlib.Nat.{add-zero}
 use lib.Dec.{eqb}
-use lib.ListN.{length, getD, take}
+use lib.ListN.{length, getD}
 use native.Mathlib.Omega.{arith}
 use lib.Seq.{sets}
 use Rattle.quel.specs.Results.{Read, fail, ok, then, need, Word, sameWord, hasWord, uniqueWords}
@@ -18,10 +18,10 @@ use Rattle.quel.specs.Writing.{Written, before, loop}
 use Rattle.model.specs.Encoding.{encodeRanges}
 use Rattle.tokens.specs.Table.{Table}
 use Rattle.flat.specs.Flat.{uses, binders, mainOf, lastOf, bound, flatText}
-use Rattle.marks.specs.Places.{tokensFrom, nameIn}
-use Rattle.marks.specs.Numbers.{Used}
-use Rattle.items.specs.Reach.{rangeSymbol}
-use Rattle.items.specs.Tables.{Same, Holds}
+use Rattle.elaborate.specs.Places.{tokensFrom, nameIn}
+use Rattle.elaborate.specs.Numbers.{Used}
+use Rattle.elaborate.specs.Reach.{Bound, rangeSymbol}
+use Rattle.elaborate.specs.Tables.{Same, Holds}
 use Rattle.model.proofs.Tests.{and-true}
 use Rattle.elaborate.specs.After.{ended}
 use Rattle.elaborate.specs.declared.binds.Ranges.{Ranges}
@@ -58,11 +58,11 @@ module _ (text : List ℕ) (t : Table) (es : List Entry) (d : List ℕ) (u : Boo
         on true h = refl
         on false h = sym h
 
-    module _ (r : Ranges) (cs x : List ℕ) (w : Whole text t es main d r cs x) where
+    module _ (r : Ranges) (cs : List Bound) (x : List ℕ) (w : Whole text t es main d r cs x) where
       pub no-relation : r ≡ R.Refused → ended d 0 (flatText es (tokensFrom text t 0)) ≡ fail
       no-relation e = ap (ended d 0) parts ∙ w .ends follow ∙ ap (λ (y : Ranges). afterAll text t es main follow y cs x) e
 
-      module _ (s : Tally) (e : r ≡ R.Listed s) (l : End) (y : List ℕ) (f : Ends text t es (symbolsIn text t es main cs (s .count)) main (s .at) (s .n) x l y) where
+      module _ (s : Tally) (e : r ≡ R.Listed s) (l : End) (y : List ℕ) (f : Ends text t es (symbolsIn text t es main cs) main (s .at) (s .n) x l y) where
         whole : ended d 0 (flatText es (tokensFrom text t 0)) ≡ endBy last (f .number) l y
         whole = ap (ended d 0) parts ∙ w .ends follow ∙ ap (λ (z : Ranges). afterAll text t es main follow z cs x) e ∙ f .ends last
 
@@ -79,14 +79,14 @@ module _ (text : List ℕ) (t : Table) (es : List Entry) (d : List ℕ) (u : Boo
           pub with-true : q ≡ false → (p : ℕ) (v : List ℕ) → p ≡ at + 1 → v ≡ sets y at (16 ∷ []) → ended d 0 (flatText es (tokensFrom text t 0)) ≡ ok v p
           with-true h p v ep ev = placed ∙ ap (λ (b : Bool). ok (sets y at (cond b [] (16 ∷ []))) (at + length {A = ℕ} (cond b [] (16 ∷ [])))) h ∙ ap₂ (λ (z : List ℕ) (n : ℕ). ok z n) (sym ev) (sym ep)
 
-pub most : (k : ℕ) (r : Ranges) (s : Tally) → Most k r → r ≡ R.Listed s → (s .count ≤ k) × (s .n ≤ k) × (s .at ≤ 3 * k)
+pub most : (k : ℕ) (r : Ranges) (s : Tally) → Most k r → r ≡ R.Listed s → (s .n ≤ k) × (s .at ≤ 3 * k)
 most k r s m e = subst (Most k) e m
 
 pub place-most : (at p : ℕ) (l : End) → Last at l → l ≡ E.Place p → p ≤ at + 32812591
 place-most at p l m e = subst (Last at) e m
 
 -- what names stand for after the RANGE list
-pub stand-after : (w : ℕ → Word) (ids cs known : List ℕ) (r : Ranges) (s : Tally) → Stands w ids r cs known → r ≡ R.Listed s → Holds w ids known 0 0 (map (rangeSymbol w) (take (s .count) cs))
+pub stand-after : (w : ℕ → Word) (ids : List ℕ) (cs : List Bound) (known : List ℕ) (r : Ranges) (s : Tally) → Stands w ids r cs known → r ≡ R.Listed s → Holds w ids known 0 0 (map (rangeSymbol w) cs)
 stand-after w ids cs known r s h e = subst (λ (x : Ranges). Stands w ids x cs known) e h
 
 -- there are names for any numbers

@@ -12,8 +12,8 @@ use Rattle.quel.specs.Ahead.{Mode, at-condition, at-conjunct, at-factor, at-res
 use Rattle.quel.specs.Writing.{Written, Reaches, loop}
 use Rattle.kinds.specs.declared.Record.{Record}
 use Rattle.tokens.specs.Table.{Table}
-use Rattle.marks.specs.Places.{tokensFrom, nameIn}
-use Rattle.items.specs.Puts.{frameMode}
+use Rattle.elaborate.specs.Places.{tokensFrom, nameIn}
+use Rattle.elaborate.specs.Puts.{frameMode}
 use Rattle.elaborate.specs.Frames.{Stack}
 use Rattle.elaborate.specs.declared.turns.State.{State}
 use Rattle.elaborate.specs.declared.turns.Next.{Next}
@@ -57,4 +57,4 @@ module _ (text : List ℕ) (t : Table) (es : List Entry) (ids : List ℕ) where
 -- a turn writes at most 8197 bytes, and opens at most one frame
 abbrev pub Within : State → Next → Type 0
 Within s N.Refused = Unit
-Within s (N.Go r) = (r .mode ≤ 6) × (r .depth ≤ s .depth + 1) × (r .n ≤ s .n + 1) × (r .at ≤ s .at + 8197) × (r .crossing < 8192)
+Within s (N.Go r) = (r .mode ≤ 6) × (r .depth ≤ s .depth + 1) × (r .n ≤ s .n + 1) × (r .at ≤ s .at + 8197) × (r .crossing < 8192) × (r .i ≡ s .i + 1)

@@ -39,6 +39,6 @@ pub record Place (c : ℕ) (ts : List Token) : Type 0 where
 pub record Stepped (kind next after r : ℕ) : Type 0 where
   pub place : (ts : List Token) → Place next ts → Place after (drop (skipIn next) ts) → Place r (tokenOf kind [] 0 ∷ ts)
 
--- every place of the kinds, and the one after the last
-pub record Counted (kinds counts : List ℕ) : Type 0 where
-  pub at : (i : ℕ) → i ≤ length kinds → Place (getD counts i 0) (plain (drop i kinds))
+-- every place of the kinds from the nth on, and the one after the last
+pub record Counted (kinds counts : List ℕ) (n : ℕ) : Type 0 where
+  pub at : (i : ℕ) → n ≤ i → i ≤ length kinds → Place (getD counts i 0) (plain (drop i kinds))

@@ -8,7 +8,7 @@ use Rattle.quel.specs.Elaboration.{Symbol}
 use Rattle.quel.specs.Ahead.{at-rest}
 use Rattle.quel.specs.Writing.{Written, loop}
 use Rattle.tokens.specs.Table.{Table}
-use Rattle.marks.specs.Places.{tokensFrom}
+use Rattle.elaborate.specs.Places.{tokensFrom}
 use Rattle.elaborate.specs.After.{ended}
 use Rattle.elaborate.specs.declared.End.{End}
 use Rattle.elaborate.specs.declared.End.the-variants as E

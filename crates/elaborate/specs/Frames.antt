@@ -9,9 +9,9 @@ use Rattle.quel.specs.Results.{Word}
 use Rattle.quel.specs.Elaboration.{headOnly}
 use Rattle.quel.specs.Writing.{Reaches, inner}
 use Rattle.kinds.specs.declared.Record.{Record}
-use Rattle.items.specs.Reach.{modeIn}
-use Rattle.items.specs.Tables.{Holds}
-use Rattle.items.specs.Puts.{frameMode, symbolBy}
+use Rattle.elaborate.specs.Reach.{modeIn}
+use Rattle.elaborate.specs.Tables.{Holds}
+use Rattle.elaborate.specs.Puts.{frameMode, symbolBy}
 
 -- a frame, 0 for that of the RANGE list: a name's number, the innermost aggregate's frame round it, and the name's entry before
 abbrev pub idIn : ℕ → ℕ

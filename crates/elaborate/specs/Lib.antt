@@ -5,3 +5,10 @@ pub mod After
 pub mod Ends
 pub mod Tallies
 pub mod Frames
+pub mod Places
+pub mod Numbers
+pub mod Actions
+pub mod Puts
+pub mod Reach
+pub mod Tables
+pub mod Answers

@@ -7,9 +7,9 @@ use Rattle.quel.specs.Results.{Read, fail, ok, uniqueWords}
 use Rattle.quel.specs.Writing.{Written}
 use Rattle.tokens.specs.Table.{Table}
 use Rattle.flat.specs.Flat.{binders, mainOf}
-use Rattle.marks.specs.Places.{tokensFrom, nameIn}
-use Rattle.marks.specs.Numbers.{Used}
-use Rattle.items.specs.Tables.{Named}
+use Rattle.elaborate.specs.Places.{tokensFrom, nameIn}
+use Rattle.elaborate.specs.Numbers.{Used}
+use Rattle.elaborate.specs.Tables.{Named}
 use Rattle.elaborate.specs.declared.End.{End}
 use Rattle.elaborate.specs.declared.End.the-variants as E
 

@@ -56,7 +56,7 @@ fn step(kind: u8, next: u64, after: u64) -> u64
 // Fills the place of each token, and the one after the last.
 pub(crate) fn count(kinds: &[u8], counts: &mut [u64])
     requires { ⌜ (length (now kinds) < length (now counts)) × (length (now kinds) < 4000) ⌝ }
-    ensures { λ _. ⌜ Counted (now (kinds .entry)) (now (counts .exit)) ⌝ }
+    ensures { λ _. ⌜ Counted (now (kinds .entry)) (now (counts .exit)) 0 ⌝ }
 {
     let mut i = kinds.len();
     counts[i] = 0;

@@ -1,27 +1,24 @@
 // The RANGE list: its symbols, with relations looked up, and a record for each symbol that is used.
 use crate::frames;
+use crate::items;
 use names::Found;
+use names::Sort;
 ghost use mathlib.Core.Path.{_≡_};
-ghost use mathlib.Core.Bool.{true, cond};
-ghost use mathlib.Core.List.{List, map};
+ghost use mathlib.Core.Bool.{true, false, cond};
+ghost use mathlib.Core.List.{List};
 ghost use Prim.Native.Nat.{ℕ, _+_, _<_, _≤_};
 ghost use lib.Dec.{eqb};
-ghost use lib.ListN.{length, getD, set, take};
-ghost use Rattle.quel.specs.Results.{Word};
+ghost use lib.ListN.{length, getD, set};
 ghost use Rattle.quel.specs.Names.{Entry};
 ghost use Rattle.names.specs.Entries.{entries};
 ghost use Rattle.names.specs.Search.{Indexed};
-ghost use Rattle.marks.specs.Places.{table, nameIn};
-ghost use Rattle.marks.specs.Numbers.{Used};
-ghost use Rattle.items.specs.Reach.{modeIn, rangeSymbol};
-ghost use Rattle.items.specs.Tables.{Same, Named, Holds};
-ghost use Rattle.elaborate.specs.Tallies.{Binds, Whole, Counts, Most, Stands};
+ghost use Rattle.elaborate.specs.Reach.{modeIn, Bound};
+ghost use Rattle.elaborate.specs.Tallies.{Adds, Fills, Counts, Most};
 
-// Whether a relation's parentheses are open, its number, how many symbols there are, the next variable's number, and where to write.
+// Whether a relation's parentheses are open, its number, the next variable's number, and where to write.
 pub struct Tally {
     pub inside: bool,
     pub relation: u8,
-    pub count: usize,
     pub n: usize,
     pub at: usize,
 }
@@ -30,13 +27,6 @@ pub struct Tally {
 pub enum Ranges {
     Listed(Tally),
     Refused,
-}
-
-fn flag(b: bool) -> u8
-    ensures { λ r. ⌜ r ≡ cond b 1 0 ⌝ }
-    ensures { λ r. ⌜ r ≤ 1 ⌝ }
-{
-    if b { 1 } else { 0 }
 }
 
 // How a symbol is entered: as a variable, or, where it is not used, as a relation alone.
@@ -59,46 +49,29 @@ fn settle(known: &mut [u64], x: usize, e: u64)
 
 // A symbol, at token i.
 fn symbol(
-    kinds: &[u8],
     ids: &[u16],
     marks: &[u8],
-    symbols: &mut [u64],
     known: &mut [u64],
     out: &mut [u8],
     s: Tally,
     i: usize,
 ) -> Ranges
-    requires { ⌜ (i < length (now kinds)) × (length (now kinds) < 4000) × (s .count < length (now symbols)) × (s .n < 4000)
-        × (s .at < 4611686018427387904) × (s .count < 4000) × (getD (now kinds) i 0 ≡ 0) × (s .inside ≡ true)
-        × (getD (now ids) i 0 < length (now known)) ⌝ }
-    ensures { λ r. ⌜ ((text ss ls ns : List ℕ) (es : List Entry) (main : ℕ)
-        → Used text (table (now (kinds .entry)) ss ls ns) (now (ids .entry)) main (now (marks .entry))
-        → Binds text (table (now (kinds .entry)) ss ls ns) es main i s (now (symbols .entry)) (now (out .entry)) r (now (symbols .exit))
-        (now (out .exit))) ⌝ }
+    requires { ⌜ (i < 4000) × (s .n < 4000) × (s .at < 4611686018427387904) × (s .inside ≡ true) × (getD (now ids) i 0 < length (now known)) ⌝ }
+    ensures { λ r. ⌜ ((codes : List ℕ) (es : List Entry) (cs : List Bound) → Adds (now (ids .entry)) (now (marks .entry)) codes es i s cs
+        (now (known .entry)) (now (out .entry)) r (now (known .exit)) (now (out .exit))) ⌝ }
     ensures { λ r. ⌜ Counts s r ⌝ }
-    ensures { λ r. ⌜ ((w : ℕ → Word) → Same w (now (ids .entry)) → Holds w (now (ids .entry)) (now (known .entry)) 0 0
-        (map (rangeSymbol w) (take (s .count) (now (symbols .entry)))) → Stands w (now (ids .entry)) r (now (symbols .exit)) (now (known .exit))) ⌝ }
 {
     let x = kinds::size_at(ids, i);
     let used = kinds::byte(marks, x) != 0;
     let v = (s.n % 256) as u8;
-    let k = s.count;
-    symbols[k] = frames::pack(flag(used), s.relation, v, i);
     settle(known, x, frames::pack(entered(used), s.relation, v, 0));
     if !used {
-        return Ranges::Listed(Tally {
-            inside: true,
-            relation: s.relation,
-            count: s.count + 1,
-            n: s.n,
-            at: s.at,
-        });
+        return Ranges::Listed(s);
     }
     let at = copier::copy(out, s.at, &[1, v, s.relation]);
     Ranges::Listed(Tally {
         inside: true,
         relation: s.relation,
-        count: s.count + 1,
         n: s.n + 1,
         at: at,
     })
@@ -106,98 +79,52 @@ fn symbol(
 
 // A name: a relation's, or a symbol in its parentheses.
 fn name(
-    kinds: &[u8],
     ids: &[u16],
     numbers: &[u64],
     list: &[u8],
     index: &[u16],
     marks: &[u8],
-    symbols: &mut [u64],
     known: &mut [u64],
     out: &mut [u8],
     s: Tally,
     i: usize,
 ) -> Ranges
-    requires { ⌜ (i < length (now kinds)) × (length (now kinds) < 4000) × (s .count < length (now symbols)) × (s .n < 4000)
-        × (s .at < 4611686018427387904) × (s .count < 4000) × (getD (now kinds) i 0 ≡ 0) ⌝ }
-    requires { ⌜ (getD (now ids) i 0 < length (now known)) × Indexed (now list) (now index) ⌝ }
-    ensures { λ r. ⌜ ((text ss ls ns : List ℕ) (main : ℕ) → Named (nameIn text (now (kinds .entry)) ss ls) (now (ids .entry)) (now (numbers .entry))
-        → Used text (table (now (kinds .entry)) ss ls ns) (now (ids .entry)) main (now (marks .entry))
-        → Binds text (table (now (kinds .entry)) ss ls ns) (entries (now (list .entry))) main i s (now (symbols .entry)) (now (out .entry)) r
-        (now (symbols .exit)) (now (out .exit))) ⌝ }
+    requires { ⌜ (i < 4000) × (s .n < 4000) × (s .at < 4611686018427387904) × (getD (now ids) i 0 < length (now known)) × Indexed (now list) (now index) ⌝ }
+    ensures { λ r. ⌜ ((cs : List Bound) → Adds (now (ids .entry)) (now (marks .entry)) (now (numbers .entry)) (entries (now (list .entry))) i s cs
+        (now (known .entry)) (now (out .entry)) r (now (known .exit)) (now (out .exit))) ⌝ }
     ensures { λ r. ⌜ Counts s r ⌝ }
-    ensures { λ r. ⌜ ((w : ℕ → Word) → Same w (now (ids .entry)) → Holds w (now (ids .entry)) (now (known .entry)) 0 0
-        (map (rangeSymbol w) (take (s .count) (now (symbols .entry)))) → Stands w (now (ids .entry)) r (now (symbols .exit)) (now (known .exit))) ⌝ }
 {
     if s.inside {
-        return symbol(kinds, ids, marks, symbols, known, out, s, i);
+        return symbol(ids, marks, known, out, s, i);
     }
-    let Found::At(r) = names::relation_named(list, index, items::code(ids, numbers, i)) else {
+    let code = items::code(ids, numbers, i);
+    let Found::Of(r, _, _, _) = names::meaning(list, index, Sort::Relation, code) else {
         return Ranges::Refused;
     };
     Ranges::Listed(Tally {
         inside: true,
         relation: r,
-        count: s.count,
         n: s.n,
         at: s.at,
     })
 }
 
-// Any token but RETRIEVE: ) closes a relation's parentheses.
-fn step(
-    kinds: &[u8],
-    ids: &[u16],
-    numbers: &[u64],
-    list: &[u8],
-    index: &[u16],
-    marks: &[u8],
-    symbols: &mut [u64],
-    known: &mut [u64],
-    out: &mut [u8],
-    s: Tally,
-    i: usize,
-) -> Ranges
-    requires { ⌜ (i < length (now kinds)) × (length (now kinds) < 4000) × (s .count < length (now symbols)) × (s .n < 4000)
-        × (s .at < 4611686018427387904) × (s .count < 4000) × (getD (now kinds) i 0 ≡ 14 → ⊥) ⌝ }
-    requires { ⌜ (getD (now ids) i 0 < length (now known)) × Indexed (now list) (now index) ⌝ }
-    ensures { λ r. ⌜ ((text ss ls ns : List ℕ) (main : ℕ) → Named (nameIn text (now (kinds .entry)) ss ls) (now (ids .entry)) (now (numbers .entry))
-        → Used text (table (now (kinds .entry)) ss ls ns) (now (ids .entry)) main (now (marks .entry))
-        → Binds text (table (now (kinds .entry)) ss ls ns) (entries (now (list .entry))) main i s (now (symbols .entry)) (now (out .entry)) r
-        (now (symbols .exit)) (now (out .exit))) ⌝ }
-    ensures { λ r. ⌜ Counts s r ⌝ }
-    ensures { λ r. ⌜ ((w : ℕ → Word) → Same w (now (ids .entry)) → Holds w (now (ids .entry)) (now (known .entry)) 0 0
-        (map (rangeSymbol w) (take (s .count) (now (symbols .entry)))) → Stands w (now (ids .entry)) r (now (symbols .exit)) (now (known .exit))) ⌝ }
+// A token that is no name: ) closes a relation's parentheses.
+fn passed(kind: u8, s: Tally) -> Tally
+    ensures { λ r. ⌜ r ≡ cond (eqb kind 21) (record { inside = false; relation = 0; n = s .n; at = s .at }) s ⌝ }
 {
-    let kind = kinds[i];
-    if kind == 0 {
-        return name(
-            kinds,
-            ids,
-            numbers,
-            list,
-            index,
-            marks,
-            symbols,
-            known,
-            out,
-            s,
-            i,
-        );
-    }
     if kind == 21 {
-        return Ranges::Listed(Tally {
+        return Tally {
             inside: false,
             relation: 0,
-            count: s.count,
             n: s.n,
             at: s.at,
-        });
+        };
     }
-    Ranges::Listed(s)
+    s
 }
 
-// Fills the symbols of the RANGE list and what their names stand for, and writes its records; marks say which names are used.
+// Enters the symbols of the RANGE list, and writes its records; marks say which names are used.
 pub(crate) fn bind(
     kinds: &[u8],
     ids: &[u16],
@@ -205,48 +132,36 @@ pub(crate) fn bind(
     list: &[u8],
     index: &[u16],
     marks: &[u8],
-    symbols: &mut [u64],
     known: &mut [u64],
     out: &mut [u8],
 ) -> Ranges
-    requires { ⌜ (length (now kinds) < 4000) × (length (now kinds) ≤ length (now symbols)) × (length (now kinds) < length (now known))
-        × ((x : ℕ) → getD (now ids) x 0 ≤ length (now kinds)) × ((x : ℕ) → getD (now known) x 0 ≡ 0) ⌝ }
-    requires { ⌜ Indexed (now list) (now index) ⌝ }
-    ensures { λ r. ⌜ ((text ss ls ns : List ℕ) (main : ℕ) → Named (nameIn text (now (kinds .entry)) ss ls) (now (ids .entry)) (now (numbers .entry))
-        → Used text (table (now (kinds .entry)) ss ls ns) (now (ids .entry)) main (now (marks .entry))
-        → Whole text (table (now (kinds .entry)) ss ls ns) (entries (now (list .entry))) main (now (out .entry)) r (now (symbols .exit))
-        (now (out .exit))) ⌝ }
+    requires { ⌜ (length (now kinds) < 4000) × (length (now kinds) < length (now known))
+        × ((x : ℕ) → getD (now ids) x 0 ≤ length (now kinds)) × ((x : ℕ) → getD (now known) x 0 ≡ 0) × Indexed (now list) (now index) ⌝ }
+    ensures { λ r. ⌜ Fills (now (kinds .entry)) (now (ids .entry)) (now (marks .entry)) (now (numbers .entry)) (entries (now (list .entry)))
+        (now (out .entry)) r (now (known .exit)) (now (out .exit)) ⌝ }
     ensures { λ r. ⌜ Most (length (now (kinds .entry))) r ⌝ }
-    ensures { λ r. ⌜ ((w : ℕ → Word) → Same w (now (ids .entry)) → Stands w (now (ids .entry)) r (now (symbols .exit)) (now (known .exit))) ⌝ }
 {
     let mut s = Tally {
         inside: false,
         relation: 0,
-        count: 0,
         n: 0,
         at: 0,
     };
     let mut i = 0;
     while i < kinds.len() {
-        if kinds[i] == 14 {
+        let kind = kinds[i];
+        if kind == 14 {
             return Ranges::Listed(s);
         }
-        let Ranges::Listed(t) = step(
-            kinds,
-            ids,
-            numbers,
-            list,
-            index,
-            marks,
-            symbols,
-            known,
-            out,
-            s,
-            i,
-        ) else {
-            return Ranges::Refused;
-        };
-        s = t;
+        if kind == 0 {
+            let Ranges::Listed(t) = name(ids, numbers, list, index, marks, known, out, s, i) else {
+                return Ranges::Refused;
+            };
+            s = t;
+            i += 1;
+            continue;
+        }
+        s = passed(kind, s);
         i += 1;
     }
     Ranges::Listed(s)

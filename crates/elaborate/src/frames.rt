@@ -1,7 +1,7 @@
 // What a name stands for as one number, and what a frame keeps of it.
 ghost use mathlib.Core.Path.{_≡_};
 ghost use Prim.Native.Nat.{_<_};
-ghost use Rattle.items.specs.Reach.{modeIn, relationIn, variableIn, placeIn};
+ghost use Rattle.elaborate.specs.Reach.{modeIn, relationIn, variableIn, placeIn};
 ghost use Rattle.elaborate.specs.Frames.{idIn, crossIn, oldIn};
 
 fn wide(x: u8) -> u64

@@ -1,14 +1,18 @@
-// The records of a text's tokens, with names looked up. What does not fit the buffer is not written, so that an empty one measures.
+// The records of a text's tokens, with names numbered and looked up.
 mod ahead;
 mod binds;
 mod frames;
+mod items;
 mod loops;
+mod marks;
 mod modes;
 mod opens;
+mod reach;
 mod reaches;
 mod turns;
 
 use binds::Ranges;
+use loops::Start;
 ghost use mathlib.Core.Path.{_≡_};
 ghost use mathlib.Core.Bool.{true};
 ghost use mathlib.Core.List.{List};
@@ -17,11 +21,30 @@ ghost use lib.ListN.{length, getD};
 ghost use Rattle.flat.specs.Flat.{flatText};
 ghost use Rattle.names.specs.Entries.{entries};
 ghost use Rattle.names.specs.Search.{Indexed};
-ghost use Rattle.marks.specs.Places.{table, tokensFrom, nameIn};
-ghost use Rattle.marks.specs.Numbers.{Numbered};
-ghost use Rattle.elaborate.specs.Counts.{Counted};
+ghost use Rattle.tokens.specs.Codes.{Coded};
+ghost use Rattle.elaborate.specs.Places.{table, tokensFrom, nameIn};
+ghost use Rattle.elaborate.specs.Numbers.{Numbered};
+ghost use Rattle.elaborate.specs.Tables.{Named};
+ghost use Rattle.elaborate.specs.Answers.{recordsOf, answered, writing};
 ghost use Rattle.elaborate.specs.After.{ended};
 ghost use Rattle.elaborate.specs.Whole.{Prepared, Ready, outcome};
+
+// A name that is unknown, out of reach or bound twice; records longer than the buffer.
+const NAMES: u8 = 51;
+
+const LENGTH: u8 = 52;
+
+// The number of a refusal, 0 where there is none, and the length of the records.
+pub struct Answer {
+    pub number: u8,
+    pub length: usize,
+}
+
+fn refused(number: u8) -> Answer
+    ensures { λ r. ⌜ r ≡ record { number = number; length = 0 } ⌝ }
+{
+    Answer { number, length: 0 }
+}
 
 // The place after what was written, or a name that is unknown or out of reach.
 pub enum End {
@@ -29,168 +52,282 @@ pub enum End {
     Refused,
 }
 
-// What is needed before records are written: the V's, ^'s and signs ahead, and marks of the names that are used. Whether no symbol is bound twice.
-pub fn prepare(kinds: &[u8], ids: &[u16], counts: &mut [u64], marks: &mut [u8]) -> bool
-    requires { ⌜ (length (now kinds) < 4000) × (length (now kinds) < length (now counts)) × (length (now kinds) < length (now marks))
+// Marks the names that are used, before records are written. Whether no symbol is bound twice.
+fn prepare(kinds: &[u8], ids: &[u16], marks: &mut [u8]) -> bool
+    requires { ⌜ (length (now kinds) < 4000) × (length (now kinds) < length (now marks))
         × ((x : ℕ) → getD (now ids) x 0 ≤ length (now kinds)) × ((x : ℕ) → getD (now marks) x 0 ≡ 0) ⌝ }
     ensures { λ r. ⌜ ((text ss ls ns : List ℕ) → Numbered (nameIn text (now (kinds .entry)) ss ls) (length (now (kinds .entry))) (now (ids .entry))
         → Prepared text (table (now (kinds .entry)) ss ls ns) (now (ids .entry)) r (now (marks .exit))) ⌝ }
-    ensures { λ r. ⌜ (r ≡ true → Counted (now (kinds .entry)) (now (counts .exit))) ⌝ }
 {
     if !marks::unique(kinds, ids) {
         return false;
     }
-    ahead::count(kinds, counts);
     marks::uses(kinds, ids, marks::main_place(kinds), marks);
     true
 }
 
-// Writes the records of all tokens, with tables for what its names stand for and for open parentheses.
-fn elaborate_with(
+// Writes the records of all tokens, with tables for what stands ahead of them and for what names stand for.
+fn records_with(
     kinds: &[u8],
     ids: &[u16],
     numbers: &[u64],
     list: &[u8],
     index: &[u16],
-    counts: &[u64],
     marks: &[u8],
-    symbols: &mut [u64],
+    counts: &mut [u64],
     known: &mut [u64],
-    frames: &mut [u64],
     out: &mut [u8],
 ) -> End
-    requires { ⌜ (length (now kinds) < 4000) × (length (now kinds) ≤ length (now symbols)) × (length (now kinds) < length (now known))
-        × (length (now kinds) < length (now frames)) × ((x : ℕ) → getD (now ids) x 0 ≤ length (now kinds)) × ((x : ℕ) → getD (now known) x 0 ≡ 0) ⌝ }
-    requires { ⌜ Counted (now kinds) (now counts) × Indexed (now list) (now index) ⌝ }
+    requires { ⌜ (length (now kinds) < 4000) × (length (now kinds) < length (now counts)) × (length (now kinds) < length (now known))
+        × ((x : ℕ) → getD (now ids) x 0 ≤ length (now kinds)) × ((x : ℕ) → getD (now known) x 0 ≡ 0) × Indexed (now list) (now index) ⌝ }
     ensures { λ r. ⌜ ((text ss ls : List ℕ) → Ready text (table (now (kinds .entry)) ss ls (now (numbers .entry))) (now (ids .entry))
         (now (marks .entry)) → ended (now (out .entry)) 0 (flatText (entries (now (list .entry)))
         (tokensFrom text (table (now (kinds .entry)) ss ls (now (numbers .entry))) 0)) ≡ outcome r (now (out .exit))) ⌝ }
 {
-    let main = marks::main_place(kinds);
-    let Ranges::Listed(s) = binds::bind(
-        kinds,
-        ids,
-        numbers,
-        list,
-        index,
-        marks,
-        symbols,
-        known,
-        out,
-    ) else {
+    let first = marks::main_place(kinds);
+    let Ranges::Listed(s) = binds::bind(kinds, ids, numbers, list, index, marks, known, out) else {
         return End::Refused;
     };
-    let End::Place(at) = loops::run(
-        kinds,
-        ids,
-        numbers,
-        list,
-        index,
-        counts,
-        known,
-        frames,
-        out,
-        main,
-        s.at,
-        s.n,
-    ) else {
+    ahead::count(kinds, counts);
+    let start = Start {
+        first: first,
+        at: s.at,
+        n: s.n,
+    };
+    let End::Place(at) = loops::run(kinds, ids, numbers, list, index, counts, known, out, start)
+    else {
         return End::Refused;
     };
-    if marks::qualified(kinds, main) {
+    if marks::qualified(kinds, first) {
         return End::Place(at);
     }
     End::Place(copier::put(out, at, 16))
 }
 
 // Few tokens: the tables are small, none over 2,048 bytes, and soon cleared.
-fn elaborate_short(
+fn records_short(
     kinds: &[u8],
     ids: &[u16],
     numbers: &[u64],
     list: &[u8],
     index: &[u16],
-    counts: &[u64],
     marks: &[u8],
     out: &mut [u8],
 ) -> End
-    requires { ⌜ (length (now kinds) ≤ 255) × ((x : ℕ) → getD (now ids) x 0 ≤ length (now kinds)) × Counted (now kinds) (now counts)
-        × Indexed (now list) (now index) ⌝ }
+    requires { ⌜ (length (now kinds) ≤ 255) × ((x : ℕ) → getD (now ids) x 0 ≤ length (now kinds)) × Indexed (now list) (now index) ⌝ }
     ensures { λ r. ⌜ ((text ss ls : List ℕ) → Ready text (table (now (kinds .entry)) ss ls (now (numbers .entry))) (now (ids .entry))
         (now (marks .entry)) → ended (now (out .entry)) 0 (flatText (entries (now (list .entry)))
         (tokensFrom text (table (now (kinds .entry)) ss ls (now (numbers .entry))) 0)) ≡ outcome r (now (out .exit))) ⌝ }
 {
-    let mut symbols = [0u64; 255];
+    let mut counts = [0u64; 256];
     let mut known = [0u64; 256];
-    let mut frames = [0u64; 256];
-    elaborate_with(
+    records_with(
         kinds,
         ids,
         numbers,
         list,
         index,
-        counts,
         marks,
-        &mut symbols,
+        &mut counts,
         &mut known,
-        &mut frames,
+        out,
+    )
+}
+
+// As many tokens as a text can have.
+fn records_long(
+    kinds: &[u8],
+    ids: &[u16],
+    numbers: &[u64],
+    list: &[u8],
+    index: &[u16],
+    marks: &[u8],
+    out: &mut [u8],
+) -> End
+    requires { ⌜ (length (now kinds) ≤ 2000) × ((x : ℕ) → getD (now ids) x 0 ≤ length (now kinds)) × Indexed (now list) (now index) ⌝ }
+    ensures { λ r. ⌜ ((text ss ls : List ℕ) → Ready text (table (now (kinds .entry)) ss ls (now (numbers .entry))) (now (ids .entry))
+        (now (marks .entry)) → ended (now (out .entry)) 0 (flatText (entries (now (list .entry)))
+        (tokensFrom text (table (now (kinds .entry)) ss ls (now (numbers .entry))) 0)) ≡ outcome r (now (out .exit))) ⌝ }
+{
+    let mut counts = [0u64; 2001];
+    let mut known = [0u64; 2001];
+    records_with(
+        kinds,
+        ids,
+        numbers,
+        list,
+        index,
+        marks,
+        &mut counts,
+        &mut known,
+        out,
+    )
+}
+
+// Writes the records of all tokens, and says where they end, or refuses a name. What does not fit the buffer is not written.
+fn records(
+    kinds: &[u8],
+    ids: &[u16],
+    numbers: &[u64],
+    list: &[u8],
+    index: &[u16],
+    marks: &[u8],
+    out: &mut [u8],
+) -> End
+    requires { ⌜ (length (now kinds) ≤ 2000) × ((x : ℕ) → getD (now ids) x 0 ≤ length (now kinds)) × Indexed (now list) (now index) ⌝ }
+    ensures { λ r. ⌜ ((text ss ls : List ℕ) → Ready text (table (now (kinds .entry)) ss ls (now (numbers .entry))) (now (ids .entry))
+        (now (marks .entry)) → ended (now (out .entry)) 0 (flatText (entries (now (list .entry)))
+        (tokensFrom text (table (now (kinds .entry)) ss ls (now (numbers .entry))) 0)) ≡ outcome r (now (out .exit))) ⌝ }
+{
+    if kinds.len() <= 255 {
+        return records_short(kinds, ids, numbers, list, index, marks, out);
+    }
+    records_long(kinds, ids, numbers, list, index, marks, out)
+}
+
+// The records of all tokens, or 51 for a name and 52 for their length. They are written into a draft first, so that a buffer that is too short is not
+// touched; where they are longer than that they are made twice.
+fn write(
+    kinds: &[u8],
+    ids: &[u16],
+    numbers: &[u64],
+    list: &[u8],
+    index: &[u16],
+    marks: &[u8],
+    draft: &mut [u8],
+    out: &mut [u8],
+) -> Answer
+    requires { ⌜ (length (now kinds) ≤ 2000) × (length (now draft) ≤ 2048) × ((x : ℕ) → getD (now ids) x 0 ≤ length (now kinds))
+        × Indexed (now list) (now index) ⌝ }
+    ensures { λ r. ⌜ ((text ss ls : List ℕ) → Ready text (table (now (kinds .entry)) ss ls (now (numbers .entry))) (now (ids .entry))
+        (now (marks .entry)) → answered r (now (out .exit)) ≡ writing
+        (recordsOf text (table (now (kinds .entry)) ss ls (now (numbers .entry))) (now (list .entry))) (now (out .entry))) ⌝ }
+{
+    let End::Place(length) = records(kinds, ids, numbers, list, index, marks, draft) else {
+        return refused(NAMES);
+    };
+    if out.len() < length {
+        return refused(LENGTH);
+    }
+    if length <= draft.len() {
+        copier::copy(out, 0, &draft[..length]);
+        return Answer { number: 0, length };
+    }
+    records(kinds, ids, numbers, list, index, marks, out);
+    Answer { number: 0, length }
+}
+
+// A text whose names are numbered: bound once, and its records.
+fn resolve(
+    kinds: &[u8],
+    ids: &[u16],
+    numbers: &[u64],
+    list: &[u8],
+    index: &[u16],
+    marks: &mut [u8],
+    draft: &mut [u8],
+    out: &mut [u8],
+) -> Answer
+    requires { ⌜ (length (now kinds) ≤ 2000) × (length (now draft) ≤ 2048) × (length (now kinds) < length (now marks))
+        × ((x : ℕ) → getD (now ids) x 0 ≤ length (now kinds)) × ((x : ℕ) → getD (now marks) x 0 ≡ 0)
+        × Indexed (now list) (now index) ⌝ }
+    ensures { λ r. ⌜ ((text ss ls : List ℕ) → Numbered (nameIn text (now (kinds .entry)) ss ls) (length (now (kinds .entry))) (now (ids .entry))
+        → Named (nameIn text (now (kinds .entry)) ss ls) (now (ids .entry)) (now (numbers .entry)) → answered r (now (out .exit))
+        ≡ writing (recordsOf text (table (now (kinds .entry)) ss ls (now (numbers .entry))) (now (list .entry))) (now (out .entry))) ⌝ }
+{
+    if !prepare(kinds, ids, marks) {
+        return refused(NAMES);
+    }
+    write(kinds, ids, numbers, list, index, marks, draft, out)
+}
+
+// Few tokens: the tables are small, none over 2,048 bytes, and soon cleared.
+fn elaborate_short(
+    text: &[u8],
+    kinds: &[u8],
+    starts: &[u16],
+    lengths: &[u16],
+    numbers: &[u64],
+    list: &[u8],
+    index: &[u16],
+    out: &mut [u8],
+) -> Answer
+    requires { ⌜ (length (now kinds) ≤ 255) × (length (now kinds) ≤ length (now numbers))
+        × Coded (now text) (table (now kinds) (now starts) (now lengths) (now numbers)) (length (now kinds)) × Indexed (now list) (now index) ⌝ }
+    ensures { λ r. ⌜ answered r (now (out .exit)) ≡ writing (recordsOf (now (text .entry))
+        (table (now (kinds .entry)) (now (starts .entry)) (now (lengths .entry)) (now (numbers .entry))) (now (list .entry)))
+        (now (out .entry)) ⌝ }
+{
+    let mut ids = [0u16; 255];
+    let mut links = [0u16; 768];
+    marks::number(text, kinds, starts, lengths, numbers, &mut links, &mut ids);
+    let mut marks = [0u8; 256];
+    let mut draft = [0u8; 512];
+    resolve(
+        kinds,
+        &ids,
+        numbers,
+        list,
+        index,
+        &mut marks,
+        &mut draft,
         out,
     )
 }
 
 // As many tokens as a text can have.
 fn elaborate_long(
+    text: &[u8],
     kinds: &[u8],
-    ids: &[u16],
+    starts: &[u16],
+    lengths: &[u16],
     numbers: &[u64],
     list: &[u8],
     index: &[u16],
-    counts: &[u64],
-    marks: &[u8],
     out: &mut [u8],
-) -> End
-    requires { ⌜ (length (now kinds) ≤ 2000) × ((x : ℕ) → getD (now ids) x 0 ≤ length (now kinds)) × Counted (now kinds) (now counts)
-        × Indexed (now list) (now index) ⌝ }
-    ensures { λ r. ⌜ ((text ss ls : List ℕ) → Ready text (table (now (kinds .entry)) ss ls (now (numbers .entry))) (now (ids .entry))
-        (now (marks .entry)) → ended (now (out .entry)) 0 (flatText (entries (now (list .entry)))
-        (tokensFrom text (table (now (kinds .entry)) ss ls (now (numbers .entry))) 0)) ≡ outcome r (now (out .exit))) ⌝ }
+) -> Answer
+    requires { ⌜ (length (now kinds) ≤ 2000) × (length (now kinds) ≤ length (now numbers))
+        × Coded (now text) (table (now kinds) (now starts) (now lengths) (now numbers)) (length (now kinds)) × Indexed (now list) (now index) ⌝ }
+    ensures { λ r. ⌜ answered r (now (out .exit)) ≡ writing (recordsOf (now (text .entry))
+        (table (now (kinds .entry)) (now (starts .entry)) (now (lengths .entry)) (now (numbers .entry))) (now (list .entry)))
+        (now (out .entry)) ⌝ }
 {
-    let mut symbols = [0u64; 2000];
-    let mut known = [0u64; 2001];
-    let mut frames = [0u64; 2001];
-    elaborate_with(
+    let mut ids = [0u16; 2000];
+    let mut links = [0u16; 2513];
+    marks::number(text, kinds, starts, lengths, numbers, &mut links, &mut ids);
+    let mut marks = [0u8; 2001];
+    let mut draft = [0u8; 2048];
+    resolve(
         kinds,
-        ids,
+        &ids,
         numbers,
         list,
         index,
-        counts,
-        marks,
-        &mut symbols,
-        &mut known,
-        &mut frames,
+        &mut marks,
+        &mut draft,
         out,
     )
 }
 
-// Writes the records of all tokens, and says where they end, or refuses a name (51).
+// The records of a text that the grammar has, or 51 for a name and 52 for their length; a refusal leaves the buffer as it was.
 pub fn elaborate(
+    text: &[u8],
     kinds: &[u8],
-    ids: &[u16],
+    starts: &[u16],
+    lengths: &[u16],
     numbers: &[u64],
     list: &[u8],
     index: &[u16],
-    counts: &[u64],
-    marks: &[u8],
     out: &mut [u8],
-) -> End
-    requires { ⌜ (length (now kinds) ≤ 2000) × ((x : ℕ) → getD (now ids) x 0 ≤ length (now kinds)) × Counted (now kinds) (now counts)
-        × Indexed (now list) (now index) ⌝ }
-    ensures { λ r. ⌜ ((text ss ls : List ℕ) → Ready text (table (now (kinds .entry)) ss ls (now (numbers .entry))) (now (ids .entry))
-        (now (marks .entry)) → ended (now (out .entry)) 0 (flatText (entries (now (list .entry)))
-        (tokensFrom text (table (now (kinds .entry)) ss ls (now (numbers .entry))) 0)) ≡ outcome r (now (out .exit))) ⌝ }
+) -> Answer
+    requires { ⌜ (length (now kinds) ≤ 2000) × (length (now kinds) ≤ length (now numbers))
+        × Coded (now text) (table (now kinds) (now starts) (now lengths) (now numbers)) (length (now kinds)) × Indexed (now list) (now index) ⌝ }
+    ensures { λ r. ⌜ answered r (now (out .exit)) ≡ writing (recordsOf (now (text .entry))
+        (table (now (kinds .entry)) (now (starts .entry)) (now (lengths .entry)) (now (numbers .entry))) (now (list .entry)))
+        (now (out .entry)) ⌝ }
 {
     if kinds.len() <= 255 {
-        return elaborate_short(kinds, ids, numbers, list, index, counts, marks, out);
+        return elaborate_short(text, kinds, starts, lengths, numbers, list, index, out);
     }
-    elaborate_long(kinds, ids, numbers, list, index, counts, marks, out)
+    elaborate_long(text, kinds, starts, lengths, numbers, list, index, out)
 }

@@ -10,63 +10,55 @@ ghost use lib.ListN.{length, getD};
 ghost use Rattle.quel.specs.Elaboration.{Symbol};
 ghost use Rattle.names.specs.Entries.{entries};
 ghost use Rattle.names.specs.Search.{Indexed};
-ghost use Rattle.marks.specs.Places.{table, nameIn};
-ghost use Rattle.items.specs.Tables.{Named, Holds};
+ghost use Rattle.elaborate.specs.Places.{table, nameIn};
+ghost use Rattle.elaborate.specs.Tables.{Named, Holds};
 ghost use Rattle.elaborate.specs.Counts.{Counted};
 ghost use Rattle.elaborate.specs.Ends.{Ends, Last};
 
-// Writes the records of the tokens from `from` on, with the RANGE list's frame open and n the next variable's number.
+// The first token, where to write, and the next variable's number.
+pub struct Start {
+    pub first: usize,
+    pub at: usize,
+    pub n: usize,
+}
+
+// Writes the records of the tokens from a place on, with the RANGE list's frame open.
 pub(crate) fn run(
     kinds: &[u8],
     ids: &[u16],
     numbers: &[u64],
     list: &[u8],
     index: &[u16],
-    counts: &[u64],
+    counts: &mut [u64],
     known: &mut [u64],
-    frames: &mut [u64],
     out: &mut [u8],
-    from: usize,
-    at: usize,
-    n: usize,
+    start: Start,
 ) -> End
-    requires { ⌜ (length (now kinds) < 4000) × (length (now kinds) < length (now frames)) × (from < 4003) × (n < 4000) × (at < 4611686018427387904)
-        × Counted (now kinds) (now counts) ⌝ }
+    requires { ⌜ (length (now kinds) < 4000) × (length (now kinds) < length (now counts)) × (0 < length (now kinds) → 1 ≤ start .first)
+        × (start .first < 4003) × (start .n < 4000) × (start .at < 4611686018427387904) × Counted (now kinds) (now counts) 0 ⌝ }
     requires { ⌜ ((x : ℕ) → getD (now ids) x 0 < 8192) × ((x : ℕ) → getD (now ids) x 0 < length (now known))
         × ((y : ℕ) → getD (now known) y 0 < 68719476736) × Indexed (now list) (now index) ⌝ }
     ensures { λ r. ⌜ ((text ss ls : List ℕ) (ρ : List Symbol) → Named (nameIn text (now (kinds .entry)) ss ls) (now (ids .entry)) (now (numbers .entry))
         → Holds (nameIn text (now (kinds .entry)) ss ls) (now (ids .entry)) (now (known .entry)) 0 0 ρ
-        → Ends text (table (now (kinds .entry)) ss ls (now (numbers .entry))) (entries (now (list .entry))) ρ from at n
+        → Ends text (table (now (kinds .entry)) ss ls (now (numbers .entry))) (entries (now (list .entry))) ρ (start .first) (start .at) (start .n)
         (now (out .entry)) r (now (out .exit))) ⌝ }
-    ensures { λ r. ⌜ Last at r ⌝ }
+    ensures { λ r. ⌜ Last (start .at) r ⌝ }
 {
-    frames[0] = 0;
+    counts[0] = 0;
     let mut s = State {
+        i: start.first,
         mode: 3,
         depth: 1,
         crossing: 0,
-        n: n,
-        at: at,
+        n: start.n,
+        at: start.at,
     };
-    let mut i = from;
-    while i < kinds.len() {
-        let Next::Go(t) = turns::turn(
-            kinds,
-            ids,
-            numbers,
-            list,
-            index,
-            counts,
-            known,
-            frames,
-            out,
-            s,
-            i,
-        ) else {
+    while s.i < kinds.len() {
+        let Next::Go(t) = turns::turn(kinds, ids, numbers, list, index, counts, known, out, s)
+        else {
             return End::Refused;
         };
         s = t;
-        i += 1;
     }
     End::Place(s.at)
 }

@@ -1,8 +1,9 @@
 // The mode of the loop over tokens: what is to be done at a token, and the mode after it.
+use crate::marks;
 ghost use mathlib.Core.Path.{_≡_};
 ghost use mathlib.Core.Bool.{cond, _&&_};
 ghost use lib.Dec.{eqb, leb};
-ghost use Rattle.items.specs.Actions.{actionOf, restOf, nextOf};
+ghost use Rattle.elaborate.specs.Actions.{actionOf, restOf, nextOf};
 
 // In the head of SOME or of an aggregate, or in an attribute.
 fn ending(mode: u8, kind: u8) -> u8

@@ -10,8 +10,8 @@ ghost use lib.Dec.{eqb};
 ghost use lib.ListN.{length, getD, set};
 ghost use Rattle.quel.specs.Results.{Word};
 ghost use Rattle.quel.specs.Writing.{Reaches, around};
-ghost use Rattle.items.specs.Tables.{Same};
-ghost use Rattle.items.specs.Puts.{reachAfter};
+ghost use Rattle.elaborate.specs.Tables.{Same};
+ghost use Rattle.elaborate.specs.Puts.{reachAfter};
 ghost use Rattle.elaborate.specs.Frames.{Stack, Opened, framedReach};
 ghost use Rattle.elaborate.specs.After.{Fits};
 
@@ -54,7 +54,8 @@ fn enter(
     ensures { λ t. ⌜ ((w : ℕ → Word) (σ : Reaches) → Same w (now (ids .entry))
         → Stack w (now (ids .entry)) (now (frames .entry)) (r .depth) (r .crossing) (now (known .entry)) σ
         → Stack w (now (ids .entry)) (now (frames .exit)) (t .depth) (t .crossing) (now (known .exit)) (framedReach (w (i + 1)) (w (i + 2)) item σ)) ⌝ }
-    ensures { λ t. ⌜ (t .depth ≡ r .depth + 1) × (t .crossing < 8192) × ((y : ℕ) → getD (now (known .exit)) y 0 < 68719476736) ⌝ }
+    ensures { λ t. ⌜ (t .depth ≡ r .depth + 1) × (t .crossing < 8192) × ((y : ℕ) → getD (now (known .exit)) y 0 < 68719476736)
+        × ((j : ℕ) → r .depth < j → getD (now (frames .exit)) j 0 ≡ getD (now (frames .entry)) j 0) ⌝ }
 {
     let depth = r.depth;
     match item {
@@ -156,7 +157,8 @@ pub(crate) fn shift(
     ensures { λ t. ⌜ (Fits a item → (w : ℕ → Word) (σ : Reaches) → Same w (now (ids .entry))
         → Stack w (now (ids .entry)) (now (frames .entry)) (r .depth) (r .crossing) (now (known .entry)) σ
         → Stack w (now (ids .entry)) (now (frames .exit)) (t .depth) (t .crossing) (now (known .exit)) (reachAfter a (w (i + 1)) (w (i + 2)) item σ)) ⌝ }
-    ensures { λ t. ⌜ (t .depth ≤ r .depth + 1) × (t .crossing < 8192) × ((y : ℕ) → getD (now (known .exit)) y 0 < 68719476736) ⌝ }
+    ensures { λ t. ⌜ (t .depth ≤ r .depth + 1) × (t .crossing < 8192) × ((y : ℕ) → getD (now (known .exit)) y 0 < 68719476736)
+        × ((j : ℕ) → r .depth < j → getD (now (frames .exit)) j 0 ≡ getD (now (frames .entry)) j 0) ⌝ }
 {
     if opening(a) {
         return enter(ids, known, frames, r, item, i);

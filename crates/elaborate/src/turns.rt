@@ -1,11 +1,13 @@
 // A turn of the loop over a text's tokens: what it writes, and what is in reach after it.
 use crate::ahead;
+use crate::items;
+use crate::items::Item;
+use crate::items::Scope;
+use crate::marks;
 use crate::modes;
 use crate::opens;
 use crate::reaches;
 use crate::reaches::Reach;
-use items::Item;
-use items::Scope;
 use kinds::Record;
 ghost use mathlib.Core.Path.{_≡_};
 ghost use mathlib.Core.Bool.{_&&_};
@@ -17,17 +19,18 @@ ghost use lib.Seq.{sets};
 ghost use Rattle.quel.specs.Writing.{Reaches};
 ghost use Rattle.names.specs.Entries.{entries};
 ghost use Rattle.names.specs.Search.{Indexed};
-ghost use Rattle.marks.specs.Places.{table, nameIn};
+ghost use Rattle.elaborate.specs.Places.{table, nameIn};
 ghost use Rattle.copier.specs.Copied.{recordBytes};
-ghost use Rattle.items.specs.Tables.{Named};
-ghost use Rattle.items.specs.Puts.{numberAfter};
+ghost use Rattle.elaborate.specs.Tables.{Named};
+ghost use Rattle.elaborate.specs.Puts.{numberAfter};
 ghost use Rattle.elaborate.specs.Counts.{orsIn, andsIn, signIn, Counted};
 ghost use Rattle.elaborate.specs.Opens.{openBytes};
 ghost use Rattle.elaborate.specs.Frames.{Stack};
 ghost use Rattle.elaborate.specs.After.{Goes, Within};
 
-// The loop's mode, how many frames are open, the innermost aggregate's, the next variable's number, and where to write.
+// The next token, the loop's mode, how many frames are open, the innermost aggregate's, the next variable's number, and where to write.
 pub struct State {
+    pub i: usize,
     pub mode: u8,
     pub depth: usize,
     pub crossing: usize,
@@ -92,37 +95,37 @@ fn quiet(mode: u8, a: u8) -> bool
     a == 0
 }
 
-// A turn at token i.
+// A turn. What was counted for the tokens behind is asked for no more: open frames are kept there.
 pub(crate) fn turn(
     kinds: &[u8],
     ids: &[u16],
     numbers: &[u64],
     list: &[u8],
     index: &[u16],
-    counts: &[u64],
+    counts: &mut [u64],
     known: &mut [u64],
-    frames: &mut [u64],
     out: &mut [u8],
     s: State,
-    i: usize,
 ) -> Next
-    requires { ⌜ (i < length (now kinds)) × (length (now kinds) < 4000) × (s .depth < length (now frames)) × (s .mode ≤ 6) × (s .n < 8000)
-        × (s .at + 8197 < 9223372036854775808) × Counted (now kinds) (now counts) ⌝ }
-    requires { ⌜ (s .depth < 8191) × (s .crossing < 8192) × ((x : ℕ) → getD (now ids) x 0 < 8192) × ((x : ℕ) → getD (now ids) x 0 < length (now known))
+    requires { ⌜ (s .i < length (now kinds)) × (length (now kinds) < 4000) × (length (now kinds) < length (now counts)) × (s .mode ≤ 6) × (s .n < 8000)
+        × (s .at + 8197 < 9223372036854775808) × Counted (now kinds) (now counts) (s .i) ⌝ }
+    requires { ⌜ (s .depth ≤ s .i) × (s .crossing < 8192) × ((x : ℕ) → getD (now ids) x 0 < 8192) × ((x : ℕ) → getD (now ids) x 0 < length (now known))
         × ((y : ℕ) → getD (now known) y 0 < 68719476736) × Indexed (now list) (now index) ⌝ }
     ensures { λ r. ⌜ ((text ss ls : List ℕ) (σ : Reaches) → Named (nameIn text (now (kinds .entry)) ss ls) (now (ids .entry)) (now (numbers .entry))
-        → Stack (nameIn text (now (kinds .entry)) ss ls) (now (ids .entry)) (now (frames .entry)) (s .depth) (s .crossing) (now (known .entry)) σ
-        → Goes text (table (now (kinds .entry)) ss ls (now (numbers .entry))) (entries (now (list .entry))) (now (ids .entry)) i s σ
-        (now (out .entry)) r (now (frames .exit)) (now (known .exit)) (now (out .exit))) ⌝ }
+        → Stack (nameIn text (now (kinds .entry)) ss ls) (now (ids .entry)) (now (counts .entry)) (s .depth) (s .crossing) (now (known .entry)) σ
+        → Goes text (table (now (kinds .entry)) ss ls (now (numbers .entry))) (entries (now (list .entry))) (now (ids .entry)) (s .i) s σ
+        (now (out .entry)) r (now (counts .exit)) (now (known .exit)) (now (out .exit))) ⌝ }
     ensures { λ r. ⌜ Within s r ⌝ }
-    ensures { λ _. ⌜ ((y : ℕ) → getD (now (known .exit)) y 0 < 68719476736) ⌝ }
+    ensures { λ _. ⌜ ((y : ℕ) → getD (now (known .exit)) y 0 < 68719476736) × Counted (now (kinds .entry)) (now (counts .exit)) (s .i + 1) ⌝ }
 {
+    let i = s.i;
     let kind = kinds[i];
     let point = marks::is_point(kinds, i + 1);
     let a = modes::action(s.mode, kind, point);
     let mode = modes::next_mode(s.mode, kind, point);
     if quiet(s.mode, a) {
         return Next::Go(State {
+            i: i + 1,
             mode: mode,
             depth: s.depth,
             crossing: s.crossing,
@@ -142,9 +145,10 @@ pub(crate) fn turn(
         depth: s.depth,
         crossing: s.crossing,
     };
-    let reach = reaches::shift(ids, known, frames, held, a, r, i);
+    let reach = reaches::shift(ids, known, counts, held, a, r, i);
     let n = number(a, s.n);
     Next::Go(State {
+        i: i + 1,
         mode: mode,
         depth: reach.depth,
         crossing: reach.crossing,

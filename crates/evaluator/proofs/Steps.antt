@@ -11,19 +11,18 @@ use lib.IntN.{ℤ, pos}
 use lib.ListN.{length, getD, set, drop, length-set}
 use lib.Seq.{set-set, set-getD, getD-set-same, getD-set-other}
 use borrow.Author.Tests.{eq-eqb, ne-eqb, eqb-true, eqb-false}
-use denote.Enum.Declared.{tagOf, declared}
-use types.Run.{OneOf, miss}
 use Rattle.model.specs.Lists.{update, filter, any}
 use Rattle.model.specs.Search.{Search, search}
 use Rattle.model.proofs.Search.{search-found}
 use Rattle.model.proofs.Tests.{not-yes, not-no}
 use Rattle.model.specs.Syntax.{Condition, Term, TRUE, FALSE, NOT, AND, OR, COMPARE, SOME, CONSTANT, ATTRIBUTE, AGGREGATE}
 use Rattle.model.specs.Meaning.{Tuple, Assignment, Value, whole, signed, compare, aggregate, holdsWith}
-use Rattle.kinds.proofs.Record.{enum}
 use Rattle.kinds.specs.Tables.{recordLength}
-use Rattle.kinds.specs.Record.{recordAt}
-use Rattle.kinds.specs.declared.Record.{Record}
-use Rattle.kinds.specs.declared.Record.the-variants as R
+use Rattle.kinds.specs.Places.{conditionAt, termAt}
+use Rattle.kinds.specs.declared.ConditionRecord.{ConditionRecord}
+use Rattle.kinds.specs.declared.ConditionRecord.the-variants as C
+use Rattle.kinds.specs.declared.TermRecord.{TermRecord}
+use Rattle.kinds.specs.declared.TermRecord.the-variants as T
 use Rattle.numbers.specs.declared.Accumulator.{Accumulator}
 use Rattle.numbers.specs.Numbers.{Bounded, accumulatorOf, added, Accumulates}
 use Rattle.numbers.proofs.Laws.{starts, continues, counts}
@@ -48,31 +47,35 @@ module _ (ws : List ℕ) (vs m : List ℤ) (e q z : List ℕ) where
   value-zero l h = rw h
 
   -- by the record that q starts with
-  holds-is : (l : ℕ) (r : Record) → (l ≡ 0 → ⊥) → r ≡ recordAt q
+  holds-is : (l : ℕ) (r : ConditionRecord) → (l ≡ 0 → ⊥) → r ≡ conditionAt q
       → holdsBy m (conditionBy r (λ x y. decode (l - 1) x y) (λ x y. decodeT (l - 1) x y) q z) (rowsBy ws vs) (assigned vs e) ≡ holdsAt l q z ws vs m e
   unfolding holdsAt decode
   holds-is zero r h k = absurd (h refl)
   holds-is (suc l) r h k = rw (sub-one, k)
 
-  value-is : (l : ℕ) (r : Record) → (l ≡ 0 → ⊥) → r ≡ recordAt q
+  value-is : (l : ℕ) (r : TermRecord) → (l ≡ 0 → ⊥) → r ≡ termAt q
       → valueBy m (termBy r (λ x y. decode (l - 1) x y) q z) (rowsBy ws vs) (assigned vs e) ≡ valueAt l q z ws vs m e
   unfolding valueAt decode
   value-is zero r h k = absurd (h refl)
   value-is (suc l) r h k = rw (sub-one, k)
 
   -- the parts that the code hands on
-  module _ (l k a : ℕ) (r : Record) (nz : l ≡ 0 → ⊥) (ek : k ≡ getD q 0 0) (ea : a ≡ recordLength k) (er : r ≡ recordAt q) where
+  module _ (l k a : ℕ) (r : ConditionRecord) (nz : l ≡ 0 → ⊥) (ek : k ≡ getD q 0 0) (ea : a ≡ recordLength k) (er : r ≡ conditionAt q) where
     at-first : a ≡ first q
     at-first = ea ∙ ap recordLength ek
 
-    pub true-is : r ≡ R.True → true ≡ holdsAt l q z ws vs m e
+    pub true-is : r ≡ C.True → true ≡ holdsAt l q z ws vs m e
     unfolding holdsWith
-    true-is h = holds-is l R.True nz (sym h ∙ er)
+    true-is h = holds-is l C.True nz (sym h ∙ er)
 
-    -- an aggregate that the memo knows
-    pub known-is : (f v r′ t : ℕ) (u : Value) (b : Bool) → r ≡ R.Aggregate f v r′ t → b ≡ knows m v → b ≡ true → u ≡ recalled m v → u ≡ valueAt l q z ws vs m e
+    pub false-is : r ≡ C.False → false ≡ holdsAt l q z ws vs m e
     unfolding holdsWith
-    known-is f v r′ t u b h ek f′ eu = let g = sym ek ∙ f′ in eu ∙ sym (rw g) ∙ value-is l (R.Aggregate f v r′ t) nz (sym h ∙ er)
+    false-is h = holds-is l C.False nz (sym h ∙ er)
+
+    -- another record is no condition
+    pub no-condition : r ≡ C.Other → false ≡ holdsAt l q z ws vs m e
+    unfolding holdsWith
+    no-condition h = holds-is l C.Other nz (sym h ∙ er)
 
     module _ (x y : List ℕ) (ex : x ≡ drop a q) (ey : y ≡ drop a z) where
       child : holdsAt (l - 1) x y ws vs m e ≡ holdsBy m (decode (l - 1) (drop (first q) q) (drop (first q) z)) (rowsBy ws vs) (assigned vs e)
@@ -83,30 +86,23 @@ module _ (ws : List ℕ) (vs m : List ℤ) (e q z : List ℕ) where
       unfolding valueAt
       childT = ap₂ (λ (u w : List ℕ). valueBy m (decodeT (l - 1) u w) (rowsBy ws vs) (assigned vs e)) (ex ∙ ap (λ n. drop n q) at-first) (ey ∙ ap (λ n. drop n z) at-first)
 
-      pub not-is : (b : Bool) → r ≡ R.Not → b ≡ holdsAt (l - 1) x y ws vs m e → not b ≡ holdsAt l q z ws vs m e
+      pub not-is : (b : Bool) → r ≡ C.Not → b ≡ holdsAt (l - 1) x y ws vs m e → not b ≡ holdsAt l q z ws vs m e
       unfolding holdsWith
-      not-is b h eb = ap not (eb ∙ child) ∙ holds-is l R.Not nz (sym h ∙ er)
+      not-is b h eb = ap not (eb ∙ child) ∙ holds-is l C.Not nz (sym h ∙ er)
 
-      pub and-no : (b : Bool) → r ≡ R.And → b ≡ holdsAt (l - 1) x y ws vs m e → not b ≡ true → false ≡ holdsAt l q z ws vs m e
+      pub and-no : (b : Bool) → r ≡ C.And → b ≡ holdsAt (l - 1) x y ws vs m e → not b ≡ true → false ≡ holdsAt l q z ws vs m e
       unfolding holdsWith
-      and-no b h eb f = let g = sym child ∙ sym eb ∙ not-yes b f in sym (rw g) ∙ holds-is l R.And nz (sym h ∙ er)
+      and-no b h eb f = let g = sym child ∙ sym eb ∙ not-yes b f in sym (rw g) ∙ holds-is l C.And nz (sym h ∙ er)
 
-      pub or-yes : (b : Bool) → r ≡ R.Or → b ≡ holdsAt (l - 1) x y ws vs m e → b ≡ true → true ≡ holdsAt l q z ws vs m e
+      pub or-yes : (b : Bool) → r ≡ C.Or → b ≡ holdsAt (l - 1) x y ws vs m e → b ≡ true → true ≡ holdsAt l q z ws vs m e
       unfolding holdsWith
-      or-yes b h eb f = let g = sym child ∙ sym eb ∙ f in sym (rw g) ∙ holds-is l R.Or nz (sym h ∙ er)
+      or-yes b h eb f = let g = sym child ∙ sym eb ∙ f in sym (rw g) ∙ holds-is l C.Or nz (sym h ∙ er)
 
-      pub some-is : (v r′ : ℕ) (b : Bool) (n : ℕ) → r ≡ R.Some v r′ → record { found = b; tried = n } ≡ search (holdsOn (l - 1) x y ws vs m e v) (walked ws vs v) → b ≡ holdsAt l q z ws vs m e
+      pub some-is : (v r′ : ℕ) (b : Bool) (n : ℕ) → r ≡ C.Some v r′ → record { found = b; tried = n } ≡ search (holdsOn (l - 1) x y ws vs m e v) (walked ws vs v) → b ≡ holdsAt l q z ws vs m e
       unfolding holdsWith holdsOn
       some-is v r′ b n h eb =
           ap (λ (s : Search). s .found) eb ∙ search-found (holdsOn (l - 1) x y ws vs m e v) (walked ws vs v) ∙ ap₂ (λ (u w : List ℕ). any (λ t. holdsBy m (decode (l - 1) u w) (rowsBy ws vs) (update (assigned vs e) v t)) (walked ws vs v)) (ex ∙ ap (λ n. drop n q) at-first) (ey ∙ ap (λ n. drop n z) at-first)
-          ∙ holds-is l (R.Some v r′) nz (sym h ∙ er)
-
-      pub aggregate-is : (f v r′ t : ℕ) (u : Value) (b : Bool) → r ≡ R.Aggregate f v r′ t → b ≡ knows m v → b ≡ false → u ≡ aggregate f (valuesOn (l - 1) x y ws vs m e v t) → u ≡ valueAt l q z ws vs m e
-      unfolding holdsWith holdsOn valuesOn
-      aggregate-is f v r′ t u b h ek f′ eu =
-          let g = sym ek ∙ f′ in
-          eu ∙ ap₂ (λ (i w : List ℕ). aggregate f (map (λ (s : Tuple). s t) (filter (λ s. holdsBy m (decode (l - 1) i w) (rowsBy ws vs) (update (assigned vs e) v s)) (walked ws vs v)))) (ex ∙ ap (λ n. drop n q) at-first) (ey ∙ ap (λ n. drop n z) at-first)
-          ∙ sym (rw g) ∙ value-is l (R.Aggregate f v r′ t) nz (sym h ∙ er)
+          ∙ holds-is l (C.Some v r′) nz (sym h ∙ er)
 
       -- the second child
       module _ (s b : ℕ) (u w : List ℕ) (es : s ≡ getD z a 0) (eb : b ≡ a + s) (eu : u ≡ drop b q) (ew : w ≡ drop b z) where
@@ -121,72 +117,52 @@ module _ (ws : List ℕ) (vs m : List ℤ) (e q z : List ℕ) where
         unfolding valueAt
         nextT = ap₂ (λ (i n : List ℕ). valueBy m (decodeT (l - 1) i n) (rowsBy ws vs) (assigned vs e)) (eu ∙ ap (λ n. drop n q) at-second) (ew ∙ ap (λ n. drop n z) at-second)
 
-        pub and-yes : (c d : Bool) (e₁ : List ℕ) → r ≡ R.And → c ≡ holdsAt (l - 1) x y ws vs m e → not c ≡ false → e₁ ≡ e → d ≡ holdsAt (l - 1) u w ws vs m e₁ → d ≡ holdsAt l q z ws vs m e
+        pub and-yes : (c d : Bool) (e₁ : List ℕ) → r ≡ C.And → c ≡ holdsAt (l - 1) x y ws vs m e → not c ≡ false → e₁ ≡ e → d ≡ holdsAt (l - 1) u w ws vs m e₁ → d ≡ holdsAt l q z ws vs m e
         unfolding holdsWith
         and-yes c d e₁ h ec f ee ed =
             let g = sym child ∙ sym ec ∙ not-no c f in
-            ed ∙ ap (holdsAt (l - 1) u w ws vs m) ee ∙ next ∙ sym (rw g) ∙ holds-is l R.And nz (sym h ∙ er)
+            ed ∙ ap (holdsAt (l - 1) u w ws vs m) ee ∙ next ∙ sym (rw g) ∙ holds-is l C.And nz (sym h ∙ er)
 
-        pub or-no : (c d : Bool) (e₁ : List ℕ) → r ≡ R.Or → c ≡ holdsAt (l - 1) x y ws vs m e → c ≡ false → e₁ ≡ e → d ≡ holdsAt (l - 1) u w ws vs m e₁ → d ≡ holdsAt l q z ws vs m e
+        pub or-no : (c d : Bool) (e₁ : List ℕ) → r ≡ C.Or → c ≡ holdsAt (l - 1) x y ws vs m e → c ≡ false → e₁ ≡ e → d ≡ holdsAt (l - 1) u w ws vs m e₁ → d ≡ holdsAt l q z ws vs m e
         unfolding holdsWith
         or-no c d e₁ h ec f ee ed =
             let g = sym child ∙ sym ec ∙ f in
-            ed ∙ ap (holdsAt (l - 1) u w ws vs m) ee ∙ next ∙ sym (rw g) ∙ holds-is l R.Or nz (sym h ∙ er)
+            ed ∙ ap (holdsAt (l - 1) u w ws vs m) ee ∙ next ∙ sym (rw g) ∙ holds-is l C.Or nz (sym h ∙ er)
 
-        pub compare-is : (o : ℕ) (c d : Value) (e₁ : List ℕ) (t : Bool) → r ≡ R.Compare o → c ≡ valueAt (l - 1) x y ws vs m e → e₁ ≡ e → d ≡ valueAt (l - 1) u w ws vs m e₁ → t ≡ compare o c d → t ≡ holdsAt l q z ws vs m e
+        pub compare-is : (o : ℕ) (c d : Value) (e₁ : List ℕ) (t : Bool) → r ≡ C.Compare o → c ≡ valueAt (l - 1) x y ws vs m e → e₁ ≡ e → d ≡ valueAt (l - 1) u w ws vs m e₁ → t ≡ compare o c d → t ≡ holdsAt l q z ws vs m e
         unfolding holdsWith
         compare-is o c d e₁ t h ec ee ed et =
-            et ∙ ap₂ (compare o) (ec ∙ childT) (ed ∙ ap (valueAt (l - 1) u w ws vs m) ee ∙ nextT) ∙ holds-is l (R.Compare o) nz (sym h ∙ er)
+            et ∙ ap₂ (compare o) (ec ∙ childT) (ed ∙ ap (valueAt (l - 1) u w ws vs m) ee ∙ nextT) ∙ holds-is l (C.Compare o) nz (sym h ∙ er)
 
-  pub constant-is : (l a b c d : ℕ) (r : Record) (t : ℤ) → (l ≡ 0 → ⊥) → r ≡ recordAt q → r ≡ R.Constant a b c d → t ≡ signed a b c d → some (whole t) ≡ valueAt l q z ws vs m e
+  -- a term
+  module _ (l k a : ℕ) (r : TermRecord) (nz : l ≡ 0 → ⊥) (ek : k ≡ getD q 0 0) (ea : a ≡ recordLength k) (er : r ≡ termAt q) where
+    to-first : a ≡ first q
+    to-first = ea ∙ ap recordLength ek
+
+    -- an aggregate that the memo knows
+    pub known-is : (f v r′ t : ℕ) (u : Value) (b : Bool) → r ≡ T.Aggregate f v r′ t → b ≡ knows m v → b ≡ true → u ≡ recalled m v → u ≡ valueAt l q z ws vs m e
+    unfolding holdsWith
+    known-is f v r′ t u b h ek f′ eu = let g = sym ek ∙ f′ in eu ∙ sym (rw g) ∙ value-is l (T.Aggregate f v r′ t) nz (sym h ∙ er)
+
+    module _ (x y : List ℕ) (ex : x ≡ drop a q) (ey : y ≡ drop a z) where
+      pub aggregate-is : (f v r′ t : ℕ) (u : Value) (b : Bool) → r ≡ T.Aggregate f v r′ t → b ≡ knows m v → b ≡ false → u ≡ aggregate f (valuesOn (l - 1) x y ws vs m e v t) → u ≡ valueAt l q z ws vs m e
+      unfolding holdsWith holdsOn valuesOn
+      aggregate-is f v r′ t u b h ek f′ eu =
+          let g = sym ek ∙ f′ in
+          eu ∙ ap₂ (λ (i w : List ℕ). aggregate f (map (λ (s : Tuple). s t) (filter (λ s. holdsBy m (decode (l - 1) i w) (rowsBy ws vs) (update (assigned vs e) v s)) (walked ws vs v)))) (ex ∙ ap (λ n. drop n q) to-first) (ey ∙ ap (λ n. drop n z) to-first)
+          ∙ sym (rw g) ∙ value-is l (T.Aggregate f v r′ t) nz (sym h ∙ er)
+
+  pub constant-is : (l a b c d : ℕ) (r : TermRecord) (t : ℤ) → (l ≡ 0 → ⊥) → r ≡ termAt q → r ≡ T.Constant a b c d → t ≡ signed a b c d → some (whole t) ≡ valueAt l q z ws vs m e
   unfolding holdsWith
-  constant-is l a b c d r t nz er h et = ap (λ (y : ℤ). some (whole y)) et ∙ value-is l (R.Constant a b c d) nz (sym h ∙ er)
+  constant-is l a b c d r t nz er h et = ap (λ (y : ℤ). some (whole y)) et ∙ value-is l (T.Constant a b c d) nz (sym h ∙ er)
 
-  pub attribute-is : (l v a p : ℕ) (r : Record) (t : ℤ) → (l ≡ 0 → ⊥) → r ≡ recordAt q → r ≡ R.Attribute v a → v < length e → p ≡ getD e v 0 → t ≡ getD vs (p + a) (pos 0) → some (whole t) ≡ valueAt l q z ws vs m e
+  pub attribute-is : (l v a p : ℕ) (r : TermRecord) (t : ℤ) → (l ≡ 0 → ⊥) → r ≡ termAt q → r ≡ T.Attribute v a → v < length e → p ≡ getD e v 0 → t ≡ getD vs (p + a) (pos 0) → some (whole t) ≡ valueAt l q z ws vs m e
   unfolding holdsWith
-  attribute-is l v a p r t nz er h hv ep et = ap (λ (y : ℤ). some (whole y)) (et ∙ ap (λ n. getD vs (n + a) (pos 0)) (ep ∙ getD-inside e v 0 (length vs) hv)) ∙ value-is l (R.Attribute v a) nz (sym h ∙ er)
+  attribute-is l v a p r t nz er h hv ep et = ap (λ (y : ℤ). some (whole y)) (et ∙ ap (λ n. getD vs (n + a) (pos 0)) (ep ∙ getD-inside e v 0 (length vs) hv)) ∙ value-is l (T.Attribute v a) nz (sym h ∙ er)
 
--- other records are no condition, and no term
-rest-condition : (f : List ℕ → List ℕ → Condition) (g : List ℕ → List ℕ → Term) (q z : List ℕ) (r : Record) → OneOf (0 ∷ 2 ∷ 8 ∷ 9 ∷ 10 ∷ 11 ∷ 12 ∷ 13 ∷ []) (tagOf (declared enum) r) → conditionBy r f g q z ≡ FALSE
-rest-condition f g q z (R.Range v r) h = refl
-rest-condition f g q z R.True h = absurd (miss (0 ∷ 2 ∷ 8 ∷ 9 ∷ 10 ∷ 11 ∷ 12 ∷ 13 ∷ []) 1 tt h)
-rest-condition f g q z R.False h = refl
-rest-condition f g q z R.Not h = absurd (miss (0 ∷ 2 ∷ 8 ∷ 9 ∷ 10 ∷ 11 ∷ 12 ∷ 13 ∷ []) 3 tt h)
-rest-condition f g q z R.And h = absurd (miss (0 ∷ 2 ∷ 8 ∷ 9 ∷ 10 ∷ 11 ∷ 12 ∷ 13 ∷ []) 4 tt h)
-rest-condition f g q z R.Or h = absurd (miss (0 ∷ 2 ∷ 8 ∷ 9 ∷ 10 ∷ 11 ∷ 12 ∷ 13 ∷ []) 5 tt h)
-rest-condition f g q z (R.Compare o) h = absurd (miss (0 ∷ 2 ∷ 8 ∷ 9 ∷ 10 ∷ 11 ∷ 12 ∷ 13 ∷ []) 6 tt h)
-rest-condition f g q z (R.Some v r) h = absurd (miss (0 ∷ 2 ∷ 8 ∷ 9 ∷ 10 ∷ 11 ∷ 12 ∷ 13 ∷ []) 7 tt h)
-rest-condition f g q z (R.Constant a b c d) h = refl
-rest-condition f g q z (R.Attribute v a) h = refl
-rest-condition f g q z (R.Aggregate k v r a) h = refl
-rest-condition f g q z (R.Permit a b c) h = refl
-rest-condition f g q z R.Unknown h = refl
-rest-condition f g q z R.Short h = refl
-
-rest-term : (f : List ℕ → List ℕ → Condition) (q z : List ℕ) (r : Record) → OneOf (0 ∷ 1 ∷ 2 ∷ 3 ∷ 4 ∷ 5 ∷ 6 ∷ 7 ∷ 11 ∷ 12 ∷ 13 ∷ []) (tagOf (declared enum) r) → termBy r f q z ≡ nothing
-rest-term f q z (R.Range v r) h = refl
-rest-term f q z R.True h = refl
-rest-term f q z R.False h = refl
-rest-term f q z R.Not h = refl
-rest-term f q z R.And h = refl
-rest-term f q z R.Or h = refl
-rest-term f q z (R.Compare o) h = refl
-rest-term f q z (R.Some v r) h = refl
-rest-term f q z (R.Constant a b c d) h = absurd (miss (0 ∷ 1 ∷ 2 ∷ 3 ∷ 4 ∷ 5 ∷ 6 ∷ 7 ∷ 11 ∷ 12 ∷ 13 ∷ []) 8 tt h)
-rest-term f q z (R.Attribute v a) h = absurd (miss (0 ∷ 1 ∷ 2 ∷ 3 ∷ 4 ∷ 5 ∷ 6 ∷ 7 ∷ 11 ∷ 12 ∷ 13 ∷ []) 9 tt h)
-rest-term f q z (R.Aggregate k v r a) h = absurd (miss (0 ∷ 1 ∷ 2 ∷ 3 ∷ 4 ∷ 5 ∷ 6 ∷ 7 ∷ 11 ∷ 12 ∷ 13 ∷ []) 10 tt h)
-rest-term f q z (R.Permit a b c) h = refl
-rest-term f q z R.Unknown h = refl
-rest-term f q z R.Short h = refl
-
-module _ (ws : List ℕ) (vs m : List ℤ) (e q z : List ℕ) (l : ℕ) (r : Record) (nz : l ≡ 0 → ⊥) (er : r ≡ recordAt q) where
-  pub no-condition : OneOf (0 ∷ 2 ∷ 8 ∷ 9 ∷ 10 ∷ 11 ∷ 12 ∷ 13 ∷ []) (tagOf (declared enum) r) → false ≡ holdsAt l q z ws vs m e
-  unfolding holdsWith
-  no-condition h = sym (ap (λ (c : Condition). holdsBy m c (rowsBy ws vs) (assigned vs e)) (rest-condition (λ x y. decode (l - 1) x y) (λ x y. decodeT (l - 1) x y) q z r h)) ∙ holds-is ws vs m e q z l r nz er
-
-  pub no-term : OneOf (0 ∷ 1 ∷ 2 ∷ 3 ∷ 4 ∷ 5 ∷ 6 ∷ 7 ∷ 11 ∷ 12 ∷ 13 ∷ []) (tagOf (declared enum) r) → some (whole (pos 0)) ≡ valueAt l q z ws vs m e
+  pub no-term : (l : ℕ) (r : TermRecord) → (l ≡ 0 → ⊥) → r ≡ termAt q → r ≡ T.Other → some (whole (pos 0)) ≡ valueAt l q z ws vs m e
   unfolding holdsWith signed
-  no-term h = sym (ap (λ (t : Term). valueBy m t (rowsBy ws vs) (assigned vs e)) (rest-term (λ x y. decode (l - 1) x y) q z r h)) ∙ value-is ws vs m e q z l r nz er
+  no-term l r nz er h = value-is l T.Other nz (sym h ∙ er)
 
 -- the places: the variable's own is put back at the end, so a loop keeps what they are with the old one back
 pub places-start : (e : List ℕ) (v old : ℕ) → old ≡ getD e v 0 → set e v old ≡ e

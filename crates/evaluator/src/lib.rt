@@ -1,7 +1,8 @@
 // Conditions and terms evaluated over the bytes of a query. A table of sizes tells where a second child starts, so that
 // AND, OR and SOME are left as soon as their truth is known. The level falls at each call. An aggregate that the memo
 // knows, by its variable, is not evaluated again.
-use kinds::Record;
+use kinds::ConditionRecord;
+use kinds::TermRecord;
 use numbers::Accumulator;
 use numbers::Ratio;
 ghost use mathlib.Core.Path.{_≡_};
@@ -19,14 +20,14 @@ struct Search {
 }
 
 // The place of a variable's row.
-pub fn place(env: &[usize], variable: u8) -> usize
+fn place(env: &[usize], variable: u8) -> usize
     ensures { λ r. ⌜ r ≡ getD (now (env .entry)) variable 0 ⌝ }
 {
     let i = variable as usize;
     if i < env.len() { env[i] } else { 0 }
 }
 
-pub fn set_place(env: &mut [usize], variable: u8, row: usize)
+fn set_place(env: &mut [usize], variable: u8, row: usize)
     ensures { λ _. ⌜ now (env .exit) ≡ set (now (env .entry)) variable row ⌝ }
 {
     let i = variable as usize;
@@ -56,10 +57,10 @@ pub fn condition(
     let a = kinds::record_length(kinds::byte(q, 0));
     let x = kinds::tail(q, a);
     let y = kinds::tail_sizes(z, a);
-    match kinds::read(q) {
-        Record::True => true,
-        Record::Not => !condition(x, y, l, walks, vs, memo, env),
-        Record::And => {
+    match kinds::condition_record(q) {
+        ConditionRecord::True => true,
+        ConditionRecord::Not => !condition(x, y, l, walks, vs, memo, env),
+        ConditionRecord::And => {
             if !condition(x, y, l, walks, vs, memo, env) {
                 return false;
             }
@@ -68,7 +69,7 @@ pub fn condition(
             let v = kinds::tail_sizes(z, b);
             condition(u, v, l, walks, vs, memo, env)
         }
-        Record::Or => {
+        ConditionRecord::Or => {
             if condition(x, y, l, walks, vs, memo, env) {
                 return true;
             }
@@ -77,7 +78,7 @@ pub fn condition(
             let v = kinds::tail_sizes(z, b);
             condition(u, v, l, walks, vs, memo, env)
         }
-        Record::Compare(operator) => {
+        ConditionRecord::Compare(operator) => {
             let left = term(x, y, l, walks, vs, memo, env);
             let b = a + kinds::size_at(z, a);
             let u = kinds::tail(q, b);
@@ -85,8 +86,18 @@ pub fn condition(
             let right = term(u, v, l, walks, vs, memo, env);
             numbers::compared(operator as usize, left, right)
         }
-        Record::Some(variable, _) => some_row(x, y, l, walks, vs, memo, env, variable).found,
-        _ => false,
+        ConditionRecord::Some(variable, _) => some_row(
+            x,
+            y,
+            l,
+            walks,
+            vs,
+            memo,
+            env,
+            variable,
+        ).found,
+        ConditionRecord::False => false,
+        ConditionRecord::Other => false,
     }
 }
 
@@ -111,13 +122,13 @@ pub fn term(
     }
     let l = level - 1;
     let at = kinds::record_length(kinds::byte(q, 0));
-    match kinds::read(q) {
-        Record::Constant(a, b, c, d) => numbers::whole(kinds::constant(a, b, c, d)),
-        Record::Attribute(variable, attribute) => {
+    match kinds::term_record(q) {
+        TermRecord::Constant(a, b, c, d) => numbers::whole(kinds::constant(a, b, c, d)),
+        TermRecord::Attribute(variable, attribute) => {
             let row = place(env, variable);
             numbers::whole(catalogue::value(vs, row, attribute as usize))
         }
-        Record::Aggregate(function, variable, _, attribute) => {
+        TermRecord::Aggregate(function, variable, _, attribute) => {
             if numbers::knows(memo, variable) {
                 return numbers::recall(memo, variable);
             }
@@ -126,7 +137,7 @@ pub fn term(
             let taken = gather(x, y, l, walks, vs, memo, env, variable, attribute);
             numbers::finish(function, taken)
         }
-        _ => numbers::whole(0),
+        TermRecord::Other => numbers::whole(0),
     }
 }
 
@@ -188,7 +199,7 @@ fn gather(
     let walk = walks::walk_of(walks, variable);
     let n = walk.count;
     let old = place(env, variable);
-    let mut taken = numbers::empty();
+    let mut taken = numbers::EMPTY;
     let mut i = 0;
     while i < n {
         let row = walks::place(walks, walk, i);

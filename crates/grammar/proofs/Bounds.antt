@@ -9,6 +9,7 @@ use Rattle.model.specs.Encoding.{Read, fail, ok, readCondition, readTerm}
 use Rattle.kinds.specs.Tables.{conditionsOf, termsOf, recordLength}
 use Rattle.kinds.specs.Record.{recordAt}
 use Rattle.kinds.proofs.Entries.{length-small}
+use Rattle.kinds.specs.Places.{conditionAt, termAt, conditionOf, termOf}
 use Rattle.grammar.specs.declared.Size.{Size}
 use Rattle.grammar.specs.declared.Size.the-variants.{Bytes, Refused}
 use Rattle.grammar.specs.Sizes.{sizeRead, conditionSize, termSize, after, followed, many, isCondition, isTerm, headSize}
@@ -53,17 +54,17 @@ many-within f w (suc c) q n h = go (f q) refl h (λ x m e. many-within f w c x m
 pub head-takes : Takes headSize
 unfolding headSize
 head-takes q n h =
-    cond-inv (isCondition (recordAt q)) _ n h λ t e.
+    cond-inv (isCondition (conditionAt q)) _ n h λ t e.
     after-inv (recordLength (getD q 0 0)) n _ e λ m em l.
     let a = many-within termSize term-within (termsOf (getD q 0 0)) (drop (recordLength (getD q 0 0)) q) m em in
-    let b = whole isCondition refl refl q t in
+    let b = whole (λ x. isCondition (conditionOf x)) refl refl q t in
     let c = length-small (getD q 0 0) in
     let d = length-drop (recordLength (getD q 0 0)) q in
     (omega arith, omega arith)
 
 pub term-takes : Takes termSize
 term-takes q n h =
-    cond-inv (isTerm (recordAt q)) (after (recordLength (getD q 0 0)) (many conditionSize (conditionsOf (getD q 0 0)) (drop (recordLength (getD q 0 0)) q))) n (sym (term-step q) ∙ h) λ t e.
+    cond-inv (isTerm (termAt q)) (after (recordLength (getD q 0 0)) (many conditionSize (conditionsOf (getD q 0 0)) (drop (recordLength (getD q 0 0)) q))) n (sym (term-step q) ∙ h) λ t e.
     after-inv (recordLength (getD q 0 0)) n (many conditionSize (conditionsOf (getD q 0 0)) (drop (recordLength (getD q 0 0)) q)) e λ m em l.
     let c = length-small (getD q 0 0) in
     let d = term-within q n h in

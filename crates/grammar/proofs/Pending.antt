@@ -19,6 +19,7 @@ use Rattle.kinds.specs.declared.Record.{Record}
 use Rattle.kinds.specs.declared.Record.the-variants as R
 use Rattle.kinds.proofs.Entries.{of-none, of-some, length-small}
 use Rattle.kinds.proofs.Records.{short-record}
+use Rattle.kinds.specs.Places.{conditionAt, termAt, conditionOf, termOf}
 use Rattle.grammar.specs.declared.Size.{Size}
 use Rattle.grammar.specs.declared.Size.the-variants.{Bytes, Refused}
 use Rattle.grammar.specs.Sizes.{conditionSize, termSize, after, followed, many, isCondition, isTerm, headSize}
@@ -131,30 +132,30 @@ module _ (test : Record → Bool) (short : test R.Short ≡ false) (unknown : te
   whole (k ∷ r) h = by-kind k r (kindOf k) refl h
 
 -- the head's own record, of what the code finds
-module _ (q : List ℕ) (r : Record) (b : Bool) (er : r ≡ recordAt q) where
-  pub no-head : b ≡ isCondition r → not b ≡ true → Refused ≡ headSize q
+module _ (q : List ℕ) (b : Bool) where
+  pub no-head : b ≡ isCondition (conditionAt q) → not b ≡ true → Refused ≡ headSize q
   unfolding headSize
-  no-head eb h = rw (sym (ap isCondition er) ∙ sym eb ∙ not-true b h)
+  no-head eb h = rw (sym eb ∙ not-true b h)
 
-  pub no-leaf : b ≡ isTerm r → not b ≡ true → Refused ≡ termSize q
-  no-leaf eb h = sym (term-step q ∙ rw (sym (ap isTerm er) ∙ sym eb ∙ not-true b h))
+  pub no-leaf : b ≡ isTerm (termAt q) → not b ≡ true → Refused ≡ termSize q
+  no-leaf eb h = sym (term-step q ∙ rw (sym eb ∙ not-true b h))
 
   module _ (k a : ℕ) (ek : k ≡ getD q 0 0) (ea : a ≡ recordLength k) (h : not b ≡ false) where
-    pub head-whole : b ≡ isCondition r → (1 ≤ a) × (a ≤ length q)
+    pub head-whole : b ≡ isCondition (conditionAt q) → (1 ≤ a) × (a ≤ length q)
     head-whole eb =
         let l = length-small k in
         let e : a ≡ recordLength (getD q 0 0) = ea ∙ ap recordLength ek in
-        (omega arith, omega (arith, whole isCondition refl refl q (ap isCondition (sym er) ∙ sym eb ∙ not-false b h)))
+        (omega arith, omega (arith, whole (λ x. isCondition (conditionOf x)) refl refl q (sym eb ∙ not-false b h)))
 
-    pub head-is : b ≡ isCondition r → (l : ℕ) → l ≡ termsOf k → after a (many termSize l (drop a q)) ≡ headSize q
+    pub head-is : b ≡ isCondition (conditionAt q) → (l : ℕ) → l ≡ termsOf k → after a (many termSize l (drop a q)) ≡ headSize q
     unfolding headSize
-    head-is eb l el = rw (sym (ap isCondition er) ∙ sym eb ∙ not-false b h, el, ea, ek)
+    head-is eb l el = rw (sym eb ∙ not-false b h, el, ea, ek)
 
-    pub leaf-whole : b ≡ isTerm r → (1 ≤ a) × (a ≤ length q)
+    pub leaf-whole : b ≡ isTerm (termAt q) → (1 ≤ a) × (a ≤ length q)
     leaf-whole eb =
         let l = length-small k in
         let e : a ≡ recordLength (getD q 0 0) = ea ∙ ap recordLength ek in
-        (omega arith, omega (arith, whole isTerm refl refl q (ap isTerm (sym er) ∙ sym eb ∙ not-false b h)))
+        (omega arith, omega (arith, whole (λ x. isTerm (termOf x)) refl refl q (sym eb ∙ not-false b h)))
 
-    pub leaf-is : b ≡ isTerm r → (c : ℕ) (x : List ℕ) (s : Size) → c ≡ conditionsOf k → x ≡ drop a q → s ≡ many conditionSize c x → after a s ≡ termSize q
-    leaf-is eb c x s ec ex es = sym (term-step q ∙ rw (sym (ap isTerm er) ∙ sym eb ∙ not-false b h, es, ec, ex, ea, ek))
+    pub leaf-is : b ≡ isTerm (termAt q) → (c : ℕ) (x : List ℕ) (s : Size) → c ≡ conditionsOf k → x ≡ drop a q → s ≡ many conditionSize c x → after a s ≡ termSize q
+    leaf-is eb c x s ec ex es = sym (term-step q ∙ rw (sym eb ∙ not-false b h, es, ec, ex, ea, ek))

@@ -17,6 +17,7 @@ use Rattle.kinds.specs.Record.{recordAt, within}
 use Rattle.kinds.specs.declared.Record.{Record}
 use Rattle.kinds.specs.declared.Record.the-variants as R
 use Rattle.kinds.proofs.Entries.{of-none, of-some}
+use Rattle.kinds.specs.Places.{conditionAt, termAt, conditionOf, termOf}
 use Rattle.grammar.specs.declared.Size.{Size}
 use Rattle.grammar.specs.declared.Size.the-variants.{Bytes, Refused}
 use Rattle.grammar.specs.Sizes.{conditionSize, termSize, after, followed, many, isCondition, isTerm, headSize}
@@ -50,11 +51,11 @@ unfolding recordAt
 unknown-at k r e = of-none R.Unknown (λ y. within y r) k e
 
 -- a record that is no condition, or no term, whether it is whole or cut short
-no-condition : (b : Bool) (y : Record) (s : Size) → isCondition y ≡ false → cond (isCondition (cond b y R.Short)) s Refused ≡ Refused
+no-condition : (b : Bool) (y : Record) (s : Size) → isCondition (conditionOf y) ≡ false → cond (isCondition (conditionOf (cond b y R.Short))) s Refused ≡ Refused
 no-condition true y s h = rw h
 no-condition false y s h = refl
 
-no-term : (b : Bool) (y : Record) (s : Size) → isTerm y ≡ false → cond (isTerm (cond b y R.Short)) s Refused ≡ Refused
+no-term : (b : Bool) (y : Record) (s : Size) → isTerm (termOf y) ≡ false → cond (isTerm (termOf (cond b y R.Short))) s Refused ≡ Refused
 no-term true y s h = rw h
 no-term false y s h = refl
 
@@ -93,7 +94,7 @@ module _ (f k : ℕ) where
 
   condition-by : (x : Kind) (r : List ℕ) → length r ≤ f
       → sized size (conditionBody (λ y. readCondition f y) (λ y. readTerm f y) x r)
-      ≡ followed (cond (isCondition (within x r)) (after (suc (bodyLength x)) (many termSize (childTerms x) (drop (bodyLength x) r))) Refused) (λ n. many conditionSize (childConditions x) (drop n (k ∷ r)))
+      ≡ followed (cond (isCondition (conditionOf (within x r))) (after (suc (bodyLength x)) (many termSize (childTerms x) (drop (bodyLength x) r))) Refused) (λ n. many conditionSize (childConditions x) (drop n (k ∷ r)))
   unfolding conditionBody many size
   condition-by k-true r h = rw (le-leb 0 (length r) (omega arith))
   condition-by k-false r h = rw (le-leb 0 (length r) (omega arith))
@@ -119,7 +120,7 @@ module _ (f k : ℕ) where
 module _ (f : ℕ) where
   term-by : (x : Kind) (r : List ℕ) → length r ≤ f
       → sized sizeT (termBody (λ y. readCondition f y) (λ y. readTerm f y) x r)
-      ≡ cond (isTerm (within x r)) (after (suc (bodyLength x)) (many conditionSize (childConditions x) (drop (bodyLength x) r))) Refused
+      ≡ cond (isTerm (termOf (within x r))) (after (suc (bodyLength x)) (many conditionSize (childConditions x) (drop (bodyLength x) r))) Refused
   unfolding termBody many size
   term-by k-constant [] h = refl
   term-by k-constant (a ∷ []) h = refl
@@ -160,13 +161,13 @@ condition-step (k ∷ r) = condition-sized (suc (suc (length r))) (k ∷ r) (ome
     go none e = rw (unknown-at k r e)
     go (some x) e = rw (record-at k r x e, length-at k r x e, terms-at k r x e, conditions-at k r x e) (condition-by (suc (length r)) k x r (omega arith))
 
-pub term-step : (q : List ℕ) → termSize q ≡ cond (isTerm (recordAt q)) (after (recordLength (getD q 0 0)) (many conditionSize (conditionsOf (getD q 0 0)) (drop (recordLength (getD q 0 0)) q))) Refused
+pub term-step : (q : List ℕ) → termSize q ≡ cond (isTerm (termAt q)) (after (recordLength (getD q 0 0)) (many conditionSize (conditionsOf (getD q 0 0)) (drop (recordLength (getD q 0 0)) q))) Refused
 unfolding termSize readCondition onKind recordAt
 term-step [] = refl
 term-step (k ∷ r) = term-sized (suc (suc (length r))) (k ∷ r) (omega arith) ∙ go (kindOf k) refl
   where
     go : (o : Option Kind) → kindOf k ≡ o
         → sized sizeT (elim o as (λ _. Read Term) [ none ↦ fail | some x ↦ termBody (λ y. readCondition (suc (length r)) y) (λ y. readTerm (suc (length r)) y) x r ])
-        ≡ cond (isTerm (recordAt (k ∷ r))) (after (recordLength k) (many conditionSize (conditionsOf k) (drop (recordLength k) (k ∷ r)))) Refused
+        ≡ cond (isTerm (termAt (k ∷ r))) (after (recordLength k) (many conditionSize (conditionsOf k) (drop (recordLength k) (k ∷ r)))) Refused
     go none e = rw (unknown-at k r e)
     go (some x) e = rw (record-at k r x e, length-at k r x e, conditions-at k r x e) (term-by (suc (length r)) x r (omega arith))

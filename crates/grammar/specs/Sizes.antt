@@ -6,9 +6,11 @@ use lib.ListN.{length, getD, drop}
 use Rattle.model.specs.Syntax.{isOperator, isFunction}
 use Rattle.model.specs.Encoding.{Read, fail, ok, readCondition, readTerm, readPermit}
 use Rattle.kinds.specs.Tables.{termsOf, recordLength}
-use Rattle.kinds.specs.Record.{recordAt}
-use Rattle.kinds.specs.declared.Record.{Record}
-use Rattle.kinds.specs.declared.Record.the-variants as R
+use Rattle.kinds.specs.Places.{conditionAt}
+use Rattle.kinds.specs.declared.ConditionRecord.{ConditionRecord}
+use Rattle.kinds.specs.declared.ConditionRecord.the-variants as C
+use Rattle.kinds.specs.declared.TermRecord.{TermRecord}
+use Rattle.kinds.specs.declared.TermRecord.the-variants as T
 use Rattle.grammar.specs.declared.Size.{Size}
 use Rattle.grammar.specs.declared.Size.the-variants.{Bytes, Refused}
 
@@ -43,40 +45,24 @@ many f zero q = Bytes 0
 many f (suc n) q = followed (f q) (λ m. many f n (drop m q))
 
 -- a record that can stand for a condition, its operator known
-abbrev pub isCondition : Record → Bool
-isCondition R.True = true
-isCondition R.False = true
-isCondition R.Not = true
-isCondition R.And = true
-isCondition R.Or = true
-isCondition (R.Compare o) = isOperator o
-isCondition (R.Some v r) = true
-isCondition (R.Range v r) = false
-isCondition (R.Constant a b c d) = false
-isCondition (R.Attribute v a) = false
-isCondition (R.Aggregate f v r a) = false
-isCondition (R.Permit a b c) = false
-isCondition R.Unknown = false
-isCondition R.Short = false
+abbrev pub isCondition : ConditionRecord → Bool
+isCondition C.True = true
+isCondition C.False = true
+isCondition C.Not = true
+isCondition C.And = true
+isCondition C.Or = true
+isCondition (C.Compare o) = isOperator o
+isCondition (C.Some v r) = true
+isCondition C.Other = false
 
 -- a record that can stand for a term, its function known
-abbrev pub isTerm : Record → Bool
-isTerm (R.Constant a b c d) = true
-isTerm (R.Attribute v a) = true
-isTerm (R.Aggregate f v r a) = isFunction f
-isTerm R.True = false
-isTerm R.False = false
-isTerm R.Not = false
-isTerm R.And = false
-isTerm R.Or = false
-isTerm (R.Compare o) = false
-isTerm (R.Some v r) = false
-isTerm (R.Range v r) = false
-isTerm (R.Permit a b c) = false
-isTerm R.Unknown = false
-isTerm R.Short = false
+abbrev pub isTerm : TermRecord → Bool
+isTerm (T.Constant a b c d) = true
+isTerm (T.Attribute v a) = true
+isTerm (T.Aggregate f v r a) = isFunction f
+isTerm T.Other = false
 
 -- the first record of a condition with the terms that are its children: what stands before the conditions that are
 unfoldable pub headSize : List ℕ → Size
 headSize q =
-    cond (isCondition (recordAt q)) (after (recordLength (getD q 0 0)) (many termSize (termsOf (getD q 0 0)) (drop (recordLength (getD q 0 0)) q))) Refused
+    cond (isCondition (conditionAt q)) (after (recordLength (getD q 0 0)) (many termSize (termsOf (getD q 0 0)) (drop (recordLength (getD q 0 0)) q))) Refused

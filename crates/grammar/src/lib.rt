@@ -1,6 +1,8 @@
 // Well-formedness of whole queries and permit lists, nested as deep as the bytes allow. Conditions that are still to be read are counted, so that only
 // an aggregate takes a level of the stack: 240 bytes for each 7 of the input.
+use kinds::ConditionRecord;
 use kinds::Record;
+use kinds::TermRecord;
 ghost use mathlib.Core.Path.{_≡_};
 ghost use Prim.Native.Nat.{_≤_};
 ghost use mathlib.Core.Bool.{cond, not};
@@ -15,28 +17,28 @@ pub enum Size {
     Refused,
 }
 
-fn is_condition(r: Record) -> bool
+fn is_condition(r: ConditionRecord) -> bool
     ensures { λ x. ⌜ x ≡ isCondition r ⌝ }
 {
     match r {
-        Record::True
-        | Record::False
-        | Record::Not
-        | Record::And
-        | Record::Or
-        | Record::Some(_, _) => true,
-        Record::Compare(o) => kinds::is_operator(o),
-        _ => false,
+        ConditionRecord::True
+        | ConditionRecord::False
+        | ConditionRecord::Not
+        | ConditionRecord::And
+        | ConditionRecord::Or
+        | ConditionRecord::Some(_, _) => true,
+        ConditionRecord::Compare(o) => kinds::is_code(false, o),
+        ConditionRecord::Other => false,
     }
 }
 
-fn is_term(r: Record) -> bool
+fn is_term(r: TermRecord) -> bool
     ensures { λ x. ⌜ x ≡ isTerm r ⌝ }
 {
     match r {
-        Record::Constant(_, _, _, _) | Record::Attribute(_, _) => true,
-        Record::Aggregate(f, _, _, _) => kinds::is_function(f),
-        _ => false,
+        TermRecord::Constant(_, _, _, _) | TermRecord::Attribute(_, _) => true,
+        TermRecord::Aggregate(f, _, _, _) => kinds::is_code(true, f),
+        TermRecord::Other => false,
     }
 }
 
@@ -50,7 +52,7 @@ fn wide(x: u8) -> usize
 fn children(kind: u8) -> usize
     ensures { λ r. ⌜ (r ≡ conditionsOf kind) × (r ≤ 2) ⌝ }
 {
-    wide(kinds::child_conditions(kind))
+    wide(kinds::child_counts(kind).conditions)
 }
 
 // n conditions, one after the other.
@@ -74,12 +76,12 @@ fn conditions(q: &[u8], n: u8) -> Size
 fn head(q: &[u8]) -> Size
     ensures { λ r. ⌜ r ≡ headSize (now (q .entry)) ⌝ }
 {
-    if !is_condition(kinds::read(q)) {
+    if !is_condition(kinds::condition_record(q)) {
         return Size::Refused;
     }
     let k = kinds::byte(q, 0);
     let mut at = kinds::record_length(k);
-    let mut left = kinds::child_terms(k);
+    let mut left = kinds::child_counts(k).terms;
     while 0 < left {
         let Size::Bytes(n) = term(kinds::tail(q, at)) else {
             return Size::Refused;
@@ -94,12 +96,12 @@ fn head(q: &[u8]) -> Size
 fn term(q: &[u8]) -> Size
     ensures { λ r. ⌜ r ≡ termSize (now (q .entry)) ⌝ }
 {
-    if !is_term(kinds::read(q)) {
+    if !is_term(kinds::term_record(q)) {
         return Size::Refused;
     }
     let k = kinds::byte(q, 0);
     let a = kinds::record_length(k);
-    let Size::Bytes(n) = conditions(kinds::tail(q, a), kinds::child_conditions(k)) else {
+    let Size::Bytes(n) = conditions(kinds::tail(q, a), kinds::child_counts(k).conditions) else {
         return Size::Refused;
     };
     Size::Bytes(a + n)

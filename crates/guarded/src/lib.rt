@@ -13,7 +13,7 @@ ghost use Rattle.model.specs.Encoding.{queryOf};
 ghost use Rattle.model.specs.Meaning.{answers};
 ghost use Rattle.model.specs.Calls.{give, ask};
 ghost use Rattle.model.specs.Lists.{all};
-ghost use Rattle.scans.specs.Flat.{flatBindings};
+ghost use Rattle.scans.specs.Flat.{boundBy, flatBindings};
 ghost use Rattle.plain.specs.Reply.{answerOf, Answerable};
 ghost use Rattle.permitted.specs.Given.{tiny};
 ghost use Rattle.guarded.specs.Outcome.{outcomeOf, givenRows, Bound, Checks32};
@@ -100,6 +100,30 @@ fn answer_few(
     plain::answer_query(query, z, layout, LEVELS, &walks, values, answer)
 }
 
+fn fits(catalogue: &[u8], b: scans::Bound) -> bool
+    ensures { λ r. ⌜ r ≡ all (tiny (now (catalogue .entry))) (boundBy b) ⌝ }
+{
+    let scans::Bound::To(_, relation) = b else {
+        return true;
+    };
+    let known = catalogue::entry(catalogue, relation);
+    known.rows <= 16
+}
+
+// Whether each bound relation has at most 16 rows.
+fn few(query: &[u8], catalogue: &[u8]) -> bool
+    ensures { λ r. ⌜ r ≡ all (tiny (now (catalogue .entry))) (flatBindings (now (query .entry))) ⌝ }
+{
+    let mut at = 0;
+    while at < query.len() {
+        if !fits(catalogue, scans::binding(query, at)) {
+            return false;
+        }
+        at += scans::step(query, at);
+    }
+    true
+}
+
 fn answer_permitted(
     query: &[u8],
     z: &[u16],
@@ -116,7 +140,7 @@ fn answer_permitted(
         (answers (queryOf (now (query .entry))) (givenRows (now (catalogue .entry)) (now (values .entry)) (now (list .entry))
         (now (places .entry)) (now (masks .entry)))) (now (answer .entry)) ⌝ }
 {
-    if permitted::few(query, catalogue) {
+    if few(query, catalogue) {
         return answer_few(
             query,
             z,

@@ -120,7 +120,8 @@ fn put_mask(masks: &mut [u8], variable: u8, x: u8)
 fn mask_for(query: &[u8], list: &[u8], catalogue: &[u8], variable: u8, relation: u8) -> u8
     ensures { λ r. ⌜ r ≡ maskFor (now (query .entry)) (now (list .entry)) (now (catalogue .entry)) (record { variable = variable; relation = relation }) ⌝ }
 {
-    if !catalogue::stored(catalogue, relation) {
+    let known = catalogue::entry(catalogue, relation);
+    if !known.stored {
         return 0;
     }
     let found = standing(list, PERMITS, relation, uses::used_mask(query, variable));
@@ -179,7 +180,8 @@ fn served(catalogue: &[u8], relation: u8, mask: u8) -> bool
     if mask != 0 {
         return true;
     }
-    !catalogue::stored(catalogue, relation)
+    let known = catalogue::entry(catalogue, relation);
+    !known.stored
 }
 
 // Enters what a record binds into the table.

@@ -1,5 +1,5 @@
 // S of a variable, the attributes that a query uses of it, by a flat walk.
-use kinds::Record;
+use kinds::TermRecord;
 ghost use mathlib.Core.Path.{_≡_};
 ghost use mathlib.Core.Bool.{false, _||_};
 ghost use Prim.Native.Nat.{ℕ, _<_};
@@ -33,10 +33,10 @@ fn usage(q: &[u8], at: usize) -> Used
     if !may_use(kinds::byte(q, at)) {
         return Used::Nothing;
     }
-    match kinds::read(kinds::tail(q, at)) {
-        Record::Attribute(v, a) => Used::Of(v, a),
-        Record::Aggregate(_, v, _, a) => Used::Of(v, a),
-        _ => Used::Nothing,
+    match kinds::term_record(kinds::tail(q, at)) {
+        TermRecord::Attribute(v, a) => Used::Of(v, a),
+        TermRecord::Aggregate(_, v, _, a) => Used::Of(v, a),
+        TermRecord::Constant(_, _, _, _) | TermRecord::Other => Used::Nothing,
     }
 }
 

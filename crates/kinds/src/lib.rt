@@ -1,6 +1,7 @@
 // Records: one byte of kind, then a body whose length the kind fixes. Getters that are total, so that their callers need no bounds.
 ghost use mathlib.Core.Path.{_≡_};
 ghost use Prim.Native.Nat.{_%_, _≤_};
+ghost use mathlib.Core.Bool.{cond};
 ghost use lib.Dec.{ltb};
 ghost use lib.ListN.{getD, drop};
 ghost use lib.IntN.{natAbs};
@@ -8,6 +9,7 @@ ghost use Rattle.model.specs.Syntax.{isOperator, isFunction};
 ghost use Rattle.model.specs.Meaning.{signed};
 ghost use Rattle.kinds.specs.Tables.{byteIn, bodyOf, conditionsOf, termsOf, recordLength};
 ghost use Rattle.kinds.specs.Record.{recordAt};
+ghost use Rattle.kinds.specs.Places.{conditionAt, termAt};
 
 // Tables by kind: a word for each sixteen kinds that have any, of which only the first eight are in use, and in it a byte for each kind, the first
 // one lowest. Words and no array: the compiler writes an array to the stack wherever it is read.
@@ -57,7 +59,7 @@ fn body_length(kind: u8) -> u8
     }
 }
 
-pub fn child_conditions(kind: u8) -> u8
+fn child_conditions(kind: u8) -> u8
     ensures { λ r. ⌜ r ≡ conditionsOf kind ⌝ }
 {
     if 8 <= kind % 16 {
@@ -71,7 +73,7 @@ pub fn child_conditions(kind: u8) -> u8
     }
 }
 
-pub fn child_terms(kind: u8) -> u8
+fn child_terms(kind: u8) -> u8
     ensures { λ r. ⌜ r ≡ termsOf kind ⌝ }
 {
     if 8 <= kind % 16 {
@@ -81,6 +83,20 @@ pub fn child_terms(kind: u8) -> u8
         1 => entry(TERMS_16, kind),
         _ => 0,
     }
+}
+
+// How many conditions and how many terms follow a record of the kind as its children.
+pub struct ChildCounts {
+    pub conditions: u8,
+    pub terms: u8,
+}
+
+pub fn child_counts(kind: u8) -> ChildCounts
+    ensures { λ r. ⌜ (r .conditions ≡ conditionsOf kind) × (r .terms ≡ termsOf kind) ⌝ }
+{
+    let conditions = child_conditions(kind);
+    let terms = child_terms(kind);
+    ChildCounts { conditions, terms }
 }
 
 fn wide(x: u8) -> usize
@@ -133,19 +149,30 @@ pub fn size_at(z: &[u16], i: usize) -> usize
     if i < z.len() { wide_size(z[i]) } else { 0 }
 }
 
-pub fn is_operator(o: u8) -> bool
+fn is_operator(o: u8) -> bool
     ensures { λ r. ⌜ r ≡ isOperator o ⌝ }
 {
     if 1 <= o { o <= 6 } else { false }
 }
 
-pub fn is_function(f: u8) -> bool
+fn is_function(f: u8) -> bool
     ensures { λ r. ⌜ r ≡ isFunction f ⌝ }
 {
     if 1 <= f { f <= 5 } else { false }
 }
 
-// A record with the bytes of its body. Short: the bytes end before it does.
+// Whether a comparison's record knows the operator, or an aggregate's the function.
+pub fn is_code(aggregate: bool, code: u8) -> bool
+    ensures { λ r. ⌜ r ≡ cond aggregate (isFunction code) (isOperator code) ⌝ }
+{
+    if aggregate {
+        is_function(code)
+    } else {
+        is_operator(code)
+    }
+}
+
+// Any record, with the bytes of its body: what a walk from record to record meets, and what is written. Short: the bytes end before it does.
 pub enum Record {
     // variable, relation
     Range(u8, u8),
@@ -181,7 +208,7 @@ fn cut(length: usize, kind: u8) -> bool
     }
 }
 
-// The record that q starts with.
+// The record that q starts with, for flat walks and where one kind alone may stand (RANGE, PERMIT).
 pub fn read(q: &[u8]) -> Record
     ensures { λ r. ⌜ r ≡ recordAt (now (q .entry)) ⌝ }
 {
@@ -206,6 +233,57 @@ pub fn read(q: &[u8]) -> Record
         34 => Record::Aggregate(q[1], q[2], q[3], q[4]),
         64 => Record::Permit(q[1], q[2], q[3]),
         _ => Record::Unknown,
+    }
+}
+
+// A record where a condition stands. Other: one of another place, or none, or the bytes end before it does.
+pub enum ConditionRecord {
+    True,
+    False,
+    Not,
+    And,
+    Or,
+    // operator
+    Compare(u8),
+    // variable, relation
+    Some(u8, u8),
+    Other,
+}
+
+pub fn condition_record(q: &[u8]) -> ConditionRecord
+    ensures { λ r. ⌜ r ≡ conditionAt (now (q .entry)) ⌝ }
+{
+    match read(q) {
+        Record::True => ConditionRecord::True,
+        Record::False => ConditionRecord::False,
+        Record::Not => ConditionRecord::Not,
+        Record::And => ConditionRecord::And,
+        Record::Or => ConditionRecord::Or,
+        Record::Compare(o) => ConditionRecord::Compare(o),
+        Record::Some(v, r) => ConditionRecord::Some(v, r),
+        _ => ConditionRecord::Other,
+    }
+}
+
+// A record where a term stands.
+pub enum TermRecord {
+    // four bytes, low first
+    Constant(u8, u8, u8, u8),
+    // variable, attribute
+    Attribute(u8, u8),
+    // function, variable, relation, attribute
+    Aggregate(u8, u8, u8, u8),
+    Other,
+}
+
+pub fn term_record(q: &[u8]) -> TermRecord
+    ensures { λ r. ⌜ r ≡ termAt (now (q .entry)) ⌝ }
+{
+    match read(q) {
+        Record::Constant(a, b, c, d) => TermRecord::Constant(a, b, c, d),
+        Record::Attribute(v, a) => TermRecord::Attribute(v, a),
+        Record::Aggregate(f, v, r, a) => TermRecord::Aggregate(f, v, r, a),
+        _ => TermRecord::Other,
     }
 }
 

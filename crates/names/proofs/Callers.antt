@@ -2,17 +2,13 @@
 use mathlib.Core.Path.{_≡_, refl, sym, ap, ap₂, _∙_}
 use mathlib.Core.Bool.{true, false, not}
 use mathlib.Core.List.{List, [], _∷_}
-use mathlib.Core.Option.{Option, none, some}
 use Prim.Native.Nat.{ℕ, zero, suc}
-use native.Mathlib.Omega.{arith}
 use Rattle.model.proofs.Tests.{clash}
 use Rattle.quel.specs.Results.{Read, fail, ok}
-use Rattle.quel.specs.Names.{Entry, Bytes, entry, entriesFrom, listedOnce, names}
+use Rattle.quel.specs.Names.{Entry, entry, entriesFrom, listedOnce, names}
 use Rattle.quel.proofs.Results.{never, ok-left, then-inv, need-inv}
 use Rattle.names.specs.Entries.{entries}
-use Rattle.names.specs.Answers.{failed, found, valued}
-use Rattle.names.specs.declared.Found.the-variants.{At, Nothing}
-use Rattle.names.specs.declared.Value.the-variants as W
+use Rattle.names.specs.Answers.{failed}
 use Rattle.names.proofs.Reading.{passes, entries-are}
 
 nothing-left : (n : ℕ) (x : List ℕ) (es : List Entry) (s : List ℕ) → entriesFrom n x ≡ ok es s → s ≡ []
@@ -42,25 +38,3 @@ bad-list x h = go (names x) h
     go : (g : Read (List ℕ) (List Entry)) → false ≡ not (failed g) → g ≡ fail
     go fail h = refl
     go (ok es s) h = clash h
-
--- answers
-pub found-at : (a : ℕ) (o : Option ℕ) → At a ≡ found o → o ≡ some a
-found-at a none h = let z : _≡_ {A = ℕ} 0 1 = cc in absurd (omega arith)
-found-at a (some b) h = let e : a ≡ b = cc in ap some (sym e)
-
-pub found-nothing : (o : Option ℕ) → Nothing ≡ found o → o ≡ none
-found-nothing none h = refl
-found-nothing (some b) h = let z : _≡_ {A = ℕ} 0 1 = cc in absurd (omega arith)
-
-pub valued-of : (a b c d : ℕ) (o : Option Bytes) → W.Of a b c d ≡ valued o → o ≡ some (record { b0 = a; b1 = b; b2 = c; b3 = d })
-valued-of a b c d none h = let z : _≡_ {A = ℕ} 0 1 = cc in absurd (omega arith)
-valued-of a b c d (some v) h =
-    let e : a ≡ v .b0 = cc in
-    let f : b ≡ v .b1 = cc in
-    let g : c ≡ v .b2 = cc in
-    let i : d ≡ v .b3 = cc in
-    rw (e, f, g, i)
-
-pub valued-nothing : (o : Option Bytes) → W.Nothing ≡ valued o → o ≡ none
-valued-nothing none h = refl
-valued-nothing (some v) h = let z : _≡_ {A = ℕ} 0 1 = cc in absurd (omega arith)

@@ -14,8 +14,7 @@ use Rattle.quel.specs.Names.{Entry, Bytes, relationNamed, attributeNamed, value
 use Rattle.names.specs.Entries.{placeOf, widthOf, nameAt, entryAt, entriesAfter, entries}
 use Rattle.names.specs.Search.{isNamed, seekAfter, seek}
 use Rattle.names.specs.Answers.{found, valued}
-use Rattle.names.specs.declared.Found.the-variants.{At, Nothing}
-use Rattle.names.specs.declared.Value.the-variants as W
+use Rattle.names.specs.declared.Found.the-variants.{Of, Nothing}
 
 -- a kind is one of the three, or none of them
 pub by-kind : {X : Type 0} (k : ℕ)
@@ -122,24 +121,24 @@ module _ (x : List ℕ) (w : Word) (q at : ℕ) where
   unfolding relationNamed
   relation-none e h = sym (ap found (found-none (λ es. relationNamed es w) (isNamed 80 q w) (λ y. getD y 1 0) refl (λ y es. relation-one w q y es) x at e h))
 
-  pub relation-some : (a : ℕ) → drop at x ≡ seek (isNamed 80 q w) x → at < length x → a ≡ getD x (at + 1) 0 → At a ≡ found (relationNamed (entries x) w)
+  pub relation-some : (a : ℕ) → drop at x ≡ seek (isNamed 80 q w) x → at < length x → a ≡ getD x (at + 1) 0 → Of a 0 0 0 ≡ found (relationNamed (entries x) w)
   unfolding relationNamed
-  relation-some a e h ea = ap At (ea ∙ sym (getD-drop at x 1 0)) ∙ sym (ap found (found-some (λ es. relationNamed es w) (isNamed 80 q w) (λ y. getD y 1 0) refl (λ y es. relation-one w q y es) x at e h))
+  relation-some a e h ea = ap (λ (n : ℕ). Of n 0 0 0) (ea ∙ sym (getD-drop at x 1 0)) ∙ sym (ap found (found-some (λ es. relationNamed es w) (isNamed 80 q w) (λ y. getD y 1 0) refl (λ y es. relation-one w q y es) x at e h))
 
   pub attribute-none : drop at x ≡ seek (isNamed 81 q w) x → length x ≤ at → Nothing ≡ found (attributeNamed (entries x) q w)
   unfolding attributeNamed
   attribute-none e h = sym (ap found (found-none (λ es. attributeNamed es q w) (isNamed 81 q w) (λ y. getD y 2 0) refl (λ y es. attribute-one w q y es) x at e h))
 
-  pub attribute-some : (a : ℕ) → drop at x ≡ seek (isNamed 81 q w) x → at < length x → a ≡ getD x (at + 2) 0 → At a ≡ found (attributeNamed (entries x) q w)
+  pub attribute-some : (a : ℕ) → drop at x ≡ seek (isNamed 81 q w) x → at < length x → a ≡ getD x (at + 2) 0 → Of a 0 0 0 ≡ found (attributeNamed (entries x) q w)
   unfolding attributeNamed
-  attribute-some a e h ea = ap At (ea ∙ sym (getD-drop at x 2 0)) ∙ sym (ap found (found-some (λ es. attributeNamed es q w) (isNamed 81 q w) (λ y. getD y 2 0) refl (λ y es. attribute-one w q y es) x at e h))
+  attribute-some a e h ea = ap (λ (n : ℕ). Of n 0 0 0) (ea ∙ sym (getD-drop at x 2 0)) ∙ sym (ap found (found-some (λ es. attributeNamed es q w) (isNamed 81 q w) (λ y. getD y 2 0) refl (λ y es. attribute-one w q y es) x at e h))
 
-  pub value-none : drop at x ≡ seek (isNamed 82 q w) x → length x ≤ at → W.Nothing ≡ valued (valueNamed (entries x) w)
+  pub value-none : drop at x ≡ seek (isNamed 82 q w) x → length x ≤ at → Nothing ≡ valued (valueNamed (entries x) w)
   unfolding valueNamed
   value-none e h = sym (ap valued (found-none (λ es. valueNamed es w) (isNamed 82 q w) bytesAt refl (λ y es. value-one w q y es) x at e h))
 
   pub value-some : (a b c d : ℕ) → drop at x ≡ seek (isNamed 82 q w) x → at < length x → a ≡ getD x (at + 1) 0 → b ≡ getD x (at + 2) 0 → c ≡ getD x (at + 3) 0 → d ≡ getD x (at + 4) 0
-      → W.Of a b c d ≡ valued (valueNamed (entries x) w)
+      → Of a b c d ≡ valued (valueNamed (entries x) w)
   unfolding valueNamed
   value-some a b c d e h ea eb ec ed =
       rw (ea, eb, ec, ed, sym (getD-drop at x 1 0), sym (getD-drop at x 2 0), sym (getD-drop at x 3 0), sym (getD-drop at x 4 0))

@@ -14,55 +14,16 @@ use Rattle.quel.specs.Results.{Word, sameWord}
 use Rattle.quel.specs.Tokens.{isLetter, run, reserved, isReserved}
 use Rattle.quel.specs.Names.{isPadded}
 use Rattle.tokens.specs.Spans.{capped}
-use Rattle.tokens.specs.Kinds.{codeOf, kindSpelled}
+use Rattle.tokens.specs.Kinds.{codeOf, isName}
 use Rattle.tokens.specs.Codes.{Spelt}
 use Rattle.tokens.proofs.Places.{run-all, run-length}
 use Rattle.tokens.proofs.Values.{capped-low}
-use Rattle.tokens.proofs.Words.{same-number, reserved-kind}
+use Rattle.tokens.proofs.Words.{same-number}
 use Rattle.tokens.proofs.Codes.{code-small}
 use Rattle.names.specs.Entries.{nameAt}
 use Rattle.names.specs.Search.{goodCode}
 
--- spaces to the twelfth byte
-module _ (x : List ℕ) (at : ℕ) (room : at + 12 ≤ length x) where
-  abbrev twelve : List ℕ
-  twelve = take 12 (drop at x)
-
-  twelve-length : length twelve ≡ 12
-  twelve-length = length-take-le 12 (drop at x) (omega (arith, length-drop at x))
-
-  module _ (p : ℕ → Bool) (i b : ℕ) (s : Bool) (h : i < 12) (eb : b ≡ getD x (at + i) 0) (e : all p (drop i twelve) ≡ s) where
-    twelve-at : drop i twelve ≡ b ∷ drop (i + 1) twelve
-    twelve-at =
-        let l : i < length twelve = omega (arith, twelve-length) in
-        drop-cons twelve i 0 l
-        ∙ ap₂ (λ (c n : ℕ). c ∷ drop n twelve) (getD-take 12 (drop at x) i 0 h ∙ getD-drop at x i 0 ∙ sym eb) (sym (add-one i))
-
-    pub spaces-on : p b ≡ true → all p (drop (i + 1) twelve) ≡ s
-    unfolding all
-    spaces-on hp = sym (ap (λ (t : Bool). t && all p (drop (i + 1) twelve)) hp) ∙ sym (ap (all p) twelve-at) ∙ e
-
-    pub spaces-stop : p b ≡ false → false ≡ s
-    unfolding all
-    spaces-stop hp = sym (ap (λ (t : Bool). t && all p (drop (i + 1) twelve)) hp) ∙ sym (ap (all p) twelve-at) ∙ e
-
-  no-more : (p : ℕ → Bool) (i : ℕ) → 12 ≤ i → true ≡ all p (drop i twelve)
-  unfolding all
-  no-more p i h = let l : length twelve ≤ i = omega (arith, twelve-length) in sym (ap (all p) (drop-of-length-le twelve l))
-
-  -- from the nth on
-  module _ (p : ℕ → Bool) (n : ℕ) where
-    pub spaces-first : (i : ℕ) → i ≡ n → all p (drop i twelve) ≡ all p (drop n twelve)
-    spaces-first i e = ap (λ (m : ℕ). all p (drop m twelve)) e
-
-    pub spaces-end : (i : ℕ) → 12 ≤ i → (n ≤ i → all p (drop i twelve) ≡ all p (drop n twelve)) → true ≡ all p (drop n twelve)
-    spaces-end i h e = go (leb n i) refl
-      where
-        go : (t : Bool) → leb n i ≡ t → true ≡ all p (drop n twelve)
-        go true f = no-more p i h ∙ e (leb-true n i f)
-        go false f = no-more p n (omega (arith, leb-false n i f))
-
--- whether a name is good, by the outcomes of the tests
+-- whether a name is good
 module _ (x : List ℕ) (at : ℕ) where
   abbrev rest : List ℕ
   rest = drop at x
@@ -71,23 +32,9 @@ module _ (x : List ℕ) (at : ℕ) where
   unfolding isPadded
   padded-cut h = sym (rw (lt-leb 12 (length rest) (omega (arith, length-drop at x, h))))
 
-  module _ (h : at + 12 ≤ length x) (n : ℕ) (en : n ≡ length (nameAt x at)) where
-    padded-of : isPadded (nameAt x at) rest ≡ (leb 1 n && (all (λ b. eqb b 32) (drop n (take 12 rest)) && not (isReserved (nameAt x at))))
-    unfolding isPadded
-    padded-of = rw (le-leb 12 (length rest) (omega (arith, length-drop at x, h)), sym en)
-
-    pub padded-empty : n ≡ 0 → false ≡ isPadded (nameAt x at) rest
-    padded-empty z = sym (padded-of ∙ ap (λ (t : Bool). t && (all (λ b. eqb b 32) (drop n (take 12 rest)) && not (isReserved (nameAt x at)))) (lt-leb 1 n (omega arith)))
-
-    module _ (nz : n ≡ 0 → ⊥) (s : Bool) (es : s ≡ all (λ b. eqb b 32) (drop n (take 12 rest))) where
-      padded-rest : isPadded (nameAt x at) rest ≡ (s && not (isReserved (nameAt x at)))
-      padded-rest = padded-of ∙ ap₂ (λ (t u : Bool). t && (u && not (isReserved (nameAt x at)))) (le-leb 1 n (omega (arith, nz))) (sym es)
-
-      pub padded-filled : not s ≡ true → false ≡ isPadded (nameAt x at) rest
-      padded-filled f = sym (padded-rest ∙ ap (λ (t : Bool). t && not (isReserved (nameAt x at))) (not-true s f))
-
-      pub padded-is : (r : Bool) (w : Word) → not s ≡ false → w ≡ nameAt x at → r ≡ isReserved w → not r ≡ isPadded (nameAt x at) rest
-      padded-is r w f ew er = ap not (er ∙ ap isReserved ew) ∙ sym (padded-rest ∙ ap (λ (t : Bool). t && not (isReserved (nameAt x at))) (not-false s f))
+  pub padded-is : at + 12 ≤ length x → isPadded (nameAt x at) rest ≡ isName (take 12 rest)
+  unfolding isPadded isName nameAt
+  padded-is h = rw (le-leb 12 (length rest) (omega (arith, length-drop at x, h)))
 
 -- the code of a good name
 module _ (x : List ℕ) (at : ℕ) where
@@ -98,6 +45,14 @@ module _ (x : List ℕ) (at : ℕ) where
   pub code-is : (n : ℕ) → n ≡ capped (codeOf (nameAt x at)) → true ≡ isPadded (nameAt x at) (drop at x) → n ≡ goodCode x at
   unfolding goodCode
   code-is n e h = e ∙ ap (λ (t : Bool). cond t (capped (codeOf (nameAt x at))) 0) h
+
+  -- by whether the twelve bytes are a name
+  module _ (h : at + 12 ≤ length x) (g : Bool) (e : g ≡ isName (take 12 (drop at x))) where
+    pub code-named : (n : ℕ) → n ≡ capped (codeOf (nameAt x at)) → g ≡ true → n ≡ goodCode x at
+    code-named n en t = code-is n en (sym t ∙ e ∙ sym (padded-is x at h))
+
+    pub code-unnamed : g ≡ false → 0 ≡ goodCode x at
+    code-unnamed t = code-not (sym t ∙ e ∙ sym (padded-is x at h))
 
 take-most : (n : ℕ) (y : List ℕ) → length (take n y) ≤ n
 take-most zero [] = omega arith
@@ -128,17 +83,3 @@ module _ (x : List ℕ) (at : ℕ) where
   pub name-tail : (y : List ℕ) → y ≡ drop at x → length x < at + 12 → run isLetter y ≡ nameAt x at
   unfolding nameAt
   name-tail y e h = ap (run isLetter) (e ∙ sym (take-all 12 (drop at x) (omega (arith, length-drop at x, h))))
-
-  reserved-as : (v k : ℕ) → v ≡ capped (codeOf (nameAt x at)) → k ≡ kindSpelled reserved v → not (eqb k 0) ≡ isReserved (nameAt x at)
-  reserved-as v k ev ek = ap (λ (n : ℕ). not (eqb n 0)) (ek ∙ ap (kindSpelled reserved) ev) ∙ reserved-kind (nameAt x at) name-letters
-
-  module _ (h : at + 12 ≤ length x) (n : ℕ) (en : n ≡ length (nameAt x at)) (nz : n ≡ 0 → ⊥) (s : Bool) (es : s ≡ all (λ b. eqb b 32) (drop n (take 12 (drop at x)))) (f : not s ≡ false)
-      (v k : ℕ) (ev : v ≡ capped (codeOf (nameAt x at))) (ek : k ≡ kindSpelled reserved v) where
-    padded-by : isPadded (nameAt x at) (drop at x) ≡ not (not (eqb k 0))
-    padded-by = sym (padded-is x at h n en nz s es (not (eqb k 0)) (nameAt x at) f refl (reserved-as v k ev ek))
-
-    pub padded-reserved : (k ≡ 0 → ⊥) → false ≡ isPadded (nameAt x at) (drop at x)
-    padded-reserved ne = sym (padded-by ∙ ap (λ (t : Bool). not (not t)) (ne-eqb k 0 ne))
-
-    pub padded-good : k ≡ 0 → true ≡ isPadded (nameAt x at) (drop at x)
-    padded-good z = sym (padded-by ∙ ap (λ (t : Bool). not (not t)) (eq-eqb k 0 z))

@@ -1,12 +1,11 @@
 // The lent name list (document 02, Change 1): checked whole, and looked up, by its bytes; nothing is copied.
-use tokens::Span;
+use tokens::Spelled;
 ghost use mathlib.Core.Path.{_≡_};
 ghost use mathlib.Core.Bool.{true, not, _||_};
 ghost use mathlib.Core.List.{List};
 ghost use Prim.Native.Nat.{ℕ, _+_, _*_, _≤_, _<_};
 ghost use lib.Dec.{eqb};
 ghost use lib.ListN.{length, getD, take, drop};
-ghost use Rattle.model.specs.Lists.{all};
 ghost use Rattle.quel.specs.Results.{Word};
 ghost use Rattle.quel.specs.Names.{names, relationNamed, attributeNamed, valueNamed};
 ghost use Rattle.tokens.specs.Codes.{Spelt};
@@ -14,50 +13,31 @@ ghost use Rattle.tokens.specs.Kinds.{codeOf};
 ghost use Rattle.tokens.specs.Spans.{capped};
 ghost use Rattle.names.specs.Entries.{placeOf, nameAt, entries};
 ghost use Rattle.names.specs.Search.{isNamed, seek, goodCode, nameOf, recordCode, HeldIn, ChainedIn, listedBefore, Told, Indexed};
-ghost use Rattle.names.specs.Answers.{failed, found, valued};
+ghost use Rattle.names.specs.Answers.{failed, found, valued, said};
 
-// A relation's or an attribute's number.
-pub enum Found {
-    At(u8),
-    Nothing,
+// What a name is looked up as: a relation, an attribute of one, or a value.
+pub enum Sort {
+    Relation,
+    Attribute(u8),
+    Value,
 }
 
-// A value's four bytes, low first.
-pub enum Value {
+// A value's four bytes, low first; the number of a relation or of an attribute is the first of them.
+pub enum Found {
     Of(u8, u8, u8, u8),
     Nothing,
 }
 
-// How many letters stand at a place, at most twelve, and their code.
-fn letters(list: &[u8], at: usize) -> Span
+// The letters at a place, at most twelve.
+fn letters(list: &[u8], at: usize) -> Spelled
     requires { ⌜ at ≤ length (now list) + 5 ⌝ }
-    ensures { λ r. ⌜ r .end ≡ length (nameAt (now (list .entry)) at) ⌝ }
-    ensures { λ r. ⌜ r .value ≡ capped (codeOf (nameAt (now (list .entry)) at)) ⌝ }
+    ensures { λ r. ⌜ r .code ≡ capped (codeOf (nameAt (now (list .entry)) at)) ⌝ }
 {
     let end = at + 12;
     if end <= list.len() {
         return tokens::spelling(&list[at..end]);
     }
     tokens::spelling(kinds::tail(list, at))
-}
-
-// Whether spaces fill the twelve bytes of a name from its nth on. It begins at the first, so that the compiler unrolls it and goes on where the letters end.
-fn spaces(list: &[u8], at: usize, n: usize) -> bool
-    requires { ⌜ at + 12 ≤ length (now list) ⌝ }
-    ensures { λ r. ⌜ r ≡ all (λ b. eqb b 32) (drop n (take 12 (drop at (now (list .entry))))) ⌝ }
-{
-    let mut i = 0;
-    while i < 12 {
-        if i < n {
-            i += 1;
-            continue;
-        }
-        if list[at + i] != 32 {
-            return false;
-        }
-        i += 1;
-    }
-    true
 }
 
 // The code of a good name at a place: 1 to 12 capitals, then spaces; not reserved. 0 where none stands there.
@@ -70,18 +50,8 @@ fn good_code(list: &[u8], at: usize) -> u64
         return 0;
     }
     let s = tokens::spelling(&list[at..end]);
-    let n = s.end;
-    if n == 0 {
-        return 0;
-    }
-    if !spaces(list, at, n) {
-        return 0;
-    }
-    let code = s.value;
-    if tokens::word_kind(code) != 0 {
-        return 0;
-    }
-    code
+    let good = s.name;
+    if good { s.code } else { 0 }
 }
 
 // Where the name of a record begins.
@@ -118,7 +88,7 @@ fn named(list: &[u8], at: usize, kind: u8, relation: u8, code: u64) -> bool
         return false;
     }
     let s = letters(list, at + place(kind));
-    let there = s.value;
+    let there = s.code;
     there == code
 }
 
@@ -238,41 +208,52 @@ fn look(list: &[u8], index: &[u16], kind: u8, relation: u8, code: u64) -> usize
     find(list, 0, kind, relation, code)
 }
 
-// A word of more than twelve letters is found nowhere.
-pub fn relation_named(list: &[u8], index: &[u16], code: u64) -> Found
+fn relation_named(list: &[u8], index: &[u16], code: u64) -> Found
     requires { ⌜ Indexed (now list) (now index) ⌝ }
     ensures { λ r. ⌜ ((w : Word) → Spelt w code → r ≡ found (relationNamed (entries (now (list .entry))) w)) ⌝ }
 {
     let at = look(list, index, 80, 0, code);
     if at < list.len() {
-        return Found::At(kinds::byte(list, at + 1));
+        return Found::Of(kinds::byte(list, at + 1), 0, 0, 0);
     }
     Found::Nothing
 }
 
-pub fn attribute_named(list: &[u8], index: &[u16], relation: u8, code: u64) -> Found
+fn attribute_named(list: &[u8], index: &[u16], relation: u8, code: u64) -> Found
     requires { ⌜ Indexed (now list) (now index) ⌝ }
     ensures { λ r. ⌜ ((w : Word) → Spelt w code → r ≡ found (attributeNamed (entries (now (list .entry))) relation w)) ⌝ }
 {
     let at = look(list, index, 81, relation, code);
     if at < list.len() {
-        return Found::At(kinds::byte(list, at + 2));
+        return Found::Of(kinds::byte(list, at + 2), 0, 0, 0);
     }
     Found::Nothing
 }
 
-pub fn value_named(list: &[u8], index: &[u16], code: u64) -> Value
+fn value_named(list: &[u8], index: &[u16], code: u64) -> Found
     requires { ⌜ Indexed (now list) (now index) ⌝ }
     ensures { λ r. ⌜ ((w : Word) → Spelt w code → r ≡ valued (valueNamed (entries (now (list .entry))) w)) ⌝ }
 {
     let at = look(list, index, 82, 0, code);
     if at < list.len() {
-        return Value::Of(
+        return Found::Of(
             kinds::byte(list, at + 1),
             kinds::byte(list, at + 2),
             kinds::byte(list, at + 3),
             kinds::byte(list, at + 4),
         );
     }
-    Value::Nothing
+    Found::Nothing
+}
+
+// What a name says. A word of more than twelve letters is found nowhere.
+pub fn meaning(list: &[u8], index: &[u16], sort: Sort, code: u64) -> Found
+    requires { ⌜ Indexed (now list) (now index) ⌝ }
+    ensures { λ r. ⌜ ((w : Word) → Spelt w code → r ≡ said (entries (now (list .entry))) w sort) ⌝ }
+{
+    match sort {
+        Sort::Relation => relation_named(list, index, code),
+        Sort::Attribute(relation) => attribute_named(list, index, relation, code),
+        Sort::Value => value_named(list, index, code),
+    }
 }

@@ -71,6 +71,11 @@ pub added-is : (xs : List ℤ) (x : ℤ) → added (accumulatorOf xs) x ≡ accu
 unfolding accumulatorOf
 added-is xs x = rw (length-append, sum-more, best-more ltZ, best-more (λ a b. ltZ b a))
 
+-- an accumulator with no value yet, as the code writes it
+pub nothing-taken : record { count = 0; sum = pos 0; max = pos 0; min = pos 0 } ≡ accumulatorOf []
+unfolding accumulatorOf sum best
+nothing-taken = refl
+
 -- the three laws of a loop
 pub starts : (a : Accumulator) → a ≡ accumulatorOf [] → Accumulates a []
 unfolding accumulatorOf sum best

@@ -1,4 +1,3 @@
 pub mod Signed
-pub mod Rounding
 pub mod Laws
 pub mod Memo

@@ -2,24 +2,22 @@
 use mathlib.Core.Path.{_≡_, refl, sym, ap, ap₂, _∙_, subst}
 use mathlib.Core.Bool.{Bool, true, false, not, cond, _&&_}
 use mathlib.Core.List.{List, [], _∷_}
-use Prim.Native.Nat.{ℕ, zero, suc, _+_, _-_, _*_, _≤_, _<_}
+use Prim.Native.Nat.{ℕ, zero, suc, _+_, _-_, _*_, _≤_}
 use native.Mathlib.Omega.{arith}
 use native.Mathlib.Numerals.{sub-one}
-use lib.IntN.{ℤ, pos, negsuc, negℤ, natAbs, _+ℤ_, _-ℤ_}
-use lib.Signed.{leZ, ltZ}
+use lib.IntN.{ℤ, pos, negsuc, negℤ, natAbs, _-ℤ_}
+use lib.Signed.{ltZ}
 use lib.Dec.{leb, eqb}
-use lib.ListN.{length, getD, set, length-set}
+use lib.ListN.{length, getD}
 use mir.Syntax.{w64}
-use mir.Val.{SFits, toZ, ofZ}
-use mir.Facts.{toZ-ofZ}
+use mir.Val.{SFits}
 use Rattle.numbers.proofs.Signed.{fits64}
-use lib.Seq.{getD-set-same, getD-set-other}
 use borrow.Author.Tests.{leb-true, le-ltb}
 use Rattle.model.proofs.Tests.{not-yes, not-no, and-inv, clash}
 use Rattle.model.specs.Meaning as M
 use Rattle.numbers.specs.Numbers.{Small, fraction, valueOf}
-use Rattle.numbers.specs.Memo.{within, knows, recalled, remembered, numeratorAt, markAt, numeratorOf, markOf}
-use Rattle.numbers.proofs.Laws.{value-none, is-number, value-some, small-over}
+use Rattle.numbers.specs.Memo.{within, knows, recalled, numeratorAt, markAt, numeratorOf, markOf}
+use Rattle.numbers.proofs.Laws.{small-over}
 use Rattle.numbers.specs.declared.Ratio.{Ratio}
 
 module _ (m : List ℤ) (v i : ℕ) (n : ℤ) (b : Bool) (ei : i ≡ 2 * v) (en : n ≡ getD m i (pos 0)) (eb : b ≡ within (negℤ (pos 140735340871680)) n (pos 140735340871680)) where
@@ -72,31 +70,6 @@ module _ (m : List ℤ) (v i : ℕ) (d : ℤ) (h : knows m v ≡ true) (ei : i �
   recall-is n r en er =
       let same : r ≡ record { numerator = numeratorAt m v; denominator = pos (natAbs (markAt m v) - 1) } = er ∙ ap₂ (λ (x y : ℤ). record { numerator = x; denominator = y }) (en ∙ ap (λ (j : ℕ). getD m j (pos 0)) ei) mark-read in
       (ap valueOf same, subst Small (sym same) (small-over (numeratorAt m v) (natAbs (markAt m v) - 1) (inside .0) (mark-less (markAt m v) (inside .1) .1)))
-
-pub remembered-is : (m y w : List ℤ) (v i : ℕ) (x : M.Value) (n d : ℤ) → i ≡ 2 * v → n ≡ numeratorOf x → d ≡ markOf x → y ≡ set m i n → w ≡ set y (i + 1) d → w ≡ remembered m v x
-unfolding remembered
-remembered-is m y w v i x n d ei en ed ey ew = ew ∙ rw (ey, ei, en, ed)
-
--- how a value is kept, by the test of its denominator
-module _ (x : Ratio) (s : Small x) where
-  pub numerator-none : leZ (toZ w64 (ofZ w64 (x .denominator))) (pos 0) ≡ true → pos 0 ≡ numeratorOf (valueOf x)
-  numerator-none h = sym (ap numeratorOf (value-none x s h))
-
-  pub numerator-some : leZ (toZ w64 (ofZ w64 (x .denominator))) (pos 0) ≡ false → x .numerator ≡ numeratorOf (valueOf x)
-  numerator-some h = sym (ap numeratorOf (value-some x (is-number x s h)))
-
-  mark-of : (n : ℤ) (d : ℕ) → markOf (fraction n d) ≡ pos (suc d)
-  mark-of n zero = refl
-  mark-of n (suc d) = refl
-
-  mark-bits : toZ w64 (ofZ w64 (x .denominator)) +ℤ pos 1 ≡ pos (suc (natAbs (x .denominator)))
-  mark-bits = ap (λ (z : ℤ). z +ℤ pos 1) (toZ-ofZ (fits64 (x .denominator) (omega (arith, s .denominator))) ∙ s .sign) ∙ ap pos (omega arith)
-
-  pub mark-fits : SFits w64 (toZ w64 (ofZ w64 (x .denominator)) +ℤ pos 1)
-  mark-fits = subst (SFits w64) (sym mark-bits) (fits64 _ (omega (arith, s .denominator)))
-
-  pub mark-is : toZ w64 (ofZ w64 (toZ w64 (ofZ w64 (x .denominator)) +ℤ pos 1)) ≡ markOf (valueOf x)
-  mark-is = toZ-ofZ mark-fits ∙ mark-bits ∙ sym (mark-of (x .numerator) (natAbs (x .denominator)))
 
 -- values that are read back as they were kept: those of aggregates, whose denominators are not 0
 abbrev pub Keeps : M.Value → Type 0

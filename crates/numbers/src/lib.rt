@@ -1,12 +1,11 @@
 // Exact values of terms, their comparison, and what an aggregate takes.
 ghost use mathlib.Core.Path.{_≡_};
-ghost use mathlib.Core.List.{[]};
 ghost use mathlib.Core.Option.{some};
 ghost use Prim.Native.Nat.{ℕ, _+_, _*_, _≤_, _<_};
 ghost use lib.IntN.{pos, natAbs, _*ℤ_, _+ℤ_};
-ghost use lib.Signed.{quotZ, leZ};
+ghost use lib.Signed.{leZ};
 ghost use Rattle.model.specs.Meaning as M;
-ghost use lib.ListN.{getD, set};
+ghost use lib.ListN.{getD};
 ghost use mathlib.Core.Bool.{true, _&&_};
 ghost use Rattle.numbers.specs.Numbers as N;
 ghost use Rattle.numbers.specs.Memo as Memo;
@@ -25,7 +24,15 @@ pub struct Accumulator {
     pub min: i64,
 }
 
-pub fn wide(x: i32) -> i64
+// No value yet.
+pub const EMPTY: Accumulator = Accumulator {
+    count: 0,
+    sum: 0,
+    max: 0,
+    min: 0,
+};
+
+fn wide(x: i32) -> i64
     ensures { λ r. ⌜ r ≡ x ⌝ }
     ensures { λ r. ⌜ natAbs r ≤ 2147483648 ⌝ }
 {
@@ -93,32 +100,6 @@ fn plus(a: i64, b: i64) -> i64
     a + b
 }
 
-fn quotient(a: i64, b: i64) -> i64
-    requires { ⌜ (natAbs a ≤ 281474976710656) × (0 < natAbs b) ⌝ }
-    ensures { λ r. ⌜ r ≡ quotZ a b ⌝ }
-{
-    a / b
-}
-
-// b with the sign of a.
-fn toward(a: i64, b: i64) -> i64
-    requires { ⌜ natAbs b ≤ 65535 ⌝ }
-    ensures { λ r. ⌜ r ≡ N.toward a b ⌝ }
-{
-    if a < 0 { 0 - b } else { b }
-}
-
-// The cell of a target: the nearest whole number, halves away from zero. Signed division cuts off, so a half is added first.
-pub fn cell(x: Ratio) -> i64
-    requires { ⌜ N.Small x × N.Number x ⌝ }
-    ensures { λ r. ⌜ r ≡ M.cell (N.ratioOf x) ⌝ }
-{
-    let n = x.numerator;
-    let d = x.denominator;
-    let half = toward(n, d);
-    quotient(plus(product(n, 2), half), product(2, d))
-}
-
 fn larger(count: u64, a: i64, b: i64) -> i64
     ensures { λ r. ⌜ r ≡ N.larger count a b ⌝ }
 {
@@ -135,18 +116,6 @@ fn smaller(count: u64, a: i64, b: i64) -> i64
         return b;
     }
     if b < a { b } else { a }
-}
-
-// No value yet.
-pub fn empty() -> Accumulator
-    ensures { λ r. ⌜ r ≡ N.accumulatorOf [] ⌝ }
-{
-    Accumulator {
-        count: 0,
-        sum: 0,
-        max: 0,
-        min: 0,
-    }
 }
 
 // One value more.
@@ -248,40 +217,4 @@ pub fn recall(memo: &[i64], variable: u8) -> Ratio
     let n = at(memo, i);
     let mark = at(memo, i + 1);
     over(n, mark - 1)
-}
-
-fn put(memo: &mut [i64], i: usize, x: i64)
-    ensures { λ _. ⌜ now (memo .exit) ≡ set (now (memo .entry)) i x ⌝ }
-{
-    if i < memo.len() {
-        memo[i] = x;
-    }
-}
-
-// Nothing is kept with the numerator 0, so that a value is kept in one way.
-fn numerator(x: Ratio) -> i64
-    requires { ⌜ N.Small x ⌝ }
-    ensures { λ r. ⌜ r ≡ Memo.numeratorOf (N.valueOf x) ⌝ }
-{
-    let n = x.numerator;
-    let d = x.denominator;
-    if d <= 0 { 0 } else { n }
-}
-
-fn mark(x: Ratio) -> i64
-    requires { ⌜ N.Small x ⌝ }
-    ensures { λ r. ⌜ r ≡ Memo.markOf (N.valueOf x) ⌝ }
-{
-    let d = x.denominator;
-    d + 1
-}
-
-// Keeps a variable's value.
-pub fn remember(memo: &mut [i64], variable: u8, x: Ratio)
-    requires { ⌜ N.Small x ⌝ }
-    ensures { λ _. ⌜ now (memo .exit) ≡ Memo.remembered (now (memo .entry)) variable (N.valueOf x) ⌝ }
-{
-    let i = place(variable);
-    put(memo, i, numerator(x));
-    put(memo, i + 1, mark(x));
 }

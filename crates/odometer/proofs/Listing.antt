@@ -14,9 +14,9 @@ use Rattle.model.specs.Syntax.{Condition, Term, AGGREGATE}
 use Rattle.model.specs.Meaning.{Assignment, Rows, Value, whole, cell, withCell, targetRowWith}
 use Rattle.model.proofs.Tests.{not-yes, not-no, clash}
 use Rattle.model.proofs.Rounding.{cell-whole}
-use Rattle.kinds.specs.Record.{recordAt}
-use Rattle.kinds.specs.declared.Record.{Record}
-use Rattle.kinds.specs.declared.Record.the-variants as R
+use Rattle.kinds.specs.Places.{termAt}
+use Rattle.kinds.specs.declared.TermRecord.{TermRecord}
+use Rattle.kinds.specs.declared.TermRecord.the-variants as T
 use Rattle.numbers.specs.Memo.{knows}
 use Rattle.numbers.specs.Numbers.{valueOf, ratioOf}
 use Rattle.numbers.specs.declared.Ratio.{Ratio}
@@ -47,13 +47,13 @@ module _ (m : List ℤ) (l l′ : List ℕ) (i v a : ℕ) (el : l′ ≡ set (se
       let second : getD l′ (2 * i + 1) 0 ≡ a = ap (λ (x : List ℕ). getD x (2 * i + 1) 0) el ∙ getD-set-same n (2 * i + 1) a 0 (omega (arith, length-set l (2 * i) v)) in
       ap₂ (λ (x y : ℕ). operand m x y (pos 0) e) (sym first) (sym second)
 
-  module _ (q : List ℕ) (n : ℕ) (r : Record) (room : 2 * i + 2 ≤ length l) (nz : n ≡ 0 → ⊥) (er : r ≡ recordAt q) where
-    pub put-attribute : (w b : ℕ) → w < 256 → r ≡ R.Attribute w b → v ≡ w → a ≡ b → (z : List ℕ) (R : Rows) (e : Assignment) → valueBy m (decodeT n q z) R e ≡ valueIn m l′ i e
+  module _ (q : List ℕ) (n : ℕ) (r : TermRecord) (room : 2 * i + 2 ≤ length l) (nz : n ≡ 0 → ⊥) (er : r ≡ termAt q) where
+    pub put-attribute : (w b : ℕ) → w < 256 → r ≡ T.Attribute w b → v ≡ w → a ≡ b → (z : List ℕ) (R : Rows) (e : Assignment) → valueBy m (decodeT n q z) R e ≡ valueIn m l′ i e
     put-attribute w b g h ev ea z R e =
         attribute-means m q n r nz er (record { known = true; variable = w; attribute = b; number = pos 0 }) w b g h refl z refl R e
         ∙ ap₂ (λ (x y : ℕ). operand m x y (pos 0) e) (sym ev) (sym ea) ∙ put-value room e
 
-    pub put-aggregate : (f w s b u : ℕ) (k : Bool) → w < 256 → r ≡ R.Aggregate f w s b → k ≡ knows m w → not k ≡ false → u ≡ w → v ≡ u + 256 → a ≡ 0 → (z : List ℕ) (R : Rows) (e : Assignment) → valueBy m (decodeT n q z) R e ≡ valueIn m l′ i e
+    pub put-aggregate : (f w s b u : ℕ) (k : Bool) → w < 256 → r ≡ T.Aggregate f w s b → k ≡ knows m w → not k ≡ false → u ≡ w → v ≡ u + 256 → a ≡ 0 → (z : List ℕ) (R : Rows) (e : Assignment) → valueBy m (decodeT n q z) R e ≡ valueIn m l′ i e
     put-aggregate f w s b u k g h ek hk eu ev ea z R e =
         aggregate-means m q n r nz er (record { known = true; variable = u + 256; attribute = 0; number = pos 0 }) f w s b h (recalled-means m w u k (record { known = true; variable = u + 256; attribute = 0; number = pos 0 }) ek hk eu g refl) z refl R e
         ∙ ap₂ (λ (x y : ℕ). operand m x y (pos 0) e) (sym ev) (sym ea) ∙ put-value room e

@@ -17,9 +17,6 @@ use Rattle.model.proofs.Tests.{not-yes, not-no, clash}
 use Rattle.model.proofs.Rounding.{cell-whole}
 use Rattle.model.proofs.Width.{row-wide}
 use Rattle.kinds.specs.Tables.{ofKind, recordLength}
-use Rattle.kinds.specs.Record.{recordAt}
-use Rattle.kinds.specs.declared.Record.{Record}
-use Rattle.kinds.specs.declared.Record.the-variants as R
 use Rattle.numbers.specs.Recalled.{recall}
 use Rattle.walks.specs.Walks.{walkOf, placeAt, places, walked, rowsBy}
 use Rattle.evaluator.specs.Evaluation.{valueAt}

@@ -1,14 +1,17 @@
 // The odometer: range variables run over their rows, the last RANGE fastest. Each conjunct is tried as soon as the variables that it needs
 // are bound; an assignment that meets all of them gives a row, if each target has a value.
-use kinds::Record;
+use kinds::TermRecord;
+use numbers::Ratio;
 use rows::Filled;
 ghost use mathlib.Core.Path.{_≡_};
 ghost use mathlib.Core.Bool.{true, false};
 ghost use mathlib.Core.List.{List};
 ghost use Prim.Native.Nat.{ℕ, _≤_, _<_, _+_, _-_, _*_};
-ghost use lib.IntN.{pos};
+ghost use lib.IntN.{pos, natAbs};
 ghost use lib.ListN.{length, getD, set};
 ghost use Rattle.model.specs.Meaning.{Assignment, Rows};
+ghost use Rattle.model.specs.Meaning as M;
+ghost use Rattle.numbers.specs.Numbers as N;
 ghost use Rattle.sizes.specs.Decode.{decodeT};
 ghost use Rattle.sizes.specs.Parts.{targetsAt};
 ghost use Rattle.rows.specs.Buffer.{addedAll, start};
@@ -17,24 +20,8 @@ ghost use Rattle.walks.specs.Walks.{rowsBy};
 ghost use Rattle.decide.specs.Keys.{Faithful};
 ghost use Rattle.walks.specs.Assigned.{assigned};
 ghost use Rattle.numbers.specs.Recalled.{valueBy};
-ghost use Rattle.branches.specs.Branches.{operand, runs};
+ghost use Rattle.branches.specs.Branches.{operand};
 ghost use Rattle.odometer.specs.Plan.{Bounds, cellsBy, cellsIn, Listed, Put, Written, Cells, addedRow, rowBy, rowsFrom, rowsBelow};
-
-// Chains for what is walked again and again: the ranges after the first, and the rows that a branch asks for.
-pub fn link(q: &[u8], ranges: usize, t: &[u16], walks: &[u16], values: &[i32], chains: &mut [u16])
-    requires { ⌜ (ranges ≤ 7) × ((i : ℕ) → getD (now chains) i 0 ≡ 0) ⌝ }
-    ensures { λ _. ⌜ Faithful (now (t .entry)) (now (walks .entry)) (now (values .entry)) (now (chains .exit)) ⌝ }
-{
-    let mut free = 64;
-    let mut d = 1;
-    while d < ranges {
-        let start = kinds::size_at(t, 2 * d + 2);
-        let variable = kinds::byte(q, 3 * d + 1);
-        free = decide::seeks::add(t, start, variable, walks, values, chains, free);
-        d += 1;
-    }
-    decide::seeks::add_searches(t, walks, values, chains, free);
-}
 
 // Where a query's targets start, how many they are and how deep, and whether they are listed; how many ranges are left, and are bound.
 pub struct Plan {
@@ -72,19 +59,19 @@ fn list_target(q: &[u8], level: usize, memo: &[i64], list: &mut [u16], i: usize)
     if level == 0 {
         return false;
     }
-    match kinds::read(q) {
-        Record::Attribute(variable, attribute) => {
+    match kinds::term_record(q) {
+        TermRecord::Attribute(variable, attribute) => {
             put(list, i, wide(variable), wide(attribute));
             true
         }
-        Record::Aggregate(_, variable, _, _) => {
+        TermRecord::Aggregate(_, variable, _, _) => {
             if !numbers::knows(memo, variable) {
                 return false;
             }
             put(list, i, wide(variable) + 256, 0);
             true
         }
-        _ => false,
+        TermRecord::Constant(_, _, _, _) | TermRecord::Other => false,
     }
 }
 
@@ -115,6 +102,25 @@ fn list_targets(
     list_targets(u, v, left - 1, level, memo, list, i + 1)
 }
 
+// b with the sign of a.
+fn toward(a: i64, b: i64) -> i64
+    requires { ⌜ natAbs b ≤ 65535 ⌝ }
+    ensures { λ r. ⌜ r ≡ N.toward a b ⌝ }
+{
+    if a < 0 { 0 - b } else { b }
+}
+
+// The cell of a target: the nearest whole number, halves away from zero. Signed division cuts off, so a half is added first.
+fn cell(x: Ratio) -> i64
+    requires { ⌜ N.Small x × N.Number x ⌝ }
+    ensures { λ r. ⌜ r ≡ M.cell (N.ratioOf x) ⌝ }
+{
+    let n = x.numerator;
+    let d = x.denominator;
+    let half = toward(n, d);
+    (2 * n + half) / (2 * d)
+}
+
 // Target i of the list into cell i of the row; false where it has no value.
 fn listed_cell(
     list: &[u16],
@@ -132,7 +138,7 @@ fn listed_cell(
     let v = kinds::size_at(list, at);
     if v < 256 {
         let place = env[v];
-        row[i] = numbers::wide(catalogue::value(vs, place, kinds::size_at(list, at + 1)));
+        row[i] = catalogue::value(vs, place, kinds::size_at(list, at + 1)) as i64;
         return true;
     }
     let x = branches::side(list, at, vs, vs.len(), vs, memo, env);
@@ -140,7 +146,7 @@ fn listed_cell(
     if d <= 0 {
         return false;
     }
-    row[i] = numbers::cell(x);
+    row[i] = cell(x);
     true
 }
 
@@ -167,25 +173,33 @@ fn listed_cells(
     true
 }
 
-// The cells of the targets, from cell `at` of the row on; whether each target has a value, for without one there is no row.
+// How many targets are ahead, how deep they may be, and the cell of the first.
+struct Ahead {
+    left: usize,
+    level: usize,
+    at: usize,
+}
+
+// The cells of the targets that are ahead; whether each target has a value, for without one there is no row.
 fn targets(
     q: &[u8],
     z: &[u16],
-    left: usize,
-    level: usize,
+    ahead: Ahead,
     walks: &[u16],
     vs: &[i32],
     memo: &[i64],
     env: &mut [usize],
     row: &mut [i64],
-    at: usize,
 ) -> bool
-    requires { ⌜ (256 ≤ length (now env)) × (at + left ≤ length (now row)) ⌝ }
-    ensures { λ r. ⌜ Written r (now (row .entry)) at (now (row .exit)) (cellsBy (now (memo .entry))
-        (targetsAt left level (now (q .entry)) (now (z .entry))) (rowsBy (now (walks .entry)) (now (vs .entry)))
+    requires { ⌜ (256 ≤ length (now env)) × (ahead .at + ahead .left ≤ length (now row)) ⌝ }
+    ensures { λ r. ⌜ Written r (now (row .entry)) (ahead .at) (now (row .exit)) (cellsBy (now (memo .entry))
+        (targetsAt (ahead .left) (ahead .level) (now (q .entry)) (now (z .entry))) (rowsBy (now (walks .entry)) (now (vs .entry)))
         (assigned (now (vs .entry)) (now (env .entry)))) ⌝ }
     ensures { λ _. ⌜ now (env .exit) ≡ now (env .entry) ⌝ }
 {
+    let left = ahead.left;
+    let level = ahead.level;
+    let at = ahead.at;
     if left == 0 {
         return true;
     }
@@ -194,12 +208,19 @@ fn targets(
     if d <= 0 {
         return false;
     }
-    let cell = numbers::cell(x);
+    let cell = cell(x);
     row[at] = cell;
     let n = kinds::size_at(z, 0);
     let u = kinds::tail(q, n);
     let v = kinds::tail_sizes(z, n);
-    targets(u, v, left - 1, level, walks, vs, memo, env, row, at + 1)
+    let fewer = left - 1;
+    let next = at + 1;
+    let rest = Ahead {
+        left: fewer,
+        level,
+        at: next,
+    };
+    targets(u, v, rest, walks, vs, memo, env, row)
 }
 
 // The cells of an assignment's row; whether each target has a value.
@@ -227,7 +248,12 @@ fn cells(
     let t = plan.targets;
     let x = kinds::tail(q, t);
     let y = kinds::tail_sizes(z, t);
-    targets(x, y, n, plan.level, walks, vs, memo, env, row, 0)
+    let ahead = Ahead {
+        left: n,
+        level: plan.level,
+        at: 0,
+    };
+    targets(x, y, ahead, walks, vs, memo, env, row)
 }
 
 // The row of one assignment, if each of its targets has a value.
@@ -259,30 +285,6 @@ fn write(
         return state;
     }
     rows::add_row(answer, table, state, &row[..n])
-}
-
-// Whether the branches from one on lead to 'holds'; 0 is that end, so that a stage with no conjunct costs no call.
-fn met(
-    t: &[u16],
-    xs: &[i32],
-    start: usize,
-    q: &[u8],
-    z: &[u16],
-    walks: &[u16],
-    chains: &[u16],
-    vs: &[i32],
-    memo: &[i64],
-    env: &mut [usize],
-) -> bool
-    requires { ⌜ (256 ≤ length (now env)) × (start ≤ 65535) × Faithful (now t) (now walks) (now vs) (now chains) ⌝ }
-    ensures { λ r. ⌜ r ≡ runs (now (t .entry)) (now (xs .entry)) (now (q .entry)) (now (z .entry)) (now (walks .entry)) (now (vs .entry))
-        (now (memo .entry)) start (assigned (now (vs .entry)) (now (env .entry))) ⌝ }
-    ensures { λ _. ⌜ now (env .exit) ≡ now (env .entry) ⌝ }
-{
-    if start == 0 {
-        return true;
-    }
-    decide::holds(t, xs, start, q, z, walks, chains, vs, memo, env)
 }
 
 // The plan with one range more bound.
@@ -345,13 +347,13 @@ fn each_row(
     let left = inner.left;
     let walk = walks::walk_of(walks, variable);
     let n = walk.count;
-    let old = evaluator::place(env, variable);
+    let old = env[variable as usize];
     let mut filled = state;
     let mut i = 0;
     loop {
         let j = decide::seeks::next_row(cursor, vs, walks, walk, chains, i);
         if n <= j {
-            evaluator::set_place(env, variable, old);
+            env[variable as usize] = old;
             return filled;
         }
         i = j + 1;
@@ -359,11 +361,11 @@ fn each_row(
         if full {
             continue;
         }
-        evaluator::set_place(env, variable, walks::place(walks, walk, j));
-        if !met(t, xs, next, q, z, walks, chains, vs, memo, env) {
+        env[variable as usize] = walks::place(walks, walk, j);
+        if !decide::leads(t, xs, next, q, z, walks, chains, vs, memo, env) {
             continue;
         }
-        if !met(t, xs, second, q, z, walks, chains, vs, memo, env) {
+        if !decide::leads(t, xs, second, q, z, walks, chains, vs, memo, env) {
             continue;
         }
         if left == 0 {
@@ -423,7 +425,12 @@ fn only(
     let x = kinds::tail(q, t);
     let y = kinds::tail_sizes(z, t);
     let mut row = [0i64; model::TARGETS];
-    if !targets(x, y, n, plan.level, walks, vs, memo, env, &mut row, 0) {
+    let ahead = Ahead {
+        left: n,
+        level: plan.level,
+        at: 0,
+    };
+    if !targets(x, y, ahead, walks, vs, memo, env, &mut row) {
         return none();
     }
     rows::only_row(answer, &row[..n])
@@ -486,11 +493,11 @@ pub fn run(
 {
     let d = plan.depth;
     let first = kinds::size_at(t, 2 * d);
-    if !met(t, xs, first, q, z, walks, chains, vs, memo, env) {
+    if !decide::leads(t, xs, first, q, z, walks, chains, vs, memo, env) {
         return none();
     }
     let second = kinds::size_at(t, 2 * d + 1);
-    if !met(t, xs, second, q, z, walks, chains, vs, memo, env) {
+    if !decide::leads(t, xs, second, q, z, walks, chains, vs, memo, env) {
         return none();
     }
     let left = plan.left;

@@ -28,6 +28,7 @@ use Rattle.kinds.specs.declared.Record.{Record}
 use Rattle.kinds.specs.declared.Record.the-variants as R
 use Rattle.kinds.proofs.Record.{enum}
 use Rattle.kinds.proofs.Records.{whole-record}
+use Rattle.grammar.proofs.Listed.{permit-head}
 use denote.Enum.Declared.{tagOf, declared}
 use types.Run.{OneOf, miss}
 use Rattle.model.specs.Kinds.{kindOf, find, k-permit}
@@ -41,7 +42,6 @@ use Rattle.conditions.proofs.scope.Tables.{scope-one}
 use Rattle.conditions.specs.declared.Reading.{Reading}
 use Rattle.conditions.specs.declared.Reading.the-variants as A
 use Rattle.conditions.specs.Answers.{conditionReading}
-use Rattle.conditions.proofs.Records.{Starts}
 use Rattle.conditions.proofs.Found.{Found, found, unread, the-condition, same-read}
 use Rattle.permits.specs.Entries.{maskOf}
 use Rattle.permits.specs.Masks.{maskIn}
@@ -54,20 +54,16 @@ use Rattle.permits.proofs.Reading.{take-encode, listed}
 use Rattle.permits.proofs.Model.{mask-is, stored-permit}
 
 -- the relation and the mask
-module _ (cb : List ℕ) (r m n : ℕ) (c w : ℕ) (ec : c ≡ countOf cb) (ew : w ≡ r) where
-  pub named-past : c ≤ w → false ≡ (ltb r (countOf cb) && maskIn n m)
-  named-past h = sym (ap (λ (b : Bool). b && maskIn n m) (le-ltb r (countOf cb) (omega (arith, ec, ew))))
+module _ (cb : List ℕ) (r m : ℕ) (l : Bool) (el : l ≡ ltb r (countOf cb)) where
+  pub named-past : not l ≡ true → false ≡ (ltb r (countOf cb) && maskIn (attributesOf cb r) m)
+  named-past h = sym (ap (λ (b : Bool). b && maskIn (attributesOf cb r) m) (sym el ∙ not-yes l h))
 
-  pub named-is : w < c → (a : ℕ) → a ≡ n → (x : Bool) → x ≡ maskIn a m → x ≡ (ltb r (countOf cb) && maskIn n m)
-  named-is h a ea x ex = ex ∙ ap (λ i. maskIn i m) ea ∙ sym (ap (λ (b : Bool). b && maskIn n m) (lt-ltb r (countOf cb) (omega (arith, ec, ew))))
+  pub named-is : not l ≡ false → (a : ℕ) → a ≡ attributesOf cb r → (x : Bool) → x ≡ maskIn a m → x ≡ (ltb r (countOf cb) && maskIn (attributesOf cb r) m)
+  named-is h a ea x ex = ex ∙ ap (λ i. maskIn i m) ea ∙ sym (ap (λ (b : Bool). b && maskIn (attributesOf cb r) m) (sym el ∙ not-no l h))
 
 -- a list of length 0
 -- what a condition binds
 module _ (c : List ℕ) (n : ℕ) (en : n ≡ length (flatBindings c)) where
-  pub none-once : n ≡ 0 → true ≡ unique (0 ∷ variables (flatBindings c))
-  unfolding unique contains any
-  none-once h = sym (ap (λ (bs : List Binding). unique (0 ∷ variables bs)) (nothing-left (flatBindings c) (omega (arith, en, h))))
-
   module _ (cb : List ℕ) (r : ℕ) (s : Bool) (es : s ≡ storedOf cb r) where
     pub stored-not : not s ≡ true → false ≡ (storedOf cb r && all (storedIn cb) (flatBindings c))
     stored-not h = sym (ap (λ (b : Bool). b && all (storedIn cb) (flatBindings c)) (sym es ∙ not-yes s h))
@@ -95,8 +91,24 @@ pub no-permit : (sh : Shape) (list x : List ℕ) (p : ℕ) (k : Record) → x �
 unfolding encodePermit kindOf find
 no-permit sh list x p k ex ek o g r e w f = absurd (miss Others 11 tt (subst (λ v. OneOf Others (tagOf (declared enum) v)) (ek ∙ ap recordAt (ex ∙ e) ∙ whole-record 64 (g .relation ∷ g .low ∷ g .high ∷ encode (g .condition) r) k-permit refl (omega arith)) o))
 
+-- the bytes that a permit's record was read from
+permit-bytes : (q : List ℕ) (x l h : ℕ) → recordAt q ≡ R.Permit x l h → q ≡ 64 ∷ x ∷ l ∷ h ∷ drop 4 q
+unfolding kindOf find
+permit-bytes [] x l h e = absurd (omega (arith, permit-head [] x l h e .1))
+permit-bytes (k ∷ []) x l h e = absurd (omega (arith, permit-head (k ∷ []) x l h e .1))
+permit-bytes (k ∷ a ∷ []) x l h e = absurd (omega (arith, permit-head (k ∷ a ∷ []) x l h e .1))
+permit-bytes (k ∷ a ∷ b ∷ []) x l h e = absurd (omega (arith, permit-head (k ∷ a ∷ b ∷ []) x l h e .1))
+permit-bytes (k ∷ a ∷ b ∷ c ∷ r) x l h e =
+    let g : k ≡ 64 = permit-head (k ∷ a ∷ b ∷ c ∷ r) x l h e .0 in
+    let i : R.Permit a b c ≡ R.Permit x l h = sym (ap (λ j. recordAt (j ∷ a ∷ b ∷ c ∷ r)) g ∙ whole-record 64 (a ∷ b ∷ c ∷ r) k-permit refl (omega arith)) ∙ e in
+    let first : a ≡ x = cc in let second : b ≡ l = cc in let third : c ≡ h = cc in
+    rw (g, first, second, third)
+
+pub begins : (list x : List ℕ) (p : ℕ) → x ≡ drop p list → (k : Record) → k ≡ recordAt x → (r lo hi : ℕ) → k ≡ R.Permit r lo hi → drop p list ≡ 64 ∷ r ∷ lo ∷ hi ∷ drop 4 (drop p list)
+begins list x p ex k ek r lo hi e = permit-bytes (drop p list) r lo hi (sym (ap recordAt ex) ∙ sym ek ∙ e)
+
 -- a permit's head at p, and what was read after it
-module _ (cb list : List ℕ) (h10 : fails10 cb ≡ false) (p : ℕ) (inside : p ≤ length list) (r lo hi : ℕ) (starts : Starts (R.Permit r lo hi) (drop p list)) (k : ℕ) (ek : k ≡ recordLength 64)
+module _ (cb list : List ℕ) (h10 : fails10 cb ≡ false) (p : ℕ) (inside : p ≤ length list) (r lo hi : ℕ) (starts : drop p list ≡ 64 ∷ r ∷ lo ∷ hi ∷ drop 4 (drop p list)) (k : ℕ) (ek : k ≡ recordLength 64)
     (x y : List ℕ) (ex : x ≡ drop p list) (ey : y ≡ drop k x) (t : Reading) (et : t ≡ conditionReading (shapeIn cb) 4 16 (permitScope r) y) where
   abbrev sh : Shape
   sh = shapeOf (catalogueOf cb)

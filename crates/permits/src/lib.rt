@@ -4,11 +4,10 @@ use kinds::Record;
 use scans::Bound;
 ghost use mathlib.Core.Path.{_≡_};
 ghost use mathlib.Core.Bool.{false, cond, not, _&&_, _||_};
-ghost use mathlib.Core.List.{_∷_};
 ghost use Prim.Native.Nat.{_+_, _≤_, _<_};
 ghost use lib.ListN.{length, take};
 ghost use lib.Dec.{ltb};
-ghost use Rattle.model.specs.Lists.{all, unique};
+ghost use Rattle.model.specs.Lists.{all};
 ghost use Rattle.model.specs.Syntax.{variables};
 ghost use Rattle.model.specs.Permits.{bit};
 ghost use Rattle.model.specs.Catalogue.{catalogueOf, shapeOf};
@@ -93,12 +92,6 @@ fn mask_in(mask: u16, attributes: usize) -> bool
     attributes_in(mask, attributes)
 }
 
-fn wide_size(x: u8) -> usize
-    ensures { λ r. ⌜ r ≡ x ⌝ }
-{
-    x as usize
-}
-
 // What stands at a place of a list.
 enum Grant {
     // a permit within the limits (21): its bytes, whether all that it names is known (22), and stored (23)
@@ -117,21 +110,11 @@ enum Listing {
 fn named(catalogue: &[u8], relation: u8, mask: u16) -> bool
     ensures { λ r. ⌜ r ≡ (ltb relation (countOf (now (catalogue .entry))) && Lim.maskIn (attributesOf (now (catalogue .entry)) relation) mask) ⌝ }
 {
-    if catalogue::count(catalogue) <= wide_size(relation) {
+    let known = catalogue::entry(catalogue, relation);
+    if !known.listed {
         return false;
     }
-    mask_in(mask, catalogue::attributes(catalogue, relation))
-}
-
-// Whether no number is bound twice by a condition, 0 being bound; so many are bound.
-fn bound_once(condition: &[u8], bound: usize) -> bool
-    requires { ⌜ bound ≡ length (flatBindings (now condition)) ⌝ }
-    ensures { λ r. ⌜ r ≡ unique (0 ∷ variables (flatBindings (now (condition .entry)))) ⌝ }
-{
-    if bound == 0 {
-        return true;
-    }
-    scans::bound_once(condition, true)
+    mask_in(mask, known.attributes)
 }
 
 fn over_stored(b: Bound, catalogue: &[u8]) -> bool
@@ -140,7 +123,8 @@ fn over_stored(b: Bound, catalogue: &[u8]) -> bool
     let Bound::To(_, r) = b else {
         return true;
     };
-    catalogue::stored(catalogue, r)
+    let known = catalogue::entry(catalogue, r);
+    known.stored
 }
 
 // Whether all variables are bound to stored relations.
@@ -162,7 +146,8 @@ fn stored(catalogue: &[u8], relation: u8, condition: &[u8], bound: usize) -> boo
     requires { ⌜ bound ≡ length (flatBindings (now condition)) ⌝ }
     ensures { λ r. ⌜ r ≡ (storedOf (now (catalogue .entry)) relation && all (storedIn (now (catalogue .entry))) (flatBindings (now (condition .entry)))) ⌝ }
 {
-    if !catalogue::stored(catalogue, relation) {
+    let known = catalogue::entry(catalogue, relation);
+    if !known.stored {
         return false;
     }
     if bound == 0 {
@@ -176,7 +161,7 @@ fn condition(bytes: &[u8], z: &mut [u16], catalogue: &[u8], relation: u8) -> Rea
     ensures { λ r. ⌜ r ≡ conditionReading (shapeIn (now (catalogue .entry))) 4 16 (permitScope relation) (now (bytes .entry)) ⌝ }
 {
     let mut reach = [0u16; 256];
-    conditions::scope::bind(&mut reach, 0, relation);
+    conditions::scope::enter(catalogue, &mut reach, VARIABLES, 0, relation);
     conditions::condition(bytes, z, 0, LEVELS, catalogue, VARIABLES, &mut reach)
 }
 
@@ -198,18 +183,18 @@ fn permit(list: &[u8], at: usize, catalogue: &[u8], z: &mut [u16]) -> Grant
         return Grant::Refused;
     }
     let c = part(bytes, n);
-    let bound = scans::count_bindings(c);
-    if model::PERMIT_BOUND < bound {
+    let bound = scans::tally(c, true);
+    if model::PERMIT_BOUND < bound.count {
         return Grant::Refused;
     }
-    let over = stored(catalogue, relation, c, bound);
+    let over = stored(catalogue, relation, c, bound.count);
     if !named(catalogue, relation, mask(here)) {
         return Grant::Whole(own + n, false, over);
     }
     if !inside {
         return Grant::Whole(own + n, false, over);
     }
-    Grant::Whole(own + n, bound_once(c, bound), over)
+    Grant::Whole(own + n, bound.once, over)
 }
 
 // The permits from a place on, at most so many.

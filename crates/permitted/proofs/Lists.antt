@@ -13,9 +13,9 @@ use Rattle.model.specs.Lists.{any, consIf, filter, below}
 use Rattle.model.proofs.Lists.{filter-append, filter-map}
 use Rattle.catalogue.specs.Layout.{rowsOf, latestOf}
 use Rattle.copier.specs.Guard.{part, picked}
-use Rattle.judges.specs.Marked.{Bits, Marked}
-use Rattle.judges.specs.Meets.{meetsBytes, rowOf}
-use Rattle.judges.proofs.Steps.{marked-same, marked-then, marked-nothing}
+use Rattle.permitted.specs.Marked.{Bits, Marked}
+use Rattle.permitted.specs.Meets.{meetsBytes, rowOf}
+use Rattle.permitted.proofs.judges.Steps.{marked-same, marked-then, marked-nothing}
 use Rattle.permitted.specs.Given.{meetsAny, numberAt, numbersFor, Listed}
 use Rattle.permitted.proofs.Marks.{filter-below}
 

@@ -40,7 +40,7 @@ use Rattle.numbers.specs.Memo.{knows}
 use Rattle.aggregates.specs.Filled.{filledC}
 use Rattle.aggregates.proofs.Faithful.{Unknown, faithful-holds, filled-faithful}
 use Rattle.plain.proofs.Memo.{none-bound}
-use Rattle.judges.specs.Meets.{noPlaces, ownMemo, meetsBytes}
+use Rattle.permitted.specs.Meets.{noPlaces, ownMemo, meetsBytes}
 
 -- a memo with nothing in it
 empty-unknown : (m : List ℤ) → ((i : ℕ) → getD m i (pos 0) ≡ pos 0) → (bs : List Binding) → Unknown m bs

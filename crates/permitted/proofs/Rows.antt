@@ -19,7 +19,7 @@ use Rattle.model.proofs.Limits.{Fine, Good}
 use Rattle.catalogue.proofs.Reading.{tuples-are}
 use Rattle.copier.specs.Guard.{picked}
 use Rattle.rewriter.specs.Rewritten.{StandsFor}
-use Rattle.judges.specs.Meets.{meetsBytes}
+use Rattle.permitted.specs.Meets.{meetsBytes}
 use Rattle.permitted.specs.Given.{meetsAny, rowsFor}
 use Rattle.permitted.proofs.Marks.{picked-same, Enough, enough-itself}
 use Rattle.permitted.proofs.Meets.{meets-is}

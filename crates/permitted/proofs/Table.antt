@@ -24,7 +24,7 @@ use Rattle.walks.specs.Walks.{walkOf, placeAt, places, walked}
 use Rattle.allrows.specs.Filled.{written, wholeOf}
 use Rattle.allrows.proofs.Table.{written-length, written-outside, written-other, written-here}
 use Rattle.allrows.proofs.All.{walked-whole}
-use Rattle.judges.specs.Meets.{rowOf}
+use Rattle.permitted.specs.Meets.{rowOf}
 use Rattle.permitted.specs.Given.{meetsAny, rowsFor, numberAt, numbersFor, Listed, keyOf, entered, Has, Keyed, Given, Low, Stepped, tiny}
 
 -- walks that lead to the same rows

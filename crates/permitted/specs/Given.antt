@@ -16,7 +16,7 @@ use Rattle.copier.specs.Guard.{picked}
 use Rattle.walks.specs.declared.Walk.{Walk}
 use Rattle.walks.specs.Walks.{walkOf, walked}
 use Rattle.allrows.specs.Filled.{written}
-use Rattle.judges.specs.Meets.{meetsBytes, rowOf}
+use Rattle.permitted.specs.Meets.{meetsBytes, rowOf}
 
 -- whether a row meets the condition of a part in mask m
 unfoldable pub meetsAny : List ℕ → List ℤ → (ℕ → List ℕ) → ℕ → Tuple → Bool

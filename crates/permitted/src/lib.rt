@@ -1,5 +1,7 @@
 // The permitted rows of each variable of a query, as lists of row numbers in its table of walks. Only permits' conditions are computed on a row that
 // is not permitted, before anything of the query runs. Variables over one relation with the same permits share a list.
+mod judges;
+
 use scans::Bound;
 use walks::Walk;
 ghost use mathlib.Core.Path.{_≡_};
@@ -15,8 +17,8 @@ ghost use Rattle.scans.specs.Flat.{boundBy, flatBindings};
 ghost use Rattle.scans.specs.declared.Bound.the-variants.{To, Nothing};
 ghost use Rattle.copier.specs.Guard.{part};
 ghost use Rattle.walks.specs.Walks.{walked, Fits};
-ghost use Rattle.judges.specs.Marked.{Bits, Marked};
-ghost use Rattle.judges.specs.Meets.{meetsBytes, rowOf};
+ghost use Rattle.permitted.specs.Marked.{Bits, Marked};
+ghost use Rattle.permitted.specs.Meets.{meetsBytes, rowOf};
 ghost use Rattle.permitted.specs.Given as G;
 
 const VARIABLES: usize = model::ASKED_VARIABLES as usize;
@@ -145,9 +147,8 @@ fn list_by(
     ensures { λ r. ⌜ (start ≤ r) × (r ≤ start + rowsOf (now (catalogue .entry)) relation) ⌝ }
 {
     judge_all(list, places, mask, catalogue, values, relation, marks);
-    let n = catalogue::rows(catalogue, relation);
-    let latest = catalogue::latest(catalogue, relation);
-    collect(marks, latest, n, walks, start)
+    let known = catalogue::entry(catalogue, relation);
+    collect(marks, known.latest, known.rows, walks, start)
 }
 
 fn list_few(
@@ -224,7 +225,8 @@ fn list_rows(
         relation) start r (now (walks .entry)) (now (walks .exit)) ⌝ }
     ensures { λ r. ⌜ (start ≤ r) × (r ≤ start + rowsOf (now (catalogue .entry)) relation) ⌝ }
 {
-    if catalogue::rows(catalogue, relation) <= 16 {
+    let known = catalogue::entry(catalogue, relation);
+    if known.rows <= 16 {
         return list_few(
             list,
             places,
@@ -250,11 +252,11 @@ fn list_rows(
 
 // A variable's walk and key.
 fn enter(walks: &mut [u16], variable: u8, walk: Walk, key: usize)
-    requires { ⌜ Fits walk × (key ≤ 65535) ⌝ }
+    requires { ⌜ Fits walk × (key ≤ 65535) × (variable < 8) × (64 ≤ length (now walks)) ⌝ }
     ensures { λ _. ⌜ now (walks .exit) ≡ G.entered (now (walks .entry)) variable walk key ⌝ }
 {
     allrows::put(walks, variable, walk);
-    allrows::store(walks, 8 * wide(variable) + 5, key);
+    walks[8 * wide(variable) + 5] = narrow(key);
 }
 
 fn key_of(relation: u8, mask: u8) -> usize
@@ -451,27 +453,4 @@ pub fn fill(
         next = fill_one(list, places, masks, catalogue, values, b, next, walks);
         at += scans::step(query, at);
     }
-}
-
-fn fits(catalogue: &[u8], b: Bound) -> bool
-    ensures { λ r. ⌜ r ≡ all (G.tiny (now (catalogue .entry))) (boundBy b) ⌝ }
-{
-    let Bound::To(_, relation) = b else {
-        return true;
-    };
-    catalogue::rows(catalogue, relation) <= 16
-}
-
-// Whether each bound relation has at most 16 rows.
-pub fn few(query: &[u8], catalogue: &[u8]) -> bool
-    ensures { λ r. ⌜ r ≡ all (G.tiny (now (catalogue .entry))) (flatBindings (now (query .entry))) ⌝ }
-{
-    let mut at = 0;
-    while at < query.len() {
-        if !fits(catalogue, scans::binding(query, at)) {
-            return false;
-        }
-        at += scans::step(query, at);
-    }
-    true
 }

@@ -15,7 +15,7 @@ ghost use Rattle.model.specs.Calls.{give, evaluate};
 ghost use Rattle.walks.specs.Walks.{rowsBy};
 ghost use Rattle.walks.specs.Assigned.{assigned};
 ghost use Rattle.queries.specs.Parts.{queryAt};
-ghost use Rattle.plain.specs.Reply.{answerOf, replyOf, planOf, memoOf, Answerable, Passed, Trusted, Unbound};
+ghost use Rattle.plain.specs.Reply.{answerOf, replyOf, planOf, memoOf, Answerable, Passed, Trusted};
 
 const LEVELS: usize = model::PLAIN_LEVELS;
 
@@ -103,7 +103,7 @@ fn plan_of(layout: Layout, level: usize) -> Plan
     }
 }
 
-// A query that passed its checks, over the rows of its walks, by a memo that says nothing false of it; no variable is bound yet. The tables for the
+// A query that passed its checks, over the rows of its walks, by a memo that says nothing false of it. The tables for the
 // answer's rows and for chains are lent, cleared.
 fn answer_in(
     q: &[u8],
@@ -112,25 +112,25 @@ fn answer_in(
     walks: &[u16],
     values: &[i32],
     memo: &[i64],
-    env: &mut [usize],
     answer: &mut [i64],
     table: &mut [u16],
     chains: &mut [u16],
 ) -> Reply
     requires { ⌜ Passed (task .layout) (task .level) (now q) (now z)
-        × Trusted (now memo) (rowsBy (now walks) (now values)) (queryAt (task .layout) (task .level) (now q) (now z)) × Unbound (now values) (now env)
+        × Trusted (now memo) (rowsBy (now walks) (now values)) (queryAt (task .layout) (task .level) (now q) (now z))
         × (length (now table) ≤ 65535) × ((i : ℕ) → getD (now table) i 0 ≡ 0) × ((i : ℕ) → getD (now chains) i 0 ≡ 0) ⌝ }
     ensures { λ r. ⌜ answerOf r (now (answer .exit)) ≡ give (length (queryOf (now (q .entry)) .targets))
         (answers (queryOf (now (q .entry))) (rowsBy (now (walks .entry)) (now (values .entry)))) (now (answer .entry)) ⌝ }
 {
     let mut t = [0u16; 512];
     let mut xs = [0i32; 128];
+    let mut env = [values.len(); 256];
     let layout = task.layout;
     let level = task.level;
     let n = layout.ranges;
     let c = layout.condition;
     conjuncts::plan(q, z, n, c, level, memo, &mut t, &mut xs);
-    odometer::link(q, n, &t, walks, values, chains);
+    decide::seeks::link(q, n, &t, walks, values, chains);
     let state = odometer::run(
         q,
         z,
@@ -141,7 +141,7 @@ fn answer_in(
         chains,
         values,
         memo,
-        env,
+        &mut env,
         answer,
         table,
     );
@@ -156,29 +156,17 @@ fn answer_unlinked(
     walks: &[u16],
     values: &[i32],
     memo: &[i64],
-    env: &mut [usize],
     answer: &mut [i64],
     table: &mut [u16],
 ) -> Reply
     requires { ⌜ Passed (task .layout) (task .level) (now q) (now z)
-        × Trusted (now memo) (rowsBy (now walks) (now values)) (queryAt (task .layout) (task .level) (now q) (now z)) × Unbound (now values) (now env)
+        × Trusted (now memo) (rowsBy (now walks) (now values)) (queryAt (task .layout) (task .level) (now q) (now z))
         × (length (now table) ≤ 65535) × ((i : ℕ) → getD (now table) i 0 ≡ 0) ⌝ }
     ensures { λ r. ⌜ answerOf r (now (answer .exit)) ≡ give (length (queryOf (now (q .entry)) .targets))
         (answers (queryOf (now (q .entry))) (rowsBy (now (walks .entry)) (now (values .entry)))) (now (answer .entry)) ⌝ }
 {
     let mut chains = [0u16; 1];
-    answer_in(
-        q,
-        z,
-        task,
-        walks,
-        values,
-        memo,
-        env,
-        answer,
-        table,
-        &mut chains,
-    )
+    answer_in(q, z, task, walks, values, memo, answer, table, &mut chains)
 }
 
 // The same with room for two chains of 1,024 rows.
@@ -189,29 +177,17 @@ fn answer_linked(
     walks: &[u16],
     values: &[i32],
     memo: &[i64],
-    env: &mut [usize],
     answer: &mut [i64],
     table: &mut [u16],
 ) -> Reply
     requires { ⌜ Passed (task .layout) (task .level) (now q) (now z)
-        × Trusted (now memo) (rowsBy (now walks) (now values)) (queryAt (task .layout) (task .level) (now q) (now z)) × Unbound (now values) (now env)
+        × Trusted (now memo) (rowsBy (now walks) (now values)) (queryAt (task .layout) (task .level) (now q) (now z))
         × (length (now table) ≤ 65535) × ((i : ℕ) → getD (now table) i 0 ≡ 0) ⌝ }
     ensures { λ r. ⌜ answerOf r (now (answer .exit)) ≡ give (length (queryOf (now (q .entry)) .targets))
         (answers (queryOf (now (q .entry))) (rowsBy (now (walks .entry)) (now (values .entry)))) (now (answer .entry)) ⌝ }
 {
     let mut chains = [0u16; 4168];
-    answer_in(
-        q,
-        z,
-        task,
-        walks,
-        values,
-        memo,
-        env,
-        answer,
-        table,
-        &mut chains,
-    )
+    answer_in(q, z, task, walks, values, memo, answer, table, &mut chains)
 }
 
 // The same with room for eight.
@@ -222,29 +198,17 @@ fn answer_chained(
     walks: &[u16],
     values: &[i32],
     memo: &[i64],
-    env: &mut [usize],
     answer: &mut [i64],
     table: &mut [u16],
 ) -> Reply
     requires { ⌜ Passed (task .layout) (task .level) (now q) (now z)
-        × Trusted (now memo) (rowsBy (now walks) (now values)) (queryAt (task .layout) (task .level) (now q) (now z)) × Unbound (now values) (now env)
+        × Trusted (now memo) (rowsBy (now walks) (now values)) (queryAt (task .layout) (task .level) (now q) (now z))
         × (length (now table) ≤ 65535) × ((i : ℕ) → getD (now table) i 0 ≡ 0) ⌝ }
     ensures { λ r. ⌜ answerOf r (now (answer .exit)) ≡ give (length (queryOf (now (q .entry)) .targets))
         (answers (queryOf (now (q .entry))) (rowsBy (now (walks .entry)) (now (values .entry)))) (now (answer .entry)) ⌝ }
 {
     let mut chains = [0u16; 16480];
-    answer_in(
-        q,
-        z,
-        task,
-        walks,
-        values,
-        memo,
-        env,
-        answer,
-        table,
-        &mut chains,
-    )
+    answer_in(q, z, task, walks, values, memo, answer, table, &mut chains)
 }
 
 // The same with one record more; no more than 1,000 are counted.
@@ -291,12 +255,11 @@ fn answer_walked(
     walks: &[u16],
     values: &[i32],
     memo: &[i64],
-    env: &mut [usize],
     answer: &mut [i64],
     table: &mut [u16],
 ) -> Reply
     requires { ⌜ Passed (task .layout) (task .level) (now q) (now z)
-        × Trusted (now memo) (rowsBy (now walks) (now values)) (queryAt (task .layout) (task .level) (now q) (now z)) × Unbound (now values) (now env)
+        × Trusted (now memo) (rowsBy (now walks) (now values)) (queryAt (task .layout) (task .level) (now q) (now z))
         × (length (now table) ≤ 65535) × ((i : ℕ) → getD (now table) i 0 ≡ 0) ⌝ }
     ensures { λ r. ⌜ answerOf r (now (answer .exit)) ≡ give (length (queryOf (now (q .entry)) .targets))
         (answers (queryOf (now (q .entry))) (rowsBy (now (walks .entry)) (now (values .entry)))) (now (answer .entry)) ⌝ }
@@ -304,12 +267,12 @@ fn answer_walked(
     let layout = task.layout;
     let n = chained(q, layout.ranges, walks) + holding(q) / 2;
     if n == 0 {
-        return answer_unlinked(q, z, task, walks, values, memo, env, answer, table);
+        return answer_unlinked(q, z, task, walks, values, memo, answer, table);
     }
     if n < 3 {
-        return answer_linked(q, z, task, walks, values, memo, env, answer, table);
+        return answer_linked(q, z, task, walks, values, memo, answer, table);
     }
-    answer_chained(q, z, task, walks, values, memo, env, answer, table)
+    answer_chained(q, z, task, walks, values, memo, answer, table)
 }
 
 // The same where the answer has at most 1,024 rows: 512 heads.
@@ -320,16 +283,15 @@ fn answer_few(
     walks: &[u16],
     values: &[i32],
     memo: &[i64],
-    env: &mut [usize],
     answer: &mut [i64],
 ) -> Reply
     requires { ⌜ Passed (task .layout) (task .level) (now q) (now z)
-        × Trusted (now memo) (rowsBy (now walks) (now values)) (queryAt (task .layout) (task .level) (now q) (now z)) × Unbound (now values) (now env) ⌝ }
+        × Trusted (now memo) (rowsBy (now walks) (now values)) (queryAt (task .layout) (task .level) (now q) (now z)) ⌝ }
     ensures { λ r. ⌜ answerOf r (now (answer .exit)) ≡ give (length (queryOf (now (q .entry)) .targets))
         (answers (queryOf (now (q .entry))) (rowsBy (now (walks .entry)) (now (values .entry)))) (now (answer .entry)) ⌝ }
 {
     let mut table = [0u16; 1536];
-    answer_walked(q, z, task, walks, values, memo, env, answer, &mut table)
+    answer_walked(q, z, task, walks, values, memo, answer, &mut table)
 }
 
 // The same for more rows: 4,096 heads, and 16,384 rows are linked.
@@ -340,16 +302,15 @@ fn answer_many(
     walks: &[u16],
     values: &[i32],
     memo: &[i64],
-    env: &mut [usize],
     answer: &mut [i64],
 ) -> Reply
     requires { ⌜ Passed (task .layout) (task .level) (now q) (now z)
-        × Trusted (now memo) (rowsBy (now walks) (now values)) (queryAt (task .layout) (task .level) (now q) (now z)) × Unbound (now values) (now env) ⌝ }
+        × Trusted (now memo) (rowsBy (now walks) (now values)) (queryAt (task .layout) (task .level) (now q) (now z)) ⌝ }
     ensures { λ r. ⌜ answerOf r (now (answer .exit)) ≡ give (length (queryOf (now (q .entry)) .targets))
         (answers (queryOf (now (q .entry))) (rowsBy (now (walks .entry)) (now (values .entry)))) (now (answer .entry)) ⌝ }
 {
     let mut table = [0u16; 20480];
-    answer_walked(q, z, task, walks, values, memo, env, answer, &mut table)
+    answer_walked(q, z, task, walks, values, memo, answer, &mut table)
 }
 
 // How many rows the ranges can give, exact up to 1,024. It promises nothing, since a table of any length will do: it only saves time.
@@ -377,11 +338,10 @@ fn answer_by(
     walks: &[u16],
     values: &[i32],
     memo: &[i64],
-    env: &mut [usize],
     answer: &mut [i64],
 ) -> Reply
     requires { ⌜ Passed (task .layout) (task .level) (now q) (now z)
-        × Trusted (now memo) (rowsBy (now walks) (now values)) (queryAt (task .layout) (task .level) (now q) (now z)) × Unbound (now values) (now env) ⌝ }
+        × Trusted (now memo) (rowsBy (now walks) (now values)) (queryAt (task .layout) (task .level) (now q) (now z)) ⌝ }
     ensures { λ r. ⌜ answerOf r (now (answer .exit)) ≡ give (length (queryOf (now (q .entry)) .targets))
         (answers (queryOf (now (q .entry))) (rowsBy (now (walks .entry)) (now (values .entry)))) (now (answer .entry)) ⌝ }
 {
@@ -390,9 +350,9 @@ fn answer_by(
     let most = most_rows(q, layout.ranges, walks);
     let n = if room < most { room } else { most };
     if 1024 < n {
-        return answer_many(q, z, task, walks, values, memo, env, answer);
+        return answer_many(q, z, task, walks, values, memo, answer);
     }
-    answer_few(q, z, task, walks, values, memo, env, answer)
+    answer_few(q, z, task, walks, values, memo, answer)
 }
 
 // The same where the query may have aggregates: each is evaluated once, into a memo with two cells for each variable.
@@ -402,18 +362,18 @@ fn answer_filled(
     task: Task,
     walks: &[u16],
     values: &[i32],
-    env: &mut [usize],
     answer: &mut [i64],
 ) -> Reply
-    requires { ⌜ Passed (task .layout) (task .level) (now q) (now z) × Unbound (now values) (now env) ⌝ }
+    requires { ⌜ Passed (task .layout) (task .level) (now q) (now z) ⌝ }
     ensures { λ r. ⌜ answerOf r (now (answer .exit)) ≡ give (length (queryOf (now (q .entry)) .targets))
         (answers (queryOf (now (q .entry))) (rowsBy (now (walks .entry)) (now (values .entry)))) (now (answer .entry)) ⌝ }
 {
     let mut memo = [0i64; 512];
+    let mut env = [values.len(); 256];
     let layout = task.layout;
     let level = task.level;
-    remember(q, z, layout, level, walks, values, env, &mut memo);
-    answer_by(q, z, task, walks, values, &memo, env, answer)
+    remember(q, z, layout, level, walks, values, &mut env, &mut memo);
+    answer_by(q, z, task, walks, values, &memo, answer)
 }
 
 // Twice the number of SOME records of a query, and 1 more where it has an aggregate. It promises little, since any memo that can be trusted and any
@@ -454,27 +414,16 @@ pub fn answer_query(
         (answers (queryOf (now (q .entry))) (rowsBy (now (walks .entry)) (now (values .entry)))) (now (answer .entry)) ⌝ }
 {
     let task = Task { layout, level };
-    let mut env = [values.len(); 256];
     let h = holding(q);
     if h % 2 == 1 {
-        return answer_filled(q, z, task, walks, values, &mut env, answer);
+        return answer_filled(q, z, task, walks, values, answer);
     }
     let memo = [0i64; 2];
     if !few(h, most_rows(q, layout.ranges, walks)) {
-        return answer_by(q, z, task, walks, values, &memo, &mut env, answer);
+        return answer_by(q, z, task, walks, values, &memo, answer);
     }
     let mut table = [0u16; 1];
-    answer_unlinked(
-        q,
-        z,
-        task,
-        walks,
-        values,
-        &memo,
-        &mut env,
-        answer,
-        &mut table,
-    )
+    answer_unlinked(q, z, task, walks, values, &memo, answer, &mut table)
 }
 
 // The same over all rows.

@@ -4,11 +4,10 @@ use mathlib.Core.Bool.{Bool, true, false, not}
 use mathlib.Core.List.{List, [], _∷_}
 use mathlib.Core.Option.{some}
 use Prim.Native.Nat.{ℕ, zero, suc, _+_, _-_, _<_}
-use native.Mathlib.Omega.{arith}
 use native.Mathlib.Numerals.{sub-one}
 use lib.ListN.{length, getD, drop, set}
-use Rattle.model.specs.Lists.{update, any, all, unique, contains}
-use Rattle.model.specs.Syntax.{Binding, variables}
+use Rattle.model.specs.Lists.{update, all}
+use Rattle.model.specs.Syntax.{Binding}
 use Rattle.model.specs.Catalogue.{Shape}
 use Rattle.model.specs.Scope.{Scope, nobody, knownBinding, rangeScope}
 use Rattle.model.proofs.Tests.{not-yes, not-no}
@@ -60,10 +59,3 @@ pub scope-ranges : (bs : List Binding) → reachOn bs nobody ≡ rangeScope bs
 unfolding reachOn rangeScope
 scope-ranges [] = refl
 scope-ranges (b ∷ bs) = ap (λ (σ : Scope). update σ (b .variable) (some (b .relation))) (scope-ranges bs)
-
--- one variable is not bound twice
-pub one-bound : (bs : List Binding) → length bs < 2 → true ≡ unique (variables bs)
-unfolding unique contains any
-one-bound [] h = refl
-one-bound (b ∷ []) h = refl
-one-bound (b ∷ c ∷ bs) h = absurd (omega arith)

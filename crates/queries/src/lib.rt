@@ -7,10 +7,9 @@ ghost use mathlib.Core.Path.{_≡_};
 ghost use mathlib.Core.Bool.{cond, true, false};
 ghost use Prim.Native.Nat.{_≤_, _<_};
 ghost use lib.ListN.{length, drop};
-ghost use Rattle.model.specs.Lists.{all, unique};
+ghost use Rattle.model.specs.Lists.{all};
 ghost use Rattle.model.specs.Syntax.{variables};
 ghost use Rattle.model.specs.Scope.{knownBinding};
-ghost use Rattle.scans.specs.Flat.{flatBindings};
 ghost use Rattle.conditions.specs.Reach.{scopeOf, shapeIn};
 ghost use Rattle.sizes.specs.Parts.{rangesAt};
 ghost use Rattle.model.specs.Catalogue.{catalogueOf, shapeOf};
@@ -32,42 +31,29 @@ pub enum Checked {
     Passed(Layout),
 }
 
-// Whether so many RANGE records bind known variables to known relations.
-fn ranges_known(ranges: &[u8], left: usize, catalogue: &[u8], limit: u8) -> bool
+// Puts the variables of so many RANGE records in reach; whether they and their relations have known numbers.
+fn bind_ranges(ranges: &[u8], left: usize, catalogue: &[u8], limit: u8, reach: &mut [u16]) -> bool
+    requires { ⌜ 256 ≤ length (now reach) ⌝ }
     ensures { λ r. ⌜ r ≡ all (knownBinding (shapeIn (now (catalogue .entry))) limit) (rangesAt left (now (ranges .entry))) ⌝ }
+    ensures { λ _. ⌜ scopeOf (now (reach .exit)) ≡ reachOn (rangesAt left (now (ranges .entry))) (scopeOf (now (reach .entry))) ⌝ }
 {
     if left == 0 {
         return true;
     }
-    let variable = kinds::byte(ranges, 1);
-    let relation = kinds::byte(ranges, 2);
-    if !conditions::scope::known(catalogue, limit, variable, relation) {
-        return false;
-    }
-    ranges_known(
+    let others = bind_ranges(
         kinds::tail(ranges, kinds::record_length(1)),
         left - 1,
         catalogue,
         limit,
-    )
-}
-
-// Puts the variables of so many RANGE records in reach.
-fn bind_ranges(ranges: &[u8], left: usize, reach: &mut [u16])
-    requires { ⌜ 256 ≤ length (now reach) ⌝ }
-    ensures { λ _. ⌜ scopeOf (now (reach .exit)) ≡ reachOn (rangesAt left (now (ranges .entry))) (scopeOf (now (reach .entry))) ⌝ }
-{
-    if left == 0 {
-        return;
-    }
-    bind_ranges(
-        kinds::tail(ranges, kinds::record_length(1)),
-        left - 1,
         reach,
     );
     let variable = kinds::byte(ranges, 1);
     let relation = kinds::byte(ranges, 2);
-    conditions::scope::bind(reach, variable, relation);
+    let known = conditions::scope::enter(catalogue, reach, limit, variable, relation);
+    if !known {
+        return false;
+    }
+    others
 }
 
 fn wide(x: u8) -> usize
@@ -209,17 +195,6 @@ fn rest(
     Found::Whole(layout, last)
 }
 
-// Whether no number is bound twice; so many are bound.
-fn bound_once(q: &[u8], bound: usize) -> bool
-    requires { ⌜ bound ≡ length (flatBindings (now q)) ⌝ }
-    ensures { λ r. ⌜ r ≡ unique (variables (flatBindings (now (q .entry)))) ⌝ }
-{
-    if bound < 2 {
-        return true;
-    }
-    scans::bound_once(q, false)
-}
-
 // A query that passes 30 and 31, its table of sizes filled; whether it passes 32.
 fn read(q: &[u8], limits: Limits, catalogue: &[u8], z: &mut [u16]) -> Found
     requires { ⌜ (fails10 (now catalogue) ≡ false) × (length (now q) ≤ limits .bytes → length (now q) ≤ length (now z)) × (limits .bytes < 65536) ⌝ }
@@ -232,23 +207,23 @@ fn read(q: &[u8], limits: Limits, catalogue: &[u8], z: &mut [u16]) -> Found
     if bytes < q.len() {
         return Found::Refused;
     }
-    let bound = scans::count_bindings(q);
-    if wide(variables) < bound {
+    let bound = scans::tally(q, false);
+    if wide(variables) < bound.count {
         return Found::Refused;
     }
     let n = count_ranges(q, model::RANGES);
     let mut reach = [0u16; 256];
-    bind_ranges(q, n, &mut reach);
+    let known = bind_ranges(q, n, catalogue, variables, &mut reach);
     let Found::Whole(layout, inside) = rest(q, z, n, level, catalogue, variables, &mut reach) else {
         return Found::Refused;
     };
     if !inside {
         return Found::Whole(layout, false);
     }
-    if !ranges_known(q, n, catalogue, variables) {
+    if !known {
         return Found::Whole(layout, false);
     }
-    Found::Whole(layout, bound_once(q, bound))
+    Found::Whole(layout, bound.once)
 }
 
 // The number of a query that was not read: 30 where it is not well formed at any depth, else 31.

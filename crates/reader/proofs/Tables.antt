@@ -1,13 +1,14 @@
--- The first n kinds say the same as all, for tokens before the nth.
-use Prim.Native.Nat.{ℕ, zero, suc, _+_, _≤_}
+-- The first n kinds say the same as all, for tokens before the nth; their codes too.
+use Prim.Native.Nat.{ℕ, zero, suc, _+_, _≤_, _<_}
 use mathlib.Core.List.{List, _∷_}
 use mathlib.Core.Path.{_≡_, refl, sym, ap, ap₂, _∙_}
 use native.Mathlib.Omega.{arith}
 use lib.ListN.{length, getD, take, drop}
 use lib.Seq.{getD-take, length-take-le}
 use Rattle.quel.specs.Tokens.{Token}
+use Rattle.tokens.specs.Codes.{Coded}
 use Rattle.tokens.specs.Table.{tokenOf, wordIn, tokenAt, tokensAt}
-use Rattle.marks.specs.Places.{table, tokensFrom}
+use Rattle.elaborate.specs.Places.{table, tokensFrom}
 
 module _ (text ks ss ls ns : List ℕ) (n : ℕ) where
   same-tokens : (m i : ℕ) → i + m ≤ n → tokensAt text (table ks ss ls ns) i m ≡ tokensAt text (table (take n ks) ss ls ns) i m
@@ -21,3 +22,8 @@ module _ (text ks ss ls ns : List ℕ) (n : ℕ) where
   pub first-tokens : n ≤ length ks → tokensAt text (table ks ss ls ns) 0 n ≡ tokensFrom text (table (take n ks) ss ls ns) 0
   unfolding tokensFrom
   first-tokens h = same-tokens n 0 (omega arith) ∙ ap (λ (m : ℕ). tokensAt text (table (take n ks) ss ls ns) 0 m) (omega (arith, length-take-le n ks h))
+
+-- the first n kinds
+pub coded-first : (text K S L N : List ℕ) (n : ℕ) → n ≤ length K → Coded text (table K S L N) n → Coded text (table (take n K) S L N) (length (take n K))
+unfolding wordIn
+coded-first text K S L N n h c = record { spelt = λ i l z. let m : i < n = omega (arith, l, length-take-le n K h) in c .spelt i m (sym (getD-take n K i 0 m) ∙ z) }

@@ -17,7 +17,8 @@ use Rattle.grammar.specs.declared.Layout.{Layout}
 use Rattle.copier.specs.Guard.{opening, guardBytes, guardNew}
 use Rattle.copier.proofs.Sets.{Wrote, wrote-then, wrote-as}
 use Rattle.rewriter.specs.Rewritten.{maskOf, newOf, rewritten, rewrittenT, Room, After}
-use Rattle.rewriter.specs.Parts.{queryAt, targetsBytes, targetsNew, openings, rangeGuards, finalBytes, queryBytes, queryNew}
+use Rattle.queries.specs.Parts.{queryAt}
+use Rattle.rewriter.specs.Parts.{targetsBytes, targetsNew, openings, rangeGuards, finalBytes, queryBytes, queryNew}
 use Rattle.rewriter.proofs.Runs.{Did, did-as, did-then, did-head, room-left, room-then, room-as}
 
 -- bytes that are two runs

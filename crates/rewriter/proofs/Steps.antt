@@ -10,10 +10,12 @@ use types.Run.{OneOf, miss}
 use Rattle.model.specs.Lists.{total}
 use Rattle.model.proofs.Lists.{total-append}
 use Rattle.model.specs.Syntax.{Condition, Term, TRUE, FALSE, NOT, AND, OR, COMPARE, SOME, CONSTANT, ATTRIBUTE, AGGREGATE, Binding, bindings, bindingsT}
-use Rattle.kinds.specs.Record.{recordAt}
-use Rattle.kinds.specs.declared.Record.{Record}
-use Rattle.kinds.specs.declared.Record.the-variants as R
-use Rattle.kinds.proofs.Record.{enum}
+use Rattle.kinds.specs.Places.{conditionAt, termAt}
+use Rattle.kinds.specs.declared.ConditionRecord.{ConditionRecord}
+use Rattle.kinds.specs.declared.ConditionRecord.the-variants as C
+use Rattle.kinds.specs.declared.TermRecord.{TermRecord}
+use Rattle.kinds.specs.declared.TermRecord.the-variants as T
+use Rattle.kinds.proofs.ConditionRecord.{enum}
 use Rattle.sizes.specs.Decode.{first, second, decode, decodeT, conditionBy, termBy, nothing}
 use Rattle.sizes.proofs.Decoding.{decode-zero, decode-step, decodeT-zero, decodeT-step}
 use Rattle.copier.specs.Guard.{guardNew}
@@ -64,83 +66,61 @@ module _ (masks : List ℕ) (f : ℕ → List ℕ) where
     zero-leafT h = leafT nothing (32 ∷ 0 ∷ 0 ∷ 0 ∷ 0 ∷ []) (decodeT-zero l q z h) (λ n. refl) refl
 
     module _ (h : l ≡ 0 → ⊥) where
-      pub true-leaf : recordAt q ≡ R.True → Leaf W K (16 ∷ [])
+      pub true-leaf : conditionAt q ≡ C.True → Leaf W K (16 ∷ [])
       unfolding rewritten bindings
-      true-leaf e = leaf TRUE (16 ∷ []) (decode-step l q z R.True h e) (λ n. refl) refl
+      true-leaf e = leaf TRUE (16 ∷ []) (decode-step l q z C.True h e) (λ n. refl) refl
 
-      pub not-shape : recordAt q ≡ R.Not → Shape W K (18 ∷ []) (λ n. from (conditionBytes masks f (l - 1)) (first q) q z n) (from (conditionNew masks f (l - 1)) (first q) q z)
+      pub not-shape : conditionAt q ≡ C.Not → Shape W K (18 ∷ []) (λ n. from (conditionBytes masks f (l - 1)) (first q) q z n) (from (conditionNew masks f (l - 1)) (first q) q z)
       unfolding rewritten bindings
-      not-shape e = shape _ (18 ∷ []) _ _ (decode-step l q z R.Not h e) (λ n. refl) refl
+      not-shape e = shape _ (18 ∷ []) _ _ (decode-step l q z C.Not h e) (λ n. refl) refl
 
-      pub and-shape : recordAt q ≡ R.And → Shape W K (19 ∷ []) (λ n. bothBytes (conditionBytes masks f (l - 1)) (conditionNew masks f (l - 1)) q z n) (bothNew (conditionNew masks f (l - 1)) q z)
+      pub and-shape : conditionAt q ≡ C.And → Shape W K (19 ∷ []) (λ n. bothBytes (conditionBytes masks f (l - 1)) (conditionNew masks f (l - 1)) q z n) (bothNew (conditionNew masks f (l - 1)) q z)
       unfolding rewritten bindings
-      and-shape e = shape _ (19 ∷ []) _ _ (decode-step l q z R.And h e) (λ n. refl) (new-append _ _)
+      and-shape e = shape _ (19 ∷ []) _ _ (decode-step l q z C.And h e) (λ n. refl) (new-append _ _)
 
-      pub or-shape : recordAt q ≡ R.Or → Shape W K (20 ∷ []) (λ n. bothBytes (conditionBytes masks f (l - 1)) (conditionNew masks f (l - 1)) q z n) (bothNew (conditionNew masks f (l - 1)) q z)
+      pub or-shape : conditionAt q ≡ C.Or → Shape W K (20 ∷ []) (λ n. bothBytes (conditionBytes masks f (l - 1)) (conditionNew masks f (l - 1)) q z n) (bothNew (conditionNew masks f (l - 1)) q z)
       unfolding rewritten bindings
-      or-shape e = shape _ (20 ∷ []) _ _ (decode-step l q z R.Or h e) (λ n. refl) (new-append _ _)
+      or-shape e = shape _ (20 ∷ []) _ _ (decode-step l q z C.Or h e) (λ n. refl) (new-append _ _)
 
-      pub compare-shape : (o : ℕ) → recordAt q ≡ R.Compare o → Shape W K (21 ∷ o ∷ []) (λ n. bothBytes (termBytes masks f (l - 1)) (termNew masks f (l - 1)) q z n) (bothNew (termNew masks f (l - 1)) q z)
+      pub compare-shape : (o : ℕ) → conditionAt q ≡ C.Compare o → Shape W K (21 ∷ o ∷ []) (λ n. bothBytes (termBytes masks f (l - 1)) (termNew masks f (l - 1)) q z n) (bothNew (termNew masks f (l - 1)) q z)
       unfolding rewritten bindings
-      compare-shape o e = shape _ (21 ∷ o ∷ []) _ _ (decode-step l q z (R.Compare o) h e) (λ n. refl) (new-append _ _)
+      compare-shape o e = shape _ (21 ∷ o ∷ []) _ _ (decode-step l q z (C.Compare o) h e) (λ n. refl) (new-append _ _)
 
-      pub some-shape : (v r : ℕ) → recordAt q ≡ R.Some v r → Shape W K (22 ∷ v ∷ r ∷ []) (λ n. underBytes masks f v (l - 1) q z n) (underNew masks f v (l - 1) q z)
+      pub some-shape : (v r : ℕ) → conditionAt q ≡ C.Some v r → Shape W K (22 ∷ v ∷ r ∷ []) (λ n. underBytes masks f v (l - 1) q z n) (underNew masks f v (l - 1) q z)
       unfolding rewritten bindings
-      some-shape v r e = shape _ (22 ∷ v ∷ r ∷ []) _ _ (decode-step l q z (R.Some v r) h e) (λ n. refl) (new-cons v r _)
+      some-shape v r e = shape _ (22 ∷ v ∷ r ∷ []) _ _ (decode-step l q z (C.Some v r) h e) (λ n. refl) (new-cons v r _)
 
-      pub constant-leaf : (a b c d : ℕ) → recordAt q ≡ R.Constant a b c d → Leaf U J (32 ∷ a ∷ b ∷ c ∷ d ∷ [])
+      pub constant-leaf : (a b c d : ℕ) → termAt q ≡ T.Constant a b c d → Leaf U J (32 ∷ a ∷ b ∷ c ∷ d ∷ [])
       unfolding rewritten bindings
-      constant-leaf a b c d e = leafT (CONSTANT a b c d) (32 ∷ a ∷ b ∷ c ∷ d ∷ []) (decodeT-step l q z (R.Constant a b c d) h e) (λ n. refl) refl
+      constant-leaf a b c d e = leafT (CONSTANT a b c d) (32 ∷ a ∷ b ∷ c ∷ d ∷ []) (decodeT-step l q z (T.Constant a b c d) h e) (λ n. refl) refl
 
-      pub attribute-leaf : (v a : ℕ) → recordAt q ≡ R.Attribute v a → Leaf U J (33 ∷ v ∷ a ∷ [])
+      pub attribute-leaf : (v a : ℕ) → termAt q ≡ T.Attribute v a → Leaf U J (33 ∷ v ∷ a ∷ [])
       unfolding rewritten bindings
-      attribute-leaf v a e = leafT (ATTRIBUTE v a) (33 ∷ v ∷ a ∷ []) (decodeT-step l q z (R.Attribute v a) h e) (λ n. refl) refl
+      attribute-leaf v a e = leafT (ATTRIBUTE v a) (33 ∷ v ∷ a ∷ []) (decodeT-step l q z (T.Attribute v a) h e) (λ n. refl) refl
 
-      pub aggregate-shape : (g v r a : ℕ) → recordAt q ≡ R.Aggregate g v r a → Shape U J (34 ∷ g ∷ v ∷ r ∷ a ∷ []) (λ n. underBytes masks f v (l - 1) q z n) (underNew masks f v (l - 1) q z)
+      pub aggregate-shape : (g v r a : ℕ) → termAt q ≡ T.Aggregate g v r a → Shape U J (34 ∷ g ∷ v ∷ r ∷ a ∷ []) (λ n. underBytes masks f v (l - 1) q z n) (underNew masks f v (l - 1) q z)
       unfolding rewritten bindings
       aggregate-shape g v r a e =
-          let p : decodeT l q z ≡ AGGREGATE g v r a (decode (l - 1) (drop (first q) q) (drop (first q) z)) = decodeT-step l q z (R.Aggregate g v r a) h e in
+          let p : decodeT l q z ≡ AGGREGATE g v r a (decode (l - 1) (drop (first q) q) (drop (first q) z)) = decodeT-step l q z (T.Aggregate g v r a) h e in
           record { bytes = λ n. ap (λ (x : Term). rewrittenT masks f x n) p; numbers = ap (λ (x : Term). newOf masks f (bindingsT x)) p ∙ new-cons v r _ }
 
 -- any other record is FALSE, or the constant 0
 module _ (c : List ℕ → List ℕ → Condition) (t : List ℕ → List ℕ → Term) (q z : List ℕ) where
-  no-condition : (r : Record) → OneOf (0 ∷ 2 ∷ 8 ∷ 9 ∷ 10 ∷ 11 ∷ 12 ∷ 13 ∷ []) (tagOf (declared enum) r) → conditionBy r c t q z ≡ FALSE
-  no-condition R.True h = absurd (miss (0 ∷ 2 ∷ 8 ∷ 9 ∷ 10 ∷ 11 ∷ 12 ∷ 13 ∷ []) 1 tt h)
-  no-condition R.Not h = absurd (miss (0 ∷ 2 ∷ 8 ∷ 9 ∷ 10 ∷ 11 ∷ 12 ∷ 13 ∷ []) 3 tt h)
-  no-condition R.And h = absurd (miss (0 ∷ 2 ∷ 8 ∷ 9 ∷ 10 ∷ 11 ∷ 12 ∷ 13 ∷ []) 4 tt h)
-  no-condition R.Or h = absurd (miss (0 ∷ 2 ∷ 8 ∷ 9 ∷ 10 ∷ 11 ∷ 12 ∷ 13 ∷ []) 5 tt h)
-  no-condition (R.Compare o) h = absurd (miss (0 ∷ 2 ∷ 8 ∷ 9 ∷ 10 ∷ 11 ∷ 12 ∷ 13 ∷ []) 6 tt h)
-  no-condition (R.Some v r) h = absurd (miss (0 ∷ 2 ∷ 8 ∷ 9 ∷ 10 ∷ 11 ∷ 12 ∷ 13 ∷ []) 7 tt h)
-  no-condition R.False h = refl
-  no-condition (R.Range v r) h = refl
-  no-condition (R.Constant a b c d) h = refl
-  no-condition (R.Attribute v a) h = refl
-  no-condition (R.Aggregate g v r a) h = refl
-  no-condition (R.Permit a b c) h = refl
-  no-condition R.Unknown h = refl
-  no-condition R.Short h = refl
+  no-condition : (r : ConditionRecord) → OneOf (1 ∷ 7 ∷ []) (tagOf (declared enum) r) → conditionBy r c t q z ≡ FALSE
+  no-condition C.True h = absurd (miss (1 ∷ 7 ∷ []) 0 tt h)
+  no-condition C.False h = refl
+  no-condition C.Not h = absurd (miss (1 ∷ 7 ∷ []) 2 tt h)
+  no-condition C.And h = absurd (miss (1 ∷ 7 ∷ []) 3 tt h)
+  no-condition C.Or h = absurd (miss (1 ∷ 7 ∷ []) 4 tt h)
+  no-condition (C.Compare o) h = absurd (miss (1 ∷ 7 ∷ []) 5 tt h)
+  no-condition (C.Some v r) h = absurd (miss (1 ∷ 7 ∷ []) 6 tt h)
+  no-condition C.Other h = refl
 
-  no-term : (r : Record) → OneOf (0 ∷ 1 ∷ 2 ∷ 3 ∷ 4 ∷ 5 ∷ 6 ∷ 7 ∷ 11 ∷ 12 ∷ 13 ∷ []) (tagOf (declared enum) r) → termBy r c q z ≡ nothing
-  no-term (R.Constant a b c d) h = absurd (miss (0 ∷ 1 ∷ 2 ∷ 3 ∷ 4 ∷ 5 ∷ 6 ∷ 7 ∷ 11 ∷ 12 ∷ 13 ∷ []) 8 tt h)
-  no-term (R.Attribute v a) h = absurd (miss (0 ∷ 1 ∷ 2 ∷ 3 ∷ 4 ∷ 5 ∷ 6 ∷ 7 ∷ 11 ∷ 12 ∷ 13 ∷ []) 9 tt h)
-  no-term (R.Aggregate g v r a) h = absurd (miss (0 ∷ 1 ∷ 2 ∷ 3 ∷ 4 ∷ 5 ∷ 6 ∷ 7 ∷ 11 ∷ 12 ∷ 13 ∷ []) 10 tt h)
-  no-term (R.Range v r) h = refl
-  no-term R.True h = refl
-  no-term R.False h = refl
-  no-term R.Not h = refl
-  no-term R.And h = refl
-  no-term R.Or h = refl
-  no-term (R.Compare o) h = refl
-  no-term (R.Some v r) h = refl
-  no-term (R.Permit a b c) h = refl
-  no-term R.Unknown h = refl
-  no-term R.Short h = refl
-
-module _ (masks : List ℕ) (f : ℕ → List ℕ) (l : ℕ) (q z : List ℕ) (h : l ≡ 0 → ⊥) (r : Record) (e : r ≡ recordAt q) where
-  pub rest-leaf : OneOf (0 ∷ 2 ∷ 8 ∷ 9 ∷ 10 ∷ 11 ∷ 12 ∷ 13 ∷ []) (tagOf (declared enum) r) → Leaf (W masks f l q z) (K masks f l q z) (17 ∷ [])
+module _ (masks : List ℕ) (f : ℕ → List ℕ) (l : ℕ) (q z : List ℕ) (h : l ≡ 0 → ⊥) where
+  pub rest-leaf : (r : ConditionRecord) → r ≡ conditionAt q → OneOf (1 ∷ 7 ∷ []) (tagOf (declared enum) r) → Leaf (W masks f l q z) (K masks f l q z) (17 ∷ [])
   unfolding rewritten bindings
-  rest-leaf o = leaf masks f l q z FALSE (17 ∷ []) (decode-step l q z r h (sym e) ∙ no-condition (λ x y. decode (l - 1) x y) (λ x y. decodeT (l - 1) x y) q z r o) (λ n. refl) refl
+  rest-leaf r e o = leaf masks f l q z FALSE (17 ∷ []) (decode-step l q z r h (sym e) ∙ no-condition (λ x y. decode (l - 1) x y) (λ x y. decodeT (l - 1) x y) q z r o) (λ n. refl) refl
 
-  pub rest-leafT : OneOf (0 ∷ 1 ∷ 2 ∷ 3 ∷ 4 ∷ 5 ∷ 6 ∷ 7 ∷ 11 ∷ 12 ∷ 13 ∷ []) (tagOf (declared enum) r) → Leaf (U masks f l q z) (J masks f l q z) (32 ∷ 0 ∷ 0 ∷ 0 ∷ 0 ∷ [])
+  pub rest-leafT : (r : TermRecord) → r ≡ termAt q → r ≡ T.Other → Leaf (U masks f l q z) (J masks f l q z) (32 ∷ 0 ∷ 0 ∷ 0 ∷ 0 ∷ [])
   unfolding rewritten bindings
-  rest-leafT o = leafT masks f l q z nothing (32 ∷ 0 ∷ 0 ∷ 0 ∷ 0 ∷ []) (decodeT-step l q z r h (sym e) ∙ no-term (λ x y. decode (l - 1) x y) (λ x y. decodeT (l - 1) x y) q z r o) (λ n. refl) refl
+  rest-leafT r e o = leafT masks f l q z nothing (32 ∷ 0 ∷ 0 ∷ 0 ∷ 0 ∷ []) (decodeT-step l q z T.Other h (sym e ∙ o)) (λ n. refl) refl

@@ -1,23 +1,11 @@
 -- The bytes of a rewritten query, part by part (document 01, "Permits and the rewriting", step 4 and the numbering).
-use Prim.Native.Nat.{ℕ, zero, suc, _+_}
+use Prim.Native.Nat.{ℕ, _+_}
 use mathlib.Core.List.{List, [], _∷_, _++_}
-use lib.ListN.{drop, getD}
-use Rattle.model.specs.Lists.{concatMap}
+use lib.ListN.{getD}
 use Rattle.model.specs.Syntax.{Condition, Term, Binding, Query, bindings, bindingsT}
 use Rattle.model.specs.Encoding.{encodeRanges}
-use Rattle.sizes.specs.Decode.{decode}
-use Rattle.sizes.specs.Parts.{rangesAt, targetsAt}
-use Rattle.grammar.specs.declared.Layout.{Layout}
 use Rattle.copier.specs.Guard.{opening, guardBytes, guardNew}
 use Rattle.rewriter.specs.Rewritten.{maskOf, newOf, rewritten, rewrittenT}
-
--- the query that bytes and their table stand for, its parts standing as the layout says
-abbrev pub queryAt : Layout → ℕ → List ℕ → List ℕ → Query
-queryAt y l q z = record {
-  ranges = rangesAt (y .ranges) q;
-  targets = targetsAt (y .targets) l (drop (y .first) q) (drop (y .first) z);
-  condition = decode l (drop (y .condition) q) (drop (y .condition) z);
-}
 
 -- an AND for each RANGE with a guard, before the final condition
 unfoldable pub openings : List ℕ → List Binding → List ℕ

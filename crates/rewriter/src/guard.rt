@@ -164,9 +164,10 @@ fn write_turn(
     }
     let p = put_unless(out, at, mask / 2, 20);
     let e = copy_condition(out, p, condition, variable, next);
+    let bindings = scans::tally(condition, false);
     Written {
         at: e,
-        next: next + scans::count_bindings(condition),
+        next: next + bindings.count,
     }
 }
 

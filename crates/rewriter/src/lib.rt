@@ -3,7 +3,9 @@ mod guard;
 
 use grammar::Layout;
 use guard::Written;
+use kinds::ConditionRecord;
 use kinds::Record;
+use kinds::TermRecord;
 ghost use mathlib.Core.Path.{_≡_};
 ghost use mathlib.Core.List.{List, [], _∷_, _++_};
 ghost use Prim.Native.Nat.{ℕ, _+_, _≤_, _<_};
@@ -14,7 +16,8 @@ ghost use Rattle.copier.specs.Guard.{part};
 ghost use Rattle.copier.specs.Copied.{recordBytes};
 ghost use Rattle.model.specs.Encoding.{encodeRanges};
 ghost use Rattle.sizes.specs.Parts.{rangesAt, targetsAt};
-ghost use Rattle.rewriter.specs.Parts.{queryAt, targetsBytes, targetsNew, openings, rangeGuards, queryBytes, queryNew};
+ghost use Rattle.queries.specs.Parts.{queryAt};
+ghost use Rattle.rewriter.specs.Parts.{targetsBytes, targetsNew, openings, rangeGuards, queryBytes, queryNew};
 ghost use Rattle.rewriter.specs.Rewritten.{maskOf, newOf, conditionBytes, conditionNew, termBytes, termNew, bothBytes, bothNew, underBytes, underNew, Room, After};
 
 // The place of the first child.
@@ -61,47 +64,51 @@ fn condition(
     places: &[usize],
     masks: &[u8],
     out: &mut [u8],
-    at: usize,
-    next: usize,
+    to: Written,
     level: usize,
 ) -> Written
-    requires { ⌜ Room at next (conditionBytes (now masks) (part (now permits) (now places)) level (now q) (now z) next)
+    requires { ⌜ Room (to .at) (to .next) (conditionBytes (now masks) (part (now permits) (now places)) level (now q) (now z) (to .next))
         (conditionNew (now masks) (part (now permits) (now places)) level (now q) (now z)) ⌝ }
-    ensures { λ r. ⌜ After at next (conditionBytes (now (masks .entry)) (part (now (permits .entry)) (now (places .entry))) level (now (q .entry))
-        (now (z .entry)) next) (conditionNew (now (masks .entry)) (part (now (permits .entry)) (now (places .entry))) level (now (q .entry))
+    ensures { λ r. ⌜ After (to .at) (to .next) (conditionBytes (now (masks .entry)) (part (now (permits .entry)) (now (places .entry))) level (now (q .entry))
+        (now (z .entry)) (to .next)) (conditionNew (now (masks .entry)) (part (now (permits .entry)) (now (places .entry))) level (now (q .entry))
         (now (z .entry))) (r .at) (r .next) ⌝ }
-    ensures { λ _. ⌜ now (out .exit) ≡ sets (now (out .entry)) at (conditionBytes (now (masks .entry))
-        (part (now (permits .entry)) (now (places .entry))) level (now (q .entry)) (now (z .entry)) next) ⌝ }
+    ensures { λ _. ⌜ now (out .exit) ≡ sets (now (out .entry)) (to .at) (conditionBytes (now (masks .entry))
+        (part (now (permits .entry)) (now (places .entry))) level (now (q .entry)) (now (z .entry)) (to .next)) ⌝ }
 {
     if level == 0 {
-        return leaf(out, at, next, Record::False);
+        return leaf(out, to.at, to.next, Record::False);
     }
-    match kinds::read(q) {
-        Record::True => leaf(out, at, next, Record::True),
-        Record::Not => {
-            let p = copier::put(out, at, 18);
+    match kinds::condition_record(q) {
+        ConditionRecord::True => leaf(out, to.at, to.next, Record::True),
+        ConditionRecord::Not => {
+            let mut then = to;
+            then.at = copier::put(out, to.at, 18);
             let a = first_child(q);
             let x = kinds::tail(q, a);
             let y = kinds::tail_sizes(z, a);
-            condition(x, y, permits, places, masks, out, p, next, level - 1)
+            condition(x, y, permits, places, masks, out, then, level - 1)
         }
-        Record::And => {
-            let p = copier::put(out, at, 19);
-            conditions(q, z, permits, places, masks, out, p, next, level - 1)
+        ConditionRecord::And => {
+            let mut then = to;
+            then.at = copier::put(out, to.at, 19);
+            conditions(q, z, permits, places, masks, out, then, level - 1)
         }
-        Record::Or => {
-            let p = copier::put(out, at, 20);
-            conditions(q, z, permits, places, masks, out, p, next, level - 1)
+        ConditionRecord::Or => {
+            let mut then = to;
+            then.at = copier::put(out, to.at, 20);
+            conditions(q, z, permits, places, masks, out, then, level - 1)
         }
-        Record::Compare(o) => {
-            let p = copier::put_record(out, at, Record::Compare(o));
-            terms(q, z, permits, places, masks, out, p, next, level - 1)
+        ConditionRecord::Compare(o) => {
+            let mut then = to;
+            then.at = copier::put_record(out, to.at, Record::Compare(o));
+            terms(q, z, permits, places, masks, out, then, level - 1)
         }
-        Record::Some(v, r) => {
-            let p = copier::put_record(out, at, Record::Some(v, r));
-            under(q, z, permits, places, masks, out, p, next, level - 1, v)
+        ConditionRecord::Some(v, r) => {
+            let mut then = to;
+            then.at = copier::put_record(out, to.at, Record::Some(v, r));
+            under(q, z, permits, places, masks, out, then, level - 1, v)
         }
-        _ => leaf(out, at, next, Record::False),
+        ConditionRecord::False | ConditionRecord::Other => leaf(out, to.at, to.next, Record::False),
     }
 }
 
@@ -113,29 +120,29 @@ fn term(
     places: &[usize],
     masks: &[u8],
     out: &mut [u8],
-    at: usize,
-    next: usize,
+    to: Written,
     level: usize,
 ) -> Written
-    requires { ⌜ Room at next (termBytes (now masks) (part (now permits) (now places)) level (now q) (now z) next)
+    requires { ⌜ Room (to .at) (to .next) (termBytes (now masks) (part (now permits) (now places)) level (now q) (now z) (to .next))
         (termNew (now masks) (part (now permits) (now places)) level (now q) (now z)) ⌝ }
-    ensures { λ r. ⌜ After at next (termBytes (now (masks .entry)) (part (now (permits .entry)) (now (places .entry))) level (now (q .entry))
-        (now (z .entry)) next) (termNew (now (masks .entry)) (part (now (permits .entry)) (now (places .entry))) level (now (q .entry))
+    ensures { λ r. ⌜ After (to .at) (to .next) (termBytes (now (masks .entry)) (part (now (permits .entry)) (now (places .entry))) level (now (q .entry))
+        (now (z .entry)) (to .next)) (termNew (now (masks .entry)) (part (now (permits .entry)) (now (places .entry))) level (now (q .entry))
         (now (z .entry))) (r .at) (r .next) ⌝ }
-    ensures { λ _. ⌜ now (out .exit) ≡ sets (now (out .entry)) at (termBytes (now (masks .entry)) (part (now (permits .entry)) (now (places .entry)))
-        level (now (q .entry)) (now (z .entry)) next) ⌝ }
+    ensures { λ _. ⌜ now (out .exit) ≡ sets (now (out .entry)) (to .at) (termBytes (now (masks .entry)) (part (now (permits .entry)) (now (places .entry)))
+        level (now (q .entry)) (now (z .entry)) (to .next)) ⌝ }
 {
     if level == 0 {
-        return leaf(out, at, next, Record::Constant(0, 0, 0, 0));
+        return leaf(out, to.at, to.next, Record::Constant(0, 0, 0, 0));
     }
-    match kinds::read(q) {
-        Record::Constant(a, b, c, d) => leaf(out, at, next, Record::Constant(a, b, c, d)),
-        Record::Attribute(v, a) => leaf(out, at, next, Record::Attribute(v, a)),
-        Record::Aggregate(f, v, r, a) => {
-            let p = copier::put_record(out, at, Record::Aggregate(f, v, r, a));
-            under(q, z, permits, places, masks, out, p, next, level - 1, v)
+    match kinds::term_record(q) {
+        TermRecord::Constant(a, b, c, d) => leaf(out, to.at, to.next, Record::Constant(a, b, c, d)),
+        TermRecord::Attribute(v, a) => leaf(out, to.at, to.next, Record::Attribute(v, a)),
+        TermRecord::Aggregate(f, v, r, a) => {
+            let mut then = to;
+            then.at = copier::put_record(out, to.at, Record::Aggregate(f, v, r, a));
+            under(q, z, permits, places, masks, out, then, level - 1, v)
         }
-        _ => leaf(out, at, next, Record::Constant(0, 0, 0, 0)),
+        TermRecord::Other => leaf(out, to.at, to.next, Record::Constant(0, 0, 0, 0)),
     }
 }
 
@@ -147,31 +154,28 @@ fn conditions(
     places: &[usize],
     masks: &[u8],
     out: &mut [u8],
-    at: usize,
-    next: usize,
+    to: Written,
     level: usize,
 ) -> Written
-    requires { ⌜ Room at next (bothBytes (conditionBytes (now masks) (part (now permits) (now places)) level)
-        (conditionNew (now masks) (part (now permits) (now places)) level) (now q) (now z) next)
+    requires { ⌜ Room (to .at) (to .next) (bothBytes (conditionBytes (now masks) (part (now permits) (now places)) level)
+        (conditionNew (now masks) (part (now permits) (now places)) level) (now q) (now z) (to .next))
         (bothNew (conditionNew (now masks) (part (now permits) (now places)) level) (now q) (now z)) ⌝ }
-    ensures { λ r. ⌜ After at next (bothBytes (conditionBytes (now (masks .entry)) (part (now (permits .entry)) (now (places .entry))) level)
-        (conditionNew (now (masks .entry)) (part (now (permits .entry)) (now (places .entry))) level) (now (q .entry)) (now (z .entry)) next)
+    ensures { λ r. ⌜ After (to .at) (to .next) (bothBytes (conditionBytes (now (masks .entry)) (part (now (permits .entry)) (now (places .entry))) level)
+        (conditionNew (now (masks .entry)) (part (now (permits .entry)) (now (places .entry))) level) (now (q .entry)) (now (z .entry)) (to .next))
         (bothNew (conditionNew (now (masks .entry)) (part (now (permits .entry)) (now (places .entry))) level) (now (q .entry)) (now (z .entry)))
         (r .at) (r .next) ⌝ }
-    ensures { λ _. ⌜ now (out .exit) ≡ sets (now (out .entry)) at (bothBytes
+    ensures { λ _. ⌜ now (out .exit) ≡ sets (now (out .entry)) (to .at) (bothBytes
         (conditionBytes (now (masks .entry)) (part (now (permits .entry)) (now (places .entry))) level)
-        (conditionNew (now (masks .entry)) (part (now (permits .entry)) (now (places .entry))) level) (now (q .entry)) (now (z .entry)) next) ⌝ }
+        (conditionNew (now (masks .entry)) (part (now (permits .entry)) (now (places .entry))) level) (now (q .entry)) (now (z .entry)) (to .next)) ⌝ }
 {
     let a = first_child(q);
     let b = second_child(q, z);
     let x = kinds::tail(q, a);
     let y = kinds::tail_sizes(z, a);
-    let w = condition(x, y, permits, places, masks, out, at, next, level);
-    let p = w.at;
-    let n = w.next;
+    let w = condition(x, y, permits, places, masks, out, to, level);
     let x2 = kinds::tail(q, b);
     let y2 = kinds::tail_sizes(z, b);
-    condition(x2, y2, permits, places, masks, out, p, n, level)
+    condition(x2, y2, permits, places, masks, out, w, level)
 }
 
 // Writes both children of a record, terms.
@@ -182,31 +186,28 @@ fn terms(
     places: &[usize],
     masks: &[u8],
     out: &mut [u8],
-    at: usize,
-    next: usize,
+    to: Written,
     level: usize,
 ) -> Written
-    requires { ⌜ Room at next (bothBytes (termBytes (now masks) (part (now permits) (now places)) level)
-        (termNew (now masks) (part (now permits) (now places)) level) (now q) (now z) next)
+    requires { ⌜ Room (to .at) (to .next) (bothBytes (termBytes (now masks) (part (now permits) (now places)) level)
+        (termNew (now masks) (part (now permits) (now places)) level) (now q) (now z) (to .next))
         (bothNew (termNew (now masks) (part (now permits) (now places)) level) (now q) (now z)) ⌝ }
-    ensures { λ r. ⌜ After at next (bothBytes (termBytes (now (masks .entry)) (part (now (permits .entry)) (now (places .entry))) level)
-        (termNew (now (masks .entry)) (part (now (permits .entry)) (now (places .entry))) level) (now (q .entry)) (now (z .entry)) next)
+    ensures { λ r. ⌜ After (to .at) (to .next) (bothBytes (termBytes (now (masks .entry)) (part (now (permits .entry)) (now (places .entry))) level)
+        (termNew (now (masks .entry)) (part (now (permits .entry)) (now (places .entry))) level) (now (q .entry)) (now (z .entry)) (to .next))
         (bothNew (termNew (now (masks .entry)) (part (now (permits .entry)) (now (places .entry))) level) (now (q .entry)) (now (z .entry)))
         (r .at) (r .next) ⌝ }
-    ensures { λ _. ⌜ now (out .exit) ≡ sets (now (out .entry)) at (bothBytes
+    ensures { λ _. ⌜ now (out .exit) ≡ sets (now (out .entry)) (to .at) (bothBytes
         (termBytes (now (masks .entry)) (part (now (permits .entry)) (now (places .entry))) level)
-        (termNew (now (masks .entry)) (part (now (permits .entry)) (now (places .entry))) level) (now (q .entry)) (now (z .entry)) next) ⌝ }
+        (termNew (now (masks .entry)) (part (now (permits .entry)) (now (places .entry))) level) (now (q .entry)) (now (z .entry)) (to .next)) ⌝ }
 {
     let a = first_child(q);
     let b = second_child(q, z);
     let x = kinds::tail(q, a);
     let y = kinds::tail_sizes(z, a);
-    let w = term(x, y, permits, places, masks, out, at, next, level);
-    let p = w.at;
-    let n = w.next;
+    let w = term(x, y, permits, places, masks, out, to, level);
     let x2 = kinds::tail(q, b);
     let y2 = kinds::tail_sizes(z, b);
-    term(x2, y2, permits, places, masks, out, p, n, level)
+    term(x2, y2, permits, places, masks, out, w, level)
 }
 
 // Writes the condition under a binding: its variable's guard follows it.
@@ -217,25 +218,25 @@ fn under(
     places: &[usize],
     masks: &[u8],
     out: &mut [u8],
-    at: usize,
-    next: usize,
+    to: Written,
     level: usize,
     variable: u8,
 ) -> Written
-    requires { ⌜ Room at next (underBytes (now masks) (part (now permits) (now places)) variable level (now q) (now z) next)
+    requires { ⌜ Room (to .at) (to .next) (underBytes (now masks) (part (now permits) (now places)) variable level (now q) (now z) (to .next))
         (underNew (now masks) (part (now permits) (now places)) variable level (now q) (now z)) ⌝ }
-    ensures { λ r. ⌜ After at next (underBytes (now (masks .entry)) (part (now (permits .entry)) (now (places .entry))) variable level
-        (now (q .entry)) (now (z .entry)) next) (underNew (now (masks .entry)) (part (now (permits .entry)) (now (places .entry))) variable level
+    ensures { λ r. ⌜ After (to .at) (to .next) (underBytes (now (masks .entry)) (part (now (permits .entry)) (now (places .entry))) variable level
+        (now (q .entry)) (now (z .entry)) (to .next)) (underNew (now (masks .entry)) (part (now (permits .entry)) (now (places .entry))) variable level
         (now (q .entry)) (now (z .entry))) (r .at) (r .next) ⌝ }
-    ensures { λ _. ⌜ now (out .exit) ≡ sets (now (out .entry)) at (underBytes (now (masks .entry))
-        (part (now (permits .entry)) (now (places .entry))) variable level (now (q .entry)) (now (z .entry)) next) ⌝ }
+    ensures { λ _. ⌜ now (out .exit) ≡ sets (now (out .entry)) (to .at) (underBytes (now (masks .entry))
+        (part (now (permits .entry)) (now (places .entry))) variable level (now (q .entry)) (now (z .entry)) (to .next)) ⌝ }
 {
     let m = mask(masks, variable);
     let a = first_child(q);
-    let p = guard::open_guard(out, at, m);
+    let mut then = to;
+    then.at = guard::open_guard(out, to.at, m);
     let x = kinds::tail(q, a);
     let y = kinds::tail_sizes(z, a);
-    let w = condition(x, y, permits, places, masks, out, p, next, level);
+    let w = condition(x, y, permits, places, masks, out, then, level);
     let e = w.at;
     let n = w.next;
     guard::write_guard(out, e, permits, places, m, variable, n)
@@ -263,29 +264,26 @@ fn targets(
     places: &[usize],
     masks: &[u8],
     out: &mut [u8],
-    at: usize,
-    next: usize,
+    to: Written,
     level: usize,
 ) -> Written
-    requires { ⌜ Room at next (targetsBytes (now masks) (part (now permits) (now places)) (targetsAt left level (now q) (now z)) next)
+    requires { ⌜ Room (to .at) (to .next) (targetsBytes (now masks) (part (now permits) (now places)) (targetsAt left level (now q) (now z)) (to .next))
         (targetsNew (now masks) (part (now permits) (now places)) (targetsAt left level (now q) (now z))) ⌝ }
-    ensures { λ r. ⌜ After at next (targetsBytes (now (masks .entry)) (part (now (permits .entry)) (now (places .entry)))
-        (targetsAt left level (now (q .entry)) (now (z .entry))) next)
+    ensures { λ r. ⌜ After (to .at) (to .next) (targetsBytes (now (masks .entry)) (part (now (permits .entry)) (now (places .entry)))
+        (targetsAt left level (now (q .entry)) (now (z .entry))) (to .next))
         (targetsNew (now (masks .entry)) (part (now (permits .entry)) (now (places .entry)))
         (targetsAt left level (now (q .entry)) (now (z .entry)))) (r .at) (r .next) ⌝ }
-    ensures { λ _. ⌜ now (out .exit) ≡ sets (now (out .entry)) at (targetsBytes (now (masks .entry))
-        (part (now (permits .entry)) (now (places .entry))) (targetsAt left level (now (q .entry)) (now (z .entry))) next) ⌝ }
+    ensures { λ _. ⌜ now (out .exit) ≡ sets (now (out .entry)) (to .at) (targetsBytes (now (masks .entry))
+        (part (now (permits .entry)) (now (places .entry))) (targetsAt left level (now (q .entry)) (now (z .entry))) (to .next)) ⌝ }
 {
     if left == 0 {
-        return Written { at: at, next: next };
+        return to;
     }
-    let w = term(q, z, permits, places, masks, out, at, next, level);
-    let p = w.at;
-    let n = w.next;
+    let w = term(q, z, permits, places, masks, out, to, level);
     let k = kinds::size_at(z, 0);
     let x = kinds::tail(q, k);
     let y = kinds::tail_sizes(z, k);
-    targets(x, y, left - 1, permits, places, masks, out, p, n, level)
+    targets(x, y, left - 1, permits, places, masks, out, w, level)
 }
 
 // Writes an AND for each of so many RANGEs with a guard.
@@ -315,26 +313,23 @@ fn guard_ranges(
     places: &[usize],
     masks: &[u8],
     out: &mut [u8],
-    at: usize,
-    next: usize,
+    to: Written,
 ) -> Written
-    requires { ⌜ Room at next (rangeGuards (now masks) (part (now permits) (now places)) (rangesAt left (now q)) next)
+    requires { ⌜ Room (to .at) (to .next) (rangeGuards (now masks) (part (now permits) (now places)) (rangesAt left (now q)) (to .next))
         (newOf (now masks) (part (now permits) (now places)) (rangesAt left (now q))) ⌝ }
-    ensures { λ r. ⌜ After at next (rangeGuards (now (masks .entry)) (part (now (permits .entry)) (now (places .entry)))
-        (rangesAt left (now (q .entry))) next) (newOf (now (masks .entry)) (part (now (permits .entry)) (now (places .entry)))
+    ensures { λ r. ⌜ After (to .at) (to .next) (rangeGuards (now (masks .entry)) (part (now (permits .entry)) (now (places .entry)))
+        (rangesAt left (now (q .entry))) (to .next)) (newOf (now (masks .entry)) (part (now (permits .entry)) (now (places .entry)))
         (rangesAt left (now (q .entry)))) (r .at) (r .next) ⌝ }
-    ensures { λ _. ⌜ now (out .exit) ≡ sets (now (out .entry)) at (rangeGuards (now (masks .entry))
-        (part (now (permits .entry)) (now (places .entry))) (rangesAt left (now (q .entry))) next) ⌝ }
+    ensures { λ _. ⌜ now (out .exit) ≡ sets (now (out .entry)) (to .at) (rangeGuards (now (masks .entry))
+        (part (now (permits .entry)) (now (places .entry))) (rangesAt left (now (q .entry))) (to .next)) ⌝ }
 {
     if left == 0 {
-        return Written { at: at, next: next };
+        return to;
     }
     let v = kinds::byte(q, 1);
-    let w = guard::write_guard(out, at, permits, places, mask(masks, v), v, next);
-    let p = w.at;
-    let n = w.next;
+    let w = guard::write_guard(out, to.at, permits, places, mask(masks, v), v, to.next);
     let x = kinds::tail(q, kinds::record_length(1));
-    guard_ranges(x, left - 1, permits, places, masks, out, p, n)
+    guard_ranges(x, left - 1, permits, places, masks, out, w)
 }
 
 // Writes the query, rewritten, and returns the number of its bytes. Where they do not fit the buffer, what fits is written.
@@ -359,18 +354,16 @@ pub fn rewrite_query(
     let k = layout.targets;
     let t = layout.first;
     let c = layout.condition;
-    let p = ranges(q, r, out, 0);
+    let mut first = Written { at: 0, next: 8 };
+    first.at = ranges(q, r, out, 0);
     let tq = kinds::tail(q, t);
     let tz = kinds::tail_sizes(z, t);
-    let w = targets(tq, tz, k, permits, places, masks, out, p, 8, level);
-    let a = w.at;
-    let n = w.next;
-    let b = open_ranges(q, r, masks, out, a);
+    let w = targets(tq, tz, k, permits, places, masks, out, first, level);
+    let mut then = w;
+    then.at = open_ranges(q, r, masks, out, w.at);
     let cq = kinds::tail(q, c);
     let cz = kinds::tail_sizes(z, c);
-    let x = condition(cq, cz, permits, places, masks, out, b, n, level);
-    let d = x.at;
-    let m = x.next;
-    let y = guard_ranges(q, r, permits, places, masks, out, d, m);
+    let x = condition(cq, cz, permits, places, masks, out, then, level);
+    let y = guard_ranges(q, r, permits, places, masks, out, x);
     y.at
 }

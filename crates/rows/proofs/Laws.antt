@@ -1,31 +1,25 @@
 -- The answer buffer, row by row and whole.
 use mathlib.Core.Path.{_≡_, refl, sym, ap, ap₂, _∙_}
 use mathlib.Core.Bool.{Bool, true, false, not, cond}
-use mathlib.Core.List.{List, [], _∷_, _++_, map, append-nil, append-assoc}
-use Prim.Native.Nat.{ℕ, _+_, _-_, _*_, _/_, _≤_, _<_, min}
+use mathlib.Core.List.{List, [], _∷_, _++_, append-nil, append-assoc}
+use Prim.Native.Nat.{ℕ, _+_, _*_, _/_, _≤_, _<_, min}
 use native.Mathlib.Nat.{mul-le-mul, le-refl, div-mul-le-self, zero-mul}
 use native.Mathlib.Omega.{arith}
-use lib.Dec.{ltb, leb}
+use lib.Dec.{leb}
 use lib.IntN.{ℤ}
-use lib.ListN.{length, take, drop, length-append, length-drop, length-take}
+use lib.ListN.{length, take, drop, length-append, length-drop}
 use lib.Seq.{take-length, take-append-seam, take-at, drop-at, drop-append-add, drop-drop, take-append-le}
-use borrow.Author.Tests.{lt-ltb, le-ltb, le-leb, lt-leb, ltb-true, ltb-false}
+use borrow.Author.Tests.{lt-ltb, le-ltb, le-leb, lt-leb}
 use Rattle.model.specs.Lists.{any, concatMap, Every}
 use Rattle.model.specs.Meaning.{sameRow, addRow, addRows}
 use Rattle.model.specs.Calls.{give, fitting}
+use Rattle.model.proofs.Tests.{by-lt}
 use Rattle.model.proofs.Lists.{concatMap-append, every-join}
 use Rattle.rows.specs.Buffer.{Buffer, storedRows, stored, over, added, addedAll, start, answerOf}
 
 -- a row that fits ends within the buffer
 pub row-room : (n w l : ℕ) → n < l / w → n * w + w ≤ l
 row-room n w l h = omega (arith, div-mul-le-self l w, mul-le-mul h (le-refl w))
-
-by-lt : {P : Type 0} (a b : ℕ) → (a < b → P) → (b ≤ a → P) → P
-by-lt {P} a b f g = go (ltb a b) refl
-  where
-    go : (t : Bool) → ltb a b ≡ t → P
-    go true e = f (ltb-true a b e)
-    go false e = g (ltb-false a b e)
 
 -- one row, by the cases of the code
 module _ (n : ℕ) (full : Bool) (c x : List ℤ) where

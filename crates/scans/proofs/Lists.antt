@@ -2,7 +2,7 @@
 use mathlib.Core.Path.{_≡_, refl, sym, ap, ap₂, _∙_}
 use mathlib.Core.Bool.{Bool, true, false, not, _&&_, _||_}
 use mathlib.Core.List.{List, [], _∷_, _++_}
-use Prim.Native.Nat.{ℕ, zero, suc, _<_}
+use Prim.Native.Nat.{ℕ, zero, suc, _≤_, _<_}
 use native.Mathlib.Omega.{arith}
 use lib.Dec.{eqb}
 use lib.ListN.{length, getD, set, replicate}
@@ -10,6 +10,7 @@ use lib.Seq.{getD-set-same, getD-set-other}
 use borrow.Author.Tests.{eqb-true, eqb-false}
 use mir.Val.{boolByte}
 use Rattle.model.specs.Lists.{all, any, contains, unique, consIf}
+use Rattle.model.specs.Syntax.{Binding, variables}
 use Rattle.model.proofs.Lists.{getD-same}
 use Rattle.scans.specs.Flat.{seenIn, fresh}
 
@@ -77,3 +78,12 @@ fresh-blank n xs = ap (λ (b : Bool). b && unique xs) (go xs)
 pub fresh-start : (zero : Bool) (xs : List ℕ) → fresh (set (replicate 256 0) 0 (boolByte zero)) xs ≡ unique (consIf zero 0 xs)
 fresh-start true xs = sym (fresh-step (replicate 256 0) 0 xs (omega arith)) ∙ fresh-blank 256 (0 ∷ xs)
 fresh-start false xs = fresh-blank 256 xs
+
+-- a number that is alone stands once
+pub few-once : (zero : Bool) (bs : List Binding) → ((zero ≡ true → length bs ≡ 0) × (zero ≡ false → length bs ≤ 1)) → true ≡ unique (consIf zero 0 (variables bs))
+unfolding unique contains any
+few-once true [] h = refl
+few-once true (b ∷ bs) h = absurd (omega (arith, h .0 refl))
+few-once false [] h = refl
+few-once false (b ∷ []) h = refl
+few-once false (b ∷ c ∷ bs) h = absurd (omega (arith, h .1 refl))

@@ -101,7 +101,7 @@ unfolding encodeRanges
 uses-ranges [] r = refl
 uses-ranges (b ∷ bs) r = at useOf k-range (b .variable ∷ b .relation ∷ encodeRanges bs r) (omega arith) ∙ uses-ranges bs r
 
-nothing-flat : {A : Type 0} (f : Record → List A) → flat f [] ≡ []
+pub nothing-flat : {A : Type 0} (f : Record → List A) → flat f [] ≡ []
 unfolding flat concatMap recordsOf recordsAfter
 nothing-flat f = refl
 

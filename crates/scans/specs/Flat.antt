@@ -4,14 +4,18 @@ use Prim.Native.Nat.{ℕ, zero, suc, _-_}
 use mathlib.Core.Bool.{Bool, not, _&&_}
 use mathlib.Core.List.{List, [], _∷_}
 use lib.Dec.{eqb, ltb}
-use lib.ListN.{getD}
-use Rattle.model.specs.Lists.{any, all, unique, concatMap}
-use Rattle.model.specs.Syntax.{Binding, Use}
+use lib.ListN.{length, getD}
+use Rattle.model.specs.Lists.{any, all, unique, consIf, concatMap}
+use Rattle.model.specs.Syntax.{Binding, Use, variables}
 use Rattle.catalogue.specs.Layout.{storedOf}
 use Rattle.kinds.specs.Tables.{recordLength}
 use Rattle.kinds.specs.Record.{recordAt}
 use Rattle.kinds.specs.declared.Record.{Record}
 use Rattle.kinds.specs.declared.Record.the-variants as R
+use Rattle.kinds.specs.Places.{termOf}
+use Rattle.kinds.specs.declared.TermRecord.{TermRecord}
+use Rattle.kinds.specs.declared.TermRecord.the-variants as T
+use Rattle.scans.specs.declared.Bindings.{Bindings}
 use Rattle.scans.specs.declared.Bound.{Bound}
 use Rattle.scans.specs.declared.Bound.the-variants as B
 
@@ -42,21 +46,14 @@ bindingOf R.Unknown = []
 bindingOf R.Short = []
 
 -- an attribute term uses an attribute of a variable, and an aggregate one of its own
+abbrev pub termUse : TermRecord → List Use
+termUse (T.Attribute v a) = record { variable = v; attribute = a } ∷ []
+termUse (T.Aggregate f v r a) = record { variable = v; attribute = a } ∷ []
+termUse (T.Constant a b c d) = []
+termUse T.Other = []
+
 abbrev pub useOf : Record → List Use
-useOf (R.Attribute v a) = record { variable = v; attribute = a } ∷ []
-useOf (R.Aggregate f v r a) = record { variable = v; attribute = a } ∷ []
-useOf (R.Range v r) = []
-useOf R.True = []
-useOf R.False = []
-useOf R.Not = []
-useOf R.And = []
-useOf R.Or = []
-useOf (R.Compare o) = []
-useOf (R.Some v r) = []
-useOf (R.Constant a b c d) = []
-useOf (R.Permit a b c) = []
-useOf R.Unknown = []
-useOf R.Short = []
+useOf r = termUse (termOf r)
 
 -- what the records say, in byte order
 unfoldable pub flat : {A : Type 0} → (Record → List A) → List ℕ → List A
@@ -67,6 +64,10 @@ flatBindings q = flat bindingOf q
 
 abbrev pub flatUses : List ℕ → List Use
 flatUses q = flat useOf q
+
+-- how many variables are bound, and whether no number is bound twice, variable 0 being bound or not
+abbrev pub bindingsOf : Bool → List ℕ → Bindings
+bindingsOf first q = record { count = length (flatBindings q); once = unique (consIf first 0 (variables (flatBindings q))) }
 
 -- over a stored relation (23)
 abbrev pub storedIn : List ℕ → Binding → Bool

@@ -2,7 +2,7 @@
 // so that a walk from record to record meets them all, at any depth, with no recursion.
 use kinds::Record;
 ghost use mathlib.Core.Path.{_≡_};
-ghost use mathlib.Core.Bool.{false, _&&_};
+ghost use mathlib.Core.Bool.{true, false, _&&_};
 ghost use mathlib.Core.List.{List, _++_};
 ghost use Prim.Native.Nat.{ℕ, _≤_};
 ghost use lib.ListN.{length, drop, getD};
@@ -10,12 +10,18 @@ ghost use Rattle.model.specs.Lists.{unique, consIf};
 ghost use Rattle.model.specs.Syntax.{variables};
 ghost use Rattle.kinds.specs.Record.{recordAt};
 ghost use Rattle.kinds.specs.Tables.{recordLength};
-ghost use Rattle.scans.specs.Flat.{bindingOf, flatBindings, boundBy, fresh};
+ghost use Rattle.scans.specs.Flat.{bindingOf, flatBindings, bindingsOf, boundBy, fresh};
 
 pub enum Bound {
     // variable, relation
     To(u8, u8),
     Nothing,
+}
+
+// How many variables are bound, and whether no number is bound twice.
+pub struct Bindings {
+    pub count: usize,
+    pub once: bool,
 }
 
 // The kinds that bind a variable: most records need not be read.
@@ -64,7 +70,7 @@ fn one(b: Bound) -> usize
 }
 
 // How many variables are bound.
-pub fn count_bindings(q: &[u8]) -> usize
+fn count_bindings(q: &[u8]) -> usize
     ensures { λ r. ⌜ r ≡ length (flatBindings (now (q .entry))) ⌝ }
 {
     let mut n: usize = 0;
@@ -113,11 +119,31 @@ fn all_fresh(q: &[u8], seen: &mut [u8]) -> bool
     true
 }
 
-// Whether no number is bound twice; `zero`: variable 0 counts as bound.
-pub fn bound_once(q: &[u8], zero: bool) -> bool
+// Whether so many numbers are too few for one to stand twice.
+fn few(zero: bool, bound: usize) -> bool
+    ensures { λ r. ⌜ (r ≡ true → (zero ≡ true → bound ≡ 0) × (zero ≡ false → bound ≤ 1)) ⌝ }
+{
+    if zero { bound == 0 } else { bound <= 1 }
+}
+
+// Whether no number is bound twice; so many are bound.
+fn once(q: &[u8], zero: bool, bound: usize) -> bool
+    requires { ⌜ bound ≡ length (flatBindings (now q)) ⌝ }
     ensures { λ r. ⌜ r ≡ unique (consIf zero 0 (variables (flatBindings (now (q .entry))))) ⌝ }
 {
+    if few(zero, bound) {
+        return true;
+    }
     let mut seen = [0u8; 256];
     seen[0] = zero as u8;
     all_fresh(q, &mut seen)
+}
+
+// What the records of a query or a condition bind; `zero`: variable 0 counts as bound.
+pub fn tally(q: &[u8], zero: bool) -> Bindings
+    ensures { λ r. ⌜ r ≡ bindingsOf zero (now (q .entry)) ⌝ }
+{
+    let count = count_bindings(q);
+    let once = once(q, zero, count);
+    Bindings { count, once }
 }

@@ -15,8 +15,9 @@ use Rattle.model.proofs.Reading.{read-encode, read-encodeT, read-inverse, read-
 use Rattle.model.proofs.Sizes.{size, sizeT, size-encode, size-encodeT, drop-encode, drop-encodeT}
 use Rattle.kinds.specs.Tables.{ofKind, recordLength}
 use Rattle.kinds.specs.Record.{recordAt}
-use Rattle.kinds.specs.declared.Record.{Record}
-use Rattle.kinds.specs.declared.Record.the-variants as R
+use Rattle.kinds.specs.Places.{conditionAt, termAt}
+use Rattle.kinds.specs.declared.ConditionRecord.{ConditionRecord}
+use Rattle.kinds.specs.declared.TermRecord.{TermRecord}
 use Rattle.kinds.proofs.Records.{whole-record}
 use Rattle.sizes.specs.declared.Size.{Size}
 use Rattle.sizes.specs.declared.Size.the-variants.{Bytes, Refused}
@@ -31,7 +32,7 @@ pub decode-zero : (l : ℕ) (q z : List ℕ) → l ≡ 0 → decode l q z ≡ FA
 unfolding decode
 decode-zero l q z h = rw h
 
-pub decode-step : (l : ℕ) (q z : List ℕ) (r : Record) → (l ≡ 0 → ⊥) → recordAt q ≡ r → decode l q z ≡ conditionBy r (λ x y. decode (l - 1) x y) (λ x y. decodeT (l - 1) x y) q z
+pub decode-step : (l : ℕ) (q z : List ℕ) (r : ConditionRecord) → (l ≡ 0 → ⊥) → conditionAt q ≡ r → decode l q z ≡ conditionBy r (λ x y. decode (l - 1) x y) (λ x y. decodeT (l - 1) x y) q z
 unfolding decode
 decode-step zero q z r h e = absurd (h refl)
 decode-step (suc l) q z r h e = rw (sub-one, e)
@@ -40,7 +41,7 @@ pub decodeT-zero : (l : ℕ) (q z : List ℕ) → l ≡ 0 → decodeT l q z ≡ 
 unfolding decode
 decodeT-zero l q z h = rw h
 
-pub decodeT-step : (l : ℕ) (q z : List ℕ) (r : Record) → (l ≡ 0 → ⊥) → recordAt q ≡ r → decodeT l q z ≡ termBy r (λ x y. decode (l - 1) x y) q z
+pub decodeT-step : (l : ℕ) (q z : List ℕ) (r : TermRecord) → (l ≡ 0 → ⊥) → termAt q ≡ r → decodeT l q z ≡ termBy r (λ x y. decode (l - 1) x y) q z
 unfolding decode
 decodeT-step zero q z r h e = absurd (h refl)
 decodeT-step (suc l) q z r h e = rw (sub-one, e)

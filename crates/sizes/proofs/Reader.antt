@@ -21,6 +21,7 @@ use Rattle.kinds.specs.declared.Record.{Record}
 use Rattle.kinds.specs.declared.Record.the-variants as R
 use Rattle.kinds.proofs.Entries.{of-none}
 use Rattle.kinds.proofs.Records.{whole-record, short-record}
+use Rattle.sizes.proofs.Steps.{none-accepted}
 use Rattle.sizes.specs.declared.Size.{Size}
 use Rattle.sizes.specs.declared.Size.the-variants.{Bytes, Refused}
 use Rattle.sizes.specs.Measured.{sizeRead, conditionSize, termSize, accepts, childrenOf, childTerm, Measured, leaves, onward, children, stored, store, measured, conditionTable, termTable}
@@ -89,7 +90,7 @@ module _ (l : ℕ) (t : Bool) (k : ℕ) (r : List ℕ) (p : ℕ) (z : List ℕ) 
 -- a record that is cut short, or of another sort
 module _ (l : ℕ) (t : Bool) (k : ℕ) (r : List ℕ) (p : ℕ) (z : List ℕ) (x : Kind) (e : kindOf k ≡ some x) where
   cut : length r < bodyLength x → measured (suc l) t (k ∷ r) p z .size ≡ Refused
-  cut h = refused l t k r p z R.Short (short-record k r x e h) refl
+  cut h = refused l t k r p z R.Short (short-record k r x e h) (none-accepted t)
 
   other : ((a b c d : ℕ) → accepts t (filled a b c d x) ≡ false) → measured (suc l) t (k ∷ r) p z .size ≡ Refused
   other h = go (leb (bodyLength x) (length r)) refl
@@ -177,11 +178,11 @@ module _ {A : Type 0} (l : ℕ) (t : Bool) (g : Kind → List ℕ → Read A)
     (h : (x : Kind) (r : List ℕ) (p : ℕ) (z : List ℕ) → measured (suc l) t (code x ∷ r) p z .size ≡ sizeRead (code x ∷ r) (g x r)) where
   any-kind : (q : List ℕ) (p : ℕ) (z : List ℕ) → measured (suc l) t q p z .size ≡ sizeRead q (onKind g q)
   unfolding measured recordAt onKind kindOf
-  any-kind [] p z = refl
+  any-kind [] p z = rw (none-accepted t)
   any-kind (k ∷ r) p z = go (kindOf k) refl
     where
       go : (o : Option Kind) → kindOf k ≡ o → measured (suc l) t (k ∷ r) p z .size ≡ sizeRead {A = A} (k ∷ r) (elim o as (λ _. Read A) [ none ↦ fail | some x ↦ g x r ])
-      go none e = refused l t k r p z R.Unknown (of-none R.Unknown (λ x. within x r) k e) refl
+      go none e = refused l t k r p z R.Unknown (of-none R.Unknown (λ x. within x r) k e) (none-accepted t)
       go (some x) e = let c : k ≡ code x = find-inv k _ x e in rw c (h x r p z)
 
 -- the size that is measured is that of what the model reads
@@ -205,7 +206,8 @@ is-condition l q x p z y r ex e =
 empty : (l : ℕ) (t : Bool) (p : ℕ) (z : List ℕ) → measured l t [] p z ≡ leaves Refused z
 unfolding measured recordAt
 empty zero t p z = refl
-empty (suc l) t p z = refl
+empty (suc l) true p z = refl
+empty (suc l) false p z = refl
 
 pub past-condition : (l : ℕ) (q : List ℕ) (p : ℕ) (z : List ℕ) → length q < p → (Refused ≡ conditionSize l (drop p q)) × (z ≡ conditionTable l q p z)
 past-condition l q p z h = is-condition l q [] p z z Refused (sym (drop-of-length-le q (le-of-lt h))) (sym (empty l false p z))

@@ -2,7 +2,6 @@
 use Prim.Native.Nat.{ℕ, zero, suc, _+_, _-_}
 use mathlib.Core.Bool.{Bool, true, false, not, cond}
 use mathlib.Core.List.{List}
-use mathlib.Core.Path.{_≡_}
 use lib.Dec.{ltb, eqb}
 use lib.ListN.{length, getD, drop, set}
 use Rattle.model.specs.Syntax.{isOperator, isFunction}
@@ -10,7 +9,11 @@ use Rattle.model.specs.Encoding.{Read, fail, ok, readCondition, readTerm}
 use Rattle.kinds.specs.Tables.{conditionsOf, termsOf, recordLength}
 use Rattle.kinds.specs.Record.{recordAt}
 use Rattle.kinds.specs.declared.Record.{Record}
-use Rattle.kinds.specs.declared.Record.the-variants as R
+use Rattle.kinds.specs.declared.ConditionRecord.{ConditionRecord}
+use Rattle.kinds.specs.declared.ConditionRecord.the-variants as C
+use Rattle.kinds.specs.declared.TermRecord.{TermRecord}
+use Rattle.kinds.specs.declared.TermRecord.the-variants as T
+use Rattle.kinds.specs.Places.{conditionOf, termOf}
 use Rattle.sizes.specs.declared.Size.{Size}
 use Rattle.sizes.specs.declared.Size.the-variants.{Bytes, Refused}
 
@@ -30,22 +33,27 @@ abbrev pub sizeOr0 : Size → ℕ
 sizeOr0 (Bytes n) = n
 sizeOr0 Refused = 0
 
--- a record that can stand for a condition (false) or a term (true), its operator or function known
+-- a record that can stand for a condition, its operator known
+abbrev pub acceptsCondition : ConditionRecord → Bool
+acceptsCondition C.True = true
+acceptsCondition C.False = true
+acceptsCondition C.Not = true
+acceptsCondition C.And = true
+acceptsCondition C.Or = true
+acceptsCondition (C.Compare o) = isOperator o
+acceptsCondition (C.Some v r) = true
+acceptsCondition C.Other = false
+
+-- a record that can stand for a term, its function known
+abbrev pub acceptsTerm : TermRecord → Bool
+acceptsTerm (T.Constant a b c d) = true
+acceptsTerm (T.Attribute v a) = true
+acceptsTerm (T.Aggregate f v r a) = isFunction f
+acceptsTerm T.Other = false
+
+-- a record that can stand for a condition (false) or a term (true)
 abbrev pub accepts : Bool → Record → Bool
-accepts t (R.Range v r) = false
-accepts t R.True = not t
-accepts t R.False = not t
-accepts t R.Not = not t
-accepts t R.And = not t
-accepts t R.Or = not t
-accepts t (R.Compare o) = cond t false (isOperator o)
-accepts t (R.Some v r) = not t
-accepts t (R.Constant a b c d) = t
-accepts t (R.Attribute v a) = t
-accepts t (R.Aggregate f v r a) = cond t (isFunction f) false
-accepts t (R.Permit a b c) = false
-accepts t R.Unknown = false
-accepts t R.Short = false
+accepts t r = cond t (acceptsTerm (termOf r)) (acceptsCondition (conditionOf r))
 
 -- how many children follow a record, and whether they are terms
 unfoldable pub childrenOf : ℕ → ℕ
@@ -53,12 +61,6 @@ childrenOf k = conditionsOf k + termsOf k
 
 unfoldable pub childTerm : ℕ → Bool
 childTerm k = not (eqb (termsOf k) 0)
-
--- q starts with a whole record of n bytes that has no children
-pub record Leaf (t : Bool) (q : List ℕ) (n : ℕ) : Type 0 where
-  pub accepted : accepts t (recordAt q) ≡ true
-  pub bytes : recordLength (getD q 0 0) ≡ n
-  pub childless : childrenOf (getD q 0 0) ≡ 0
 
 -- the table with n at p, where n fits it
 unfoldable pub store : List ℕ → ℕ → ℕ → List ℕ

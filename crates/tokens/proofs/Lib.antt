@@ -5,3 +5,4 @@ pub mod Codes
 pub mod Leading
 pub mod Reached
 pub mod Cutting
+pub mod Filled

@@ -1,10 +1,12 @@
 -- The kind of a token, and kinds found by what is written: of a reserved word by the number it spells, of a sign by its byte.
 use Prim.Native.Nat.{ℕ, _+_}
-use mathlib.Core.Bool.{Bool, cond}
+use mathlib.Core.Bool.{Bool, cond, not, _&&_}
 use mathlib.Core.List.{List, [], _∷_}
-use lib.Dec.{eqb}
+use lib.Dec.{eqb, leb}
+use lib.ListN.{length, drop}
+use Rattle.model.specs.Lists.{all}
 use Rattle.quel.specs.Results.{Word}
-use Rattle.quel.specs.Tokens.{Function, COUNT, SUM, AVE, MAX, MIN, Sign, equal, unequal, less, atMost, more, atLeast, Token, name, number, function, sign, key, keyCode}
+use Rattle.quel.specs.Tokens.{Function, COUNT, SUM, AVE, MAX, MIN, Sign, equal, unequal, less, atMost, more, atLeast, Token, name, number, function, sign, key, keyCode, isLetter, run, isReserved}
 use Rattle.tokens.specs.Spans.{positional}
 
 abbrev pub functionCode : Function → ℕ
@@ -41,3 +43,7 @@ kindSpelled (p ∷ ps) v = cond (eqb (codeOf (p .0)) v) (kindOf (p .1)) (kindSpe
 unfoldable pub signKind : List (ℕ × Token) → ℕ → ℕ
 signKind [] b = 0
 signKind (p ∷ ps) b = cond (eqb (p .0) b) (kindOf (p .1)) (signKind ps b)
+
+-- the letters in front are a name, with nothing but spaces after them
+unfoldable pub isName : List ℕ → Bool
+isName x = let w = run isLetter x in leb 1 (length w) && (all (λ b. eqb b 32) (drop (length w) x) && not (isReserved w))

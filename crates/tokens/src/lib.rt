@@ -2,11 +2,13 @@
 ghost use mathlib.Core.Path.{_≡_};
 ghost use mathlib.Core.Bool.{true};
 ghost use Prim.Native.Nat.{_+_, _*_, _≤_, _<_};
+ghost use lib.Dec.{eqb};
 ghost use lib.ListN.{length, drop};
+ghost use Rattle.model.specs.Lists.{all};
 ghost use Rattle.quel.specs.Tokens.{reserved, signs, isBlank, isLetter, isDigit, run, tokens};
 ghost use Rattle.quel.specs.Lexical.{first};
 ghost use Rattle.tokens.specs.Spans.{within, positional, capped};
-ghost use Rattle.tokens.specs.Kinds.{codeOf, kindSpelled, signKind};
+ghost use Rattle.tokens.specs.Kinds.{codeOf, kindSpelled, signKind, isName};
 ghost use Rattle.tokens.specs.Pieces.{Leads, Opens, Single, readOf, counted};
 ghost use Rattle.tokens.specs.Codes.{Coded};
 
@@ -46,9 +48,9 @@ fn passes(text: &[u8], i: usize, low: u8, high: u8) -> bool
 }
 
 // A stretch of bytes from low to high: where it ends, and the number that they spell after a start.
-pub struct Span {
-    pub end: usize,
-    pub value: u64,
+struct Span {
+    end: usize,
+    value: u64,
 }
 
 fn stretch(text: &[u8], at: usize, low: u8, high: u8, base: u64, start: u64) -> Span
@@ -65,16 +67,8 @@ fn stretch(text: &[u8], at: usize, low: u8, high: u8, base: u64, start: u64) -> 
     Span { end, value }
 }
 
-// How many letters stand in front, and their code.
-pub fn spelling(word: &[u8]) -> Span
-    ensures { λ r. ⌜ r .end ≡ length (run isLetter (now (word .entry))) ⌝ }
-    ensures { λ r. ⌜ r .value ≡ capped (codeOf (run isLetter (now (word .entry)))) ⌝ }
-{
-    stretch(word, 0, 65, 90, 26, 1)
-}
-
 // The kind of the word that spells a number, 0 for a name. RANGE RETRIEVE NOT SOME IN V COUNT SUM AVE MAX MIN
-pub fn word_kind(value: u64) -> u8
+fn word_kind(value: u64) -> u8
     ensures { λ r. ⌜ r ≡ kindSpelled reserved value ⌝ }
 {
     match value {
@@ -91,6 +85,54 @@ pub fn word_kind(value: u64) -> u8
         25909 => 6,
         _ => 0,
     }
+}
+
+// Whether spaces fill a stretch of bytes from its nth on. It begins at the first, so that the compiler unrolls it and goes on where the letters end.
+fn spaces(word: &[u8], n: usize) -> bool
+    ensures { λ r. ⌜ r ≡ all (λ b. eqb b 32) (drop n (now (word .entry))) ⌝ }
+{
+    let mut i = 0;
+    while i < word.len() {
+        if i < n {
+            i += 1;
+            continue;
+        }
+        if word[i] != 32 {
+            return false;
+        }
+        i += 1;
+    }
+    true
+}
+
+// Whether n letters with this code are a name, and all that stands in front of spaces.
+fn is_name(word: &[u8], n: usize, code: u64) -> bool
+    requires { ⌜ (n ≡ length (run isLetter (now word))) × (code ≡ capped (codeOf (run isLetter (now word)))) ⌝ }
+    ensures { λ r. ⌜ r ≡ isName (now (word .entry)) ⌝ }
+{
+    if n == 0 {
+        return false;
+    }
+    if !spaces(word, n) {
+        return false;
+    }
+    word_kind(code) == 0
+}
+
+// The code of the letters in front, and whether they are a name filled up with spaces.
+pub struct Spelled {
+    pub code: u64,
+    pub name: bool,
+}
+
+pub fn spelling(word: &[u8]) -> Spelled
+    ensures { λ r. ⌜ r .code ≡ capped (codeOf (run isLetter (now (word .entry)))) ⌝ }
+    ensures { λ r. ⌜ r .name ≡ isName (now (word .entry)) ⌝ }
+{
+    let s = stretch(word, 0, 65, 90, 26, 1);
+    let code = s.value;
+    let name = is_name(word, s.end, code);
+    Spelled { code, name }
 }
 
 // The kind of a sign of one byte, 0 where the byte is none.

@@ -1,4 +1,6 @@
 // What C calls for a label book: a question asked as waldumre_ask does, and the book of its rows.
+mod book;
+
 use guarded::Reply;
 ghost use mathlib.Core.Path.{_≡_};
 ghost use Rattle.model.specs.Book.{labelBook};

@@ -22,12 +22,13 @@ use Rattle.aggregates.proofs.term.Kinds as term-kinds
 use Rattle.aggregates.proofs.+condition+term.Lts-term as term-lts
 use Rattle.aggregates.proofs.value.Reads as value-reads
 use Rattle.kinds.proofs.byte.Reads as byte-reads
-use Rattle.kinds.proofs.read.Reads as read-reads
+use Rattle.kinds.proofs.condition_record.Reads as condition-record-reads
+use Rattle.kinds.proofs.term_record.Reads as term-record-reads
 use Rattle.kinds.proofs.record_length.Reads as record-length-reads
 use Rattle.kinds.proofs.size_at.Reads as size-at-reads
 use Rattle.kinds.proofs.tail.Reads as tail-reads
 use Rattle.kinds.proofs.tail_sizes.Reads as tail-sizes-reads
-use Rattle.numbers.proofs.remember.Reads as remember-reads
+use Rattle.aggregates.proofs.remember.Reads as remember-reads
 use Rattle.aggregates.proofs.+condition+term.{statement}
 use Rattle.aggregates.proofs.+condition+term.Tie.{close}
 
@@ -51,10 +52,10 @@ abbrev term-below : ℕ → In 6 term-kinds.ps
 term-below t = and 6 term-kinds.ps (falls 6 term-kinds.ps _<_ μ-term t) term.Pre
 
 abbrev condition-claims : ℕ → condition-lts.Claims
-condition-claims t = (byte-reads.Asked, byte-reads.Learnt, record-length-reads.Asked, record-length-reads.Learnt, size-at-reads.Asked, size-at-reads.Learnt, tail-reads.Asked, tail-reads.Learnt, tail-sizes-reads.Asked, tail-sizes-reads.Learnt, read-reads.Asked, read-reads.Learnt, condition-below t, condition.Post, term-below t, term.Post)
+condition-claims t = (byte-reads.Asked, byte-reads.Learnt, record-length-reads.Asked, record-length-reads.Learnt, size-at-reads.Asked, size-at-reads.Learnt, tail-reads.Asked, tail-reads.Learnt, tail-sizes-reads.Asked, tail-sizes-reads.Learnt, condition-record-reads.Asked, condition-record-reads.Learnt, condition-below t, condition.Post, term-below t, term.Post)
 
 abbrev term-claims : ℕ → term-lts.Claims
-term-claims t = (read-reads.Asked, read-reads.Learnt, byte-reads.Asked, byte-reads.Learnt, record-length-reads.Asked, record-length-reads.Learnt, tail-reads.Asked, tail-reads.Learnt, tail-sizes-reads.Asked, tail-sizes-reads.Learnt, condition-below t, condition.Post, value-reads.Asked, value-reads.Learnt, remember-reads.Asked, remember-reads.Learnt)
+term-claims t = (term-record-reads.Asked, term-record-reads.Learnt, byte-reads.Asked, byte-reads.Learnt, record-length-reads.Asked, record-length-reads.Learnt, tail-reads.Asked, tail-reads.Learnt, tail-sizes-reads.Asked, tail-sizes-reads.Learnt, condition-below t, condition.Post, value-reads.Asked, value-reads.Learnt, remember-reads.Asked, remember-reads.Learnt)
 
 condition-returns : (t : ℕ) → condition-lts.Need-returns (condition-claims t) (condition-at t) condition.Post
 condition-returns t c =
@@ -89,8 +90,8 @@ condition-tail-requires-2 t c κs = search needs
 condition-tail-sizes-requires-2 : (t : ℕ) → condition-lts.Need-tail-sizes-requires-2 (condition-claims t) (condition-at t) condition.Post
 condition-tail-sizes-requires-2 t c κs = search needs
 
-condition-read-requires : (t : ℕ) → condition-lts.Need-read-requires (condition-claims t) (condition-at t) condition.Post
-condition-read-requires t c κs = search needs
+condition-condition-record-requires : (t : ℕ) → condition-lts.Need-condition-record-requires (condition-claims t) (condition-at t) condition.Post
+condition-condition-record-requires t c κs = search needs
 
 condition-enum-told : (t : ℕ) → condition-lts.Need-enum-told (condition-claims t) (condition-at t) condition.Post
 condition-enum-told t c = search needs
@@ -153,7 +154,7 @@ condition-returns-2 : (t : ℕ) → condition-lts.Need-returns-2 (condition-clai
 condition-returns-2 t c =
     let c₃ = c .before .before .before in let condition = c₃ .condition in
     let c₆ = c₃ .before .before .before in let enum-told = c₆ .enum-told in
-    let c₈ = c₆ .before .before in let read = c₈ .read in
+    let c₈ = c₆ .before .before in let condition-record = c₈ .condition-record in
     let c₁₁ = c₈ .before .before .before in let tail-sizes = c₁₁ .tail-sizes in
     let c₁₂ = c₁₁ .before in let tail = c₁₂ .tail in
     let c₁₄ = c₁₂ .before .before in let record-length = c₁₄ .record-length in
@@ -161,7 +162,7 @@ condition-returns-2 t c =
     let c₁₆ = c₁₅ .before in let if1 = c₁₆ .if1 in
     let c₂₁ = c₁₆ .before .before .before .before .before in let args = c₂₁ .args in
     let vs = now (args .vs) in
-    (not-is (rowsBy (now (args .walks)) vs) (assigned vs (now (args .env))) (now (args .q)) (now (args .z)) (now (args .memo)) (args .level) _ _ _ (if1 .left) (byte .ensures) (record-length .ensures .0) (read .ensures) _ _ (tail .ensures) (tail-sizes .ensures) _ (enum-told .given .1) (condition .ensures .0), condition .ensures .1)
+    (not-is (rowsBy (now (args .walks)) vs) (assigned vs (now (args .env))) (now (args .q)) (now (args .z)) (now (args .memo)) (args .level) _ _ _ (if1 .left) (byte .ensures) (record-length .ensures .0) (condition-record .ensures) _ _ (tail .ensures) (tail-sizes .ensures) _ (enum-told .given .1) (condition .ensures .0), condition .ensures .1)
 
 condition-same-length-3 : (t : ℕ) → condition-lts.Need-same-length-3 (condition-claims t) (condition-at t) condition.Post
 condition-same-length-3 t c = search needs
@@ -174,7 +175,7 @@ condition-returns-3 t c =
     let c₃ = c .before .before .before in let condition3 = c₃ .condition3 in
     let c₉ = c₃ .before .before .before .before .before .before in let condition2 = c₉ .condition2 in
     let c₁₂ = c₉ .before .before .before in let enum-told2 = c₁₂ .enum-told2 in
-    let c₁₄ = c₁₂ .before .before in let read = c₁₄ .read in
+    let c₁₄ = c₁₂ .before .before in let condition-record = c₁₄ .condition-record in
     let c₁₅ = c₁₄ .before in let tail-sizes2 = c₁₅ .tail-sizes2 in
     let c₁₆ = c₁₅ .before in let tail2 = c₁₆ .tail2 in
     let c₁₇ = c₁₆ .before in let tail-sizes = c₁₇ .tail-sizes in
@@ -185,7 +186,7 @@ condition-returns-3 t c =
     let c₂₂ = c₂₁ .before in let if1 = c₂₂ .if1 in
     let c₂₇ = c₂₂ .before .before .before .before .before in let args = c₂₇ .args in
     let vs = now (args .vs) in
-    (and-is (rowsBy (now (args .walks)) vs) (assigned vs (now (args .env))) (now (args .q)) (now (args .z)) (now (args .memo)) (args .level) _ _ _ (if1 .left) (byte .ensures) (record-length .ensures .0) (read .ensures) _ _ (tail .ensures) (tail-sizes .ensures) _ _ _ _ (size-at .ensures .0) refl (tail2 .ensures) (tail-sizes2 .ensures) _ _ _ (ap (assigned vs) (condition2 .ensures .1)) (condition2 .ensures .0) (condition3 .ensures .0) (enum-told2 .given .1), condition3 .ensures .1 ∙ condition2 .ensures .1)
+    (and-is (rowsBy (now (args .walks)) vs) (assigned vs (now (args .env))) (now (args .q)) (now (args .z)) (now (args .memo)) (args .level) _ _ _ (if1 .left) (byte .ensures) (record-length .ensures .0) (condition-record .ensures) _ _ (tail .ensures) (tail-sizes .ensures) _ _ _ _ (size-at .ensures .0) refl (tail2 .ensures) (tail-sizes2 .ensures) _ _ _ (ap (assigned vs) (condition2 .ensures .1)) (condition2 .ensures .0) (condition3 .ensures .0) (enum-told2 .given .1), condition3 .ensures .1 ∙ condition2 .ensures .1)
 
 condition-same-length-5 : (t : ℕ) → condition-lts.Need-same-length-5 (condition-claims t) (condition-at t) condition.Post
 condition-same-length-5 t c = search needs
@@ -198,7 +199,7 @@ condition-returns-4 t c =
     let c₃ = c .before .before .before in let condition5 = c₃ .condition5 in
     let c₉ = c₃ .before .before .before .before .before .before in let condition4 = c₉ .condition4 in
     let c₁₂ = c₉ .before .before .before in let enum-told3 = c₁₂ .enum-told3 in
-    let c₁₄ = c₁₂ .before .before in let read = c₁₄ .read in
+    let c₁₄ = c₁₂ .before .before in let condition-record = c₁₄ .condition-record in
     let c₁₅ = c₁₄ .before in let tail-sizes2 = c₁₅ .tail-sizes2 in
     let c₁₆ = c₁₅ .before in let tail2 = c₁₆ .tail2 in
     let c₁₇ = c₁₆ .before in let tail-sizes = c₁₇ .tail-sizes in
@@ -209,7 +210,7 @@ condition-returns-4 t c =
     let c₂₂ = c₂₁ .before in let if1 = c₂₂ .if1 in
     let c₂₇ = c₂₂ .before .before .before .before .before in let args = c₂₇ .args in
     let vs = now (args .vs) in
-    (or-is (rowsBy (now (args .walks)) vs) (assigned vs (now (args .env))) (now (args .q)) (now (args .z)) (now (args .memo)) (args .level) _ _ _ (if1 .left) (byte .ensures) (record-length .ensures .0) (read .ensures) _ _ (tail .ensures) (tail-sizes .ensures) _ _ _ _ (size-at .ensures .0) refl (tail2 .ensures) (tail-sizes2 .ensures) _ _ _ (ap (assigned vs) (condition4 .ensures .1)) (condition4 .ensures .0) (condition5 .ensures .0) (enum-told3 .given .1), condition5 .ensures .1 ∙ condition4 .ensures .1)
+    (or-is (rowsBy (now (args .walks)) vs) (assigned vs (now (args .env))) (now (args .q)) (now (args .z)) (now (args .memo)) (args .level) _ _ _ (if1 .left) (byte .ensures) (record-length .ensures .0) (condition-record .ensures) _ _ (tail .ensures) (tail-sizes .ensures) _ _ _ _ (size-at .ensures .0) refl (tail2 .ensures) (tail-sizes2 .ensures) _ _ _ (ap (assigned vs) (condition4 .ensures .1)) (condition4 .ensures .0) (condition5 .ensures .0) (enum-told3 .given .1), condition5 .ensures .1 ∙ condition4 .ensures .1)
 
 condition-same-length-7 : (t : ℕ) → condition-lts.Need-same-length-7 (condition-claims t) (condition-at t) condition.Post
 condition-same-length-7 t c = search needs
@@ -222,7 +223,7 @@ condition-returns-5 t c =
     let c₃ = c .before .before .before in let term2 = c₃ .term2 in
     let c₉ = c₃ .before .before .before .before .before .before in let term = c₉ .term in
     let c₁₂ = c₉ .before .before .before in let enum-told4 = c₁₂ .enum-told4 in
-    let c₁₄ = c₁₂ .before .before in let read = c₁₄ .read in
+    let c₁₄ = c₁₂ .before .before in let condition-record = c₁₄ .condition-record in
     let c₁₅ = c₁₄ .before in let tail-sizes2 = c₁₅ .tail-sizes2 in
     let c₁₆ = c₁₅ .before in let tail2 = c₁₆ .tail2 in
     let c₁₇ = c₁₆ .before in let tail-sizes = c₁₇ .tail-sizes in
@@ -233,7 +234,7 @@ condition-returns-5 t c =
     let c₂₂ = c₂₁ .before in let if1 = c₂₂ .if1 in
     let c₂₇ = c₂₂ .before .before .before .before .before in let args = c₂₇ .args in
     let vs = now (args .vs) in
-    (compare-is (rowsBy (now (args .walks)) vs) (assigned vs (now (args .env))) (now (args .q)) (now (args .z)) (now (args .memo)) (args .level) _ _ _ (if1 .left) (byte .ensures) (record-length .ensures .0) (read .ensures) _ _ (tail .ensures) (tail-sizes .ensures) _ _ _ _ (size-at .ensures .0) refl (tail2 .ensures) (tail-sizes2 .ensures) _ _ _ (ap (assigned vs) (term .ensures .1)) _ (enum-told4 .given .1) (term .ensures .0) (term2 .ensures .0), term2 .ensures .1 ∙ term .ensures .1)
+    (compare-is (rowsBy (now (args .walks)) vs) (assigned vs (now (args .env))) (now (args .q)) (now (args .z)) (now (args .memo)) (args .level) _ _ _ (if1 .left) (byte .ensures) (record-length .ensures .0) (condition-record .ensures) _ _ (tail .ensures) (tail-sizes .ensures) _ _ _ _ (size-at .ensures .0) refl (tail2 .ensures) (tail-sizes2 .ensures) _ _ _ (ap (assigned vs) (term .ensures .1)) _ (enum-told4 .given .1) (term .ensures .0) (term2 .ensures .0), term2 .ensures .1 ∙ term .ensures .1)
 
 condition-same-length-9 : (t : ℕ) → condition-lts.Need-same-length-9 (condition-claims t) (condition-at t) condition.Post
 condition-same-length-9 t c = search needs
@@ -245,7 +246,7 @@ condition-returns-6 : (t : ℕ) → condition-lts.Need-returns-6 (condition-clai
 condition-returns-6 t c =
     let c₃ = c .before .before .before in let condition6 = c₃ .condition6 in
     let c₆ = c₃ .before .before .before in let enum-told5 = c₆ .enum-told5 in
-    let c₈ = c₆ .before .before in let read = c₈ .read in
+    let c₈ = c₆ .before .before in let condition-record = c₈ .condition-record in
     let c₁₁ = c₈ .before .before .before in let tail-sizes = c₁₁ .tail-sizes in
     let c₁₂ = c₁₁ .before in let tail = c₁₂ .tail in
     let c₁₄ = c₁₂ .before .before in let record-length = c₁₄ .record-length in
@@ -253,14 +254,14 @@ condition-returns-6 t c =
     let c₁₆ = c₁₅ .before in let if1 = c₁₆ .if1 in
     let c₂₁ = c₁₆ .before .before .before .before .before in let args = c₂₁ .args in
     let vs = now (args .vs) in
-    (some-is (rowsBy (now (args .walks)) vs) (assigned vs (now (args .env))) (now (args .q)) (now (args .z)) (now (args .memo)) (args .level) _ _ _ (if1 .left) (byte .ensures) (record-length .ensures .0) (read .ensures) _ _ (tail .ensures) (tail-sizes .ensures) _ _ _ (enum-told5 .given .1) (condition6 .ensures .0), condition6 .ensures .1)
+    (some-is (rowsBy (now (args .walks)) vs) (assigned vs (now (args .env))) (now (args .q)) (now (args .z)) (now (args .memo)) (args .level) _ _ _ (if1 .left) (byte .ensures) (record-length .ensures .0) (condition-record .ensures) _ _ (tail .ensures) (tail-sizes .ensures) _ _ _ (enum-told5 .given .1) (condition6 .ensures .0), condition6 .ensures .1)
 
 condition-returns-7 : (t : ℕ) → condition-lts.Need-returns-7 (condition-claims t) (condition-at t) condition.Post
 condition-returns-7 t c =
     let c₉ = c .before .before .before .before .before .before .before .before .before in let if1 = c₉ .if1 in
     let c₁₄ = c₉ .before .before .before .before .before in let args = c₁₄ .args in
     let vs = now (args .vs) in
-    (no-aggregate (rowsBy (now (args .walks)) vs) (assigned vs (now (args .env))) (now (args .q)) (now (args .z)) (now (args .memo)) (args .level) _ (if1 .left) (c .before .read .ensures) (c .match .keys6), search needs)
+    (no-aggregate (rowsBy (now (args .walks)) vs) (assigned vs (now (args .env))) (now (args .q)) (now (args .z)) (now (args .memo)) (args .level) _ (if1 .left) (c .before .condition-record .ensures) (c .match .keys6), search needs)
 
 term-returns : (t : ℕ) → term-lts.Need-returns (term-claims t) (term-at t) term.Post
 term-returns t c =
@@ -268,8 +269,8 @@ term-returns t c =
     let vs = now (args .vs) in
     (none-leftT (rowsBy (now (args .walks)) vs) (assigned vs (now (args .env))) (now (args .q)) (now (args .z)) (now (args .memo)) (args .level) (c .if1 .taken), search needs)
 
-term-read-requires : (t : ℕ) → term-lts.Need-read-requires (term-claims t) (term-at t) term.Post
-term-read-requires t c κs = search needs
+term-term-record-requires : (t : ℕ) → term-lts.Need-term-record-requires (term-claims t) (term-at t) term.Post
+term-term-record-requires t c κs = search needs
 
 term-enum-known-variable : (t : ℕ) → term-lts.Need-enum-known-variable (term-claims t) (term-at t) term.Post
 term-enum-known-variable t c = search needs
@@ -278,7 +279,7 @@ term-returns-2 : (t : ℕ) → term-lts.Need-returns-2 (term-claims t) (term-at 
 term-returns-2 t c =
     let c₇ = c .before .before .before .before .before .before .before in let args = c₇ .args in
     let vs = now (args .vs) in
-    (no-term (rowsBy (now (args .walks)) vs) (assigned vs (now (args .env))) (now (args .q)) (now (args .z)) (now (args .memo)) (args .level) _ (c .before .before .if1 .left) (c .before .read .ensures) (c .match .keys2), search needs)
+    (no-term (rowsBy (now (args .walks)) vs) (assigned vs (now (args .env))) (now (args .q)) (now (args .z)) (now (args .memo)) (args .level) _ (c .before .before .if1 .left) (c .before .term-record .ensures) (c .match .keys2), search needs)
 
 term-byte-requires : (t : ℕ) → term-lts.Need-byte-requires (term-claims t) (term-at t) term.Post
 term-byte-requires t c κs = search needs
@@ -319,11 +320,11 @@ term-returns-3 t c =
     let c₁₆ = c₁₅ .before in let record-length = c₁₆ .record-length in
     let c₁₇ = c₁₆ .before in let byte = c₁₇ .byte in
     let c₁₉ = c₁₇ .before .before in let variable = c₁₉ .variable in
-    let c₂₁ = c₁₉ .before .before in let read = c₂₁ .read in
+    let c₂₁ = c₁₉ .before .before in let term-record = c₂₁ .term-record in
     let c₂₂ = c₂₁ .before in let if1 = c₂₂ .if1 in
     let c₂₇ = c₂₂ .before .before .before .before .before in let args = c₂₇ .args in
     let ws = now (args .walks) in let env = now (args .env) in let q = now (args .q) in let vs = now (args .vs) in let z = now (args .z) in let level = args .level in
-    (aggregate-is (rowsBy ws vs) (assigned vs env) q z (now (args .memo)) level _ _ _ (if1 .left) (byte .ensures) (record-length .ensures .0) (read .ensures) _ _ (tail .ensures) (tail-sizes .ensures) _ _ _ _ _ _ _ (variable .given .1) (condition .ensures .0) (term-is level q z ws vs _ env _ _ (condition .ensures .1) (value .ensures .0)) (c .before .remember .ensures), value .ensures .1 .1 ∙ condition .ensures .1)
+    (aggregate-is (rowsBy ws vs) (assigned vs env) q z (now (args .memo)) level _ _ _ (if1 .left) (byte .ensures) (record-length .ensures .0) (term-record .ensures) _ _ (tail .ensures) (tail-sizes .ensures) _ _ _ _ _ _ _ (variable .given .1) (condition .ensures .0) (term-is level q z ws vs _ env _ _ (condition .ensures .1) (value .ensures .0)) (c .before .remember .ensures), value .ensures .1 .1 ∙ condition .ensures .1)
 
 pub +condition+term-spec : {M : Type 1} → statement M
 +condition+term-spec = close μ-condition μ-term (λ t. condition-lts.spec (condition-claims t)
@@ -339,7 +340,7 @@ pub +condition+term-spec : {M : Type 1} → statement M
     (condition-tail-sizes-requires t)
     (condition-tail-requires-2 t)
     (condition-tail-sizes-requires-2 t)
-    (condition-read-requires t)
+    (condition-condition-record-requires t)
     (condition-enum-told t)
     (condition-condition-requires t)
     (condition-enum-told-2 t)
@@ -373,7 +374,7 @@ pub +condition+term-spec : {M : Type 1} → statement M
     (term-at t)
     term.Post
     (term-returns t)
-    (term-read-requires t)
+    (term-term-record-requires t)
     (term-enum-known-variable t)
     (term-returns-2 t)
     (term-byte-requires t)

@@ -6,7 +6,7 @@ use Rattle.aggregates.proofs.both.Statement.{statement}
 use Rattle.aggregates.proofs.both.Tie as tie
 use Rattle.aggregates.proofs.both.Reads as reads
 use Rattle.aggregates.proofs.both.Lts as lts
-use Rattle.aggregates.proofs.leads.Reads as leads-reads
+use Rattle.decide.proofs.leads.Reads as leads-reads
 use Rattle.kinds.proofs.size_at.Reads as size-at-reads
 
 returns : tie.Need-returns

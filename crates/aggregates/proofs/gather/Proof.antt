@@ -15,7 +15,7 @@ use Rattle.aggregates.proofs.gather.Lts as lts
 use Rattle.aggregates.proofs.take.Reads as take-reads
 use Rattle.aggregates.proofs.take_linked.Reads as take-linked-reads
 use Rattle.conjuncts.proofs.plan.Reads as plan-reads
-use Rattle.decide.proofs.seeks.searches.Reads as searches-reads
+use Rattle.aggregates.proofs.asks.Reads as asks-reads
 
 plan-requires : tie.Need-plan-requires
 plan-requires c κs = (omega (arith, length-replicate {A = ℕ} 512 0), omega (arith, length-replicate 128 (pos 0)), omega arith, omega arith, c .before .before .before .before .before .before .pre .1, getD-same {A = ℕ} 512 0)

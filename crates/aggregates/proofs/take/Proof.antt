@@ -1,6 +1,6 @@
 use borrow.Author.Needs.{needs}
 use Rattle.model.proofs.Lists.{getD-same}
-use Rattle.aggregates.proofs.Taking.{meets, taken-over, take-next, ready-for, take-all}
+use Rattle.aggregates.proofs.Taking.{meets, row-no, row-yes, taken-over, take-next, ready-for, take-all}
 use Rattle.decide.proofs.seeks.Filling.{nothing}
 use Rattle.decide.specs.Cursor.{stops}
 use Rattle.evaluator.proofs.Steps.{places-start, places-on, places-back, places-length, taken-start, taken-few}
@@ -8,7 +8,7 @@ use Rattle.walks.specs.Walks.{placeAt, kept}
 use Rattle.catalogue.specs.Layout.{tupleAt}
 use Rattle.numbers.specs.Numbers.{Accumulates}
 use denote.Ref.{now}
-use lib.ListN.{length, set, length-set, replicate}
+use lib.ListN.{length, getD, set, length-set, replicate}
 use Prim.Native.Nat.{ℕ, _+_, _-_, _≤_, _<_}
 use native.Mathlib.Omega.{arith}
 use mathlib.Core.Bool.{true}
@@ -17,14 +17,16 @@ use Rattle.aggregates.proofs.take.Statement.{statement}
 use Rattle.aggregates.proofs.take.Tie as tie
 use Rattle.aggregates.proofs.take.Reads as reads
 use Rattle.aggregates.proofs.take.Lts as lts
-use Rattle.aggregates.proofs.with_row.Reads as with-row-reads
-use Rattle.evaluator.proofs.place.Reads as place-reads
-use Rattle.evaluator.proofs.set_place.Reads as set-place-reads
+use Rattle.aggregates.proofs.both.Reads as both-reads
+use Rattle.catalogue.proofs.value.Reads as value-reads
+use Rattle.numbers.proofs.add.Reads as add-reads
+use mir.Facts.{toZ-ofZ}
+use mir.Syntax.{w32}
 use Rattle.kinds.proofs.size_at.Reads as size-at-reads
-use Rattle.numbers.proofs.empty.Reads as empty-reads
+use Rattle.numbers.proofs.Laws.{nothing-taken}
 use Rattle.decide.proofs.seeks.next_row.Reads as next-row-reads
 use Rattle.decide.proofs.seeks.prepare.Reads as prepare-reads
-use Rattle.walks.proofs.place.Reads as place-reads′
+use Rattle.walks.proofs.place.Reads as place-reads
 use Rattle.walks.proofs.walk_of.Reads as walk-of-reads
 
 abbrev Inv-loop : tie.InvT-loop
@@ -36,8 +38,13 @@ abbrev μ-loop : tie.MeasureT-loop
 walk-of-requires : tie.Need-walk-of-requires Inv-loop μ-loop
 walk-of-requires c κs = search needs
 
-place-requires : tie.Need-place-requires Inv-loop μ-loop
-place-requires c κs = search needs
+mul-old : tie.Need-mul-old Inv-loop μ-loop
+mul-old c = search needs
+
+slice-read-old : tie.Need-slice-read-old Inv-loop μ-loop
+slice-read-old c =
+    let c₈ = c .before .before .before .before .before .before .before .before in let good = c₈ .good in let pre = c₈ .pre in
+    omega (arith, pre .0, good)
 
 size-at-requires : tie.Need-size-at-requires Inv-loop μ-loop
 size-at-requires c κs = search needs
@@ -46,99 +53,137 @@ slice-aggregate-prepare : tie.Need-slice-aggregate-prepare Inv-loop μ-loop
 slice-aggregate-prepare c = search needs
 
 prepare-requires : tie.Need-prepare-requires Inv-loop μ-loop
-prepare-requires c κs = (c .before .before .before .before .before .before .before .before .before .before .before .before .pre .0, c .before .before .size-at .ensures .1)
-
-empty-requires : tie.Need-empty-requires Inv-loop μ-loop
-empty-requires c κs = search needs
+prepare-requires c κs = (c .before .before .before .before .before .before .before .before .before .before .before .pre .0, c .before .before .size-at .ensures .1)
 
 loop-holds : tie.Need-loop-holds Inv-loop μ-loop
-loop-holds c =
-    let c₅ = c .before .before .before .before .before in let place = c₅ .place in
-    let c₇ = c₅ .before .before in let walk-of = c₇ .walk-of in
-    let c₁₄ = c₇ .before .before .before .before .before .before .before in let args = c₁₄ .args in
+loop-holds c = let walk-of = c .before .before .before .before .before .walk-of in
+    let args = c .before .before .before .before .before .before .before .before .before .before .before .before .args in
     let env = now (args .env) in let vs = now (args .vs) in let walks = now (args .walks) in let variable = args .variable in
-    (places-start env variable (place .result) (place .ensures), taken-start (placeAt walks (walk-of .result)) vs (meets (now (args .t)) (now (args .xs)) (now (args .q)) (now (args .z)) walks vs (now (args .memo)) env variable) (args .attribute) _ (c .empty .ensures), omega arith, refl, λ h. absurd (omega arith))
+    (places-start env variable (getD (now (c .before .before .before .before .before .before .before .before .before .before .before .before .args .env)) (c .before .before .before .before .before .before .before .before .before .before .before .before .args .variable) 0) refl, taken-start (placeAt walks (walk-of .result)) vs (meets (now (args .t)) (now (args .xs)) (now (args .q)) (now (args .z)) walks vs (now (args .memo)) env variable) (args .attribute) _ nothing-taken, omega arith, refl, λ h. absurd (omega arith))
 
 slice-aggregate-next-row : tie.Need-slice-aggregate-next-row Inv-loop μ-loop
 slice-aggregate-next-row c = search needs
 
 next-row-requires : tie.Need-next-row-requires Inv-loop μ-loop
-next-row-requires c κs =
-    let c₁ = c .before in let loop = c₁ .loop in
-    let c₃ = c₁ .before .before in let prepare = c₃ .prepare in
-    let c₆ = c₃ .before .before .before in let size-at = c₆ .size-at in
-    let c₉ = c₆ .before .before .before in let walk-of = c₉ .walk-of in
-    let c₁₆ = c₉ .before .before .before .before .before .before .before in let args = c₁₆ .args in
+next-row-requires c κs = let loop = c .before .loop in
+    let prepare = c .before .before .prepare in
+    let size-at = c .before .before .before .before .before .size-at in
+    let walk-of = c .before .before .before .before .before .before .before .walk-of in
+    let args = c .before .before .before .before .before .before .before .before .before .before .before .before .before .before .args in
     let vs = now (args .vs) in let walks = now (args .walks) in
     (walk-of .ensures .1, loop .inv .2, ready-for (now (args .t)) (now (args .xs)) (now (args .q)) (now (args .z)) walks vs (now (args .memo)) (now (args .env)) (args .variable) (args .attribute) (placeAt walks (walk-of .result)) (prepare .result) (size-at .result) (replicate 1 0) (size-at .ensures .0) (prepare .ensures walks (nothing (now (args .t)) walks vs (replicate 1 0) (getD-same {A = ℕ} 1 0) .faithful)) (walk-of .result) (walk-of .ensures .0), loop .inv .4)
 
-set-place-requires : tie.Need-set-place-requires Inv-loop μ-loop
-set-place-requires c κs = search needs
+mul-env : tie.Need-mul-env Inv-loop μ-loop
+mul-env c =
+    let c₁₇ = c .before .before .before .before .before .before .before .before .before .before .before .before .before .before .before .before in let good = c₁₇ .good in
+    omega (arith, good)
+
+slice-write-env : tie.Need-slice-write-env Inv-loop μ-loop
+slice-write-env c =
+    let c₃ = c .before .before .before in let loop = c₃ .loop in
+    let c₁₇ = c₃ .before .before .before .before .before .before .before .before .before .before .before .before .before in let good = c₁₇ .good in let pre = c₁₇ .pre in
+    omega (arith, pre .0, good, loop .inv .3)
 
 same-length : tie.Need-same-length Inv-loop μ-loop
-same-length c = search needs
+same-length c =
+    let c₃ = c .before .before .before in let loop = c₃ .loop in
+    let c₁₇ = c₃ .before .before .before .before .before .before .before .before .before .before .before .before .before in let args = c₁₇ .args in
+    let variable = args .variable in
+    length-set (loop .env) variable (getD (now (args .env)) variable 0) ∙ loop .inv .3
 
 returns : tie.Need-returns Inv-loop μ-loop
-returns c =
-    let c₄ = c .before .before .before .before in let if1 = c₄ .if1 in
-    let c₅ = c₄ .before in let next-row = c₅ .next-row in
-    let c₇ = c₅ .before .before in let loop = c₇ .loop in
-    let c₉ = c₇ .before .before in let prepare = c₉ .prepare in
-    let c₁₂ = c₉ .before .before .before in let size-at = c₁₂ .size-at in
-    let c₁₅ = c₁₂ .before .before .before in let walk-of = c₁₅ .walk-of in
-    let c₂₂ = c₁₅ .before .before .before .before .before .before .before in let args = c₂₂ .args in
+returns c = let if1 = c .if1 in
+    let next-row = c .before .next-row in
+    let loop = c .before .before .before .loop in
+    let prepare = c .before .before .before .before .prepare in
+    let size-at = c .before .before .before .before .before .before .before .size-at in
+    let walk-of = c .before .before .before .before .before .before .before .before .before .walk-of in
+    let args = c .before .before .before .before .before .before .before .before .before .before .before .before .before .before .before .before .args in
     let env = now (args .env) in let memo = now (args .memo) in let q = now (args .q) in let vs = now (args .vs) in let walks = now (args .walks) in let xs = now (args .xs) in let z = now (args .z) in let attribute = args .attribute in let variable = args .variable in
-    (take-all (now (args .t)) xs q z walks vs memo env variable attribute (next-row .result) (walk-of .result) _ (walk-of .ensures .0) (omega (arith, if1 .taken, next-row .ensures .0 .1)) (taken-over (now (args .t)) xs q z walks vs memo env variable attribute (placeAt walks (walk-of .result)) (prepare .result) (size-at .result) (replicate 1 0) (size-at .ensures .0) (prepare .ensures walks (nothing (now (args .t)) walks vs (replicate 1 0) (getD-same {A = ℕ} 1 0) .faithful)) (loop .i) (next-row .result) (loop .taken) (next-row .ensures .0 .0) (next-row .ensures .1 .0) (loop .inv .1)), (omega (arith, taken-few (placeAt walks (walk-of .result)) vs (meets (now (args .t)) xs q z walks vs memo env variable) attribute (next-row .result) (loop .taken) (taken-over (now (args .t)) xs q z walks vs memo env variable attribute (placeAt walks (walk-of .result)) (prepare .result) (size-at .result) (replicate 1 0) (size-at .ensures .0) (prepare .ensures walks (nothing (now (args .t)) walks vs (replicate 1 0) (getD-same {A = ℕ} 1 0) .faithful)) (loop .i) (next-row .result) (loop .taken) (next-row .ensures .0 .0) (next-row .ensures .1 .0) (loop .inv .1)) (next-row .result) (omega arith), next-row .ensures .0 .1, walk-of .ensures .1 .count), c .before .before .set-place .ensures ∙ loop .inv .0))
-
-place-requires-2 : tie.Need-place-requires-2 Inv-loop μ-loop
-place-requires-2 c κs =
-    let c₁₁ = c .before .before .before .before .before .before .before .before .before .before .before in let walk-of = c₁₁ .walk-of in
-    (walk-of .ensures .1, omega (arith, walk-of .ensures .1 .count, c .if1 .left))
-
-set-place-requires-2 : tie.Need-set-place-requires-2 Inv-loop μ-loop
-set-place-requires-2 c κs = search needs
-
-with-row-requires : tie.Need-with-row-requires Inv-loop μ-loop
-with-row-requires c κs =
-    let c₃ = c .before .before .before in let set-place2 = c₃ .set-place2 in
-    let c₅ = c₃ .before .before in let place2 = c₅ .place2 in
-    let c₆ = c₅ .before in let if1 = c₆ .if1 in
-    let c₇ = c₆ .before in let next-row = c₇ .next-row in
-    let c₉ = c₇ .before .before in let loop = c₉ .loop in
-    let c₁₁ = c₉ .before .before in let prepare = c₁₁ .prepare in
-    let c₁₄ = c₁₁ .before .before .before in let size-at = c₁₄ .size-at in
-    let c₁₇ = c₁₄ .before .before .before in let walk-of = c₁₇ .walk-of in
-    let c₂₄ = c₁₇ .before .before .before .before .before .before .before in let args = c₂₄ .args in let pre = c₂₄ .pre in
-    let env = now (args .env) in let memo = now (args .memo) in let q = now (args .q) in let vs = now (args .vs) in let walks = now (args .walks) in let xs = now (args .xs) in let z = now (args .z) in let attribute = args .attribute in let variable = args .variable in
-    (omega (arith, pre .0, loop .inv .3, ap length (set-place2 .ensures), length-set (loop .env) variable (place2 .result)), omega (arith, (prepare .ensures walks (nothing (now (args .t)) walks vs (replicate 1 0) (getD-same {A = ℕ} 1 0) .faithful)) .low, size-at .ensures .1), omega (arith, taken-few (placeAt walks (walk-of .result)) vs (meets (now (args .t)) xs q z walks vs memo env variable) attribute (next-row .result) (loop .taken) (taken-over (now (args .t)) xs q z walks vs memo env variable attribute (placeAt walks (walk-of .result)) (prepare .result) (size-at .result) (replicate 1 0) (size-at .ensures .0) (prepare .ensures walks (nothing (now (args .t)) walks vs (replicate 1 0) (getD-same {A = ℕ} 1 0) .faithful)) (loop .i) (next-row .result) (loop .taken) (next-row .ensures .0 .0) (next-row .ensures .1 .0) (loop .inv .1)) (next-row .result) (omega arith), if1 .left, walk-of .ensures .1 .count), loop .inv .1 .bounded, pre .1)
+    (take-all (now (args .t)) xs q z walks vs memo env variable attribute (next-row .result) (walk-of .result) _ (walk-of .ensures .0) (omega (arith, if1 .taken, next-row .ensures .0 .1)) (taken-over (now (args .t)) xs q z walks vs memo env variable attribute (placeAt walks (walk-of .result)) (prepare .result) (size-at .result) (replicate 1 0) (size-at .ensures .0) (prepare .ensures walks (nothing (now (args .t)) walks vs (replicate 1 0) (getD-same {A = ℕ} 1 0) .faithful)) (loop .i) (next-row .result) (loop .taken) (next-row .ensures .0 .0) (next-row .ensures .1 .0) (loop .inv .1)), (omega (arith, taken-few (placeAt walks (walk-of .result)) vs (meets (now (args .t)) xs q z walks vs memo env variable) attribute (next-row .result) (loop .taken) (taken-over (now (args .t)) xs q z walks vs memo env variable attribute (placeAt walks (walk-of .result)) (prepare .result) (size-at .result) (replicate 1 0) (size-at .ensures .0) (prepare .ensures walks (nothing (now (args .t)) walks vs (replicate 1 0) (getD-same {A = ℕ} 1 0) .faithful)) (loop .i) (next-row .result) (loop .taken) (next-row .ensures .0 .0) (next-row .ensures .1 .0) (loop .inv .1)) (next-row .result) (omega arith), next-row .ensures .0 .1, walk-of .ensures .1 .count), loop .inv .0))
 
 add-i : tie.Need-add-i Inv-loop μ-loop
-add-i c =
-    let c₉ = c .before .before .before .before .before .before .before .before .before in let if1 = c₉ .if1 in
-    let c₂₀ = c₉ .before .before .before .before .before .before .before .before .before .before .before in let walk-of = c₂₀ .walk-of in
+add-i c = let if1 = c .if1 in
+    let walk-of = c .before .before .before .before .before .before .before .before .before .walk-of in
     omega (arith, walk-of .ensures .1 .count, if1 .left)
 
+place-requires : tie.Need-place-requires Inv-loop μ-loop
+place-requires c κs = let walk-of = c .before .before .before .before .before .before .before .before .before .walk-of in
+    (walk-of .ensures .1, omega (arith, walk-of .ensures .1 .count, c .if1 .left))
+
+mul-env-2 : tie.Need-mul-env-2 Inv-loop μ-loop
+mul-env-2 c =
+    let c₁₈ = c .before .before .before .before .before .before .before .before .before .before .before .before .before .before .before .before .before in let good = c₁₈ .good in
+    omega (arith, good)
+
+slice-write-env-2 : tie.Need-slice-write-env-2 Inv-loop μ-loop
+slice-write-env-2 c =
+    let c₄ = c .before .before .before .before in let loop = c₄ .loop in
+    let c₁₈ = c₄ .before .before .before .before .before .before .before .before .before .before .before .before .before in let good = c₁₈ .good in let pre = c₁₈ .pre in
+    omega (arith, pre .0, good, loop .inv .3)
+
+both-requires : tie.Need-both-requires Inv-loop μ-loop
+both-requires c κs = let place = c .before .place in
+    let if1 = c .before .before .if1 in
+    let next-row = c .before .before .before .next-row in
+    let loop = c .before .before .before .before .before .loop in
+    let prepare = c .before .before .before .before .before .before .prepare in
+    let size-at = c .before .before .before .before .before .before .before .before .before .size-at in
+    let walk-of = c .before .before .before .before .before .before .before .before .before .before .before .walk-of in
+    let args = c .before .before .before .before .before .before .before .before .before .before .before .before .before .before .before .before .before .before .args in let pre = c .before .before .before .before .before .before .before .before .before .before .before .before .before .before .before .before .before .before .pre in
+    let env = now (args .env) in let memo = now (args .memo) in let q = now (args .q) in let vs = now (args .vs) in let walks = now (args .walks) in let xs = now (args .xs) in let z = now (args .z) in let attribute = args .attribute in let variable = args .variable in
+    (omega (arith, pre .0, loop .inv .3, length-set (loop .env) variable (place .result)), omega (arith, (prepare .ensures walks (nothing (now (args .t)) walks vs (replicate 1 0) (getD-same {A = ℕ} 1 0) .faithful)) .low, size-at .ensures .1), pre .1)
+
 loop-less : tie.Need-loop-less Inv-loop μ-loop
-loop-less c =
-    let c₉ = c .before .before .before .before .before .before .before .before .before in let if1 = c₉ .if1 in
-    let c₁₀ = c₉ .before in let next-row = c₁₀ .next-row in
+loop-less c = let if1 = c .before .before .before .before .before .before .if1 in
+    let next-row = c .before .before .before .before .before .before .before .next-row in
     omega (arith, next-row .ensures .0 .0, if1 .left)
 
 loop-again : tie.Need-loop-again Inv-loop μ-loop
-loop-again c =
-    let c₂ = c .before .before in let with-row = c₂ .with-row in
-    let c₆ = c₂ .before .before .before .before in let set-place2 = c₆ .set-place2 in
-    let c₈ = c₆ .before .before in let place2 = c₈ .place2 in
-    let c₉ = c₈ .before in let if1 = c₉ .if1 in
-    let c₁₀ = c₉ .before in let next-row = c₁₀ .next-row in
-    let c₁₂ = c₁₀ .before .before in let loop = c₁₂ .loop in
-    let c₁₄ = c₁₂ .before .before in let prepare = c₁₄ .prepare in
-    let c₁₇ = c₁₄ .before .before .before in let size-at = c₁₇ .size-at in
-    let c₁₈ = c₁₇ .before in let place = c₁₈ .place in
-    let c₂₀ = c₁₈ .before .before in let walk-of = c₂₀ .walk-of in
-    let c₂₇ = c₂₀ .before .before .before .before .before .before .before in let args = c₂₇ .args in let good = c₂₇ .good in let pre = c₂₇ .pre in
+loop-again c = let both = c .before .before .before .both in let if2 = c .if2 in
+    let place = c .before .before .before .before .before .place in
+    let if1 = c .before .before .before .before .before .before .if1 in
+    let next-row = c .before .before .before .before .before .before .before .next-row in
+    let loop = c .before .before .before .before .before .before .before .before .before .loop in
+    let prepare = c .before .before .before .before .before .before .before .before .before .before .prepare in
+    let size-at = c .before .before .before .before .before .before .before .before .before .before .before .before .before .size-at in
+    let walk-of = c .before .before .before .before .before .before .before .before .before .before .before .before .before .before .before .walk-of in
+    let args = c .before .before .before .before .before .before .before .before .before .before .before .before .before .before .before .before .before .before .before .before .before .before .args in let good = c .before .before .before .before .before .before .before .before .before .before .before .before .before .before .before .before .before .before .before .before .before .before .good in let pre = c .before .before .before .before .before .before .before .before .before .before .before .before .before .before .before .before .before .before .before .before .before .before .pre in
     let env = now (args .env) in let memo = now (args .memo) in let q = now (args .q) in let vs = now (args .vs) in let walks = now (args .walks) in let xs = now (args .xs) in let z = now (args .z) in let attribute = args .attribute in let variable = args .variable in
-    (places-back (loop .env) env _ variable (place .result) (place2 .result) (loop .inv .0) (set-place2 .ensures) _ (with-row .ensures .1 .1), take-next (now (args .t)) xs q z walks vs memo env variable attribute (placeAt walks (walk-of .result)) (prepare .result) (size-at .result) (replicate 1 0) (size-at .ensures .0) (prepare .ensures walks (nothing (now (args .t)) walks vs (replicate 1 0) (getD-same {A = ℕ} 1 0) .faithful)) _ (next-row .result) (place2 .result) (loop .taken) _ (next-row .ensures .1 .1 (if1 .left)) (place2 .ensures) (places-on (loop .env) env _ variable (place .result) (place2 .result) (loop .inv .0) (set-place2 .ensures)) (omega (arith, pre .0, good)) (taken-over (now (args .t)) xs q z walks vs memo env variable attribute (placeAt walks (walk-of .result)) (prepare .result) (size-at .result) (replicate 1 0) (size-at .ensures .0) (prepare .ensures walks (nothing (now (args .t)) walks vs (replicate 1 0) (getD-same {A = ℕ} 1 0) .faithful)) (loop .i) (next-row .result) (loop .taken) (next-row .ensures .0 .0) (next-row .ensures .1 .0) (loop .inv .1)) (with-row .ensures .0) (with-row .ensures .1 .0), omega (arith, if1 .left), places-length (loop .env) env _ variable (place .result) (place2 .result) (loop .inv .0) (set-place2 .ensures) _ (with-row .ensures .1 .1) (loop .inv .3), λ h. (let e : next-row .result + 1 - 1 ≡ next-row .result = omega arith in ap (λ (i : ℕ). stops (prepare .result) (tupleAt vs ((placeAt walks (walk-of .result)) i))) e) ∙ next-row .ensures .1 .1 (if1 .left))
+    (places-back (loop .env) env _ variable (getD (now (c .before .before .before .before .before .before .before .before .before .before .before .before .before .before .before .before .before .before .before .before .before .before .args .env)) (c .before .before .before .before .before .before .before .before .before .before .before .before .before .before .before .before .before .before .before .before .before .before .args .variable) 0) (place .result) (loop .inv .0) refl _ (both .ensures .1), take-next (now (args .t)) xs q z walks vs memo env variable attribute (placeAt walks (walk-of .result)) (prepare .result) (size-at .result) (replicate 1 0) (size-at .ensures .0) (prepare .ensures walks (nothing (now (args .t)) walks vs (replicate 1 0) (getD-same {A = ℕ} 1 0) .faithful)) _ (next-row .result) (place .result) (loop .taken) _ (next-row .ensures .1 .1 (if1 .left)) (place .ensures) (places-on (loop .env) env _ variable (getD (now (c .before .before .before .before .before .before .before .before .before .before .before .before .before .before .before .before .before .before .before .before .before .before .args .env)) (c .before .before .before .before .before .before .before .before .before .before .before .before .before .before .before .before .before .before .before .before .before .before .args .variable) 0) (place .result) (loop .inv .0) refl) (omega (arith, pre .0, good)) (taken-over (now (args .t)) xs q z walks vs memo env variable attribute (placeAt walks (walk-of .result)) (prepare .result) (size-at .result) (replicate 1 0) (size-at .ensures .0) (prepare .ensures walks (nothing (now (args .t)) walks vs (replicate 1 0) (getD-same {A = ℕ} 1 0) .faithful)) (loop .i) (next-row .result) (loop .taken) (next-row .ensures .0 .0) (next-row .ensures .1 .0) (loop .inv .1)) (row-no (now (args .t)) xs q z walks vs memo (set (loop .env) variable (place .result)) (prepare .result .next) (both .result) (loop .taken) (both .ensures .0) (if2 .taken) _) (loop .inv .1 .bounded), omega (arith, if1 .left), places-length (loop .env) env _ variable (getD (now (c .before .before .before .before .before .before .before .before .before .before .before .before .before .before .before .before .before .before .before .before .before .before .args .env)) (c .before .before .before .before .before .before .before .before .before .before .before .before .before .before .before .before .before .before .before .before .before .before .args .variable) 0) (place .result) (loop .inv .0) refl _ (both .ensures .1) (loop .inv .3), λ h. (let e : next-row .result + 1 - 1 ≡ next-row .result = omega arith in ap (λ (i : ℕ). stops (prepare .result) (tupleAt vs ((placeAt walks (walk-of .result)) i))) e) ∙ next-row .ensures .1 .1 (if1 .left))
+
+value-requires : tie.Need-value-requires Inv-loop μ-loop
+value-requires c κs = search needs
+
+add-requires : tie.Need-add-requires Inv-loop μ-loop
+add-requires c κs = let place = c .before .before .before .before .before .before .place in
+    let if1 = c .before .before .before .before .before .before .before .if1 in
+    let next-row = c .before .before .before .before .before .before .before .before .next-row in
+    let loop = c .before .before .before .before .before .before .before .before .before .before .loop in
+    let prepare = c .before .before .before .before .before .before .before .before .before .before .before .prepare in
+    let size-at = c .before .before .before .before .before .before .before .before .before .before .before .before .before .before .size-at in
+    let walk-of = c .before .before .before .before .before .before .before .before .before .before .before .before .before .before .before .before .walk-of in
+    let args = c .before .before .before .before .before .before .before .before .before .before .before .before .before .before .before .before .before .before .before .before .before .before .before .args in let pre = c .before .before .before .before .before .before .before .before .before .before .before .before .before .before .before .before .before .before .before .before .before .before .before .pre in
+    let env = now (args .env) in let memo = now (args .memo) in let q = now (args .q) in let vs = now (args .vs) in let walks = now (args .walks) in let xs = now (args .xs) in let z = now (args .z) in let attribute = args .attribute in let variable = args .variable in
+    (loop .inv .1 .bounded, omega (arith, taken-few (placeAt walks (walk-of .result)) vs (meets (now (args .t)) xs q z walks vs memo env variable) attribute (next-row .result) (loop .taken) (taken-over (now (args .t)) xs q z walks vs memo env variable attribute (placeAt walks (walk-of .result)) (prepare .result) (size-at .result) (replicate 1 0) (size-at .ensures .0) (prepare .ensures walks (nothing (now (args .t)) walks vs (replicate 1 0) (getD-same {A = ℕ} 1 0) .faithful)) (loop .i) (next-row .result) (loop .taken) (next-row .ensures .0 .0) (next-row .ensures .1 .0) (loop .inv .1)) (next-row .result) (omega arith), if1 .left, walk-of .ensures .1 .count))
+
+loop-less-2 : tie.Need-loop-less-2 Inv-loop μ-loop
+loop-less-2 c = let if1 = c .before .before .before .before .before .before .before .before .if1 in
+    let next-row = c .before .before .before .before .before .before .before .before .before .next-row in
+    omega (arith, next-row .ensures .0 .0, if1 .left)
+
+loop-again-2 : tie.Need-loop-again-2 Inv-loop μ-loop
+loop-again-2 c = let both = c .before .before .before .before .before .both in let if2 = c .before .before .if2 in let value = c .before .value in let add = c .add in
+    let place = c .before .before .before .before .before .before .before .place in
+    let if1 = c .before .before .before .before .before .before .before .before .if1 in
+    let next-row = c .before .before .before .before .before .before .before .before .before .next-row in
+    let loop = c .before .before .before .before .before .before .before .before .before .before .before .loop in
+    let prepare = c .before .before .before .before .before .before .before .before .before .before .before .before .prepare in
+    let size-at = c .before .before .before .before .before .before .before .before .before .before .before .before .before .before .before .size-at in
+    let walk-of = c .before .before .before .before .before .before .before .before .before .before .before .before .before .before .before .before .before .walk-of in
+    let args = c .before .before .before .before .before .before .before .before .before .before .before .before .before .before .before .before .before .before .before .before .before .before .before .before .args in let good = c .before .before .before .before .before .before .before .before .before .before .before .before .before .before .before .before .before .before .before .before .before .before .before .before .good in let pre = c .before .before .before .before .before .before .before .before .before .before .before .before .before .before .before .before .before .before .before .before .before .before .before .before .pre in
+    let env = now (args .env) in let memo = now (args .memo) in let q = now (args .q) in let vs = now (args .vs) in let walks = now (args .walks) in let xs = now (args .xs) in let z = now (args .z) in let attribute = args .attribute in let variable = args .variable in
+    (places-back (loop .env) env _ variable (getD (now (c .before .before .before .before .before .before .before .before .before .before .before .before .before .before .before .before .before .before .before .before .before .before .before .before .args .env)) (c .before .before .before .before .before .before .before .before .before .before .before .before .before .before .before .before .before .before .before .before .before .before .before .before .args .variable) 0) (place .result) (loop .inv .0) refl _ (both .ensures .1), take-next (now (args .t)) xs q z walks vs memo env variable attribute (placeAt walks (walk-of .result)) (prepare .result) (size-at .result) (replicate 1 0) (size-at .ensures .0) (prepare .ensures walks (nothing (now (args .t)) walks vs (replicate 1 0) (getD-same {A = ℕ} 1 0) .faithful)) _ (next-row .result) (place .result) (loop .taken) _ (next-row .ensures .1 .1 (if1 .left)) (place .ensures) (places-on (loop .env) env _ variable (getD (now (c .before .before .before .before .before .before .before .before .before .before .before .before .before .before .before .before .before .before .before .before .before .before .before .before .args .env)) (c .before .before .before .before .before .before .before .before .before .before .before .before .before .before .before .before .before .before .before .before .before .before .before .before .args .variable) 0) (place .result) (loop .inv .0) refl) (omega (arith, pre .0, good)) (taken-over (now (args .t)) xs q z walks vs memo env variable attribute (placeAt walks (walk-of .result)) (prepare .result) (size-at .result) (replicate 1 0) (size-at .ensures .0) (prepare .ensures walks (nothing (now (args .t)) walks vs (replicate 1 0) (getD-same {A = ℕ} 1 0) .faithful)) (loop .i) (next-row .result) (loop .taken) (next-row .ensures .0 .0) (next-row .ensures .1 .0) (loop .inv .1)) (row-yes (now (args .t)) xs q z walks vs memo (set (loop .env) variable (place .result)) (prepare .result .next) (both .result) (loop .taken) (both .ensures .0) (add .result) _ _ (if2 .left) (toZ-ofZ {w = w32} (record { sfits = value .ok }) ∙ value .ensures) (add .ensures .0)) (add .ensures .1), omega (arith, if1 .left), places-length (loop .env) env _ variable (getD (now (c .before .before .before .before .before .before .before .before .before .before .before .before .before .before .before .before .before .before .before .before .before .before .before .before .args .env)) (c .before .before .before .before .before .before .before .before .before .before .before .before .before .before .before .before .before .before .before .before .before .before .before .before .args .variable) 0) (place .result) (loop .inv .0) refl _ (both .ensures .1) (loop .inv .3), λ h. (let e : next-row .result + 1 - 1 ≡ next-row .result = omega arith in ap (λ (i : ℕ). stops (prepare .result) (tupleAt vs ((placeAt walks (walk-of .result)) i))) e) ∙ next-row .ensures .1 .1 (if1 .left))
 
 pub take-spec : {M : Type 1} → statement M
 take-spec =
@@ -147,20 +192,26 @@ take-spec =
     Inv-loop
     μ-loop
     walk-of-requires
-    place-requires
+    mul-old
+    slice-read-old
     size-at-requires
     slice-aggregate-prepare
     prepare-requires
-    empty-requires
     loop-holds
     slice-aggregate-next-row
     next-row-requires
-    set-place-requires
+    mul-env
+    slice-write-env
     same-length
     returns
-    place-requires-2
-    set-place-requires-2
-    with-row-requires
     add-i
+    place-requires
+    mul-env-2
+    slice-write-env-2
+    both-requires
     loop-less
-    loop-again)
+    loop-again
+    value-requires
+    add-requires
+    loop-less-2
+    loop-again-2)

@@ -57,17 +57,16 @@ compile-same-length-2 t c = search needs
 compile-returns : (t : ℕ) → compile-lts.Need-returns (compile-claims t) (compile-at t) compile.Post
 compile-returns t c = search needs
 
+compile-sub-last : (t : ℕ) → compile-lts.Need-sub-last (compile-claims t) (compile-at t) compile.Post
+compile-sub-last t c = search needs
+
 compile-sub-compile : (t : ℕ) → compile-lts.Need-sub-compile (compile-claims t) (compile-at t) compile.Post
 compile-sub-compile t c = positive (c .before .before .before .before .before .before .before .args .level) ((c .before .search-at .ensures (c .if2 .left)) .deep)
 
-compile-sub-compile-2 : (t : ℕ) → compile-lts.Need-sub-compile-2 (compile-claims t) (compile-at t) compile.Post
-compile-sub-compile-2 t c = search needs
-
 compile-compile-requires : (t : ℕ) → compile-lts.Need-compile-requires (compile-claims t) (compile-at t) compile.Post
-compile-compile-requires t c κs =
-    let c₂ = c .before .before in let if2 = c₂ .if2 in
-    let c₃ = c₂ .before in let search-at = c₃ .search-at in
-    let c₉ = c₃ .before .before .before .before .before .before in let args = c₉ .args in let pre = c₉ .pre in
+compile-compile-requires t c κs = let if2 = c .before .before .if2 in
+    let search-at = c .before .before .before .search-at in
+    let args = c .before .before .before .before .before .before .before .before .before .args in let pre = c .before .before .before .before .before .before .before .before .before .pre in
     (falls-by (args .level) t ((search-at .ensures (if2 .left)) .deep) (pre .0), (omega (arith, pre .1 .0), omega (arith, pre .1 .1), pre .1 .2, omega (arith, (search-at .ensures (if2 .left)) .room, pre .1 .3), omega (arith, pre .1 .4), omega (arith, pre .1 .2), omega (arith, pre .1 .2), (search-at .ensures (if2 .left)) .low, omega (arith, pre .1 .8)))
 
 compile-add-write : (t : ℕ) → compile-lts.Need-add-write (compile-claims t) (compile-at t) compile.Post
@@ -89,15 +88,14 @@ compile-same-length-4 : (t : ℕ) → compile-lts.Need-same-length-4 (compile-cl
 compile-same-length-4 t c = search needs
 
 compile-returns-2 : (t : ℕ) → compile-lts.Need-returns-2 (compile-claims t) (compile-at t) compile.Post
-compile-returns-2 t c =
-    let c₂ = c .before .before in let write = c₂ .write in
-    let c₃ = c₂ .before in let narrow = c₃ .narrow in
-    let c₈ = c₃ .before .before .before .before .before in let compile = c₈ .compile in
-    let c₁₁ = c₈ .before .before .before in let if2 = c₁₁ .if2 in
-    let c₁₂ = c₁₁ .before in let search-at = c₁₂ .search-at in
-    let c₁₈ = c₁₂ .before .before .before .before .before .before in let args = c₁₈ .args in let pre = c₁₈ .pre in
+compile-returns-2 t c = let write = c .before .before .write in
+    let narrow = c .before .before .before .narrow in
+    let compile = c .before .before .before .before .before .before .before .before .compile in
+    let if2 = c .before .before .before .before .before .before .before .before .before .before .before .if2 in
+    let search-at = c .before .before .before .before .before .before .before .before .before .before .before .before .search-at in
+    let args = c .before .before .before .before .before .before .before .before .before .before .before .before .before .before .before .before .before .before .args in let pre = c .before .before .before .before .before .before .before .before .before .before .before .before .before .before .before .before .before .before .pre in
     let q = now (args .q) in let z = now (args .z) in
-    ((omega (arith, compile .ensures .0 .0), omega (arith, compile .ensures .0 .1)), searched (args .k) (compile .result) (args .met) (args .unmet) (search-at .result .variable) ((search-at .ensures (if2 .left)) .relation) (now (args .t)) (compile .last .1 .1 .1 .1 .1 .0) (write .last .0) (now (args .xs)) (compile .last .1 .1 .1 .1 .1 .1 .0) q z (now (args .memo)) (decode ((args .level) - 1) (drop (search-at .result .place) q) (drop (search-at .result .place) z)) _ ((search-at .ensures (if2 .left)) .whole z) ((search-at .ensures (if2 .left)) .byte) (pre .1 .2) (compile .ensures .0 .0) (pre .1 .5) (pre .1 .6) (compile .ensures .1) _ _ refl (narrow .ensures) (write .ensures) (omega (arith, compile .ensures .0 .1, compile .kept .1 .1 .1 .1 .1 .0, pre .1 .0)))
+    ((omega (arith, compile .ensures .0 .0), omega (arith, compile .ensures .0 .1)), searched (args .room .next) (compile .result) (args .ways .met) (args .ways .unmet) (search-at .result .variable) ((search-at .ensures (if2 .left)) .relation) (now (args .t)) (compile .last .1 .1 .1 .1 .1 .0) (write .last .0) (now (args .xs)) (compile .last .1 .1 .1 .1 .1 .1 .0) q z (now (args .memo)) (decode ((args .level) - 1) (drop (search-at .result .place) q) (drop (search-at .result .place) z)) _ ((search-at .ensures (if2 .left)) .whole z) ((search-at .ensures (if2 .left)) .byte) (pre .1 .2) (compile .ensures .0 .0) (pre .1 .5) (pre .1 .6) (compile .ensures .1) _ _ refl (narrow .ensures) (write .ensures) (omega (arith, compile .ensures .0 .1, compile .kept .1 .1 .1 .1 .1 .0, pre .1 .0)))
 
 compile-sub-l : (t : ℕ) → compile-lts.Need-sub-l (compile-claims t) (compile-at t) compile.Post
 compile-sub-l t c = let args = c .before .before .before .before .before .args in
@@ -124,10 +122,10 @@ compile-returns-3 t c = let args = c .before .before .before .before .before .be
     let if1 = c .before .before .before .before .before .before .before .if1 in
     let if3 = c .before .before .before .before .before .before .if3 in
     let compile2 = c .before .before .before .compile2 in
-    (compile2 .ensures .0, joined-not (args .k) (args .met) (args .unmet) (now (args .q)) (now (args .z)) (now (args .memo)) (decode (args .level - 1) (drop (parts-at .result .first) (now (args .q))) (drop (parts-at .result .first) (now (args .z)))) (decode (args .level - 1) (drop (parts-at .result .second) (now (args .q))) (drop (parts-at .result .second) (now (args .z)))) (decode (args .level) (drop (args .place) (now (args .q))) (drop (args .place) (now (args .z)))) (parts-at .result .kind) ((parts-at .ensures (if1 .left)) .whole) (compile2 .result) (now (args .t)) (compile2 .last .1 .1 .1 .1 .1 .0) (now (args .xs)) (compile2 .last .1 .1 .1 .1 .1 .1 .0) (if3 .taken) (compile2 .ensures .1))
+    (compile2 .ensures .0, joined-not (args .room .next) (args .ways .met) (args .ways .unmet) (now (args .q)) (now (args .z)) (now (args .memo)) (decode (args .level - 1) (drop (parts-at .result .first) (now (args .q))) (drop (parts-at .result .first) (now (args .z)))) (decode (args .level - 1) (drop (parts-at .result .second) (now (args .q))) (drop (parts-at .result .second) (now (args .z)))) (decode (args .level) (drop (args .place) (now (args .q))) (drop (args .place) (now (args .z)))) (parts-at .result .kind) ((parts-at .ensures (if1 .left)) .whole) (compile2 .result) (now (args .t)) (compile2 .last .1 .1 .1 .1 .1 .0) (now (args .xs)) (compile2 .last .1 .1 .1 .1 .1 .1 .0) (if3 .taken) (compile2 .ensures .1))
 
-compile-sub-compile-3 : (t : ℕ) → compile-lts.Need-sub-compile-3 (compile-claims t) (compile-at t) compile.Post
-compile-sub-compile-3 t c = search needs
+compile-sub-last-2 : (t : ℕ) → compile-lts.Need-sub-last-2 (compile-claims t) (compile-at t) compile.Post
+compile-sub-last-2 t c = search needs
 
 compile-compile-requires-3 : (t : ℕ) → compile-lts.Need-compile-requires-3 (compile-claims t) (compile-at t) compile.Post
 compile-compile-requires-3 t c κs = let args = c .before .before .before .before .before .before .before .before .args in
@@ -137,8 +135,8 @@ compile-compile-requires-3 t c κs = let args = c .before .before .before .befor
     let if3 = c .before .before .if3 in
     (falls-by (args .level) t ((parts-at .ensures (if1 .left)) .deep) (pre .0), (omega (arith, pre .1 .0), omega (arith, pre .1 .1), pre .1 .2, omega (arith, (parts-at .ensures (if1 .left)) .room (omega (arith, if1 .left, if3 .left)), pre .1 .3), omega (arith, pre .1 .4), pre .1 .5, pre .1 .6, (parts-at .ensures (if1 .left)) .second, omega (arith, pre .1 .8)))
 
-compile-add-compile : (t : ℕ) → compile-lts.Need-add-compile (compile-claims t) (compile-at t) compile.Post
-compile-add-compile t c = search needs
+compile-add-next : (t : ℕ) → compile-lts.Need-add-next (compile-claims t) (compile-at t) compile.Post
+compile-add-next t c = search needs
 
 compile-compile-requires-4 : (t : ℕ) → compile-lts.Need-compile-requires-4 (compile-claims t) (compile-at t) compile.Post
 compile-compile-requires-4 t c κs = let args = c .before .before .before .before .before .before .before .before .before .before .before .before .before .before .before .args in
@@ -164,10 +162,7 @@ compile-returns-4 t c = let args = c .before .before .before .before .before .be
     let if4 = c .before .before .before .before .before .before .if4 in
     let compile3 = c .before .before .before .before .before .before .before .before .before .before .compile3 in
     let compile4 = c .before .before .before .compile4 in
-    ((omega (arith, compile3 .ensures .0 .0, compile4 .ensures .0 .0), compile4 .ensures .0 .1), joined-and (args .k) (args .met) (args .unmet) (now (args .q)) (now (args .z)) (now (args .memo)) (decode (args .level - 1) (drop (parts-at .result .first) (now (args .q))) (drop (parts-at .result .first) (now (args .z)))) (decode (args .level - 1) (drop (parts-at .result .second) (now (args .q))) (drop (parts-at .result .second) (now (args .z)))) (decode (args .level) (drop (args .place) (now (args .q))) (drop (args .place) (now (args .z)))) (parts-at .result .kind) ((parts-at .ensures (if1 .left)) .whole) (compile3 .result) (compile4 .result) (now (args .t)) (compile3 .last .1 .1 .1 .1 .1 .0) (compile4 .last .1 .1 .1 .1 .1 .0) (now (args .xs)) (compile3 .last .1 .1 .1 .1 .1 .1 .0) (compile4 .last .1 .1 .1 .1 .1 .1 .0) (compile3 .ensures .0 .0) (pre .1 .5) (pre .1 .6) (compile3 .ensures .1) (if4 .taken) (compile4 .ensures .1))
-
-compile-add-compile-2 : (t : ℕ) → compile-lts.Need-add-compile-2 (compile-claims t) (compile-at t) compile.Post
-compile-add-compile-2 t c = search needs
+    ((omega (arith, compile3 .ensures .0 .0, compile4 .ensures .0 .0), compile4 .ensures .0 .1), joined-and (args .room .next) (args .ways .met) (args .ways .unmet) (now (args .q)) (now (args .z)) (now (args .memo)) (decode (args .level - 1) (drop (parts-at .result .first) (now (args .q))) (drop (parts-at .result .first) (now (args .z)))) (decode (args .level - 1) (drop (parts-at .result .second) (now (args .q))) (drop (parts-at .result .second) (now (args .z)))) (decode (args .level) (drop (args .place) (now (args .q))) (drop (args .place) (now (args .z)))) (parts-at .result .kind) ((parts-at .ensures (if1 .left)) .whole) (compile3 .result) (compile4 .result) (now (args .t)) (compile3 .last .1 .1 .1 .1 .1 .0) (compile4 .last .1 .1 .1 .1 .1 .0) (now (args .xs)) (compile3 .last .1 .1 .1 .1 .1 .1 .0) (compile4 .last .1 .1 .1 .1 .1 .1 .0) (compile3 .ensures .0 .0) (pre .1 .5) (pre .1 .6) (compile3 .ensures .1) (if4 .taken) (compile4 .ensures .1))
 
 compile-compile-requires-5 : (t : ℕ) → compile-lts.Need-compile-requires-5 (compile-claims t) (compile-at t) compile.Post
 compile-compile-requires-5 t c κs = let args = c .before .before .before .before .before .before .before .before .before .before .before .before .before .before .before .args in
@@ -193,7 +188,7 @@ compile-returns-5 t c = let args = c .before .before .before .before .before .be
     let if4 = c .before .before .before .before .before .before .if4 in
     let compile3 = c .before .before .before .before .before .before .before .before .before .before .compile3 in
     let compile5 = c .before .before .before .compile5 in
-    ((omega (arith, compile3 .ensures .0 .0, compile5 .ensures .0 .0), compile5 .ensures .0 .1), joined-or (args .k) (args .met) (args .unmet) (now (args .q)) (now (args .z)) (now (args .memo)) (decode (args .level - 1) (drop (parts-at .result .first) (now (args .q))) (drop (parts-at .result .first) (now (args .z)))) (decode (args .level - 1) (drop (parts-at .result .second) (now (args .q))) (drop (parts-at .result .second) (now (args .z)))) (decode (args .level) (drop (args .place) (now (args .q))) (drop (args .place) (now (args .z)))) (parts-at .result .kind) ((parts-at .ensures (if1 .left)) .whole) (compile3 .result) (compile5 .result) (now (args .t)) (compile3 .last .1 .1 .1 .1 .1 .0) (compile5 .last .1 .1 .1 .1 .1 .0) (now (args .xs)) (compile3 .last .1 .1 .1 .1 .1 .1 .0) (compile5 .last .1 .1 .1 .1 .1 .1 .0) (compile3 .ensures .0 .0) (pre .1 .5) (pre .1 .6) (compile3 .ensures .1) (if3 .left) (if4 .left) (compile5 .ensures .1))
+    ((omega (arith, compile3 .ensures .0 .0, compile5 .ensures .0 .0), compile5 .ensures .0 .1), joined-or (args .room .next) (args .ways .met) (args .ways .unmet) (now (args .q)) (now (args .z)) (now (args .memo)) (decode (args .level - 1) (drop (parts-at .result .first) (now (args .q))) (drop (parts-at .result .first) (now (args .z)))) (decode (args .level - 1) (drop (parts-at .result .second) (now (args .q))) (drop (parts-at .result .second) (now (args .z)))) (decode (args .level) (drop (args .place) (now (args .q))) (drop (args .place) (now (args .z)))) (parts-at .result .kind) ((parts-at .ensures (if1 .left)) .whole) (compile3 .result) (compile5 .result) (now (args .t)) (compile3 .last .1 .1 .1 .1 .1 .0) (compile5 .last .1 .1 .1 .1 .1 .0) (now (args .xs)) (compile3 .last .1 .1 .1 .1 .1 .1 .0) (compile5 .last .1 .1 .1 .1 .1 .1 .0) (compile3 .ensures .0 .0) (pre .1 .5) (pre .1 .6) (compile3 .ensures .1) (if3 .left) (if4 .left) (compile5 .ensures .1))
 
 pub +compile-spec : {M : Type 1} → statement M
 +compile-spec = close μ-compile λ t. compile-lts.spec (compile-claims t)
@@ -207,8 +202,8 @@ pub +compile-spec : {M : Type 1} → statement M
     (compile-same-length t)
     (compile-same-length-2 t)
     (compile-returns t)
+    (compile-sub-last t)
     (compile-sub-compile t)
-    (compile-sub-compile-2 t)
     (compile-compile-requires t)
     (compile-add-write t)
     (compile-narrow-requires t)
@@ -222,14 +217,13 @@ pub +compile-spec : {M : Type 1} → statement M
     (compile-same-length-5 t)
     (compile-same-length-6 t)
     (compile-returns-3 t)
-    (compile-sub-compile-3 t)
+    (compile-sub-last-2 t)
     (compile-compile-requires-3 t)
-    (compile-add-compile t)
+    (compile-add-next t)
     (compile-compile-requires-4 t)
     (compile-same-length-7 t)
     (compile-same-length-8 t)
     (compile-returns-4 t)
-    (compile-add-compile-2 t)
     (compile-compile-requires-5 t)
     (compile-same-length-9 t)
     (compile-same-length-10 t)

@@ -36,10 +36,10 @@ returns-5 c =
     let c₁₀ = c₉ .before in let record-length = c₁₀ .record-length in
     let c₁₁ = c₁₀ .before in let byte = c₁₁ .byte in
     let c₁₃ = c₁₁ .before .before in let operator = c₁₃ .operator in
-    let c₁₅ = c₁₃ .before .before in let read = c₁₅ .read in
+    let c₁₅ = c₁₃ .before .before in let condition-record = c₁₅ .condition-record in
     let c₁₆ = c₁₅ .before in let if1 = c₁₆ .if1 in
     let c₁₉ = c₁₆ .before .before .before in let args = c₁₉ .args in
-    compares (now (args .memo)) (now (args .q)) (args .level) _ (if1 .left) (read .ensures) (now (args .z)) _ _ _ _ _ _ (c .compared5 .result) (operand-at .result) (operand-at2 .result) (operator .given .1) (byte .ensures) (record-length .ensures .0) (size-at .ensures .0) (tail .ensures) (tail2 .ensures) (operand-at .ensures) (operand-at2 .ensures) (if2 .left) (c .before .if3 .left) (c .compared5 .ensures)
+    compares (now (args .memo)) (now (args .q)) (args .level) _ (if1 .left) (condition-record .ensures) (now (args .z)) _ _ _ _ _ _ (c .compared5 .result) (operand-at .result) (operand-at2 .result) (operator .given .1) (byte .ensures) (record-length .ensures .0) (size-at .ensures .0) (tail .ensures) (tail2 .ensures) (operand-at .ensures) (operand-at2 .ensures) (if2 .left) (c .before .if3 .left) (c .compared5 .ensures)
 
 pub comparison-at-spec : {M : Type 1} → statement M
 comparison-at-spec =

@@ -14,7 +14,7 @@ returns c =
     let narrow = c .before .before .before .before .narrow in
     let narrow2 = c .before .before .before .narrow2 in
     let write = c .before .before .write in
-    placed (args .k) (args .met) (args .unmet) (now (args .t)) (write .last .0) (now (args .xs)) (now (args .q)) (now (args .z)) (now (args .memo)) (args .place) (args .level) _ _ (narrow .ensures) (narrow2 .ensures) (write .ensures) (pre .0) (pre .2) (pre .4) (pre .5)
+    placed (args .k) (args .ways .met) (args .ways .unmet) (now (args .t)) (write .last .0) (now (args .xs)) (now (args .q)) (now (args .z)) (now (args .memo)) (args .place) (args .level) _ _ (narrow .ensures) (narrow2 .ensures) (write .ensures) (pre .0) (pre .2) (pre .4) (pre .5)
 
 returns-2 : tie.Need-returns-2
 returns-2 c =
@@ -29,7 +29,7 @@ returns-2 c =
     let write-numbers = c .before .write-numbers in
     let struct-told = c .before .before .before .struct-told in
     let struct-told2 = c .before .before .struct-told2 in
-    compared (args .k) (args .met) (args .unmet) (now (args .t)) (write2 .last .0) (now (args .xs)) (write-numbers .last .0) (now (args .q)) (now (args .z)) _ _ (now (args .memo)) (args .place) (args .level) _ (comparison-at .result) _ _ (from-byte .ensures .0) (write2 .ensures) (pre .0) (toZ-ofZ {w = w32} (record { sfits = struct-told .given .1 .1 .1 .0 .1 })) (toZ-ofZ {w = w32} (record { sfits = struct-told2 .given .1 .1 .1 .0 .1 })) (write-numbers .ensures) (pre .1) (tail .ensures) (tail-sizes .ensures) (comparison-at .ensures) (if1 .left) (λ e. omega (arith, e, from-byte .ensures)) (pre .2) (pre .4) (pre .5)
+    compared (args .k) (args .ways .met) (args .ways .unmet) (now (args .t)) (write2 .last .0) (now (args .xs)) (write-numbers .last .0) (now (args .q)) (now (args .z)) _ _ (now (args .memo)) (args .place) (args .level) _ (comparison-at .result) _ _ (from-byte .ensures .0) (write2 .ensures) (pre .0) (toZ-ofZ {w = w32} (record { sfits = struct-told .given .1 .1 .1 .0 .1 })) (toZ-ofZ {w = w32} (record { sfits = struct-told2 .given .1 .1 .1 .0 .1 })) (write-numbers .ensures) (pre .1) (tail .ensures) (tail-sizes .ensures) (comparison-at .ensures) (if1 .left) (λ e. omega (arith, e, from-byte .ensures)) (pre .2) (pre .4) (pre .5)
 
 pub single-spec : {M : Type 1} → statement M
 single-spec =

@@ -30,9 +30,9 @@ use Rattle.conditions.proofs.+aggregate+condition+conditions+some+term+
 use Rattle.conditions.proofs.terms.Reads as terms
 use Rattle.conditions.proofs.terms.Kinds as terms-kinds
 use Rattle.conditions.proofs.+aggregate+condition+conditions+some+term+terms.Lts-terms as terms-lts
-use Rattle.kinds.proofs.is_function.Reads as is-function-reads
-use Rattle.kinds.proofs.is_operator.Reads as is-operator-reads
-use Rattle.kinds.proofs.read.Reads as read-reads
+use Rattle.kinds.proofs.is_code.Reads as is-code-reads
+use Rattle.kinds.proofs.condition_record.Reads as condition-record-reads
+use Rattle.kinds.proofs.term_record.Reads as term-record-reads
 use Rattle.kinds.proofs.record_length.Reads as record-length-reads
 use Rattle.kinds.proofs.tail.Reads as tail-reads
 use Rattle.conditions.proofs.also.Reads as also-reads
@@ -109,7 +109,7 @@ abbrev aggregate-claims : ℕ → aggregate-lts.Claims
 aggregate-claims t = (bind-reads.Asked, bind-reads.Learnt, condition-below t, condition.Post, has-reads.Asked, has-reads.Learnt, also-reads.Asked, also-reads.Learnt, known-reads.Asked, known-reads.Learnt)
 
 abbrev condition-claims : ℕ → condition-lts.Claims
-condition-claims t = (tail-reads.Asked, tail-reads.Learnt, read-reads.Asked, read-reads.Learnt, record-length-reads.Asked, record-length-reads.Learnt, leaf-reads.Asked, leaf-reads.Learnt, condition-below t, condition.Post, parent-reads.Asked, parent-reads.Learnt, conditions-below t, conditions.Post, is-operator-reads.Asked, is-operator-reads.Learnt, terms-below t, terms.Post, some-below t, some.Post)
+condition-claims t = (tail-reads.Asked, tail-reads.Learnt, condition-record-reads.Asked, condition-record-reads.Learnt, record-length-reads.Asked, record-length-reads.Learnt, leaf-reads.Asked, leaf-reads.Learnt, condition-below t, condition.Post, parent-reads.Asked, parent-reads.Learnt, conditions-below t, conditions.Post, is-code-reads.Asked, is-code-reads.Learnt, terms-below t, terms.Post, some-below t, some.Post)
 
 abbrev conditions-claims : ℕ → conditions-lts.Claims
 conditions-claims t = (condition-below t, condition.Post, also-reads.Asked, also-reads.Learnt)
@@ -118,7 +118,7 @@ abbrev some-claims : ℕ → some-lts.Claims
 some-claims t = (entry-reads.Asked, entry-reads.Learnt, bind-reads.Asked, bind-reads.Learnt, condition-below t, condition.Post, put-reads.Asked, put-reads.Learnt, known-reads.Asked, known-reads.Learnt, also-reads.Asked, also-reads.Learnt)
 
 abbrev term-claims : ℕ → term-lts.Claims
-term-claims t = (tail-reads.Asked, tail-reads.Learnt, read-reads.Asked, read-reads.Learnt, record-length-reads.Asked, record-length-reads.Learnt, leaf-reads.Asked, leaf-reads.Learnt, attribute-reads.Asked, attribute-reads.Learnt, is-function-reads.Asked, is-function-reads.Learnt, aggregate-below t, aggregate.Post, parent-reads.Asked, parent-reads.Learnt)
+term-claims t = (tail-reads.Asked, tail-reads.Learnt, term-record-reads.Asked, term-record-reads.Learnt, record-length-reads.Asked, record-length-reads.Learnt, leaf-reads.Asked, leaf-reads.Learnt, attribute-reads.Asked, attribute-reads.Learnt, is-code-reads.Asked, is-code-reads.Learnt, aggregate-below t, aggregate.Post, parent-reads.Asked, parent-reads.Learnt)
 
 abbrev terms-claims : ℕ → terms-lts.Claims
 terms-claims t = (term-below t, term.Post, also-reads.Asked, also-reads.Learnt)
@@ -171,8 +171,8 @@ condition-sub-l t c = search needs
 condition-tail-requires : (t : ℕ) → condition-lts.Need-tail-requires (condition-claims t) (condition-at t) condition.Post
 condition-tail-requires t c κs = search needs
 
-condition-read-requires : (t : ℕ) → condition-lts.Need-read-requires (condition-claims t) (condition-at t) condition.Post
-condition-read-requires t c κs = search needs
+condition-condition-record-requires : (t : ℕ) → condition-lts.Need-condition-record-requires (condition-claims t) (condition-at t) condition.Post
+condition-condition-record-requires t c κs = search needs
 
 condition-record-length-requires : (t : ℕ) → condition-lts.Need-record-length-requires (condition-claims t) (condition-at t) condition.Post
 condition-record-length-requires t c κs = search needs
@@ -193,22 +193,22 @@ condition-condition-requires : (t : ℕ) → condition-lts.Need-condition-requir
 condition-condition-requires t c κs =
     let c₂ = c .before .before in let record-length2 = c₂ .record-length2 in
     let c₃ = c₂ .before in let enum-told = c₃ .enum-told in
-    let c₅ = c₃ .before .before in let read = c₅ .read in
+    let c₅ = c₃ .before .before in let condition-record = c₅ .condition-record in
     let c₆ = c₅ .before in let tail = c₆ .tail in
     let c₇ = c₆ .before in let if1 = c₇ .if1 in
     let c₁₂ = c₇ .before .before .before .before .before in let args = c₁₂ .args in let pre = c₁₂ .pre in
-    (omega (arith, pre .0, if1 .left), (not-room (now (args .q)) (now (tail .result)) (args .at) (tail .ensures) (read .result) (read .ensures) (record-length2 .result) (record-length2 .ensures .0) (enum-told .given .1), pre .1 .1))
+    (omega (arith, pre .0, if1 .left), (not-room (now (args .q)) (now (tail .result)) (args .at) (tail .ensures) (condition-record .result) (condition-record .ensures) (record-length2 .result) (record-length2 .ensures .0) (enum-told .given .1), pre .1 .1))
 
 condition-parent-requires : (t : ℕ) → condition-lts.Need-parent-requires (condition-claims t) (condition-at t) condition.Post
 condition-parent-requires t c κs =
     let c₅ = c .before .before .before .before .before in let condition = c₅ .condition in
     let c₈ = c₅ .before .before .before in let record-length2 = c₈ .record-length2 in
     let c₉ = c₈ .before in let enum-told = c₉ .enum-told in
-    let c₁₁ = c₉ .before .before in let read = c₁₁ .read in
+    let c₁₁ = c₉ .before .before in let condition-record = c₁₁ .condition-record in
     let c₁₂ = c₁₁ .before in let tail = c₁₂ .tail in
     let c₁₈ = c₁₂ .before .before .before .before .before .before in let args = c₁₈ .args in let good = c₁₈ .good in
     let q = now (args .q) in
-    omega (arith, condition-ends q _ (not-room q (now (tail .result)) (args .at) (tail .ensures) (read .result) (read .ensures) (record-length2 .result) (record-length2 .ensures .0) (enum-told .given .1)) _ _ _ _ _ (condition .ensures .0), good)
+    omega (arith, condition-ends q _ (not-room q (now (tail .result)) (args .at) (tail .ensures) (condition-record .result) (condition-record .ensures) (record-length2 .result) (record-length2 .ensures .0) (enum-told .given .1)) _ _ _ _ _ (condition .ensures .0), good)
 
 condition-record-length-requires-3 : (t : ℕ) → condition-lts.Need-record-length-requires-3 (condition-claims t) (condition-at t) condition.Post
 condition-record-length-requires-3 t c κs = search needs
@@ -220,37 +220,37 @@ condition-conditions-requires : (t : ℕ) → condition-lts.Need-conditions-requ
 condition-conditions-requires t c κs =
     let c₂ = c .before .before in let record-length3 = c₂ .record-length3 in
     let c₃ = c₂ .before in let match = c₃ .match in
-    let c₄ = c₃ .before in let read = c₄ .read in
+    let c₄ = c₃ .before in let condition-record = c₄ .condition-record in
     let c₅ = c₄ .before in let tail = c₅ .tail in
     let c₆ = c₅ .before in let if1 = c₆ .if1 in
     let c₁₁ = c₆ .before .before .before .before .before in let args = c₁₁ .args in let pre = c₁₁ .pre in
-    (omega (arith, pre .0, if1 .left), (both-room (now (args .q)) (now (tail .result)) (args .at) (tail .ensures) (read .result) (read .ensures) (record-length3 .result) (record-length3 .ensures .0) (match .keys3), pre .1 .1))
+    (omega (arith, pre .0, if1 .left), (both-room (now (args .q)) (now (tail .result)) (args .at) (tail .ensures) (condition-record .result) (condition-record .ensures) (record-length3 .result) (record-length3 .ensures .0) (match .keys3), pre .1 .1))
 
 condition-parent-requires-2 : (t : ℕ) → condition-lts.Need-parent-requires-2 (condition-claims t) (condition-at t) condition.Post
 condition-parent-requires-2 t c κs =
     let c₅ = c .before .before .before .before .before in let conditions = c₅ .conditions in
     let c₈ = c₅ .before .before .before in let record-length3 = c₈ .record-length3 in
     let c₉ = c₈ .before in let match = c₉ .match in
-    let c₁₀ = c₉ .before in let read = c₁₀ .read in
+    let c₁₀ = c₉ .before in let condition-record = c₁₀ .condition-record in
     let c₁₁ = c₁₀ .before in let tail = c₁₁ .tail in
     let c₁₇ = c₁₁ .before .before .before .before .before .before in let args = c₁₇ .args in let good = c₁₇ .good in
     let q = now (args .q) in
-    omega (arith, conditions-ends q _ (both-room q (now (tail .result)) (args .at) (tail .ensures) (read .result) (read .ensures) (record-length3 .result) (record-length3 .ensures .0) (match .keys3)) _ _ _ _ _ (conditions .ensures .0), good)
+    omega (arith, conditions-ends q _ (both-room q (now (tail .result)) (args .at) (tail .ensures) (condition-record .result) (condition-record .ensures) (record-length3 .result) (record-length3 .ensures .0) (match .keys3)) _ _ _ _ _ (conditions .ensures .0), good)
 
 condition-enum-known-o : (t : ℕ) → condition-lts.Need-enum-known-o (condition-claims t) (condition-at t) condition.Post
 condition-enum-known-o t c = search needs
 
-condition-is-operator-requires : (t : ℕ) → condition-lts.Need-is-operator-requires (condition-claims t) (condition-at t) condition.Post
-condition-is-operator-requires t c κs = search needs
+condition-is-code-requires : (t : ℕ) → condition-lts.Need-is-code-requires (condition-claims t) (condition-at t) condition.Post
+condition-is-code-requires t c κs = search needs
 
 condition-returns-2 : (t : ℕ) → condition-lts.Need-returns-2 (condition-claims t) (condition-at t) condition.Post
 condition-returns-2 t c =
     let c₃ = c .before .before .before in let o = c₃ .o in
-    let c₅ = c₃ .before .before in let read = c₅ .read in
+    let c₅ = c₃ .before .before in let condition-record = c₅ .condition-record in
     let c₆ = c₅ .before in let tail = c₆ .tail in
     let c₇ = c₆ .before in let if1 = c₇ .if1 in
     let c₁₂ = c₇ .before .before .before .before .before in let args = c₁₂ .args in
-    let h = no-operator (shapeIn (now (args .catalogue))) (args .limit) (args .level) (scopeOf (now (args .reach))) (now (args .q)) (args .at) (now (args .z)) (if1 .left) (now (tail .result)) (tail .ensures) (read .result) (read .ensures) _ _ (o .given .1) (c .before .is-operator .ensures) (c .if2 .taken) in (h .0, (h .1, refl))
+    let h = no-operator (shapeIn (now (args .catalogue))) (args .limit) (args .level) (scopeOf (now (args .reach))) (now (args .q)) (args .at) (now (args .z)) (if1 .left) (now (tail .result)) (tail .ensures) (condition-record .result) (condition-record .ensures) _ _ (o .given .1) (c .before .is-code .ensures) (c .if2 .taken) in (h .0, (h .1, refl))
 
 condition-record-length-requires-4 : (t : ℕ) → condition-lts.Need-record-length-requires-4 (condition-claims t) (condition-at t) condition.Post
 condition-record-length-requires-4 t c κs = search needs
@@ -262,22 +262,22 @@ condition-terms-requires : (t : ℕ) → condition-lts.Need-terms-requires (cond
 condition-terms-requires t c κs =
     let c₂ = c .before .before in let record-length4 = c₂ .record-length4 in
     let c₆ = c₂ .before .before .before .before in let o = c₆ .o in
-    let c₈ = c₆ .before .before in let read = c₈ .read in
+    let c₈ = c₆ .before .before in let condition-record = c₈ .condition-record in
     let c₉ = c₈ .before in let tail = c₉ .tail in
     let c₁₀ = c₉ .before in let if1 = c₁₀ .if1 in
     let c₁₅ = c₁₀ .before .before .before .before .before in let args = c₁₅ .args in let pre = c₁₅ .pre in
-    (omega (arith, pre .0, if1 .left), compare-room (now (args .q)) (now (tail .result)) (args .at) (tail .ensures) (read .result) (read .ensures) (record-length4 .result) _ (record-length4 .ensures .0) (o .given .1))
+    (omega (arith, pre .0, if1 .left), compare-room (now (args .q)) (now (tail .result)) (args .at) (tail .ensures) (condition-record .result) (condition-record .ensures) (record-length4 .result) _ (record-length4 .ensures .0) (o .given .1))
 
 condition-parent-requires-3 : (t : ℕ) → condition-lts.Need-parent-requires-3 (condition-claims t) (condition-at t) condition.Post
 condition-parent-requires-3 t c κs =
     let c₃ = c .before .before .before in let terms = c₃ .terms in
     let c₆ = c₃ .before .before .before in let record-length4 = c₆ .record-length4 in
     let c₁₀ = c₆ .before .before .before .before in let o = c₁₀ .o in
-    let c₁₂ = c₁₀ .before .before in let read = c₁₂ .read in
+    let c₁₂ = c₁₀ .before .before in let condition-record = c₁₂ .condition-record in
     let c₁₃ = c₁₂ .before in let tail = c₁₃ .tail in
     let c₁₉ = c₁₃ .before .before .before .before .before .before in let args = c₁₉ .args in let good = c₁₉ .good in
     let q = now (args .q) in
-    omega (arith, terms-ends q _ (compare-room q (now (tail .result)) (args .at) (tail .ensures) (read .result) (read .ensures) (record-length4 .result) _ (record-length4 .ensures .0) (o .given .1)) _ _ _ _ _ (terms .ensures .0), good)
+    omega (arith, terms-ends q _ (compare-room q (now (tail .result)) (args .at) (tail .ensures) (condition-record .result) (condition-record .ensures) (record-length4 .result) _ (record-length4 .ensures .0) (o .given .1)) _ _ _ _ _ (terms .ensures .0), good)
 
 condition-enum-known-v : (t : ℕ) → condition-lts.Need-enum-known-v (condition-claims t) (condition-at t) condition.Post
 condition-enum-known-v t c = search needs
@@ -292,22 +292,25 @@ condition-some-requires : (t : ℕ) → condition-lts.Need-some-requires (condit
 condition-some-requires t c κs =
     let c₂ = c .before .before in let record-length5 = c₂ .record-length5 in
     let c₄ = c₂ .before .before in let v = c₄ .v in
-    let c₆ = c₄ .before .before in let read = c₆ .read in
+    let c₆ = c₄ .before .before in let condition-record = c₆ .condition-record in
     let c₇ = c₆ .before in let tail = c₇ .tail in
     let c₈ = c₇ .before in let if1 = c₈ .if1 in
     let c₁₃ = c₈ .before .before .before .before .before in let args = c₁₃ .args in let pre = c₁₃ .pre in
-    (omega (arith, pre .0, if1 .left), (some-room (now (args .q)) (now (tail .result)) (args .at) (tail .ensures) (read .result) (read .ensures) (record-length5 .result) _ _ (record-length5 .ensures .0) (v .given .1), pre .1 .1))
+    (omega (arith, pre .0, if1 .left), (some-room (now (args .q)) (now (tail .result)) (args .at) (tail .ensures) (condition-record .result) (condition-record .ensures) (record-length5 .result) _ _ (record-length5 .ensures .0) (v .given .1), pre .1 .1))
 
 condition-parent-requires-4 : (t : ℕ) → condition-lts.Need-parent-requires-4 (condition-claims t) (condition-at t) condition.Post
 condition-parent-requires-4 t c κs =
     let c₅ = c .before .before .before .before .before in let some = c₅ .some in
     let c₈ = c₅ .before .before .before in let record-length5 = c₈ .record-length5 in
     let c₁₀ = c₈ .before .before in let v = c₁₀ .v in
-    let c₁₂ = c₁₀ .before .before in let read = c₁₂ .read in
+    let c₁₂ = c₁₀ .before .before in let condition-record = c₁₂ .condition-record in
     let c₁₃ = c₁₂ .before in let tail = c₁₃ .tail in
     let c₁₉ = c₁₃ .before .before .before .before .before .before in let args = c₁₉ .args in let good = c₁₉ .good in
     let q = now (args .q) in
-    omega (arith, some-ends q _ (some-room q (now (tail .result)) (args .at) (tail .ensures) (read .result) (read .ensures) (record-length5 .result) _ _ (record-length5 .ensures .0) (v .given .1)) _ _ _ _ _ _ (some .ensures .0), good)
+    omega (arith, some-ends q _ (some-room q (now (tail .result)) (args .at) (tail .ensures) (condition-record .result) (condition-record .ensures) (record-length5 .result) _ _ (record-length5 .ensures .0) (v .given .1)) _ _ _ _ _ _ (some .ensures .0), good)
+
+condition-enum-told-2 : (t : ℕ) → condition-lts.Need-enum-told-2 (condition-claims t) (condition-at t) condition.Post
+condition-enum-told-2 t c = search needs
 
 condition-same-length : (t : ℕ) → condition-lts.Need-same-length (condition-claims t) (condition-at t) condition.Post
 condition-same-length t c = search needs
@@ -317,11 +320,11 @@ condition-returns-3 t c =
     let c₂ = c .before .before in let leaf = c₂ .leaf in
     let c₃ = c₂ .before in let record-length = c₃ .record-length in
     let c₅ = c₃ .before .before in let match = c₅ .match in
-    let c₆ = c₅ .before in let read = c₆ .read in
+    let c₆ = c₅ .before in let condition-record = c₆ .condition-record in
     let c₇ = c₆ .before in let tail = c₇ .tail in
     let c₈ = c₇ .before in let if1 = c₈ .if1 in
     let c₁₃ = c₈ .before .before .before .before .before in let args = c₁₃ .args in
-    let h = truth-is (shapeIn (now (args .catalogue))) (args .limit) (args .level) (if1 .left) (scopeOf (now (args .reach))) (now (args .q)) (args .at) (now (args .z)) (now (tail .result)) (tail .ensures) (read .result) (read .ensures) (record-length .result) _ _ (record-length .ensures .0) (match .keys1) (leaf .ensures .0) (leaf .ensures .1) in (h .0, (h .1, refl))
+    let h = truth-is (shapeIn (now (args .catalogue))) (args .limit) (args .level) (if1 .left) (scopeOf (now (args .reach))) (now (args .q)) (args .at) (now (args .z)) (now (tail .result)) (tail .ensures) (condition-record .result) (condition-record .ensures) (record-length .result) _ _ (record-length .ensures .0) (match .keys1) (leaf .ensures .0) (leaf .ensures .1) in (h .0, (h .1, refl))
 
 condition-same-length-2 : (t : ℕ) → condition-lts.Need-same-length-2 (condition-claims t) (condition-at t) condition.Post
 condition-same-length-2 t c = search needs
@@ -335,11 +338,11 @@ condition-returns-4 t c =
     let c₈ = c₂ .before .before .before .before .before .before in let condition = c₈ .condition in
     let c₁₁ = c₈ .before .before .before in let record-length2 = c₁₁ .record-length2 in
     let c₁₂ = c₁₁ .before in let enum-told = c₁₂ .enum-told in
-    let c₁₄ = c₁₂ .before .before in let read = c₁₄ .read in
+    let c₁₄ = c₁₂ .before .before in let condition-record = c₁₄ .condition-record in
     let c₁₅ = c₁₄ .before in let tail = c₁₅ .tail in
     let c₁₆ = c₁₅ .before in let if1 = c₁₆ .if1 in
     let c₂₁ = c₁₆ .before .before .before .before .before in let args = c₂₁ .args in
-    let h = not-is (shapeIn (now (args .catalogue))) (args .limit) (args .level) (if1 .left) (scopeOf (now (args .reach))) (now (args .q)) (args .at) (now (args .z)) (now (tail .result)) (tail .ensures) (read .result) (read .ensures) (record-length2 .result) _ _ _ _ (parent .ensures .0) (parent .ensures .1) (record-length2 .ensures .0) (enum-told .given .1) (condition .ensures .0) (condition .ensures .1 .0) in (h .0, (h .1, condition .ensures .1 .1))
+    let h = not-is (shapeIn (now (args .catalogue))) (args .limit) (args .level) (if1 .left) (scopeOf (now (args .reach))) (now (args .q)) (args .at) (now (args .z)) (now (tail .result)) (tail .ensures) (condition-record .result) (condition-record .ensures) (record-length2 .result) _ _ _ _ (parent .ensures .0) (parent .ensures .1) (record-length2 .ensures .0) (enum-told .given .1) (condition .ensures .0) (condition .ensures .1 .0) in (h .0, (h .1, condition .ensures .1 .1))
 
 condition-same-length-4 : (t : ℕ) → condition-lts.Need-same-length-4 (condition-claims t) (condition-at t) condition.Post
 condition-same-length-4 t c = search needs
@@ -353,11 +356,11 @@ condition-returns-5 t c =
     let c₈ = c₂ .before .before .before .before .before .before in let conditions = c₈ .conditions in
     let c₁₁ = c₈ .before .before .before in let record-length3 = c₁₁ .record-length3 in
     let c₁₂ = c₁₁ .before in let match = c₁₂ .match in
-    let c₁₃ = c₁₂ .before in let read = c₁₃ .read in
+    let c₁₃ = c₁₂ .before in let condition-record = c₁₃ .condition-record in
     let c₁₄ = c₁₃ .before in let tail = c₁₄ .tail in
     let c₁₅ = c₁₄ .before in let if1 = c₁₅ .if1 in
     let c₂₀ = c₁₅ .before .before .before .before .before in let args = c₂₀ .args in
-    let h = both-is (shapeIn (now (args .catalogue))) (args .limit) (args .level) (if1 .left) (scopeOf (now (args .reach))) (now (args .q)) (args .at) (now (args .z)) (now (tail .result)) (tail .ensures) (read .result) (read .ensures) (record-length3 .result) _ _ _ _ (parent2 .ensures .0) (parent2 .ensures .1) (record-length3 .ensures .0) (match .keys3) (conditions .ensures .0) (conditions .ensures .1 .0) in (h .0, (h .1, conditions .ensures .1 .1))
+    let h = both-is (shapeIn (now (args .catalogue))) (args .limit) (args .level) (if1 .left) (scopeOf (now (args .reach))) (now (args .q)) (args .at) (now (args .z)) (now (tail .result)) (tail .ensures) (condition-record .result) (condition-record .ensures) (record-length3 .result) _ _ _ _ (parent2 .ensures .0) (parent2 .ensures .1) (record-length3 .ensures .0) (match .keys3) (conditions .ensures .0) (conditions .ensures .1 .0) in (h .0, (h .1, conditions .ensures .1 .1))
 
 condition-same-length-6 : (t : ℕ) → condition-lts.Need-same-length-6 (condition-claims t) (condition-at t) condition.Post
 condition-same-length-6 t c = search needs
@@ -371,13 +374,13 @@ condition-returns-6 t c =
     let c₆ = c₂ .before .before .before .before in let terms = c₆ .terms in
     let c₉ = c₆ .before .before .before in let record-length4 = c₉ .record-length4 in
     let c₁₀ = c₉ .before in let if2 = c₁₀ .if2 in
-    let c₁₁ = c₁₀ .before in let is-operator = c₁₁ .is-operator in
+    let c₁₁ = c₁₀ .before in let is-code = c₁₁ .is-code in
     let c₁₃ = c₁₁ .before .before in let o = c₁₃ .o in
-    let c₁₅ = c₁₃ .before .before in let read = c₁₅ .read in
+    let c₁₅ = c₁₃ .before .before in let condition-record = c₁₅ .condition-record in
     let c₁₆ = c₁₅ .before in let tail = c₁₆ .tail in
     let c₁₇ = c₁₆ .before in let if1 = c₁₇ .if1 in
     let c₂₂ = c₁₇ .before .before .before .before .before in let args = c₂₂ .args in
-    let h = compare-is (shapeIn (now (args .catalogue))) (args .limit) (args .level) (if1 .left) (scopeOf (now (args .reach))) (now (args .q)) (args .at) (now (args .z)) (now (tail .result)) (tail .ensures) (read .result) (read .ensures) (record-length4 .result) _ _ _ _ (parent3 .ensures .0) (parent3 .ensures .1) _ _ (record-length4 .ensures .0) (o .given .1) (is-operator .ensures) (if2 .left) (terms .ensures .0) (terms .ensures .1) in (h .0, (h .1, refl))
+    let h = compare-is (shapeIn (now (args .catalogue))) (args .limit) (args .level) (if1 .left) (scopeOf (now (args .reach))) (now (args .q)) (args .at) (now (args .z)) (now (tail .result)) (tail .ensures) (condition-record .result) (condition-record .ensures) (record-length4 .result) _ _ _ _ (parent3 .ensures .0) (parent3 .ensures .1) _ _ (record-length4 .ensures .0) (o .given .1) (is-code .ensures) (if2 .left) (terms .ensures .0) (terms .ensures .1) in (h .0, (h .1, refl))
 
 condition-same-length-8 : (t : ℕ) → condition-lts.Need-same-length-8 (condition-claims t) (condition-at t) condition.Post
 condition-same-length-8 t c = search needs
@@ -391,19 +394,19 @@ condition-returns-7 t c =
     let c₈ = c₂ .before .before .before .before .before .before in let some = c₈ .some in
     let c₁₁ = c₈ .before .before .before in let record-length5 = c₁₁ .record-length5 in
     let c₁₃ = c₁₁ .before .before in let v = c₁₃ .v in
-    let c₁₅ = c₁₃ .before .before in let read = c₁₅ .read in
+    let c₁₅ = c₁₃ .before .before in let condition-record = c₁₅ .condition-record in
     let c₁₆ = c₁₅ .before in let tail = c₁₆ .tail in
     let c₁₇ = c₁₆ .before in let if1 = c₁₇ .if1 in
     let c₂₂ = c₁₇ .before .before .before .before .before in let args = c₂₂ .args in
-    let h = some-is (shapeIn (now (args .catalogue))) (args .limit) (args .level) (if1 .left) (scopeOf (now (args .reach))) (now (args .q)) (args .at) (now (args .z)) (now (tail .result)) (tail .ensures) (read .result) (read .ensures) (record-length5 .result) _ _ _ _ (parent4 .ensures .0) (parent4 .ensures .1) _ _ (record-length5 .ensures .0) (v .given .1) (some .ensures .0) (some .ensures .1 .0) in (h .0, (h .1, some .ensures .1 .1))
+    let h = some-is (shapeIn (now (args .catalogue))) (args .limit) (args .level) (if1 .left) (scopeOf (now (args .reach))) (now (args .q)) (args .at) (now (args .z)) (now (tail .result)) (tail .ensures) (condition-record .result) (condition-record .ensures) (record-length5 .result) _ _ _ _ (parent4 .ensures .0) (parent4 .ensures .1) _ _ (record-length5 .ensures .0) (v .given .1) (some .ensures .0) (some .ensures .1 .0) in (h .0, (h .1, some .ensures .1 .1))
 
 condition-returns-8 : (t : ℕ) → condition-lts.Need-returns-8 (condition-claims t) (condition-at t) condition.Post
 condition-returns-8 t c =
-    let c₁ = c .before in let read = c₁ .read in
+    let c₁ = c .before .before in let condition-record = c₁ .condition-record in
     let c₂ = c₁ .before in let tail = c₂ .tail in
     let c₃ = c₂ .before in let if1 = c₃ .if1 in
     let c₈ = c₃ .before .before .before .before .before in let args = c₈ .args in
-    let h = no-condition (shapeIn (now (args .catalogue))) (args .limit) (args .level) (scopeOf (now (args .reach))) (now (args .q)) (args .at) (now (args .z)) (if1 .left) (now (tail .result)) (tail .ensures) (read .result) (read .ensures) (c .match .keys6) in (h .0, (h .1, refl))
+    let h = no-condition (shapeIn (now (args .catalogue))) (args .limit) (args .level) (scopeOf (now (args .reach))) (now (args .q)) (args .at) (now (args .z)) (if1 .left) (now (tail .result)) (tail .ensures) (condition-record .result) (condition-record .ensures) (c .enum-told2 .given .1) in (h .0, (h .1, refl))
 
 conditions-condition-requires : (t : ℕ) → conditions-lts.Need-condition-requires (conditions-claims t) (conditions-at t) conditions.Post
 conditions-condition-requires t c κs = search needs
@@ -527,8 +530,8 @@ term-returns t c =
 term-tail-requires : (t : ℕ) → term-lts.Need-tail-requires (term-claims t) (term-at t) term.Post
 term-tail-requires t c κs = search needs
 
-term-read-requires : (t : ℕ) → term-lts.Need-read-requires (term-claims t) (term-at t) term.Post
-term-read-requires t c κs = search needs
+term-term-record-requires : (t : ℕ) → term-lts.Need-term-record-requires (term-claims t) (term-at t) term.Post
+term-term-record-requires t c κs = search needs
 
 term-enum-told : (t : ℕ) → term-lts.Need-enum-told (term-claims t) (term-at t) term.Post
 term-enum-told t c = search needs
@@ -554,17 +557,17 @@ term-leaf-requires-2 t c κs = search needs
 term-enum-known-f : (t : ℕ) → term-lts.Need-enum-known-f (term-claims t) (term-at t) term.Post
 term-enum-known-f t c = search needs
 
-term-is-function-requires : (t : ℕ) → term-lts.Need-is-function-requires (term-claims t) (term-at t) term.Post
-term-is-function-requires t c κs = search needs
+term-is-code-requires : (t : ℕ) → term-lts.Need-is-code-requires (term-claims t) (term-at t) term.Post
+term-is-code-requires t c κs = search needs
 
 term-returns-2 : (t : ℕ) → term-lts.Need-returns-2 (term-claims t) (term-at t) term.Post
 term-returns-2 t c =
     let c₃ = c .before .before .before in let f = c₃ .f in
-    let c₅ = c₃ .before .before in let read = c₅ .read in
+    let c₅ = c₃ .before .before in let term-record = c₅ .term-record in
     let c₆ = c₅ .before in let tail = c₆ .tail in
     let c₇ = c₆ .before in let if1 = c₇ .if1 in
     let c₁₂ = c₇ .before .before .before .before .before in let args = c₁₂ .args in
-    no-function (shapeIn (now (args .catalogue))) (args .limit) (args .level) (scopeOf (now (args .reach))) (now (args .q)) (args .at) (now (args .z)) (if1 .left) (now (tail .result)) (tail .ensures) (read .result) (read .ensures) _ _ _ _ _ (f .given .1) (c .before .is-function .ensures) (c .if2 .taken)
+    no-function (shapeIn (now (args .catalogue))) (args .limit) (args .level) (scopeOf (now (args .reach))) (now (args .q)) (args .at) (now (args .z)) (if1 .left) (now (tail .result)) (tail .ensures) (term-record .result) (term-record .ensures) _ _ _ _ _ (f .given .1) (c .before .is-code .ensures) (c .if2 .taken)
 
 term-record-length-requires-3 : (t : ℕ) → term-lts.Need-record-length-requires-3 (term-claims t) (term-at t) term.Post
 term-record-length-requires-3 t c κs = search needs
@@ -579,22 +582,25 @@ term-aggregate-requires : (t : ℕ) → term-lts.Need-aggregate-requires (term-c
 term-aggregate-requires t c κs =
     let c₁ = c .before in let record-length3 = c₁ .record-length3 in
     let c₅ = c₁ .before .before .before .before in let f = c₅ .f in
-    let c₇ = c₅ .before .before in let read = c₇ .read in
+    let c₇ = c₅ .before .before in let term-record = c₇ .term-record in
     let c₈ = c₇ .before in let tail = c₈ .tail in
     let c₉ = c₈ .before in let if1 = c₉ .if1 in
     let c₁₄ = c₉ .before .before .before .before .before in let args = c₁₄ .args in let pre = c₁₄ .pre in
-    (omega (arith, pre .0, if1 .left), aggregate-room (now (args .q)) (now (tail .result)) (args .at) (tail .ensures) (read .result) (read .ensures) (record-length3 .result) _ _ _ _ (record-length3 .ensures .0) (f .given .1))
+    (omega (arith, pre .0, if1 .left), aggregate-room (now (args .q)) (now (tail .result)) (args .at) (tail .ensures) (term-record .result) (term-record .ensures) (record-length3 .result) _ _ _ _ (record-length3 .ensures .0) (f .given .1))
 
 term-parent-requires : (t : ℕ) → term-lts.Need-parent-requires (term-claims t) (term-at t) term.Post
 term-parent-requires t c κs =
     let c₃ = c .before .before .before in let aggregate = c₃ .aggregate in
     let c₅ = c₃ .before .before in let record-length3 = c₅ .record-length3 in
     let c₉ = c₅ .before .before .before .before in let f = c₉ .f in
-    let c₁₁ = c₉ .before .before in let read = c₁₁ .read in
+    let c₁₁ = c₉ .before .before in let term-record = c₁₁ .term-record in
     let c₁₂ = c₁₁ .before in let tail = c₁₂ .tail in
     let c₁₈ = c₁₂ .before .before .before .before .before .before in let args = c₁₈ .args in let good = c₁₈ .good in
     let q = now (args .q) in
-    omega (arith, aggregate-ends q _ (aggregate-room q (now (tail .result)) (args .at) (tail .ensures) (read .result) (read .ensures) (record-length3 .result) _ _ _ _ (record-length3 .ensures .0) (f .given .1)) _ _ _ (scopeOf (now (args .reach))) _ _ _ (aggregate .ensures .0), good)
+    omega (arith, aggregate-ends q _ (aggregate-room q (now (tail .result)) (args .at) (tail .ensures) (term-record .result) (term-record .ensures) (record-length3 .result) _ _ _ _ (record-length3 .ensures .0) (f .given .1)) _ _ _ (scopeOf (now (args .reach))) _ _ _ (aggregate .ensures .0), good)
+
+term-enum-told-2 : (t : ℕ) → term-lts.Need-enum-told-2 (term-claims t) (term-at t) term.Post
+term-enum-told-2 t c = search needs
 
 term-same-length : (t : ℕ) → term-lts.Need-same-length (term-claims t) (term-at t) term.Post
 term-same-length t c = search needs
@@ -604,11 +610,11 @@ term-returns-3 t c =
     let c₂ = c .before .before in let leaf = c₂ .leaf in
     let c₃ = c₂ .before in let record-length = c₃ .record-length in
     let c₅ = c₃ .before .before in let enum-told = c₅ .enum-told in
-    let c₇ = c₅ .before .before in let read = c₇ .read in
+    let c₇ = c₅ .before .before in let term-record = c₇ .term-record in
     let c₈ = c₇ .before in let tail = c₈ .tail in
     let c₉ = c₈ .before in let if1 = c₉ .if1 in
     let c₁₄ = c₉ .before .before .before .before .before in let args = c₁₄ .args in
-    constant-is (shapeIn (now (args .catalogue))) (args .limit) (args .level) (if1 .left) (scopeOf (now (args .reach))) (now (args .q)) (args .at) (now (args .z)) (now (tail .result)) (tail .ensures) (read .result) (read .ensures) (record-length .result) _ _ _ _ _ _ (record-length .ensures .0) (enum-told .given .1) (leaf .ensures .0) (leaf .ensures .1)
+    constant-is (shapeIn (now (args .catalogue))) (args .limit) (args .level) (if1 .left) (scopeOf (now (args .reach))) (now (args .q)) (args .at) (now (args .z)) (now (tail .result)) (tail .ensures) (term-record .result) (term-record .ensures) (record-length .result) _ _ _ _ _ _ (record-length .ensures .0) (enum-told .given .1) (leaf .ensures .0) (leaf .ensures .1)
 
 term-same-length-2 : (t : ℕ) → term-lts.Need-same-length-2 (term-claims t) (term-at t) term.Post
 term-same-length-2 t c = search needs
@@ -619,11 +625,11 @@ term-returns-4 t c =
     let c₃ = c₂ .before in let record-length2 = c₃ .record-length2 in
     let c₅ = c₃ .before .before in let attribute = c₅ .attribute in
     let c₇ = c₅ .before .before in let v = c₇ .v in
-    let c₉ = c₇ .before .before in let read = c₉ .read in
+    let c₉ = c₇ .before .before in let term-record = c₉ .term-record in
     let c₁₀ = c₉ .before in let tail = c₁₀ .tail in
     let c₁₁ = c₁₀ .before in let if1 = c₁₁ .if1 in
     let c₁₆ = c₁₁ .before .before .before .before .before in let args = c₁₆ .args in
-    attribute-is (shapeIn (now (args .catalogue))) (args .limit) (args .level) (if1 .left) (scopeOf (now (args .reach))) (now (args .q)) (args .at) (now (args .z)) (now (tail .result)) (tail .ensures) (read .result) (read .ensures) (record-length2 .result) _ _ _ _ _ (record-length2 .ensures .0) (v .given .1) (attribute .ensures) (leaf2 .ensures .0) (leaf2 .ensures .1)
+    attribute-is (shapeIn (now (args .catalogue))) (args .limit) (args .level) (if1 .left) (scopeOf (now (args .reach))) (now (args .q)) (args .at) (now (args .z)) (now (tail .result)) (tail .ensures) (term-record .result) (term-record .ensures) (record-length2 .result) _ _ _ _ _ (record-length2 .ensures .0) (v .given .1) (attribute .ensures) (leaf2 .ensures .0) (leaf2 .ensures .1)
 
 term-same-length-3 : (t : ℕ) → term-lts.Need-same-length-3 (term-claims t) (term-at t) term.Post
 term-same-length-3 t c = search needs
@@ -634,21 +640,21 @@ term-returns-5 t c =
     let c₆ = c₂ .before .before .before .before in let aggregate = c₆ .aggregate in
     let c₈ = c₆ .before .before in let record-length3 = c₈ .record-length3 in
     let c₉ = c₈ .before in let if2 = c₉ .if2 in
-    let c₁₀ = c₉ .before in let is-function = c₁₀ .is-function in
+    let c₁₀ = c₉ .before in let is-code = c₁₀ .is-code in
     let c₁₂ = c₁₀ .before .before in let f = c₁₂ .f in
-    let c₁₄ = c₁₂ .before .before in let read = c₁₄ .read in
+    let c₁₄ = c₁₂ .before .before in let term-record = c₁₄ .term-record in
     let c₁₅ = c₁₄ .before in let tail = c₁₅ .tail in
     let c₁₆ = c₁₅ .before in let if1 = c₁₆ .if1 in
     let c₂₁ = c₁₆ .before .before .before .before .before in let args = c₂₁ .args in
-    aggregate-is (shapeIn (now (args .catalogue))) (args .limit) (args .level) (if1 .left) (scopeOf (now (args .reach))) (now (args .q)) (args .at) (now (args .z)) (now (tail .result)) (tail .ensures) (read .result) (read .ensures) (record-length3 .result) _ _ _ _ (parent .ensures .0) (parent .ensures .1) _ _ _ _ _ (record-length3 .ensures .0) (f .given .1) (is-function .ensures) (if2 .left) (aggregate .ensures .0) (aggregate .ensures .1)
+    aggregate-is (shapeIn (now (args .catalogue))) (args .limit) (args .level) (if1 .left) (scopeOf (now (args .reach))) (now (args .q)) (args .at) (now (args .z)) (now (tail .result)) (tail .ensures) (term-record .result) (term-record .ensures) (record-length3 .result) _ _ _ _ (parent .ensures .0) (parent .ensures .1) _ _ _ _ _ (record-length3 .ensures .0) (f .given .1) (is-code .ensures) (if2 .left) (aggregate .ensures .0) (aggregate .ensures .1)
 
 term-returns-6 : (t : ℕ) → term-lts.Need-returns-6 (term-claims t) (term-at t) term.Post
 term-returns-6 t c =
-    let c₁ = c .before in let read = c₁ .read in
+    let c₁ = c .before .before in let term-record = c₁ .term-record in
     let c₂ = c₁ .before in let tail = c₂ .tail in
     let c₃ = c₂ .before in let if1 = c₃ .if1 in
     let c₈ = c₃ .before .before .before .before .before in let args = c₈ .args in
-    no-term (shapeIn (now (args .catalogue))) (args .limit) (args .level) (scopeOf (now (args .reach))) (now (args .q)) (args .at) (now (args .z)) (if1 .left) (now (tail .result)) (tail .ensures) (read .result) (read .ensures) (c .match .keys4)
+    no-term (shapeIn (now (args .catalogue))) (args .limit) (args .level) (scopeOf (now (args .reach))) (now (args .q)) (args .at) (now (args .z)) (if1 .left) (now (tail .result)) (tail .ensures) (term-record .result) (term-record .ensures) (c .enum-told2 .given .1)
 
 terms-term-requires : (t : ℕ) → terms-lts.Need-term-requires (terms-claims t) (terms-at t) terms.Post
 terms-term-requires t c κs = search needs
@@ -740,7 +746,7 @@ pub +aggregate+condition+conditions+some+term+terms-spec : {M : Type 1} → stat
     (condition-returns t)
     (condition-sub-l t)
     (condition-tail-requires t)
-    (condition-read-requires t)
+    (condition-condition-record-requires t)
     (condition-record-length-requires t)
     (condition-leaf-requires t)
     (condition-enum-told t)
@@ -753,7 +759,7 @@ pub +aggregate+condition+conditions+some+term+terms-spec : {M : Type 1} → stat
     (condition-conditions-requires t)
     (condition-parent-requires-2 t)
     (condition-enum-known-o t)
-    (condition-is-operator-requires t)
+    (condition-is-code-requires t)
     (condition-returns-2 t)
     (condition-record-length-requires-4 t)
     (condition-add-terms t)
@@ -764,6 +770,7 @@ pub +aggregate+condition+conditions+some+term+terms-spec : {M : Type 1} → stat
     (condition-add-some t)
     (condition-some-requires t)
     (condition-parent-requires-4 t)
+    (condition-enum-told-2 t)
     (condition-same-length t)
     (condition-returns-3 t)
     (condition-same-length-2 t)
@@ -817,7 +824,7 @@ pub +aggregate+condition+conditions+some+term+terms-spec : {M : Type 1} → stat
     term.Post
     (term-returns t)
     (term-tail-requires t)
-    (term-read-requires t)
+    (term-term-record-requires t)
     (term-enum-told t)
     (term-record-length-requires t)
     (term-leaf-requires t)
@@ -826,13 +833,14 @@ pub +aggregate+condition+conditions+some+term+terms-spec : {M : Type 1} → stat
     (term-record-length-requires-2 t)
     (term-leaf-requires-2 t)
     (term-enum-known-f t)
-    (term-is-function-requires t)
+    (term-is-code-requires t)
     (term-returns-2 t)
     (term-record-length-requires-3 t)
     (term-add-aggregate t)
     (term-sub-aggregate t)
     (term-aggregate-requires t)
     (term-parent-requires t)
+    (term-enum-told-2 t)
     (term-same-length t)
     (term-returns-3 t)
     (term-same-length-2 t)

@@ -24,9 +24,9 @@ module _ (sh : Shape) (limit v r : ℕ) where
   unfolding knownBinding
   known-past h = sym (ap (λ (b : Bool). b && ltb r (length sh)) (le-ltb v limit h))
 
-  pub known-rest : v < limit → (x n : ℕ) → x ≡ r → n ≡ length sh → ltb x n ≡ knownBinding sh limit (record { variable = v; relation = r })
+  pub known-rest : v < limit → (x : Bool) (n : ℕ) → x ≡ ltb r n → n ≡ length sh → x ≡ knownBinding sh limit (record { variable = v; relation = r })
   unfolding knownBinding
-  known-rest h x n ex en = ap₂ ltb ex en ∙ sym (ap (λ (b : Bool). b && ltb r (length sh)) (lt-ltb v limit h))
+  known-rest h x n ex en = ex ∙ ap (ltb r) en ∙ sym (ap (λ (b : Bool). b && ltb r (length sh)) (lt-ltb v limit h))
 
   pub known-below : (x : Bool) → x ≡ knownBinding sh limit (record { variable = v; relation = r }) → not x ≡ false → v < limit
   unfolding knownBinding

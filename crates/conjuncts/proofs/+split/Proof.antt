@@ -54,7 +54,7 @@ split-sub-l : (t : ℕ) → split-lts.Need-sub-l (split-claims t) (split-at t) s
 split-sub-l t c = let parts-at = c .before .before .parts-at in
     let args = c .before .before .before .before .before .before .args in
     let level = args .level in
-    positive level ((parts (parts-at .result) ((args .end) - (args .k)) level (args .place) (now (args .q)) (now (args .z)) (parts-at .ensures) (c .if1 .left)) .deep)
+    positive level ((parts (parts-at .result) ((args .room .end) - (args .room .next)) level (args .place) (now (args .q)) (now (args .z)) (parts-at .ensures) (c .if1 .left)) .deep)
 
 split-sub-last : (t : ℕ) → split-lts.Need-sub-last (split-claims t) (split-at t) split.Post
 split-sub-last t c = search needs
@@ -63,7 +63,7 @@ split-split-requires : (t : ℕ) → split-lts.Need-split-requires (split-claims
 split-split-requires t c κs = let if1 = c .before .before .if1 in
     let parts-at = c .before .before .before .before .parts-at in
     let args = c .before .before .before .before .before .before .before .before .args in let pre = c .before .before .before .before .before .before .before .before .pre in
-    let q = now (args .q) in let z = now (args .z) in let end = args .end in let k = args .k in let level = args .level in let place = args .place in
+    let q = now (args .q) in let z = now (args .z) in let end = args .room .end in let k = args .room .next in let level = args .level in let place = args .place in
     (falls-by level t ((parts (parts-at .result) (end - k) level place q z (parts-at .ensures) (if1 .left)) .deep) (pre .0), (omega (arith, pre .1 .0), omega (arith, pre .1 .1), pre .1 .2, omega (arith, and-room (parts-at .result) (end - k) level place q z (parts-at .ensures) (if1 .left), pre .1 .3), omega (arith, pre .1 .4), pre .1 .5, (parts (parts-at .result) (end - k) level place q z (parts-at .ensures) (if1 .left)) .second, omega (arith, pre .1 .7), pre .1 .8))
 
 split-split-requires-2 : (t : ℕ) → split-lts.Need-split-requires-2 (split-claims t) (split-at t) split.Post
@@ -71,7 +71,7 @@ split-split-requires-2 t c κs = let split = c .before .before .before .before .
     let if1 = c .before .before .before .before .before .before .before .before .if1 in
     let parts-at = c .before .before .before .before .before .before .before .before .before .before .parts-at in
     let args = c .before .before .before .before .before .before .before .before .before .before .before .before .before .before .args in let pre = c .before .before .before .before .before .before .before .before .before .before .before .before .before .before .pre in
-    let q = now (args .q) in let z = now (args .z) in let end = args .end in let k = args .k in let level = args .level in let place = args .place in
+    let q = now (args .q) in let z = now (args .z) in let end = args .room .end in let k = args .room .next in let level = args .level in let place = args .place in
     (falls-by level t ((parts (parts-at .result) (end - k) level place q z (parts-at .ensures) (if1 .left)) .deep) (pre .0), (omega (arith, pre .1 .0, split .kept), omega (arith, pre .1 .1, split .kept), omega (arith, pre .1 .2, split .ensures .0 .0), omega (arith, split .ensures .0 .1, and-room (parts-at .result) (end - k) level place q z (parts-at .ensures) (if1 .left), pre .1 .3), pre .1 .4, pre .1 .5, (parts (parts-at .result) (end - k) level place q z (parts-at .ensures) (if1 .left)) .first, omega (arith, pre .1 .7), split .ensures .1 .begun))
 
 split-same-length-3 : (t : ℕ) → split-lts.Need-same-length-3 (split-claims t) (split-at t) split.Post
@@ -87,7 +87,7 @@ split-returns-2 t c = let split2 = c .before .before .before .split2 in
     let parts-at = c .before .before .before .before .before .before .before .before .before .before .before .before .before .before .parts-at in
     let args = c .before .before .before .before .before .before .before .before .before .before .before .before .before .before .before .before .before .before .args in
     let memo = now (args .memo) in let q = now (args .q) in let xs = now (args .xs) in let z = now (args .z) in let level = args .level in let ranges = args .ranges in
-    ((omega (arith, split .ensures .0 .0, split2 .ensures .0 .0), split2 .ensures .0 .1), subst (λ (d : Condition). Joined (split2 .result) (now (args .t)) (split2 .last .1 .1 .1 .1 .1 .1 .0) xs (split2 .last .1 .1 .1 .1 .1 .1 .1 .0) q z memo d (rangesAt ranges q)) (sym (and-whole (parts-at .result) ((args .end) - (args .k)) level (args .place) q z (parts-at .ensures) (if1 .left))) (joined-both (split .result) (split2 .result) (now (args .t)) (split .last .1 .1 .1 .1 .1 .1 .0) (split2 .last .1 .1 .1 .1 .1 .1 .0) xs (split .last .1 .1 .1 .1 .1 .1 .1 .0) (split2 .last .1 .1 .1 .1 .1 .1 .1 .0) q z memo (decode (level - 1) (drop (parts-at .result .first) q) (drop (parts-at .result .first) z)) (decode (level - 1) (drop (parts-at .result .second) q) (drop (parts-at .result .second) z)) (rangesAt ranges q) (split .ensures .1) (split2 .ensures .1)))
+    ((omega (arith, split .ensures .0 .0, split2 .ensures .0 .0), split2 .ensures .0 .1), subst (λ (d : Condition). Joined (split2 .result) (now (args .t)) (split2 .last .1 .1 .1 .1 .1 .1 .0) xs (split2 .last .1 .1 .1 .1 .1 .1 .1 .0) q z memo d (rangesAt ranges q)) (sym (and-whole (parts-at .result) ((args .room .end) - (args .room .next)) level (args .place) q z (parts-at .ensures) (if1 .left))) (joined-both (split .result) (split2 .result) (now (args .t)) (split .last .1 .1 .1 .1 .1 .1 .0) (split2 .last .1 .1 .1 .1 .1 .1 .0) xs (split .last .1 .1 .1 .1 .1 .1 .1 .0) (split2 .last .1 .1 .1 .1 .1 .1 .1 .0) q z memo (decode (level - 1) (drop (parts-at .result .first) q) (drop (parts-at .result .first) z)) (decode (level - 1) (drop (parts-at .result .second) q) (drop (parts-at .result .second) z)) (rangesAt ranges q) (split .ensures .1) (split2 .ensures .1)))
 
 pub +split-spec : {M : Type 1} → statement M
 +split-spec = close μ-split λ t. split-lts.spec (split-claims t)

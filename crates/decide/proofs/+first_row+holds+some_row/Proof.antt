@@ -9,7 +9,7 @@ use Rattle.walks.proofs.Loops.{Failed, walked-hit, walked-none}
 use Rattle.catalogue.specs.Layout.{tupleAt}
 use borrow.Author.Needs.{needs}
 use denote.Ref.{now}
-use lib.ListN.{length, set, length-set}
+use lib.ListN.{length, getD, set, length-set}
 use native.Mathlib.Omega.{arith}
 use mathlib.Core.Path.{_≡_, refl, sym, ap, _∙_, subst}
 use mathlib.Core.Bool.{true}
@@ -30,12 +30,10 @@ use Rattle.decide.proofs.+first_row+holds+some_row.Lts-some_row as some
 use Rattle.decide.proofs.byte_of.Reads as byte-of-reads
 use Rattle.decide.proofs.run.Reads as run-reads
 use Rattle.decide.proofs.way.Reads as way-reads
-use Rattle.evaluator.proofs.place.Reads as place-reads
-use Rattle.evaluator.proofs.set_place.Reads as set-place-reads
 use Rattle.kinds.proofs.size_at.Reads as size-at-reads
 use Rattle.decide.proofs.seeks.next_row.Reads as next-row-reads
 use Rattle.decide.proofs.seeks.prepare.Reads as prepare-reads
-use Rattle.walks.proofs.place.Reads as place-reads′
+use Rattle.walks.proofs.place.Reads as place-reads
 use Rattle.walks.proofs.walk_of.Reads as walk-of-reads
 use Rattle.decide.proofs.+first_row+holds+some_row.{statement}
 use Rattle.decide.proofs.+first_row+holds+some_row.Tie.{close}
@@ -70,7 +68,7 @@ some-row-below t =
     and 9 some-row-kinds.ps (falls 9 some-row-kinds.ps _<_ μ-some-row t) some-row.Pre
 
 abbrev first-row-claims : ℕ → first-row-lts.Claims
-first-row-claims t = (walk-of-reads.Asked, walk-of-reads.Learnt, place-reads.Asked, place-reads.Learnt, prepare-reads.Asked, prepare-reads.Learnt, next-row-reads.Asked, next-row-reads.Learnt, set-place-reads.Asked, set-place-reads.Learnt, place-reads′.Asked, place-reads′.Learnt, holds-below t, holds.Post)
+first-row-claims t = (walk-of-reads.Asked, walk-of-reads.Learnt, prepare-reads.Asked, prepare-reads.Learnt, next-row-reads.Asked, next-row-reads.Learnt, place-reads.Asked, place-reads.Learnt, holds-below t, holds.Post)
 
 abbrev holds-claims : ℕ → holds-lts.Claims
 holds-claims t = (run-reads.Asked, run-reads.Learnt, some-row-below t, some-row.Post, way-reads.Asked, way-reads.Learnt)
@@ -87,119 +85,138 @@ first-row-μ-loop t xs start variable q z walks chains values memo env₀ walk n
 first-row-walk-of-requires : (t : ℕ) → first-row-lts.Need-walk-of-requires (first-row-claims t) (first-row-at t) first-row.Post first-row-Inv-loop first-row-μ-loop
 first-row-walk-of-requires t c κs = search needs
 
-first-row-place-requires : (t : ℕ) → first-row-lts.Need-place-requires (first-row-claims t) (first-row-at t) first-row.Post first-row-Inv-loop first-row-μ-loop
-first-row-place-requires t c κs = search needs
+first-row-mul-old : (t : ℕ) → first-row-lts.Need-mul-old (first-row-claims t) (first-row-at t) first-row.Post first-row-Inv-loop first-row-μ-loop
+first-row-mul-old t c = search needs
+
+first-row-slice-read-old : (t : ℕ) → first-row-lts.Need-slice-read-old (first-row-claims t) (first-row-at t) first-row.Post first-row-Inv-loop first-row-μ-loop
+first-row-slice-read-old t c =
+    let c₈ = c .before .before .before .before .before .before .before .before in let good = c₈ .good in let pre = c₈ .pre in
+    omega (arith, pre .1 .0, good .1 .1 .1 .0)
 
 first-row-prepare-requires : (t : ℕ) → first-row-lts.Need-prepare-requires (first-row-claims t) (first-row-at t) first-row.Post first-row-Inv-loop first-row-μ-loop
-first-row-prepare-requires t c κs =
-    let c₁₀ = c .before .before .before .before .before .before .before .before .before .before in let pre = c₁₀ .pre in
+first-row-prepare-requires t c κs = let pre = c .before .before .before .before .before .before .before .before .before .pre in
     (pre .1 .0, pre .1 .1)
 
 first-row-loop-holds : (t : ℕ) → first-row-lts.Need-loop-holds (first-row-claims t) (first-row-at t) first-row.Post first-row-Inv-loop first-row-μ-loop
-first-row-loop-holds t c =
-    let c₂ = c .before .before in let place = c₂ .place in
-    let c₄ = c₂ .before .before in let walk-of = c₄ .walk-of in
-    let c₁₁ = c₄ .before .before .before .before .before .before .before in let args = c₁₁ .args in
+first-row-loop-holds t c = let walk-of = c .before .before .before .walk-of in
+    let args = c .before .before .before .before .before .before .before .before .before .before .args in
     let env = now (args .env) in let values = now (args .values) in let walks = now (args .walks) in let variable = args .variable in
-    (places-start env variable (place .result) (place .ensures), none-start (λ j. S.asks (now (args .t)) (now (args .xs)) (now (args .q)) (now (args .z)) walks values (now (args .memo)) (args .start) variable env (tupleAt values ((placeAt walks (walk-of .result)) j))), omega arith, refl, λ h. absurd (omega arith))
+    (places-start env variable (getD (now (c .before .before .before .before .before .before .before .before .before .before .args .env)) (c .before .before .before .before .before .before .before .before .before .before .args .variable) 0) refl, none-start (λ j. S.asks (now (args .t)) (now (args .xs)) (now (args .q)) (now (args .z)) walks values (now (args .memo)) (args .start) variable env (tupleAt values ((placeAt walks (walk-of .result)) j))), omega arith, refl, λ h. absurd (omega arith))
 
 first-row-next-row-requires : (t : ℕ) → first-row-lts.Need-next-row-requires (first-row-claims t) (first-row-at t) first-row.Post first-row-Inv-loop first-row-μ-loop
-first-row-next-row-requires t c κs =
-    let c₁ = c .before in let prepare = c₁ .prepare in
-    let c₅ = c₁ .before .before .before .before in let walk-of = c₅ .walk-of in
-    let c₁₂ = c₅ .before .before .before .before .before .before .before in let args = c₁₂ .args in let pre = c₁₂ .pre in
+first-row-next-row-requires t c κs = let prepare = c .before .prepare in
+    let walk-of = c .before .before .before .before .walk-of in
+    let args = c .before .before .before .before .before .before .before .before .before .before .before .args in let pre = c .before .before .before .before .before .before .before .before .before .before .before .pre in
     let walks = now (args .walks) in
     (walk-of .ensures .1, c .loop .inv .2, S.ready-for (now (args .t)) (now (args .xs)) (now (args .q)) (now (args .z)) walks (now (args .values)) (now (args .memo)) (args .start) (args .variable) (now (args .env)) (prepare .result) (now (args .chains)) (prepare .ensures walks (pre .1 .2)) (placeAt walks (walk-of .result)) (walk-of .result) (walk-of .ensures .0), c .loop .inv .4)
 
-first-row-set-place-requires : (t : ℕ) → first-row-lts.Need-set-place-requires (first-row-claims t) (first-row-at t) first-row.Post first-row-Inv-loop first-row-μ-loop
-first-row-set-place-requires t c κs = search needs
+first-row-mul-env : (t : ℕ) → first-row-lts.Need-mul-env (first-row-claims t) (first-row-at t) first-row.Post first-row-Inv-loop first-row-μ-loop
+first-row-mul-env t c = omega (arith, c .before .before .before .before .before .before .before .before .before .before .before .before .before .good .1 .1 .1 .0)
+
+first-row-slice-write-env : (t : ℕ) → first-row-lts.Need-slice-write-env (first-row-claims t) (first-row-at t) first-row.Post first-row-Inv-loop first-row-μ-loop
+first-row-slice-write-env t c =
+    let c₁₃ = c .before .before .before .before .before .before .before .before .before .before .before .before .before in let good = c₁₃ .good in let pre = c₁₃ .pre in
+    omega (arith, pre .1 .0, good .1 .1 .1 .0, c .before .before .loop .inv .3)
 
 first-row-same-length : (t : ℕ) → first-row-lts.Need-same-length (first-row-claims t) (first-row-at t) first-row.Post first-row-Inv-loop first-row-μ-loop
-first-row-same-length t c = search needs
+first-row-same-length t c =
+    let c₂ = c .before .before in let loop = c₂ .loop in
+    let c₁₃ = c₂ .before .before .before .before .before .before .before .before .before .before .before in let args = c₁₃ .args in
+    let variable = args .variable in
+    length-set (loop .env) variable (getD (now (args .env)) variable 0) ∙ loop .inv .3
 
 first-row-returns : (t : ℕ) → first-row-lts.Need-returns (first-row-claims t) (first-row-at t) first-row.Post first-row-Inv-loop first-row-μ-loop
-first-row-returns t c =
-    let c₄ = c .before .before .before .before in let if1 = c₄ .if1 in
-    let c₅ = c₄ .before in let next-row = c₅ .next-row in
-    let c₆ = c₅ .before in let loop = c₆ .loop in
-    let c₇ = c₆ .before in let prepare = c₇ .prepare in
-    let c₁₁ = c₇ .before .before .before .before in let walk-of = c₁₁ .walk-of in
-    let c₁₈ = c₁₁ .before .before .before .before .before .before .before in let args = c₁₈ .args in let pre = c₁₈ .pre in
+first-row-returns t c = let if1 = c .if1 in
+    let next-row = c .before .next-row in
+    let loop = c .before .before .loop in
+    let prepare = c .before .before .before .prepare in
+    let walk-of = c .before .before .before .before .before .before .walk-of in
+    let args = c .before .before .before .before .before .before .before .before .before .before .before .before .before .args in let pre = c .before .before .before .before .before .before .before .before .before .before .before .before .before .pre in
     let env = now (args .env) in let memo = now (args .memo) in let q = now (args .q) in let values = now (args .values) in let walks = now (args .walks) in let xs = now (args .xs) in let z = now (args .z) in let start = args .start in let variable = args .variable in
-    (sym (walked-none (S.asks (now (args .t)) xs q z walks values memo start variable env) walks values variable (walk-of .result) (walk-of .ensures .0) (let e : next-row .result ≡ walk-of .result .count = omega (arith, if1 .taken, next-row .ensures .0 .1) in subst (Failed (placeAt walks (walk-of .result)) values (S.asks (now (args .t)) xs q z walks values memo start variable env)) e (S.over (now (args .t)) xs q z walks values memo start variable env (prepare .result) (now (args .chains)) (prepare .ensures walks (pre .1 .2)) (placeAt walks (walk-of .result)) (loop .i) (next-row .result) (next-row .ensures .1 .0) (loop .inv .1)))), c .before .before .set-place .ensures ∙ loop .inv .0)
+    (sym (walked-none (S.asks (now (args .t)) xs q z walks values memo start variable env) walks values variable (walk-of .result) (walk-of .ensures .0) (let e : next-row .result ≡ walk-of .result .count = omega (arith, if1 .taken, next-row .ensures .0 .1) in subst (Failed (placeAt walks (walk-of .result)) values (S.asks (now (args .t)) xs q z walks values memo start variable env)) e (S.over (now (args .t)) xs q z walks values memo start variable env (prepare .result) (now (args .chains)) (prepare .ensures walks (pre .1 .2)) (placeAt walks (walk-of .result)) (loop .i) (next-row .result) (next-row .ensures .1 .0) (loop .inv .1)))), loop .inv .0)
 
-first-row-place-requires-2 : (t : ℕ) → first-row-lts.Need-place-requires-2 (first-row-claims t) (first-row-at t) first-row.Post first-row-Inv-loop first-row-μ-loop
-first-row-place-requires-2 t c κs =
-    let c₈ = c .before .before .before .before .before .before .before .before in let walk-of = c₈ .walk-of in
-    (walk-of .ensures .1, omega (arith, walk-of .ensures .1 .count, c .before .if1 .left))
+first-row-place-requires : (t : ℕ) → first-row-lts.Need-place-requires (first-row-claims t) (first-row-at t) first-row.Post first-row-Inv-loop first-row-μ-loop
+first-row-place-requires t c κs = let walk-of = c .before .before .before .before .before .before .walk-of in
+    (walk-of .ensures .1, omega (arith, walk-of .ensures .1 .count, c .if1 .left))
 
-first-row-set-place-requires-2 : (t : ℕ) → first-row-lts.Need-set-place-requires-2 (first-row-claims t) (first-row-at t) first-row.Post first-row-Inv-loop first-row-μ-loop
-first-row-set-place-requires-2 t c κs = search needs
+first-row-mul-env-2 : (t : ℕ) → first-row-lts.Need-mul-env-2 (first-row-claims t) (first-row-at t) first-row.Post first-row-Inv-loop first-row-μ-loop
+first-row-mul-env-2 t c = omega (arith, c .before .before .before .before .before .before .before .before .before .before .before .before .before .before .good .1 .1 .1 .0)
+
+first-row-slice-write-env-2 : (t : ℕ) → first-row-lts.Need-slice-write-env-2 (first-row-claims t) (first-row-at t) first-row.Post first-row-Inv-loop first-row-μ-loop
+first-row-slice-write-env-2 t c =
+    let c₃ = c .before .before .before in let loop = c₃ .loop in
+    let c₁₄ = c₃ .before .before .before .before .before .before .before .before .before .before .before in let good = c₁₄ .good in let pre = c₁₄ .pre in
+    omega (arith, pre .1 .0, good .1 .1 .1 .0, loop .inv .3)
 
 first-row-holds-requires : (t : ℕ) → first-row-lts.Need-holds-requires (first-row-claims t) (first-row-at t) first-row.Post first-row-Inv-loop first-row-μ-loop
-first-row-holds-requires t c κs =
-    let c₃ = c .before .before .before in let set-place2 = c₃ .set-place2 in
-    let c₄ = c₃ .before in let place2 = c₄ .place2 in
-    let c₈ = c₄ .before .before .before .before in let loop = c₈ .loop in
-    let c₉ = c₈ .before in let prepare = c₉ .prepare in
-    let c₂₀ = c₉ .before .before .before .before .before .before .before .before .before .before .before in let args = c₂₀ .args in let pre = c₂₀ .pre in
+first-row-holds-requires t c κs = let place = c .before .place in
+    let loop = c .before .before .before .before .loop in
+    let prepare = c .before .before .before .before .before .prepare in
+    let args = c .before .before .before .before .before .before .before .before .before .before .before .before .before .before .before .args in let pre = c .before .before .before .before .before .before .before .before .before .before .before .before .before .before .before .pre in
     let walks = now (args .walks) in
-    (omega (arith, pre .0, prepare .ensures walks (pre .1 .2) .low), (omega (arith, pre .1 .0, loop .inv .3, ap length (set-place2 .ensures), length-set (loop .env) (args .variable) (place2 .result)), omega (arith, pre .1 .1, prepare .ensures walks (pre .1 .2) .low), pre .1 .2))
+    (omega (arith, pre .0, prepare .ensures walks (pre .1 .2) .low), (omega (arith, pre .1 .0, loop .inv .3, length-set (loop .env) (args .variable) (place .result)), omega (arith, pre .1 .1, prepare .ensures walks (pre .1 .2) .low), pre .1 .2))
 
-first-row-set-place-requires-3 : (t : ℕ) → first-row-lts.Need-set-place-requires-3 (first-row-claims t) (first-row-at t) first-row.Post first-row-Inv-loop first-row-μ-loop
-first-row-set-place-requires-3 t c κs = search needs
+first-row-mul-env-3 : (t : ℕ) → first-row-lts.Need-mul-env-3 (first-row-claims t) (first-row-at t) first-row.Post first-row-Inv-loop first-row-μ-loop
+first-row-mul-env-3 t c =
+    let c₁₉ = c .before .before .before .before .before .before .before .before .before .before .before .before .before .before .before .before .before .before .before in let good = c₁₉ .good in
+    omega (arith, good .1 .1 .1 .0)
+
+first-row-slice-write-env-3 : (t : ℕ) → first-row-lts.Need-slice-write-env-3 (first-row-claims t) (first-row-at t) first-row.Post first-row-Inv-loop first-row-μ-loop
+first-row-slice-write-env-3 t c =
+    let c₃ = c .before .before .before in let holds = c₃ .holds in
+    let c₅ = c₃ .before .before in let place = c₅ .place in
+    let c₈ = c₅ .before .before .before in let loop = c₈ .loop in
+    let c₁₉ = c₈ .before .before .before .before .before .before .before .before .before .before .before in let args = c₁₉ .args in let good = c₁₉ .good in let pre = c₁₉ .pre in
+    omega (arith, pre .1 .0, good .1 .1 .1 .0, loop .inv .3, ap length (holds .ensures .1), length-set (loop .env) (args .variable) (place .result))
 
 first-row-add-tried : (t : ℕ) → first-row-lts.Need-add-tried (first-row-claims t) (first-row-at t) first-row.Post first-row-Inv-loop first-row-μ-loop
-first-row-add-tried t c =
-    let c₁₄ = c .before .before .before .before .before .before .before .before .before .before .before .before .before .before in let if1 = c₁₄ .if1 in
-    let c₂₁ = c₁₄ .before .before .before .before .before .before .before in let walk-of = c₂₁ .walk-of in
+first-row-add-tried t c = let if1 = c .before .before .before .before .before .before .if1 in
+    let walk-of = c .before .before .before .before .before .before .before .before .before .before .before .before .walk-of in
     omega (arith, walk-of .ensures .1 .count, if1 .left)
 
 first-row-same-length-2 : (t : ℕ) → first-row-lts.Need-same-length-2 (first-row-claims t) (first-row-at t) first-row.Post first-row-Inv-loop first-row-μ-loop
-first-row-same-length-2 t c = search needs
+first-row-same-length-2 t c =
+    let c₃ = c .before .before .before in let holds = c₃ .holds in
+    let c₅ = c₃ .before .before in let place = c₅ .place in
+    let c₈ = c₅ .before .before .before in let loop = c₈ .loop in
+    let c₁₉ = c₈ .before .before .before .before .before .before .before .before .before .before .before in let args = c₁₉ .args in
+    let variable = args .variable in
+    length-set (holds .last .1 .1 .1 .1 .1 .1 .1 .1 .1 .0) variable (getD (now (args .env)) variable 0) ∙ ap length (holds .ensures .1) ∙ length-set (loop .env) variable (place .result) ∙ loop .inv .3
 
 first-row-returns-2 : (t : ℕ) → first-row-lts.Need-returns-2 (first-row-claims t) (first-row-at t) first-row.Post first-row-Inv-loop first-row-μ-loop
-first-row-returns-2 t c =
-    let c₄ = c .before .before .before .before in let if2 = c₄ .if2 in
-    let c₇ = c₄ .before .before .before in let holds = c₇ .holds in
-    let c₁₁ = c₇ .before .before .before .before in let set-place2 = c₁₁ .set-place2 in
-    let c₁₂ = c₁₁ .before in let place2 = c₁₂ .place2 in
-    let c₁₄ = c₁₂ .before .before in let if1 = c₁₄ .if1 in
-    let c₁₅ = c₁₄ .before in let next-row = c₁₅ .next-row in
-    let c₁₆ = c₁₅ .before in let loop = c₁₆ .loop in
-    let c₁₇ = c₁₆ .before in let prepare = c₁₇ .prepare in
-    let c₁₉ = c₁₇ .before .before in let place = c₁₉ .place in
-    let c₂₁ = c₁₉ .before .before in let walk-of = c₂₁ .walk-of in
-    let c₂₈ = c₂₁ .before .before .before .before .before .before .before in let args = c₂₈ .args in let good = c₂₈ .good in let pre = c₂₈ .pre in
+first-row-returns-2 t c = let if2 = c .if2 in
+    let holds = c .before .before .before .holds in
+    let place = c .before .before .before .before .before .place in
+    let if1 = c .before .before .before .before .before .before .if1 in
+    let next-row = c .before .before .before .before .before .before .before .next-row in
+    let loop = c .before .before .before .before .before .before .before .before .loop in
+    let prepare = c .before .before .before .before .before .before .before .before .before .prepare in
+    let walk-of = c .before .before .before .before .before .before .before .before .before .before .before .before .walk-of in
+    let args = c .before .before .before .before .before .before .before .before .before .before .before .before .before .before .before .before .before .before .before .args in let good = c .before .before .before .before .before .before .before .before .before .before .before .before .before .before .before .before .before .before .before .good in let pre = c .before .before .before .before .before .before .before .before .before .before .before .before .before .before .before .before .before .before .before .pre in
     let chains = now (args .chains) in let env = now (args .env) in let memo = now (args .memo) in let q = now (args .q) in let values = now (args .values) in let walks = now (args .walks) in let xs = now (args .xs) in let z = now (args .z) in let start = args .start in let variable = args .variable in
-    (sym (walked-hit (S.asks (now (args .t)) xs q z walks values memo start variable env) walks values variable (walk-of .result) (walk-of .ensures .0) (next-row .result) (if1 .left) (S.over (now (args .t)) xs q z walks values memo start variable env (prepare .result) chains (prepare .ensures walks (pre .1 .2)) (placeAt walks (walk-of .result)) (loop .i) (next-row .result) (next-row .ensures .1 .0) (loop .inv .1)) (S.tried (now (args .t)) xs q z walks values memo start variable env (prepare .result) chains (prepare .ensures walks (pre .1 .2)) (placeAt walks (walk-of .result)) _ (place2 .result) (next-row .result) (holds .result) (next-row .ensures .1 .1 (if1 .left)) (place2 .ensures) (places-on (loop .env) env _ variable (place .result) (place2 .result) (loop .inv .0) (set-place2 .ensures)) (omega (arith, pre .1 .0, good .1 .1 .1 .0)) (holds .ensures .0) ∙ if2 .taken)), c .before .before .set-place3 .ensures ∙ places-back (loop .env) env _ variable (place .result) (place2 .result) (loop .inv .0) (set-place2 .ensures) _ (holds .ensures .1))
+    (sym (walked-hit (S.asks (now (args .t)) xs q z walks values memo start variable env) walks values variable (walk-of .result) (walk-of .ensures .0) (next-row .result) (if1 .left) (S.over (now (args .t)) xs q z walks values memo start variable env (prepare .result) chains (prepare .ensures walks (pre .1 .2)) (placeAt walks (walk-of .result)) (loop .i) (next-row .result) (next-row .ensures .1 .0) (loop .inv .1)) (S.tried (now (args .t)) xs q z walks values memo start variable env (prepare .result) chains (prepare .ensures walks (pre .1 .2)) (placeAt walks (walk-of .result)) _ (place .result) (next-row .result) (holds .result) (next-row .ensures .1 .1 (if1 .left)) (place .ensures) (places-on (loop .env) env _ variable (getD (now (c .before .before .before .before .before .before .before .before .before .before .before .before .before .before .before .before .before .before .before .args .env)) (c .before .before .before .before .before .before .before .before .before .before .before .before .before .before .before .before .before .before .before .args .variable) 0) (place .result) (loop .inv .0) refl) (omega (arith, pre .1 .0, good .1 .1 .1 .0)) (holds .ensures .0) ∙ if2 .taken)), places-back (loop .env) env _ variable (getD (now (c .before .before .before .before .before .before .before .before .before .before .before .before .before .before .before .before .before .before .before .args .env)) (c .before .before .before .before .before .before .before .before .before .before .before .before .before .before .before .before .before .before .before .args .variable) 0) (place .result) (loop .inv .0) refl _ (holds .ensures .1))
 
 first-row-add-i : (t : ℕ) → first-row-lts.Need-add-i (first-row-claims t) (first-row-at t) first-row.Post first-row-Inv-loop first-row-μ-loop
-first-row-add-i t c =
-    let c₁₀ = c .before .before .before .before .before .before .before .before .before .before in let if1 = c₁₀ .if1 in
-    let c₁₇ = c₁₀ .before .before .before .before .before .before .before in let walk-of = c₁₇ .walk-of in
+first-row-add-i t c = let if1 = c .before .before .before .before .before .before .if1 in
+    let walk-of = c .before .before .before .before .before .before .before .before .before .before .before .before .walk-of in
     omega (arith, walk-of .ensures .1 .count, if1 .left)
 
 first-row-loop-less : (t : ℕ) → first-row-lts.Need-loop-less (first-row-claims t) (first-row-at t) first-row.Post first-row-Inv-loop first-row-μ-loop
-first-row-loop-less t c =
-    let c₁₀ = c .before .before .before .before .before .before .before .before .before .before in let if1 = c₁₀ .if1 in
-    let c₁₁ = c₁₀ .before in let next-row = c₁₁ .next-row in
+first-row-loop-less t c = let if1 = c .before .before .before .before .before .before .if1 in
+    let next-row = c .before .before .before .before .before .before .before .next-row in
     omega (arith, next-row .ensures .0 .0, if1 .left)
 
 first-row-loop-again : (t : ℕ) → first-row-lts.Need-loop-again (first-row-claims t) (first-row-at t) first-row.Post first-row-Inv-loop first-row-μ-loop
-first-row-loop-again t c =
-    let c₃ = c .before .before .before in let holds = c₃ .holds in
-    let c₇ = c₃ .before .before .before .before in let set-place2 = c₇ .set-place2 in
-    let c₈ = c₇ .before in let place2 = c₈ .place2 in
-    let c₁₀ = c₈ .before .before in let if1 = c₁₀ .if1 in
-    let c₁₁ = c₁₀ .before in let next-row = c₁₁ .next-row in
-    let c₁₂ = c₁₁ .before in let loop = c₁₂ .loop in
-    let c₁₃ = c₁₂ .before in let prepare = c₁₃ .prepare in
-    let c₁₅ = c₁₃ .before .before in let place = c₁₅ .place in
-    let c₁₇ = c₁₅ .before .before in let walk-of = c₁₇ .walk-of in
-    let c₂₄ = c₁₇ .before .before .before .before .before .before .before in let args = c₂₄ .args in let good = c₂₄ .good in let pre = c₂₄ .pre in
+first-row-loop-again t c = let holds = c .before .before .before .holds in
+    let place = c .before .before .before .before .before .place in
+    let if1 = c .before .before .before .before .before .before .if1 in
+    let next-row = c .before .before .before .before .before .before .before .next-row in
+    let loop = c .before .before .before .before .before .before .before .before .loop in
+    let prepare = c .before .before .before .before .before .before .before .before .before .prepare in
+    let walk-of = c .before .before .before .before .before .before .before .before .before .before .before .before .walk-of in
+    let args = c .before .before .before .before .before .before .before .before .before .before .before .before .before .before .before .before .before .before .before .args in let good = c .before .before .before .before .before .before .before .before .before .before .before .before .before .before .before .before .before .before .before .good in let pre = c .before .before .before .before .before .before .before .before .before .before .before .before .before .before .before .before .before .before .before .pre in
     let chains = now (args .chains) in let env = now (args .env) in let memo = now (args .memo) in let q = now (args .q) in let values = now (args .values) in let walks = now (args .walks) in let xs = now (args .xs) in let z = now (args .z) in let start = args .start in let variable = args .variable in
-    (places-back (loop .env) env _ variable (place .result) (place2 .result) (loop .inv .0) (set-place2 .ensures) _ (holds .ensures .1), none-next (λ j. S.asks (now (args .t)) xs q z walks values memo start variable env (tupleAt values ((placeAt walks (walk-of .result)) j))) (next-row .result) (S.over (now (args .t)) xs q z walks values memo start variable env (prepare .result) chains (prepare .ensures walks (pre .1 .2)) (placeAt walks (walk-of .result)) (loop .i) (next-row .result) (next-row .ensures .1 .0) (loop .inv .1)) (S.tried (now (args .t)) xs q z walks values memo start variable env (prepare .result) chains (prepare .ensures walks (pre .1 .2)) (placeAt walks (walk-of .result)) _ (place2 .result) (next-row .result) (holds .result) (next-row .ensures .1 .1 (if1 .left)) (place2 .ensures) (places-on (loop .env) env _ variable (place .result) (place2 .result) (loop .inv .0) (set-place2 .ensures)) (omega (arith, pre .1 .0, good .1 .1 .1 .0)) (holds .ensures .0) ∙ c .if2 .left), omega (arith, if1 .left), places-length (loop .env) env _ variable (place .result) (place2 .result) (loop .inv .0) (set-place2 .ensures) _ (holds .ensures .1) (loop .inv .3), λ h. (let e : next-row .result + 1 - 1 ≡ next-row .result = omega arith in ap (λ (i : ℕ). stops (prepare .result) (tupleAt values ((placeAt walks (walk-of .result)) i))) e) ∙ next-row .ensures .1 .1 (if1 .left))
+    (places-back (loop .env) env _ variable (getD (now (c .before .before .before .before .before .before .before .before .before .before .before .before .before .before .before .before .before .before .before .args .env)) (c .before .before .before .before .before .before .before .before .before .before .before .before .before .before .before .before .before .before .before .args .variable) 0) (place .result) (loop .inv .0) refl _ (holds .ensures .1), none-next (λ j. S.asks (now (args .t)) xs q z walks values memo start variable env (tupleAt values ((placeAt walks (walk-of .result)) j))) (next-row .result) (S.over (now (args .t)) xs q z walks values memo start variable env (prepare .result) chains (prepare .ensures walks (pre .1 .2)) (placeAt walks (walk-of .result)) (loop .i) (next-row .result) (next-row .ensures .1 .0) (loop .inv .1)) (S.tried (now (args .t)) xs q z walks values memo start variable env (prepare .result) chains (prepare .ensures walks (pre .1 .2)) (placeAt walks (walk-of .result)) _ (place .result) (next-row .result) (holds .result) (next-row .ensures .1 .1 (if1 .left)) (place .ensures) (places-on (loop .env) env _ variable (getD (now (c .before .before .before .before .before .before .before .before .before .before .before .before .before .before .before .before .before .before .before .args .env)) (c .before .before .before .before .before .before .before .before .before .before .before .before .before .before .before .before .before .before .before .args .variable) 0) (place .result) (loop .inv .0) refl) (omega (arith, pre .1 .0, good .1 .1 .1 .0)) (holds .ensures .0) ∙ c .if2 .left), omega (arith, if1 .left), places-length (loop .env) env _ variable (getD (now (c .before .before .before .before .before .before .before .before .before .before .before .before .before .before .before .before .before .before .before .args .env)) (c .before .before .before .before .before .before .before .before .before .before .before .before .before .before .before .before .before .before .before .args .variable) 0) (place .result) (loop .inv .0) refl _ (holds .ensures .1) (loop .inv .3), λ h. (let e : next-row .result + 1 - 1 ≡ next-row .result = omega arith in ap (λ (i : ℕ). stops (prepare .result) (tupleAt values ((placeAt walks (walk-of .result)) i))) e) ∙ next-row .ensures .1 .1 (if1 .left))
 
 abbrev holds-Inv-loop : holds-lts.InvT-loop
 holds-Inv-loop t xs start q z walks chains values memo env₀ from₀ env from = (runs t xs q z walks values memo from (assigned values env₀) ≡ runs t xs q z walks values memo start (assigned values env₀)) × (env ≡ env₀) × (from ≤ start) × (length env ≡ length env₀)
@@ -321,17 +338,21 @@ pub +first-row+holds+some-row-spec : {M : Type 1} → statement M
     first-row-Inv-loop
     first-row-μ-loop
     (first-row-walk-of-requires t)
-    (first-row-place-requires t)
+    (first-row-mul-old t)
+    (first-row-slice-read-old t)
     (first-row-prepare-requires t)
     (first-row-loop-holds t)
     (first-row-next-row-requires t)
-    (first-row-set-place-requires t)
+    (first-row-mul-env t)
+    (first-row-slice-write-env t)
     (first-row-same-length t)
     (first-row-returns t)
-    (first-row-place-requires-2 t)
-    (first-row-set-place-requires-2 t)
+    (first-row-place-requires t)
+    (first-row-mul-env-2 t)
+    (first-row-slice-write-env-2 t)
     (first-row-holds-requires t)
-    (first-row-set-place-requires-3 t)
+    (first-row-mul-env-3 t)
+    (first-row-slice-write-env-3 t)
     (first-row-add-tried t)
     (first-row-same-length-2 t)
     (first-row-returns-2 t)

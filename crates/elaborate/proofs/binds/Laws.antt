@@ -7,9 +7,9 @@ use mathlib.Core.Path.{_≡_, refl, sym, ap, ap₂, _∙_, subst}
 use native.Mathlib.Omega.{arith}
 use native.Mathlib.Numerals.{add-one}
 use lib.Dec.{eqb, leb}
-use lib.ListN.{length, getD, set, take}
-use lib.Seq.{sets, take-suc-set}
-use borrow.Author.Tests.{ne-eqb}
+use lib.ListN.{length, getD, set}
+use lib.Seq.{sets}
+use borrow.Author.Tests.{ne-eqb, eqb-true, eqb-false}
 use Rattle.model.specs.Lists.{concatMap}
 use Rattle.model.specs.Encoding.{encodeRanges}
 use Rattle.quel.specs.Results.{Read, fail, ok, then, found, Word, hasWord}
@@ -19,19 +19,20 @@ use Rattle.quel.specs.Elaboration.{Symbol, asByte, rangesOf}
 use Rattle.quel.specs.Writing.{Written, before}
 use Rattle.tokens.specs.Table.{Table, tokenAt, wordIn}
 use Rattle.flat.specs.Flat.{uses, bound, rangeName, symbolOf}
-use Rattle.marks.specs.Places.{tokensFrom, nameIn}
-use Rattle.marks.proofs.Walks.{from-cons, from-end, here, here-is}
-use Rattle.items.specs.declared.reach.Known.the-variants as K
-use Rattle.items.specs.Reach.{modeIn, relationIn, variableIn, placeIn, rangeSymbol, knownBy, knownOf, standing}
-use Rattle.items.specs.Tables.{Same, Holds}
-use Rattle.items.proofs.reach.Holds.{holds-none, holds-more}
-use Rattle.items.proofs.Ranges.{bound-kind}
+use Rattle.elaborate.specs.Places.{table, tokensFrom, nameIn}
+use Rattle.elaborate.specs.Numbers.{Used}
+use Rattle.elaborate.proofs.marks.Walks.{from-cons, from-end, here, here-is}
+use Rattle.elaborate.specs.declared.reach.Known.the-variants as K
+use Rattle.elaborate.specs.Reach.{modeIn, relationIn, variableIn, placeIn, Bound, rangeSymbol, knownBy, knownOf, standing}
+use Rattle.elaborate.specs.Tables.{Same, Named, Holds}
+use Rattle.elaborate.proofs.reach.Holds.{holds-none, holds-more}
+use Rattle.elaborate.proofs.items.Ranges.{bound-kind}
 use Rattle.elaborate.specs.After.{ended}
 use Rattle.elaborate.proofs.turns.Laws.{ended-before}
 use Rattle.elaborate.specs.declared.binds.Tally.{Tally}
 use Rattle.elaborate.specs.declared.binds.Ranges.{Ranges}
 use Rattle.elaborate.specs.declared.binds.Ranges.the-variants as R
-use Rattle.elaborate.specs.Tallies.{listing, openRelation, symbolsIn, boundFrom, toDo, afterToken, Binds, afterAll, Counts}
+use Rattle.elaborate.specs.Tallies.{listing, openRelation, symbolsIn, boundFrom, toDo, afterToken, Binds, afterAll, Counts, Stands, Adds, Fills}
 
 -- one symbol more
 module _ (es : List Entry) (d : List ℕ) (at : ℕ) (done : List Symbol) (F : List Symbol → ℕ → Written) (x : Word) (q : ℕ) where
@@ -59,11 +60,8 @@ module _ (text : List ℕ) (t : Table) (es : List Entry) (main : ℕ) where
   abbrev used : List Word
   used = uses 0 (tokensFrom text t main)
 
-  pub symbols-more : (cs : List ℕ) (k c : ℕ) (y : Symbol) → k < length cs → rangeSymbol (here text t) c ≡ y → symbolsIn text t es main (set cs k c) (k + 1) ≡ symbolsIn text t es main cs k ++ (y ∷ [])
-  symbols-more cs k c y h e =
-      ap (λ (n : ℕ). map (rangeSymbol (here text t)) (take n (set cs k c))) (add-one k)
-      ∙ ap (map (rangeSymbol (here text t))) (take-suc-set cs k c h) ∙ map-append (rangeSymbol (here text t)) (take k cs) (c ∷ [])
-      ∙ ap (λ (z : Symbol). symbolsIn text t es main cs k ++ (z ∷ [])) e
+  pub symbols-more : (cs : List Bound) (c : Bound) (y : Symbol) → rangeSymbol (here text t) c ≡ y → symbolsIn text t es main (cs ++ (c ∷ [])) ≡ symbolsIn text t es main cs ++ (y ∷ [])
+  symbols-more cs c y e = map-append (rangeSymbol (here text t)) cs (c ∷ []) ∙ ap (λ (z : Symbol). symbolsIn text t es main cs ++ (z ∷ [])) e
 
   pub past-end : (i : ℕ) → length (t .kinds) ≤ i → (o : Option ℕ) (n : ℕ) → boundFrom text t es main o n i ≡ ok [] n
   unfolding bound
@@ -92,59 +90,70 @@ module _ (text : List ℕ) (t : Table) (es : List Entry) (main : ℕ) where
     other-step : (kind ≡ 0 → ⊥) → (kind ≡ 14 → ⊥) → (kind ≡ 21 → ⊥) → (o : Option ℕ) (n : ℕ) → boundFrom text t es main o n i ≡ boundFrom text t es main o n (i + 1)
     other-step a b c o n = from-kind o n ∙ rw (ne-eqb kind 0 a, ne-eqb kind 14 b, ne-eqb kind 21 c)
 
-    module _ (s : Tally) (cs out : List ℕ) where
-      pub close : kind ≡ 21 → Binds text t es main i s cs out (R.Listed (record { inside = false; relation = 0; count = s .count; n = s .n; at = s .at })) cs out
-      close e = record { ends = λ F. ap (λ (g : Read ℕ (List Symbol)). ended out (s .at) (listing es (symbolsIn text t es main cs (s .count)) F g)) (right-step e (openRelation s) (s .n)) }
+    module _ (s : Tally) (cs : List Bound) (out : List ℕ) where
+      pub close : kind ≡ 21 → Binds text t es main i s cs out (R.Listed (record { inside = false; relation = 0; n = s .n; at = s .at })) cs out
+      close e = record { ends = λ F. ap (λ (g : Read ℕ (List Symbol)). ended out (s .at) (listing es (symbolsIn text t es main cs) F g)) (right-step e (openRelation s) (s .n)) }
 
       pub pass : (kind ≡ 0 → ⊥) → (kind ≡ 14 → ⊥) → (kind ≡ 21 → ⊥) → Binds text t es main i s cs out (R.Listed s) cs out
-      pass a b c = record { ends = λ F. ap (λ (g : Read ℕ (List Symbol)). ended out (s .at) (listing es (symbolsIn text t es main cs (s .count)) F g)) (other-step a b c (openRelation s) (s .n)) }
+      pass a b c = record { ends = λ F. ap (λ (g : Read ℕ (List Symbol)). ended out (s .at) (listing es (symbolsIn text t es main cs) F g)) (other-step a b c (openRelation s) (s .n)) }
+
+      pub next : (kind ≡ 0 → ⊥) → (kind ≡ 14 → ⊥) → (u : Tally) → u ≡ cond (eqb kind 21) (record { inside = false; relation = 0; n = s .n; at = s .at }) s → Binds text t es main i s cs out (R.Listed u) cs out
+      next a b u eu = go (eqb kind 21) refl
+        where
+          go : (d : Bool) → eqb kind 21 ≡ d → Binds text t es main i s cs out (R.Listed u) cs out
+          go true f = subst (λ (x : Tally). Binds text t es main i s cs out (R.Listed x) cs out) (sym (eu ∙ ap (λ (d : Bool). cond d (record { inside = false; relation = 0; n = s .n; at = s .at }) s) f)) (close (eqb-true kind 21 f))
+          go false f = subst (λ (x : Tally). Binds text t es main i s cs out (R.Listed x) cs out) (sym (eu ∙ ap (λ (d : Bool). cond d (record { inside = false; relation = 0; n = s .n; at = s .at }) s) f)) (pass a b (eqb-false kind 21 f))
 
       -- a relation
       module _ (e : kind ≡ 0) (f : s .inside ≡ false) where
         outside : boundFrom text t es main (openRelation s) (s .n) i ≡ found (relationNamed es (here text t i)) (λ q. boundFrom text t es main (some q) (s .n) (i + 1))
         outside = ap (λ (b : Bool). boundFrom text t es main (cond b (some (s .relation)) none) (s .n) i) f ∙ name-step e none (s .n)
 
-        pub known : (q : ℕ) → relationNamed es (here text t i) ≡ some q → Binds text t es main i s cs out (R.Listed (record { inside = true; relation = q; count = s .count; n = s .n; at = s .at })) cs out
+        pub known : (q : ℕ) → relationNamed es (here text t i) ≡ some q → Binds text t es main i s cs out (R.Listed (record { inside = true; relation = q; n = s .n; at = s .at })) cs out
         known q r = record {
-          ends = λ F. ap (λ (g : Read ℕ (List Symbol)). ended out (s .at) (listing es (symbolsIn text t es main cs (s .count)) F g))
+          ends = λ F. ap (λ (g : Read ℕ (List Symbol)). ended out (s .at) (listing es (symbolsIn text t es main cs) F g))
               (outside ∙ ap (λ (o : Option ℕ). found o (λ q. boundFrom text t es main (some q) (s .n) (i + 1))) r);
         }
 
         pub unknown : relationNamed es (here text t i) ≡ none → Binds text t es main i s cs out R.Refused cs out
         unknown r = record {
-          ends = λ F. ap (λ (g : Read ℕ (List Symbol)). ended out (s .at) (listing es (symbolsIn text t es main cs (s .count)) F g))
+          ends = λ F. ap (λ (g : Read ℕ (List Symbol)). ended out (s .at) (listing es (symbolsIn text t es main cs) F g))
               (outside ∙ ap (λ (o : Option ℕ). found o (λ q. boundFrom text t es main (some q) (s .n) (i + 1))) r);
         }
 
       -- a symbol
-      module _ (e : kind ≡ 0) (f : s .inside ≡ true) (k : s .count < length cs) (b : Bool) (eb : b ≡ hasWord (here text t i) used) (m c : ℕ) (em : m ≡ cond b 1 0)
-          (pm : modeIn c ≡ m) (pr : relationIn c ≡ s .relation) (pv : variableIn c ≡ asByte (s .n)) (pp : placeIn c ≡ i) where
+      module _ (e : kind ≡ 0) (f : s .inside ≡ true) (b : Bool) (eb : b ≡ hasWord (here text t i) used) where
+        abbrev one : Bound
+        one = record { place = i; relation = s .relation; variable = cond b (some (asByte (s .n))) none }
+
         inside : boundFrom text t es main (openRelation s) (s .n) i ≡ symbolOf es b (here text t i) (s .relation) (s .n) (λ n. boundFrom text t es main (some (s .relation)) n (i + 1))
         inside =
             ap (λ (b : Bool). boundFrom text t es main (cond b (some (s .relation)) none) (s .n) i) f ∙ name-step e (some (s .relation)) (s .n)
             ∙ ap (λ (u : Bool). symbolOf es u (here text t i) (s .relation) (s .n) (λ n. boundFrom text t es main (some (s .relation)) n (i + 1))) (sym eb)
 
-        symbol-is : rangeSymbol (here text t) c ≡ record { word = here text t i; relation = s .relation; variable = cond (eqb (cond b 1 0) 0) none (some (asByte (s .n))) }
+        symbol-is : (d : Bool) → b ≡ d → rangeSymbol (here text t) one ≡ record { word = here text t i; relation = s .relation; variable = cond d (some (asByte (s .n))) none }
         unfolding rangeSymbol
-        symbol-is = rw (pm, em, pr, pv, pp)
+        symbol-is d u = ap (λ (y : Bool). record { word = here text t i; relation = s .relation; variable = cond y (some (asByte (s .n))) none }) u
 
-        pub unused : b ≡ false → Binds text t es main i s cs out (R.Listed (record { inside = true; relation = s .relation; count = s .count + 1; n = s .n; at = s .at })) (set cs (s .count) c) out
+        still : some (s .relation) ≡ openRelation s
+        still = ap (λ (b : Bool). cond b (some (s .relation)) none) (sym f)
+
+        pub unused : b ≡ false → Binds text t es main i s cs out (R.Listed s) (cs ++ (one ∷ [])) out
         unused u = record {
           ends = λ F.
-              ap (λ (g : Read ℕ (List Symbol)). ended out (s .at) (listing es (symbolsIn text t es main cs (s .count)) F g)) (inside ∙ ap (λ (y : Bool). symbolOf es y (here text t i) (s .relation) (s .n) (λ n. boundFrom text t es main (some (s .relation)) n (i + 1))) u)
-              ∙ ap (ended out (s .at)) (put-unused es out (s .at) (symbolsIn text t es main cs (s .count)) F (here text t i) (s .relation) (boundFrom text t es main (some (s .relation)) (s .n) (i + 1)))
-              ∙ ap (λ (l : List Symbol). ended out (s .at) (listing es l F (boundFrom text t es main (some (s .relation)) (s .n) (i + 1))))
-              (sym (symbols-more cs (s .count) c (record { word = here text t i; relation = s .relation; variable = none }) k (symbol-is ∙ ap (λ (y : Bool). record { word = here text t i; relation = s .relation; variable = cond (eqb (cond y 1 0) 0) none (some (asByte (s .n))) }) u)));
+              ap (λ (g : Read ℕ (List Symbol)). ended out (s .at) (listing es (symbolsIn text t es main cs) F g)) (inside ∙ ap (λ (y : Bool). symbolOf es y (here text t i) (s .relation) (s .n) (λ n. boundFrom text t es main (some (s .relation)) n (i + 1))) u)
+              ∙ ap (ended out (s .at)) (put-unused es out (s .at) (symbolsIn text t es main cs) F (here text t i) (s .relation) (boundFrom text t es main (some (s .relation)) (s .n) (i + 1)))
+              ∙ ap₂ (λ (l : List Symbol) (o : Option ℕ). ended out (s .at) (listing es l F (boundFrom text t es main o (s .n) (i + 1)))) (sym (symbols-more cs one (record { word = here text t i; relation = s .relation; variable = none }) (symbol-is false u))) still;
         }
 
         pub used-one : b ≡ true → (to : List ℕ) (p : ℕ) → p ≡ s .at + 3 → to ≡ sets out (s .at) (1 ∷ asByte (s .n) ∷ s .relation ∷ [])
-            → Binds text t es main i s cs out (R.Listed (record { inside = true; relation = s .relation; count = s .count + 1; n = s .n + 1; at = p })) (set cs (s .count) c) to
+            → Binds text t es main i s cs out (R.Listed (record { inside = true; relation = s .relation; n = s .n + 1; at = p })) (cs ++ (one ∷ [])) to
         used-one u to p ep et = record {
           ends = λ F.
-              ap (λ (g : Read ℕ (List Symbol)). ended out (s .at) (listing es (symbolsIn text t es main cs (s .count)) F g)) (inside ∙ ap (λ (y : Bool). symbolOf es y (here text t i) (s .relation) (s .n) (λ n. boundFrom text t es main (some (s .relation)) n (i + 1))) u)
-              ∙ put-used es out (s .at) (symbolsIn text t es main cs (s .count)) F (here text t i) (s .relation) (asByte (s .n)) (boundFrom text t es main (some (s .relation)) (suc (s .n)) (i + 1))
+              ap (λ (g : Read ℕ (List Symbol)). ended out (s .at) (listing es (symbolsIn text t es main cs) F g)) (inside ∙ ap (λ (y : Bool). symbolOf es y (here text t i) (s .relation) (s .n) (λ n. boundFrom text t es main (some (s .relation)) n (i + 1))) u)
+              ∙ put-used es out (s .at) (symbolsIn text t es main cs) F (here text t i) (s .relation) (asByte (s .n)) (boundFrom text t es main (some (s .relation)) (suc (s .n)) (i + 1))
               ∙ ap (λ (l : List Symbol). ended (sets out (s .at) (1 ∷ asByte (s .n) ∷ s .relation ∷ [])) (s .at + 3) (listing es l F (boundFrom text t es main (some (s .relation)) (suc (s .n)) (i + 1))))
-              (sym (symbols-more cs (s .count) c (record { word = here text t i; relation = s .relation; variable = some (asByte (s .n)) }) k (symbol-is ∙ ap (λ (y : Bool). record { word = here text t i; relation = s .relation; variable = cond (eqb (cond y 1 0) 0) none (some (asByte (s .n))) }) u)))
+              (sym (symbols-more cs one (record { word = here text t i; relation = s .relation; variable = some (asByte (s .n)) }) (symbol-is true u)))
               ∙ rw (ep, et, add-one (s .n));
         }
 
@@ -167,38 +176,88 @@ finish es out at done F n g e =
     ap (λ (g : Read ℕ (List Symbol)). ended out at (listing es done F g)) e
     ∙ ap (λ (l : List Symbol). ended out at (before (λ bs. encodeRanges (rangesOf es []) bs) (F l n))) (append-nil done) ∙ ended-ranges es out at (F done n)
 
-module _ (text : List ℕ) (t : Table) (es : List Entry) (main i : ℕ) (s : Tally) (cs out ds to : List ℕ) (r : Ranges) (g : Binds text t es main i s cs out r ds to) where
+module _ (text : List ℕ) (t : Table) (es : List Entry) (main i : ℕ) (s : Tally) (cs : List Bound) (out : List ℕ) (ds : List Bound) (to : List ℕ) (r : Ranges) (g : Binds text t es main i s cs out r ds to) where
   pub on : (u : Tally) → r ≡ R.Listed u → (F : List Symbol → ℕ → Written) (a : Written) → a ≡ ended out (s .at) (toDo text t es main F i s cs) → a ≡ ended to (u .at) (toDo text t es main F (i + 1) u ds)
   on u e F a h = h ∙ g .ends F ∙ ap (λ (x : Ranges). afterToken text t es main F (i + 1) x ds to) e
 
   pub off : r ≡ R.Refused → (F : List Symbol → ℕ → Written) (a : Written) → a ≡ ended out (s .at) (toDo text t es main F i s cs) → a ≡ fail
   off e F a h = h ∙ g .ends F ∙ ap (λ (x : Ranges). afterToken text t es main F (i + 1) x ds to) e
 
-pub within : (s u : Tally) (r : Ranges) → Counts s r → r ≡ R.Listed u → (u .count ≤ s .count + 1) × (u .n ≤ s .n + 1) × (u .at ≤ s .at + 3)
+pub within : (s u : Tally) (r : Ranges) → Counts s r → r ≡ R.Listed u → (u .n ≤ s .n + 1) × (u .at ≤ s .at + 3)
 within s u r w e = subst (Counts s) e w
 
--- no name stands for anything yet
-pub stands-none : (w : ℕ → Word) (ids cs known : List ℕ) → ((x : ℕ) → getD known x 0 ≡ 0) → Holds w ids known 0 0 (map (rangeSymbol w) (take 0 cs))
-stands-none w ids [] known z = holds-none w ids known 0 z
-stands-none w ids (c ∷ cs) known z = holds-none w ids known 0 z
+-- a symbol more
+module _ (w : ℕ → Word) (ids known : List ℕ) (cs : List Bound) (f : Same w ids) (g : Holds w ids known 0 0 (map (rangeSymbol w) cs)) (e i q v : ℕ) (b : Bool)
+    (me : modeIn e ≡ cond b 1 2) (re : relationIn e ≡ q) (ve : variableIn e ≡ v) (pe : placeIn e ≡ 0) (room : getD ids i 0 < length known) where
+  abbrev entered : Bound
+  entered = record { place = i; relation = q; variable = cond b (some v) none }
 
--- a symbol more among the first k of a table
-module _ (w : ℕ → Word) (ids cs known : List ℕ) (k : ℕ) (f : Same w ids) (h : k < length cs) (g : Holds w ids known 0 0 (map (rangeSymbol w) (take k cs))) (c e i : ℕ) (b : Bool)
-    (pc : placeIn c ≡ i) (mc : modeIn c ≡ cond b 1 0) (me : modeIn e ≡ cond b 1 2) (re : relationIn e ≡ relationIn c) (ve : variableIn e ≡ variableIn c) (pe : placeIn e ≡ 0) (room : getD ids i 0 < length known) where
-  says : knownOf (some (rangeSymbol w c)) ≡ standing 0 e
+  says : knownOf (some (rangeSymbol w entered)) ≡ standing 0 e
   unfolding rangeSymbol
-  says = rw (mc, me, re, ve, pe) (by b)
+  says = rw (me, re, ve, pe) (by b)
     where
-      by : (b : Bool) → knownBy (relationIn c) (cond (eqb (cond b 1 0) 0) none (some (variableIn c)))
-          ≡ cond (eqb (cond b 1 2) 0) K.Nothing (cond (eqb (cond b 1 2) 1 && leb 0 0) (K.Variable (relationIn c) (variableIn c)) (K.Head (relationIn c)))
+      by : (b : Bool) → knownBy q (cond b (some v) none) ≡ cond (eqb (cond b 1 2) 0) K.Nothing (cond (eqb (cond b 1 2) 1 && leb 0 0) (K.Variable q v) (K.Head q))
       by true = refl
       by false = refl
 
-  pub stands-more : (after : List ℕ) → after ≡ cond (eqb (modeIn (getD known (getD ids i 0) 0)) 0) (set known (getD ids i 0) e) known → Holds w ids after 0 0 (map (rangeSymbol w) (take (k + 1) (set cs k c)))
+  pub stands-more : (after : List ℕ) → after ≡ cond (eqb (modeIn (getD known (getD ids i 0) 0)) 0) (set known (getD ids i 0) e) known → Holds w ids after 0 0 (map (rangeSymbol w) (cs ++ (entered ∷ [])))
   unfolding rangeSymbol
   stands-more after ea =
-      rw (ea, add-one k, take-suc-set cs k c h, map-append (rangeSymbol w) (take k cs) (c ∷ []))
-      (holds-more w ids known (map (rangeSymbol w) (take k cs)) g f i e (rangeSymbol w c) room (ap w pc) says pe)
+      rw (ea, map-append (rangeSymbol w) cs (entered ∷ []))
+      (holds-more w ids known (map (rangeSymbol w) cs) g f i e (rangeSymbol w entered) room refl says pe)
+
+-- the RANGE list so far
+pub record Filling (ks ids marks codes : List ℕ) (es : List Entry) (from known out : List ℕ) (s : Tally) (i : ℕ) : Type 0 where
+  pub symbols : List Bound
+  pub ends : (text ss ls ns : List ℕ) (main : ℕ) → Named (nameIn text ks ss ls) ids codes → Used text (table ks ss ls ns) ids main marks → (F : List Symbol → ℕ → Written)
+      → ended from 0 (listing es [] F (boundFrom text (table ks ss ls ns) es main none 0 0)) ≡ ended out (s .at) (toDo text (table ks ss ls ns) es main F i s symbols)
+  pub stands : (w : ℕ → Word) → Same w ids → Holds w ids known 0 0 (map (rangeSymbol w) symbols)
+
+module _ (ks ids marks codes : List ℕ) (es : List Entry) (start : List ℕ) where
+  -- no name stands for anything yet
+  pub filling-none : (known : List ℕ) → ((x : ℕ) → getD known x 0 ≡ 0) → Filling ks ids marks codes es start known start (record { inside = false; relation = 0; n = 0; at = 0 }) 0
+  filling-none known z = record { symbols = []; ends = λ text ss ls ns main nm u F. refl; stands = λ w f. holds-none w ids known 0 z }
+
+  module _ (known out : List ℕ) (s : Tally) (i : ℕ) (h : i < length ks) (g : Filling ks ids marks codes es start known out s i) where
+    -- a name
+    module _ (r : Ranges) (after to : List ℕ) (a : Adds ids marks codes es i s (g .symbols) known out r after to) (e : getD ks i 0 ≡ 0) where
+      pub filling-on : (u : Tally) → r ≡ R.Listed u → Filling ks ids marks codes es start after to u (i + 1)
+      filling-on u eu = record {
+        symbols = a .symbols;
+        ends = λ text ss ls ns main nm us F. on text (table ks ss ls ns) es main i s (g .symbols) out (a .symbols) to r (a .binds text ks ss ls ns main h e nm us) u eu F _ (g .ends text ss ls ns main nm us F);
+        stands = λ w f. subst (λ (x : Ranges). Stands w ids x (a .symbols) after) eu (a .stands w f (g .stands w f));
+      }
+
+      pub fills-off : r ≡ R.Refused → (known′ : List ℕ) → Fills ks ids marks codes es start R.Refused known′ to
+      fills-off eu known′ = record {
+        symbols = [];
+        whole = λ text ss ls ns main nm us. record { ends = λ F. off text (table ks ss ls ns) es main i s (g .symbols) out (a .symbols) to r (a .binds text ks ss ls ns main h e nm us) eu F _ (g .ends text ss ls ns main nm us F) };
+        stands = λ w f. tt;
+      }
+
+    -- another token
+    pub filling-next : (getD ks i 0 ≡ 0 → ⊥) → (getD ks i 0 ≡ 14 → ⊥) → (u : Tally) → u ≡ cond (eqb (getD ks i 0) 21) (record { inside = false; relation = 0; n = s .n; at = s .at }) s → Filling ks ids marks codes es start known out u (i + 1)
+    filling-next a b u eu = record {
+      symbols = g .symbols;
+      ends = λ text ss ls ns main nm us F. on text (table ks ss ls ns) es main i s (g .symbols) out (g .symbols) out (R.Listed u) (next text (table ks ss ls ns) es main i h s (g .symbols) out a b u eu) u refl F _ (g .ends text ss ls ns main nm us F);
+      stands = g .stands;
+    }
+
+  -- at RETRIEVE, or after the last token
+  pub fills : (known out : List ℕ) (s : Tally) (i : ℕ) → Filling ks ids marks codes es start known out s i
+      → ((text ss ls ns : List ℕ) (main : ℕ) → boundFrom text (table ks ss ls ns) es main (openRelation s) (s .n) i ≡ ok [] (s .n)) → Fills ks ids marks codes es start (R.Listed s) known out
+  fills known out s i g l = record {
+    symbols = g .symbols;
+    whole = λ text ss ls ns main nm us. record { ends = λ F. g .ends text ss ls ns main nm us F ∙ finish es out (s .at) (symbolsIn text (table ks ss ls ns) es main (g .symbols)) F (s .n) (boundFrom text (table ks ss ls ns) es main (openRelation s) (s .n) i) (l text ss ls ns main) };
+    stands = g .stands;
+  }
+
+pub within-next : (k : ℕ) (s u : Tally) → u ≡ cond (eqb k 21) (record { inside = false; relation = 0; n = s .n; at = s .at }) s → (u .n ≡ s .n) × (u .at ≡ s .at)
+within-next k s u e = go (eqb k 21) e
+  where
+    go : (d : Bool) → u ≡ cond d (record { inside = false; relation = 0; n = s .n; at = s .at }) s → (u .n ≡ s .n) × (u .at ≡ s .at)
+    go true f = (ap (λ (x : Tally). x .n) f, ap (λ (x : Tally). x .at) f)
+    go false f = (ap (λ (x : Tally). x .n) f, ap (λ (x : Tally). x .at) f)
 
 pub count-fits : (n : ℕ) → n < 4000 → n + 1 < 18446744073709551616
 count-fits n h = omega arith

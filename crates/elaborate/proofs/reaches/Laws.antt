@@ -19,10 +19,10 @@ use Rattle.quel.specs.Writing.{Reaches, inner, around}
 use Rattle.kinds.specs.declared.Record.{Record}
 use Rattle.kinds.specs.declared.Record.the-variants as R
 use Rattle.kinds.proofs.Record.{enum}
-use Rattle.items.specs.Reach.{modeIn, relationIn, variableIn, placeIn}
-use Rattle.items.specs.Tables.{Same, Holds}
-use Rattle.items.specs.Puts.{frameMode, reachAfter}
-use Rattle.items.proofs.reach.Holds.{holds-none, holds-open, holds-some, holds-head}
+use Rattle.elaborate.specs.Reach.{modeIn, relationIn, variableIn, placeIn}
+use Rattle.elaborate.specs.Tables.{Same, Holds}
+use Rattle.elaborate.specs.Puts.{frameMode, reachAfter}
+use Rattle.elaborate.proofs.reach.Holds.{holds-none, holds-open, holds-some, holds-head}
 use Rattle.elaborate.specs.Frames.{idIn, crossIn, oldIn, Under, Stack, framedReach, Opened}
 use Rattle.elaborate.specs.After.{Fits}
 
@@ -184,3 +184,7 @@ module _ (known : List ℕ) (i : ℕ) (h : (x : ℕ) → x < i → getD known x 
       go : (b : Bool) → leb i x ≡ b → getD known x 0 ≡ 0
       go true e = List·getD-eq-default known 0 (omega (arith, leb-true i x e))
       go false e = h x (leb-false i x e)
+
+-- frames above the one that was opened are as they were
+pub above-kept : (p crossing x e : ℕ) (fs known gs after : List ℕ) → Opened p crossing x e fs known gs after → (j : ℕ) → p < j → getD gs j 0 ≡ getD fs j 0
+above-kept p crossing x e fs known gs after o j h = ap (λ (l : List ℕ). getD l j 0) (o .there) ∙ getD-set-other fs p j (o .frame) 0 (λ z. omega (arith, z))

@@ -3,7 +3,7 @@ use Prim.Native.Nat.{ℕ, zero, suc, _+_, _-_, _≤_, _<_}
 use mathlib.Core.Bool.{Bool, true, false, cond, _&&_, _||_}
 use mathlib.Core.List.{List, [], _∷_, _++_, map, append-assoc}
 use mathlib.Core.Option.{Option, none, some}
-use mathlib.Core.Path.{_≡_, refl, sym, ap, ap₂, _∙_}
+use mathlib.Core.Path.{_≡_, refl, sym, ap, ap₂, _∙_, subst}
 use native.Mathlib.Omega.{arith}
 use native.Mathlib.Numerals.{add-one}
 use lib.Dec.{eqb, leb}
@@ -22,21 +22,21 @@ use Rattle.quel.specs.Writing.{Written, before, often, Reaches, inner, around, 
 use Rattle.kinds.specs.declared.Record.{Record}
 use Rattle.kinds.specs.declared.Record.the-variants as R
 use Rattle.tokens.specs.Table.{Table, tokenOf, tokenAt}
-use Rattle.elaborate.specs.Counts.{orsIn, andsIn, signIn, plain, Counted}
+use Rattle.elaborate.specs.Counts.{orsIn, andsIn, signIn, plain, Place, Counted}
 use Rattle.elaborate.proofs.ahead.Laws.{counted, countKind, tokens-ahead}
-use Rattle.marks.specs.Places.{tokensFrom, nameIn, pointIn}
-use Rattle.marks.proofs.Walks.{from-cons, here, point-from}
-use Rattle.items.specs.declared.reach.Known.{Known}
-use Rattle.items.specs.declared.reach.Known.the-variants as K
-use Rattle.items.specs.Reach.{knownOf}
+use Rattle.elaborate.specs.Places.{tokensFrom, nameIn, pointIn}
+use Rattle.elaborate.proofs.marks.Walks.{from-cons, here, point-from}
+use Rattle.elaborate.specs.declared.reach.Known.{Known}
+use Rattle.elaborate.specs.declared.reach.Known.the-variants as K
+use Rattle.elaborate.specs.Reach.{knownOf}
 use Rattle.copier.specs.Copied.{recordBytes}
 use Rattle.copier.proofs.Sets.{sets-append, wrote-then}
-use Rattle.items.specs.declared.Item.{Item}
-use Rattle.items.specs.declared.Item.the-variants as I
-use Rattle.items.specs.Actions.{modeNumber, actionOf, nextOf, itemOf, useBy, headBy, someBy, valueBy, useItem, headItem}
-use Rattle.items.specs.Puts.{frameMode, putting, symbolBy, reachAfter, numberAfter, written}
-use Rattle.items.proofs.Turns.{opening, next-number}
-use Rattle.items.proofs.Turn as T
+use Rattle.elaborate.specs.declared.items.Item.{Item}
+use Rattle.elaborate.specs.declared.items.Item.the-variants as I
+use Rattle.elaborate.specs.Actions.{modeNumber, actionOf, nextOf, itemOf, useBy, headBy, someBy, valueBy, useItem, headItem}
+use Rattle.elaborate.specs.Puts.{frameMode, putting, symbolBy, reachAfter, numberAfter, written}
+use Rattle.elaborate.proofs.items.Turns.{opening, next-number}
+use Rattle.elaborate.proofs.items.Turn as T
 use Rattle.elaborate.specs.Opens.{openBytes}
 use Rattle.elaborate.proofs.opens.Often.{often-length}
 use Rattle.elaborate.specs.After.{ended, modeOf, Fits}
@@ -154,7 +154,7 @@ record-most R.Unknown = omega arith
 record-most R.Short = omega arith
 
 -- what stands before a token's record
-module _ (text : List ℕ) (t : Table) (cs : List ℕ) (cd : Counted (t .kinds) cs) (i : ℕ) (h : i < length (t .kinds)) where
+module _ (text : List ℕ) (t : Table) (cs : List ℕ) (i : ℕ) (cd : Counted (t .kinds) cs i) (h : i < length (t .kinds)) where
   from-ahead : (j : ℕ) → j ≤ length (t .kinds) → ahead (tokensFrom text t j) ≡ ahead (plain (drop j (t .kinds)))
   unfolding tokensFrom
   from-ahead j k = tokens-ahead text t (length (t .kinds) - j) j (omega arith)
@@ -168,15 +168,15 @@ module _ (text : List ℕ) (t : Table) (cs : List ℕ) (cd : Counted (t .kinds) 
 
   ors-here : orsAt (T.tokenHere text t i h ∷ T.rest text t i h) ≡ orsIn (getD cs i 0)
   unfolding orsAt
-  ors-here = ap (λ (l : List Count). top l .ors) here-ahead ∙ sym (cd .at i (omega arith) .ors)
+  ors-here = ap (λ (l : List Count). top l .ors) here-ahead ∙ sym (cd .at i (omega arith) (omega arith) .ors)
 
   ands-here : andsAt (T.tokenHere text t i h ∷ T.rest text t i h) ≡ andsIn (getD cs i 0)
   unfolding andsAt
-  ands-here = ap (λ (l : List Count). top l .ands) here-ahead ∙ sym (cd .at i (omega arith) .ands)
+  ands-here = ap (λ (l : List Count). top l .ands) here-ahead ∙ sym (cd .at i (omega arith) (omega arith) .ands)
 
   sign-here : operatorOf (operatorAt (T.rest text t i h)) ≡ 1 + signIn (getD cs (i + 1) 0)
   unfolding operatorAt
-  sign-here = ap (λ (l : List Count). operatorOf (top l .operator)) (from-ahead (i + 1) (omega arith)) ∙ sym (cd .at (i + 1) (omega arith) .operator) ∙ omega arith
+  sign-here = ap (λ (l : List Count). operatorOf (top l .operator)) (from-ahead (i + 1) (omega arith)) ∙ sym (cd .at (i + 1) (omega arith) (omega arith) .operator) ∙ omega arith
 
   abbrev pub bytesHere : ℕ → List ℕ
   bytesHere m = openBytes m (T.kindHere text t i h) (orsIn (getD cs i 0)) (andsIn (getD cs i 0)) (1 + signIn (getD cs (i + 1) 0))
@@ -241,6 +241,10 @@ module _ (text : List ℕ) (t : Table) (cs : List ℕ) (cd : Counted (t .kinds) 
           ap (ended d at) (turn-put it (sym item-is ∙ e))
           ∙ ended-before d at (bytesHere m ++ recordBytes it) (onward it)
           ∙ rw (ep, et, el, eτ, eo, act-is, ek, eb)
+
+-- frames up to the pth in place of what was counted for tokens behind
+pub counted-on : (ks cs gs : List ℕ) (i p : ℕ) → Counted ks cs i → p ≤ i → ((j : ℕ) → p < j → getD gs j 0 ≡ getD cs j 0) → Counted ks gs (i + 1)
+counted-on ks cs gs i p cd h same = record { at = λ j l m. subst (λ (c : ℕ). Place c (plain (drop j ks))) (sym (same j (omega arith))) (cd .at j (omega arith) m) }
 
 -- a token that writes nothing
 pub quiet-parts : (m a : ℕ) → (leb 3 m && eqb a 0) ≡ true → (3 ≤ m) × (a ≡ 0)

@@ -16,11 +16,10 @@ use Rattle.catalogue.specs.Layout.{tupleAt}
 use Rattle.walks.specs.Walks.{placeAt, kept}
 use Rattle.walks.proofs.Loops.{Failed, walked-hit, walked-none}
 use Rattle.evaluator.specs.Evaluation.{holdsAt, valueAt, holdsOn, valuesOn}
-use Rattle.evaluator.proofs.Steps.{holds-zero, value-zero, true-is, not-is, and-no, and-yes, or-yes, or-no, compare-is, some-is, aggregate-is, known-is, constant-is, attribute-is, no-condition, no-term, places-start, places-back, places-length, on-row, taken-all, taken-start, taken-few, taken-hit, taken-miss}
+use Rattle.evaluator.proofs.Steps.{holds-zero, value-zero, true-is, false-is, not-is, and-no, and-yes, or-yes, or-no, compare-is, some-is, aggregate-is, known-is, constant-is, attribute-is, no-condition, no-term, places-start, places-back, places-length, on-row, taken-all, taken-start, taken-few, taken-hit, taken-miss}
+use Rattle.numbers.proofs.Laws.{nothing-taken}
 use Rattle.numbers.proofs.Laws.{ends}
-use Rattle.catalogue.proofs.attributes.Reads as attributes-reads
 use Rattle.catalogue.proofs.base.Reads as base-reads
-use Rattle.catalogue.proofs.rows.Reads as rows-reads
 use Prim.Native.Nat.{ℕ, _<_}
 use borrow.Fn.Kinds.{In}
 use borrow.Fn.PlainCycle.{Measures, is, falls, and}
@@ -41,14 +40,14 @@ use Rattle.evaluator.proofs.place.Reads as place-reads
 use Rattle.evaluator.proofs.set_place.Reads as set-place-reads
 use Rattle.kinds.proofs.byte.Reads as byte-reads
 use Rattle.kinds.proofs.constant.Reads as constant-reads
-use Rattle.kinds.proofs.read.Reads as read-reads
+use Rattle.kinds.proofs.condition_record.Reads as condition-record-reads
+use Rattle.kinds.proofs.term_record.Reads as term-record-reads
 use Rattle.kinds.proofs.record_length.Reads as record-length-reads
 use Rattle.kinds.proofs.size_at.Reads as size-at-reads
 use Rattle.kinds.proofs.tail.Reads as tail-reads
 use Rattle.kinds.proofs.tail_sizes.Reads as tail-sizes-reads
 use Rattle.numbers.proofs.add.Reads as add-reads
 use Rattle.numbers.proofs.compared.Reads as compared-reads
-use Rattle.numbers.proofs.empty.Reads as empty-reads
 use Rattle.numbers.proofs.finish.Reads as finish-reads
 use Rattle.numbers.proofs.knows.Reads as knows-reads
 use Rattle.numbers.proofs.recall.Reads as recall-reads
@@ -97,16 +96,16 @@ abbrev term-below : ℕ → In 6 term-kinds.ps
 term-below t = and 6 term-kinds.ps (falls 6 term-kinds.ps _<_ μ-term t) term.Pre
 
 abbrev condition-claims : ℕ → condition-lts.Claims
-condition-claims t = (byte-reads.Asked, byte-reads.Learnt, record-length-reads.Asked, record-length-reads.Learnt, tail-reads.Asked, tail-reads.Learnt, tail-sizes-reads.Asked, tail-sizes-reads.Learnt, read-reads.Asked, read-reads.Learnt, condition-below t, condition.Post, size-at-reads.Asked, size-at-reads.Learnt, term-below t, term.Post, compared-reads.Asked, compared-reads.Learnt, some-row-below t, some-row.Post)
+condition-claims t = (byte-reads.Asked, byte-reads.Learnt, record-length-reads.Asked, record-length-reads.Learnt, tail-reads.Asked, tail-reads.Learnt, tail-sizes-reads.Asked, tail-sizes-reads.Learnt, condition-record-reads.Asked, condition-record-reads.Learnt, condition-below t, condition.Post, size-at-reads.Asked, size-at-reads.Learnt, term-below t, term.Post, compared-reads.Asked, compared-reads.Learnt, some-row-below t, some-row.Post)
 
 abbrev gather-claims : ℕ → gather-lts.Claims
-gather-claims t = (walk-of-reads.Asked, walk-of-reads.Learnt, place-reads.Asked, place-reads.Learnt, empty-reads.Asked, empty-reads.Learnt, place-reads′.Asked, place-reads′.Learnt, set-place-reads.Asked, set-place-reads.Learnt, condition-below t, condition.Post, value-reads.Asked, value-reads.Learnt, add-reads.Asked, add-reads.Learnt)
+gather-claims t = (walk-of-reads.Asked, walk-of-reads.Learnt, place-reads.Asked, place-reads.Learnt, place-reads′.Asked, place-reads′.Learnt, set-place-reads.Asked, set-place-reads.Learnt, condition-below t, condition.Post, value-reads.Asked, value-reads.Learnt, add-reads.Asked, add-reads.Learnt)
 
 abbrev some-row-claims : ℕ → some-row-lts.Claims
 some-row-claims t = (walk-of-reads.Asked, walk-of-reads.Learnt, place-reads.Asked, place-reads.Learnt, place-reads′.Asked, place-reads′.Learnt, set-place-reads.Asked, set-place-reads.Learnt, condition-below t, condition.Post)
 
 abbrev term-claims : ℕ → term-lts.Claims
-term-claims t = (whole-reads.Asked, whole-reads.Learnt, byte-reads.Asked, byte-reads.Learnt, record-length-reads.Asked, record-length-reads.Learnt, read-reads.Asked, read-reads.Learnt, constant-reads.Asked, constant-reads.Learnt, place-reads.Asked, place-reads.Learnt, value-reads.Asked, value-reads.Learnt, knows-reads.Asked, knows-reads.Learnt, recall-reads.Asked, recall-reads.Learnt, tail-reads.Asked, tail-reads.Learnt, tail-sizes-reads.Asked, tail-sizes-reads.Learnt, gather-below t, gather.Post, finish-reads.Asked, finish-reads.Learnt)
+term-claims t = (whole-reads.Asked, whole-reads.Learnt, byte-reads.Asked, byte-reads.Learnt, record-length-reads.Asked, record-length-reads.Learnt, term-record-reads.Asked, term-record-reads.Learnt, constant-reads.Asked, constant-reads.Learnt, place-reads.Asked, place-reads.Learnt, value-reads.Asked, value-reads.Learnt, knows-reads.Asked, knows-reads.Learnt, recall-reads.Asked, recall-reads.Learnt, tail-reads.Asked, tail-reads.Learnt, tail-sizes-reads.Asked, tail-sizes-reads.Learnt, gather-below t, gather.Post, finish-reads.Asked, finish-reads.Learnt)
 
 condition-returns : (t : ℕ) → condition-lts.Need-returns (condition-claims t) (condition-at t) condition.Post
 condition-returns t c =
@@ -128,8 +127,8 @@ condition-tail-requires t c κs = search needs
 condition-tail-sizes-requires : (t : ℕ) → condition-lts.Need-tail-sizes-requires (condition-claims t) (condition-at t) condition.Post
 condition-tail-sizes-requires t c κs = search needs
 
-condition-read-requires : (t : ℕ) → condition-lts.Need-read-requires (condition-claims t) (condition-at t) condition.Post
-condition-read-requires t c κs = search needs
+condition-condition-record-requires : (t : ℕ) → condition-lts.Need-condition-record-requires (condition-claims t) (condition-at t) condition.Post
+condition-condition-record-requires t c κs = search needs
 
 condition-enum-told : (t : ℕ) → condition-lts.Need-enum-told (condition-claims t) (condition-at t) condition.Post
 condition-enum-told t c = search needs
@@ -153,14 +152,14 @@ condition-returns-2 : (t : ℕ) → condition-lts.Need-returns-2 (condition-clai
 condition-returns-2 t c =
     let c₃ = c .before .before .before in let condition2 = c₃ .condition2 in
     let c₅ = c₃ .before .before in let enum-told3 = c₅ .enum-told3 in
-    let c₇ = c₅ .before .before in let read = c₇ .read in
+    let c₇ = c₅ .before .before in let condition-record = c₇ .condition-record in
     let c₈ = c₇ .before in let tail-sizes = c₈ .tail-sizes in
     let c₉ = c₈ .before in let tail = c₉ .tail in
     let c₁₀ = c₉ .before in let record-length = c₁₀ .record-length in
     let c₁₁ = c₁₀ .before in let byte = c₁₁ .byte in
     let c₁₂ = c₁₁ .before in let if1 = c₁₂ .if1 in
     let c₁₇ = c₁₂ .before .before .before .before .before in let args = c₁₇ .args in
-    (and-no (now (args .walks)) (now (args .vs)) (now (args .memo)) (now (args .env)) (now (args .q)) (now (args .z)) (args .level) _ _ _ (if1 .left) (byte .ensures) (record-length .ensures .0) (read .ensures) _ _ (tail .ensures) (tail-sizes .ensures) _ (enum-told3 .given .1) (condition2 .ensures .0) (c .if2 .taken), condition2 .ensures .1)
+    (and-no (now (args .walks)) (now (args .vs)) (now (args .memo)) (now (args .env)) (now (args .q)) (now (args .z)) (args .level) _ _ _ (if1 .left) (byte .ensures) (record-length .ensures .0) (condition-record .ensures) _ _ (tail .ensures) (tail-sizes .ensures) _ (enum-told3 .given .1) (condition2 .ensures .0) (c .if2 .taken), condition2 .ensures .1)
 
 condition-size-at-requires : (t : ℕ) → condition-lts.Need-size-at-requires (condition-claims t) (condition-at t) condition.Post
 condition-size-at-requires t c κs = search needs
@@ -190,14 +189,14 @@ condition-returns-3 : (t : ℕ) → condition-lts.Need-returns-3 (condition-clai
 condition-returns-3 t c =
     let c₃ = c .before .before .before in let condition4 = c₃ .condition4 in
     let c₅ = c₃ .before .before in let enum-told4 = c₅ .enum-told4 in
-    let c₇ = c₅ .before .before in let read = c₇ .read in
+    let c₇ = c₅ .before .before in let condition-record = c₇ .condition-record in
     let c₈ = c₇ .before in let tail-sizes = c₈ .tail-sizes in
     let c₉ = c₈ .before in let tail = c₉ .tail in
     let c₁₀ = c₉ .before in let record-length = c₁₀ .record-length in
     let c₁₁ = c₁₀ .before in let byte = c₁₁ .byte in
     let c₁₂ = c₁₁ .before in let if1 = c₁₂ .if1 in
     let c₁₇ = c₁₂ .before .before .before .before .before in let args = c₁₇ .args in
-    (or-yes (now (args .walks)) (now (args .vs)) (now (args .memo)) (now (args .env)) (now (args .q)) (now (args .z)) (args .level) _ _ _ (if1 .left) (byte .ensures) (record-length .ensures .0) (read .ensures) _ _ (tail .ensures) (tail-sizes .ensures) _ (enum-told4 .given .1) (condition4 .ensures .0) (c .if3 .taken), condition4 .ensures .1)
+    (or-yes (now (args .walks)) (now (args .vs)) (now (args .memo)) (now (args .env)) (now (args .q)) (now (args .z)) (args .level) _ _ _ (if1 .left) (byte .ensures) (record-length .ensures .0) (condition-record .ensures) _ _ (tail .ensures) (tail-sizes .ensures) _ (enum-told4 .given .1) (condition4 .ensures .0) (c .if3 .taken), condition4 .ensures .1)
 
 condition-size-at-requires-2 : (t : ℕ) → condition-lts.Need-size-at-requires-2 (condition-claims t) (condition-at t) condition.Post
 condition-size-at-requires-2 t c κs = search needs
@@ -257,7 +256,7 @@ condition-returns-4 t c =
     let c₆ = c₅ .before in let byte = c₆ .byte in
     let c₇ = c₆ .before in let if1 = c₇ .if1 in
     let c₁₂ = c₇ .before .before .before .before .before in let args = c₁₂ .args in
-    (true-is (now (args .walks)) (now (args .vs)) (now (args .memo)) (now (args .env)) (now (args .q)) (now (args .z)) (args .level) _ _ _ (if1 .left) (byte .ensures) (record-length .ensures .0) (c .before .before .read .ensures) (c .enum-told .given .1), search needs)
+    (true-is (now (args .walks)) (now (args .vs)) (now (args .memo)) (now (args .env)) (now (args .q)) (now (args .z)) (args .level) _ _ _ (if1 .left) (byte .ensures) (record-length .ensures .0) (c .before .before .condition-record .ensures) (c .enum-told .given .1), search needs)
 
 condition-same-length-3 : (t : ℕ) → condition-lts.Need-same-length-3 (condition-claims t) (condition-at t) condition.Post
 condition-same-length-3 t c = search needs
@@ -266,14 +265,14 @@ condition-returns-5 : (t : ℕ) → condition-lts.Need-returns-5 (condition-clai
 condition-returns-5 t c =
     let c₂ = c .before .before in let condition = c₂ .condition in
     let c₄ = c₂ .before .before in let enum-told2 = c₄ .enum-told2 in
-    let c₆ = c₄ .before .before in let read = c₆ .read in
+    let c₆ = c₄ .before .before in let condition-record = c₆ .condition-record in
     let c₇ = c₆ .before in let tail-sizes = c₇ .tail-sizes in
     let c₈ = c₇ .before in let tail = c₈ .tail in
     let c₉ = c₈ .before in let record-length = c₉ .record-length in
     let c₁₀ = c₉ .before in let byte = c₁₀ .byte in
     let c₁₁ = c₁₀ .before in let if1 = c₁₁ .if1 in
     let c₁₆ = c₁₁ .before .before .before .before .before in let args = c₁₆ .args in
-    (not-is (now (args .walks)) (now (args .vs)) (now (args .memo)) (now (args .env)) (now (args .q)) (now (args .z)) (args .level) _ _ _ (if1 .left) (byte .ensures) (record-length .ensures .0) (read .ensures) _ _ (tail .ensures) (tail-sizes .ensures) _ (enum-told2 .given .1) (condition .ensures .0), condition .ensures .1)
+    (not-is (now (args .walks)) (now (args .vs)) (now (args .memo)) (now (args .env)) (now (args .q)) (now (args .z)) (args .level) _ _ _ (if1 .left) (byte .ensures) (record-length .ensures .0) (condition-record .ensures) _ _ (tail .ensures) (tail-sizes .ensures) _ (enum-told2 .given .1) (condition .ensures .0), condition .ensures .1)
 
 condition-same-length-4 : (t : ℕ) → condition-lts.Need-same-length-4 (condition-claims t) (condition-at t) condition.Post
 condition-same-length-4 t c = search needs
@@ -287,14 +286,14 @@ condition-returns-6 t c =
     let c₇ = c₆ .before in let if2 = c₇ .if2 in
     let c₁₀ = c₇ .before .before .before in let condition2 = c₁₀ .condition2 in
     let c₁₂ = c₁₀ .before .before in let enum-told3 = c₁₂ .enum-told3 in
-    let c₁₄ = c₁₂ .before .before in let read = c₁₄ .read in
+    let c₁₄ = c₁₂ .before .before in let condition-record = c₁₄ .condition-record in
     let c₁₅ = c₁₄ .before in let tail-sizes = c₁₅ .tail-sizes in
     let c₁₆ = c₁₅ .before in let tail = c₁₆ .tail in
     let c₁₇ = c₁₆ .before in let record-length = c₁₇ .record-length in
     let c₁₈ = c₁₇ .before in let byte = c₁₈ .byte in
     let c₁₉ = c₁₈ .before in let if1 = c₁₉ .if1 in
     let c₂₄ = c₁₉ .before .before .before .before .before in let args = c₂₄ .args in
-    (and-yes (now (args .walks)) (now (args .vs)) (now (args .memo)) (now (args .env)) (now (args .q)) (now (args .z)) (args .level) _ _ _ (if1 .left) (byte .ensures) (record-length .ensures .0) (read .ensures) _ _ (tail .ensures) (tail-sizes .ensures) _ _ _ _ (size-at .ensures .0) refl (tail2 .ensures) (tail-sizes2 .ensures) _ _ _ (enum-told3 .given .1) (condition2 .ensures .0) (if2 .left) (condition2 .ensures .1) (condition3 .ensures .0), condition3 .ensures .1 ∙ condition2 .ensures .1)
+    (and-yes (now (args .walks)) (now (args .vs)) (now (args .memo)) (now (args .env)) (now (args .q)) (now (args .z)) (args .level) _ _ _ (if1 .left) (byte .ensures) (record-length .ensures .0) (condition-record .ensures) _ _ (tail .ensures) (tail-sizes .ensures) _ _ _ _ (size-at .ensures .0) refl (tail2 .ensures) (tail-sizes2 .ensures) _ _ _ (enum-told3 .given .1) (condition2 .ensures .0) (if2 .left) (condition2 .ensures .1) (condition3 .ensures .0), condition3 .ensures .1 ∙ condition2 .ensures .1)
 
 condition-same-length-5 : (t : ℕ) → condition-lts.Need-same-length-5 (condition-claims t) (condition-at t) condition.Post
 condition-same-length-5 t c = search needs
@@ -308,14 +307,14 @@ condition-returns-7 t c =
     let c₇ = c₆ .before in let if3 = c₇ .if3 in
     let c₁₀ = c₇ .before .before .before in let condition4 = c₁₀ .condition4 in
     let c₁₂ = c₁₀ .before .before in let enum-told4 = c₁₂ .enum-told4 in
-    let c₁₄ = c₁₂ .before .before in let read = c₁₄ .read in
+    let c₁₄ = c₁₂ .before .before in let condition-record = c₁₄ .condition-record in
     let c₁₅ = c₁₄ .before in let tail-sizes = c₁₅ .tail-sizes in
     let c₁₆ = c₁₅ .before in let tail = c₁₆ .tail in
     let c₁₇ = c₁₆ .before in let record-length = c₁₇ .record-length in
     let c₁₈ = c₁₇ .before in let byte = c₁₈ .byte in
     let c₁₉ = c₁₈ .before in let if1 = c₁₉ .if1 in
     let c₂₄ = c₁₉ .before .before .before .before .before in let args = c₂₄ .args in
-    (or-no (now (args .walks)) (now (args .vs)) (now (args .memo)) (now (args .env)) (now (args .q)) (now (args .z)) (args .level) _ _ _ (if1 .left) (byte .ensures) (record-length .ensures .0) (read .ensures) _ _ (tail .ensures) (tail-sizes .ensures) _ _ _ _ (size-at2 .ensures .0) refl (tail3 .ensures) (tail-sizes3 .ensures) _ _ _ (enum-told4 .given .1) (condition4 .ensures .0) (if3 .left) (condition4 .ensures .1) (condition5 .ensures .0), condition5 .ensures .1 ∙ condition4 .ensures .1)
+    (or-no (now (args .walks)) (now (args .vs)) (now (args .memo)) (now (args .env)) (now (args .q)) (now (args .z)) (args .level) _ _ _ (if1 .left) (byte .ensures) (record-length .ensures .0) (condition-record .ensures) _ _ (tail .ensures) (tail-sizes .ensures) _ _ _ _ (size-at2 .ensures .0) refl (tail3 .ensures) (tail-sizes3 .ensures) _ _ _ (enum-told4 .given .1) (condition4 .ensures .0) (if3 .left) (condition4 .ensures .1) (condition5 .ensures .0), condition5 .ensures .1 ∙ condition4 .ensures .1)
 
 condition-same-length-6 : (t : ℕ) → condition-lts.Need-same-length-6 (condition-claims t) (condition-at t) condition.Post
 condition-same-length-6 t c = search needs
@@ -328,14 +327,14 @@ condition-returns-8 t c =
     let c₇ = c₆ .before in let size-at3 = c₇ .size-at3 in
     let c₁₀ = c₇ .before .before .before in let term = c₁₀ .term in
     let c₁₃ = c₁₀ .before .before .before in let operator = c₁₃ .operator in
-    let c₁₅ = c₁₃ .before .before in let read = c₁₅ .read in
+    let c₁₅ = c₁₃ .before .before in let condition-record = c₁₅ .condition-record in
     let c₁₆ = c₁₅ .before in let tail-sizes = c₁₆ .tail-sizes in
     let c₁₇ = c₁₆ .before in let tail = c₁₇ .tail in
     let c₁₈ = c₁₇ .before in let record-length = c₁₈ .record-length in
     let c₁₉ = c₁₈ .before in let byte = c₁₉ .byte in
     let c₂₀ = c₁₉ .before in let if1 = c₂₀ .if1 in
     let c₂₅ = c₂₀ .before .before .before .before .before in let args = c₂₅ .args in
-    (compare-is (now (args .walks)) (now (args .vs)) (now (args .memo)) (now (args .env)) (now (args .q)) (now (args .z)) (args .level) _ _ _ (if1 .left) (byte .ensures) (record-length .ensures .0) (read .ensures) _ _ (tail .ensures) (tail-sizes .ensures) _ _ _ _ (size-at3 .ensures .0) refl (tail4 .ensures) (tail-sizes4 .ensures) _ _ _ _ _ (operator .given .1) (term .ensures .0) (term .ensures .1 .1) (term2 .ensures .0) (c .compared .ensures), term2 .ensures .1 .1 ∙ term .ensures .1 .1)
+    (compare-is (now (args .walks)) (now (args .vs)) (now (args .memo)) (now (args .env)) (now (args .q)) (now (args .z)) (args .level) _ _ _ (if1 .left) (byte .ensures) (record-length .ensures .0) (condition-record .ensures) _ _ (tail .ensures) (tail-sizes .ensures) _ _ _ _ (size-at3 .ensures .0) refl (tail4 .ensures) (tail-sizes4 .ensures) _ _ _ _ _ (operator .given .1) (term .ensures .0) (term .ensures .1 .1) (term2 .ensures .0) (c .compared .ensures), term2 .ensures .1 .1 ∙ term .ensures .1 .1)
 
 condition-same-length-7 : (t : ℕ) → condition-lts.Need-same-length-7 (condition-claims t) (condition-at t) condition.Post
 condition-same-length-7 t c = search needs
@@ -344,20 +343,36 @@ condition-returns-9 : (t : ℕ) → condition-lts.Need-returns-9 (condition-clai
 condition-returns-9 t c =
     let c₂ = c .before .before in let some-row = c₂ .some-row in
     let c₅ = c₂ .before .before .before in let variable = c₅ .variable in
-    let c₇ = c₅ .before .before in let read = c₇ .read in
+    let c₇ = c₅ .before .before in let condition-record = c₇ .condition-record in
     let c₈ = c₇ .before in let tail-sizes = c₈ .tail-sizes in
     let c₉ = c₈ .before in let tail = c₉ .tail in
     let c₁₀ = c₉ .before in let record-length = c₁₀ .record-length in
     let c₁₁ = c₁₀ .before in let byte = c₁₁ .byte in
     let c₁₂ = c₁₁ .before in let if1 = c₁₂ .if1 in
     let c₁₇ = c₁₂ .before .before .before .before .before in let args = c₁₇ .args in
-    (some-is (now (args .walks)) (now (args .vs)) (now (args .memo)) (now (args .env)) (now (args .q)) (now (args .z)) (args .level) _ _ _ (if1 .left) (byte .ensures) (record-length .ensures .0) (read .ensures) _ _ (tail .ensures) (tail-sizes .ensures) _ _ _ _ (variable .given .1) (some-row .ensures .0), some-row .ensures .1)
+    (some-is (now (args .walks)) (now (args .vs)) (now (args .memo)) (now (args .env)) (now (args .q)) (now (args .z)) (args .level) _ _ _ (if1 .left) (byte .ensures) (record-length .ensures .0) (condition-record .ensures) _ _ (tail .ensures) (tail-sizes .ensures) _ _ _ _ (variable .given .1) (some-row .ensures .0), some-row .ensures .1)
+
+condition-enum-told-5 : (t : ℕ) → condition-lts.Need-enum-told-5 (condition-claims t) (condition-at t) condition.Post
+condition-enum-told-5 t c = search needs
+
+condition-enum-told-6 : (t : ℕ) → condition-lts.Need-enum-told-6 (condition-claims t) (condition-at t) condition.Post
+condition-enum-told-6 t c = search needs
 
 condition-returns-10 : (t : ℕ) → condition-lts.Need-returns-10 (condition-claims t) (condition-at t) condition.Post
 condition-returns-10 t c =
-    let c₆ = c .before .before .before .before .before .before in let if1 = c₆ .if1 in
-    let c₁₁ = c₆ .before .before .before .before .before in let args = c₁₁ .args in
-    (no-condition (now (args .walks)) (now (args .vs)) (now (args .memo)) (now (args .env)) (now (args .q)) (now (args .z)) (args .level) _ (if1 .left) (c .before .read .ensures) (c .match .keys7), search needs)
+    let c₅ = c .before .before .before .before .before in let record-length = c₅ .record-length in
+    let c₆ = c₅ .before in let byte = c₆ .byte in
+    let c₇ = c₆ .before in let if1 = c₇ .if1 in
+    let c₁₂ = c₇ .before .before .before .before .before in let args = c₁₂ .args in
+    (false-is (now (args .walks)) (now (args .vs)) (now (args .memo)) (now (args .env)) (now (args .q)) (now (args .z)) (args .level) _ _ _ (if1 .left) (byte .ensures) (record-length .ensures .0) (c .before .before .condition-record .ensures) (c .enum-told5 .given .1), search needs)
+
+condition-returns-11 : (t : ℕ) → condition-lts.Need-returns-11 (condition-claims t) (condition-at t) condition.Post
+condition-returns-11 t c =
+    let c₅ = c .before .before .before .before .before in let record-length = c₅ .record-length in
+    let c₆ = c₅ .before in let byte = c₆ .byte in
+    let c₇ = c₆ .before in let if1 = c₇ .if1 in
+    let c₁₂ = c₇ .before .before .before .before .before in let args = c₁₂ .args in
+    (no-condition (now (args .walks)) (now (args .vs)) (now (args .memo)) (now (args .env)) (now (args .q)) (now (args .z)) (args .level) _ _ _ (if1 .left) (byte .ensures) (record-length .ensures .0) (c .before .before .condition-record .ensures) (c .enum-told6 .given .1), search needs)
 
 abbrev gather-Inv-loop : gather-lts.InvT-loop
 gather-Inv-loop q z level ws vs memo env₀ variable attribute walk n old taken₀ i₀ env taken i =
@@ -374,19 +389,16 @@ gather-walk-of-requires t c κs = search needs
 gather-place-requires : (t : ℕ) → gather-lts.Need-place-requires (gather-claims t) (gather-at t) gather.Post gather-Inv-loop gather-μ-loop
 gather-place-requires t c κs = search needs
 
-gather-empty-requires : (t : ℕ) → gather-lts.Need-empty-requires (gather-claims t) (gather-at t) gather.Post gather-Inv-loop gather-μ-loop
-gather-empty-requires t c κs = search needs
-
 gather-loop-holds : (t : ℕ) → gather-lts.Need-loop-holds (gather-claims t) (gather-at t) gather.Post gather-Inv-loop gather-μ-loop
 gather-loop-holds t c =
-    let c₁ = c .before in let place = c₁ .place in
-    let c₃ = c₁ .before .before in let walk-of = c₃ .walk-of in
-    let c₈ = c₃ .before .before .before .before .before in let args = c₈ .args in
+    let place = c .place in
+    let c₂ = c .before .before in let walk-of = c₂ .walk-of in
+    let c₇ = c₂ .before .before .before .before .before in let args = c₇ .args in
     let env = now (args .env) in let vs = now (args .vs) in let walks = now (args .walks) in let variable = args .variable in
-    (places-start env variable (place .result) (place .ensures), taken-start (placeAt walks (walk-of .result)) vs (holdsOn (args .level) (now (args .q)) (now (args .z)) walks vs (now (args .memo)) env variable) (args .attribute) (c .empty .result) (c .empty .ensures), omega arith, refl)
+    (places-start env variable (place .result) (place .ensures), taken-start (placeAt walks (walk-of .result)) vs (holdsOn (args .level) (now (args .q)) (now (args .z)) walks vs (now (args .memo)) env variable) (args .attribute) _ nothing-taken, omega arith, refl)
 
 gather-place-requires-2 : (t : ℕ) → gather-lts.Need-place-requires-2 (gather-claims t) (gather-at t) gather.Post gather-Inv-loop gather-μ-loop
-gather-place-requires-2 t c κs = (c .before .before .before .before .before .walk-of .ensures .1, omega (arith, c .before .before .before .before .before .walk-of .ensures .1 .count, c .loop-test .taken))
+gather-place-requires-2 t c κs = (c .before .before .before .before .walk-of .ensures .1, omega (arith, c .before .before .before .before .walk-of .ensures .1 .count, c .loop-test .taken))
 
 gather-set-place-requires : (t : ℕ) → gather-lts.Need-set-place-requires (gather-claims t) (gather-at t) gather.Post gather-Inv-loop gather-μ-loop
 gather-set-place-requires t c κs = search needs
@@ -401,8 +413,8 @@ gather-add-requires : (t : ℕ) → gather-lts.Need-add-requires (gather-claims 
 gather-add-requires t c κs =
     let c₁₁ = c .before .before .before .before .before .before .before .before .before .before .before in let loop-test = c₁₁ .loop-test in
     let c₁₂ = c₁₁ .before in let loop = c₁₂ .loop in
-    let c₁₆ = c₁₂ .before .before .before .before in let walk-of = c₁₆ .walk-of in
-    let c₂₁ = c₁₆ .before .before .before .before .before in let args = c₂₁ .args in
+    let c₁₅ = c₁₂ .before .before .before in let walk-of = c₁₅ .walk-of in
+    let c₂₀ = c₁₅ .before .before .before .before .before in let args = c₂₀ .args in
     let vs = now (args .vs) in let walks = now (args .walks) in
     (loop .inv .1 .bounded, omega (arith, taken-few (placeAt walks (walk-of .result)) vs (holdsOn (args .level) (now (args .q)) (now (args .z)) walks vs (now (args .memo)) (now (args .env)) (args .variable)) (args .attribute) (loop .i) (loop .taken) (loop .inv .1) (loop .i) (omega arith), loop-test .taken, walk-of .ensures .1 .count))
 
@@ -419,9 +431,9 @@ gather-loop-again t c =
     let c₉ = c₇ .before .before in let place2 = c₉ .place2 in
     let c₁₀ = c₉ .before in let loop-test = c₁₀ .loop-test in
     let c₁₁ = c₁₀ .before in let loop = c₁₁ .loop in
-    let c₁₃ = c₁₁ .before .before in let place = c₁₃ .place in
-    let c₁₅ = c₁₃ .before .before in let walk-of = c₁₅ .walk-of in
-    let c₂₀ = c₁₅ .before .before .before .before .before in let args = c₂₀ .args in let good = c₂₀ .good in let pre = c₂₀ .pre in
+    let c₁₂ = c₁₁ .before in let place = c₁₂ .place in
+    let c₁₄ = c₁₂ .before .before in let walk-of = c₁₄ .walk-of in
+    let c₁₉ = c₁₄ .before .before .before .before .before in let args = c₁₉ .args in let good = c₁₉ .good in let pre = c₁₉ .pre in
     let env = now (args .env) in let memo = now (args .memo) in let q = now (args .q) in let vs = now (args .vs) in let walks = now (args .walks) in let z = now (args .z) in let attribute = args .attribute in let level = args .level in let variable = args .variable in
     (places-back (loop .env) env _ variable (place .result) (place2 .result) (loop .inv .0) (set-place .ensures) _ (condition .ensures .1), ⊎-elim (λ h. subst (λ (u : Accumulator). Accumulates u (kept vs (holdsOn level q z walks vs memo env variable) attribute (placeAt walks (walk-of .result)) (loop .i + 1))) (sym (h .3)) (taken-hit (placeAt walks (walk-of .result)) vs (holdsOn level q z walks vs memo env variable) attribute (loop .i) (loop .taken) (loop .inv .1) _ _ ((ap (λ (p : ℕ). (holdsOn level q z walks vs memo env variable) (tupleAt vs p)) (sym (place2 .ensures)) ∙ on-row (loop .env) env _ variable (place .result) (place2 .result) (loop .inv .0) (set-place .ensures) level q z walks vs memo _ (omega (arith, pre, good)) (condition .ensures .0)) ∙ h .0 .taken) (toZ-ofZ {w = w32} (record { sfits = h .1 .ok }) ∙ h .1 .ensures ∙ ap (λ (k : ℕ). getD vs (k + attribute) (pos 0)) (place2 .ensures)) (h .2 .ensures .0) (h .2 .ensures .1))) (λ h. taken-miss (placeAt walks (walk-of .result)) vs (holdsOn level q z walks vs memo env variable) attribute (loop .i) (loop .taken) (loop .inv .1) _ ((ap (λ (p : ℕ). (holdsOn level q z walks vs memo env variable) (tupleAt vs p)) (sym (place2 .ensures)) ∙ on-row (loop .env) env _ variable (place .result) (place2 .result) (loop .inv .0) (set-place .ensures) level q z walks vs memo _ (omega (arith, pre, good)) (condition .ensures .0)) ∙ h .0 .left) (h .1)) (c .if1 .came), omega (arith, loop-test .taken), places-length (loop .env) env _ variable (place .result) (place2 .result) (loop .inv .0) (set-place .ensures) _ (condition .ensures .1) (loop .inv .3))
 
@@ -435,8 +447,8 @@ gather-returns : (t : ℕ) → gather-lts.Need-returns (gather-claims t) (gather
 gather-returns t c =
     let c₄ = c .before .before .before .before in let loop-test = c₄ .loop-test in
     let c₅ = c₄ .before in let loop = c₅ .loop in
-    let c₉ = c₅ .before .before .before .before in let walk-of = c₉ .walk-of in
-    let c₁₄ = c₉ .before .before .before .before .before in let args = c₁₄ .args in
+    let c₈ = c₅ .before .before .before in let walk-of = c₈ .walk-of in
+    let c₁₃ = c₈ .before .before .before .before .before in let args = c₁₃ .args in
     let env = now (args .env) in let memo = now (args .memo) in let q = now (args .q) in let vs = now (args .vs) in let walks = now (args .walks) in let z = now (args .z) in let attribute = args .attribute in let level = args .level in let variable = args .variable in
     (subst (Accumulates (loop .taken)) (taken-all level q z walks vs memo env variable attribute (loop .i) (walk-of .result) (walk-of .ensures .0) (omega (arith, loop-test .left, loop .inv .2))) (loop .inv .1), (omega (arith, taken-few (placeAt walks (walk-of .result)) vs (holdsOn level q z walks vs memo env variable) attribute (loop .i) (loop .taken) (loop .inv .1) (loop .i) (omega arith), loop .inv .2, walk-of .ensures .1 .count), c .before .before .set-place2 .ensures ∙ loop .inv .0))
 
@@ -545,8 +557,8 @@ term-byte-requires t c κs = search needs
 term-record-length-requires : (t : ℕ) → term-lts.Need-record-length-requires (term-claims t) (term-at t) term.Post
 term-record-length-requires t c κs = search needs
 
-term-read-requires : (t : ℕ) → term-lts.Need-read-requires (term-claims t) (term-at t) term.Post
-term-read-requires t c κs = search needs
+term-term-record-requires : (t : ℕ) → term-lts.Need-term-record-requires (term-claims t) (term-at t) term.Post
+term-term-record-requires t c κs = search needs
 
 term-enum-known-a : (t : ℕ) → term-lts.Need-enum-known-a (term-claims t) (term-at t) term.Post
 term-enum-known-a t c = search needs
@@ -584,12 +596,12 @@ term-recall-requires t c κs = sym (c .before .knows .ensures) ∙ c .if2 .taken
 term-returns-2 : (t : ℕ) → term-lts.Need-returns-2 (term-claims t) (term-at t) term.Post
 term-returns-2 t c =
     let c₄ = c .before .before .before .before in let function = c₄ .function in
-    let c₆ = c₄ .before .before in let read = c₆ .read in
+    let c₆ = c₄ .before .before in let term-record = c₆ .term-record in
     let c₇ = c₆ .before in let record-length = c₇ .record-length in
     let c₈ = c₇ .before in let byte = c₈ .byte in
     let c₉ = c₈ .before in let if1 = c₉ .if1 in
     let c₁₄ = c₉ .before .before .before .before .before in let args = c₁₄ .args in
-    (c .recall .ensures .0 ∙ (known-is (now (args .walks)) (now (args .vs)) (now (args .memo)) (now (args .env)) (now (args .q)) (now (args .z)) (args .level) _ _ _ (if1 .left) (byte .ensures) (record-length .ensures .0) (read .ensures) _ _ _ _ _ _ (function .given .1) (c .before .before .knows .ensures) (c .before .if2 .taken) refl), (c .recall .ensures .1, search needs))
+    (c .recall .ensures .0 ∙ (known-is (now (args .walks)) (now (args .vs)) (now (args .memo)) (now (args .env)) (now (args .q)) (now (args .z)) (args .level) _ _ _ (if1 .left) (byte .ensures) (record-length .ensures .0) (term-record .ensures) _ _ _ _ _ _ (function .given .1) (c .before .before .knows .ensures) (c .before .if2 .taken) refl), (c .recall .ensures .1, search needs))
 
 term-tail-requires : (t : ℕ) → term-lts.Need-tail-requires (term-claims t) (term-at t) term.Post
 term-tail-requires t c κs = search needs
@@ -610,10 +622,10 @@ term-returns-3 : (t : ℕ) → term-lts.Need-returns-3 (term-claims t) (term-at 
 term-returns-3 t c =
     let c₁ = c .before in let constant = c₁ .constant in
     let c₃ = c₁ .before .before in let a = c₃ .a in
-    let c₅ = c₃ .before .before in let read = c₅ .read in
+    let c₅ = c₃ .before .before in let term-record = c₅ .term-record in
     let c₈ = c₅ .before .before .before in let if1 = c₈ .if1 in
     let c₁₃ = c₈ .before .before .before .before .before in let args = c₁₃ .args in
-    ((c .whole2 .ensures .0) ∙ (constant-is (now (args .walks)) (now (args .vs)) (now (args .memo)) (now (args .env)) (now (args .q)) (now (args .z)) (args .level) _ _ _ _ _ _ (if1 .left) (read .ensures) (a .given .1) (toZ-ofZ {w = w32} (record { sfits = constant .ok }) ∙ constant .ensures .0)), (c .whole2 .ensures .1, search needs))
+    ((c .whole2 .ensures .0) ∙ (constant-is (now (args .walks)) (now (args .vs)) (now (args .memo)) (now (args .env)) (now (args .q)) (now (args .z)) (args .level) _ _ _ _ _ _ (if1 .left) (term-record .ensures) (a .given .1) (toZ-ofZ {w = w32} (record { sfits = constant .ok }) ∙ constant .ensures .0)), (c .whole2 .ensures .1, search needs))
 
 term-same-length : (t : ℕ) → term-lts.Need-same-length (term-claims t) (term-at t) term.Post
 term-same-length t c = search needs
@@ -623,10 +635,10 @@ term-returns-4 t c =
     let c₁ = c .before in let cell = c₁ .value in
     let c₄ = c₁ .before .before .before in let known-told2 = c₄ .known-told2 in
     let c₅ = c₄ .before in let variable = c₅ .variable in
-    let c₇ = c₅ .before .before in let read = c₇ .read in
+    let c₇ = c₅ .before .before in let term-record = c₇ .term-record in
     let c₁₀ = c₇ .before .before .before in let if1 = c₁₀ .if1 in
     let c₁₅ = c₁₀ .before .before .before .before .before in let args = c₁₅ .args in let pre = c₁₅ .pre in
-    ((c .whole3 .ensures .0) ∙ (attribute-is (now (args .walks)) (now (args .vs)) (now (args .memo)) (now (args .env)) (now (args .q)) (now (args .z)) (args .level) _ _ _ _ _ (if1 .left) (read .ensures) (variable .given .1) (omega (arith, pre .1, known-told2 .given)) (c .before .before .place .ensures) (toZ-ofZ {w = w32} (record { sfits = cell .ok }) ∙ cell .ensures)), (c .whole3 .ensures .1, search needs))
+    ((c .whole3 .ensures .0) ∙ (attribute-is (now (args .walks)) (now (args .vs)) (now (args .memo)) (now (args .env)) (now (args .q)) (now (args .z)) (args .level) _ _ _ _ _ (if1 .left) (term-record .ensures) (variable .given .1) (omega (arith, pre .1, known-told2 .given)) (c .before .before .place .ensures) (toZ-ofZ {w = w32} (record { sfits = cell .ok }) ∙ cell .ensures)), (c .whole3 .ensures .1, search needs))
 
 term-same-length-2 : (t : ℕ) → term-lts.Need-same-length-2 (term-claims t) (term-at t) term.Post
 term-same-length-2 t c = search needs
@@ -639,18 +651,21 @@ term-returns-5 t c =
     let c₇ = c₆ .before in let if2 = c₇ .if2 in
     let c₈ = c₇ .before in let knows = c₈ .knows in
     let c₁₀ = c₈ .before .before in let function = c₁₀ .function in
-    let c₁₂ = c₁₀ .before .before in let read = c₁₂ .read in
+    let c₁₂ = c₁₀ .before .before in let term-record = c₁₂ .term-record in
     let c₁₃ = c₁₂ .before in let record-length = c₁₃ .record-length in
     let c₁₄ = c₁₃ .before in let byte = c₁₄ .byte in
     let c₁₅ = c₁₄ .before in let if1 = c₁₅ .if1 in
     let c₂₀ = c₁₅ .before .before .before .before .before in let args = c₂₀ .args in
-    (ends _ _ (c .finish .result) _ (gather .ensures .0) (c .finish .ensures .0) ∙ (aggregate-is (now (args .walks)) (now (args .vs)) (now (args .memo)) (now (args .env)) (now (args .q)) (now (args .z)) (args .level) _ _ _ (if1 .left) (byte .ensures) (record-length .ensures .0) (read .ensures) _ _ (tail .ensures) (tail-sizes .ensures) _ _ _ _ _ _ (function .given .1) (knows .ensures) (if2 .left) refl), (c .finish .ensures .1, gather .ensures .1 .1))
+    (ends _ _ (c .finish .result) _ (gather .ensures .0) (c .finish .ensures .0) ∙ (aggregate-is (now (args .walks)) (now (args .vs)) (now (args .memo)) (now (args .env)) (now (args .q)) (now (args .z)) (args .level) _ _ _ (if1 .left) (byte .ensures) (record-length .ensures .0) (term-record .ensures) _ _ (tail .ensures) (tail-sizes .ensures) _ _ _ _ _ _ (function .given .1) (knows .ensures) (if2 .left) refl), (c .finish .ensures .1, gather .ensures .1 .1))
+
+term-enum-told : (t : ℕ) → term-lts.Need-enum-told (term-claims t) (term-at t) term.Post
+term-enum-told t c = search needs
 
 term-returns-6 : (t : ℕ) → term-lts.Need-returns-6 (term-claims t) (term-at t) term.Post
 term-returns-6 t c =
-    let c₅ = c .before .before .before .before .before in let if1 = c₅ .if1 in
+    let c₅ = c .before .before .before .before .before .before in let if1 = c₅ .if1 in
     let c₁₀ = c₅ .before .before .before .before .before in let args = c₁₀ .args in
-    ((c .whole4 .ensures .0) ∙ (no-term (now (args .walks)) (now (args .vs)) (now (args .memo)) (now (args .env)) (now (args .q)) (now (args .z)) (args .level) _ (if1 .left) (c .before .before .read .ensures) (c .before .match .keys4)), (c .whole4 .ensures .1, search needs))
+    ((c .whole4 .ensures .0) ∙ (no-term (now (args .walks)) (now (args .vs)) (now (args .memo)) (now (args .env)) (now (args .q)) (now (args .z)) (args .level) _ (if1 .left) (c .before .before .before .term-record .ensures) (c .before .enum-told .given .1)), (c .whole4 .ensures .1, search needs))
 
 pub +condition+gather+some-row+term-spec : {M : Type 1} → statement M
 +condition+gather+some-row+term-spec =
@@ -663,7 +678,7 @@ pub +condition+gather+some-row+term-spec : {M : Type 1} → statement M
     (condition-record-length-requires t)
     (condition-tail-requires t)
     (condition-tail-sizes-requires t)
-    (condition-read-requires t)
+    (condition-condition-record-requires t)
     (condition-enum-told t)
     (condition-enum-told-2 t)
     (condition-condition-requires t)
@@ -696,6 +711,8 @@ pub +condition+gather+some-row+term-spec : {M : Type 1} → statement M
     (condition-compared-requires t)
     (condition-enum-known-variable t)
     (condition-some-row-requires t)
+    (condition-enum-told-5 t)
+    (condition-enum-told-6 t)
     (condition-returns-4 t)
     (condition-same-length-3 t)
     (condition-returns-5 t)
@@ -707,7 +724,8 @@ pub +condition+gather+some-row+term-spec : {M : Type 1} → statement M
     (condition-returns-8 t)
     (condition-same-length-7 t)
     (condition-returns-9 t)
-    (condition-returns-10 t))
+    (condition-returns-10 t)
+    (condition-returns-11 t))
     (λ t. gather-lts.spec (gather-claims t)
     (gather-at t)
     gather.Post
@@ -715,7 +733,6 @@ pub +condition+gather+some-row+term-spec : {M : Type 1} → statement M
     gather-μ-loop
     (gather-walk-of-requires t)
     (gather-place-requires t)
-    (gather-empty-requires t)
     (gather-loop-holds t)
     (gather-place-requires-2 t)
     (gather-set-place-requires t)
@@ -757,7 +774,7 @@ pub +condition+gather+some-row+term-spec : {M : Type 1} → statement M
     (term-sub-l t)
     (term-byte-requires t)
     (term-record-length-requires t)
-    (term-read-requires t)
+    (term-term-record-requires t)
     (term-enum-known-a t)
     (term-constant-requires t)
     (term-whole-requires-2 t)
@@ -774,6 +791,7 @@ pub +condition+gather+some-row+term-spec : {M : Type 1} → statement M
     (term-tail-sizes-requires t)
     (term-gather-requires t)
     (term-finish-requires t)
+    (term-enum-told t)
     (term-whole-requires-4 t)
     (term-returns-3 t)
     (term-same-length t)

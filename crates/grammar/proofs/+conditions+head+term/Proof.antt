@@ -4,7 +4,7 @@ use native.Mathlib.Omega.{arith}
 use mathlib.Core.Path.{_≡_, sym, ap, _∙_}
 use lib.ListN.{length, drop, length-drop}
 use denote.Ref.{now}
-use Rattle.grammar.specs.Sizes.{conditionSize, termSize, after, many, headSize}
+use Rattle.grammar.specs.Sizes.{conditionSize, termSize, after, many, isCondition, isTerm, headSize}
 use Rattle.grammar.proofs.Pending.{start, next, turn, stop, halt, end, no-head, no-leaf, head-whole, head-is, leaf-whole, leaf-is}
 use Rattle.grammar.proofs.Bounds.{condition-within, many-within, head-takes, term-takes, part-within, part-takes}
 use borrow.Fn.Kinds.{In}
@@ -23,9 +23,9 @@ use Rattle.grammar.proofs.is_condition.Reads as is-condition-reads
 use Rattle.grammar.proofs.is_term.Reads as is-term-reads
 use Rattle.grammar.proofs.wide.Reads as wide-reads
 use Rattle.kinds.proofs.byte.Reads as byte-reads
-use Rattle.kinds.proofs.child_conditions.Reads as child-conditions-reads
-use Rattle.kinds.proofs.child_terms.Reads as child-terms-reads
-use Rattle.kinds.proofs.read.Reads as read-reads
+use Rattle.kinds.proofs.child_counts.Reads as child-counts-reads
+use Rattle.kinds.proofs.condition_record.Reads as condition-record-reads
+use Rattle.kinds.proofs.term_record.Reads as term-record-reads
 use Rattle.kinds.proofs.record_length.Reads as record-length-reads
 use Rattle.kinds.proofs.tail.Reads as tail-reads
 use Rattle.grammar.proofs.+conditions+head+term.{statement}
@@ -314,35 +314,35 @@ head-Inv-loop q k at₀ left₀ at left = (after at (many termSize left (drop at
 abbrev head-μ-loop : head-lts.MeasureT-loop
 head-μ-loop q k at₀ left₀ at left = left
 
-head-read-requires : (t : ℕ) → head-lts.Need-read-requires (
-  read-reads.Asked,
-  read-reads.Learnt,
+head-condition-record-requires : (t : ℕ) → head-lts.Need-condition-record-requires (
+  condition-record-reads.Asked,
+  condition-record-reads.Learnt,
   is-condition-reads.Asked,
   is-condition-reads.Learnt,
   byte-reads.Asked,
   byte-reads.Learnt,
   record-length-reads.Asked,
   record-length-reads.Learnt,
-  child-terms-reads.Asked,
-  child-terms-reads.Learnt,
+  child-counts-reads.Asked,
+  child-counts-reads.Learnt,
   tail-reads.Asked,
   tail-reads.Learnt,
   term-below t,
   term.Post,
 ) (head-at t) head.Post head-Inv-loop head-μ-loop
-head-read-requires t c κs = search needs
+head-condition-record-requires t c κs = search needs
 
 head-is-condition-requires : (t : ℕ) → head-lts.Need-is-condition-requires (
-  read-reads.Asked,
-  read-reads.Learnt,
+  condition-record-reads.Asked,
+  condition-record-reads.Learnt,
   is-condition-reads.Asked,
   is-condition-reads.Learnt,
   byte-reads.Asked,
   byte-reads.Learnt,
   record-length-reads.Asked,
   record-length-reads.Learnt,
-  child-terms-reads.Asked,
-  child-terms-reads.Learnt,
+  child-counts-reads.Asked,
+  child-counts-reads.Learnt,
   tail-reads.Asked,
   tail-reads.Learnt,
   term-below t,
@@ -351,34 +351,34 @@ head-is-condition-requires : (t : ℕ) → head-lts.Need-is-condition-requires (
 head-is-condition-requires t c κs = search needs
 
 head-returns : (t : ℕ) → head-lts.Need-returns (
-  read-reads.Asked,
-  read-reads.Learnt,
+  condition-record-reads.Asked,
+  condition-record-reads.Learnt,
   is-condition-reads.Asked,
   is-condition-reads.Learnt,
   byte-reads.Asked,
   byte-reads.Learnt,
   record-length-reads.Asked,
   record-length-reads.Learnt,
-  child-terms-reads.Asked,
-  child-terms-reads.Learnt,
+  child-counts-reads.Asked,
+  child-counts-reads.Learnt,
   tail-reads.Asked,
   tail-reads.Learnt,
   term-below t,
   term.Post,
 ) (head-at t) head.Post head-Inv-loop head-μ-loop
-head-returns t c = no-head (now (c .before .before .before .before .args .q)) (c .before .before .read .result) (c .before .is-condition .result) (c .before .before .read .ensures) (c .before .is-condition .ensures) (c .if1 .taken)
+head-returns t c = no-head (now (c .before .before .before .before .args .q)) (c .before .is-condition .result) (c .before .is-condition .ensures ∙ ap isCondition (c .before .before .condition-record .ensures)) (c .if1 .taken)
 
 head-byte-requires : (t : ℕ) → head-lts.Need-byte-requires (
-  read-reads.Asked,
-  read-reads.Learnt,
+  condition-record-reads.Asked,
+  condition-record-reads.Learnt,
   is-condition-reads.Asked,
   is-condition-reads.Learnt,
   byte-reads.Asked,
   byte-reads.Learnt,
   record-length-reads.Asked,
   record-length-reads.Learnt,
-  child-terms-reads.Asked,
-  child-terms-reads.Learnt,
+  child-counts-reads.Asked,
+  child-counts-reads.Learnt,
   tail-reads.Asked,
   tail-reads.Learnt,
   term-below t,
@@ -387,16 +387,16 @@ head-byte-requires : (t : ℕ) → head-lts.Need-byte-requires (
 head-byte-requires t c κs = search needs
 
 head-record-length-requires : (t : ℕ) → head-lts.Need-record-length-requires (
-  read-reads.Asked,
-  read-reads.Learnt,
+  condition-record-reads.Asked,
+  condition-record-reads.Learnt,
   is-condition-reads.Asked,
   is-condition-reads.Learnt,
   byte-reads.Asked,
   byte-reads.Learnt,
   record-length-reads.Asked,
   record-length-reads.Learnt,
-  child-terms-reads.Asked,
-  child-terms-reads.Learnt,
+  child-counts-reads.Asked,
+  child-counts-reads.Learnt,
   tail-reads.Asked,
   tail-reads.Learnt,
   term-below t,
@@ -404,35 +404,35 @@ head-record-length-requires : (t : ℕ) → head-lts.Need-record-length-requires
 ) (head-at t) head.Post head-Inv-loop head-μ-loop
 head-record-length-requires t c κs = search needs
 
-head-child-terms-requires : (t : ℕ) → head-lts.Need-child-terms-requires (
-  read-reads.Asked,
-  read-reads.Learnt,
+head-child-counts-requires : (t : ℕ) → head-lts.Need-child-counts-requires (
+  condition-record-reads.Asked,
+  condition-record-reads.Learnt,
   is-condition-reads.Asked,
   is-condition-reads.Learnt,
   byte-reads.Asked,
   byte-reads.Learnt,
   record-length-reads.Asked,
   record-length-reads.Learnt,
-  child-terms-reads.Asked,
-  child-terms-reads.Learnt,
+  child-counts-reads.Asked,
+  child-counts-reads.Learnt,
   tail-reads.Asked,
   tail-reads.Learnt,
   term-below t,
   term.Post,
 ) (head-at t) head.Post head-Inv-loop head-μ-loop
-head-child-terms-requires t c κs = search needs
+head-child-counts-requires t c κs = search needs
 
 head-loop-holds : (t : ℕ) → head-lts.Need-loop-holds (
-  read-reads.Asked,
-  read-reads.Learnt,
+  condition-record-reads.Asked,
+  condition-record-reads.Learnt,
   is-condition-reads.Asked,
   is-condition-reads.Learnt,
   byte-reads.Asked,
   byte-reads.Learnt,
   record-length-reads.Asked,
   record-length-reads.Learnt,
-  child-terms-reads.Asked,
-  child-terms-reads.Learnt,
+  child-counts-reads.Asked,
+  child-counts-reads.Learnt,
   tail-reads.Asked,
   tail-reads.Learnt,
   term-below t,
@@ -443,22 +443,22 @@ head-loop-holds t c =
     let c₂ = c₁ .before in let byte = c₂ .byte in
     let c₃ = c₂ .before in let if1 = c₃ .if1 in
     let c₄ = c₃ .before in let is-condition = c₄ .is-condition in
-    let c₅ = c₄ .before in let read = c₅ .read in
+    let c₅ = c₄ .before in let condition-record = c₅ .condition-record in
     let c₇ = c₅ .before .before in let args = c₇ .args in
     let q = now (args .q) in
-    let h = head-whole q (read .result) (is-condition .result) (read .ensures) (byte .result) (record-length .result) (byte .ensures) (record-length .ensures .0) (if1 .left) (is-condition .ensures) in (head-is q (read .result) (is-condition .result) (read .ensures) (byte .result) (record-length .result) (byte .ensures) (record-length .ensures .0) (if1 .left) (is-condition .ensures) (c .child-terms .result) (c .child-terms .ensures), h .1, h .0)
+    let h = head-whole q (is-condition .result) (byte .result) (record-length .result) (byte .ensures) (record-length .ensures .0) (if1 .left) (is-condition .ensures ∙ ap isCondition (condition-record .ensures)) in (head-is q (is-condition .result) (byte .result) (record-length .result) (byte .ensures) (record-length .ensures .0) (if1 .left) (is-condition .ensures ∙ ap isCondition (condition-record .ensures)) (c .child-counts .result .terms) (c .child-counts .ensures .1), h .1, h .0)
 
 head-tail-requires : (t : ℕ) → head-lts.Need-tail-requires (
-  read-reads.Asked,
-  read-reads.Learnt,
+  condition-record-reads.Asked,
+  condition-record-reads.Learnt,
   is-condition-reads.Asked,
   is-condition-reads.Learnt,
   byte-reads.Asked,
   byte-reads.Learnt,
   record-length-reads.Asked,
   record-length-reads.Learnt,
-  child-terms-reads.Asked,
-  child-terms-reads.Learnt,
+  child-counts-reads.Asked,
+  child-counts-reads.Learnt,
   tail-reads.Asked,
   tail-reads.Learnt,
   term-below t,
@@ -467,16 +467,16 @@ head-tail-requires : (t : ℕ) → head-lts.Need-tail-requires (
 head-tail-requires t c κs = search needs
 
 head-term-requires : (t : ℕ) → head-lts.Need-term-requires (
-  read-reads.Asked,
-  read-reads.Learnt,
+  condition-record-reads.Asked,
+  condition-record-reads.Learnt,
   is-condition-reads.Asked,
   is-condition-reads.Learnt,
   byte-reads.Asked,
   byte-reads.Learnt,
   record-length-reads.Asked,
   record-length-reads.Learnt,
-  child-terms-reads.Asked,
-  child-terms-reads.Learnt,
+  child-counts-reads.Asked,
+  child-counts-reads.Learnt,
   tail-reads.Asked,
   tail-reads.Learnt,
   term-below t,
@@ -488,16 +488,16 @@ head-term-requires t c κs =
     (omega (arith, ap length (c .tail .ensures), length-drop (loop .at) (now (args .q)), loop .inv .1, loop .inv .2), tt)
 
 head-enum-known-n : (t : ℕ) → head-lts.Need-enum-known-n (
-  read-reads.Asked,
-  read-reads.Learnt,
+  condition-record-reads.Asked,
+  condition-record-reads.Learnt,
   is-condition-reads.Asked,
   is-condition-reads.Learnt,
   byte-reads.Asked,
   byte-reads.Learnt,
   record-length-reads.Asked,
   record-length-reads.Learnt,
-  child-terms-reads.Asked,
-  child-terms-reads.Learnt,
+  child-counts-reads.Asked,
+  child-counts-reads.Learnt,
   tail-reads.Asked,
   tail-reads.Learnt,
   term-below t,
@@ -506,16 +506,16 @@ head-enum-known-n : (t : ℕ) → head-lts.Need-enum-known-n (
 head-enum-known-n t c = search needs
 
 head-enum-told : (t : ℕ) → head-lts.Need-enum-told (
-  read-reads.Asked,
-  read-reads.Learnt,
+  condition-record-reads.Asked,
+  condition-record-reads.Learnt,
   is-condition-reads.Asked,
   is-condition-reads.Learnt,
   byte-reads.Asked,
   byte-reads.Learnt,
   record-length-reads.Asked,
   record-length-reads.Learnt,
-  child-terms-reads.Asked,
-  child-terms-reads.Learnt,
+  child-counts-reads.Asked,
+  child-counts-reads.Learnt,
   tail-reads.Asked,
   tail-reads.Learnt,
   term-below t,
@@ -524,16 +524,16 @@ head-enum-told : (t : ℕ) → head-lts.Need-enum-told (
 head-enum-told t c = search needs
 
 head-returns-2 : (t : ℕ) → head-lts.Need-returns-2 (
-  read-reads.Asked,
-  read-reads.Learnt,
+  condition-record-reads.Asked,
+  condition-record-reads.Learnt,
   is-condition-reads.Asked,
   is-condition-reads.Learnt,
   byte-reads.Asked,
   byte-reads.Learnt,
   record-length-reads.Asked,
   record-length-reads.Learnt,
-  child-terms-reads.Asked,
-  child-terms-reads.Learnt,
+  child-counts-reads.Asked,
+  child-counts-reads.Learnt,
   tail-reads.Asked,
   tail-reads.Learnt,
   term-below t,
@@ -549,16 +549,16 @@ head-returns-2 t c =
     stop q (now (tail .result)) (loop .at) (loop .left) (term .result) (headSize q) (tail .ensures) (c .enum-told .given .1) termSize (loop .inv .0) (loop-test .taken) (term .ensures)
 
 head-add-at : (t : ℕ) → head-lts.Need-add-at (
-  read-reads.Asked,
-  read-reads.Learnt,
+  condition-record-reads.Asked,
+  condition-record-reads.Learnt,
   is-condition-reads.Asked,
   is-condition-reads.Learnt,
   byte-reads.Asked,
   byte-reads.Learnt,
   record-length-reads.Asked,
   record-length-reads.Learnt,
-  child-terms-reads.Asked,
-  child-terms-reads.Learnt,
+  child-counts-reads.Asked,
+  child-counts-reads.Learnt,
   tail-reads.Asked,
   tail-reads.Learnt,
   term-below t,
@@ -573,16 +573,16 @@ head-add-at t c =
     let h = part-takes termSize (now (args .q)) (now (tail .result)) (loop .at) (n .given .0 .0) (term .result) (tail .ensures) (term .ensures) (n .given .1) term-takes in omega (arith, loop .inv .1)
 
 head-sub-left : (t : ℕ) → head-lts.Need-sub-left (
-  read-reads.Asked,
-  read-reads.Learnt,
+  condition-record-reads.Asked,
+  condition-record-reads.Learnt,
   is-condition-reads.Asked,
   is-condition-reads.Learnt,
   byte-reads.Asked,
   byte-reads.Learnt,
   record-length-reads.Asked,
   record-length-reads.Learnt,
-  child-terms-reads.Asked,
-  child-terms-reads.Learnt,
+  child-counts-reads.Asked,
+  child-counts-reads.Learnt,
   tail-reads.Asked,
   tail-reads.Learnt,
   term-below t,
@@ -591,16 +591,16 @@ head-sub-left : (t : ℕ) → head-lts.Need-sub-left (
 head-sub-left t c = search needs
 
 head-loop-less : (t : ℕ) → head-lts.Need-loop-less (
-  read-reads.Asked,
-  read-reads.Learnt,
+  condition-record-reads.Asked,
+  condition-record-reads.Learnt,
   is-condition-reads.Asked,
   is-condition-reads.Learnt,
   byte-reads.Asked,
   byte-reads.Learnt,
   record-length-reads.Asked,
   record-length-reads.Learnt,
-  child-terms-reads.Asked,
-  child-terms-reads.Learnt,
+  child-counts-reads.Asked,
+  child-counts-reads.Learnt,
   tail-reads.Asked,
   tail-reads.Learnt,
   term-below t,
@@ -609,16 +609,16 @@ head-loop-less : (t : ℕ) → head-lts.Need-loop-less (
 head-loop-less t c = search needs
 
 head-loop-again : (t : ℕ) → head-lts.Need-loop-again (
-  read-reads.Asked,
-  read-reads.Learnt,
+  condition-record-reads.Asked,
+  condition-record-reads.Learnt,
   is-condition-reads.Asked,
   is-condition-reads.Learnt,
   byte-reads.Asked,
   byte-reads.Learnt,
   record-length-reads.Asked,
   record-length-reads.Learnt,
-  child-terms-reads.Asked,
-  child-terms-reads.Learnt,
+  child-counts-reads.Asked,
+  child-counts-reads.Learnt,
   tail-reads.Asked,
   tail-reads.Learnt,
   term-below t,
@@ -635,16 +635,16 @@ head-loop-again t c =
     let h = part-takes termSize q (now (tail .result)) (loop .at) (n .given .0 .0) (term .result) (tail .ensures) (term .ensures) (n .given .1) term-takes in (next q (now (tail .result)) (loop .at) (loop .left) (n .given .0 .0) (term .result) (headSize q) (tail .ensures) (n .given .1) termSize (loop .inv .0) (loop-test .taken) (term .ensures), omega (arith, loop .inv .1), omega (arith, loop .inv .2))
 
 head-returns-3 : (t : ℕ) → head-lts.Need-returns-3 (
-  read-reads.Asked,
-  read-reads.Learnt,
+  condition-record-reads.Asked,
+  condition-record-reads.Learnt,
   is-condition-reads.Asked,
   is-condition-reads.Learnt,
   byte-reads.Asked,
   byte-reads.Learnt,
   record-length-reads.Asked,
   record-length-reads.Learnt,
-  child-terms-reads.Asked,
-  child-terms-reads.Learnt,
+  child-counts-reads.Asked,
+  child-counts-reads.Learnt,
   tail-reads.Asked,
   tail-reads.Learnt,
   term-below t,
@@ -656,9 +656,9 @@ head-returns-3 t c =
     let q = now (args .q) in
     end termSize q (loop .at) (loop .left) (headSize q) (loop .inv .0) (c .loop-test .left)
 
-term-read-requires : (t : ℕ) → term-lts.Need-read-requires (
-  read-reads.Asked,
-  read-reads.Learnt,
+term-term-record-requires : (t : ℕ) → term-lts.Need-term-record-requires (
+  term-record-reads.Asked,
+  term-record-reads.Learnt,
   is-term-reads.Asked,
   is-term-reads.Learnt,
   byte-reads.Asked,
@@ -667,16 +667,16 @@ term-read-requires : (t : ℕ) → term-lts.Need-read-requires (
   record-length-reads.Learnt,
   tail-reads.Asked,
   tail-reads.Learnt,
-  child-conditions-reads.Asked,
-  child-conditions-reads.Learnt,
+  child-counts-reads.Asked,
+  child-counts-reads.Learnt,
   conditions-below t,
   conditions.Post,
 ) (term-at t) term.Post
-term-read-requires t c κs = search needs
+term-term-record-requires t c κs = search needs
 
 term-is-term-requires : (t : ℕ) → term-lts.Need-is-term-requires (
-  read-reads.Asked,
-  read-reads.Learnt,
+  term-record-reads.Asked,
+  term-record-reads.Learnt,
   is-term-reads.Asked,
   is-term-reads.Learnt,
   byte-reads.Asked,
@@ -685,16 +685,16 @@ term-is-term-requires : (t : ℕ) → term-lts.Need-is-term-requires (
   record-length-reads.Learnt,
   tail-reads.Asked,
   tail-reads.Learnt,
-  child-conditions-reads.Asked,
-  child-conditions-reads.Learnt,
+  child-counts-reads.Asked,
+  child-counts-reads.Learnt,
   conditions-below t,
   conditions.Post,
 ) (term-at t) term.Post
 term-is-term-requires t c κs = search needs
 
 term-returns : (t : ℕ) → term-lts.Need-returns (
-  read-reads.Asked,
-  read-reads.Learnt,
+  term-record-reads.Asked,
+  term-record-reads.Learnt,
   is-term-reads.Asked,
   is-term-reads.Learnt,
   byte-reads.Asked,
@@ -703,16 +703,16 @@ term-returns : (t : ℕ) → term-lts.Need-returns (
   record-length-reads.Learnt,
   tail-reads.Asked,
   tail-reads.Learnt,
-  child-conditions-reads.Asked,
-  child-conditions-reads.Learnt,
+  child-counts-reads.Asked,
+  child-counts-reads.Learnt,
   conditions-below t,
   conditions.Post,
 ) (term-at t) term.Post
-term-returns t c = no-leaf (now (c .before .before .before .before .args .q)) (c .before .before .read .result) (c .before .is-term .result) (c .before .before .read .ensures) (c .before .is-term .ensures) (c .if1 .taken)
+term-returns t c = no-leaf (now (c .before .before .before .before .args .q)) (c .before .is-term .result) (c .before .is-term .ensures ∙ ap isTerm (c .before .before .term-record .ensures)) (c .if1 .taken)
 
 term-byte-requires : (t : ℕ) → term-lts.Need-byte-requires (
-  read-reads.Asked,
-  read-reads.Learnt,
+  term-record-reads.Asked,
+  term-record-reads.Learnt,
   is-term-reads.Asked,
   is-term-reads.Learnt,
   byte-reads.Asked,
@@ -721,16 +721,16 @@ term-byte-requires : (t : ℕ) → term-lts.Need-byte-requires (
   record-length-reads.Learnt,
   tail-reads.Asked,
   tail-reads.Learnt,
-  child-conditions-reads.Asked,
-  child-conditions-reads.Learnt,
+  child-counts-reads.Asked,
+  child-counts-reads.Learnt,
   conditions-below t,
   conditions.Post,
 ) (term-at t) term.Post
 term-byte-requires t c κs = search needs
 
 term-record-length-requires : (t : ℕ) → term-lts.Need-record-length-requires (
-  read-reads.Asked,
-  read-reads.Learnt,
+  term-record-reads.Asked,
+  term-record-reads.Learnt,
   is-term-reads.Asked,
   is-term-reads.Learnt,
   byte-reads.Asked,
@@ -739,16 +739,16 @@ term-record-length-requires : (t : ℕ) → term-lts.Need-record-length-requires
   record-length-reads.Learnt,
   tail-reads.Asked,
   tail-reads.Learnt,
-  child-conditions-reads.Asked,
-  child-conditions-reads.Learnt,
+  child-counts-reads.Asked,
+  child-counts-reads.Learnt,
   conditions-below t,
   conditions.Post,
 ) (term-at t) term.Post
 term-record-length-requires t c κs = search needs
 
 term-tail-requires : (t : ℕ) → term-lts.Need-tail-requires (
-  read-reads.Asked,
-  read-reads.Learnt,
+  term-record-reads.Asked,
+  term-record-reads.Learnt,
   is-term-reads.Asked,
   is-term-reads.Learnt,
   byte-reads.Asked,
@@ -757,16 +757,16 @@ term-tail-requires : (t : ℕ) → term-lts.Need-tail-requires (
   record-length-reads.Learnt,
   tail-reads.Asked,
   tail-reads.Learnt,
-  child-conditions-reads.Asked,
-  child-conditions-reads.Learnt,
+  child-counts-reads.Asked,
+  child-counts-reads.Learnt,
   conditions-below t,
   conditions.Post,
 ) (term-at t) term.Post
 term-tail-requires t c κs = search needs
 
-term-child-conditions-requires : (t : ℕ) → term-lts.Need-child-conditions-requires (
-  read-reads.Asked,
-  read-reads.Learnt,
+term-child-counts-requires : (t : ℕ) → term-lts.Need-child-counts-requires (
+  term-record-reads.Asked,
+  term-record-reads.Learnt,
   is-term-reads.Asked,
   is-term-reads.Learnt,
   byte-reads.Asked,
@@ -775,16 +775,16 @@ term-child-conditions-requires : (t : ℕ) → term-lts.Need-child-conditions-re
   record-length-reads.Learnt,
   tail-reads.Asked,
   tail-reads.Learnt,
-  child-conditions-reads.Asked,
-  child-conditions-reads.Learnt,
+  child-counts-reads.Asked,
+  child-counts-reads.Learnt,
   conditions-below t,
   conditions.Post,
 ) (term-at t) term.Post
-term-child-conditions-requires t c κs = search needs
+term-child-counts-requires t c κs = search needs
 
 term-conditions-requires : (t : ℕ) → term-lts.Need-conditions-requires (
-  read-reads.Asked,
-  read-reads.Learnt,
+  term-record-reads.Asked,
+  term-record-reads.Learnt,
   is-term-reads.Asked,
   is-term-reads.Learnt,
   byte-reads.Asked,
@@ -793,8 +793,8 @@ term-conditions-requires : (t : ℕ) → term-lts.Need-conditions-requires (
   record-length-reads.Learnt,
   tail-reads.Asked,
   tail-reads.Learnt,
-  child-conditions-reads.Asked,
-  child-conditions-reads.Learnt,
+  child-counts-reads.Asked,
+  child-counts-reads.Learnt,
   conditions-below t,
   conditions.Post,
 ) (term-at t) term.Post
@@ -803,14 +803,14 @@ term-conditions-requires t c κs =
     let c₃ = c₂ .before in let byte = c₃ .byte in
     let c₄ = c₃ .before in let if1 = c₄ .if1 in
     let c₅ = c₄ .before in let is-term = c₅ .is-term in
-    let c₆ = c₅ .before in let read = c₆ .read in
+    let c₆ = c₅ .before in let term-record = c₆ .term-record in
     let c₈ = c₆ .before .before in let args = c₈ .args in
     let q = now (args .q) in
-    let h = leaf-whole q (read .result) (is-term .result) (read .ensures) (byte .result) (record-length .result) (byte .ensures) (record-length .ensures .0) (if1 .left) (is-term .ensures) in (omega (arith, ap length (c .before .tail .ensures), length-drop (record-length .result) q), tt)
+    let h = leaf-whole q (is-term .result) (byte .result) (record-length .result) (byte .ensures) (record-length .ensures .0) (if1 .left) (is-term .ensures ∙ ap isTerm (term-record .ensures)) in (omega (arith, ap length (c .before .tail .ensures), length-drop (record-length .result) q), tt)
 
 term-enum-known-n : (t : ℕ) → term-lts.Need-enum-known-n (
-  read-reads.Asked,
-  read-reads.Learnt,
+  term-record-reads.Asked,
+  term-record-reads.Learnt,
   is-term-reads.Asked,
   is-term-reads.Learnt,
   byte-reads.Asked,
@@ -819,16 +819,16 @@ term-enum-known-n : (t : ℕ) → term-lts.Need-enum-known-n (
   record-length-reads.Learnt,
   tail-reads.Asked,
   tail-reads.Learnt,
-  child-conditions-reads.Asked,
-  child-conditions-reads.Learnt,
+  child-counts-reads.Asked,
+  child-counts-reads.Learnt,
   conditions-below t,
   conditions.Post,
 ) (term-at t) term.Post
 term-enum-known-n t c = search needs
 
 term-enum-told : (t : ℕ) → term-lts.Need-enum-told (
-  read-reads.Asked,
-  read-reads.Learnt,
+  term-record-reads.Asked,
+  term-record-reads.Learnt,
   is-term-reads.Asked,
   is-term-reads.Learnt,
   byte-reads.Asked,
@@ -837,16 +837,16 @@ term-enum-told : (t : ℕ) → term-lts.Need-enum-told (
   record-length-reads.Learnt,
   tail-reads.Asked,
   tail-reads.Learnt,
-  child-conditions-reads.Asked,
-  child-conditions-reads.Learnt,
+  child-counts-reads.Asked,
+  child-counts-reads.Learnt,
   conditions-below t,
   conditions.Post,
 ) (term-at t) term.Post
 term-enum-told t c = search needs
 
 term-returns-2 : (t : ℕ) → term-lts.Need-returns-2 (
-  read-reads.Asked,
-  read-reads.Learnt,
+  term-record-reads.Asked,
+  term-record-reads.Learnt,
   is-term-reads.Asked,
   is-term-reads.Learnt,
   byte-reads.Asked,
@@ -855,26 +855,26 @@ term-returns-2 : (t : ℕ) → term-lts.Need-returns-2 (
   record-length-reads.Learnt,
   tail-reads.Asked,
   tail-reads.Learnt,
-  child-conditions-reads.Asked,
-  child-conditions-reads.Learnt,
+  child-counts-reads.Asked,
+  child-counts-reads.Learnt,
   conditions-below t,
   conditions.Post,
 ) (term-at t) term.Post
 term-returns-2 t c =
     let c₂ = c .before .before in let conditions = c₂ .conditions in
-    let c₃ = c₂ .before in let child-conditions = c₃ .child-conditions in
+    let c₃ = c₂ .before in let child-counts = c₃ .child-counts in
     let c₄ = c₃ .before in let tail = c₄ .tail in
     let c₅ = c₄ .before in let record-length = c₅ .record-length in
     let c₆ = c₅ .before in let byte = c₆ .byte in
     let c₇ = c₆ .before in let if1 = c₇ .if1 in
     let c₈ = c₇ .before in let is-term = c₈ .is-term in
-    let c₉ = c₈ .before in let read = c₉ .read in
+    let c₉ = c₈ .before in let term-record = c₉ .term-record in
     let c₁₁ = c₉ .before .before in let args = c₁₁ .args in
-    ap (after (record-length .result)) (sym (c .enum-told .given .1)) ∙ leaf-is (now (args .q)) (read .result) (is-term .result) (read .ensures) (byte .result) (record-length .result) (byte .ensures) (record-length .ensures .0) (if1 .left) (is-term .ensures) (child-conditions .result) (now (tail .result)) (conditions .result) (child-conditions .ensures) (tail .ensures) (conditions .ensures)
+    ap (after (record-length .result)) (sym (c .enum-told .given .1)) ∙ leaf-is (now (args .q)) (is-term .result) (byte .result) (record-length .result) (byte .ensures) (record-length .ensures .0) (if1 .left) (is-term .ensures ∙ ap isTerm (term-record .ensures)) (child-counts .result .conditions) (now (tail .result)) (conditions .result) (child-counts .ensures .0) (tail .ensures) (conditions .ensures)
 
 term-add-t11 : (t : ℕ) → term-lts.Need-add-t11 (
-  read-reads.Asked,
-  read-reads.Learnt,
+  term-record-reads.Asked,
+  term-record-reads.Learnt,
   is-term-reads.Asked,
   is-term-reads.Learnt,
   byte-reads.Asked,
@@ -883,27 +883,27 @@ term-add-t11 : (t : ℕ) → term-lts.Need-add-t11 (
   record-length-reads.Learnt,
   tail-reads.Asked,
   tail-reads.Learnt,
-  child-conditions-reads.Asked,
-  child-conditions-reads.Learnt,
+  child-counts-reads.Asked,
+  child-counts-reads.Learnt,
   conditions-below t,
   conditions.Post,
 ) (term-at t) term.Post
 term-add-t11 t c =
     let c₁ = c .before in let n = c₁ .n in
     let c₃ = c₁ .before .before in let conditions = c₃ .conditions in
-    let c₄ = c₃ .before in let child-conditions = c₄ .child-conditions in
+    let c₄ = c₃ .before in let child-counts = c₄ .child-counts in
     let c₅ = c₄ .before in let tail = c₅ .tail in
     let c₆ = c₅ .before in let record-length = c₆ .record-length in
     let c₇ = c₆ .before in let byte = c₇ .byte in
     let c₈ = c₇ .before in let if1 = c₈ .if1 in
     let c₉ = c₈ .before in let is-term = c₉ .is-term in
-    let c₁₀ = c₉ .before in let read = c₁₀ .read in
+    let c₁₀ = c₉ .before in let term-record = c₁₀ .term-record in
     let c₁₂ = c₁₀ .before .before in let args = c₁₂ .args in
-    let h = leaf-whole (now (args .q)) (read .result) (is-term .result) (read .ensures) (byte .result) (record-length .result) (byte .ensures) (record-length .ensures .0) (if1 .left) (is-term .ensures) in omega (arith, part-within (λ q. many conditionSize (child-conditions .result) q) (now (args .q)) (now (tail .result)) (record-length .result) (n .given .0 .0) (conditions .result) (tail .ensures) (conditions .ensures) (n .given .1) (many-within conditionSize condition-within (child-conditions .result)))
+    let h = leaf-whole (now (args .q)) (is-term .result) (byte .result) (record-length .result) (byte .ensures) (record-length .ensures .0) (if1 .left) (is-term .ensures ∙ ap isTerm (term-record .ensures)) in omega (arith, part-within (λ q. many conditionSize (child-counts .result .conditions) q) (now (args .q)) (now (tail .result)) (record-length .result) (n .given .0 .0) (conditions .result) (tail .ensures) (conditions .ensures) (n .given .1) (many-within conditionSize condition-within (child-counts .result .conditions)))
 
 term-returns-3 : (t : ℕ) → term-lts.Need-returns-3 (
-  read-reads.Asked,
-  read-reads.Learnt,
+  term-record-reads.Asked,
+  term-record-reads.Learnt,
   is-term-reads.Asked,
   is-term-reads.Learnt,
   byte-reads.Asked,
@@ -912,22 +912,22 @@ term-returns-3 : (t : ℕ) → term-lts.Need-returns-3 (
   record-length-reads.Learnt,
   tail-reads.Asked,
   tail-reads.Learnt,
-  child-conditions-reads.Asked,
-  child-conditions-reads.Learnt,
+  child-counts-reads.Asked,
+  child-counts-reads.Learnt,
   conditions-below t,
   conditions.Post,
 ) (term-at t) term.Post
 term-returns-3 t c =
     let c₃ = c .before .before .before in let conditions = c₃ .conditions in
-    let c₄ = c₃ .before in let child-conditions = c₄ .child-conditions in
+    let c₄ = c₃ .before in let child-counts = c₄ .child-counts in
     let c₅ = c₄ .before in let tail = c₅ .tail in
     let c₆ = c₅ .before in let record-length = c₆ .record-length in
     let c₇ = c₆ .before in let byte = c₇ .byte in
     let c₈ = c₇ .before in let if1 = c₈ .if1 in
     let c₉ = c₈ .before in let is-term = c₉ .is-term in
-    let c₁₀ = c₉ .before in let read = c₁₀ .read in
+    let c₁₀ = c₉ .before in let term-record = c₁₀ .term-record in
     let c₁₂ = c₁₀ .before .before in let args = c₁₂ .args in
-    ap (after (record-length .result)) (sym (c .before .n .given .1)) ∙ leaf-is (now (args .q)) (read .result) (is-term .result) (read .ensures) (byte .result) (record-length .result) (byte .ensures) (record-length .ensures .0) (if1 .left) (is-term .ensures) (child-conditions .result) (now (tail .result)) (conditions .result) (child-conditions .ensures) (tail .ensures) (conditions .ensures)
+    ap (after (record-length .result)) (sym (c .before .n .given .1)) ∙ leaf-is (now (args .q)) (is-term .result) (byte .result) (record-length .result) (byte .ensures) (record-length .ensures .0) (if1 .left) (is-term .ensures ∙ ap isTerm (term-record .ensures)) (child-counts .result .conditions) (now (tail .result)) (conditions .result) (child-counts .ensures .0) (tail .ensures) (conditions .ensures)
 
 pub +conditions+head+term-spec : {M : Type 1} → statement M
 +conditions+head+term-spec = close μ-conditions μ-head μ-term (λ t. conditions-lts.spec (
@@ -962,16 +962,16 @@ pub +conditions+head+term-spec : {M : Type 1} → statement M
     (conditions-loop-again t)
     (conditions-returns-2 t))
     (λ t. head-lts.spec (
-      read-reads.Asked,
-      read-reads.Learnt,
+      condition-record-reads.Asked,
+      condition-record-reads.Learnt,
       is-condition-reads.Asked,
       is-condition-reads.Learnt,
       byte-reads.Asked,
       byte-reads.Learnt,
       record-length-reads.Asked,
       record-length-reads.Learnt,
-      child-terms-reads.Asked,
-      child-terms-reads.Learnt,
+      child-counts-reads.Asked,
+      child-counts-reads.Learnt,
       tail-reads.Asked,
       tail-reads.Learnt,
       term-below t,
@@ -981,12 +981,12 @@ pub +conditions+head+term-spec : {M : Type 1} → statement M
     head.Post
     head-Inv-loop
     head-μ-loop
-    (head-read-requires t)
+    (head-condition-record-requires t)
     (head-is-condition-requires t)
     (head-returns t)
     (head-byte-requires t)
     (head-record-length-requires t)
-    (head-child-terms-requires t)
+    (head-child-counts-requires t)
     (head-loop-holds t)
     (head-tail-requires t)
     (head-term-requires t)
@@ -999,8 +999,8 @@ pub +conditions+head+term-spec : {M : Type 1} → statement M
     (head-loop-again t)
     (head-returns-3 t))
     λ t. term-lts.spec (
-      read-reads.Asked,
-      read-reads.Learnt,
+      term-record-reads.Asked,
+      term-record-reads.Learnt,
       is-term-reads.Asked,
       is-term-reads.Learnt,
       byte-reads.Asked,
@@ -1009,20 +1009,20 @@ pub +conditions+head+term-spec : {M : Type 1} → statement M
       record-length-reads.Learnt,
       tail-reads.Asked,
       tail-reads.Learnt,
-      child-conditions-reads.Asked,
-      child-conditions-reads.Learnt,
+      child-counts-reads.Asked,
+      child-counts-reads.Learnt,
       conditions-below t,
       conditions.Post,
     )
     (term-at t)
     term.Post
-    (term-read-requires t)
+    (term-term-record-requires t)
     (term-is-term-requires t)
     (term-returns t)
     (term-byte-requires t)
     (term-record-length-requires t)
     (term-tail-requires t)
-    (term-child-conditions-requires t)
+    (term-child-counts-requires t)
     (term-conditions-requires t)
     (term-enum-known-n t)
     (term-enum-told t)

@@ -8,7 +8,7 @@ use Rattle.kinds.proofs.Entries.{children-small}
 
 returns : tie.Need-returns
 returns c =
-    let e : c .wide .result ≡ conditionsOf (c .before .before .args .kind) = c .wide .ensures .0 ∙ c .before .child-conditions .ensures in
+    let e : c .wide .result ≡ conditionsOf (c .before .before .args .kind) = c .wide .ensures .0 ∙ c .before .child-counts .ensures .0 in
     (e, omega (arith, children-small (c .before .before .args .kind)))
 
 pub children-spec : {M : Type 1} → statement M

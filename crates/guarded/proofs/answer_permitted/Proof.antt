@@ -6,7 +6,7 @@ use Rattle.guarded.proofs.answer_permitted.Reads as reads
 use Rattle.guarded.proofs.answer_permitted.Lts as lts
 use Rattle.guarded.proofs.answer_few.Reads as answer-few-reads
 use Rattle.guarded.proofs.answer_many.Reads as answer-many-reads
-use Rattle.permitted.proofs.few.Reads as few-reads
+use Rattle.guarded.proofs.few.Reads as few-reads
 
 answer-few-requires : tie.Need-answer-few-requires
 answer-few-requires c κs =

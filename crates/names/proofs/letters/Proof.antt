@@ -13,17 +13,14 @@ use Rattle.names.proofs.letters.Tie as tie
 
 returns : tie.Need-returns
 returns c =
-    let c₄ = c .before .before .before .before in let args = c₄ .args in
+    let args = c .before .before .before .before .args in
     let list = now (args .list) in
-    (c .spelling .ensures .0 ∙ ap length (name-run list (args .at) ((args .at) + 12 - (args .at)) (omega arith)), c .spelling .ensures .1 ∙ ap (λ (w : List ℕ). capped (codeOf w)) (name-run list (args .at) ((args .at) + 12 - (args .at)) (omega arith)))
+    c .spelling .ensures .0 ∙ ap (λ (w : List ℕ). capped (codeOf w)) (name-run list (args .at) ((args .at) + 12 - (args .at)) (omega arith))
 
 returns-2 : tie.Need-returns-2
 returns-2 c =
-    let c₁ = c .before in let tail = c₁ .tail in
-    let c₂ = c₁ .before in let if1 = c₂ .if1 in
-    let c₄ = c₂ .before .before in let args = c₄ .args in
-    let list = now (args .list) in
-    (c .spelling2 .ensures .0 ∙ ap length (name-tail list (args .at) _ (tail .ensures) (if1 .left)), c .spelling2 .ensures .1 ∙ ap (λ (w : List ℕ). capped (codeOf w)) (name-tail list (args .at) _ (tail .ensures) (if1 .left)))
+    let args = c .before .before .before .before .args in
+    c .spelling2 .ensures .0 ∙ ap (λ (w : List ℕ). capped (codeOf w)) (name-tail (now (args .list)) (args .at) _ (c .before .tail .ensures) (c .before .before .if1 .left))
 
 pub letters-spec : {M : Type 1} → statement M
 letters-spec =

@@ -40,7 +40,7 @@ returns-3 c =
     let c₅ = c₄ .before in let byte = c₅ .byte in
     let c₇ = c₅ .before .before in let args = c₇ .args in
     let list = now (args .list) in
-    λ w s. walk.named-is list (args .at) (byte .result) (args .kind) (args .relation) w (byte .ensures) (if1 .left) (belongs .result) (belongs .ensures) (place .result) _ (c .before .before .if2 .left) (place .ensures .0) (words.same-code-as list ((args .at) + place .result) _ (args .code) w (c .letters .ensures .1) s)
+    λ w s. walk.named-is list (args .at) (byte .result) (args .kind) (args .relation) w (byte .ensures) (if1 .left) (belongs .result) (belongs .ensures) (place .result) _ (c .before .before .if2 .left) (place .ensures .0) (words.same-code-as list ((args .at) + place .result) _ (args .code) w (c .letters .ensures) s)
 
 pub named-spec : {M : Type 1} → statement M
 named-spec =

@@ -18,12 +18,12 @@ use Rattle.evaluator.proofs.term.Reads as term-reads
 use Rattle.kinds.proofs.size_at.Reads as size-at-reads
 use Rattle.kinds.proofs.tail.Reads as tail-reads
 use Rattle.kinds.proofs.tail_sizes.Reads as tail-sizes-reads
-use Rattle.numbers.proofs.cell.Reads as cell-reads
+use Rattle.odometer.proofs.cell.Reads as cell-reads
 use Rattle.odometer.proofs.+targets.{statement}
 use Rattle.odometer.proofs.+targets.Tie.{close}
 
 abbrev μ-targets : Measures 7 targets-kinds.ps ℕ
-μ-targets κs a = a .1 .1 .0
+μ-targets κs a = a .1 .1 .0 .left
 
 abbrev targets-at : ℕ → In 7 targets-kinds.ps
 targets-at t = and 7 targets-kinds.ps (is 7 targets-kinds.ps μ-targets t) targets.Pre
@@ -35,9 +35,8 @@ abbrev targets-claims : ℕ → targets-lts.Claims
 targets-claims t = (term-reads.Asked, term-reads.Learnt, cell-reads.Asked, cell-reads.Learnt, size-at-reads.Asked, size-at-reads.Learnt, tail-reads.Asked, tail-reads.Learnt, tail-sizes-reads.Asked, tail-sizes-reads.Learnt, targets-below t, targets.Post)
 
 targets-returns : (t : ℕ) → targets-lts.Need-returns (targets-claims t) (targets-at t) targets.Post
-targets-returns t c =
-    let c₅ = c .before .before .before .before .before in let args = c₅ .args in
-    (targets-none (now (args .walks)) (now (args .vs)) (now (args .memo)) (now (args .env)) (now (args .q)) (now (args .z)) (args .left) (args .level) (args .at) (now (args .row)) (c .if1 .taken), search needs)
+targets-returns t c = let args = c .before .before .before .before .before .args in
+    (targets-none (now (args .walks)) (now (args .vs)) (now (args .memo)) (now (args .env)) (now (args .q)) (now (args .z)) (args .ahead .left) (args .ahead .level) (args .ahead .at) (now (args .row)) (c .if1 .taken), search needs)
 
 targets-term-requires : (t : ℕ) → targets-lts.Need-term-requires (targets-claims t) (targets-at t) targets.Post
 targets-term-requires t c κs = search needs
@@ -46,11 +45,10 @@ targets-same-length : (t : ℕ) → targets-lts.Need-same-length (targets-claims
 targets-same-length t c = search needs
 
 targets-returns-2 : (t : ℕ) → targets-lts.Need-returns-2 (targets-claims t) (targets-at t) targets.Post
-targets-returns-2 t c =
-    let c₄ = c .before .before .before .before in let term = c₄ .term in
-    let c₆ = c₄ .before .before in let if1 = c₆ .if1 in
-    let c₁₁ = c₆ .before .before .before .before .before in let args = c₁₁ .args in
-    (targets-nothing (now (args .walks)) (now (args .vs)) (now (args .memo)) (now (args .env)) (now (args .q)) (now (args .z)) (args .left) (args .level) (args .at) (now (args .row)) _ (if1 .left) (sym (term .ensures .0) ∙ value-none (term .result) (term .ensures .1 .0) (c .if2 .taken)), term .ensures .1 .1)
+targets-returns-2 t c = let term = c .before .before .before .before .term in
+    let if1 = c .before .before .before .before .before .before .if1 in
+    let args = c .before .before .before .before .before .before .before .before .before .before .before .args in
+    (targets-nothing (now (args .walks)) (now (args .vs)) (now (args .memo)) (now (args .env)) (now (args .q)) (now (args .z)) (args .ahead .left) (args .ahead .level) (args .ahead .at) (now (args .row)) _ (if1 .left) (sym (term .ensures .0) ∙ value-none (term .result) (term .ensures .1 .0) (c .if2 .taken)), term .ensures .1 .1)
 
 targets-cell-requires : (t : ℕ) → targets-lts.Need-cell-requires (targets-claims t) (targets-at t) targets.Post
 targets-cell-requires t c κs = (c .before .before .before .before .term .ensures .1 .0, is-number (c .before .before .before .before .term .result) (c .before .before .before .before .term .ensures .1 .0) (c .if2 .left))
@@ -70,45 +68,41 @@ targets-tail-requires t c κs = search needs
 targets-tail-sizes-requires : (t : ℕ) → targets-lts.Need-tail-sizes-requires (targets-claims t) (targets-at t) targets.Post
 targets-tail-sizes-requires t c κs = search needs
 
-targets-sub-targets : (t : ℕ) → targets-lts.Need-sub-targets (targets-claims t) (targets-at t) targets.Post
-targets-sub-targets t c = search needs
+targets-sub-fewer : (t : ℕ) → targets-lts.Need-sub-fewer (targets-claims t) (targets-at t) targets.Post
+targets-sub-fewer t c = search needs
 
-targets-add-targets : (t : ℕ) → targets-lts.Need-add-targets (targets-claims t) (targets-at t) targets.Post
-targets-add-targets t c =
-    let c₁₂ = c .before .before .before .before .before .before .before .before .before .before .before .before in let if1 = c₁₂ .if1 in
-    let c₁₇ = c₁₂ .before .before .before .before .before in let good = c₁₇ .good in let pre = c₁₇ .pre in
-    omega (arith, pre .1 .1, if1 .left, good .1 .1 .1 .1 .1 .1 .1 .1 .0)
+targets-add-next : (t : ℕ) → targets-lts.Need-add-next (targets-claims t) (targets-at t) targets.Post
+targets-add-next t c = let if1 = c .before .before .before .before .before .before .before .before .before .before .if1 in
+    let good = c .before .before .before .before .before .before .before .before .before .before .before .before .before .before .before .good in let pre = c .before .before .before .before .before .before .before .before .before .before .before .before .before .before .before .pre in
+    omega (arith, pre .1 .1, if1 .left, good .1 .1 .1 .1 .1 .1 .1 .0)
 
 targets-targets-requires : (t : ℕ) → targets-lts.Need-targets-requires (targets-claims t) (targets-at t) targets.Post
-targets-targets-requires t c κs =
-    let c₅ = c .before .before .before .before .before in let cell = c₅ .cell in
-    let c₁₀ = c₅ .before .before .before .before .before in let term = c₁₀ .term in
-    let c₁₂ = c₁₀ .before .before in let if1 = c₁₂ .if1 in
-    let c₁₇ = c₁₂ .before .before .before .before .before in let args = c₁₇ .args in let pre = c₁₇ .pre in
-    (omega (arith, pre .0, if1 .left), (omega (arith, pre .1 .0, ap length (term .ensures .1 .1)), omega (arith, pre .1 .1, if1 .left, length-set (now (args .row)) (args .at) (toZ w64 (ofZ w64 (cell .result))))))
+targets-targets-requires t c κs = let cell = c .before .before .before .before .before .cell in
+    let term = c .before .before .before .before .before .before .before .before .before .before .term in
+    let if1 = c .before .before .before .before .before .before .before .before .before .before .before .before .if1 in
+    let args = c .before .before .before .before .before .before .before .before .before .before .before .before .before .before .before .before .before .args in let pre = c .before .before .before .before .before .before .before .before .before .before .before .before .before .before .before .before .before .pre in
+    (omega (arith, pre .0, if1 .left), (omega (arith, pre .1 .0, ap length (term .ensures .1 .1)), omega (arith, pre .1 .1, if1 .left, length-set (now (args .row)) (args .ahead .at) (toZ w64 (ofZ w64 (cell .result))))))
 
 targets-same-length-2 : (t : ℕ) → targets-lts.Need-same-length-2 (targets-claims t) (targets-at t) targets.Post
 targets-same-length-2 t c = search needs
 
 targets-same-length-3 : (t : ℕ) → targets-lts.Need-same-length-3 (targets-claims t) (targets-at t) targets.Post
-targets-same-length-3 t c =
-    let c₃ = c .before .before .before in let targets = c₃ .targets in
-    let c₉ = c₃ .before .before .before .before .before .before in let cell = c₉ .cell in
-    let c₂₁ = c₉ .before .before .before .before .before .before .before .before .before .before .before .before in let args = c₂₁ .args in
-    targets .kept .1 .1 .1 .1 .1 .1 .1 .1 .0 ∙ length-set (now (args .row)) (args .at) (toZ w64 (ofZ w64 (cell .result)))
+targets-same-length-3 t c = let targets = c .before .before .before .targets in
+    let cell = c .before .before .before .before .before .before .before .before .before .cell in
+    let args = c .before .before .before .before .before .before .before .before .before .before .before .before .before .before .before .before .before .before .before .before .before .args in
+    targets .kept .1 .1 .1 .1 .1 .1 .1 .0 ∙ length-set (now (args .row)) (args .ahead .at) (toZ w64 (ofZ w64 (cell .result)))
 
 targets-returns-3 : (t : ℕ) → targets-lts.Need-returns-3 (targets-claims t) (targets-at t) targets.Post
-targets-returns-3 t c =
-    let c₃ = c .before .before .before in let targets = c₃ .targets in
-    let c₆ = c₃ .before .before .before in let tail-sizes = c₆ .tail-sizes in
-    let c₇ = c₆ .before in let tail = c₇ .tail in
-    let c₈ = c₇ .before in let size-at = c₈ .size-at in
-    let c₉ = c₈ .before in let cell = c₉ .cell in
-    let c₁₀ = c₉ .before in let if2 = c₁₀ .if2 in
-    let c₁₄ = c₁₀ .before .before .before .before in let term = c₁₄ .term in
-    let c₁₆ = c₁₄ .before .before in let if1 = c₁₆ .if1 in
-    let c₂₁ = c₁₆ .before .before .before .before .before in let args = c₂₁ .args in
-    (targets-more (now (args .walks)) (now (args .vs)) (now (args .memo)) (now (args .env)) (now (args .q)) (now (args .z)) (args .left) (args .level) (args .at) (now (args .row)) _ _ _ _ _ _ _ _ _ (if1 .left) (sym (term .ensures .0) ∙ value-some (term .result) (is-number (term .result) (term .ensures .1 .0) (if2 .left))) (toZ-ofZ {w = w64} (record { sfits = cell .ok }) ∙ cell .ensures) refl (size-at .ensures .0) (tail .ensures) (tail-sizes .ensures) (term .ensures .1 .1) (targets .ensures .0), targets .ensures .1 ∙ term .ensures .1 .1)
+targets-returns-3 t c = let targets = c .before .before .before .targets in
+    let tail-sizes = c .before .before .before .before .before .before .tail-sizes in
+    let tail = c .before .before .before .before .before .before .before .tail in
+    let size-at = c .before .before .before .before .before .before .before .before .size-at in
+    let cell = c .before .before .before .before .before .before .before .before .before .cell in
+    let if2 = c .before .before .before .before .before .before .before .before .before .before .if2 in
+    let term = c .before .before .before .before .before .before .before .before .before .before .before .before .before .before .term in
+    let if1 = c .before .before .before .before .before .before .before .before .before .before .before .before .before .before .before .before .if1 in
+    let args = c .before .before .before .before .before .before .before .before .before .before .before .before .before .before .before .before .before .before .before .before .before .args in
+    (targets-more (now (args .walks)) (now (args .vs)) (now (args .memo)) (now (args .env)) (now (args .q)) (now (args .z)) (args .ahead .left) (args .ahead .level) (args .ahead .at) (now (args .row)) _ _ _ _ _ _ _ _ _ (if1 .left) (sym (term .ensures .0) ∙ value-some (term .result) (is-number (term .result) (term .ensures .1 .0) (if2 .left))) (toZ-ofZ {w = w64} (record { sfits = cell .ok }) ∙ cell .ensures) refl (size-at .ensures .0) (tail .ensures) (tail-sizes .ensures) (term .ensures .1 .1) (targets .ensures .0), targets .ensures .1 ∙ term .ensures .1 .1)
 
 pub +targets-spec : {M : Type 1} → statement M
 +targets-spec = close μ-targets λ t. targets-lts.spec (targets-claims t)
@@ -124,8 +118,8 @@ pub +targets-spec : {M : Type 1} → statement M
     (targets-size-at-requires t)
     (targets-tail-requires t)
     (targets-tail-sizes-requires t)
-    (targets-sub-targets t)
-    (targets-add-targets t)
+    (targets-sub-fewer t)
+    (targets-add-next t)
     (targets-targets-requires t)
     (targets-same-length-2 t)
     (targets-same-length-3 t)

@@ -1,11 +1,12 @@
 use native.Mathlib.Omega.{arith}
-use mathlib.Core.Path.{_≡_, refl, _∙_}
+use mathlib.Core.Path.{refl, _∙_}
 use denote.Ref.{now}
 use mir.Syntax.{w32, w64}
-use mir.Val.{toZ, ofZ}
+use mir.Val.{SFits, toZ, ofZ}
 use mir.Facts.{toZ-ofZ}
-use lib.IntN.{ℤ, pos}
+use lib.IntN.{pos}
 use lib.ListN.{getD, List·getD-eq-default}
+use Rattle.numbers.proofs.Signed.{widens}
 use Rattle.numbers.proofs.Laws.{value-none, is-number, value-some}
 use Rattle.odometer.proofs.Listing.{cell-attribute, cell-nothing, cell-value}
 use borrow.Author.Needs.{needs}
@@ -14,13 +15,14 @@ use Rattle.odometer.proofs.listed_cell.Tie as tie
 
 returns : tie.Need-returns
 returns c =
-    let c₁ = c .before in let value = c₁ .value in
-    let c₂ = c₁ .before in let size-at2 = c₂ .size-at2 in
-    let c₄ = c₂ .before .before in let if1 = c₄ .if1 in
-    let c₅ = c₄ .before in let size-at = c₅ .size-at in
-    let c₈ = c₅ .before .before .before in let args = c₈ .args in let pre = c₈ .pre in
+    let value = c .value in
+    let c₁ = c .before in let size-at2 = c₁ .size-at2 in
+    let c₃ = c₁ .before .before in let if1 = c₃ .if1 in
+    let c₄ = c₃ .before in let size-at = c₄ .size-at in
+    let c₇ = c₄ .before .before .before in let args = c₇ .args in let pre = c₇ .pre in
     let env = now (args .env) in
-    let w : _≡_ {A = ℤ} (c .wide .result) (toZ w32 (ofZ w32 (value .result))) = c .wide .ensures .0 in cell-attribute (now (args .memo)) (now (args .list)) env (now (args .vs)) (args .i) (now (args .row)) _ (size-at .result) (size-at2 .result) (getD env (size-at .result) 0) (toZ w32 (ofZ w32 (value .result))) (toZ w64 (ofZ w64 (c .wide .result))) (size-at .ensures .0) (if1 .taken) (pre .0) refl (size-at2 .ensures .0) (toZ-ofZ {w = w32} (record { sfits = value .ok }) ∙ value .ensures) (toZ-ofZ {w = w64} (record { sfits = c .wide .ok }) ∙ w) refl
+    let fits : SFits w32 (value .result) = record { sfits = value .ok } in
+    cell-attribute (now (args .memo)) (now (args .list)) env (now (args .vs)) (args .i) (now (args .row)) _ (size-at .result) (size-at2 .result) (getD env (size-at .result) 0) (toZ w32 (ofZ w32 (value .result))) (toZ w64 (ofZ w64 (toZ w32 (ofZ w32 (value .result))))) (size-at .ensures .0) (if1 .taken) (pre .0) refl (size-at2 .ensures .0) (toZ-ofZ fits ∙ value .ensures) (toZ-ofZ {w = w64} (widens (value .result) fits)) refl
 
 returns-2 : tie.Need-returns-2
 returns-2 c =
@@ -50,7 +52,7 @@ listed-cell-spec =
     (λ c. search needs)
     (λ c κs. search needs)
     (λ c κs. search needs)
-    (λ c κs. search needs)
+    (λ c. widens (c .value .result) (record { sfits = c .value .ok }))
     (λ c. search needs)
     (λ c. search needs)
     (λ c. search needs)

@@ -11,34 +11,30 @@ use Rattle.odometer.proofs.only.Statement.{statement}
 use Rattle.odometer.proofs.only.Tie as tie
 
 targets-requires : tie.Need-targets-requires
-targets-requires c κs =
-    let c₈ = c .before .before .before .before .before .before .before .before in let pre = c₈ .pre in
+targets-requires c κs = let pre = c .before .before .before .before .before .before .before .before .pre in
     (pre .0, omega (arith, pre .1))
 
 returns : tie.Need-returns
-returns c =
-    let c₅ = c .before .before .before .before .before in let targets = c₅ .targets in
-    let c₈ = c₅ .before .before .before in let tail-sizes = c₈ .tail-sizes in
-    let c₉ = c₈ .before in let tail = c₉ .tail in
-    let c₁₄ = c₉ .before .before .before .before .before in let args = c₁₄ .args in let pre = c₁₄ .pre in
+returns c = let targets = c .before .before .before .before .before .targets in
+    let tail-sizes = c .before .before .before .before .before .before .before .before .tail-sizes in
+    let tail = c .before .before .before .before .before .before .before .before .before .tail in
+    let args = c .before .before .before .before .before .before .before .before .before .before .before .before .before .before .args in let pre = c .before .before .before .before .before .before .before .before .before .before .before .before .before .before .pre in
     let answer = now (args .answer) in let env = now (args .env) in let memo = now (args .memo) in let q = now (args .q) in let vs = now (args .vs) in let walks = now (args .walks) in let z = now (args .z) in let plan = args .plan in
-    (no-row (c .none .result) answer (c .none .ensures) ∙ write-none (targets .result) (plan .columns) (targets .last .1 .1 .1 .1 .1 .1 .1 .1 .0) (start answer) (rowBy plan q z walks vs memo (assigned vs env)) (cells-of plan walks vs memo env q z (targets .result) _ (targets .last .1 .1 .1 .1 .1 .1 .1 .1 .0) (omega (arith, pre .1)) _ _ (tail .ensures) (tail-sizes .ensures) (targets .ensures .0)) (c .before .if1 .taken), targets .ensures .1)
+    (no-row (c .none .result) answer (c .none .ensures) ∙ write-none (targets .result) (plan .columns) (targets .last .1 .1 .1 .1 .1 .1 .1 .0) (start answer) (rowBy plan q z walks vs memo (assigned vs env)) (cells-of plan walks vs memo env q z (targets .result) _ (targets .last .1 .1 .1 .1 .1 .1 .1 .0) (omega (arith, pre .1)) _ _ (tail .ensures) (tail-sizes .ensures) (targets .ensures .0)) (c .before .if1 .taken), targets .ensures .1)
 
 slice-aggregate-only-row : tie.Need-slice-aggregate-only-row
-slice-aggregate-only-row c =
-    let c₆ = c .before .before .before .before .before .before in let targets = c₆ .targets in
-    let c₁₅ = c₆ .before .before .before .before .before .before .before .before .before in let args = c₁₅ .args in let pre = c₁₅ .pre in
-    omega (arith, length-take ((args .plan) .columns) (targets .last .1 .1 .1 .1 .1 .1 .1 .1 .0), targets .kept .1 .1 .1 .1 .1 .1 .1 .1 .0, pre .1)
+slice-aggregate-only-row c = let targets = c .before .before .before .before .before .before .targets in
+    let args = c .before .before .before .before .before .before .before .before .before .before .before .before .before .before .before .args in let pre = c .before .before .before .before .before .before .before .before .before .before .before .before .before .before .before .pre in
+    omega (arith, length-take ((args .plan) .columns) (targets .last .1 .1 .1 .1 .1 .1 .1 .0), targets .kept .1 .1 .1 .1 .1 .1 .1 .0, pre .1)
 
 returns-2 : tie.Need-returns-2
-returns-2 c =
-    let c₄ = c .before .before .before .before in let if1 = c₄ .if1 in
-    let c₈ = c₄ .before .before .before .before in let targets = c₈ .targets in
-    let c₁₁ = c₈ .before .before .before in let tail-sizes = c₁₁ .tail-sizes in
-    let c₁₂ = c₁₁ .before in let tail = c₁₂ .tail in
-    let c₁₇ = c₁₂ .before .before .before .before .before in let args = c₁₇ .args in let pre = c₁₇ .pre in
+returns-2 c = let if1 = c .before .before .before .before .if1 in
+    let targets = c .before .before .before .before .before .before .before .before .targets in
+    let tail-sizes = c .before .before .before .before .before .before .before .before .before .before .before .tail-sizes in
+    let tail = c .before .before .before .before .before .before .before .before .before .before .before .before .tail in
+    let args = c .before .before .before .before .before .before .before .before .before .before .before .before .before .before .before .before .before .args in let pre = c .before .before .before .before .before .before .before .before .before .before .before .before .before .before .before .before .before .pre in
     let env = now (args .env) in let memo = now (args .memo) in let q = now (args .q) in let vs = now (args .vs) in let walks = now (args .walks) in let z = now (args .z) in let plan = args .plan in
-    (write-row (targets .result) (plan .columns) (targets .last .1 .1 .1 .1 .1 .1 .1 .1 .0) (start (now (args .answer))) (rowBy plan q z walks vs memo (assigned vs env)) (cells-of plan walks vs memo env q z (targets .result) _ (targets .last .1 .1 .1 .1 .1 .1 .1 .1 .0) (omega (arith, pre .1)) _ _ (tail .ensures) (tail-sizes .ensures) (targets .ensures .0)) _ (if1 .left) (c .before .only-row .ensures), targets .ensures .1)
+    (write-row (targets .result) (plan .columns) (targets .last .1 .1 .1 .1 .1 .1 .1 .0) (start (now (args .answer))) (rowBy plan q z walks vs memo (assigned vs env)) (cells-of plan walks vs memo env q z (targets .result) _ (targets .last .1 .1 .1 .1 .1 .1 .1 .0) (omega (arith, pre .1)) _ _ (tail .ensures) (tail-sizes .ensures) (targets .ensures .0)) _ (if1 .left) (c .before .only-row .ensures), targets .ensures .1)
 
 pub only-spec : {M : Type 1} → statement M
 only-spec =

@@ -6,8 +6,8 @@ use mathlib.Core.Path.{_≡_, refl, _∙_}
 use lib.ListN.{length}
 use Rattle.catalogue.specs.Layout.{rowsOf}
 use Rattle.copier.specs.Guard.{part}
-use Rattle.judges.specs.Marked.{Bits}
-use Rattle.judges.proofs.Steps.{bits-on}
+use Rattle.permitted.specs.Marked.{Bits}
+use Rattle.permitted.proofs.judges.Steps.{bits-on}
 use Rattle.permitted.proofs.Lists.{Decides, decides-on, decides-end}
 use Rattle.permitted.proofs.judge_all.Statement.{statement}
 use Rattle.permitted.proofs.judge_all.Tie as tie

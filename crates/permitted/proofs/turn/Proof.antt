@@ -7,7 +7,7 @@ use Rattle.permitted.proofs.turn.Statement.{statement}
 use Rattle.permitted.proofs.turn.Tie as tie
 use Rattle.permitted.proofs.turn.Reads as reads
 use Rattle.permitted.proofs.turn.Lts as lts
-use Rattle.judges.proofs.judge.Reads as judge-reads
+use Rattle.permitted.proofs.judges.judge.Reads as judge-reads
 use Rattle.permitted.proofs.part_at.Reads as part-at-reads
 
 returns : tie.Need-returns

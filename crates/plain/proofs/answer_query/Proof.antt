@@ -1,7 +1,7 @@
 use native.Mathlib.Omega.{arith}
 use lib.IntN.{pos}
 use Rattle.model.proofs.Lists.{getD-same}
-use Rattle.plain.proofs.Memo.{blank-trusted, none-bound}
+use Rattle.plain.proofs.Memo.{blank-trusted}
 use borrow.Author.Needs.{needs}
 use Rattle.plain.proofs.answer_query.Statement.{statement}
 use Rattle.plain.proofs.answer_query.Tie as tie
@@ -14,30 +14,24 @@ use Rattle.plain.proofs.few.Reads as few-reads
 use Rattle.plain.proofs.holding.Reads as holding-reads
 use Rattle.plain.proofs.most_rows.Reads as most-rows-reads
 
-answer-filled-requires : tie.Need-answer-filled-requires
-answer-filled-requires c κs = (search needs, none-bound _)
-
 answer-by-requires : tie.Need-answer-by-requires
-answer-by-requires c κs = (search needs, blank-trusted _ _ (getD-same 2 (pos 0)) _, none-bound _)
+answer-by-requires c κs = (search needs, blank-trusted _ _ (getD-same 2 (pos 0)) _)
 
 answer-unlinked-requires : tie.Need-answer-unlinked-requires
-answer-unlinked-requires c κs = (search needs, blank-trusted _ _ (getD-same 2 (pos 0)) _, none-bound _, omega arith, getD-same 1 0)
+answer-unlinked-requires c κs = (search needs, blank-trusted _ _ (getD-same 2 (pos 0)) _, omega arith, getD-same 1 0)
 
 pub answer-query-spec : {M : Type 1} → statement M
 answer-query-spec =
     tie.close
     (tie.spec
     (λ c κs. search needs)
-    (λ c. search needs)
-    answer-filled-requires
+    (λ c κs. search needs)
     (λ c. search needs)
     (λ c. search needs)
     (λ c κs. search needs)
     (λ c κs. search needs)
-    (λ c. search needs)
     (λ c. search needs)
     answer-by-requires
-    (λ c. search needs)
     (λ c. search needs)
     (λ c. search needs)
     (λ c. search needs)

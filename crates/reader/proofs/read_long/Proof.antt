@@ -14,16 +14,13 @@ use Rattle.reader.proofs.read_long.Lts as lts
 use Rattle.reader.proofs.read_with.Reads as read-with-reads
 
 read-with-requires : tie.Need-read-with-requires
-read-with-requires c κs = (λ l. (omega (arith, l), omega (arith, l), omega (arith, l), omega (arith, l)), ((λ l. (omega (arith, l), omega (arith, l), omega (arith, l)), omega arith, omega arith, omega arith), (cleared 4608, cleared 2000, cleared 2001)))
+read-with-requires c κs =
+    (λ l. (omega (arith, l), omega (arith, l), omega (arith, l), omega (arith, l)), (omega arith, omega arith, cleared 4608))
 
 pub read-long-spec : {M : Type 1} → statement M
 read-long-spec =
     tie.close
     (tie.spec
-    (λ c. search needs)
-    (λ c. search needs)
-    (λ c. search needs)
-    (λ c. search needs)
     (λ c. search needs)
     (λ c. search needs)
     (λ c. search needs)

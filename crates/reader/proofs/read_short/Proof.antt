@@ -15,17 +15,13 @@ use Rattle.reader.proofs.read_with.Reads as read-with-reads
 
 read-with-requires : tie.Need-read-with-requires
 read-with-requires c κs =
-    let c₁₃ = c .before .before .before .before .before .before .before .before .before .before .before .before .before in let pre = c₁₃ .pre in
-    (λ l. (omega (arith, pre), omega (arith, pre), omega (arith, pre), omega (arith, pre)), ((λ l. (omega (arith, pre), omega (arith, pre), omega (arith, pre)), omega arith, omega arith, omega arith), (cleared 768, cleared 255, cleared 256)))
+    let pre = c .before .before .before .before .before .before .before .before .before .pre in
+    (λ l. (omega (arith, pre), omega (arith, pre), omega (arith, pre), omega (arith, pre)), (omega arith, omega arith, cleared 768))
 
 pub read-short-spec : {M : Type 1} → statement M
 read-short-spec =
     tie.close
     (tie.spec
-    (λ c. search needs)
-    (λ c. search needs)
-    (λ c. search needs)
-    (λ c. search needs)
     (λ c. search needs)
     (λ c. search needs)
     (λ c. search needs)

@@ -29,7 +29,8 @@ use Rattle.rewriter.proofs.guard.open_guard.Reads as open-guard-reads
 use Rattle.copier.proofs.put.Reads as put-reads
 use Rattle.copier.proofs.put_record.Reads as put-record-reads
 use Rattle.rewriter.proofs.guard.write_guard.Reads as write-guard-reads
-use Rattle.kinds.proofs.read.Reads as read-reads
+use Rattle.kinds.proofs.condition_record.Reads as condition-record-reads
+use Rattle.kinds.proofs.term_record.Reads as term-record-reads
 use Rattle.kinds.proofs.tail.Reads as tail-reads
 use Rattle.kinds.proofs.tail_sizes.Reads as tail-sizes-reads
 use Rattle.rewriter.proofs.first_child.Reads as first-child-reads
@@ -40,19 +41,19 @@ use Rattle.rewriter.proofs.+condition+conditions+term+terms+under.{stat
 use Rattle.rewriter.proofs.+condition+conditions+term+terms+under.Tie.{close}
 
 abbrev μ-condition : Measures 6 condition-kinds.ps ℕ
-μ-condition κs a = 2 * (a .1 .1 .1 .1 .1 .1 .1 .1 .0)
+μ-condition κs a = 2 * (a .1 .1 .1 .1 .1 .1 .1 .0)
 
 abbrev μ-conditions : Measures 6 conditions-kinds.ps ℕ
-μ-conditions κs a = 2 * (a .1 .1 .1 .1 .1 .1 .1 .1 .0) + 1
+μ-conditions κs a = 2 * (a .1 .1 .1 .1 .1 .1 .1 .0) + 1
 
 abbrev μ-term : Measures 6 term-kinds.ps ℕ
-μ-term κs a = 2 * (a .1 .1 .1 .1 .1 .1 .1 .1 .0)
+μ-term κs a = 2 * (a .1 .1 .1 .1 .1 .1 .1 .0)
 
 abbrev μ-terms : Measures 6 terms-kinds.ps ℕ
-μ-terms κs a = 2 * (a .1 .1 .1 .1 .1 .1 .1 .1 .0) + 1
+μ-terms κs a = 2 * (a .1 .1 .1 .1 .1 .1 .1 .0) + 1
 
 abbrev μ-under : Measures 6 under-kinds.ps ℕ
-μ-under κs a = 2 * (a .1 .1 .1 .1 .1 .1 .1 .1 .0) + 1
+μ-under κs a = 2 * (a .1 .1 .1 .1 .1 .1 .1 .0) + 1
 
 abbrev condition-at : ℕ → In 6 condition-kinds.ps
 condition-at t = and 6 condition-kinds.ps (is 6 condition-kinds.ps μ-condition t) condition.Pre
@@ -88,13 +89,13 @@ abbrev under-below : ℕ → In 6 under-kinds.ps
 under-below t = and 6 under-kinds.ps (falls 6 under-kinds.ps _<_ μ-under t) under.Pre
 
 abbrev condition-claims : ℕ → condition-lts.Claims
-condition-claims t = (leaf-reads.Asked, leaf-reads.Learnt, read-reads.Asked, read-reads.Learnt, put-reads.Asked, put-reads.Learnt, first-child-reads.Asked, first-child-reads.Learnt, tail-reads.Asked, tail-reads.Learnt, tail-sizes-reads.Asked, tail-sizes-reads.Learnt, condition-below t, condition.Post, conditions-below t, conditions.Post, put-record-reads.Asked, put-record-reads.Learnt, terms-below t, terms.Post, under-below t, under.Post)
+condition-claims t = (leaf-reads.Asked, leaf-reads.Learnt, condition-record-reads.Asked, condition-record-reads.Learnt, put-reads.Asked, put-reads.Learnt, first-child-reads.Asked, first-child-reads.Learnt, tail-reads.Asked, tail-reads.Learnt, tail-sizes-reads.Asked, tail-sizes-reads.Learnt, condition-below t, condition.Post, conditions-below t, conditions.Post, put-record-reads.Asked, put-record-reads.Learnt, terms-below t, terms.Post, under-below t, under.Post)
 
 abbrev conditions-claims : ℕ → conditions-lts.Claims
 conditions-claims t = (first-child-reads.Asked, first-child-reads.Learnt, second-child-reads.Asked, second-child-reads.Learnt, tail-reads.Asked, tail-reads.Learnt, tail-sizes-reads.Asked, tail-sizes-reads.Learnt, condition-below t, condition.Post)
 
 abbrev term-claims : ℕ → term-lts.Claims
-term-claims t = (leaf-reads.Asked, leaf-reads.Learnt, read-reads.Asked, read-reads.Learnt, put-record-reads.Asked, put-record-reads.Learnt, under-below t, under.Post)
+term-claims t = (leaf-reads.Asked, leaf-reads.Learnt, term-record-reads.Asked, term-record-reads.Learnt, put-record-reads.Asked, put-record-reads.Learnt, under-below t, under.Post)
 
 abbrev terms-claims : ℕ → terms-lts.Claims
 terms-claims t = (first-child-reads.Asked, first-child-reads.Learnt, second-child-reads.Asked, second-child-reads.Learnt, tail-reads.Asked, tail-reads.Learnt, tail-sizes-reads.Asked, tail-sizes-reads.Learnt, term-below t, term.Post)
@@ -105,7 +106,7 @@ under-claims t = (mask-reads.Asked, mask-reads.Learnt, first-child-reads.Asked, 
 condition-leaf-requires : (t : ℕ) → condition-lts.Need-leaf-requires (condition-claims t) (condition-at t) condition.Post
 condition-leaf-requires t c κs =
     let c₈ = c .before .before .before .before .before .before .before .before in let args = c₈ .args in let pre = c₈ .pre in
-    leaf-room _ _ _ (zero-leaf (now (args .masks)) (part (now (args .permits)) (now (args .places))) (args .level) (now (args .q)) (now (args .z)) (c .before .if1 .taken)) (args .at) (args .next) (pre .1)
+    leaf-room _ _ _ (zero-leaf (now (args .masks)) (part (now (args .permits)) (now (args .places))) (args .level) (now (args .q)) (now (args .z)) (c .before .if1 .taken)) (args .to .at) (args .to .next) (pre .1)
 
 condition-same-length : (t : ℕ) → condition-lts.Need-same-length (condition-claims t) (condition-at t) condition.Post
 condition-same-length t c = search needs
@@ -114,30 +115,30 @@ condition-returns : (t : ℕ) → condition-lts.Need-returns (condition-claims t
 condition-returns t c =
     let c₄ = c .before .before .before .before in let if1 = c₄ .if1 in
     let c₁₁ = c₄ .before .before .before .before .before .before .before in let args = c₁₁ .args in
-    leaf-did _ _ _ (zero-leaf (now (args .masks)) (part (now (args .permits)) (now (args .places))) (args .level) (now (args .q)) (now (args .z)) (if1 .taken)) (args .at) (args .next) (now (args .out)) _ _ _ (c .before .before .leaf .ensures)
+    leaf-did _ _ _ (zero-leaf (now (args .masks)) (part (now (args .permits)) (now (args .places))) (args .level) (now (args .q)) (now (args .z)) (if1 .taken)) (args .to .at) (args .to .next) (now (args .out)) _ _ _ (c .before .before .leaf .ensures)
 
-condition-read-requires : (t : ℕ) → condition-lts.Need-read-requires (condition-claims t) (condition-at t) condition.Post
-condition-read-requires t c κs = search needs
+condition-condition-record-requires : (t : ℕ) → condition-lts.Need-condition-record-requires (condition-claims t) (condition-at t) condition.Post
+condition-condition-record-requires t c κs = search needs
 
 condition-enum-told : (t : ℕ) → condition-lts.Need-enum-told (condition-claims t) (condition-at t) condition.Post
 condition-enum-told t c = search needs
 
 condition-leaf-requires-2 : (t : ℕ) → condition-lts.Need-leaf-requires-2 (condition-claims t) (condition-at t) condition.Post
 condition-leaf-requires-2 t c κs =
-    let c₃ = c .before .before .before in let read = c₃ .read in
+    let c₃ = c .before .before .before in let condition-record = c₃ .condition-record in
     let c₄ = c₃ .before in let if1 = c₄ .if1 in
     let c₁₁ = c₄ .before .before .before .before .before .before .before in let args = c₁₁ .args in let pre = c₁₁ .pre in
-    leaf-room _ _ _ (true-leaf (now (args .masks)) (part (now (args .permits)) (now (args .places))) (args .level) (now (args .q)) (now (args .z)) (if1 .left) (sym (read .ensures) ∙ c .before .enum-told .given .1)) (args .at) (args .next) (pre .1)
+    leaf-room _ _ _ (true-leaf (now (args .masks)) (part (now (args .permits)) (now (args .places))) (args .level) (now (args .q)) (now (args .z)) (if1 .left) (sym (condition-record .ensures) ∙ c .before .enum-told .given .1)) (args .to .at) (args .to .next) (pre .1)
 
 condition-enum-told-2 : (t : ℕ) → condition-lts.Need-enum-told-2 (condition-claims t) (condition-at t) condition.Post
 condition-enum-told-2 t c = search needs
 
 condition-put-requires : (t : ℕ) → condition-lts.Need-put-requires (condition-claims t) (condition-at t) condition.Post
 condition-put-requires t c κs =
-    let c₃ = c .before .before .before in let read = c₃ .read in
+    let c₃ = c .before .before .before in let condition-record = c₃ .condition-record in
     let c₄ = c₃ .before in let if1 = c₄ .if1 in
     let c₁₁ = c₄ .before .before .before .before .before .before .before in let args = c₁₁ .args in let pre = c₁₁ .pre in
-    head-room _ _ _ _ _ (not-shape (now (args .masks)) (part (now (args .permits)) (now (args .places))) (args .level) (now (args .q)) (now (args .z)) (if1 .left) (sym (read .ensures) ∙ c .before .enum-told2 .given .1)) (args .at) (args .next) (pre .1)
+    head-room _ _ _ _ _ (not-shape (now (args .masks)) (part (now (args .permits)) (now (args .places))) (args .level) (now (args .q)) (now (args .z)) (if1 .left) (sym (condition-record .ensures) ∙ c .before .enum-told2 .given .1)) (args .to .at) (args .to .next) (pre .1)
 
 condition-first-child-requires : (t : ℕ) → condition-lts.Need-first-child-requires (condition-claims t) (condition-at t) condition.Post
 condition-first-child-requires t c κs = search needs
@@ -156,21 +157,21 @@ condition-condition-requires t c κs =
     let c₃ = c .before .before .before in let first-child = c₃ .first-child in
     let c₆ = c₃ .before .before .before in let put = c₆ .put in
     let c₈ = c₆ .before .before in let enum-told2 = c₈ .enum-told2 in
-    let c₁₀ = c₈ .before .before in let read = c₁₀ .read in
+    let c₁₀ = c₈ .before .before in let condition-record = c₁₀ .condition-record in
     let c₁₁ = c₁₀ .before in let if1 = c₁₁ .if1 in
     let c₁₈ = c₁₁ .before .before .before .before .before .before .before in let args = c₁₈ .args in let pre = c₁₈ .pre in
-    let masks = now (args .masks) in let permits = now (args .permits) in let places = now (args .places) in let q = now (args .q) in let z = now (args .z) in let level = args .level in let next = args .next in
-    (omega (arith, pre .0, if1 .left), child-room (λ x y i. conditionBytes masks (part permits places) (level - 1) x y i) (λ x y. conditionNew masks (part permits places) (level - 1) x y) q z 0 next _ (first-child .ensures .0) _ _ (c .before .before .tail .ensures) (c .before .tail-sizes .ensures) _ (body-room _ _ _ _ _ (not-shape masks (part permits places) level q z (if1 .left) (sym (read .ensures) ∙ enum-told2 .given .1)) (args .at) next (now (args .out)) _ _ (put .ensures) (pre .1)))
+    let masks = now (args .masks) in let permits = now (args .permits) in let places = now (args .places) in let q = now (args .q) in let z = now (args .z) in let level = args .level in let next = args .to .next in
+    (omega (arith, pre .0, if1 .left), child-room (λ x y i. conditionBytes masks (part permits places) (level - 1) x y i) (λ x y. conditionNew masks (part permits places) (level - 1) x y) q z 0 next _ (first-child .ensures .0) _ _ (c .before .before .tail .ensures) (c .before .tail-sizes .ensures) _ (body-room _ _ _ _ _ (not-shape masks (part permits places) level q z (if1 .left) (sym (condition-record .ensures) ∙ enum-told2 .given .1)) (args .to .at) next (now (args .out)) _ _ (put .ensures) (pre .1)))
 
 condition-enum-told-3 : (t : ℕ) → condition-lts.Need-enum-told-3 (condition-claims t) (condition-at t) condition.Post
 condition-enum-told-3 t c = search needs
 
 condition-put-requires-2 : (t : ℕ) → condition-lts.Need-put-requires-2 (condition-claims t) (condition-at t) condition.Post
 condition-put-requires-2 t c κs =
-    let c₃ = c .before .before .before in let read = c₃ .read in
+    let c₃ = c .before .before .before in let condition-record = c₃ .condition-record in
     let c₄ = c₃ .before in let if1 = c₄ .if1 in
     let c₁₁ = c₄ .before .before .before .before .before .before .before in let args = c₁₁ .args in let pre = c₁₁ .pre in
-    head-room _ _ _ _ _ (and-shape (now (args .masks)) (part (now (args .permits)) (now (args .places))) (args .level) (now (args .q)) (now (args .z)) (if1 .left) (sym (read .ensures) ∙ c .before .enum-told3 .given .1)) (args .at) (args .next) (pre .1)
+    head-room _ _ _ _ _ (and-shape (now (args .masks)) (part (now (args .permits)) (now (args .places))) (args .level) (now (args .q)) (now (args .z)) (if1 .left) (sym (condition-record .ensures) ∙ c .before .enum-told3 .given .1)) (args .to .at) (args .to .next) (pre .1)
 
 condition-sub-conditions : (t : ℕ) → condition-lts.Need-sub-conditions (condition-claims t) (condition-at t) condition.Post
 condition-sub-conditions t c = search needs
@@ -179,20 +180,20 @@ condition-conditions-requires : (t : ℕ) → condition-lts.Need-conditions-requ
 condition-conditions-requires t c κs =
     let c₃ = c .before .before .before in let put2 = c₃ .put2 in
     let c₅ = c₃ .before .before in let enum-told3 = c₅ .enum-told3 in
-    let c₇ = c₅ .before .before in let read = c₇ .read in
+    let c₇ = c₅ .before .before in let condition-record = c₇ .condition-record in
     let c₈ = c₇ .before in let if1 = c₈ .if1 in
     let c₁₅ = c₈ .before .before .before .before .before .before .before in let args = c₁₅ .args in let pre = c₁₅ .pre in
-    (omega (arith, pre .0, if1 .left), body-room _ _ _ _ _ (and-shape (now (args .masks)) (part (now (args .permits)) (now (args .places))) (args .level) (now (args .q)) (now (args .z)) (if1 .left) (sym (read .ensures) ∙ enum-told3 .given .1)) (args .at) (args .next) (now (args .out)) _ _ (put2 .ensures) (pre .1))
+    (omega (arith, pre .0, if1 .left), body-room _ _ _ _ _ (and-shape (now (args .masks)) (part (now (args .permits)) (now (args .places))) (args .level) (now (args .q)) (now (args .z)) (if1 .left) (sym (condition-record .ensures) ∙ enum-told3 .given .1)) (args .to .at) (args .to .next) (now (args .out)) _ _ (put2 .ensures) (pre .1))
 
 condition-enum-told-4 : (t : ℕ) → condition-lts.Need-enum-told-4 (condition-claims t) (condition-at t) condition.Post
 condition-enum-told-4 t c = search needs
 
 condition-put-requires-3 : (t : ℕ) → condition-lts.Need-put-requires-3 (condition-claims t) (condition-at t) condition.Post
 condition-put-requires-3 t c κs =
-    let c₃ = c .before .before .before in let read = c₃ .read in
+    let c₃ = c .before .before .before in let condition-record = c₃ .condition-record in
     let c₄ = c₃ .before in let if1 = c₄ .if1 in
     let c₁₁ = c₄ .before .before .before .before .before .before .before in let args = c₁₁ .args in let pre = c₁₁ .pre in
-    head-room _ _ _ _ _ (or-shape (now (args .masks)) (part (now (args .permits)) (now (args .places))) (args .level) (now (args .q)) (now (args .z)) (if1 .left) (sym (read .ensures) ∙ c .before .enum-told4 .given .1)) (args .at) (args .next) (pre .1)
+    head-room _ _ _ _ _ (or-shape (now (args .masks)) (part (now (args .permits)) (now (args .places))) (args .level) (now (args .q)) (now (args .z)) (if1 .left) (sym (condition-record .ensures) ∙ c .before .enum-told4 .given .1)) (args .to .at) (args .to .next) (pre .1)
 
 condition-sub-conditions-2 : (t : ℕ) → condition-lts.Need-sub-conditions-2 (condition-claims t) (condition-at t) condition.Post
 condition-sub-conditions-2 t c = search needs
@@ -201,20 +202,20 @@ condition-conditions-requires-2 : (t : ℕ) → condition-lts.Need-conditions-re
 condition-conditions-requires-2 t c κs =
     let c₃ = c .before .before .before in let put3 = c₃ .put3 in
     let c₅ = c₃ .before .before in let enum-told4 = c₅ .enum-told4 in
-    let c₇ = c₅ .before .before in let read = c₇ .read in
+    let c₇ = c₅ .before .before in let condition-record = c₇ .condition-record in
     let c₈ = c₇ .before in let if1 = c₈ .if1 in
     let c₁₅ = c₈ .before .before .before .before .before .before .before in let args = c₁₅ .args in let pre = c₁₅ .pre in
-    (omega (arith, pre .0, if1 .left), body-room _ _ _ _ _ (or-shape (now (args .masks)) (part (now (args .permits)) (now (args .places))) (args .level) (now (args .q)) (now (args .z)) (if1 .left) (sym (read .ensures) ∙ enum-told4 .given .1)) (args .at) (args .next) (now (args .out)) _ _ (put3 .ensures) (pre .1))
+    (omega (arith, pre .0, if1 .left), body-room _ _ _ _ _ (or-shape (now (args .masks)) (part (now (args .permits)) (now (args .places))) (args .level) (now (args .q)) (now (args .z)) (if1 .left) (sym (condition-record .ensures) ∙ enum-told4 .given .1)) (args .to .at) (args .to .next) (now (args .out)) _ _ (put3 .ensures) (pre .1))
 
 condition-enum-known-o : (t : ℕ) → condition-lts.Need-enum-known-o (condition-claims t) (condition-at t) condition.Post
 condition-enum-known-o t c = search needs
 
 condition-put-record-requires : (t : ℕ) → condition-lts.Need-put-record-requires (condition-claims t) (condition-at t) condition.Post
 condition-put-record-requires t c κs =
-    let c₄ = c .before .before .before .before in let read = c₄ .read in
+    let c₄ = c .before .before .before .before in let condition-record = c₄ .condition-record in
     let c₅ = c₄ .before in let if1 = c₅ .if1 in
     let c₁₂ = c₅ .before .before .before .before .before .before .before in let args = c₁₂ .args in let pre = c₁₂ .pre in
-    head-room _ _ _ _ _ (compare-shape (now (args .masks)) (part (now (args .permits)) (now (args .places))) (args .level) (now (args .q)) (now (args .z)) (if1 .left) _ (sym (read .ensures) ∙ c .before .before .o .given .1)) (args .at) (args .next) (pre .1)
+    head-room _ _ _ _ _ (compare-shape (now (args .masks)) (part (now (args .permits)) (now (args .places))) (args .level) (now (args .q)) (now (args .z)) (if1 .left) _ (sym (condition-record .ensures) ∙ c .before .before .o .given .1)) (args .to .at) (args .to .next) (pre .1)
 
 condition-sub-terms : (t : ℕ) → condition-lts.Need-sub-terms (condition-claims t) (condition-at t) condition.Post
 condition-sub-terms t c = search needs
@@ -223,20 +224,20 @@ condition-terms-requires : (t : ℕ) → condition-lts.Need-terms-requires (cond
 condition-terms-requires t c κs =
     let c₃ = c .before .before .before in let put-record = c₃ .put-record in
     let c₆ = c₃ .before .before .before in let o = c₆ .o in
-    let c₈ = c₆ .before .before in let read = c₈ .read in
+    let c₈ = c₆ .before .before in let condition-record = c₈ .condition-record in
     let c₉ = c₈ .before in let if1 = c₉ .if1 in
     let c₁₆ = c₉ .before .before .before .before .before .before .before in let args = c₁₆ .args in let pre = c₁₆ .pre in
-    (omega (arith, pre .0, if1 .left), body-room _ _ _ _ _ (compare-shape (now (args .masks)) (part (now (args .permits)) (now (args .places))) (args .level) (now (args .q)) (now (args .z)) (if1 .left) _ (sym (read .ensures) ∙ o .given .1)) (args .at) (args .next) (now (args .out)) _ _ (put-record .ensures) (pre .1))
+    (omega (arith, pre .0, if1 .left), body-room _ _ _ _ _ (compare-shape (now (args .masks)) (part (now (args .permits)) (now (args .places))) (args .level) (now (args .q)) (now (args .z)) (if1 .left) _ (sym (condition-record .ensures) ∙ o .given .1)) (args .to .at) (args .to .next) (now (args .out)) _ _ (put-record .ensures) (pre .1))
 
 condition-enum-known-v : (t : ℕ) → condition-lts.Need-enum-known-v (condition-claims t) (condition-at t) condition.Post
 condition-enum-known-v t c = search needs
 
 condition-put-record-requires-2 : (t : ℕ) → condition-lts.Need-put-record-requires-2 (condition-claims t) (condition-at t) condition.Post
 condition-put-record-requires-2 t c κs =
-    let c₄ = c .before .before .before .before in let read = c₄ .read in
+    let c₄ = c .before .before .before .before in let condition-record = c₄ .condition-record in
     let c₅ = c₄ .before in let if1 = c₅ .if1 in
     let c₁₂ = c₅ .before .before .before .before .before .before .before in let args = c₁₂ .args in let pre = c₁₂ .pre in
-    head-room _ _ _ _ _ (some-shape (now (args .masks)) (part (now (args .permits)) (now (args .places))) (args .level) (now (args .q)) (now (args .z)) (if1 .left) _ _ (sym (read .ensures) ∙ c .before .before .v .given .1)) (args .at) (args .next) (pre .1)
+    head-room _ _ _ _ _ (some-shape (now (args .masks)) (part (now (args .permits)) (now (args .places))) (args .level) (now (args .q)) (now (args .z)) (if1 .left) _ _ (sym (condition-record .ensures) ∙ c .before .before .v .given .1)) (args .to .at) (args .to .next) (pre .1)
 
 condition-sub-under : (t : ℕ) → condition-lts.Need-sub-under (condition-claims t) (condition-at t) condition.Post
 condition-sub-under t c = search needs
@@ -245,17 +246,17 @@ condition-under-requires : (t : ℕ) → condition-lts.Need-under-requires (cond
 condition-under-requires t c κs =
     let c₃ = c .before .before .before in let put-record2 = c₃ .put-record2 in
     let c₆ = c₃ .before .before .before in let v = c₆ .v in
-    let c₈ = c₆ .before .before in let read = c₈ .read in
+    let c₈ = c₆ .before .before in let condition-record = c₈ .condition-record in
     let c₉ = c₈ .before in let if1 = c₉ .if1 in
     let c₁₆ = c₉ .before .before .before .before .before .before .before in let args = c₁₆ .args in let pre = c₁₆ .pre in
-    (omega (arith, pre .0, if1 .left), body-room _ _ _ _ _ (some-shape (now (args .masks)) (part (now (args .permits)) (now (args .places))) (args .level) (now (args .q)) (now (args .z)) (if1 .left) _ _ (sym (read .ensures) ∙ v .given .1)) (args .at) (args .next) (now (args .out)) _ _ (put-record2 .ensures) (pre .1))
+    (omega (arith, pre .0, if1 .left), body-room _ _ _ _ _ (some-shape (now (args .masks)) (part (now (args .permits)) (now (args .places))) (args .level) (now (args .q)) (now (args .z)) (if1 .left) _ _ (sym (condition-record .ensures) ∙ v .given .1)) (args .to .at) (args .to .next) (now (args .out)) _ _ (put-record2 .ensures) (pre .1))
 
 condition-leaf-requires-3 : (t : ℕ) → condition-lts.Need-leaf-requires-3 (condition-claims t) (condition-at t) condition.Post
 condition-leaf-requires-3 t c κs =
-    let c₂ = c .before .before in let read = c₂ .read in
+    let c₂ = c .before .before in let condition-record = c₂ .condition-record in
     let c₃ = c₂ .before in let if1 = c₃ .if1 in
     let c₁₀ = c₃ .before .before .before .before .before .before .before in let args = c₁₀ .args in let pre = c₁₀ .pre in
-    leaf-room _ _ _ (rest-leaf (now (args .masks)) (part (now (args .permits)) (now (args .places))) (args .level) (now (args .q)) (now (args .z)) (if1 .left) (read .result) (read .ensures) (c .before .match .keys7)) (args .at) (args .next) (pre .1)
+    leaf-room _ _ _ (rest-leaf (now (args .masks)) (part (now (args .permits)) (now (args .places))) (args .level) (now (args .q)) (now (args .z)) (if1 .left) (condition-record .result) (condition-record .ensures) (c .before .match .keys7)) (args .to .at) (args .to .next) (pre .1)
 
 condition-same-length-2 : (t : ℕ) → condition-lts.Need-same-length-2 (condition-claims t) (condition-at t) condition.Post
 condition-same-length-2 t c = search needs
@@ -263,10 +264,10 @@ condition-same-length-2 t c = search needs
 condition-returns-2 : (t : ℕ) → condition-lts.Need-returns-2 (condition-claims t) (condition-at t) condition.Post
 condition-returns-2 t c =
     let c₄ = c .before .before .before .before in let enum-told = c₄ .enum-told in
-    let c₆ = c₄ .before .before in let read = c₆ .read in
+    let c₆ = c₄ .before .before in let condition-record = c₆ .condition-record in
     let c₇ = c₆ .before in let if1 = c₇ .if1 in
     let c₁₄ = c₇ .before .before .before .before .before .before .before in let args = c₁₄ .args in
-    leaf-did _ _ _ (true-leaf (now (args .masks)) (part (now (args .permits)) (now (args .places))) (args .level) (now (args .q)) (now (args .z)) (if1 .left) (sym (read .ensures) ∙ enum-told .given .1)) (args .at) (args .next) (now (args .out)) _ _ _ (c .before .before .leaf2 .ensures)
+    leaf-did _ _ _ (true-leaf (now (args .masks)) (part (now (args .permits)) (now (args .places))) (args .level) (now (args .q)) (now (args .z)) (if1 .left) (sym (condition-record .ensures) ∙ enum-told .given .1)) (args .to .at) (args .to .next) (now (args .out)) _ _ _ (c .before .before .leaf2 .ensures)
 
 condition-same-length-3 : (t : ℕ) → condition-lts.Need-same-length-3 (condition-claims t) (condition-at t) condition.Post
 condition-same-length-3 t c = search needs
@@ -278,11 +279,11 @@ condition-returns-3 t c =
     let c₆ = c₅ .before in let first-child = c₆ .first-child in
     let c₉ = c₆ .before .before .before in let put = c₉ .put in
     let c₁₁ = c₉ .before .before in let enum-told2 = c₁₁ .enum-told2 in
-    let c₁₃ = c₁₁ .before .before in let read = c₁₃ .read in
+    let c₁₃ = c₁₁ .before .before in let condition-record = c₁₃ .condition-record in
     let c₁₄ = c₁₃ .before in let if1 = c₁₄ .if1 in
     let c₂₁ = c₁₄ .before .before .before .before .before .before .before in let args = c₂₁ .args in
-    let masks = now (args .masks) in let permits = now (args .permits) in let places = now (args .places) in let q = now (args .q) in let z = now (args .z) in let level = args .level in let next = args .next in
-    body-did _ _ _ _ _ (not-shape masks (part permits places) level q z (if1 .left) (sym (read .ensures) ∙ enum-told2 .given .1)) (args .at) next (now (args .out)) _ _ (put .ensures) _ _ _ (child-did (λ x y i. conditionBytes masks (part permits places) (level - 1) x y i) (λ x y. conditionNew masks (part permits places) (level - 1) x y) q z _ next _ (first-child .ensures .0) _ _ (tail .ensures) (tail-sizes .ensures) _ _ _ _ (c .before .before .condition .ensures))
+    let masks = now (args .masks) in let permits = now (args .permits) in let places = now (args .places) in let q = now (args .q) in let z = now (args .z) in let level = args .level in let next = args .to .next in
+    body-did _ _ _ _ _ (not-shape masks (part permits places) level q z (if1 .left) (sym (condition-record .ensures) ∙ enum-told2 .given .1)) (args .to .at) next (now (args .out)) _ _ (put .ensures) _ _ _ (child-did (λ x y i. conditionBytes masks (part permits places) (level - 1) x y i) (λ x y. conditionNew masks (part permits places) (level - 1) x y) q z _ next _ (first-child .ensures .0) _ _ (tail .ensures) (tail-sizes .ensures) _ _ _ _ (c .before .before .condition .ensures))
 
 condition-same-length-4 : (t : ℕ) → condition-lts.Need-same-length-4 (condition-claims t) (condition-at t) condition.Post
 condition-same-length-4 t c = search needs
@@ -291,10 +292,10 @@ condition-returns-4 : (t : ℕ) → condition-lts.Need-returns-4 (condition-clai
 condition-returns-4 t c =
     let c₆ = c .before .before .before .before .before .before in let put2 = c₆ .put2 in
     let c₈ = c₆ .before .before in let enum-told3 = c₈ .enum-told3 in
-    let c₁₀ = c₈ .before .before in let read = c₁₀ .read in
+    let c₁₀ = c₈ .before .before in let condition-record = c₁₀ .condition-record in
     let c₁₁ = c₁₀ .before in let if1 = c₁₁ .if1 in
     let c₁₈ = c₁₁ .before .before .before .before .before .before .before in let args = c₁₈ .args in
-    body-did _ _ _ _ _ (and-shape (now (args .masks)) (part (now (args .permits)) (now (args .places))) (args .level) (now (args .q)) (now (args .z)) (if1 .left) (sym (read .ensures) ∙ enum-told3 .given .1)) (args .at) (args .next) (now (args .out)) _ _ (put2 .ensures) _ _ _ (c .before .before .conditions .ensures)
+    body-did _ _ _ _ _ (and-shape (now (args .masks)) (part (now (args .permits)) (now (args .places))) (args .level) (now (args .q)) (now (args .z)) (if1 .left) (sym (condition-record .ensures) ∙ enum-told3 .given .1)) (args .to .at) (args .to .next) (now (args .out)) _ _ (put2 .ensures) _ _ _ (c .before .before .conditions .ensures)
 
 condition-same-length-5 : (t : ℕ) → condition-lts.Need-same-length-5 (condition-claims t) (condition-at t) condition.Post
 condition-same-length-5 t c = search needs
@@ -303,10 +304,10 @@ condition-returns-5 : (t : ℕ) → condition-lts.Need-returns-5 (condition-clai
 condition-returns-5 t c =
     let c₆ = c .before .before .before .before .before .before in let put3 = c₆ .put3 in
     let c₈ = c₆ .before .before in let enum-told4 = c₈ .enum-told4 in
-    let c₁₀ = c₈ .before .before in let read = c₁₀ .read in
+    let c₁₀ = c₈ .before .before in let condition-record = c₁₀ .condition-record in
     let c₁₁ = c₁₀ .before in let if1 = c₁₁ .if1 in
     let c₁₈ = c₁₁ .before .before .before .before .before .before .before in let args = c₁₈ .args in
-    body-did _ _ _ _ _ (or-shape (now (args .masks)) (part (now (args .permits)) (now (args .places))) (args .level) (now (args .q)) (now (args .z)) (if1 .left) (sym (read .ensures) ∙ enum-told4 .given .1)) (args .at) (args .next) (now (args .out)) _ _ (put3 .ensures) _ _ _ (c .before .before .conditions2 .ensures)
+    body-did _ _ _ _ _ (or-shape (now (args .masks)) (part (now (args .permits)) (now (args .places))) (args .level) (now (args .q)) (now (args .z)) (if1 .left) (sym (condition-record .ensures) ∙ enum-told4 .given .1)) (args .to .at) (args .to .next) (now (args .out)) _ _ (put3 .ensures) _ _ _ (c .before .before .conditions2 .ensures)
 
 condition-same-length-6 : (t : ℕ) → condition-lts.Need-same-length-6 (condition-claims t) (condition-at t) condition.Post
 condition-same-length-6 t c = search needs
@@ -315,10 +316,10 @@ condition-returns-6 : (t : ℕ) → condition-lts.Need-returns-6 (condition-clai
 condition-returns-6 t c =
     let c₆ = c .before .before .before .before .before .before in let put-record = c₆ .put-record in
     let c₉ = c₆ .before .before .before in let o = c₉ .o in
-    let c₁₁ = c₉ .before .before in let read = c₁₁ .read in
+    let c₁₁ = c₉ .before .before in let condition-record = c₁₁ .condition-record in
     let c₁₂ = c₁₁ .before in let if1 = c₁₂ .if1 in
     let c₁₉ = c₁₂ .before .before .before .before .before .before .before in let args = c₁₉ .args in
-    body-did _ _ _ _ _ (compare-shape (now (args .masks)) (part (now (args .permits)) (now (args .places))) (args .level) (now (args .q)) (now (args .z)) (if1 .left) _ (sym (read .ensures) ∙ o .given .1)) (args .at) (args .next) (now (args .out)) _ _ (put-record .ensures) _ _ _ (c .before .before .terms .ensures)
+    body-did _ _ _ _ _ (compare-shape (now (args .masks)) (part (now (args .permits)) (now (args .places))) (args .level) (now (args .q)) (now (args .z)) (if1 .left) _ (sym (condition-record .ensures) ∙ o .given .1)) (args .to .at) (args .to .next) (now (args .out)) _ _ (put-record .ensures) _ _ _ (c .before .before .terms .ensures)
 
 condition-same-length-7 : (t : ℕ) → condition-lts.Need-same-length-7 (condition-claims t) (condition-at t) condition.Post
 condition-same-length-7 t c = search needs
@@ -327,10 +328,10 @@ condition-returns-7 : (t : ℕ) → condition-lts.Need-returns-7 (condition-clai
 condition-returns-7 t c =
     let c₆ = c .before .before .before .before .before .before in let put-record2 = c₆ .put-record2 in
     let c₉ = c₆ .before .before .before in let v = c₉ .v in
-    let c₁₁ = c₉ .before .before in let read = c₁₁ .read in
+    let c₁₁ = c₉ .before .before in let condition-record = c₁₁ .condition-record in
     let c₁₂ = c₁₁ .before in let if1 = c₁₂ .if1 in
     let c₁₉ = c₁₂ .before .before .before .before .before .before .before in let args = c₁₉ .args in
-    body-did _ _ _ _ _ (some-shape (now (args .masks)) (part (now (args .permits)) (now (args .places))) (args .level) (now (args .q)) (now (args .z)) (if1 .left) _ _ (sym (read .ensures) ∙ v .given .1)) (args .at) (args .next) (now (args .out)) _ _ (put-record2 .ensures) _ _ _ (c .before .before .under .ensures)
+    body-did _ _ _ _ _ (some-shape (now (args .masks)) (part (now (args .permits)) (now (args .places))) (args .level) (now (args .q)) (now (args .z)) (if1 .left) _ _ (sym (condition-record .ensures) ∙ v .given .1)) (args .to .at) (args .to .next) (now (args .out)) _ _ (put-record2 .ensures) _ _ _ (c .before .before .under .ensures)
 
 condition-same-length-8 : (t : ℕ) → condition-lts.Need-same-length-8 (condition-claims t) (condition-at t) condition.Post
 condition-same-length-8 t c = search needs
@@ -338,10 +339,10 @@ condition-same-length-8 t c = search needs
 condition-returns-8 : (t : ℕ) → condition-lts.Need-returns-8 (condition-claims t) (condition-at t) condition.Post
 condition-returns-8 t c =
     let c₄ = c .before .before .before .before in let match = c₄ .match in
-    let c₅ = c₄ .before in let read = c₅ .read in
+    let c₅ = c₄ .before in let condition-record = c₅ .condition-record in
     let c₆ = c₅ .before in let if1 = c₆ .if1 in
     let c₁₃ = c₆ .before .before .before .before .before .before .before in let args = c₁₃ .args in
-    leaf-did _ _ _ (rest-leaf (now (args .masks)) (part (now (args .permits)) (now (args .places))) (args .level) (now (args .q)) (now (args .z)) (if1 .left) (read .result) (read .ensures) (match .keys7)) (args .at) (args .next) (now (args .out)) _ _ _ (c .before .before .leaf3 .ensures)
+    leaf-did _ _ _ (rest-leaf (now (args .masks)) (part (now (args .permits)) (now (args .places))) (args .level) (now (args .q)) (now (args .z)) (if1 .left) (condition-record .result) (condition-record .ensures) (match .keys7)) (args .to .at) (args .to .next) (now (args .out)) _ _ _ (c .before .before .leaf3 .ensures)
 
 conditions-first-child-requires : (t : ℕ) → conditions-lts.Need-first-child-requires (conditions-claims t) (conditions-at t) conditions.Post
 conditions-first-child-requires t c κs = search needs
@@ -360,7 +361,7 @@ conditions-condition-requires t c κs =
     let c₄ = c .before .before .before .before in let first-child = c₄ .first-child in
     let c₁₁ = c₄ .before .before .before .before .before .before .before in let args = c₁₁ .args in let pre = c₁₁ .pre in
     let masks = now (args .masks) in let permits = now (args .permits) in let places = now (args .places) in let level = args .level in
-    (omega (arith, pre .0), both-first (λ x y i. conditionBytes masks (part permits places) level x y i) (λ x y. conditionNew masks (part permits places) level x y) (now (args .q)) (now (args .z)) (args .at) (args .next) _ (first-child .ensures .0) _ _ (c .before .before .tail .ensures) (c .before .tail-sizes .ensures) (pre .1))
+    (omega (arith, pre .0), both-first (λ x y i. conditionBytes masks (part permits places) level x y i) (λ x y. conditionNew masks (part permits places) level x y) (now (args .q)) (now (args .z)) (args .to .at) (args .to .next) _ (first-child .ensures .0) _ _ (c .before .before .tail .ensures) (c .before .tail-sizes .ensures) (pre .1))
 
 conditions-tail-requires-2 : (t : ℕ) → conditions-lts.Need-tail-requires-2 (conditions-claims t) (conditions-at t) conditions.Post
 conditions-tail-requires-2 t c κs = search needs
@@ -377,7 +378,7 @@ conditions-condition-requires-2 t c κs =
     let c₁₀ = c₉ .before in let first-child = c₁₀ .first-child in
     let c₁₇ = c₁₀ .before .before .before .before .before .before .before in let args = c₁₇ .args in let pre = c₁₇ .pre in
     let masks = now (args .masks) in let permits = now (args .permits) in let places = now (args .places) in let level = args .level in
-    (omega (arith, pre .0), both-second (λ x y i. conditionBytes masks (part permits places) level x y i) (λ x y. conditionNew masks (part permits places) level x y) (now (args .q)) (now (args .z)) (args .at) (args .next) _ (first-child .ensures .0) _ _ (tail .ensures) (tail-sizes .ensures) (now (args .out)) _ _ _ (condition .ensures) _ (second-child .ensures) _ _ (c .before .before .tail2 .ensures) (c .before .tail-sizes2 .ensures) (pre .1))
+    (omega (arith, pre .0), both-second (λ x y i. conditionBytes masks (part permits places) level x y i) (λ x y. conditionNew masks (part permits places) level x y) (now (args .q)) (now (args .z)) (args .to .at) (args .to .next) _ (first-child .ensures .0) _ _ (tail .ensures) (tail-sizes .ensures) (now (args .out)) _ _ _ (condition .ensures) _ (second-child .ensures) _ _ (c .before .before .tail2 .ensures) (c .before .tail-sizes2 .ensures) (pre .1))
 
 conditions-same-length : (t : ℕ) → conditions-lts.Need-same-length (conditions-claims t) (conditions-at t) conditions.Post
 conditions-same-length t c = search needs
@@ -393,12 +394,12 @@ conditions-returns t c =
     let c₁₃ = c₁₂ .before in let first-child = c₁₃ .first-child in
     let c₂₀ = c₁₃ .before .before .before .before .before .before .before in let args = c₂₀ .args in
     let masks = now (args .masks) in let permits = now (args .permits) in let places = now (args .places) in let level = args .level in
-    both-did (λ x y i. conditionBytes masks (part permits places) level x y i) (λ x y. conditionNew masks (part permits places) level x y) (now (args .q)) (now (args .z)) (args .at) (args .next) _ (first-child .ensures .0) _ _ (tail .ensures) (tail-sizes .ensures) (now (args .out)) _ _ _ (condition .ensures) _ (second-child .ensures) _ _ (tail2 .ensures) (tail-sizes2 .ensures) _ _ _ (c .before .before .condition2 .ensures)
+    both-did (λ x y i. conditionBytes masks (part permits places) level x y i) (λ x y. conditionNew masks (part permits places) level x y) (now (args .q)) (now (args .z)) (args .to .at) (args .to .next) _ (first-child .ensures .0) _ _ (tail .ensures) (tail-sizes .ensures) (now (args .out)) _ _ _ (condition .ensures) _ (second-child .ensures) _ _ (tail2 .ensures) (tail-sizes2 .ensures) _ _ _ (c .before .before .condition2 .ensures)
 
 term-leaf-requires : (t : ℕ) → term-lts.Need-leaf-requires (term-claims t) (term-at t) term.Post
 term-leaf-requires t c κs =
     let c₈ = c .before .before .before .before .before .before .before .before in let args = c₈ .args in let pre = c₈ .pre in
-    leaf-room _ _ _ (zero-leafT (now (args .masks)) (part (now (args .permits)) (now (args .places))) (args .level) (now (args .q)) (now (args .z)) (c .before .if1 .taken)) (args .at) (args .next) (pre .1)
+    leaf-room _ _ _ (zero-leafT (now (args .masks)) (part (now (args .permits)) (now (args .places))) (args .level) (now (args .q)) (now (args .z)) (c .before .if1 .taken)) (args .to .at) (args .to .next) (pre .1)
 
 term-same-length : (t : ℕ) → term-lts.Need-same-length (term-claims t) (term-at t) term.Post
 term-same-length t c = search needs
@@ -407,40 +408,40 @@ term-returns : (t : ℕ) → term-lts.Need-returns (term-claims t) (term-at t) t
 term-returns t c =
     let c₄ = c .before .before .before .before in let if1 = c₄ .if1 in
     let c₁₁ = c₄ .before .before .before .before .before .before .before in let args = c₁₁ .args in
-    leaf-did _ _ _ (zero-leafT (now (args .masks)) (part (now (args .permits)) (now (args .places))) (args .level) (now (args .q)) (now (args .z)) (if1 .taken)) (args .at) (args .next) (now (args .out)) _ _ _ (c .before .before .leaf .ensures)
+    leaf-did _ _ _ (zero-leafT (now (args .masks)) (part (now (args .permits)) (now (args .places))) (args .level) (now (args .q)) (now (args .z)) (if1 .taken)) (args .to .at) (args .to .next) (now (args .out)) _ _ _ (c .before .before .leaf .ensures)
 
-term-read-requires : (t : ℕ) → term-lts.Need-read-requires (term-claims t) (term-at t) term.Post
-term-read-requires t c κs = search needs
+term-term-record-requires : (t : ℕ) → term-lts.Need-term-record-requires (term-claims t) (term-at t) term.Post
+term-term-record-requires t c κs = search needs
 
 term-enum-known-a : (t : ℕ) → term-lts.Need-enum-known-a (term-claims t) (term-at t) term.Post
 term-enum-known-a t c = search needs
 
 term-leaf-requires-2 : (t : ℕ) → term-lts.Need-leaf-requires-2 (term-claims t) (term-at t) term.Post
 term-leaf-requires-2 t c κs =
-    let c₄ = c .before .before .before .before in let read = c₄ .read in
+    let c₄ = c .before .before .before .before in let term-record = c₄ .term-record in
     let c₅ = c₄ .before in let if1 = c₅ .if1 in
     let c₁₂ = c₅ .before .before .before .before .before .before .before in let args = c₁₂ .args in let pre = c₁₂ .pre in
-    leaf-room _ _ _ (constant-leaf (now (args .masks)) (part (now (args .permits)) (now (args .places))) (args .level) (now (args .q)) (now (args .z)) (if1 .left) _ _ _ _ (sym (read .ensures) ∙ c .before .before .a .given .1)) (args .at) (args .next) (pre .1)
+    leaf-room _ _ _ (constant-leaf (now (args .masks)) (part (now (args .permits)) (now (args .places))) (args .level) (now (args .q)) (now (args .z)) (if1 .left) _ _ _ _ (sym (term-record .ensures) ∙ c .before .before .a .given .1)) (args .to .at) (args .to .next) (pre .1)
 
 term-enum-known-v : (t : ℕ) → term-lts.Need-enum-known-v (term-claims t) (term-at t) term.Post
 term-enum-known-v t c = search needs
 
 term-leaf-requires-3 : (t : ℕ) → term-lts.Need-leaf-requires-3 (term-claims t) (term-at t) term.Post
 term-leaf-requires-3 t c κs =
-    let c₄ = c .before .before .before .before in let read = c₄ .read in
+    let c₄ = c .before .before .before .before in let term-record = c₄ .term-record in
     let c₅ = c₄ .before in let if1 = c₅ .if1 in
     let c₁₂ = c₅ .before .before .before .before .before .before .before in let args = c₁₂ .args in let pre = c₁₂ .pre in
-    leaf-room _ _ _ (attribute-leaf (now (args .masks)) (part (now (args .permits)) (now (args .places))) (args .level) (now (args .q)) (now (args .z)) (if1 .left) _ _ (sym (read .ensures) ∙ c .before .before .v .given .1)) (args .at) (args .next) (pre .1)
+    leaf-room _ _ _ (attribute-leaf (now (args .masks)) (part (now (args .permits)) (now (args .places))) (args .level) (now (args .q)) (now (args .z)) (if1 .left) _ _ (sym (term-record .ensures) ∙ c .before .before .v .given .1)) (args .to .at) (args .to .next) (pre .1)
 
 term-enum-known-f : (t : ℕ) → term-lts.Need-enum-known-f (term-claims t) (term-at t) term.Post
 term-enum-known-f t c = search needs
 
 term-put-record-requires : (t : ℕ) → term-lts.Need-put-record-requires (term-claims t) (term-at t) term.Post
 term-put-record-requires t c κs =
-    let c₄ = c .before .before .before .before in let read = c₄ .read in
+    let c₄ = c .before .before .before .before in let term-record = c₄ .term-record in
     let c₅ = c₄ .before in let if1 = c₅ .if1 in
     let c₁₂ = c₅ .before .before .before .before .before .before .before in let args = c₁₂ .args in let pre = c₁₂ .pre in
-    head-room _ _ _ _ _ (aggregate-shape (now (args .masks)) (part (now (args .permits)) (now (args .places))) (args .level) (now (args .q)) (now (args .z)) (if1 .left) _ _ _ _ (sym (read .ensures) ∙ c .before .before .f .given .1)) (args .at) (args .next) (pre .1)
+    head-room _ _ _ _ _ (aggregate-shape (now (args .masks)) (part (now (args .permits)) (now (args .places))) (args .level) (now (args .q)) (now (args .z)) (if1 .left) _ _ _ _ (sym (term-record .ensures) ∙ c .before .before .f .given .1)) (args .to .at) (args .to .next) (pre .1)
 
 term-sub-under : (t : ℕ) → term-lts.Need-sub-under (term-claims t) (term-at t) term.Post
 term-sub-under t c = search needs
@@ -449,17 +450,20 @@ term-under-requires : (t : ℕ) → term-lts.Need-under-requires (term-claims t)
 term-under-requires t c κs =
     let c₃ = c .before .before .before in let put-record = c₃ .put-record in
     let c₆ = c₃ .before .before .before in let f = c₆ .f in
-    let c₈ = c₆ .before .before in let read = c₈ .read in
+    let c₈ = c₆ .before .before in let term-record = c₈ .term-record in
     let c₉ = c₈ .before in let if1 = c₉ .if1 in
     let c₁₆ = c₉ .before .before .before .before .before .before .before in let args = c₁₆ .args in let pre = c₁₆ .pre in
-    (omega (arith, pre .0, if1 .left), body-room _ _ _ _ _ (aggregate-shape (now (args .masks)) (part (now (args .permits)) (now (args .places))) (args .level) (now (args .q)) (now (args .z)) (if1 .left) _ _ _ _ (sym (read .ensures) ∙ f .given .1)) (args .at) (args .next) (now (args .out)) _ _ (put-record .ensures) (pre .1))
+    (omega (arith, pre .0, if1 .left), body-room _ _ _ _ _ (aggregate-shape (now (args .masks)) (part (now (args .permits)) (now (args .places))) (args .level) (now (args .q)) (now (args .z)) (if1 .left) _ _ _ _ (sym (term-record .ensures) ∙ f .given .1)) (args .to .at) (args .to .next) (now (args .out)) _ _ (put-record .ensures) (pre .1))
+
+term-enum-told : (t : ℕ) → term-lts.Need-enum-told (term-claims t) (term-at t) term.Post
+term-enum-told t c = search needs
 
 term-leaf-requires-4 : (t : ℕ) → term-lts.Need-leaf-requires-4 (term-claims t) (term-at t) term.Post
 term-leaf-requires-4 t c κs =
-    let c₂ = c .before .before in let read = c₂ .read in
+    let c₂ = c .before .before .before in let term-record = c₂ .term-record in
     let c₃ = c₂ .before in let if1 = c₃ .if1 in
     let c₁₀ = c₃ .before .before .before .before .before .before .before in let args = c₁₀ .args in let pre = c₁₀ .pre in
-    leaf-room _ _ _ (rest-leafT (now (args .masks)) (part (now (args .permits)) (now (args .places))) (args .level) (now (args .q)) (now (args .z)) (if1 .left) (read .result) (read .ensures) (c .before .match .keys4)) (args .at) (args .next) (pre .1)
+    leaf-room _ _ _ (rest-leafT (now (args .masks)) (part (now (args .permits)) (now (args .places))) (args .level) (now (args .q)) (now (args .z)) (if1 .left) (term-record .result) (term-record .ensures) (c .before .enum-told .given .1)) (args .to .at) (args .to .next) (pre .1)
 
 term-same-length-2 : (t : ℕ) → term-lts.Need-same-length-2 (term-claims t) (term-at t) term.Post
 term-same-length-2 t c = search needs
@@ -467,10 +471,10 @@ term-same-length-2 t c = search needs
 term-returns-2 : (t : ℕ) → term-lts.Need-returns-2 (term-claims t) (term-at t) term.Post
 term-returns-2 t c =
     let c₅ = c .before .before .before .before .before in let a = c₅ .a in
-    let c₇ = c₅ .before .before in let read = c₇ .read in
+    let c₇ = c₅ .before .before in let term-record = c₇ .term-record in
     let c₈ = c₇ .before in let if1 = c₈ .if1 in
     let c₁₅ = c₈ .before .before .before .before .before .before .before in let args = c₁₅ .args in
-    leaf-did _ _ _ (constant-leaf (now (args .masks)) (part (now (args .permits)) (now (args .places))) (args .level) (now (args .q)) (now (args .z)) (if1 .left) _ _ _ _ (sym (read .ensures) ∙ a .given .1)) (args .at) (args .next) (now (args .out)) _ _ _ (c .before .before .leaf2 .ensures)
+    leaf-did _ _ _ (constant-leaf (now (args .masks)) (part (now (args .permits)) (now (args .places))) (args .level) (now (args .q)) (now (args .z)) (if1 .left) _ _ _ _ (sym (term-record .ensures) ∙ a .given .1)) (args .to .at) (args .to .next) (now (args .out)) _ _ _ (c .before .before .leaf2 .ensures)
 
 term-same-length-3 : (t : ℕ) → term-lts.Need-same-length-3 (term-claims t) (term-at t) term.Post
 term-same-length-3 t c = search needs
@@ -478,10 +482,10 @@ term-same-length-3 t c = search needs
 term-returns-3 : (t : ℕ) → term-lts.Need-returns-3 (term-claims t) (term-at t) term.Post
 term-returns-3 t c =
     let c₅ = c .before .before .before .before .before in let v = c₅ .v in
-    let c₇ = c₅ .before .before in let read = c₇ .read in
+    let c₇ = c₅ .before .before in let term-record = c₇ .term-record in
     let c₈ = c₇ .before in let if1 = c₈ .if1 in
     let c₁₅ = c₈ .before .before .before .before .before .before .before in let args = c₁₅ .args in
-    leaf-did _ _ _ (attribute-leaf (now (args .masks)) (part (now (args .permits)) (now (args .places))) (args .level) (now (args .q)) (now (args .z)) (if1 .left) _ _ (sym (read .ensures) ∙ v .given .1)) (args .at) (args .next) (now (args .out)) _ _ _ (c .before .before .leaf3 .ensures)
+    leaf-did _ _ _ (attribute-leaf (now (args .masks)) (part (now (args .permits)) (now (args .places))) (args .level) (now (args .q)) (now (args .z)) (if1 .left) _ _ (sym (term-record .ensures) ∙ v .given .1)) (args .to .at) (args .to .next) (now (args .out)) _ _ _ (c .before .before .leaf3 .ensures)
 
 term-same-length-4 : (t : ℕ) → term-lts.Need-same-length-4 (term-claims t) (term-at t) term.Post
 term-same-length-4 t c = search needs
@@ -490,21 +494,21 @@ term-returns-4 : (t : ℕ) → term-lts.Need-returns-4 (term-claims t) (term-at 
 term-returns-4 t c =
     let c₆ = c .before .before .before .before .before .before in let put-record = c₆ .put-record in
     let c₉ = c₆ .before .before .before in let f = c₉ .f in
-    let c₁₁ = c₉ .before .before in let read = c₁₁ .read in
+    let c₁₁ = c₉ .before .before in let term-record = c₁₁ .term-record in
     let c₁₂ = c₁₁ .before in let if1 = c₁₂ .if1 in
     let c₁₉ = c₁₂ .before .before .before .before .before .before .before in let args = c₁₉ .args in
-    body-did _ _ _ _ _ (aggregate-shape (now (args .masks)) (part (now (args .permits)) (now (args .places))) (args .level) (now (args .q)) (now (args .z)) (if1 .left) _ _ _ _ (sym (read .ensures) ∙ f .given .1)) (args .at) (args .next) (now (args .out)) _ _ (put-record .ensures) _ _ _ (c .before .before .under .ensures)
+    body-did _ _ _ _ _ (aggregate-shape (now (args .masks)) (part (now (args .permits)) (now (args .places))) (args .level) (now (args .q)) (now (args .z)) (if1 .left) _ _ _ _ (sym (term-record .ensures) ∙ f .given .1)) (args .to .at) (args .to .next) (now (args .out)) _ _ (put-record .ensures) _ _ _ (c .before .before .under .ensures)
 
 term-same-length-5 : (t : ℕ) → term-lts.Need-same-length-5 (term-claims t) (term-at t) term.Post
 term-same-length-5 t c = search needs
 
 term-returns-5 : (t : ℕ) → term-lts.Need-returns-5 (term-claims t) (term-at t) term.Post
 term-returns-5 t c =
-    let c₄ = c .before .before .before .before in let match = c₄ .match in
-    let c₅ = c₄ .before in let read = c₅ .read in
+    let c₄ = c .before .before .before .before in let enum-told = c₄ .enum-told in
+    let c₅ = c₄ .before .before in let term-record = c₅ .term-record in
     let c₆ = c₅ .before in let if1 = c₆ .if1 in
     let c₁₃ = c₆ .before .before .before .before .before .before .before in let args = c₁₃ .args in
-    leaf-did _ _ _ (rest-leafT (now (args .masks)) (part (now (args .permits)) (now (args .places))) (args .level) (now (args .q)) (now (args .z)) (if1 .left) (read .result) (read .ensures) (match .keys4)) (args .at) (args .next) (now (args .out)) _ _ _ (c .before .before .leaf4 .ensures)
+    leaf-did _ _ _ (rest-leafT (now (args .masks)) (part (now (args .permits)) (now (args .places))) (args .level) (now (args .q)) (now (args .z)) (if1 .left) (term-record .result) (term-record .ensures) (enum-told .given .1)) (args .to .at) (args .to .next) (now (args .out)) _ _ _ (c .before .before .leaf4 .ensures)
 
 terms-first-child-requires : (t : ℕ) → terms-lts.Need-first-child-requires (terms-claims t) (terms-at t) terms.Post
 terms-first-child-requires t c κs = search needs
@@ -523,7 +527,7 @@ terms-term-requires t c κs =
     let c₄ = c .before .before .before .before in let first-child = c₄ .first-child in
     let c₁₁ = c₄ .before .before .before .before .before .before .before in let args = c₁₁ .args in let pre = c₁₁ .pre in
     let masks = now (args .masks) in let permits = now (args .permits) in let places = now (args .places) in let level = args .level in
-    (omega (arith, pre .0), both-first (λ x y i. termBytes masks (part permits places) level x y i) (λ x y. termNew masks (part permits places) level x y) (now (args .q)) (now (args .z)) (args .at) (args .next) _ (first-child .ensures .0) _ _ (c .before .before .tail .ensures) (c .before .tail-sizes .ensures) (pre .1))
+    (omega (arith, pre .0), both-first (λ x y i. termBytes masks (part permits places) level x y i) (λ x y. termNew masks (part permits places) level x y) (now (args .q)) (now (args .z)) (args .to .at) (args .to .next) _ (first-child .ensures .0) _ _ (c .before .before .tail .ensures) (c .before .tail-sizes .ensures) (pre .1))
 
 terms-tail-requires-2 : (t : ℕ) → terms-lts.Need-tail-requires-2 (terms-claims t) (terms-at t) terms.Post
 terms-tail-requires-2 t c κs = search needs
@@ -540,7 +544,7 @@ terms-term-requires-2 t c κs =
     let c₁₀ = c₉ .before in let first-child = c₁₀ .first-child in
     let c₁₇ = c₁₀ .before .before .before .before .before .before .before in let args = c₁₇ .args in let pre = c₁₇ .pre in
     let masks = now (args .masks) in let permits = now (args .permits) in let places = now (args .places) in let level = args .level in
-    (omega (arith, pre .0), both-second (λ x y i. termBytes masks (part permits places) level x y i) (λ x y. termNew masks (part permits places) level x y) (now (args .q)) (now (args .z)) (args .at) (args .next) _ (first-child .ensures .0) _ _ (tail .ensures) (tail-sizes .ensures) (now (args .out)) _ _ _ (term .ensures) _ (second-child .ensures) _ _ (c .before .before .tail2 .ensures) (c .before .tail-sizes2 .ensures) (pre .1))
+    (omega (arith, pre .0), both-second (λ x y i. termBytes masks (part permits places) level x y i) (λ x y. termNew masks (part permits places) level x y) (now (args .q)) (now (args .z)) (args .to .at) (args .to .next) _ (first-child .ensures .0) _ _ (tail .ensures) (tail-sizes .ensures) (now (args .out)) _ _ _ (term .ensures) _ (second-child .ensures) _ _ (c .before .before .tail2 .ensures) (c .before .tail-sizes2 .ensures) (pre .1))
 
 terms-same-length : (t : ℕ) → terms-lts.Need-same-length (terms-claims t) (terms-at t) terms.Post
 terms-same-length t c = search needs
@@ -556,7 +560,7 @@ terms-returns t c =
     let c₁₃ = c₁₂ .before in let first-child = c₁₃ .first-child in
     let c₂₀ = c₁₃ .before .before .before .before .before .before .before in let args = c₂₀ .args in
     let masks = now (args .masks) in let permits = now (args .permits) in let places = now (args .places) in let level = args .level in
-    both-did (λ x y i. termBytes masks (part permits places) level x y i) (λ x y. termNew masks (part permits places) level x y) (now (args .q)) (now (args .z)) (args .at) (args .next) _ (first-child .ensures .0) _ _ (tail .ensures) (tail-sizes .ensures) (now (args .out)) _ _ _ (term .ensures) _ (second-child .ensures) _ _ (tail2 .ensures) (tail-sizes2 .ensures) _ _ _ (c .before .before .term2 .ensures)
+    both-did (λ x y i. termBytes masks (part permits places) level x y i) (λ x y. termNew masks (part permits places) level x y) (now (args .q)) (now (args .z)) (args .to .at) (args .to .next) _ (first-child .ensures .0) _ _ (tail .ensures) (tail-sizes .ensures) (now (args .out)) _ _ _ (term .ensures) _ (second-child .ensures) _ _ (tail2 .ensures) (tail-sizes2 .ensures) _ _ _ (c .before .before .term2 .ensures)
 
 under-mask-requires : (t : ℕ) → under-lts.Need-mask-requires (under-claims t) (under-at t) under.Post
 under-mask-requires t c κs = search needs
@@ -567,7 +571,7 @@ under-first-child-requires t c κs = search needs
 under-open-guard-requires : (t : ℕ) → under-lts.Need-open-guard-requires (under-claims t) (under-at t) under.Post
 under-open-guard-requires t c κs =
     let c₉ = c .before .before .before .before .before .before .before .before .before in let args = c₉ .args in let pre = c₉ .pre in
-    under-open (now (args .masks)) (part (now (args .permits)) (now (args .places))) (args .level) (now (args .q)) (now (args .z)) (args .at) (args .next) (args .variable) _ (c .before .before .mask .ensures) (pre .1)
+    under-open (now (args .masks)) (part (now (args .permits)) (now (args .places))) (args .level) (now (args .q)) (now (args .z)) (args .to .at) (args .to .next) (args .variable) _ (c .before .before .mask .ensures) (pre .1)
 
 under-tail-requires : (t : ℕ) → under-lts.Need-tail-requires (under-claims t) (under-at t) under.Post
 under-tail-requires t c κs = search needs
@@ -581,7 +585,7 @@ under-condition-requires t c κs =
     let c₇ = c₅ .before .before in let first-child = c₇ .first-child in
     let c₈ = c₇ .before in let mask = c₈ .mask in
     let c₁₅ = c₈ .before .before .before .before .before .before .before in let args = c₁₅ .args in let pre = c₁₅ .pre in
-    (omega (arith, pre .0), under-room (now (args .masks)) (part (now (args .permits)) (now (args .places))) (args .level) (now (args .q)) (now (args .z)) (args .at) (args .next) (args .variable) _ (mask .ensures) (now (args .out)) _ _ (open-guard .ensures) _ (first-child .ensures .0) _ _ (c .before .before .tail .ensures) (c .before .tail-sizes .ensures) (pre .1))
+    (omega (arith, pre .0), under-room (now (args .masks)) (part (now (args .permits)) (now (args .places))) (args .level) (now (args .q)) (now (args .z)) (args .to .at) (args .to .next) (args .variable) _ (mask .ensures) (now (args .out)) _ _ (open-guard .ensures) _ (first-child .ensures .0) _ _ (c .before .before .tail .ensures) (c .before .tail-sizes .ensures) (pre .1))
 
 under-write-guard-requires : (t : ℕ) → under-lts.Need-write-guard-requires (under-claims t) (under-at t) under.Post
 under-write-guard-requires t c κs =
@@ -592,7 +596,7 @@ under-write-guard-requires t c κs =
     let c₁₁ = c₉ .before .before in let first-child = c₁₁ .first-child in
     let c₁₂ = c₁₁ .before in let mask = c₁₂ .mask in
     let c₁₉ = c₁₂ .before .before .before .before .before .before .before in let args = c₁₉ .args in let pre = c₁₉ .pre in
-    under-guard (now (args .masks)) (part (now (args .permits)) (now (args .places))) (args .level) (now (args .q)) (now (args .z)) (args .at) (args .next) (args .variable) _ (mask .ensures) (now (args .out)) _ _ (open-guard .ensures) _ (first-child .ensures .0) _ _ (tail .ensures) (tail-sizes .ensures) _ _ _ (condition .ensures) (pre .1)
+    under-guard (now (args .masks)) (part (now (args .permits)) (now (args .places))) (args .level) (now (args .q)) (now (args .z)) (args .to .at) (args .to .next) (args .variable) _ (mask .ensures) (now (args .out)) _ _ (open-guard .ensures) _ (first-child .ensures .0) _ _ (tail .ensures) (tail-sizes .ensures) _ _ _ (condition .ensures) (pre .1)
 
 under-same-length : (t : ℕ) → under-lts.Need-same-length (under-claims t) (under-at t) under.Post
 under-same-length t c = search needs
@@ -606,7 +610,7 @@ under-returns t c =
     let c₁₄ = c₁₂ .before .before in let first-child = c₁₄ .first-child in
     let c₁₅ = c₁₄ .before in let mask = c₁₅ .mask in
     let c₂₂ = c₁₅ .before .before .before .before .before .before .before in let args = c₂₂ .args in
-    under-did (now (args .masks)) (part (now (args .permits)) (now (args .places))) (args .level) (now (args .q)) (now (args .z)) (args .at) (args .next) (args .variable) _ (mask .ensures) (now (args .out)) _ _ (open-guard .ensures) _ (first-child .ensures .0) _ _ (tail .ensures) (tail-sizes .ensures) _ _ _ (condition .ensures) _ _ _ (c .before .before .write-guard .ensures)
+    under-did (now (args .masks)) (part (now (args .permits)) (now (args .places))) (args .level) (now (args .q)) (now (args .z)) (args .to .at) (args .to .next) (args .variable) _ (mask .ensures) (now (args .out)) _ _ (open-guard .ensures) _ (first-child .ensures .0) _ _ (tail .ensures) (tail-sizes .ensures) _ _ _ (condition .ensures) _ _ _ (c .before .before .write-guard .ensures)
 
 pub +condition+conditions+term+terms+under-spec : {M : Type 1} → statement M
 +condition+conditions+term+terms+under-spec =
@@ -616,7 +620,7 @@ pub +condition+conditions+term+terms+under-spec : {M : Type 1} → statement M
     (condition-leaf-requires t)
     (condition-same-length t)
     (condition-returns t)
-    (condition-read-requires t)
+    (condition-condition-record-requires t)
     (condition-enum-told t)
     (condition-leaf-requires-2 t)
     (condition-enum-told-2 t)
@@ -676,7 +680,7 @@ pub +condition+conditions+term+terms+under-spec : {M : Type 1} → statement M
     (term-leaf-requires t)
     (term-same-length t)
     (term-returns t)
-    (term-read-requires t)
+    (term-term-record-requires t)
     (term-enum-known-a t)
     (term-leaf-requires-2 t)
     (term-enum-known-v t)
@@ -685,6 +689,7 @@ pub +condition+conditions+term+terms+under-spec : {M : Type 1} → statement M
     (term-put-record-requires t)
     (term-sub-under t)
     (term-under-requires t)
+    (term-enum-told t)
     (term-leaf-requires-4 t)
     (term-same-length-2 t)
     (term-returns-2 t)

@@ -39,7 +39,7 @@ guard-ranges-claims t = (byte-reads.Asked, byte-reads.Learnt, mask-reads.Asked, 
 guard-ranges-returns : (t : ℕ) → guard-ranges-lts.Need-returns (guard-ranges-claims t) (guard-ranges-at t) guard-ranges.Post
 guard-ranges-returns t c =
     let c₆ = c .before .before .before .before .before .before in let args = c₆ .args in
-    no-guards (now (args .masks)) (part (now (args .permits)) (now (args .places))) (args .left) (now (args .q)) (c .if1 .taken) (now (args .out)) (args .at) (args .next)
+    no-guards (now (args .masks)) (part (now (args .permits)) (now (args .places))) (args .left) (now (args .q)) (c .if1 .taken) (now (args .out)) (args .to .at) (args .to .next)
 
 guard-ranges-byte-requires : (t : ℕ) → guard-ranges-lts.Need-byte-requires (guard-ranges-claims t) (guard-ranges-at t) guard-ranges.Post
 guard-ranges-byte-requires t c κs = search needs
@@ -51,7 +51,7 @@ guard-ranges-write-guard-requires : (t : ℕ) → guard-ranges-lts.Need-write-gu
 guard-ranges-write-guard-requires t c κs =
     let c₃ = c .before .before .before in let if1 = c₃ .if1 in
     let c₉ = c₃ .before .before .before .before .before .before in let args = c₉ .args in let pre = c₉ .pre in
-    pair-first _ _ _ _ _ _ _ (guard-first (args .left) (now (args .q)) (if1 .left) _ refl _ refl _ (c .before .before .byte .ensures) (now (args .masks)) (part (now (args .permits)) (now (args .places))) _ (args .next) (c .mask .ensures)) (args .at) (pre .1)
+    pair-first _ _ _ _ _ _ _ (guard-first (args .left) (now (args .q)) (if1 .left) _ refl _ refl _ (c .before .before .byte .ensures) (now (args .masks)) (part (now (args .permits)) (now (args .places))) _ (args .to .next) (c .mask .ensures)) (args .to .at) (pre .1)
 
 guard-ranges-record-length-requires : (t : ℕ) → guard-ranges-lts.Need-record-length-requires (guard-ranges-claims t) (guard-ranges-at t) guard-ranges.Post
 guard-ranges-record-length-requires t c κs = search needs
@@ -69,7 +69,7 @@ guard-ranges-guard-ranges-requires t c κs =
     let c₈ = c₆ .before .before in let byte = c₈ .byte in
     let c₉ = c₈ .before in let if1 = c₉ .if1 in
     let c₁₅ = c₉ .before .before .before .before .before .before in let args = c₁₅ .args in let pre = c₁₅ .pre in
-    (omega (arith, pre .0, if1 .left), pair-second _ _ _ _ _ _ _ (guard-first (args .left) (now (args .q)) (if1 .left) _ (c .before .before .record-length .ensures .0) _ (c .before .tail .ensures) _ (byte .ensures) (now (args .masks)) (part (now (args .permits)) (now (args .places))) _ (args .next) (mask .ensures)) (args .at) (now (args .out)) _ _ _ (write-guard .ensures) (pre .1))
+    (omega (arith, pre .0, if1 .left), pair-second _ _ _ _ _ _ _ (guard-first (args .left) (now (args .q)) (if1 .left) _ (c .before .before .record-length .ensures .0) _ (c .before .tail .ensures) _ (byte .ensures) (now (args .masks)) (part (now (args .permits)) (now (args .places))) _ (args .to .next) (mask .ensures)) (args .to .at) (now (args .out)) _ _ _ (write-guard .ensures) (pre .1))
 
 guard-ranges-same-length : (t : ℕ) → guard-ranges-lts.Need-same-length (guard-ranges-claims t) (guard-ranges-at t) guard-ranges.Post
 guard-ranges-same-length t c = search needs
@@ -83,7 +83,7 @@ guard-ranges-returns-2 t c =
     let c₁₁ = c₉ .before .before in let byte = c₁₁ .byte in
     let c₁₂ = c₁₁ .before in let if1 = c₁₂ .if1 in
     let c₁₈ = c₁₂ .before .before .before .before .before .before in let args = c₁₈ .args in
-    pair-did _ _ _ _ _ _ _ (guard-first (args .left) (now (args .q)) (if1 .left) _ (record-length .ensures .0) _ (tail .ensures) _ (byte .ensures) (now (args .masks)) (part (now (args .permits)) (now (args .places))) _ (args .next) (mask .ensures)) (args .at) (now (args .out)) _ _ _ (write-guard .ensures) _ _ _ (c .before .before .guard-ranges .ensures)
+    pair-did _ _ _ _ _ _ _ (guard-first (args .left) (now (args .q)) (if1 .left) _ (record-length .ensures .0) _ (tail .ensures) _ (byte .ensures) (now (args .masks)) (part (now (args .permits)) (now (args .places))) _ (args .to .next) (mask .ensures)) (args .to .at) (now (args .out)) _ _ _ (write-guard .ensures) _ _ _ (c .before .before .guard-ranges .ensures)
 
 pub +guard-ranges-spec : {M : Type 1} → statement M
 +guard-ranges-spec = close μ-guard-ranges λ t. guard-ranges-lts.spec (guard-ranges-claims t)

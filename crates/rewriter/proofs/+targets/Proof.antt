@@ -32,12 +32,12 @@ targets-claims t = (term-reads.Asked, term-reads.Learnt, size-at-reads.Asked, si
 targets-returns : (t : ℕ) → targets-lts.Need-returns (targets-claims t) (targets-at t) targets.Post
 targets-returns t c =
     let c₇ = c .before .before .before .before .before .before .before in let args = c₇ .args in
-    no-targets (now (args .masks)) (part (now (args .permits)) (now (args .places))) (args .left) (args .level) (now (args .q)) (now (args .z)) (c .if1 .taken) (now (args .out)) (args .at) (args .next)
+    no-targets (now (args .masks)) (part (now (args .permits)) (now (args .places))) (args .left) (args .level) (now (args .q)) (now (args .z)) (c .if1 .taken) (now (args .out)) (args .to .at) (args .to .next)
 
 targets-term-requires : (t : ℕ) → targets-lts.Need-term-requires (targets-claims t) (targets-at t) targets.Post
 targets-term-requires t c κs =
     let c₈ = c .before .before .before .before .before .before .before .before in let args = c₈ .args in let pre = c₈ .pre in
-    pair-first _ _ _ _ _ _ _ (target-first (now (args .masks)) (part (now (args .permits)) (now (args .places))) (args .left) (args .level) (now (args .q)) (now (args .z)) (c .before .if1 .left) _ refl _ _ refl refl (args .next)) (args .at) (pre .1)
+    pair-first _ _ _ _ _ _ _ (target-first (now (args .masks)) (part (now (args .permits)) (now (args .places))) (args .left) (args .level) (now (args .q)) (now (args .z)) (c .before .if1 .left) _ refl _ _ refl refl (args .to .next)) (args .to .at) (pre .1)
 
 targets-size-at-requires : (t : ℕ) → targets-lts.Need-size-at-requires (targets-claims t) (targets-at t) targets.Post
 targets-size-at-requires t c κs = search needs
@@ -57,7 +57,7 @@ targets-targets-requires t c κs =
     let c₆ = c₃ .before .before .before in let term = c₆ .term in
     let c₈ = c₆ .before .before in let if1 = c₈ .if1 in
     let c₁₅ = c₈ .before .before .before .before .before .before .before in let args = c₁₅ .args in let pre = c₁₅ .pre in
-    (omega (arith, pre .0, if1 .left), pair-second _ _ _ _ _ _ _ (target-first (now (args .masks)) (part (now (args .permits)) (now (args .places))) (args .left) (args .level) (now (args .q)) (now (args .z)) (if1 .left) _ (size-at .ensures .0) _ _ (c .before .before .tail .ensures) (c .before .tail-sizes .ensures) (args .next)) (args .at) (now (args .out)) _ _ _ (term .ensures) (pre .1))
+    (omega (arith, pre .0, if1 .left), pair-second _ _ _ _ _ _ _ (target-first (now (args .masks)) (part (now (args .permits)) (now (args .places))) (args .left) (args .level) (now (args .q)) (now (args .z)) (if1 .left) _ (size-at .ensures .0) _ _ (c .before .before .tail .ensures) (c .before .tail-sizes .ensures) (args .to .next)) (args .to .at) (now (args .out)) _ _ _ (term .ensures) (pre .1))
 
 targets-same-length : (t : ℕ) → targets-lts.Need-same-length (targets-claims t) (targets-at t) targets.Post
 targets-same-length t c = search needs
@@ -70,7 +70,7 @@ targets-returns-2 t c =
     let c₉ = c₆ .before .before .before in let term = c₉ .term in
     let c₁₁ = c₉ .before .before in let if1 = c₁₁ .if1 in
     let c₁₈ = c₁₁ .before .before .before .before .before .before .before in let args = c₁₈ .args in
-    pair-did _ _ _ _ _ _ _ (target-first (now (args .masks)) (part (now (args .permits)) (now (args .places))) (args .left) (args .level) (now (args .q)) (now (args .z)) (if1 .left) _ (size-at .ensures .0) _ _ (tail .ensures) (tail-sizes .ensures) (args .next)) (args .at) (now (args .out)) _ _ _ (term .ensures) _ _ _ (c .before .before .targets .ensures)
+    pair-did _ _ _ _ _ _ _ (target-first (now (args .masks)) (part (now (args .permits)) (now (args .places))) (args .left) (args .level) (now (args .q)) (now (args .z)) (if1 .left) _ (size-at .ensures .0) _ _ (tail .ensures) (tail-sizes .ensures) (args .to .next)) (args .to .at) (now (args .out)) _ _ _ (term .ensures) _ _ _ (c .before .before .targets .ensures)
 
 pub +targets-spec : {M : Type 1} → statement M
 +targets-spec = close μ-targets λ t. targets-lts.spec (targets-claims t)

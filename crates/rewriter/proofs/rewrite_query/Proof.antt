@@ -5,7 +5,8 @@ use Rattle.copier.specs.Guard.{part}
 use Rattle.rewriter.proofs.Sequences.{ranges-room, targets-room, openings-room, condition-room, guards-room, query-done, query-whole}
 use lib.ListN.{length}
 use lib.Seq.{length-sets}
-use Rattle.rewriter.specs.Parts.{queryAt, queryBytes}
+use Rattle.queries.specs.Parts.{queryAt}
+use Rattle.rewriter.specs.Parts.{queryBytes}
 use borrow.Author.Needs.{needs}
 use Rattle.rewriter.proofs.rewrite_query.Statement.{statement}
 use Rattle.rewriter.proofs.rewrite_query.Tie as tie

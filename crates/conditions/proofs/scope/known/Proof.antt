@@ -1,12 +1,9 @@
 use borrow.Author.Needs.{needs}
 use Rattle.conditions.proofs.scope.known.Statement.{statement}
 use Rattle.conditions.proofs.scope.known.Tie as tie
-use Rattle.conditions.proofs.scope.known.Reads as reads
-use Rattle.conditions.proofs.scope.known.Lts as lts
-use Rattle.catalogue.proofs.count.Reads as count-reads
-use Rattle.conditions.proofs.scope.wide.Reads as wide-reads
-use mathlib.Core.Path.{sym, _∙_}
+use mathlib.Core.Path.{sym, ap}
 use denote.Ref.{now}
+use Rattle.catalogue.specs.declared.Relation.{Relation}
 use Rattle.conditions.specs.Reach.{shapeIn}
 use Rattle.conditions.proofs.scope.Shapes.{shape-length}
 use Rattle.conditions.proofs.scope.Steps.{known-past, known-rest}
@@ -16,9 +13,9 @@ returns c = known-past (shapeIn (now (c .before .before .args .catalogue))) (c .
 
 returns-2 : tie.Need-returns-2
 returns-2 c =
-    let c₄ = c .before .before .before .before in let args = c₄ .args in
+    let args = c .before .before .before .args in
     let catalogue = now (args .catalogue) in
-    known-rest (shapeIn catalogue) (args .limit) (args .variable) (args .relation) (c .before .before .if1 .left) _ _ (c .before .wide .ensures) (c .count .ensures ∙ sym (shape-length catalogue))
+    known-rest (shapeIn catalogue) (args .limit) (args .variable) (args .relation) (c .before .if1 .left) _ _ (ap (λ (x : Relation). x .listed) (c .entry .ensures .0)) (sym (shape-length catalogue))
 
 pub known-spec : {M : Type 1} → statement M
-known-spec = tie.close (tie.spec returns (λ c κs. search needs) (λ c κs. search needs) returns-2)
+known-spec = tie.close (tie.spec returns (λ c κs. search needs) returns-2)

@@ -1,25 +1,31 @@
-use lib.IntN.{ℤ, _*ℤ_}
-use mir.Syntax.{w32}
+use lib.IntN.{ℤ, natAbs, _*ℤ_}
+use Prim.Native.Nat.{_≤_}
+use mir.Syntax.{w32, w64}
+use mir.Val.{SFits, toZ, ofZ}
 use mir.Facts.{toZ-ofZ}
 use native.Mathlib.Omega.{arith}
-use mathlib.Core.Path.{ap, _∙_}
-use Rattle.numbers.proofs.Signed.{cross, op-fits, op-is}
-use borrow.Author.Needs.{needs}
+use mathlib.Core.Path.{_≡_, sym, ap, ap₂, _∙_, subst}
+use Rattle.numbers.proofs.Signed.{cross, abs32, widens, widened}
 use Rattle.decide.proofs.seeks.scaled.Statement.{statement}
 use Rattle.decide.proofs.seeks.scaled.Tie as tie
-use Rattle.decide.proofs.seeks.scaled.Reads as reads
-use Rattle.decide.proofs.seeks.scaled.Lts as lts
-use Rattle.numbers.proofs.wide.Reads as wide-reads
+
+module _ (a d : ℤ) (fa : SFits w32 a) (fd : SFits w64 d) (h : natAbs d ≤ 65535) where
+  fits : SFits w64 (a *ℤ d)
+  fits = cross a d (omega (arith, abs32 a (fa .sfits))) h
+
+  same : toZ w64 (ofZ w64 (toZ w32 (ofZ w32 a))) *ℤ toZ w64 (ofZ w64 d) ≡ a *ℤ d
+  same = ap₂ _*ℤ_ (widened a fa) (toZ-ofZ fd)
+
+cast-result : tie.Need-cast-result
+cast-result c = widens (c .args .a) (c .fits .a)
 
 mul-result : tie.Need-mul-result
-mul-result c =
-    let args = c .before .args in
-    op-fits _*ℤ_ (c .wide .result) (args .d) (record { sfits = c .wide .ok }) (c .before .fits .d) (cross (c .wide .result) (args .d) (omega (arith, c .wide .ensures .1)) (c .before .pre))
+mul-result c = let args = c .args in subst (SFits w64) (sym (same (args .a) (args .d) (c .fits .a) (c .fits .d) (c .pre))) (fits (args .a) (args .d) (c .fits .a) (c .fits .d) (c .pre))
 
 returns : tie.Need-returns
 returns c =
-    let args = c .before .args in
-    op-is _*ℤ_ (c .wide .result) (args .d) (record { sfits = c .wide .ok }) (c .before .fits .d) (cross (c .wide .result) (args .d) (omega (arith, c .wide .ensures .1)) (c .before .pre)) ∙ ap (λ (y : ℤ). y *ℤ args .d) (c .wide .ensures .0 ∙ toZ-ofZ {w = w32} (c .before .fits .a))
+    let args = c .args in
+    ap (λ (z : ℤ). toZ w64 (ofZ w64 z)) (same (args .a) (args .d) (c .fits .a) (c .fits .d) (c .pre)) ∙ toZ-ofZ {w = w64} (fits (args .a) (args .d) (c .fits .a) (c .fits .d) (c .pre))
 
 pub scaled-spec : {M : Type 1} → statement M
-scaled-spec = tie.close (tie.spec (λ c κs. search needs) mul-result returns)
+scaled-spec = tie.close (tie.spec cast-result mul-result returns)

@@ -1,4 +1,4 @@
-use Rattle.items.specs.Actions.{nextOf}
+use Rattle.elaborate.specs.Actions.{nextOf}
 use denote.Ref.{now}
 use mathlib.Core.Path.{_≡_, refl, sym, ap, _∙_}
 use borrow.Author.Tests.{eq-eqb, ne-eqb, le-leb, lt-leb}

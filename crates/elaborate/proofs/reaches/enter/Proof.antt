@@ -8,8 +8,8 @@ use mathlib.Core.Bool.{Bool, cond}
 use borrow.Author.Tests.{eq-eqb, ne-eqb}
 use lib.Seq.{set-out}
 use lib.ListN.{length-set}
-use Rattle.items.specs.Reach.{modeIn}
-use Rattle.elaborate.proofs.reaches.Laws.{clear-more, clear-all, enter-some, enter-head, enter-none, binds-none, small-after, leave-none, leave-last, leave-frame, small-set}
+use Rattle.elaborate.specs.Reach.{modeIn}
+use Rattle.elaborate.proofs.reaches.Laws.{clear-more, clear-all, enter-some, enter-head, enter-none, binds-none, small-after, leave-none, leave-last, leave-frame, small-set, above-kept}
 use borrow.Author.Needs.{needs}
 use Rattle.elaborate.proofs.reaches.enter.Statement.{statement}
 use Rattle.elaborate.proofs.reaches.enter.Tie as tie
@@ -40,7 +40,7 @@ returns c =
     let c₁₀ = c₈ .before .before in let item = c₁₀ .item in
     let c₁₅ = c₁₀ .before .before .before .before .before in let args = c₁₅ .args in let pre = c₁₅ .pre in
     let known = now (args .known) in let r = args .r in
-    (λ w σ sm st. enter-some w (now (args .ids)) (now (args .frames)) (r .depth) (r .crossing) known σ _ _ _ _ (pre .0) st (push .ensures) sm (pre .5) (args .i) _ _ (args .item) (pack .ensures .0 .0) (pack .ensures .0 .1) (pack .ensures .0 .2) (pack .ensures .0 .3) (size-at .ensures .0) (item .given .1), (refl, pre .2, small-after _ _ _ _ _ known _ _ (push .ensures) (pre .6) (pack .ensures .1)))
+    (λ w σ sm st. enter-some w (now (args .ids)) (now (args .frames)) (r .depth) (r .crossing) known σ _ _ _ _ (pre .0) st (push .ensures) sm (pre .5) (args .i) _ _ (args .item) (pack .ensures .0 .0) (pack .ensures .0 .1) (pack .ensures .0 .2) (pack .ensures .0 .3) (size-at .ensures .0) (item .given .1), (refl, pre .2, small-after _ _ _ _ _ known _ _ (push .ensures) (pre .6) (pack .ensures .1), above-kept _ _ _ _ _ known _ _ (push .ensures)))
 
 returns-2 : tie.Need-returns-2
 returns-2 c =
@@ -50,7 +50,7 @@ returns-2 c =
     let c₁₀ = c₈ .before .before in let item2 = c₁₀ .item2 in
     let c₁₅ = c₁₀ .before .before .before .before .before in let args = c₁₅ .args in let pre = c₁₅ .pre in
     let known = now (args .known) in let r = args .r in
-    (λ w σ sm st. enter-head w (now (args .ids)) (now (args .frames)) (r .depth) (r .crossing) known σ _ _ _ _ (pre .0) st (push2 .ensures) sm (pre .5) (args .i) _ _ (args .item) (pack2 .ensures .0 .0) (pack2 .ensures .0 .1) (pack2 .ensures .0 .2) (pack2 .ensures .0 .3) _ _ (size-at2 .ensures .0) (item2 .given .1), (refl, omega (arith, pre .1), small-after _ _ _ _ _ known _ _ (push2 .ensures) (pre .6) (pack2 .ensures .1)))
+    (λ w σ sm st. enter-head w (now (args .ids)) (now (args .frames)) (r .depth) (r .crossing) known σ _ _ _ _ (pre .0) st (push2 .ensures) sm (pre .5) (args .i) _ _ (args .item) (pack2 .ensures .0 .0) (pack2 .ensures .0 .1) (pack2 .ensures .0 .2) (pack2 .ensures .0 .3) _ _ (size-at2 .ensures .0) (item2 .given .1), (refl, omega (arith, pre .1), small-after _ _ _ _ _ known _ _ (push2 .ensures) (pre .6) (pack2 .ensures .1), above-kept _ _ _ _ _ known _ _ (push2 .ensures)))
 
 returns-3 : tie.Need-returns-3
 returns-3 c =
@@ -59,7 +59,7 @@ returns-3 c =
     let c₉ = c₇ .before .before in let match = c₉ .match in
     let c₁₃ = c₉ .before .before .before .before in let args = c₁₃ .args in let pre = c₁₃ .pre in
     let known = now (args .known) in let item = args .item in let r = args .r in
-    (λ w σ sm st. enter-none w (now (args .ids)) (now (args .frames)) (r .depth) (r .crossing) known σ _ _ _ _ (pre .0) st (push3 .ensures) _ _ item refl (entry .ensures) (binds-none item (match .keys3)), (refl, pre .2, small-after _ _ _ _ _ known _ _ (push3 .ensures) (pre .6) (omega (arith, entry .ensures, pre .6 0))))
+    (λ w σ sm st. enter-none w (now (args .ids)) (now (args .frames)) (r .depth) (r .crossing) known σ _ _ _ _ (pre .0) st (push3 .ensures) _ _ item refl (entry .ensures) (binds-none item (match .keys3)), (refl, pre .2, small-after _ _ _ _ _ known _ _ (push3 .ensures) (pre .6) (omega (arith, entry .ensures, pre .6 0)), above-kept _ _ _ _ _ known _ _ (push3 .ensures)))
 
 pub enter-spec : {M : Type 1} → statement M
 enter-spec =

@@ -22,7 +22,7 @@ returns c =
     let c₈ = c₇ .before in let opening = c₈ .opening in
     let c₁₂ = c₈ .before .before .before .before in let args = c₁₂ .args in
     let i = args .i in
-    (λ f w σ sm st. subst (λ (τ : Reaches). Stack w (now (args .ids)) (enter .last .1 .1 .0) (enter .result .depth) (enter .result .crossing) (enter .last .1 .0) τ) (open-reach (args .a) (args .item) (w (i + 1)) (w (i + 2)) σ f (sym (opening .ensures) ∙ if1 .taken)) (enter .ensures .0 w σ sm st), (omega (arith, enter .ensures .1 .0), enter .ensures .1 .1, enter .ensures .1 .2))
+    (λ f w σ sm st. subst (λ (τ : Reaches). Stack w (now (args .ids)) (enter .last .1 .1 .0) (enter .result .depth) (enter .result .crossing) (enter .last .1 .0) τ) (open-reach (args .a) (args .item) (w (i + 1)) (w (i + 2)) σ f (sym (opening .ensures) ∙ if1 .taken)) (enter .ensures .0 w σ sm st), (omega (arith, enter .ensures .1 .0), enter .ensures .1 .1, enter .ensures .1 .2, enter .ensures .1 .3))
 
 returns-2 : tie.Need-returns-2
 returns-2 c =
@@ -33,14 +33,14 @@ returns-2 c =
     let c₈ = c₇ .before in let opening = c₈ .opening in
     let c₁₂ = c₈ .before .before .before .before in let args = c₁₂ .args in
     let ids = now (args .ids) in let i = args .i in
-    (λ f w σ sm st. subst (λ (τ : Reaches). Stack w ids (now (args .frames)) (leave .result .depth) (leave .result .crossing) (leave .last .0) τ) (close-reach (args .a) (args .item) (w (i + 1)) (w (i + 2)) σ (sym (opening .ensures) ∙ if1 .left) (sym (closing .ensures) ∙ if2 .taken)) (leave .ensures .0 w ids σ st), (omega (arith, leave .ensures .1 .0), leave .ensures .1 .1, leave .ensures .1 .2))
+    (λ f w σ sm st. subst (λ (τ : Reaches). Stack w ids (now (args .frames)) (leave .result .depth) (leave .result .crossing) (leave .last .0) τ) (close-reach (args .a) (args .item) (w (i + 1)) (w (i + 2)) σ (sym (opening .ensures) ∙ if1 .left) (sym (closing .ensures) ∙ if2 .taken)) (leave .ensures .0 w ids σ st), (omega (arith, leave .ensures .1 .0), leave .ensures .1 .1, leave .ensures .1 .2, λ j l. refl))
 
 returns-3 : tie.Need-returns-3
 returns-3 c =
     let c₃ = c .before .before .before in let opening = c₃ .opening in
     let c₇ = c₃ .before .before .before .before in let args = c₇ .args in let pre = c₇ .pre in
     let i = args .i in let r = args .r in
-    (λ f w σ sm st. subst (λ (τ : Reaches). Stack w (now (args .ids)) (now (args .frames)) (r .depth) (r .crossing) (now (args .known)) τ) (same-reach (args .a) (args .item) (w (i + 1)) (w (i + 2)) σ (sym (opening .ensures) ∙ c .before .before .if1 .left) (sym (c .before .closing .ensures) ∙ c .if2 .left)) st, (omega arith, pre .2, pre .6))
+    (λ f w σ sm st. subst (λ (τ : Reaches). Stack w (now (args .ids)) (now (args .frames)) (r .depth) (r .crossing) (now (args .known)) τ) (same-reach (args .a) (args .item) (w (i + 1)) (w (i + 2)) σ (sym (opening .ensures) ∙ c .before .before .if1 .left) (sym (c .before .closing .ensures) ∙ c .if2 .left)) st, (omega arith, pre .2, pre .6, λ j l. refl))
 
 pub shift-spec : {M : Type 1} → statement M
 shift-spec =

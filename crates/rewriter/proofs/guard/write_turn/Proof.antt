@@ -8,7 +8,9 @@ use Rattle.rewriter.proofs.guard.write_turn.Reads as reads
 use Rattle.rewriter.proofs.guard.write_turn.Lts as lts
 use Rattle.rewriter.proofs.guard.copy_condition.Reads as copy-condition-reads
 use Rattle.rewriter.proofs.guard.put_unless.Reads as put-unless-reads
-use Rattle.scans.proofs.count_bindings.Reads as count-bindings-reads
+use Rattle.scans.proofs.tally.Reads as tally-reads
+use Rattle.scans.specs.declared.Bindings.{Bindings}
+use mathlib.Core.Path.{ap}
 
 returns : tie.Need-returns
 returns c =
@@ -29,18 +31,18 @@ copy-condition-requires c κs =
 
 add-t16 : tie.Need-add-t16
 add-t16 c =
-    let c₇ = c .before .before .before .before .before .before .before in let put-unless = c₇ .put-unless in
-    let c₉ = c₇ .before .before in let if1 = c₉ .if1 in
-    let c₁₂ = c₉ .before .before .before in let args = c₁₂ .args in let pre = c₁₂ .pre in
-    omega (arith, c .count-bindings .ensures, turn-second (now (args .condition)) (args .mask) (args .variable) (args .next) (if1 .left) (now (args .out)) (args .at) (put-unless .last .0) (put-unless .result) (put-unless .ensures) (pre .0) (pre .1) .1)
+    let c₈ = c .before .before .before .before .before .before .before .before in let put-unless = c₈ .put-unless in
+    let c₁₀ = c₈ .before .before in let if1 = c₁₀ .if1 in
+    let c₁₃ = c₁₀ .before .before .before in let args = c₁₃ .args in let pre = c₁₃ .pre in
+    omega (arith, ap (λ (x : Bindings). x .count) (c .before .tally .ensures), turn-second (now (args .condition)) (args .mask) (args .variable) (args .next) (if1 .left) (now (args .out)) (args .at) (put-unless .last .0) (put-unless .result) (put-unless .ensures) (pre .0) (pre .1) .1)
 
 returns-2 : tie.Need-returns-2
 returns-2 c =
-    let c₃ = c .before .before .before in let copy-condition = c₃ .copy-condition in
-    let c₇ = c₃ .before .before .before .before in let put-unless = c₇ .put-unless in
-    let c₉ = c₇ .before .before in let if1 = c₉ .if1 in
-    let c₁₂ = c₉ .before .before .before in let args = c₁₂ .args in
-    turn-done (now (args .condition)) (args .mask) (args .variable) (args .next) (if1 .left) (now (args .out)) (args .at) _ _ (put-unless .ensures) _ _ _ (copy-condition .ensures) (c .count-bindings .ensures)
+    let c₄ = c .before .before .before .before in let copy-condition = c₄ .copy-condition in
+    let c₈ = c₄ .before .before .before .before in let put-unless = c₈ .put-unless in
+    let c₁₀ = c₈ .before .before in let if1 = c₁₀ .if1 in
+    let c₁₃ = c₁₀ .before .before .before in let args = c₁₃ .args in
+    turn-done (now (args .condition)) (args .mask) (args .variable) (args .next) (if1 .left) (now (args .out)) (args .at) _ _ (put-unless .ensures) _ _ _ (copy-condition .ensures) (ap (λ (x : Bindings). x .count) (c .before .tally .ensures))
 
 pub write-turn-spec : {M : Type 1} → statement M
 write-turn-spec =

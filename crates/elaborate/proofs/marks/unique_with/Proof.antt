@@ -1,0 +1,89 @@
+use borrow.Author.Needs.{needs}
+use native.Mathlib.Omega.{arith}
+use denote.Ref.{now}
+use mathlib.Core.Path.{_≡_, refl, sym, ap, ap₂, subst, _∙_}
+use Prim.Native.Nat.{ℕ, _+_, _-_, _≤_, _<_}
+use mathlib.Core.List.{List, []}
+use lib.ListN.{length, getD}
+use borrow.Author.Tests.{not-true, not-false}
+use Rattle.elaborate.specs.Places.{nameIn, boundPlace}
+use Rattle.elaborate.specs.Numbers.{Numbered}
+use Rattle.elaborate.proofs.marks.Bound.{Left, left-start, left-next, left-twice, left-end}
+use Rattle.elaborate.proofs.marks.unique_with.Statement.{statement}
+use Rattle.elaborate.proofs.marks.unique_with.Tie as tie
+use Rattle.elaborate.proofs.marks.unique_with.Reads as reads
+use Rattle.elaborate.proofs.marks.unique_with.Lts as lts
+use Rattle.elaborate.proofs.marks.once.Reads as once-reads
+use Rattle.elaborate.proofs.marks.part.Reads as part-reads
+
+abbrev Inv-loop : tie.InvT-loop
+Inv-loop kinds ids seen₀ i₀ p₀ seen i p = ((text ss ls ns : List ℕ) → Numbered (nameIn text kinds ss ls) (length kinds) ids → Left text kinds ss ls ns ids p i seen) × (p ≤ 2) × (length seen ≡ length seen₀)
+
+abbrev μ-loop : tie.MeasureT-loop
+μ-loop kinds ids seen₀ i₀ p₀ seen i p = length kinds - i
+
+loop-holds : tie.Need-loop-holds Inv-loop μ-loop
+loop-holds c = (λ text ss ls ns g. left-start text (now (c .before .before .before .args .kinds)) ss ls ns (now (c .before .before .before .args .ids)) (now (c .before .before .before .args .seen)) (c .before .before .before .pre .3), omega arith, refl)
+
+once-requires : tie.Need-once-requires Inv-loop μ-loop
+once-requires c κs =
+    let c₁ = c .before in let loop-test = c₁ .loop-test in
+    let c₆ = c₁ .before .before .before .before .before in let pre = c₆ .pre in
+    (loop-test .taken, omega (arith, loop-test .taken, pre .0), λ x. omega (arith, pre .2 x, pre .1, c .before .before .loop .inv .2))
+
+same-length : tie.Need-same-length Inv-loop μ-loop
+same-length c = search needs
+
+returns : tie.Need-returns Inv-loop μ-loop
+returns c =
+    let c₃ = c .before .before .before in let once = c₃ .once in
+    let c₅ = c₃ .before .before in let loop-test = c₅ .loop-test in
+    let c₆ = c₅ .before in let loop = c₆ .loop in
+    let c₁₀ = c₆ .before .before .before .before in let args = c₁₀ .args in let pre = c₁₀ .pre in
+    let kinds = now (args .kinds) in
+    λ text ss ls ns g. left-twice text kinds ss ls ns (now (args .ids)) (loop .p) (loop .i) _ _ (once .result) (loop-test .taken) (loop .inv .0 text ss ls ns g) g (omega (arith, pre .2 (boundPlace kinds (loop .i)), pre .1, loop .inv .2)) (once .ensures) (not-true (once .result) (c .if1 .taken))
+
+shared-slice-read-part : tie.Need-shared-slice-read-part Inv-loop μ-loop
+shared-slice-read-part c = search needs
+
+part-requires : tie.Need-part-requires Inv-loop μ-loop
+part-requires c κs = search needs
+
+add-i : tie.Need-add-i Inv-loop μ-loop
+add-i c = search needs
+
+loop-less : tie.Need-loop-less Inv-loop μ-loop
+loop-less c = search needs
+
+loop-again : tie.Need-loop-again Inv-loop μ-loop
+loop-again c =
+    let c₅ = c .before .before .before .before .before in let once = c₅ .once in
+    let c₇ = c₅ .before .before in let loop-test = c₇ .loop-test in
+    let c₈ = c₇ .before in let loop = c₈ .loop in
+    let c₁₂ = c₈ .before .before .before .before in let args = c₁₂ .args in let pre = c₁₂ .pre in
+    let kinds = now (args .kinds) in
+    (λ text ss ls ns g. left-next text kinds ss ls ns (now (args .ids)) (loop .p) (loop .i) _ _ (once .result) (loop-test .taken) (loop .inv .0 text ss ls ns g) g (omega (arith, pre .2 (boundPlace kinds (loop .i)), pre .1, loop .inv .2)) (once .ensures) (not-false (once .result) (c .before .before .if1 .left)) _ (c .part .ensures .0), c .part .ensures .1, once .kept .1 .1 .0 ∙ loop .inv .2)
+
+same-length-2 : tie.Need-same-length-2 Inv-loop μ-loop
+same-length-2 c = search needs
+
+returns-2 : tie.Need-returns-2 Inv-loop μ-loop
+returns-2 c = λ text ss ls ns g. left-end text (now (c .before .before .before .before .before .args .kinds)) ss ls ns (now (c .before .before .before .before .before .args .ids)) (c .before .loop .p) (c .before .loop .i) _ (c .loop-test .left) (c .before .loop .inv .0 text ss ls ns g)
+
+pub unique-with-spec : {M : Type 1} → statement M
+unique-with-spec =
+    tie.close
+    (tie.spec
+    Inv-loop
+    μ-loop
+    loop-holds
+    once-requires
+    same-length
+    returns
+    shared-slice-read-part
+    part-requires
+    add-i
+    loop-less
+    loop-again
+    same-length-2
+    returns-2)

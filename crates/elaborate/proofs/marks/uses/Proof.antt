@@ -1,0 +1,85 @@
+use borrow.Author.Needs.{needs}
+use native.Mathlib.Omega.{arith}
+use denote.Ref.{now}
+use mathlib.Core.Path.{_≡_, refl, sym, ap, ap₂, subst, _∙_}
+use Prim.Native.Nat.{ℕ, _+_, _-_, _≤_, _<_}
+use mathlib.Core.List.{List, []}
+use lib.ListN.{length, getD}
+use Rattle.elaborate.specs.Places.{table, nameIn}
+use Rattle.elaborate.specs.Numbers.{Numbered}
+use Rattle.elaborate.proofs.marks.Marking.{Left, left-start, left-next, left-end, depth-name, not-noted}
+use Rattle.elaborate.proofs.marks.uses.Statement.{statement}
+use Rattle.elaborate.proofs.marks.uses.Tie as tie
+use Rattle.elaborate.proofs.marks.uses.Reads as reads
+use Rattle.elaborate.proofs.marks.uses.Lts as lts
+use Rattle.elaborate.proofs.marks.depth.Reads as depth-reads
+use Rattle.elaborate.proofs.marks.note.Reads as note-reads
+
+abbrev Inv-loop : tie.InvT-loop
+Inv-loop kinds ids from used₀ i₀ d₀ used i d = ((text ss ls ns : List ℕ) → Numbered (nameIn text kinds ss ls) (length kinds) ids → Left text (table kinds ss ls ns) ids from d i used) × (d ≤ i) × (length used ≡ length used₀)
+
+abbrev μ-loop : tie.MeasureT-loop
+μ-loop kinds ids from used₀ i₀ d₀ used i d = length kinds - i
+
+loop-holds : tie.Need-loop-holds Inv-loop μ-loop
+loop-holds c =
+    let args = c .before .before .before .args in let pre = c .before .before .before .pre in (λ text ss ls ns g. left-start text (table (now (args .kinds)) ss ls ns) (now (args .ids)) (args .from) (now (args .used)) (pre .3), omega arith, refl)
+
+shared-slice-read-kind : tie.Need-shared-slice-read-kind Inv-loop μ-loop
+shared-slice-read-kind c = search needs
+
+note-requires : tie.Need-note-requires Inv-loop μ-loop
+note-requires c κs =
+    let loop = c .before .before .before .before .loop in let pre = c .before .before .before .before .before .before .before .before .pre in (omega (arith, c .before .before .before .loop-test .taken, pre .0), omega (arith, pre .2 (loop .i), pre .1, loop .inv .2))
+
+add-i : tie.Need-add-i Inv-loop μ-loop
+add-i c = search needs
+
+loop-less : tie.Need-loop-less Inv-loop μ-loop
+loop-less c = search needs
+
+loop-again : tie.Need-loop-again Inv-loop μ-loop
+loop-again c =
+    let loop = c .before .before .before .before .before .before .before .loop in let args = c .before .before .before .before .before .before .before .before .before .before .before .args in let pre = c .before .before .before .before .before .before .before .before .before .before .before .pre in let note = c .before .before .note in (λ text ss ls ns g. left-next text (table (now (args .kinds)) ss ls ns) (now (args .ids)) (args .from) (loop .d) (loop .i) _ _ (c .before .before .before .before .before .before .loop-test .taken) (loop .inv .0 text ss ls ns g) g (omega (arith, pre .2 (loop .i), pre .1, loop .inv .2)) (note .ensures) _ (depth-name _ (loop .d) (c .before .before .before .before .if1 .taken)), omega (arith, loop .inv .1), note .kept .1 .1 .0 ∙ loop .inv .2)
+
+depth-requires : tie.Need-depth-requires Inv-loop μ-loop
+depth-requires c κs =
+    let loop = c .before .before .before .loop in let pre = c .before .before .before .before .before .before .before .pre in omega (arith, loop .inv .1, c .before .before .loop-test .taken, pre .0)
+
+add-i-2 : tie.Need-add-i-2 Inv-loop μ-loop
+add-i-2 c = search needs
+
+loop-less-2 : tie.Need-loop-less-2 Inv-loop μ-loop
+loop-less-2 c = search needs
+
+loop-again-2 : tie.Need-loop-again-2 Inv-loop μ-loop
+loop-again-2 c =
+    let loop = c .before .before .before .before .loop in let args = c .before .before .before .before .before .before .before .before .args in let pre = c .before .before .before .before .before .before .before .before .pre in (λ text ss ls ns g. left-next text (table (now (args .kinds)) ss ls ns) (now (args .ids)) (args .from) (loop .d) (loop .i) _ _ (c .before .before .before .loop-test .taken) (loop .inv .0 text ss ls ns g) g (omega (arith, pre .2 (loop .i), pre .1, loop .inv .2)) (not-noted (now (args .kinds)) (now (args .ids)) (loop .used) (loop .d) (loop .i) (c .before .if1 .left)) _ (c .depth .ensures .0), omega (arith, loop .inv .1, c .depth .ensures .1), loop .inv .2)
+
+same-length : tie.Need-same-length Inv-loop μ-loop
+same-length c = search needs
+
+returns : tie.Need-returns Inv-loop μ-loop
+returns c =
+    let c₁ = c .before in let loop = c₁ .loop in
+    let c₅ = c₁ .before .before .before .before in let args = c₅ .args in
+    λ text ss ls ns g. left-end text (table (now (args .kinds)) ss ls ns) (now (args .ids)) (args .from) (loop .d) (loop .i) _ (c .loop-test .left) (loop .inv .0 text ss ls ns g)
+
+pub uses-spec : {M : Type 1} → statement M
+uses-spec =
+    tie.close
+    (tie.spec
+    Inv-loop
+    μ-loop
+    loop-holds
+    shared-slice-read-kind
+    note-requires
+    add-i
+    loop-less
+    loop-again
+    depth-requires
+    add-i-2
+    loop-less-2
+    loop-again-2
+    same-length
+    returns)

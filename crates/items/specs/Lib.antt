@@ -1,4 +1,0 @@
-pub mod Actions
-pub mod Puts
-pub mod Reach
-pub mod Tables
