@@ -10,14 +10,14 @@ use Rattle.walks.specs.Assigned.{assigned}
 use Rattle.branches.specs.Branches.{runs}
 use Rattle.conjuncts.specs.Stages.{stageHolds}
 
-module _ (t : List ℕ) (xs : List ℤ) (q z ws : List ℕ) (vs m : List ℤ) where
+module _ (t q z ws : List ℕ) (vs m : List ℤ) where
   -- its two stages
   unfoldable pub bothHold : Assignment → Bool
-  bothHold e = stageHolds t xs q z ws vs m 0 e && stageHolds t xs q z ws vs m 1 e
+  bothHold e = stageHolds t q z ws vs m 0 e && stageHolds t q z ws vs m 1 e
 
   -- the same, the first from branch i on
   unfoldable pub bothFrom : ℕ → Assignment → Bool
-  bothFrom i e = runs t xs q z ws vs m i e && stageHolds t xs q z ws vs m 1 e
+  bothFrom i e = runs t q z ws vs m i e && stageHolds t q z ws vs m 1 e
 
   -- attribute a of the rows of variable v for which they hold
   unfoldable pub takenBy : List ℕ → ℕ → ℕ → List ℤ

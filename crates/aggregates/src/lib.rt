@@ -19,6 +19,12 @@ ghost use Rattle.decide.specs.Keys.{Faithful};
 ghost use Rattle.aggregates.specs.Taken.{bothFrom, takenBy};
 ghost use Rattle.aggregates.specs.Filled.{filledC, filledT, filledTs};
 
+// The column that an aggregate takes: an attribute of its variable.
+struct Column {
+    variable: u8,
+    attribute: usize,
+}
+
 // Whether a level can stand in a table of branches.
 fn compiled(level: usize) -> bool
     ensures { λ r. ⌜ (r ≡ true → (1 ≤ level) × (level ≤ 65535)) ⌝ }
@@ -35,59 +41,58 @@ fn compiled(level: usize) -> bool
 // Whether the conjuncts hold of a table with no ranges, comparisons first, of which those before branch `next` do.
 fn both(
     t: &[u16],
-    xs: &[i32],
     next: usize,
     q: &[u8],
     z: &[u16],
     walks: &[u16],
     chains: &[u16],
-    vs: &[i32],
+    values: &[i32],
     memo: &[i64],
     env: &mut [usize],
 ) -> bool
-    requires { ⌜ (256 ≤ length (now env)) × (next ≤ 65535) × Faithful (now t) (now walks) (now vs) (now chains) ⌝ }
-    ensures { λ r. ⌜ r ≡ bothFrom (now (t .entry)) (now (xs .entry)) (now (q .entry)) (now (z .entry)) (now (walks .entry)) (now (vs .entry))
-        (now (memo .entry)) next (assigned (now (vs .entry)) (now (env .entry))) ⌝ }
+    requires { ⌜ (256 ≤ length (now env)) × (next ≤ 65535) × Faithful (now t) (now walks) (now values) (now chains) ⌝ }
+    ensures { λ r. ⌜ r ≡ bothFrom (now (t .entry)) (now (q .entry)) (now (z .entry)) (now (walks .entry)) (now (values .entry))
+        (now (memo .entry)) next (assigned (now (values .entry)) (now (env .entry))) ⌝ }
     ensures { λ _. ⌜ now (env .exit) ≡ now (env .entry) ⌝ }
 {
-    if !decide::leads(t, xs, next, q, z, walks, chains, vs, memo, env) {
+    if !decide::leads(t, next, q, z, walks, chains, values, memo, env) {
         return false;
     }
     let second = kinds::size_at(t, 1);
-    decide::leads(t, xs, second, q, z, walks, chains, vs, memo, env)
+    decide::leads(t, second, q, z, walks, chains, values, memo, env)
 }
 
 // The attribute of each row of the variable for which the conjuncts hold. Its own rows have no chain.
 fn take(
     t: &[u16],
-    xs: &[i32],
     q: &[u8],
     z: &[u16],
     walks: &[u16],
     chains: &[u16],
-    vs: &[i32],
+    values: &[i32],
     memo: &[i64],
     env: &mut [usize],
-    variable: u8,
-    attribute: u8,
+    column: Column,
 ) -> Accumulator
-    requires { ⌜ (256 ≤ length (now env)) × Faithful (now t) (now walks) (now vs) (now chains) ⌝ }
-    ensures { λ r. ⌜ Accumulates r (takenBy (now (t .entry)) (now (xs .entry)) (now (q .entry)) (now (z .entry)) (now (walks .entry))
-        (now (vs .entry)) (now (memo .entry)) (now (env .entry)) variable attribute) ⌝ }
+    requires { ⌜ (256 ≤ length (now env)) × Faithful (now t) (now walks) (now values) (now chains) × (column .variable < 256) ⌝ }
+    ensures { λ r. ⌜ Accumulates r (takenBy (now (t .entry)) (now (q .entry)) (now (z .entry)) (now (walks .entry))
+        (now (values .entry)) (now (memo .entry)) (now (env .entry)) (column .variable) (column .attribute)) ⌝ }
     ensures { λ r. ⌜ r .count ≤ 65535 ⌝ }
     ensures { λ _. ⌜ now (env .exit) ≡ now (env .entry) ⌝ }
 {
-    let walk = walks::walk_of(walks, variable);
+    let own = column.variable;
+    let walk = walks::walk_of(walks, own);
     let n = walk.count;
-    let old = env[variable as usize];
+    let old = env[own as usize];
     let start = kinds::size_at(t, 0);
     let none = [0u16; 1];
-    let cursor = decide::seeks::prepare(t, xs, start, variable, &none, vs, memo, env);
+    let cursor = decide::seeks::prepare(t, start, own, &none, values, memo, env);
     let next = cursor.next;
     let mut taken = numbers::EMPTY;
     let mut i = 0;
     loop {
-        let j = decide::seeks::next_row(cursor, vs, walks, walk, &none, i);
+        let variable = column.variable;
+        let j = decide::seeks::next_row(cursor, values, walks, walk, &none, i);
         if n <= j {
             env[variable as usize] = old;
             return taken;
@@ -95,47 +100,33 @@ fn take(
         i = j + 1;
         let row = walks::place(walks, walk, j);
         env[variable as usize] = row;
-        if !both(t, xs, next, q, z, walks, chains, vs, memo, env) {
+        if !both(t, next, q, z, walks, chains, values, memo, env) {
             continue;
         }
-        taken = numbers::add(taken, catalogue::value(vs, row, attribute as usize));
+        taken = numbers::add(taken, catalogue::value(values, row, column.attribute));
     }
 }
 
 // The same where the conjuncts ask for rows of other variables: those of the first that has eight or more are chained.
 fn take_linked(
     t: &[u16],
-    xs: &[i32],
     q: &[u8],
     z: &[u16],
     walks: &[u16],
-    vs: &[i32],
+    values: &[i32],
     memo: &[i64],
     env: &mut [usize],
-    variable: u8,
-    attribute: u8,
+    column: Column,
 ) -> Accumulator
-    requires { ⌜ 256 ≤ length (now env) ⌝ }
-    ensures { λ r. ⌜ Accumulates r (takenBy (now (t .entry)) (now (xs .entry)) (now (q .entry)) (now (z .entry)) (now (walks .entry))
-        (now (vs .entry)) (now (memo .entry)) (now (env .entry)) variable attribute) ⌝ }
+    requires { ⌜ (256 ≤ length (now env)) × (column .variable < 256) ⌝ }
+    ensures { λ r. ⌜ Accumulates r (takenBy (now (t .entry)) (now (q .entry)) (now (z .entry)) (now (walks .entry))
+        (now (values .entry)) (now (memo .entry)) (now (env .entry)) (column .variable) (column .attribute)) ⌝ }
     ensures { λ r. ⌜ r .count ≤ 65535 ⌝ }
     ensures { λ _. ⌜ now (env .exit) ≡ now (env .entry) ⌝ }
 {
     let mut chains = [0u16; 2116];
-    decide::seeks::link(q, 0, t, walks, vs, &mut chains);
-    take(
-        t,
-        xs,
-        q,
-        z,
-        walks,
-        &chains,
-        vs,
-        memo,
-        env,
-        variable,
-        attribute,
-    )
+    decide::seeks::link(q, 0, t, walks, values, &mut chains);
+    take(t, q, z, walks, &chains, values, memo, env, column)
 }
 
 // Whether a branch asks for a row. It promises nothing: it only tells whether chains can be of use.
@@ -159,38 +150,24 @@ fn gather(
     z: &[u16],
     level: usize,
     walks: &[u16],
-    vs: &[i32],
+    values: &[i32],
     memo: &[i64],
     env: &mut [usize],
-    variable: u8,
-    attribute: u8,
+    column: Column,
 ) -> Accumulator
-    requires { ⌜ (256 ≤ length (now env)) × (level ≤ 65535) ⌝ }
-    ensures { λ r. ⌜ Accumulates r (valuesOn level (now (q .entry)) (now (z .entry)) (now (walks .entry)) (now (vs .entry)) (now (memo .entry))
-        (now (env .entry)) variable attribute) ⌝ }
+    requires { ⌜ (256 ≤ length (now env)) × (level ≤ 65535) × (column .variable < 256) ⌝ }
+    ensures { λ r. ⌜ Accumulates r (valuesOn level (now (q .entry)) (now (z .entry)) (now (walks .entry)) (now (values .entry)) (now (memo .entry))
+        (now (env .entry)) (column .variable) (column .attribute)) ⌝ }
     ensures { λ r. ⌜ r .count ≤ 65535 ⌝ }
     ensures { λ _. ⌜ now (env .exit) ≡ now (env .entry) ⌝ }
 {
-    let mut t = [0u16; 512];
-    let mut xs = [0i32; 128];
-    conjuncts::plan(q, z, 0, 0, level, memo, &mut t, &mut xs);
+    let mut t = [0u16; 768];
+    conjuncts::plan(q, z, 0, 0, level, memo, &mut t);
     if asks(&t) {
-        return take_linked(&t, &xs, q, z, walks, vs, memo, env, variable, attribute);
+        return take_linked(&t, q, z, walks, values, memo, env, column);
     }
     let chains = [0u16; 1];
-    take(
-        &t,
-        &xs,
-        q,
-        z,
-        walks,
-        &chains,
-        vs,
-        memo,
-        env,
-        variable,
-        attribute,
-    )
+    take(&t, q, z, walks, &chains, values, memo, env, column)
 }
 
 // The value of the term that q starts with; an aggregate's condition is compiled once for its rows.
@@ -199,21 +176,21 @@ fn value(
     z: &[u16],
     level: usize,
     walks: &[u16],
-    vs: &[i32],
+    values: &[i32],
     memo: &[i64],
     env: &mut [usize],
 ) -> Ratio
     requires { ⌜ 256 ≤ length (now env) ⌝ }
-    ensures { λ r. ⌜ valueOf r ≡ valueAt level (now (q .entry)) (now (z .entry)) (now (walks .entry)) (now (vs .entry)) (now (memo .entry))
+    ensures { λ r. ⌜ valueOf r ≡ valueAt level (now (q .entry)) (now (z .entry)) (now (walks .entry)) (now (values .entry)) (now (memo .entry))
         (now (env .entry)) ⌝ }
     ensures { λ r. ⌜ Small r ⌝ }
     ensures { λ _. ⌜ now (env .exit) ≡ now (env .entry) ⌝ }
 {
     if !compiled(level) {
-        return evaluator::term(q, z, level, walks, vs, memo, env);
+        return evaluator::term(q, z, level, walks, values, memo, env);
     }
     let TermRecord::Aggregate(function, variable, _, attribute) = kinds::term_record(q) else {
-        return evaluator::term(q, z, level, walks, vs, memo, env);
+        return evaluator::term(q, z, level, walks, values, memo, env);
     };
     if numbers::knows(memo, variable) {
         return numbers::recall(memo, variable);
@@ -222,7 +199,11 @@ fn value(
     let x = kinds::tail(q, n);
     let y = kinds::tail_sizes(z, n);
     let l = level - 1;
-    let taken = gather(x, y, l, walks, vs, memo, env, variable, attribute);
+    let column = Column {
+        variable,
+        attribute: attribute as usize,
+    };
+    let taken = gather(x, y, l, walks, values, memo, env, column);
     numbers::finish(function, taken)
 }
 
@@ -268,13 +249,13 @@ pub fn condition(
     z: &[u16],
     level: usize,
     walks: &[u16],
-    vs: &[i32],
+    values: &[i32],
     env: &mut [usize],
     memo: &mut [i64],
 )
     requires { ⌜ 256 ≤ length (now env) ⌝ }
-    ensures { λ _. ⌜ now (memo .exit) ≡ filledC (decode level (now (q .entry)) (now (z .entry))) (rowsBy (now (walks .entry)) (now (vs .entry)))
-        (assigned (now (vs .entry)) (now (env .entry))) (now (memo .entry)) ⌝ }
+    ensures { λ _. ⌜ now (memo .exit) ≡ filledC (decode level (now (q .entry)) (now (z .entry))) (rowsBy (now (walks .entry)) (now (values .entry)))
+        (assigned (now (values .entry)) (now (env .entry))) (now (memo .entry)) ⌝ }
     ensures { λ _. ⌜ now (env .exit) ≡ now (env .entry) ⌝ }
 {
     if level == 0 {
@@ -289,22 +270,22 @@ pub fn condition(
     let v = kinds::tail_sizes(z, b);
     match kinds::condition_record(q) {
         ConditionRecord::Not => {
-            condition(x, y, l, walks, vs, env, memo);
+            condition(x, y, l, walks, values, env, memo);
         }
         ConditionRecord::And => {
-            condition(x, y, l, walks, vs, env, memo);
-            condition(u, v, l, walks, vs, env, memo);
+            condition(x, y, l, walks, values, env, memo);
+            condition(u, v, l, walks, values, env, memo);
         }
         ConditionRecord::Or => {
-            condition(x, y, l, walks, vs, env, memo);
-            condition(u, v, l, walks, vs, env, memo);
+            condition(x, y, l, walks, values, env, memo);
+            condition(u, v, l, walks, values, env, memo);
         }
         ConditionRecord::Compare(_) => {
-            term(x, y, l, walks, vs, env, memo);
-            term(u, v, l, walks, vs, env, memo);
+            term(x, y, l, walks, values, env, memo);
+            term(u, v, l, walks, values, env, memo);
         }
         ConditionRecord::Some(_, _) => {
-            condition(x, y, l, walks, vs, env, memo);
+            condition(x, y, l, walks, values, env, memo);
         }
         ConditionRecord::True | ConditionRecord::False | ConditionRecord::Other => {}
     }
@@ -316,13 +297,13 @@ fn term(
     z: &[u16],
     level: usize,
     walks: &[u16],
-    vs: &[i32],
+    values: &[i32],
     env: &mut [usize],
     memo: &mut [i64],
 )
     requires { ⌜ 256 ≤ length (now env) ⌝ }
-    ensures { λ _. ⌜ now (memo .exit) ≡ filledT (decodeT level (now (q .entry)) (now (z .entry))) (rowsBy (now (walks .entry)) (now (vs .entry)))
-        (assigned (now (vs .entry)) (now (env .entry))) (now (memo .entry)) ⌝ }
+    ensures { λ _. ⌜ now (memo .exit) ≡ filledT (decodeT level (now (q .entry)) (now (z .entry))) (rowsBy (now (walks .entry)) (now (values .entry)))
+        (assigned (now (values .entry)) (now (env .entry))) (now (memo .entry)) ⌝ }
     ensures { λ _. ⌜ now (env .exit) ≡ now (env .entry) ⌝ }
 {
     if level == 0 {
@@ -337,11 +318,11 @@ fn term(
         kinds::tail_sizes(z, a),
         level - 1,
         walks,
-        vs,
+        values,
         env,
         memo,
     );
-    let x = value(q, z, level, walks, vs, memo, env);
+    let x = value(q, z, level, walks, values, memo, env);
     remember(memo, variable, x);
 }
 
@@ -352,13 +333,13 @@ fn target_term(
     z: &[u16],
     level: usize,
     walks: &[u16],
-    vs: &[i32],
+    values: &[i32],
     env: &mut [usize],
     memo: &mut [i64],
 )
     requires { ⌜ 256 ≤ length (now env) ⌝ }
-    ensures { λ _. ⌜ now (memo .exit) ≡ filledT (decodeT level (now (q .entry)) (now (z .entry))) (rowsBy (now (walks .entry)) (now (vs .entry)))
-        (assigned (now (vs .entry)) (now (env .entry))) (now (memo .entry)) ⌝ }
+    ensures { λ _. ⌜ now (memo .exit) ≡ filledT (decodeT level (now (q .entry)) (now (z .entry))) (rowsBy (now (walks .entry)) (now (values .entry)))
+        (assigned (now (values .entry)) (now (env .entry))) (now (memo .entry)) ⌝ }
     ensures { λ _. ⌜ now (env .exit) ≡ now (env .entry) ⌝ }
 {
     if level == 0 {
@@ -373,11 +354,11 @@ fn target_term(
         kinds::tail_sizes(z, a),
         level - 1,
         walks,
-        vs,
+        values,
         env,
         memo,
     );
-    let x = value(q, z, level, walks, vs, memo, env);
+    let x = value(q, z, level, walks, values, memo, env);
     remember(memo, variable, x);
 }
 
@@ -388,19 +369,19 @@ pub fn targets(
     left: usize,
     level: usize,
     walks: &[u16],
-    vs: &[i32],
+    values: &[i32],
     env: &mut [usize],
     memo: &mut [i64],
 )
     requires { ⌜ 256 ≤ length (now env) ⌝ }
     ensures { λ _. ⌜ now (memo .exit) ≡ filledTs (targetsAt left level (now (q .entry)) (now (z .entry)))
-        (rowsBy (now (walks .entry)) (now (vs .entry))) (assigned (now (vs .entry)) (now (env .entry))) (now (memo .entry)) ⌝ }
+        (rowsBy (now (walks .entry)) (now (values .entry))) (assigned (now (values .entry)) (now (env .entry))) (now (memo .entry)) ⌝ }
     ensures { λ _. ⌜ now (env .exit) ≡ now (env .entry) ⌝ }
 {
     if left == 0 {
         return;
     }
-    target_term(q, z, level, walks, vs, env, memo);
+    target_term(q, z, level, walks, values, env, memo);
     let n = kinds::size_at(z, 0);
     targets(
         kinds::tail(q, n),
@@ -408,7 +389,7 @@ pub fn targets(
         left - 1,
         level,
         walks,
-        vs,
+        values,
         env,
         memo,
     );

@@ -20,6 +20,7 @@ use Rattle.kinds.specs.Places.{conditionAt}
 use Rattle.kinds.specs.declared.ConditionRecord.{ConditionRecord}
 use Rattle.kinds.specs.declared.ConditionRecord.the-variants as C
 use Rattle.sizes.specs.Decode.{first, second, conditionBy, decode, decodeT}
+use Rattle.sizes.proofs.Decoding.{decode-step}
 use Rattle.numbers.specs.Recalled.{holdsBy}
 use Rattle.walks.specs.Walks.{rowsBy}
 use Rattle.branches.specs.Branches.{runs}
@@ -27,7 +28,6 @@ use Rattle.branches.specs.Compiled.{Compiled, node, joined, Parted, Sear
 use Rattle.branches.specs.declared.Parts.{Parts}
 use Rattle.branches.specs.declared.Search.{Search}
 use Rattle.branches.proofs.Running.{runs-kept, kept-both}
-use Rattle.branches.proofs.Operands.{condition-is}
 
 -- where the byte of a kind stands that has no body, its record does
 pub bare : (q : List ℕ) (k : ℕ) (x : Kind) → getD q 0 0 ≡ suc k → kindOf (suc k) ≡ some x → bodyLength x ≡ 0 → recordAt q ≡ filled (getD q 1 0) (getD q 2 0) (getD q 3 0) (getD q 4 0) x
@@ -70,7 +70,7 @@ module _ (x : Parts) (n l place : ℕ) (q z here : List ℕ) (k b a s : ℕ) (nz
         first = omega (arith, ap (λ (y : Parts). y .first) ex);
         second = omega (arith, ap (λ (y : Parts). y .second) ex);
         whole =
-            sym (condition-is [] (drop place q) l (node k) nz (sym (ek (λ e. h (ex-kind ∙ e))) ∙ ap conditionAt eh) (drop place z))
+            decode-step l (drop place q) (drop place z) (node k) nz (sym (ap conditionAt eh) ∙ ek (λ e. h (ex-kind ∙ e)))
             ∙ by-node k (λ u w. decode (l - 1) u w) (l - 1) (drop place q) (drop place z)
             ∙ ap₂ (joined k) (ap₂ (decode (l - 1)) (part q (x .first) (first (drop place q)) at-first) (part z (x .first) (first (drop place q)) at-first))
             (ap₂ (decode (l - 1)) (part q (x .second) (second (drop place q) (drop place z)) at-second) (part z (x .second) (second (drop place q) (drop place z)) at-second))
@@ -90,7 +90,7 @@ search-found n l place q here b a v g u r nz room eh er es eb ea le eu hu =
       byte = omega arith;
       relation = g;
       whole = λ z.
-          sym (condition-is [] (drop place q) l (C.Some v g) nz (sym es ∙ er ∙ ap conditionAt eh) (drop place z))
+          decode-step l (drop place q) (drop place z) (C.Some v g) nz (sym (er ∙ ap conditionAt eh) ∙ es)
           ∙ ap₂ (λ (x y : List ℕ). SOME v g (decode (l - 1) x y)) (part q) (part z)
           ∙ ap (λ (w : ℕ). SOME w g (decode (l - 1) (drop (place + a) q) (drop (place + a) z))) (sym eu);
     }
@@ -110,11 +110,11 @@ falls-by l t h e = omega (arith, h)
 
 -- branches of the parts
 module _ (k met unmet : ℕ) (q z : List ℕ) (m : List ℤ) (c d w : Condition) (kind : ℕ) (ew : w ≡ joined kind c d) where
-  pub joined-not : (r : ℕ) (t t′ : List ℕ) (xs xs′ : List ℤ) → kind ≡ 1 → Compiled k r unmet met t t′ xs xs′ q z m c → Compiled k r met unmet t t′ xs xs′ q z m w
+  pub joined-not : (r : ℕ) (t t′ : List ℕ) → kind ≡ 1 → Compiled k r unmet met t t′ q z m c → Compiled k r met unmet t t′ q z m w
   unfolding holdsWith
-  joined-not r t t′ xs xs′ h a =
-      subst (Compiled k r met unmet t t′ xs xs′ q z m) (sym is-not)
-      (record { kept = a .kept; means = λ ws vs e. a .means ws vs e ∙ turned (holdsBy m c (rowsBy ws vs) e) (runs t xs q z ws vs m met e) (runs t xs q z ws vs m unmet e) })
+  joined-not r t t′ h a =
+      subst (Compiled k r met unmet t t′ q z m) (sym is-not)
+      (record { kept = a .kept; means = λ ws vs e. a .means ws vs e ∙ turned (holdsBy m c (rowsBy ws vs) e) (runs t q z ws vs m met e) (runs t q z ws vs m unmet e) })
     where
       is-not : w ≡ NOT c
       is-not = ew ∙ rw h
@@ -123,18 +123,18 @@ module _ (k met unmet : ℕ) (q z : List ℕ) (m : List ℤ) (c d w : Condition)
       turned true x y = refl
       turned false x y = refl
 
-  module _ (r s : ℕ) (t t′ t″ : List ℕ) (xs xs′ xs″ : List ℤ) (le : k ≤ r) (hm : met < k) (hu : unmet < k) (b : Compiled k r met unmet t t′ xs xs′ q z m d) where
-    back : (i : ℕ) (ws : List ℕ) (vs : List ℤ) (e : Assignment) → i < k → runs t′ xs′ q z ws vs m i e ≡ runs t xs q z ws vs m i e
-    back i ws vs e h = runs-kept k t t′ xs xs′ q z ws vs m (b .kept) i e h
+  module _ (r s : ℕ) (t t′ t″ : List ℕ) (le : k ≤ r) (hm : met < k) (hu : unmet < k) (b : Compiled k r met unmet t t′ q z m d) where
+    back : (i : ℕ) (ws : List ℕ) (vs : List ℤ) (e : Assignment) → i < k → runs t′ q z ws vs m i e ≡ runs t q z ws vs m i e
+    back i ws vs e h = runs-kept k t t′ q z ws vs m (b .kept) i e h
 
-    pub joined-and : kind ≡ 2 → Compiled (r + 1) s r unmet t′ t″ xs′ xs″ q z m c → Compiled k s met unmet t t″ xs xs″ q z m w
+    pub joined-and : kind ≡ 2 → Compiled (r + 1) s r unmet t′ t″ q z m c → Compiled k s met unmet t t″ q z m w
     unfolding holdsWith
     joined-and h a =
-        subst (Compiled k s met unmet t t″ xs xs″ q z m) (sym is-and)
+        subst (Compiled k s met unmet t t″ q z m) (sym is-and)
         (record {
-          kept = kept-both k (r + 1) t t′ t″ xs xs′ xs″ (omega arith) (b .kept) (a .kept);
+          kept = kept-both k (r + 1) t t′ t″ (omega arith) (b .kept) (a .kept);
           means = λ ws vs e. a .means ws vs e ∙ ap₂ (cond (holdsBy m c (rowsBy ws vs) e)) (b .means ws vs e) (back unmet ws vs e hu)
-              ∙ both (holdsBy m c (rowsBy ws vs) e) (holdsBy m d (rowsBy ws vs) e) (runs t xs q z ws vs m met e) (runs t xs q z ws vs m unmet e);
+              ∙ both (holdsBy m c (rowsBy ws vs) e) (holdsBy m d (rowsBy ws vs) e) (runs t q z ws vs m met e) (runs t q z ws vs m unmet e);
         })
       where
         is-and : w ≡ AND c d
@@ -144,14 +144,14 @@ module _ (k met unmet : ℕ) (q z : List ℕ) (m : List ℤ) (c d w : Condition)
         both true y u v = refl
         both false y u v = refl
 
-    pub joined-or : (kind ≡ 1 → ⊥) → (kind ≡ 2 → ⊥) → Compiled (r + 1) s met r t′ t″ xs′ xs″ q z m c → Compiled k s met unmet t t″ xs xs″ q z m w
+    pub joined-or : (kind ≡ 1 → ⊥) → (kind ≡ 2 → ⊥) → Compiled (r + 1) s met r t′ t″ q z m c → Compiled k s met unmet t t″ q z m w
     unfolding holdsWith
     joined-or h g a =
-        subst (Compiled k s met unmet t t″ xs xs″ q z m) (sym is-or)
+        subst (Compiled k s met unmet t t″ q z m) (sym is-or)
         (record {
-          kept = kept-both k (r + 1) t t′ t″ xs xs′ xs″ (omega arith) (b .kept) (a .kept);
+          kept = kept-both k (r + 1) t t′ t″ (omega arith) (b .kept) (a .kept);
           means = λ ws vs e. a .means ws vs e ∙ ap₂ (cond (holdsBy m c (rowsBy ws vs) e)) (back met ws vs e hm) (b .means ws vs e)
-              ∙ either (holdsBy m c (rowsBy ws vs) e) (holdsBy m d (rowsBy ws vs) e) (runs t xs q z ws vs m met e) (runs t xs q z ws vs m unmet e);
+              ∙ either (holdsBy m c (rowsBy ws vs) e) (holdsBy m d (rowsBy ws vs) e) (runs t q z ws vs m met e) (runs t q z ws vs m unmet e);
         })
       where
         is-or : w ≡ OR c d

@@ -16,7 +16,7 @@ use Rattle.numbers.specs.Memo.{knows, recalled}
 use Rattle.numbers.specs.declared.Ratio.{Ratio}
 use Rattle.walks.specs.Assigned.{assigned}
 use Rattle.walks.proofs.Assigned.{getD-inside}
-use Rattle.branches.specs.Branches.{field, recalledOr0, operand}
+use Rattle.branches.specs.Branches.{field, number, recalledOr0, operand}
 
 -- what the memo has
 module _ (m : List ℤ) (v : ℕ) (b : Bool) (r : Ratio) (eb : b ≡ knows m v) where
@@ -27,18 +27,18 @@ module _ (m : List ℤ) (v : ℕ) (b : Bool) (r : Ratio) (eb : b ≡ knows m v) 
   recalled-some h er = er ∙ sym (rw (sym eb ∙ not-no b h))
 
 -- one side of a comparison
-module _ (t e : List ℕ) (xs vs m : List ℤ) (i j v : ℕ) (r : Ratio) (ev : v ≡ getD t i 0) where
-  at-v : (x : M.Value) → valueOf r ≡ x → operand m v (getD t (i + 1) 0) (getD xs j (pos 0)) (assigned vs e) ≡ x
-      → valueOf r ≡ operand m (getD t i 0) (getD t (i + 1) 0) (getD xs j (pos 0)) (assigned vs e)
-  at-v x er ex = er ∙ sym ex ∙ ap (λ (w : ℕ). operand m w (getD t (i + 1) 0) (getD xs j (pos 0)) (assigned vs e)) ev
+module _ (t e : List ℕ) (vs m : List ℤ) (i j v : ℕ) (r : Ratio) (ev : v ≡ getD t i 0) where
+  at-v : (x : M.Value) → valueOf r ≡ x → operand m v (getD t (i + 1) 0) (number t j) (assigned vs e) ≡ x
+      → valueOf r ≡ operand m (getD t i 0) (getD t (i + 1) 0) (number t j) (assigned vs e)
+  at-v x er ex = er ∙ sym ex ∙ ap (λ (w : ℕ). operand m w (getD t (i + 1) 0) (number t j) (assigned vs e)) ev
 
   pub side-attribute : (row a : ℕ) (x : ℤ) → v < 256 → 256 ≤ length e → row ≡ getD e v 0 → a ≡ getD t (i + 1) 0 → x ≡ getD vs (row + a) (pos 0) → valueOf r ≡ some (whole x)
-      → valueOf r ≡ operand m (getD t i 0) (getD t (i + 1) 0) (getD xs j (pos 0)) (assigned vs e)
+      → valueOf r ≡ operand m (getD t i 0) (getD t (i + 1) 0) (number t j) (assigned vs e)
   side-attribute row a x h k er ea ex eq =
       at-v (some (whole x)) eq (rw (lt-ltb v 256 h) (ap (λ (y : ℤ). some (whole y)) (sym (ex ∙ ap₂ (λ (r b : ℕ). getD vs (r + b) (pos 0)) (er ∙ getD-inside e v 0 (length vs) (omega arith)) ea))))
 
-  pub side-memo : (w : ℕ) → 256 ≤ v → v < 512 → w ≡ v - 256 → valueOf r ≡ recalledOr0 m w → valueOf r ≡ operand m (getD t i 0) (getD t (i + 1) 0) (getD xs j (pos 0)) (assigned vs e)
+  pub side-memo : (w : ℕ) → 256 ≤ v → v < 512 → w ≡ v - 256 → valueOf r ≡ recalledOr0 m w → valueOf r ≡ operand m (getD t i 0) (getD t (i + 1) 0) (number t j) (assigned vs e)
   side-memo w h k ew eq = at-v (recalledOr0 m w) eq (rw (le-ltb v 256 h, lt-ltb v 512 k) (ap (recalledOr0 m) (sym ew)))
 
-  pub side-number : (x : ℤ) → 256 ≤ v → 512 ≤ v → x ≡ getD xs j (pos 0) → valueOf r ≡ some (whole x) → valueOf r ≡ operand m (getD t i 0) (getD t (i + 1) 0) (getD xs j (pos 0)) (assigned vs e)
+  pub side-number : (x : ℤ) → 256 ≤ v → 512 ≤ v → x ≡ number t j → valueOf r ≡ some (whole x) → valueOf r ≡ operand m (getD t i 0) (getD t (i + 1) 0) (number t j) (assigned vs e)
   side-number x h k ex eq = at-v (some (whole x)) eq (rw (le-ltb v 256 h, le-ltb v 512 k) (ap (λ (y : ℤ). some (whole y)) (sym ex)))

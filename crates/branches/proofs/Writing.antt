@@ -22,14 +22,22 @@ pub written : (t : List ℕ) (i o a b c d met x unmet y : ℕ) → x ≡ met →
     → set (set (set (set (set (set (set (set t i o) (i + 1) a) (i + 2) b) (i + 3) c) (i + 4) d) (i + 5) x) (i + 6) y) (i + 7) 0 ≡ sets t i (o ∷ a ∷ b ∷ c ∷ d ∷ met ∷ unmet ∷ 0 ∷ [])
 written t i o a b c d met x unmet y ex ey = rw (ex, ey) (eight t i o a b c d met unmet 0)
 
-module _ {A : Type 0} (d : A) where
-  pub two : (xs : List A) (i : ℕ) (x y : A) → set (set xs i x) (i + 1) y ≡ sets xs i (x ∷ y ∷ [])
-  two xs i x y = let e : i + 1 ≡ suc i = omega arith in rw e
+pub four : (t : List ℕ) (i a b c d : ℕ) → set (set (set (set t i a) (i + 1) b) (i + 2) c) (i + 3) d ≡ sets t i (a ∷ b ∷ c ∷ d ∷ [])
+four t i a b c d =
+    let i₁ : i + 1 ≡ suc i = omega arith in
+    let i₂ : i + 2 ≡ suc (suc i) = omega arith in
+    let i₃ : i + 3 ≡ suc (suc (suc i)) = omega arith in
+    rw (i₁, i₂, i₃)
 
-  -- what stands before a run, and in it
+module _ {A : Type 0} (d : A) where
+  -- what stands before a run, behind it, and in it
   pub sets-before : (vs l : List A) (i n : ℕ) → n < i → getD (sets l i vs) n d ≡ getD l n d
   sets-before [] l i n h = refl
   sets-before (a ∷ vs) l i n h = sets-before vs (set l i a) (suc i) n (omega arith) ∙ getD-set-other l i n a d (λ e. absurd (omega (arith, e)))
+
+  pub sets-after : (vs l : List A) (i n : ℕ) → i + length vs ≤ n → getD (sets l i vs) n d ≡ getD l n d
+  sets-after [] l i n h = refl
+  sets-after (a ∷ vs) l i n h = sets-after vs (set l i a) (suc i) n (omega arith) ∙ getD-set-other l i n a d (λ e. absurd (omega (arith, e)))
 
   pub sets-at : (vs l : List A) (i j : ℕ) → i + length vs ≤ length l → j < length vs → getD (sets l i vs) (i + j) d ≡ getD vs j d
   sets-at [] l i j h k = absurd (omega arith)

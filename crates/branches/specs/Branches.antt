@@ -1,7 +1,7 @@
 -- A condition as a table of branches: each leads on to one of two earlier ones, until 0, it holds, or 1, it fails. Eight numbers a branch:
 -- operator (0: a condition of the query, by its place and its level; 256: some row of a variable leads from an earlier branch to 0), left variable or
 -- place or the variable, left attribute or level or that branch, right variable, right attribute, where it leads if it holds, where if it fails,
--- and 0; and two numbers, the left and the right.
+-- and 0. Behind all branches, from entry 512 on, stand two numbers for each, the left and the right, as two halves of 16 bits each.
 use Prim.Native.Nat.{ℕ, zero, suc, _+_, _-_, _*_}
 use mathlib.Core.Bool.{Bool, false, cond}
 use mathlib.Core.List.{List}
@@ -9,7 +9,7 @@ use mathlib.Core.Option.{some}
 use lib.Dec.{eqb, ltb}
 use lib.IntN.{ℤ, pos}
 use lib.ListN.{getD, drop}
-use Rattle.model.specs.Meaning.{Assignment, Value, whole, compare}
+use Rattle.model.specs.Meaning.{Assignment, Value, whole, compare, signed}
 use Rattle.numbers.specs.Memo.{knows, recalled}
 use Rattle.sizes.specs.Decode.{decode}
 use Rattle.numbers.specs.Recalled.{holdsBy}
@@ -20,6 +20,10 @@ use Rattle.model.specs.Lists.{update, any}
 abbrev pub field : List ℕ → ℕ → ℕ → ℕ
 field t i j = getD t (8 * i + j) 0
 
+-- number j of a table
+abbrev pub number : List ℕ → ℕ → ℤ
+number t j = signed (getD t (512 + 2 * j) 0) 0 (getD t (513 + 2 * j) 0) 0
+
 -- what the memo has for a variable, 0 where it does not know it: no branch asks for that
 abbrev pub recalledOr0 : List ℤ → ℕ → Value
 recalledOr0 m v = cond (knows m v) (recalled m v) (some (whole (pos 0)))
@@ -28,7 +32,7 @@ recalledOr0 m v = cond (knows m v) (recalled m v) (some (whole (pos 0)))
 abbrev pub operand : List ℤ → ℕ → ℕ → ℤ → Assignment → Value
 operand m v a x e = cond (ltb v 256) (some (whole (e v a))) (cond (ltb v 512) (recalledOr0 m (v - 256)) (some (whole x)))
 
-module _ (t : List ℕ) (xs : List ℤ) (q z ws : List ℕ) (vs m : List ℤ) where
+module _ (t q z ws : List ℕ) (vs m : List ℤ) where
   -- whether branch i holds, where `run` says which of the earlier ones lead to 0
   unfoldable pub holdsIn : (ℕ → Assignment → Bool) → ℕ → Assignment → Bool
   holdsIn run i e =
@@ -36,7 +40,7 @@ module _ (t : List ℕ) (xs : List ℤ) (q z ws : List ℕ) (vs m : List ℤ) wh
       (holdsBy m (decode (field t i 2) (drop (field t i 1) q) (drop (field t i 1) z)) (rowsBy ws vs) e)
       (cond (eqb (field t i 0) 256)
       (cond (ltb (field t i 2) i) (cond (ltb (field t i 1) 256) (any (λ x. run (field t i 2) (update e (field t i 1) x)) (walked ws vs (field t i 1))) false) false)
-      (compare (field t i 0) (operand m (field t i 1) (field t i 2) (getD xs (2 * i) (pos 0)) e) (operand m (field t i 3) (field t i 4) (getD xs (2 * i + 1) (pos 0)) e)))
+      (compare (field t i 0) (operand m (field t i 1) (field t i 2) (number t (2 * i)) e) (operand m (field t i 3) (field t i 4) (number t (2 * i + 1)) e)))
 
   -- where it leads
   abbrev pub nextIn : (ℕ → Assignment → Bool) → ℕ → Assignment → ℕ

@@ -1,13 +1,13 @@
 -- What the functions that fill a table of branches promise.
-use Prim.Native.Nat.{ℕ, _-_, _*_, _≤_, _<_}
+use Prim.Native.Nat.{ℕ, _+_, _-_, _*_, _≤_, _<_}
 use mathlib.Core.Path.{_≡_}
 use mathlib.Core.Bool.{true, cond}
 use mathlib.Core.List.{List, [], _∷_}
 use lib.Dec.{eqb}
-use lib.IntN.{ℤ, pos}
+use lib.IntN.{ℤ}
 use lib.ListN.{getD, drop}
 use Rattle.model.specs.Syntax.{Condition, Term, NOT, AND, OR, SOME}
-use Rattle.model.specs.Meaning.{Assignment, Rows, Value, compare}
+use Rattle.model.specs.Meaning.{Assignment, Rows, Value, compare, signed}
 use Rattle.kinds.specs.declared.ConditionRecord.{ConditionRecord}
 use Rattle.kinds.specs.declared.ConditionRecord.the-variants as C
 use Rattle.sizes.specs.Decode.{decode}
@@ -20,7 +20,7 @@ use Rattle.branches.specs.declared.Parts.{Parts}
 
 -- the value of an operand; where it is known, it is the value of the term
 abbrev pub sideOf : List ℤ → Operand → Assignment → Value
-sideOf m o e = operand m (o .variable) (o .attribute) (o .number) e
+sideOf m o e = operand m (o .variable) (o .attribute) (signed (o .low) 0 (o .high) 0) e
 
 abbrev pub Means : Operand → List ℤ → Term → Type 0
 Means o m x = o .known ≡ true → (R : Rows) (e : Assignment) → valueBy m x R e ≡ sideOf m o e
@@ -33,18 +33,22 @@ Compares x m c = (x .operator ≡ 0 → ⊥) → (R : Rows) (e : Assignment) →
 abbrev pub comparing : Comparison → ℕ → ℕ → List ℕ
 comparing x met unmet = x .operator ∷ x .left .variable ∷ x .left .attribute ∷ x .right .variable ∷ x .right .attribute ∷ met ∷ unmet ∷ 0 ∷ []
 
+-- and its two numbers
+abbrev pub halvesOf : Comparison → List ℕ
+halvesOf x = x .left .low ∷ x .left .high ∷ x .right .low ∷ x .right .high ∷ []
+
 abbrev pub placing : ℕ → ℕ → ℕ → ℕ → List ℕ
 placing place level met unmet = 0 ∷ place ∷ level ∷ 0 ∷ 0 ∷ met ∷ unmet ∷ 0 ∷ []
 
 -- what stands before branch k is as it was
-pub record Kept (k : ℕ) (t t′ : List ℕ) (xs xs′ : List ℤ) : Type 0 where
+pub record Kept (k : ℕ) (t t′ : List ℕ) : Type 0 where
   pub fields : (i : ℕ) → i < 8 * k → getD t′ i 0 ≡ getD t i 0
-  pub numbers : (i : ℕ) → i < 2 * k → getD xs′ i (pos 0) ≡ getD xs i (pos 0)
+  pub numbers : (i : ℕ) → i < 4 * k → getD t′ (512 + i) 0 ≡ getD t (512 + i) 0
 
 -- branch r decides the condition c: it leads where `met` leads if c holds, else where `unmet` leads
-pub record Compiled (k r met unmet : ℕ) (t t′ : List ℕ) (xs xs′ : List ℤ) (q z : List ℕ) (m : List ℤ) (c : Condition) : Type 0 where
-  pub kept : Kept k t t′ xs xs′
-  pub means : (ws : List ℕ) (vs : List ℤ) (e : Assignment) → runs t′ xs′ q z ws vs m r e ≡ cond (holdsBy m c (rowsBy ws vs) e) (runs t xs q z ws vs m met e) (runs t xs q z ws vs m unmet e)
+pub record Compiled (k r met unmet : ℕ) (t t′ q z : List ℕ) (m : List ℤ) (c : Condition) : Type 0 where
+  pub kept : Kept k t t′
+  pub means : (ws : List ℕ) (vs : List ℤ) (e : Assignment) → runs t′ q z ws vs m r e ≡ cond (holdsBy m c (rowsBy ws vs) e) (runs t q z ws vs m met e) (runs t q z ws vs m unmet e)
 
 -- 1 NOT, 2 AND, 3 OR: the record, and the condition of its parts
 abbrev pub node : ℕ → ConditionRecord

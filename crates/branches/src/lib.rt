@@ -5,12 +5,12 @@ use kinds::TermRecord;
 use numbers::Ratio;
 ghost use mathlib.Core.Path.{_≡_};
 ghost use Prim.Native.Nat.{ℕ, _+_, _*_, _≤_, _<_};
-ghost use lib.IntN.{pos};
 ghost use lib.ListN.{length, getD, drop};
 ghost use lib.Seq.{sets};
 ghost use mathlib.Core.Bool.{true, false};
 ghost use mathlib.Core.List.{List, [], _∷_};
 ghost use Rattle.model.specs.Syntax.{Condition, AGGREGATE};
+ghost use Rattle.model.specs.Meaning.{signed};
 ghost use Rattle.numbers.specs.Numbers.{valueOf, Small};
 ghost use Rattle.kinds.specs.Places.{conditionAt};
 ghost use Rattle.sizes.specs.Decode.{decode, decodeT};
@@ -18,11 +18,27 @@ ghost use Rattle.walks.specs.Assigned.{assigned};
 ghost use Rattle.branches.specs.Branches as B;
 ghost use Rattle.branches.specs.Compiled as C;
 
-// The number at i, 0 past the end.
-fn number(xs: &[i32], i: usize) -> i32
-    ensures { λ r. ⌜ r ≡ getD (now (xs .entry)) i (pos 0) ⌝ }
+// A number from its two halves.
+fn joined(low: usize, high: usize) -> i32
+    requires { ⌜ (low ≤ 65535) × (high ≤ 65535) ⌝ }
+    ensures { λ r. ⌜ r ≡ signed low 0 high 0 ⌝ }
 {
-    if i < xs.len() { xs[i] } else { 0 }
+    let n = low + 65536 * high;
+    if n < 2147483648 {
+        n as i32
+    } else {
+        -1 - ((4294967295 - n) as i32)
+    }
+}
+
+// Number j of a table: numbers stand behind the branches, as two halves each.
+fn number(t: &[u16], j: usize) -> i32
+    requires { ⌜ j ≤ 1048576 ⌝ }
+    ensures { λ r. ⌜ r ≡ B.number (now (t .entry)) j ⌝ }
+{
+    let low = kinds::size_at(t, 512 + 2 * j);
+    let high = kinds::size_at(t, 513 + 2 * j);
+    joined(low, high)
 }
 
 fn byte_of(x: usize) -> u8
@@ -44,18 +60,10 @@ fn recalled(memo: &[i64], variable: u8) -> Ratio
 }
 
 // One side of a comparison: the operand at i of the table, whose number is number j.
-pub fn side(
-    t: &[u16],
-    i: usize,
-    xs: &[i32],
-    j: usize,
-    values: &[i32],
-    memo: &[i64],
-    env: &[usize],
-) -> Ratio
-    requires { ⌜ (256 ≤ length (now env)) × (i ≤ 1048576) ⌝ }
+pub fn side(t: &[u16], i: usize, j: usize, values: &[i32], memo: &[i64], env: &[usize]) -> Ratio
+    requires { ⌜ (256 ≤ length (now env)) × (i ≤ 1048576) × (j ≤ 1048576) ⌝ }
     ensures { λ r. ⌜ valueOf r ≡ B.operand (now (memo .entry)) (getD (now (t .entry)) i 0) (getD (now (t .entry)) (i + 1) 0)
-        (getD (now (xs .entry)) j (pos 0)) (assigned (now (values .entry)) (now (env .entry))) ⌝ }
+        (B.number (now (t .entry)) j) (assigned (now (values .entry)) (now (env .entry))) ⌝ }
     ensures { λ r. ⌜ Small r ⌝ }
 {
     let v = kinds::size_at(t, i);
@@ -66,15 +74,17 @@ pub fn side(
     if v < 512 {
         return recalled(memo, byte_of(v - 256));
     }
-    numbers::whole(number(xs, j))
+    numbers::whole(number(t, j))
 }
 
-// One side of a comparison, where it can be kept in numbers: an attribute of a variable, from variable 256 on a known aggregate, 512 a number.
+// One side of a comparison, where it can be kept in numbers: an attribute of a variable, from variable 256 on a known aggregate, 512 a number,
+// by its halves.
 struct Operand {
     known: bool,
     variable: u16,
     attribute: u16,
-    number: i32,
+    low: u16,
+    high: u16,
 }
 
 // A comparison; operator 0 where there is none.
@@ -104,29 +114,39 @@ fn unknown() -> Operand
         known: false,
         variable: 0,
         attribute: 0,
-        number: 0,
+        low: 0,
+        high: 0,
     }
 }
 
-fn number_of(x: i32) -> Operand
-    ensures { λ r. ⌜ r ≡ record { known = true; variable = 512; attribute = 0; number = x } ⌝ }
+// Half of a number from two of its bytes.
+fn half(a: u8, b: u8) -> u16
+    ensures { λ r. ⌜ r ≡ a + 256 * b ⌝ }
+{
+    wide(a) + 256 * wide(b)
+}
+
+fn number_of(low: u16, high: u16) -> Operand
+    ensures { λ r. ⌜ r ≡ record { known = true; variable = 512; attribute = 0; low = low; high = high } ⌝ }
 {
     Operand {
         known: true,
         variable: 512,
         attribute: 0,
-        number: x,
+        low,
+        high,
     }
 }
 
 fn attribute_of(variable: u8, attribute: u8) -> Operand
-    ensures { λ r. ⌜ r ≡ record { known = true; variable = variable; attribute = attribute; number = pos 0 } ⌝ }
+    ensures { λ r. ⌜ r ≡ record { known = true; variable = variable; attribute = attribute; low = 0; high = 0 } ⌝ }
 {
     Operand {
         known: true,
         variable: wide(variable),
         attribute: wide(attribute),
-        number: 0,
+        low: 0,
+        high: 0,
     }
 }
 
@@ -141,7 +161,8 @@ fn aggregate_of(memo: &[i64], variable: u8) -> Operand
         known: true,
         variable: wide(variable) + 256,
         attribute: 0,
-        number: 0,
+        low: 0,
+        high: 0,
     }
 }
 
@@ -153,7 +174,7 @@ fn operand_at(q: &[u8], level: usize, memo: &[i64]) -> Operand
         return unknown();
     }
     match kinds::term_record(q) {
-        TermRecord::Constant(a, b, c, d) => number_of(kinds::constant(a, b, c, d)),
+        TermRecord::Constant(a, b, c, d) => number_of(half(a, b), half(c, d)),
         TermRecord::Attribute(variable, attribute) => attribute_of(variable, attribute),
         TermRecord::Aggregate(_, variable, _, _) => aggregate_of(memo, variable),
         TermRecord::Other => unknown(),
@@ -212,7 +233,7 @@ fn write(
     met: usize,
     unmet: usize,
 )
-    requires { ⌜ (8 * k + 8 ≤ length (now t)) × (k < 64) × (met ≤ 65535) × (unmet ≤ 65535) ⌝ }
+    requires { ⌜ (768 ≤ length (now t)) × (k < 64) × (met ≤ 65535) × (unmet ≤ 65535) ⌝ }
     ensures { λ _. ⌜ now (t .exit) ≡ sets (now (t .entry)) (8 * k) (operator ∷ a ∷ b ∷ c ∷ d ∷ met ∷ unmet ∷ 0 ∷ []) ⌝ }
 {
     let i = 8 * k;
@@ -227,13 +248,15 @@ fn write(
 }
 
 // Writes the two numbers of branch k.
-fn write_numbers(xs: &mut [i32], k: usize, x: i32, y: i32)
-    requires { ⌜ (2 * k + 2 ≤ length (now xs)) × (k < 64) ⌝ }
-    ensures { λ _. ⌜ now (xs .exit) ≡ sets (now (xs .entry)) (2 * k) (x ∷ y ∷ []) ⌝ }
+fn write_numbers(t: &mut [u16], k: usize, a: u16, b: u16, c: u16, d: u16)
+    requires { ⌜ (768 ≤ length (now t)) × (k < 64) ⌝ }
+    ensures { λ _. ⌜ now (t .exit) ≡ sets (now (t .entry)) (512 + 4 * k) (a ∷ b ∷ c ∷ d ∷ []) ⌝ }
 {
-    let i = 2 * k;
-    xs[i] = x;
-    xs[i + 1] = y;
+    let i = 512 + 4 * k;
+    t[i] = a;
+    t[i + 1] = b;
+    t[i + 2] = c;
+    t[i + 3] = d;
 }
 
 // Where a condition leads that holds, and one that does not.
@@ -256,13 +279,12 @@ fn single(
     level: usize,
     memo: &[i64],
     t: &mut [u16],
-    xs: &mut [i32],
     k: usize,
     ways: Ways,
 )
-    requires { ⌜ (8 * k + 8 ≤ length (now t)) × (2 * k + 2 ≤ length (now xs)) × (2 ≤ k) × (k < 64) × (ways .met < k) × (ways .unmet < k) × (place ≤ 65535)
+    requires { ⌜ (768 ≤ length (now t)) × (2 ≤ k) × (k < 64) × (ways .met < k) × (ways .unmet < k) × (place ≤ 65535)
         × (level ≤ 65535) ⌝ }
-    ensures { λ _. ⌜ C.Compiled k k (ways .met) (ways .unmet) (now (t .entry)) (now (t .exit)) (now (xs .entry)) (now (xs .exit))
+    ensures { λ _. ⌜ C.Compiled k k (ways .met) (ways .unmet) (now (t .entry)) (now (t .exit))
         (now (q .entry)) (now (z .entry)) (now (memo .entry)) (decode level (drop place (now (q .entry))) (drop place (now (z .entry)))) ⌝ }
 {
     let met = ways.met;
@@ -288,7 +310,7 @@ fn single(
         met,
         unmet,
     );
-    write_numbers(xs, k, a.number, b.number);
+    write_numbers(t, k, a.low, a.high, b.low, b.high);
 }
 
 // The parts of a condition and their places: kind 1 for NOT, 2 for AND, 3 for OR; 0 for any other, or two parts with no room for two branches.
@@ -394,14 +416,13 @@ pub fn compile(
     level: usize,
     memo: &[i64],
     t: &mut [u16],
-    xs: &mut [i32],
     room: Room,
     ways: Ways,
 ) -> usize
-    requires { ⌜ (8 * room .end ≤ length (now t)) × (2 * room .end ≤ length (now xs)) × (2 ≤ room .next) × (room .next < room .end)
+    requires { ⌜ (768 ≤ length (now t)) × (2 ≤ room .next) × (room .next < room .end)
         × (room .end ≤ 64) × (ways .met < room .next) × (ways .unmet < room .next) × (place ≤ 65535) × (level ≤ 65535) ⌝ }
     ensures { λ r. ⌜ (room .next ≤ r) × (r < room .end) ⌝ }
-    ensures { λ r. ⌜ C.Compiled (room .next) r (ways .met) (ways .unmet) (now (t .entry)) (now (t .exit)) (now (xs .entry)) (now (xs .exit))
+    ensures { λ r. ⌜ C.Compiled (room .next) r (ways .met) (ways .unmet) (now (t .entry)) (now (t .exit))
         (now (q .entry)) (now (z .entry)) (now (memo .entry)) (decode level (drop place (now (q .entry))) (drop place (now (z .entry)))) ⌝ }
 {
     let k = room.next;
@@ -414,13 +435,13 @@ pub fn compile(
         let s = search_at(q, place, level, end - k);
         let inner = s.place;
         if inner == 0 {
-            single(q, z, place, level, memo, t, xs, k, ways);
+            single(q, z, place, level, memo, t, k, ways);
             return k;
         }
         let last = end - 1;
         let inside = Room { next: k, end: last };
         let ends = Ways { met: 0, unmet: 1 };
-        let r = compile(q, z, inner, level - 1, memo, t, xs, inside, ends);
+        let r = compile(q, z, inner, level - 1, memo, t, inside, ends);
         write(t, r + 1, 256, s.variable, narrow(r), 0, 0, m, u);
         return r + 1;
     }
@@ -429,17 +450,17 @@ pub fn compile(
     let l = level - 1;
     if kind == 1 {
         let turned = Ways { met: u, unmet: m };
-        return compile(q, z, first, l, memo, t, xs, room, turned);
+        return compile(q, z, first, l, memo, t, room, turned);
     }
     let last = end - 1;
     let left = Room { next: k, end: last };
-    let r = compile(q, z, second, l, memo, t, xs, left, ways);
+    let r = compile(q, z, second, l, memo, t, left, ways);
     let next = r + 1;
     let rest = Room { next, end };
     if kind == 2 {
         let both = Ways { met: r, unmet: u };
-        return compile(q, z, first, l, memo, t, xs, rest, both);
+        return compile(q, z, first, l, memo, t, rest, both);
     }
     let either = Ways { met: m, unmet: r };
-    compile(q, z, first, l, memo, t, xs, rest, either)
+    compile(q, z, first, l, memo, t, rest, either)
 }

@@ -2,22 +2,16 @@
 use mathlib.Core.Path.{_≡_, refl, sym, ap, ap₂, _∙_, subst}
 use mathlib.Core.Bool.{Bool, true, false, not, _&&_, _||_}
 use mathlib.Core.List.{List, [], _∷_}
-use Prim.Native.Nat.{ℕ, zero, suc, _+_, _-_, _≤_, _<_}
+use Prim.Native.Nat.{ℕ, _+_, _-_, _≤_, _<_}
 use native.Mathlib.Omega.{arith}
 use lib.Dec.{eqb, leb}
-use lib.ListN.{length, getD, set, take, drop, replicate, length-take, length-drop, List·getD-eq-default}
+use lib.ListN.{length, getD, set, take, drop, length-take, length-drop, List·getD-eq-default}
 use lib.Seq.{getD-set-same, getD-set-other, take-set-le, take-set-lt, drop-set-lt, drop-set-add, getD-take, length-take-le}
 use borrow.Author.Tests.{eqb-true, eqb-false, eq-eqb, ne-eqb, leb-true, leb-false}
 use Rattle.model.specs.Lists.{any, all, filter, consIf, Every}
 use Rattle.model.proofs.Tests.{clash, and-inv}
 use Rattle.quel.specs.Results.{Word, sameWord}
 use Rattle.buckets.specs.Chains.{Chain, Held, Chained}
-
--- a list of one number
-pub cleared : (n h : ℕ) → getD {A = ℕ} (replicate n 0) h 0 ≡ 0
-cleared zero h = refl
-cleared (suc n) zero = refl
-cleared (suc n) (suc h) = cleared n h
 
 -- words that are compared and equal
 pub same-word : (v w : Word) → sameWord v w ≡ true → v ≡ w

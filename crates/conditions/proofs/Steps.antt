@@ -19,7 +19,7 @@ use Rattle.model.specs.Catalogue.{Shape, attributesAt}
 use Rattle.model.specs.Scope.{Scope, knownBinding, knownAttribute, inScope, inScopeT}
 use Rattle.kinds.specs.Tables.{recordLength, ofKind, conditionsOf, termsOf}
 use Rattle.kinds.specs.Record.{recordAt}
-use Rattle.kinds.specs.Places.{conditionAt, termAt}
+use Rattle.kinds.specs.Places.{conditionAt, termAt, isCondition, isTerm}
 use Rattle.kinds.specs.declared.ConditionRecord.{ConditionRecord}
 use Rattle.kinds.specs.declared.ConditionRecord.the-variants as C
 use Rattle.kinds.specs.declared.TermRecord.{TermRecord}
@@ -27,7 +27,7 @@ use Rattle.kinds.specs.declared.TermRecord.the-variants as T
 use Rattle.kinds.proofs.ConditionRecord.{enum}
 use Rattle.kinds.proofs.Records.{whole-record}
 use Rattle.sizes.specs.declared.Size.the-variants as S
-use Rattle.sizes.specs.Measured.{Measured, leaves, acceptsCondition, acceptsTerm, accepts, childrenOf, childTerm, children, store, measured, conditionTable, termTable}
+use Rattle.sizes.specs.Measured.{Measured, leaves, accepts, childrenOf, childTerm, children, store, measured, conditionTable, termTable}
 use Rattle.sizes.proofs.Reader.{agree, condition-taken, term-taken}
 use Rattle.sizes.proofs.Steps.{zero-is, wrong, whole}
 use Rattle.conditions.specs.Reach.{scopeOf, someInScope, aggregateInScope}
@@ -85,8 +85,8 @@ module _ (sh : Shape) (limit l : ℕ) (σ : Scope) (q : List ℕ) (p : ℕ) (z :
     not-accepted t h = wrong l t (drop p q) p z nz (accepts t (recordAt (drop p q))) refl (rw h)
 
     module _ (y : ConditionRecord) (ey : y ≡ conditionAt x) where
-      refused : (c : ConditionRecord) → y ≡ c → acceptsCondition c ≡ false → (Refused ≡ conditionReading sh limit l σ (drop p q)) × (z ≡ conditionTable l q p z)
-      refused c e h = none-condition (not-accepted false (ap acceptsCondition (sym (ap conditionAt ex) ∙ sym ey ∙ e) ∙ h))
+      refused : (c : ConditionRecord) → y ≡ c → isCondition c ≡ false → (Refused ≡ conditionReading sh limit l σ (drop p q)) × (z ≡ conditionTable l q p z)
+      refused c e h = none-condition (not-accepted false (ap isCondition (sym (ap conditionAt ex) ∙ sym ey ∙ e) ∙ h))
 
       pub no-operator : (o : ℕ) (b : Bool) → y ≡ C.Compare o → b ≡ isOperator o → not b ≡ true → (Refused ≡ conditionReading sh limit l σ (drop p q)) × (z ≡ conditionTable l q p z)
       no-operator o b e eb h = refused (C.Compare o) e (sym eb ∙ not-true b h)
@@ -95,8 +95,8 @@ module _ (sh : Shape) (limit l : ℕ) (σ : Scope) (q : List ℕ) (p : ℕ) (z :
       no-condition e = refused C.Other e refl
 
     module _ (y : TermRecord) (ey : y ≡ termAt x) where
-      refusedT : (c : TermRecord) → y ≡ c → acceptsTerm c ≡ false → (Refused ≡ termReading sh limit l σ (drop p q)) × (z ≡ termTable l q p z)
-      refusedT c e h = none-term (not-accepted true (ap acceptsTerm (sym (ap termAt ex) ∙ sym ey ∙ e) ∙ h))
+      refusedT : (c : TermRecord) → y ≡ c → isTerm c ≡ false → (Refused ≡ termReading sh limit l σ (drop p q)) × (z ≡ termTable l q p z)
+      refusedT c e h = none-term (not-accepted true (ap isTerm (sym (ap termAt ex) ∙ sym ey ∙ e) ∙ h))
 
       pub no-function : (f v r a : ℕ) (b : Bool) → y ≡ T.Aggregate f v r a → b ≡ isFunction f → not b ≡ true → (Refused ≡ termReading sh limit l σ (drop p q)) × (z ≡ termTable l q p z)
       no-function f v r a b e eb h = refusedT (T.Aggregate f v r a) e (sym eb ∙ not-true b h)
@@ -260,7 +260,7 @@ module _ (sh : Shape) (limit l : ℕ) (nz : l ≡ 0 → ⊥) (σ : Scope) (q : L
             let h = begins q x p ex k ek C.Not e in let n = ea ∙ lengths .1 in
             let b : drop p q ≡ 18 ∷ drop (p + a) q = h ∙ ap (λ v. 18 ∷ v) (next 1 a n) in (
               arm a (λ c. inScope sh limit c σ) (readCondition (l - 1) (drop (p + a) q)) (λ c r i. condition-taken (l - 1) (drop (p + a) q) c r i .fits) (omega (arith, ap length b, n)) r r′ er er′ NOT (λ c. refl) (ap₂ readCondition level b),
-              parent-table l nz q p z false (ap acceptsCondition (sym record-is ∙ e)) 18 a (sym (ap (λ v. getD v 0 0) h)) ea 1 false (counts .2) (sorts .0) r u w ew
+              parent-table l nz q p z false (ap isCondition (sym record-is ∙ e)) 18 a (sym (ap (λ v. getD v 0 0) h)) ea 1 false (counts .2) (sorts .0) r u w ew
                   (one-inner (λ x m y. measured (l - 1) false x m y) (drop (p + a) q) (p + a) z r u (measured-condition sh limit (l - 1) σ q (p + a) z r u er eu)),
             )
 
@@ -270,7 +270,7 @@ module _ (sh : Shape) (limit l : ℕ) (nz : l ≡ 0 → ⊥) (σ : Scope) (q : L
             let h = begins q x p ex k ek (C.Some v m) e in let n = ea ∙ lengths .4 in
             let b : drop p q ≡ 22 ∷ v ∷ m ∷ drop (p + a) q = h ∙ ap (λ y. 22 ∷ v ∷ m ∷ y) (next 3 a n) in (
               arm a (λ c. someInScope sh limit (record { variable = v; relation = m }) c σ) (readCondition (l - 1) (drop (p + a) q)) (λ c r i. condition-taken (l - 1) (drop (p + a) q) c r i .fits) (omega (arith, ap length b, n)) r r′ er er′ (SOME v m) (λ c. refl) (ap₂ readCondition level b),
-              parent-table l nz q p z false (ap acceptsCondition (sym record-is ∙ e)) 22 a (sym (ap (λ v. getD v 0 0) h)) ea 1 false (counts .6) (sorts .4) r u w ew
+              parent-table l nz q p z false (ap isCondition (sym record-is ∙ e)) 22 a (sym (ap (λ v. getD v 0 0) h)) ea 1 false (counts .6) (sorts .4) r u w ew
                   (one-inner (λ x m y. measured (l - 1) false x m y) (drop (p + a) q) (p + a) z r u (measured-some sh limit (l - 1) σ q (p + a) z (record { variable = v; relation = m }) r u er eu)),
             )
 
@@ -300,7 +300,7 @@ module _ (sh : Shape) (limit l : ℕ) (nz : l ≡ 0 → ⊥) (σ : Scope) (q : L
               arm a (both (λ t. inScopeT sh limit t σ)) (two (λ x. readTerm (l - 1) x) (drop (p + a) q)) (two-fits (λ x. readTerm (l - 1) x) (term-taken (l - 1)) (drop (p + a) q)) (omega (arith, ap length b, n)) r r′ er er′
                   (λ c. COMPARE o (c .left) (c .right)) (λ c. refl)
                   (ap₂ readCondition level b ∙ ap (λ g. need g (then (readTerm (l - 1) (drop (p + a) q)) λ s r. then (readTerm (l - 1) r) λ t r. ok (COMPARE o s t) r)) known ∙ sym (two-then (λ x. readTerm (l - 1) x) (term-taken (l - 1)) (COMPARE o) (drop (p + a) q))),
-              parent-table l nz q p z false (ap acceptsCondition (sym record-is ∙ e) ∙ known) 21 a (sym (ap (λ v. getD v 0 0) h)) ea 2 true (counts .5) (sorts .3) r u w ew eu,
+              parent-table l nz q p z false (ap isCondition (sym record-is ∙ e) ∙ known) 21 a (sym (ap (λ v. getD v 0 0) h)) ea 2 true (counts .5) (sorts .3) r u w ew eu,
             )
 
   module _ (k : TermRecord) (ek : k ≡ termAt x) where
@@ -313,7 +313,7 @@ module _ (sh : Shape) (limit l : ℕ) (nz : l ≡ 0 → ⊥) (σ : Scope) (q : L
       constant-is r w b c d e ea f er ew =
           let h = beginsT q x p ex k ek (T.Constant b c d e) f in (
             er ∙ leaf-answer (λ t. inScopeT sh limit t σ) (CONSTANT b c d e) true (drop p q) (drop 5 (drop p q)) a (readTerm l (drop p q)) (ap₂ readTerm level h) refl (omega (arith, ap length h, ea ∙ lengths .5)),
-            leaf-table l nz q p z true (ap acceptsTerm (sym term-is ∙ f)) 32 a (sym (ap (λ v. getD v 0 0) h)) ea (counts .7) w ew,
+            leaf-table l nz q p z true (ap isTerm (sym term-is ∙ f)) 32 a (sym (ap (λ v. getD v 0 0) h)) ea (counts .7) w ew,
           )
 
       pub attribute-is : (r : Reading) (w : List ℕ) (v b : ℕ) (d : Bool) → a ≡ recordLength 33 → k ≡ T.Attribute v b → d ≡ knownAttribute sh (σ v) b → r ≡ Whole a d → w ≡ store z p a → (r ≡ termReading sh limit l σ (drop p q)) × (w ≡ termTable l q p z)
@@ -321,7 +321,7 @@ module _ (sh : Shape) (limit l : ℕ) (nz : l ≡ 0 → ⊥) (σ : Scope) (q : L
       attribute-is r w v b d ea f ed er ew =
           let h = beginsT q x p ex k ek (T.Attribute v b) f in (
             er ∙ leaf-answer (λ t. inScopeT sh limit t σ) (ATTRIBUTE v b) d (drop p q) (drop 3 (drop p q)) a (readTerm l (drop p q)) (ap₂ readTerm level h) (sym ed) (omega (arith, ap length h, ea ∙ lengths .6)),
-            leaf-table l nz q p z true (ap acceptsTerm (sym term-is ∙ f)) 33 a (sym (ap (λ v. getD v 0 0) h)) ea (counts .8) w ew,
+            leaf-table l nz q p z true (ap isTerm (sym term-is ∙ f)) 33 a (sym (ap (λ v. getD v 0 0) h)) ea (counts .8) w ew,
           )
 
       module _ (r r′ : Reading) (u w : List ℕ) (er′ : r′ ≡ grown a r) (ew : w ≡ kept p a r u) where
@@ -332,7 +332,7 @@ module _ (sh : Shape) (limit l : ℕ) (nz : l ≡ 0 → ⊥) (σ : Scope) (q : L
             let b : drop p q ≡ 34 ∷ f ∷ v ∷ m ∷ i ∷ drop (p + a) q = h ∙ ap (λ y. 34 ∷ f ∷ v ∷ m ∷ i ∷ y) (next 5 a n) in (
               armT a (λ c. aggregateInScope sh limit (record { variable = v; relation = m }) i c) (readCondition (l - 1) (drop (p + a) q)) (λ c r i. condition-taken (l - 1) (drop (p + a) q) c r i .fits) (omega (arith, ap length b, n)) r r′ er er′ (AGGREGATE f v m i) (λ c. refl)
                   (ap₂ readTerm level b ∙ ap (λ g. need g (then (readCondition (l - 1) (drop (p + a) q)) λ c r. ok (AGGREGATE f v m i c) r)) known),
-              parent-table l nz q p z true (ap acceptsTerm (sym term-is ∙ e) ∙ known) 34 a (sym (ap (λ v. getD v 0 0) h)) ea 1 false (counts .9) (sorts .5) r u w ew
+              parent-table l nz q p z true (ap isTerm (sym term-is ∙ e) ∙ known) 34 a (sym (ap (λ v. getD v 0 0) h)) ea 1 false (counts .9) (sorts .5) r u w ew
                   (one-inner (λ x m y. measured (l - 1) false x m y) (drop (p + a) q) (p + a) z r u (measured-aggregate sh limit (l - 1) σ q (p + a) z (record { variable = v; relation = m }) i r u er eu)),
             )
 

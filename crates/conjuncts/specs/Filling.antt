@@ -29,7 +29,7 @@ abbrev pub Begun : ℕ → List ℕ → Type 0
 Begun k t = (s : ℕ) → s < 16 → getD t s 0 < k
 
 -- the stages are what they were, and the condition c, whatever the rows; branches below n are in use
-pub record Joined (n : ℕ) (t t′ : List ℕ) (xs xs′ : List ℤ) (q z : List ℕ) (m : List ℤ) (c : Condition) (bs : List Binding) : Type 0 where
+pub record Joined (n : ℕ) (t t′ q z : List ℕ) (m : List ℤ) (c : Condition) (bs : List Binding) : Type 0 where
   pub begun : Begun n t′
-  pub whole : (ws : List ℕ) (vs : List ℤ) (e : Assignment) → stagesHold t′ xs′ q z ws vs m (length bs) e ≡ holdsBy m c (rowsBy ws vs) e && stagesHold t xs q z ws vs m (length bs) e
-  pub steady : (ws : List ℕ) (vs : List ℤ) → Steady t xs q z ws vs m bs → Steady t′ xs′ q z ws vs m bs
+  pub whole : (ws : List ℕ) (vs : List ℤ) (e : Assignment) → stagesHold t′ q z ws vs m (length bs) e ≡ holdsBy m c (rowsBy ws vs) e && stagesHold t q z ws vs m (length bs) e
+  pub steady : (ws : List ℕ) (vs : List ℤ) → Steady t q z ws vs m bs → Steady t′ q z ws vs m bs

@@ -14,22 +14,22 @@ use Rattle.walks.specs.Walks.{rowsBy}
 use Rattle.branches.specs.Branches.{runs}
 
 -- whether the conjuncts of stage s hold
-unfoldable pub stageHolds : List ℕ → List ℤ → List ℕ → List ℕ → List ℕ → List ℤ → List ℤ → ℕ → Assignment → Bool
-stageHolds t xs q z ws vs m s e = runs t xs q z ws vs m (getD t s 0) e
+unfoldable pub stageHolds : List ℕ → List ℕ → List ℕ → List ℕ → List ℤ → List ℤ → ℕ → Assignment → Bool
+stageHolds t q z ws vs m s e = runs t q z ws vs m (getD t s 0) e
 
 -- the stages where at most n ranges are bound
-unfoldable pub stagesHold : List ℕ → List ℤ → List ℕ → List ℕ → List ℕ → List ℤ → List ℤ → ℕ → Assignment → Bool
-stagesHold t xs q z ws vs m n e = all (λ s. stageHolds t xs q z ws vs m s e) (below (2 * n + 2))
+unfoldable pub stagesHold : List ℕ → List ℕ → List ℕ → List ℕ → List ℤ → List ℤ → ℕ → Assignment → Bool
+stagesHold t q z ws vs m n e = all (λ s. stageHolds t q z ws vs m s e) (below (2 * n + 2))
 
 -- e and e′ agree but for the variables of these ranges
 abbrev pub Extends : List Binding → Assignment → Assignment → Type 0
 Extends bs e e′ = (w : ℕ) → contains w (variables bs) ≡ false → e w ≡ e′ w
 
 -- a stage does not depend on the ranges that are not bound yet
-abbrev pub Steady : List ℕ → List ℤ → List ℕ → List ℕ → List ℕ → List ℤ → List ℤ → List Binding → Type 0
-Steady t xs q z ws vs m bs = (s d : ℕ) → s ≤ 2 * d + 1 → d ≤ length bs → (e e′ : Assignment) → Extends (drop d bs) e e′ → stageHolds t xs q z ws vs m s e′ ≡ stageHolds t xs q z ws vs m s e
+abbrev pub Steady : List ℕ → List ℕ → List ℕ → List ℕ → List ℤ → List ℤ → List Binding → Type 0
+Steady t q z ws vs m bs = (s d : ℕ) → s ≤ 2 * d + 1 → d ≤ length bs → (e e′ : Assignment) → Extends (drop d bs) e e′ → stageHolds t q z ws vs m s e′ ≡ stageHolds t q z ws vs m s e
 
 -- the stages are the condition c
-pub record Planned (t : List ℕ) (xs : List ℤ) (q z ws : List ℕ) (vs m : List ℤ) (c : Condition) (bs : List Binding) : Type 0 where
-  pub whole : (e : Assignment) → stagesHold t xs q z ws vs m (length bs) e ≡ holdsBy m c (rowsBy ws vs) e
-  pub steady : Steady t xs q z ws vs m bs
+pub record Planned (t q z ws : List ℕ) (vs m : List ℤ) (c : Condition) (bs : List Binding) : Type 0 where
+  pub whole : (e : Assignment) → stagesHold t q z ws vs m (length bs) e ≡ holdsBy m c (rowsBy ws vs) e
+  pub steady : Steady t q z ws vs m bs

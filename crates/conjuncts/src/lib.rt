@@ -133,13 +133,12 @@ fn join(
     level: usize,
     memo: &[i64],
     t: &mut [u16],
-    xs: &mut [i32],
     room: Room,
 ) -> usize
-    requires { ⌜ (8 * room .end ≤ length (now t)) × (2 * room .end ≤ length (now xs)) × (2 ≤ room .next) × (room .next < room .end)
+    requires { ⌜ (768 ≤ length (now t)) × (2 ≤ room .next) × (room .next < room .end)
         × (room .end ≤ 64) × (ranges ≤ 7) × (place ≤ 65535) × (level ≤ 65535) × F.Begun (room .next) (now t) ⌝ }
     ensures { λ r. ⌜ (room .next ≤ r) × (r ≤ room .end) ⌝ }
-    ensures { λ r. ⌜ F.Joined r (now (t .entry)) (now (t .exit)) (now (xs .entry)) (now (xs .exit)) (now (q .entry)) (now (z .entry))
+    ensures { λ r. ⌜ F.Joined r (now (t .entry)) (now (t .exit)) (now (q .entry)) (now (z .entry))
         (now (memo .entry)) (decode level (drop place (now (q .entry))) (drop place (now (z .entry)))) (rangesAt ranges (now (q .entry))) ⌝ }
 {
     let k = room.next;
@@ -153,7 +152,7 @@ fn join(
         met: after,
         unmet: 1,
     };
-    let r = branches::compile(q, z, place, level, memo, t, xs, room, ways);
+    let r = branches::compile(q, z, place, level, memo, t, room, ways);
     t[s] = narrow(r);
     r + 1
 }
@@ -167,13 +166,12 @@ fn split(
     level: usize,
     memo: &[i64],
     t: &mut [u16],
-    xs: &mut [i32],
     room: Room,
 ) -> usize
-    requires { ⌜ (8 * room .end ≤ length (now t)) × (2 * room .end ≤ length (now xs)) × (2 ≤ room .next) × (room .next < room .end)
+    requires { ⌜ (768 ≤ length (now t)) × (2 ≤ room .next) × (room .next < room .end)
         × (room .end ≤ 64) × (ranges ≤ 7) × (place ≤ 65535) × (level ≤ 65535) × F.Begun (room .next) (now t) ⌝ }
     ensures { λ r. ⌜ (room .next ≤ r) × (r ≤ room .end) ⌝ }
-    ensures { λ r. ⌜ F.Joined r (now (t .entry)) (now (t .exit)) (now (xs .entry)) (now (xs .exit)) (now (q .entry)) (now (z .entry))
+    ensures { λ r. ⌜ F.Joined r (now (t .entry)) (now (t .exit)) (now (q .entry)) (now (z .entry))
         (now (memo .entry)) (decode level (drop place (now (q .entry))) (drop place (now (z .entry)))) (rangesAt ranges (now (q .entry))) ⌝ }
 {
     let k = room.next;
@@ -182,14 +180,14 @@ fn split(
     let first = x.first;
     let second = x.second;
     if x.kind != 2 {
-        return join(q, z, ranges, place, level, memo, t, xs, room);
+        return join(q, z, ranges, place, level, memo, t, room);
     }
     let l = level - 1;
     let last = end - 1;
     let left = Room { next: k, end: last };
-    let next = split(q, z, ranges, second, l, memo, t, xs, left);
+    let next = split(q, z, ranges, second, l, memo, t, left);
     let rest = Room { next, end };
-    split(q, z, ranges, first, l, memo, t, xs, rest)
+    split(q, z, ranges, first, l, memo, t, rest)
 }
 
 // The condition at a place of a query with so many RANGE records, in a cleared table of at most 62 branches.
@@ -201,12 +199,11 @@ pub fn plan(
     level: usize,
     memo: &[i64],
     t: &mut [u16],
-    xs: &mut [i32],
 )
-    requires { ⌜ (512 ≤ length (now t)) × (128 ≤ length (now xs)) × (ranges ≤ 7) × (condition ≤ 65535) × (level ≤ 65535) × ((s : ℕ) → getD (now t) s 0 ≡ 0) ⌝ }
-    ensures { λ _. ⌜ ((ws : List ℕ) (vs : List ℤ) → S.Planned (now (t .exit)) (now (xs .exit)) (now (q .entry)) (now (z .entry)) ws vs
+    requires { ⌜ (768 ≤ length (now t)) × (ranges ≤ 7) × (condition ≤ 65535) × (level ≤ 65535) × ((s : ℕ) → getD (now t) s 0 ≡ 0) ⌝ }
+    ensures { λ _. ⌜ ((ws : List ℕ) (vs : List ℤ) → S.Planned (now (t .exit)) (now (q .entry)) (now (z .entry)) ws vs
         (now (memo .entry)) (decode level (drop condition (now (q .entry))) (drop condition (now (z .entry)))) (rangesAt ranges (now (q .entry)))) ⌝ }
 {
     let room = Room { next: 2, end: 64 };
-    split(q, z, ranges, condition, level, memo, t, xs, room);
+    split(q, z, ranges, condition, level, memo, t, room);
 }

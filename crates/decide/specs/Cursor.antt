@@ -12,7 +12,7 @@ use Rattle.model.specs.Meaning.{Tuple}
 use Rattle.walks.specs.declared.Walk.{Walk}
 use Rattle.walks.specs.Walks.{walkOf}
 use Rattle.walks.specs.Assigned.{assigned}
-use Rattle.branches.specs.Branches.{runs}
+use Rattle.branches.specs.Branches.{number, runs}
 use Rattle.decide.specs.Chains.{same, Entered}
 use Rattle.decide.specs.declared.chains.Entry.{Entry}
 use Rattle.decide.specs.declared.seeks.Test.{Test}
@@ -51,8 +51,8 @@ pub record Ready (c : Cursor) (vs : List ℤ) (ws : List ℕ) (walk : Walk) (cha
 
 -- made for the rows of variable v, where a row is to lead from branch `start` to 0: a row that is not stopped at does not, one that is leads on from
 -- branch `next`
-pub record Prepared (c : Cursor) (t : List ℕ) (xs : List ℤ) (start v : ℕ) (ws : List ℕ) (vs m : List ℤ) (env chains : List ℕ) : Type 0 where
-  pub fails : (q z us : List ℕ) (row : Tuple) → stops c row ≡ false → runs t xs q z us vs m start (update (assigned vs env) v row) ≡ false
-  pub found : (q z us : List ℕ) (row : Tuple) → stops c row ≡ true → runs t xs q z us vs m start (update (assigned vs env) v row) ≡ runs t xs q z us vs m (c .next) (update (assigned vs env) v row)
+pub record Prepared (c : Cursor) (t : List ℕ) (start v : ℕ) (ws : List ℕ) (vs m : List ℤ) (env chains : List ℕ) : Type 0 where
+  pub fails : (q z us : List ℕ) (row : Tuple) → stops c row ≡ false → runs t q z us vs m start (update (assigned vs env) v row) ≡ false
+  pub found : (q z us : List ℕ) (row : Tuple) → stops c row ≡ true → runs t q z us vs m start (update (assigned vs env) v row) ≡ runs t q z us vs m (c .next) (update (assigned vs env) v row)
   pub ready : Ready c vs ws (walkOf ws v) chains
   pub low : c .next ≤ start

@@ -13,28 +13,28 @@ use lib.ListN.{getD}
 use Rattle.model.specs.Lists.{update}
 use Rattle.model.specs.Meaning.{Tuple, Assignment, whole, compare}
 use Rattle.walks.specs.Walks.{walkOf}
-use Rattle.branches.specs.Branches.{operand, branchHolds, runs}
+use Rattle.branches.specs.Branches.{number, operand, branchHolds, runs}
 use Rattle.walks.specs.Assigned.{assigned}
 use Rattle.decide.specs.Chains.{same, bucketAt, Built, Entered}
 use Rattle.decide.specs.declared.chains.Entry.{Entry}
 
 -- whether attribute a of a row is equal to the side at place p, with number n
-abbrev pub equality : List ℕ → ℕ → ℕ → ℕ → List ℤ → List ℤ → Assignment → Tuple → Bool
-equality t p n a xs m e row = compare 1 (some (whole (row a))) (operand m (getD t p 0) (getD t (p + 1) 0) (getD xs n (pos 0)) e)
+abbrev pub equality : List ℕ → ℕ → ℕ → ℕ → List ℤ → Assignment → Tuple → Bool
+equality t p n a m e row = compare 1 (some (whole (row a))) (operand m (getD t p 0) (getD t (p + 1) 0) (number t n) e)
 
 -- branch i asks that of a row of variable v
 abbrev pub Tells : List ℕ → ℕ → ℕ → ℕ → ℕ → ℕ → Type 0
-Tells t i v p n a = (xs : List ℤ) (q z ws : List ℕ) (vs m : List ℤ) (e : Assignment) (row : Tuple) → branchHolds t xs q z ws vs m i (update e v row) ≡ equality t p n a xs m e row
+Tells t i v p n a = (q z ws : List ℕ) (vs m : List ℤ) (e : Assignment) (row : Tuple) → branchHolds t q z ws vs m i (update e v row) ≡ equality t p n a m e row
 
 -- a row that has it leads from branch s where it leads from branch o
 abbrev pub Follows : List ℕ → ℕ → ℕ → ℕ → ℕ → ℕ → ℕ → Type 0
-Follows t s o v p n a = (xs : List ℤ) (q z ws : List ℕ) (vs m : List ℤ) (e : Assignment) (row : Tuple)
-    → equality t p n a xs m e row ≡ true → runs t xs q z ws vs m s (update e v row) ≡ runs t xs q z ws vs m o (update e v row)
+Follows t s o v p n a = (q z ws : List ℕ) (vs m : List ℤ) (e : Assignment) (row : Tuple)
+    → equality t p n a m e row ≡ true → runs t q z ws vs m s (update e v row) ≡ runs t q z ws vs m o (update e v row)
 
 -- one that has it not leads from branch s to 0 only if it does from branch o
 abbrev pub Decides : List ℕ → ℕ → ℕ → ℕ → ℕ → ℕ → ℕ → Type 0
-Decides t s o v p n a = (xs : List ℤ) (q z ws : List ℕ) (vs m : List ℤ) (e : Assignment) (row : Tuple)
-    → equality t p n a xs m e row ≡ false → runs t xs q z ws vs m o (update e v row) ≡ false → runs t xs q z ws vs m s (update e v row) ≡ false
+Decides t s o v p n a = (q z ws : List ℕ) (vs m : List ℤ) (e : Assignment) (row : Tuple)
+    → equality t p n a m e row ≡ false → runs t q z ws vs m o (update e v row) ≡ false → runs t q z ws vs m s (update e v row) ≡ false
 
 -- the branch that a number names besides that of a side
 abbrev pub onward : ℕ → ℕ
@@ -47,10 +47,10 @@ pub record Chain (t ws : List ℕ) (vs : List ℤ) (chains : List ℕ) (s r : �
   pub built : Built (bucketAt vs ws (walkOf ws (getD chains r 0)) (getD chains (r + 3) 0)) (walkOf ws (getD chains r 0) .count) (r + 4) chains
 
 -- a chain entered for the rows of variable v: one that does not have the value leads from branch s to 0 only if it does from branch o
-pub record Enters (x : Entry) (t : List ℕ) (xs : List ℤ) (s o v : ℕ) (ws : List ℕ) (vs m : List ℤ) (env chains : List ℕ) : Type 0 where
+pub record Enters (x : Entry) (t : List ℕ) (s o v : ℕ) (ws : List ℕ) (vs m : List ℤ) (env chains : List ℕ) : Type 0 where
   pub entered : Entered x vs ws (walkOf ws v) chains
-  pub fails : (q z us : List ℕ) (row : Tuple) → (same (row (x .attribute)) (x .value) ≡ true → ⊥) → runs t xs q z us vs m o (update (assigned vs env) v row) ≡ false
-      → runs t xs q z us vs m s (update (assigned vs env) v row) ≡ false
+  pub fails : (q z us : List ℕ) (row : Tuple) → (same (row (x .attribute)) (x .value) ≡ true → ⊥) → runs t q z us vs m o (update (assigned vs env) v row) ≡ false
+      → runs t q z us vs m s (update (assigned vs env) v row) ≡ false
 
 -- every chain of the table serves its branch; so does a table with none
 abbrev pub Faithful : List ℕ → List ℕ → List ℤ → List ℕ → Type 0

@@ -24,7 +24,6 @@ struct Search {
 // Whether branch i holds, which asks for no row.
 fn branch(
     t: &[u16],
-    xs: &[i32],
     i: usize,
     q: &[u8],
     z: &[u16],
@@ -34,7 +33,7 @@ fn branch(
     env: &mut [usize],
 ) -> bool
     requires { ⌜ (256 ≤ length (now env)) × (i ≤ 65535) × (getD (now t) (8 * i) 0 ≡ 256 → ⊥) ⌝ }
-    ensures { λ r. ⌜ r ≡ B.branchHolds (now (t .entry)) (now (xs .entry)) (now (q .entry)) (now (z .entry)) (now (walks .entry))
+    ensures { λ r. ⌜ r ≡ B.branchHolds (now (t .entry)) (now (q .entry)) (now (z .entry)) (now (walks .entry))
         (now (values .entry)) (now (memo .entry)) i (assigned (now (values .entry)) (now (env .entry))) ⌝ }
     ensures { λ _. ⌜ now (env .exit) ≡ now (env .entry) ⌝ }
 {
@@ -47,15 +46,14 @@ fn branch(
         let sizes = kinds::tail_sizes(z, place);
         return evaluator::condition(c, sizes, level, walks, values, memo, env);
     }
-    let a = branches::side(t, p + 1, xs, 2 * i, values, memo, env);
-    let b = branches::side(t, p + 3, xs, 2 * i + 1, values, memo, env);
+    let a = branches::side(t, p + 1, 2 * i, values, memo, env);
+    let b = branches::side(t, p + 3, 2 * i + 1, values, memo, env);
     numbers::compared(operator, a, b)
 }
 
 // Where branch i leads.
 fn next(
     t: &[u16],
-    xs: &[i32],
     i: usize,
     q: &[u8],
     z: &[u16],
@@ -65,11 +63,11 @@ fn next(
     env: &mut [usize],
 ) -> usize
     requires { ⌜ (256 ≤ length (now env)) × (i ≤ 65535) × (getD (now t) (8 * i) 0 ≡ 256 → ⊥) ⌝ }
-    ensures { λ r. ⌜ r ≡ B.next (now (t .entry)) (now (xs .entry)) (now (q .entry)) (now (z .entry)) (now (walks .entry)) (now (values .entry))
+    ensures { λ r. ⌜ r ≡ B.next (now (t .entry)) (now (q .entry)) (now (z .entry)) (now (walks .entry)) (now (values .entry))
         (now (memo .entry)) i (assigned (now (values .entry)) (now (env .entry))) ⌝ }
     ensures { λ _. ⌜ now (env .exit) ≡ now (env .entry) ⌝ }
 {
-    if branch(t, xs, i, q, z, walks, values, memo, env) {
+    if branch(t, i, q, z, walks, values, memo, env) {
         return kinds::size_at(t, 8 * i + 5);
     }
     kinds::size_at(t, 8 * i + 6)
@@ -78,7 +76,6 @@ fn next(
 // Follows the branches from `start` on up to an end, or to one that asks for a row.
 fn run(
     t: &[u16],
-    xs: &[i32],
     start: usize,
     q: &[u8],
     z: &[u16],
@@ -88,9 +85,9 @@ fn run(
     env: &mut [usize],
 ) -> usize
     requires { ⌜ (256 ≤ length (now env)) × (start ≤ 65535) ⌝ }
-    ensures { λ r. ⌜ B.runs (now (t .entry)) (now (xs .entry)) (now (q .entry)) (now (z .entry)) (now (walks .entry)) (now (values .entry))
+    ensures { λ r. ⌜ B.runs (now (t .entry)) (now (q .entry)) (now (z .entry)) (now (walks .entry)) (now (values .entry))
         (now (memo .entry)) r (assigned (now (values .entry)) (now (env .entry)))
-        ≡ B.runs (now (t .entry)) (now (xs .entry)) (now (q .entry)) (now (z .entry)) (now (walks .entry)) (now (values .entry))
+        ≡ B.runs (now (t .entry)) (now (q .entry)) (now (z .entry)) (now (walks .entry)) (now (values .entry))
         (now (memo .entry)) start (assigned (now (values .entry)) (now (env .entry))) ⌝ }
     ensures { λ r. ⌜ (r ≤ start) × (2 ≤ r → getD (now (t .entry)) (8 * r) 0 ≡ 256) ⌝ }
     ensures { λ _. ⌜ now (env .exit) ≡ now (env .entry) ⌝ }
@@ -100,7 +97,7 @@ fn run(
         if kinds::size_at(t, 8 * at) == 256 {
             return at;
         }
-        let to = next(t, xs, at, q, z, walks, values, memo, env);
+        let to = next(t, at, q, z, walks, values, memo, env);
         if at <= to {
             return 1;
         }
@@ -112,7 +109,6 @@ fn run(
 // Whether branch `start` leads to 0; 0 is that end, so that a stage with no conjunct costs no call.
 pub fn leads(
     t: &[u16],
-    xs: &[i32],
     start: usize,
     q: &[u8],
     z: &[u16],
@@ -123,20 +119,19 @@ pub fn leads(
     env: &mut [usize],
 ) -> bool
     requires { ⌜ (256 ≤ length (now env)) × (start ≤ 65535) × Faithful (now t) (now walks) (now values) (now chains) ⌝ }
-    ensures { λ r. ⌜ r ≡ B.runs (now (t .entry)) (now (xs .entry)) (now (q .entry)) (now (z .entry)) (now (walks .entry)) (now (values .entry))
+    ensures { λ r. ⌜ r ≡ B.runs (now (t .entry)) (now (q .entry)) (now (z .entry)) (now (walks .entry)) (now (values .entry))
         (now (memo .entry)) start (assigned (now (values .entry)) (now (env .entry))) ⌝ }
     ensures { λ _. ⌜ now (env .exit) ≡ now (env .entry) ⌝ }
 {
     if start == 0 {
         return true;
     }
-    holds(t, xs, start, q, z, walks, chains, values, memo, env)
+    holds(t, start, q, z, walks, chains, values, memo, env)
 }
 
 // The same for a branch.
 fn holds(
     t: &[u16],
-    xs: &[i32],
     start: usize,
     q: &[u8],
     z: &[u16],
@@ -147,17 +142,17 @@ fn holds(
     env: &mut [usize],
 ) -> bool
     requires { ⌜ (256 ≤ length (now env)) × (start ≤ 65535) × Faithful (now t) (now walks) (now values) (now chains) ⌝ }
-    ensures { λ r. ⌜ r ≡ B.runs (now (t .entry)) (now (xs .entry)) (now (q .entry)) (now (z .entry)) (now (walks .entry)) (now (values .entry))
+    ensures { λ r. ⌜ r ≡ B.runs (now (t .entry)) (now (q .entry)) (now (z .entry)) (now (walks .entry)) (now (values .entry))
         (now (memo .entry)) start (assigned (now (values .entry)) (now (env .entry))) ⌝ }
     ensures { λ _. ⌜ now (env .exit) ≡ now (env .entry) ⌝ }
 {
     let mut from = start;
     loop {
-        let at = run(t, xs, from, q, z, walks, values, memo, env);
+        let at = run(t, from, q, z, walks, values, memo, env);
         if at < 2 {
             return at == 0;
         }
-        let found = some_row(t, xs, at, q, z, walks, chains, values, memo, env);
+        let found = some_row(t, at, q, z, walks, chains, values, memo, env);
         let to = way(t, at, found);
         if at <= to {
             return false;
@@ -185,12 +180,16 @@ fn byte_of(x: usize) -> u8
     x as u8
 }
 
-// The search for a row of a variable that leads from branch `start` to 0; it ends at the first. Rows that fail are passed over, and count as walked.
-fn first_row(
-    t: &[u16],
-    xs: &[i32],
+// A row that is sought: of a variable, leading from branch `start` to 0.
+struct Sought {
     start: usize,
     variable: u8,
+}
+
+// The search for such a row; it ends at the first. Rows that fail are passed over, and count as walked.
+fn first_row(
+    t: &[u16],
+    sought: Sought,
     q: &[u8],
     z: &[u16],
     walks: &[u16],
@@ -199,20 +198,23 @@ fn first_row(
     memo: &[i64],
     env: &mut [usize],
 ) -> Search
-    requires { ⌜ (256 ≤ length (now env)) × (start ≤ 65535) × Faithful (now t) (now walks) (now values) (now chains) ⌝ }
+    requires { ⌜ (256 ≤ length (now env)) × (sought .start ≤ 65535) × Faithful (now t) (now walks) (now values) (now chains)
+        × (sought .variable < 256) ⌝ }
     ensures { λ r. ⌜ record { found = r .found; tried = r .tried } ≡ M.search
-        (λ x. B.runs (now (t .entry)) (now (xs .entry)) (now (q .entry)) (now (z .entry)) (now (walks .entry)) (now (values .entry))
-        (now (memo .entry)) start (update (assigned (now (values .entry)) (now (env .entry))) variable x))
-        (walked (now (walks .entry)) (now (values .entry)) variable) ⌝ }
+        (λ x. B.runs (now (t .entry)) (now (q .entry)) (now (z .entry)) (now (walks .entry)) (now (values .entry))
+        (now (memo .entry)) (sought .start) (update (assigned (now (values .entry)) (now (env .entry))) (sought .variable) x))
+        (walked (now (walks .entry)) (now (values .entry)) (sought .variable)) ⌝ }
     ensures { λ _. ⌜ now (env .exit) ≡ now (env .entry) ⌝ }
 {
-    let walk = walks::walk_of(walks, variable);
+    let own = sought.variable;
+    let walk = walks::walk_of(walks, own);
     let n = walk.count;
-    let old = env[variable as usize];
-    let cursor = seeks::prepare(t, xs, start, variable, chains, values, memo, env);
+    let old = env[own as usize];
+    let cursor = seeks::prepare(t, sought.start, own, chains, values, memo, env);
     let next = cursor.next;
     let mut i = 0;
     loop {
+        let variable = sought.variable;
         let j = seeks::next_row(cursor, values, walks, walk, chains, i);
         if n <= j {
             env[variable as usize] = old;
@@ -222,7 +224,7 @@ fn first_row(
             };
         }
         env[variable as usize] = walks::place(walks, walk, j);
-        if holds(t, xs, next, q, z, walks, chains, values, memo, env) {
+        if holds(t, next, q, z, walks, chains, values, memo, env) {
             env[variable as usize] = old;
             let tried = j + 1;
             return Search { found: true, tried };
@@ -234,7 +236,6 @@ fn first_row(
 // Whether branch i holds, which asks for a row.
 fn some_row(
     t: &[u16],
-    xs: &[i32],
     i: usize,
     q: &[u8],
     z: &[u16],
@@ -245,7 +246,7 @@ fn some_row(
     env: &mut [usize],
 ) -> bool
     requires { ⌜ (256 ≤ length (now env)) × (i ≤ 65535) × (getD (now t) (8 * i) 0 ≡ 256) × Faithful (now t) (now walks) (now values) (now chains) ⌝ }
-    ensures { λ r. ⌜ r ≡ B.branchHolds (now (t .entry)) (now (xs .entry)) (now (q .entry)) (now (z .entry)) (now (walks .entry))
+    ensures { λ r. ⌜ r ≡ B.branchHolds (now (t .entry)) (now (q .entry)) (now (z .entry)) (now (walks .entry))
         (now (values .entry)) (now (memo .entry)) i (assigned (now (values .entry)) (now (env .entry))) ⌝ }
     ensures { λ _. ⌜ now (env .exit) ≡ now (env .entry) ⌝ }
 {
@@ -258,17 +259,9 @@ fn some_row(
         return false;
     }
     let variable = byte_of(v);
-    first_row(
-        t,
-        xs,
-        inner,
+    let sought = Sought {
+        start: inner,
         variable,
-        q,
-        z,
-        walks,
-        chains,
-        values,
-        memo,
-        env,
-    ).found
+    };
+    first_row(t, sought, q, z, walks, chains, values, memo, env).found
 }

@@ -244,7 +244,6 @@ fn onward_from(t: &[u16], start: usize) -> usize
 // The rows that meet the comparison of branch `start`, where one that does not leads to 1; else every row.
 fn compared(
     t: &[u16],
-    xs: &[i32],
     start: usize,
     variable: u8,
     values: &[i32],
@@ -252,7 +251,7 @@ fn compared(
     env: &[usize],
 ) -> Cursor
     requires { ⌜ (256 ≤ length (now env)) × (start ≤ 65535) ⌝ }
-    ensures { λ r. ⌜ ((ws cs : List ℕ) → C.Prepared r (now (t .entry)) (now (xs .entry)) start variable ws (now (values .entry)) (now (memo .entry))
+    ensures { λ r. ⌜ ((ws cs : List ℕ) → C.Prepared r (now (t .entry)) start variable ws (now (values .entry)) (now (memo .entry))
         (now (env .entry)) cs) ⌝ }
 {
     let p = 8 * start;
@@ -267,12 +266,12 @@ fn compared(
         if b == v {
             return every(start);
         }
-        let x = branches::side(t, p + 3, xs, 2 * start + 1, values, memo, env);
+        let x = branches::side(t, p + 3, 2 * start + 1, values, memo, env);
         let c = kinds::size_at(t, p + 2);
         return tested(onward_from(t, start), test_of(c, operator, false, x));
     }
     if b == v {
-        let x = branches::side(t, p + 1, xs, 2 * start, values, memo, env);
+        let x = branches::side(t, p + 1, 2 * start, values, memo, env);
         let c = kinds::size_at(t, p + 4);
         return tested(onward_from(t, start), test_of(c, operator, true, x));
     }
@@ -599,7 +598,6 @@ fn is_one(d: i64) -> bool
 // is none such, or the value that it is entered with is not whole.
 fn enter(
     t: &[u16],
-    xs: &[i32],
     start: usize,
     variable: u8,
     other: usize,
@@ -610,7 +608,7 @@ fn enter(
 ) -> Entry
     requires { ⌜ 256 ≤ length (now env) ⌝ }
     ensures { λ r. ⌜ ((ws : List ℕ) → K.Faithful (now (t .entry)) ws (now (values .entry)) (now (chains .entry)) → (r .at ≡ 0 → ⊥)
-        → K.Enters r (now (t .entry)) (now (xs .entry)) start other variable ws (now (values .entry)) (now (memo .entry)) (now (env .entry))
+        → K.Enters r (now (t .entry)) start other variable ws (now (values .entry)) (now (memo .entry)) (now (env .entry))
         (now (chains .entry))) ⌝ }
 {
     let at = chain_of(chains, start, variable);
@@ -622,7 +620,7 @@ fn enter(
         return nowhere();
     }
     let place = kinds::size_at(chains, at + 1);
-    let x = branches::side(t, place, xs, mark % 256, values, memo, env);
+    let x = branches::side(t, place, mark % 256, values, memo, env);
     let value = x.numerator;
     if !is_one(x.denominator) {
         return nowhere();
@@ -668,7 +666,6 @@ fn chained(way: usize, next: usize, one: Entry, two: Entry) -> Cursor
 // The rows of the chains by branch `start` and by branch `other`, of which a row must have one; by the first comparison where they do not serve.
 fn either(
     t: &[u16],
-    xs: &[i32],
     start: usize,
     other: usize,
     variable: u8,
@@ -679,16 +676,16 @@ fn either(
 ) -> Cursor
     requires { ⌜ (256 ≤ length (now env)) × (start ≤ 65535) ⌝ }
     ensures { λ r. ⌜ ((ws : List ℕ) → K.Faithful (now (t .entry)) ws (now (values .entry)) (now (chains .entry))
-        → C.Prepared r (now (t .entry)) (now (xs .entry)) start variable ws (now (values .entry)) (now (memo .entry)) (now (env .entry))
+        → C.Prepared r (now (t .entry)) start variable ws (now (values .entry)) (now (memo .entry)) (now (env .entry))
         (now (chains .entry))) ⌝ }
 {
-    let one = enter(t, xs, start, variable, other, chains, values, memo, env);
-    let two = enter(t, xs, other, variable, 1, chains, values, memo, env);
+    let one = enter(t, start, variable, other, chains, values, memo, env);
+    let two = enter(t, other, variable, 1, chains, values, memo, env);
     if one.at == 0 {
-        return compared(t, xs, start, variable, values, memo, env);
+        return compared(t, start, variable, values, memo, env);
     }
     if two.at == 0 {
-        return compared(t, xs, start, variable, values, memo, env);
+        return compared(t, start, variable, values, memo, env);
     }
     chained(3, start, one, two)
 }
@@ -696,7 +693,6 @@ fn either(
 // What a loop over the rows of a variable reads before the first one, where each is to lead from branch `start` to 0.
 pub fn prepare(
     t: &[u16],
-    xs: &[i32],
     start: usize,
     variable: u8,
     chains: &[u16],
@@ -706,32 +702,22 @@ pub fn prepare(
 ) -> Cursor
     requires { ⌜ (256 ≤ length (now env)) × (start ≤ 65535) ⌝ }
     ensures { λ r. ⌜ ((ws : List ℕ) → K.Faithful (now (t .entry)) ws (now (values .entry)) (now (chains .entry))
-        → C.Prepared r (now (t .entry)) (now (xs .entry)) start variable ws (now (values .entry)) (now (memo .entry)) (now (env .entry))
+        → C.Prepared r (now (t .entry)) start variable ws (now (values .entry)) (now (memo .entry)) (now (env .entry))
         (now (chains .entry))) ⌝ }
 {
     let at = chain_of(chains, start, variable);
     if at == 0 {
-        return compared(t, xs, start, variable, values, memo, env);
+        return compared(t, start, variable, values, memo, env);
     }
     let mark = kinds::size_at(chains, at + 2);
     if 255 < mark {
-        return either(
-            t,
-            xs,
-            start,
-            mark / 256,
-            variable,
-            chains,
-            values,
-            memo,
-            env,
-        );
+        return either(t, start, mark / 256, variable, chains, values, memo, env);
     }
     let place = kinds::size_at(chains, at + 1);
-    let x = branches::side(t, place, xs, mark % 256, values, memo, env);
+    let x = branches::side(t, place, mark % 256, values, memo, env);
     let value = x.numerator;
     if !is_one(x.denominator) {
-        return compared(t, xs, start, variable, values, memo, env);
+        return compared(t, start, variable, values, memo, env);
     }
     let attribute = kinds::size_at(chains, at + 3);
     let one = Entry {

@@ -42,12 +42,12 @@ pub fn condition(
     z: &[u16],
     level: usize,
     walks: &[u16],
-    vs: &[i32],
+    values: &[i32],
     memo: &[i64],
     env: &mut [usize],
 ) -> bool
     requires { ⌜ 256 ≤ length (now env) ⌝ }
-    ensures { λ r. ⌜ r ≡ holdsAt level (now (q .entry)) (now (z .entry)) (now (walks .entry)) (now (vs .entry)) (now (memo .entry)) (now (env .entry)) ⌝ }
+    ensures { λ r. ⌜ r ≡ holdsAt level (now (q .entry)) (now (z .entry)) (now (walks .entry)) (now (values .entry)) (now (memo .entry)) (now (env .entry)) ⌝ }
     ensures { λ _. ⌜ now (env .exit) ≡ now (env .entry) ⌝ }
 {
     if level == 0 {
@@ -59,31 +59,31 @@ pub fn condition(
     let y = kinds::tail_sizes(z, a);
     match kinds::condition_record(q) {
         ConditionRecord::True => true,
-        ConditionRecord::Not => !condition(x, y, l, walks, vs, memo, env),
+        ConditionRecord::Not => !condition(x, y, l, walks, values, memo, env),
         ConditionRecord::And => {
-            if !condition(x, y, l, walks, vs, memo, env) {
+            if !condition(x, y, l, walks, values, memo, env) {
                 return false;
             }
             let b = a + kinds::size_at(z, a);
             let u = kinds::tail(q, b);
             let v = kinds::tail_sizes(z, b);
-            condition(u, v, l, walks, vs, memo, env)
+            condition(u, v, l, walks, values, memo, env)
         }
         ConditionRecord::Or => {
-            if condition(x, y, l, walks, vs, memo, env) {
+            if condition(x, y, l, walks, values, memo, env) {
                 return true;
             }
             let b = a + kinds::size_at(z, a);
             let u = kinds::tail(q, b);
             let v = kinds::tail_sizes(z, b);
-            condition(u, v, l, walks, vs, memo, env)
+            condition(u, v, l, walks, values, memo, env)
         }
         ConditionRecord::Compare(operator) => {
-            let left = term(x, y, l, walks, vs, memo, env);
+            let left = term(x, y, l, walks, values, memo, env);
             let b = a + kinds::size_at(z, a);
             let u = kinds::tail(q, b);
             let v = kinds::tail_sizes(z, b);
-            let right = term(u, v, l, walks, vs, memo, env);
+            let right = term(u, v, l, walks, values, memo, env);
             numbers::compared(operator as usize, left, right)
         }
         ConditionRecord::Some(variable, _) => some_row(
@@ -91,7 +91,7 @@ pub fn condition(
             y,
             l,
             walks,
-            vs,
+            values,
             memo,
             env,
             variable,
@@ -107,12 +107,12 @@ pub fn term(
     z: &[u16],
     level: usize,
     walks: &[u16],
-    vs: &[i32],
+    values: &[i32],
     memo: &[i64],
     env: &mut [usize],
 ) -> Ratio
     requires { ⌜ 256 ≤ length (now env) ⌝ }
-    ensures { λ r. ⌜ valueOf r ≡ valueAt level (now (q .entry)) (now (z .entry)) (now (walks .entry)) (now (vs .entry)) (now (memo .entry))
+    ensures { λ r. ⌜ valueOf r ≡ valueAt level (now (q .entry)) (now (z .entry)) (now (walks .entry)) (now (values .entry)) (now (memo .entry))
         (now (env .entry)) ⌝ }
     ensures { λ r. ⌜ Small r ⌝ }
     ensures { λ _. ⌜ now (env .exit) ≡ now (env .entry) ⌝ }
@@ -126,7 +126,7 @@ pub fn term(
         TermRecord::Constant(a, b, c, d) => numbers::whole(kinds::constant(a, b, c, d)),
         TermRecord::Attribute(variable, attribute) => {
             let row = place(env, variable);
-            numbers::whole(catalogue::value(vs, row, attribute as usize))
+            numbers::whole(catalogue::value(values, row, attribute as usize))
         }
         TermRecord::Aggregate(function, variable, _, attribute) => {
             if numbers::knows(memo, variable) {
@@ -134,7 +134,7 @@ pub fn term(
             }
             let x = kinds::tail(q, at);
             let y = kinds::tail_sizes(z, at);
-            let taken = gather(x, y, l, walks, vs, memo, env, variable, attribute);
+            let taken = gather(x, y, l, walks, values, memo, env, variable, attribute);
             numbers::finish(function, taken)
         }
         TermRecord::Other => numbers::whole(0),
@@ -147,15 +147,15 @@ fn some_row(
     z: &[u16],
     level: usize,
     walks: &[u16],
-    vs: &[i32],
+    values: &[i32],
     memo: &[i64],
     env: &mut [usize],
     variable: u8,
 ) -> Search
     requires { ⌜ 256 ≤ length (now env) ⌝ }
     ensures { λ r. ⌜ record { found = r .found; tried = r .tried } ≡ search
-        (holdsOn level (now (q .entry)) (now (z .entry)) (now (walks .entry)) (now (vs .entry)) (now (memo .entry)) (now (env .entry)) variable)
-        (walked (now (walks .entry)) (now (vs .entry)) variable) ⌝ }
+        (holdsOn level (now (q .entry)) (now (z .entry)) (now (walks .entry)) (now (values .entry)) (now (memo .entry)) (now (env .entry)) variable)
+        (walked (now (walks .entry)) (now (values .entry)) variable) ⌝ }
     ensures { λ _. ⌜ now (env .exit) ≡ now (env .entry) ⌝ }
 {
     let walk = walks::walk_of(walks, variable);
@@ -164,7 +164,7 @@ fn some_row(
     let mut i = 0;
     while i < n {
         set_place(env, variable, walks::place(walks, walk, i));
-        if condition(q, z, level, walks, vs, memo, env) {
+        if condition(q, z, level, walks, values, memo, env) {
             set_place(env, variable, old);
             let tried = i + 1;
             return Search { found: true, tried };
@@ -184,14 +184,14 @@ fn gather(
     z: &[u16],
     level: usize,
     walks: &[u16],
-    vs: &[i32],
+    values: &[i32],
     memo: &[i64],
     env: &mut [usize],
     variable: u8,
     attribute: u8,
 ) -> Accumulator
     requires { ⌜ 256 ≤ length (now env) ⌝ }
-    ensures { λ r. ⌜ Accumulates r (valuesOn level (now (q .entry)) (now (z .entry)) (now (walks .entry)) (now (vs .entry)) (now (memo .entry))
+    ensures { λ r. ⌜ Accumulates r (valuesOn level (now (q .entry)) (now (z .entry)) (now (walks .entry)) (now (values .entry)) (now (memo .entry))
         (now (env .entry)) variable attribute) ⌝ }
     ensures { λ r. ⌜ r .count ≤ 65535 ⌝ }
     ensures { λ _. ⌜ now (env .exit) ≡ now (env .entry) ⌝ }
@@ -204,8 +204,8 @@ fn gather(
     while i < n {
         let row = walks::place(walks, walk, i);
         set_place(env, variable, row);
-        if condition(q, z, level, walks, vs, memo, env) {
-            taken = numbers::add(taken, catalogue::value(vs, row, attribute as usize));
+        if condition(q, z, level, walks, values, memo, env) {
+            taken = numbers::add(taken, catalogue::value(values, row, attribute as usize));
         }
         i += 1;
     }

@@ -9,10 +9,10 @@ use Rattle.model.specs.Encoding.{Read, fail, ok, readCondition, readTerm}
 use Rattle.kinds.specs.Tables.{conditionsOf, termsOf, recordLength}
 use Rattle.kinds.specs.Record.{recordAt}
 use Rattle.kinds.proofs.Entries.{length-small}
-use Rattle.kinds.specs.Places.{conditionAt, termAt, conditionOf, termOf}
+use Rattle.kinds.specs.Places.{conditionAt, termAt, conditionOf, termOf, isCondition, isTerm}
 use Rattle.grammar.specs.declared.Size.{Size}
 use Rattle.grammar.specs.declared.Size.the-variants.{Bytes, Refused}
-use Rattle.grammar.specs.Sizes.{sizeRead, conditionSize, termSize, after, followed, many, isCondition, isTerm, headSize}
+use Rattle.grammar.specs.Sizes.{sizeRead, conditionSize, termSize, after, followed, many, headSize}
 use Rattle.grammar.proofs.Steps.{term-step}
 use Rattle.grammar.proofs.Pending.{whole}
 

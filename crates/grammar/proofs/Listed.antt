@@ -1,64 +1,31 @@
 -- A list of permits, one after the other.
-use Prim.Native.Nat.{ℕ, zero, suc, _+_, _<_, _≤_}
+use Prim.Native.Nat.{ℕ, zero, suc, _+_, _*_, _<_, _≤_}
 use mathlib.Core.Bool.{Bool, true, false, not, cond}
 use mathlib.Core.List.{List, [], _∷_}
-use mathlib.Core.Option.{Option, none, some}
 use mathlib.Core.Path.{_≡_, refl, sym, _∙_, ap, subst₂}
 use native.Mathlib.Omega.{arith}
-use borrow.Author.Tests.{eqb-true, leb-true}
-use lib.Dec.{eqb, leb}
+use borrow.Author.Tests.{eqb-true}
+use lib.Dec.{eqb}
 use lib.ListN.{length, getD, drop, length-drop}
 use lib.Seq.{drop-drop}
-use Rattle.model.specs.Kinds.{Kind, k-range, k-true, k-false, k-not, k-and, k-or, k-compare, k-some, k-constant, k-attribute, k-aggregate, k-permit, kindOf, find, kinds, code, bodyLength}
+use Rattle.model.specs.Kinds.{kindOf, find}
 use Rattle.model.specs.Syntax.{Condition, Permit, WellFormed}
 use Rattle.model.specs.Encoding.{encode, encodePermit, Read, fail, ok, then, need, readCondition, readPermit, readPermits, permitsRead, failed}
-use Rattle.model.proofs.Reading.{never, then-inv, need-inv, find-inv}
+use Rattle.model.proofs.Reading.{never, then-inv, need-inv}
 use Rattle.model.proofs.Sizes.{size}
 use Rattle.kinds.specs.Tables.{recordLength, ofKind}
-use Rattle.kinds.specs.Record.{recordAt, within, filled}
-use Rattle.kinds.specs.declared.Record.{Record}
-use Rattle.kinds.specs.declared.Record.the-variants as R
-use Rattle.kinds.proofs.Entries.{of-none, of-some}
-use Rattle.kinds.proofs.Records.{whole-record}
+use Rattle.kinds.specs.Places.{permitAt}
+use Rattle.kinds.specs.declared.PermitRecord.{PermitRecord}
+use Rattle.kinds.specs.declared.PermitRecord.the-variants as P
+use Rattle.kinds.proofs.Heads.{permit-at, permit-bytes}
 use Rattle.grammar.specs.declared.Size.{Size}
 use Rattle.grammar.specs.declared.Size.the-variants.{Bytes, Refused}
 use Rattle.grammar.specs.Sizes.{conditionSize, permitSize, after}
 use Rattle.grammar.proofs.Reader.{cut-short, Took, took-condition, sized, condition-sized, same, sized-is, encoded-condition}
 use Rattle.grammar.proofs.Bounds.{Takes}
 
--- a record that is a permit has its kind, and is whole
-kind-permit : (y : Kind) (a b c d x l h : ℕ) → filled a b c d y ≡ R.Permit x l h → (code y ≡ 64) × (bodyLength y ≡ 3)
-kind-permit k-permit a b c d x l h e = (refl, refl)
-kind-permit k-range a b c d x l h e = absurd (let z : _≡_ {A = ℕ} 0 1 = cc in omega arith)
-kind-permit k-true a b c d x l h e = absurd (let z : _≡_ {A = ℕ} 0 1 = cc in omega arith)
-kind-permit k-false a b c d x l h e = absurd (let z : _≡_ {A = ℕ} 0 1 = cc in omega arith)
-kind-permit k-not a b c d x l h e = absurd (let z : _≡_ {A = ℕ} 0 1 = cc in omega arith)
-kind-permit k-and a b c d x l h e = absurd (let z : _≡_ {A = ℕ} 0 1 = cc in omega arith)
-kind-permit k-or a b c d x l h e = absurd (let z : _≡_ {A = ℕ} 0 1 = cc in omega arith)
-kind-permit k-compare a b c d x l h e = absurd (let z : _≡_ {A = ℕ} 0 1 = cc in omega arith)
-kind-permit k-some a b c d x l h e = absurd (let z : _≡_ {A = ℕ} 0 1 = cc in omega arith)
-kind-permit k-constant a b c d x l h e = absurd (let z : _≡_ {A = ℕ} 0 1 = cc in omega arith)
-kind-permit k-attribute a b c d x l h e = absurd (let z : _≡_ {A = ℕ} 0 1 = cc in omega arith)
-kind-permit k-aggregate a b c d x l h e = absurd (let z : _≡_ {A = ℕ} 0 1 = cc in omega arith)
-
-pub permit-head : (q : List ℕ) (x l h : ℕ) → recordAt q ≡ R.Permit x l h → (getD q 0 0 ≡ 64) × (4 ≤ length q)
-unfolding recordAt kindOf
-permit-head [] x l h e = absurd (let z : _≡_ {A = ℕ} 0 1 = cc in omega arith)
-permit-head (k ∷ r) x l h e = by-kind (kindOf k) refl
-  where
-    by-kind : (o : Option Kind) → kindOf k ≡ o → (k ≡ 64) × (4 ≤ suc (length r))
-    by-kind none p = let i = sym (of-none R.Unknown (λ y. within y r) k p) ∙ e in absurd (let z : _≡_ {A = ℕ} 0 1 = cc in omega arith)
-    by-kind (some y) p = go (leb (bodyLength y) (length r)) refl (sym (of-some R.Unknown (λ y. within y r) k y p) ∙ e)
-      where
-        go : (b : Bool) → leb (bodyLength y) (length r) ≡ b → cond b (filled (getD r 0 0) (getD r 1 0) (getD r 2 0) (getD r 3 0) y) R.Short ≡ R.Permit x l h → (k ≡ 64) × (4 ≤ suc (length r))
-        go true b i = let j = kind-permit y _ _ _ _ x l h i in (find-inv k kinds y p ∙ j .0, omega (arith, leb-true (bodyLength y) (length r) b))
-        go false b i = absurd (let z : _≡_ {A = ℕ} 0 1 = cc in omega arith)
-
-permit-at : (x l h : ℕ) (r : List ℕ) → recordAt (64 ∷ x ∷ l ∷ h ∷ r) ≡ R.Permit x l h
-unfolding kindOf find
-permit-at x l h r = whole-record 64 (x ∷ l ∷ h ∷ r) k-permit refl (omega arith)
-
-pub permit-cut : (q : List ℕ) → ((x l h : ℕ) → recordAt q ≡ R.Permit x l h → ⊥) → (f : ℕ) → readPermit f q ≡ fail
+-- a permit that is cut short, or none
+pub permit-cut : (q : List ℕ) → permitAt q ≡ P.Other → (f : ℕ) → readPermit f q ≡ fail
 unfolding readPermit
 permit-cut [] n f = refl
 permit-cut (k ∷ []) n f = cut-short (eqb k 64)
@@ -67,7 +34,9 @@ permit-cut (k ∷ x ∷ l ∷ []) n f = cut-short (eqb k 64)
 permit-cut (k ∷ x ∷ l ∷ h ∷ r) n f = go (eqb k 64) refl
   where
     go : (b : Bool) → eqb k 64 ≡ b → need {B = Permit} b (then (readCondition f r) λ c r. ok (record { relation = x; low = l; high = h; condition = c }) r) ≡ fail
-    go true e = absurd (n x l h (ap (λ i. recordAt (i ∷ x ∷ l ∷ h ∷ r)) (eqb-true k 64 e) ∙ permit-at x l h r))
+    go true e =
+        let i : P.Permit x (l + 256 * h) ≡ P.Other = sym (ap (λ i. permitAt (i ∷ x ∷ l ∷ h ∷ r)) (eqb-true k 64 e) ∙ permit-at x l h r) ∙ n in
+        absurd (let z : _≡_ {A = ℕ} 0 1 = cc in omega arith)
     go false e = refl
 
 -- what was read of a permit
@@ -106,12 +75,12 @@ permit-takes q n h = go (readPermit (length q) q) refl (sym (permit-sized (lengt
     go fail e i = absurd (let z : _≡_ {A = ℕ} 0 1 = cc in omega arith)
     go (ok p r) e i = let b = took-permit (length q) q p r e .bytes in let m : bytesOf p ≡ n = cc in (omega arith, omega arith)
 
-pub no-permit : (q : List ℕ) → ((x l h : ℕ) → recordAt q ≡ R.Permit x l h → ⊥) → Refused ≡ permitSize q
+pub no-permit : (q : List ℕ) → permitAt q ≡ P.Other → Refused ≡ permitSize q
 no-permit q n = sym (permit-sized (length q) q (omega arith) ∙ ap (sized bytesOf) (permit-cut q n (length q)))
 
-pub permit-is : (q : List ℕ) (x l h : ℕ) → recordAt q ≡ R.Permit x l h → after 4 (conditionSize (drop 4 q)) ≡ permitSize q
+pub permit-is : (q : List ℕ) (x m : ℕ) → permitAt q ≡ P.Permit x m → after 4 (conditionSize (drop 4 q)) ≡ permitSize q
 unfolding readPermit
-permit-is q x l h e = let i = permit-head q x l h e in go q (i .0) (i .1)
+permit-is q x m e = let b = permit-bytes q x m e .bytes in go q (ap (λ (l : List ℕ). getD l 0 0) b) (omega (arith, ap length b))
   where
     go : (q : List ℕ) → getD q 0 0 ≡ 64 → 4 ≤ length q → after 4 (conditionSize (drop 4 q)) ≡ permitSize q
     go [] i j = absurd (omega arith)
@@ -176,14 +145,14 @@ permits-turn (x ∷ xs) n h e = go (readPermit (suc (length xs)) (x ∷ xs)) ref
         rw d (ap failed (permits-same (suc (length r)) (suc (length xs)) r (omega arith) (omega arith)) ∙ rest p (readPermits (suc (length xs)) r))
 
 -- of what the code finds: a permit's record and its condition
-pub permit-found : (q : List ℕ) (r : Record) → r ≡ recordAt q → (x l h : ℕ) → r ≡ R.Permit x l h → (k a : ℕ) → k ≡ getD q 0 0 → a ≡ recordLength k
+pub permit-found : (q : List ℕ) (r : PermitRecord) → r ≡ permitAt q → (x m : ℕ) → r ≡ P.Permit x m → (k a : ℕ) → k ≡ getD q 0 0 → a ≡ recordLength k
     → (y : List ℕ) (s : Size) → y ≡ drop a q → s ≡ conditionSize y → after a s ≡ permitSize q
 unfolding recordLength ofKind kindOf find
-permit-found q r er x l h e k a ek ea y s ey es =
-    let i : recordAt q ≡ R.Permit x l h = sym er ∙ e in
-    let k64 : k ≡ 64 = ek ∙ permit-head q x l h i .0 in
+permit-found q r er x m e k a ek ea y s ey es =
+    let i : permitAt q ≡ P.Permit x m = sym er ∙ e in
+    let k64 : k ≡ 64 = ek ∙ ap (λ (l : List ℕ). getD l 0 0) (permit-bytes q x m i .bytes) in
     let a4 : a ≡ 4 = ea ∙ ap recordLength k64 in
-    ap (after a) (es ∙ ap conditionSize ey) ∙ ap (λ n. after n (conditionSize (drop n q))) a4 ∙ permit-is q x l h i
+    ap (after a) (es ∙ ap conditionSize ey) ∙ ap (λ n. after n (conditionSize (drop n q))) a4 ∙ permit-is q x m i
 
 -- the loop over the list
 module _ (q : List ℕ) (x : List ℕ) (at : ℕ) (s : Size) (ex : x ≡ drop at q) (es : s ≡ permitSize x) (h : at < length q)
@@ -208,6 +177,6 @@ encoded-permit p r w =
     let i = encoded-condition (p .condition) r w in
     let four : 4 + size (p .condition) ≡ suc (suc (suc (suc (size (p .condition))))) = omega arith in
     let q : List ℕ = 64 ∷ p .relation ∷ p .low ∷ p .high ∷ encode (p .condition) r in (
-      sym (permit-is q (p .relation) (p .low) (p .high) (permit-at (p .relation) (p .low) (p .high) (encode (p .condition) r))) ∙ ap (after 4) (i .0),
+      sym (permit-is q (p .relation) (p .low + 256 * p .high) (permit-at (p .relation) (p .low) (p .high) (encode (p .condition) r))) ∙ ap (after 4) (i .0),
       ap (λ n. drop n q) four ∙ i .1,
     )

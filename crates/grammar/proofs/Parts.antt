@@ -8,17 +8,17 @@ use borrow.Author.Tests.{ne-eqb}
 use lib.Dec.{eqb}
 use lib.ListN.{length, getD, drop, length-drop}
 use lib.Seq.{drop-drop, getD-drop}
-use Rattle.model.specs.Kinds.{k-range, kindOf, find}
+use Rattle.model.specs.Kinds.{kindOf, find}
 use Rattle.model.proofs.Lists.{first-at}
 use Rattle.model.specs.Syntax.{Binding, Term, CONSTANT, ATTRIBUTE, AGGREGATE}
 use Rattle.model.specs.Encoding.{Read, fail, ok, then, encodeRanges, encodeTargets, encodeT, readTerm, startsRange, startsTarget, readRanges, readTargets}
 use Rattle.model.proofs.Sizes.{sizeT, sizeTs, size-ranges, size-targets, size, drop-encodeT, drop-ranges}
 use Rattle.model.proofs.ReadingQueries.{ranges-inv, targets-inv}
 use Rattle.kinds.specs.Tables.{recordLength, ofKind}
-use Rattle.kinds.specs.Record.{recordAt}
-use Rattle.kinds.specs.declared.Record.{Record}
-use Rattle.kinds.specs.declared.Record.the-variants as R
-use Rattle.kinds.proofs.Records.{whole-record}
+use Rattle.kinds.specs.Places.{headAt}
+use Rattle.kinds.specs.declared.HeadRecord.{HeadRecord}
+use Rattle.kinds.specs.declared.HeadRecord.the-variants as H
+use Rattle.kinds.proofs.Heads.{range-at, range-bytes}
 use Rattle.grammar.specs.declared.Size.{Size}
 use Rattle.grammar.specs.declared.Size.the-variants.{Bytes, Refused}
 use Rattle.grammar.specs.declared.Part.{Part}
@@ -62,23 +62,18 @@ unfolding rangesPart readRanges startsRange
 ranges-none [] h = refl
 ranges-none (k ∷ r) h = let e : 0 ≡ suc (length r) - suc (length r) = omega arith in rw (ne-eqb k 1 h, readRanges) (ap (P.Read 0) e)
 
-range-at : (v x : ℕ) (r : List ℕ) → recordAt (1 ∷ v ∷ x ∷ r) ≡ R.Range v x
-unfolding kindOf find
-range-at v x r = whole-record 1 (v ∷ x ∷ r) k-range refl (omega arith)
-
-pub ranges-cut : (q : List ℕ) → getD q 0 0 ≡ 1 → ((v x : ℕ) → recordAt q ≡ R.Range v x → ⊥) → P.Refused ≡ rangesPart q
+-- one that is cut short, and one that is whole
+pub ranges-cut : (q : List ℕ) → getD q 0 0 ≡ 1 → headAt q ≡ H.Other → P.Refused ≡ rangesPart q
 unfolding rangesPart readRanges startsRange
 ranges-cut [] h n = absurd (omega arith)
 ranges-cut (k ∷ []) h n = rw h
 ranges-cut (k ∷ v ∷ []) h n = rw h
-ranges-cut (k ∷ v ∷ x ∷ r) h n = absurd (n v x (ap (λ i. recordAt (i ∷ v ∷ x ∷ r)) h ∙ range-at v x r))
+ranges-cut (k ∷ v ∷ x ∷ r) h n =
+    let e : H.Range v x ≡ H.Other = sym (ap (λ i. headAt (i ∷ v ∷ x ∷ r)) h ∙ range-at v x r) ∙ n in
+    absurd (let z : _≡_ {A = ℕ} 0 1 = cc in omega arith)
 
-pub range-whole : (q : List ℕ) (v x : ℕ) → getD q 0 0 ≡ 1 → recordAt q ≡ R.Range v x → 3 ≤ length q
-unfolding recordAt ofKind kindOf find
-range-whole [] v x h e = absurd (omega arith)
-range-whole (k ∷ []) v x h e = let i : recordAt (1 ∷ []) ≡ R.Range v x = ap (λ j. recordAt (j ∷ [])) (sym h) ∙ e in absurd (let z : _≡_ {A = ℕ} 0 1 = cc in omega arith)
-range-whole (k ∷ a ∷ []) v x h e = let i : recordAt (1 ∷ a ∷ []) ≡ R.Range v x = ap (λ j. recordAt (j ∷ a ∷ [])) (sym h) ∙ e in absurd (let z : _≡_ {A = ℕ} 0 1 = cc in omega arith)
-range-whole (k ∷ a ∷ b ∷ r) v x h e = omega arith
+pub range-whole : (q : List ℕ) (v x : ℕ) → headAt q ≡ H.Range v x → 3 ≤ length q
+range-whole q v x e = omega (arith, ap length (range-bytes q v x e))
 
 pub ranges-more : (q : List ℕ) → getD q 0 0 ≡ 1 → 3 ≤ length q → rangesPart q ≡ beyond 1 3 (rangesPart (drop 3 q))
 unfolding rangesPart readRanges startsRange
@@ -180,16 +175,16 @@ module _ (q : List ℕ) (at n : ℕ) (w : Part) (k : ℕ) (ek : k ≡ getD q at 
     pub range-end : (k ≡ 1 → ⊥) → P.Read n at ≡ w
     range-end h = ends at n (rangesPart (drop at q)) w (ranges-none (drop at q) (λ e. h (ek ∙ sym (first-at at q) ∙ e))) inv
 
-    module _ (h : k ≡ 1) (x : List ℕ) (r : Record) (ex : x ≡ drop at q) (er : r ≡ recordAt x) where
+    module _ (h : k ≡ 1) (x : List ℕ) (r : HeadRecord) (ex : x ≡ drop at q) (er : r ≡ headAt x) where
       one : getD (drop at q) 0 0 ≡ 1
       one = first-at at q ∙ sym ek ∙ h
 
-      pub range-cut : ((v y : ℕ) → r ≡ R.Range v y → ⊥) → P.Refused ≡ w
-      range-cut f = ap (beyond n at) (ranges-cut (drop at q) one (λ v y e. f v y (er ∙ ap recordAt ex ∙ e))) ∙ inv
+      pub range-cut : r ≡ H.Other → P.Refused ≡ w
+      range-cut e = ap (beyond n at) (ranges-cut (drop at q) one (ap headAt (sym ex) ∙ sym er ∙ e)) ∙ inv
 
-      module _ (v y : ℕ) (e : r ≡ R.Range v y) (a : ℕ) (ea : a ≡ recordLength 1) where
+      module _ (v y : ℕ) (e : r ≡ H.Range v y) (a : ℕ) (ea : a ≡ recordLength 1) where
         pub range-fits : (a ≡ 3) × (3 ≤ length q - at)
-        range-fits = (ea ∙ range-length, omega (arith, range-whole (drop at q) v y one (ap recordAt (sym ex) ∙ sym er ∙ e), length-drop at q))
+        range-fits = (ea ∙ range-length, omega (arith, range-whole (drop at q) v y (ap headAt (sym ex) ∙ sym er ∙ e), length-drop at q))
 
         pub range-turn : beyond (n + 1) (at + a) (rangesPart (drop (at + a) q)) ≡ w
         range-turn =

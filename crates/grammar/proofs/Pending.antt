@@ -19,10 +19,10 @@ use Rattle.kinds.specs.declared.Record.{Record}
 use Rattle.kinds.specs.declared.Record.the-variants as R
 use Rattle.kinds.proofs.Entries.{of-none, of-some, length-small}
 use Rattle.kinds.proofs.Records.{short-record}
-use Rattle.kinds.specs.Places.{conditionAt, termAt, conditionOf, termOf}
+use Rattle.kinds.specs.Places.{conditionAt, termAt, conditionOf, termOf, isCondition, isTerm}
 use Rattle.grammar.specs.declared.Size.{Size}
 use Rattle.grammar.specs.declared.Size.the-variants.{Bytes, Refused}
-use Rattle.grammar.specs.Sizes.{conditionSize, termSize, after, followed, many, isCondition, isTerm, headSize}
+use Rattle.grammar.specs.Sizes.{conditionSize, termSize, after, followed, many, headSize}
 use Rattle.grammar.proofs.Steps.{after-after, condition-step, term-step}
 
 -- a part that starts n bytes on

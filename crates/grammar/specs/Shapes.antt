@@ -5,12 +5,15 @@ use mathlib.Core.List.{List, []}
 use lib.Dec.{eqb, ltb}
 use lib.ListN.{length}
 use Rattle.model.specs.Syntax.{Query}
+use Rattle.model.specs.Checks.{fails20}
 use Rattle.model.specs.Encoding.{Read, fail, ok, encodeTargets, readRanges, readTargets, readQuery, failed}
 use Rattle.grammar.specs.declared.Part.{Part}
 use Rattle.grammar.specs.declared.Part.the-variants as P
 use Rattle.grammar.specs.declared.Layout.{Layout}
 use Rattle.grammar.specs.declared.Shape.{Shape}
 use Rattle.grammar.specs.declared.Shape.the-variants.{WellFormed, NotWellFormed}
+use Rattle.grammar.specs.declared.Input.{Input}
+use Rattle.grammar.specs.declared.Input.the-variants as I
 
 -- targets have kinds 33 and 34
 abbrev pub isTarget : ℕ → Bool
@@ -54,3 +57,8 @@ fails30At limit q = ltb limit (length q) || failed (readQuery q)
 abbrev pub numberOf : Shape → ℕ
 numberOf (WellFormed y) = 0
 numberOf NotWellFormed = 30
+
+-- the check of what is not well formed: 30 of a query, 20 of permits
+abbrev pub refusedAs : Input → List ℕ → Bool
+refusedAs (I.Query limit) q = fails30At limit q
+refusedAs I.Permits q = fails20 q

@@ -1,16 +1,11 @@
 -- How many bytes a condition or a term takes, nested as deep as the bytes allow (document 01, refusals 20 and 30).
 use Prim.Native.Nat.{ℕ, zero, suc, _+_, _-_}
-use mathlib.Core.Bool.{Bool, true, false, cond}
+use mathlib.Core.Bool.{cond}
 use mathlib.Core.List.{List}
 use lib.ListN.{length, getD, drop}
-use Rattle.model.specs.Syntax.{isOperator, isFunction}
 use Rattle.model.specs.Encoding.{Read, fail, ok, readCondition, readTerm, readPermit}
 use Rattle.kinds.specs.Tables.{termsOf, recordLength}
-use Rattle.kinds.specs.Places.{conditionAt}
-use Rattle.kinds.specs.declared.ConditionRecord.{ConditionRecord}
-use Rattle.kinds.specs.declared.ConditionRecord.the-variants as C
-use Rattle.kinds.specs.declared.TermRecord.{TermRecord}
-use Rattle.kinds.specs.declared.TermRecord.the-variants as T
+use Rattle.kinds.specs.Places.{conditionAt, isCondition}
 use Rattle.grammar.specs.declared.Size.{Size}
 use Rattle.grammar.specs.declared.Size.the-variants.{Bytes, Refused}
 
@@ -43,24 +38,6 @@ followed Refused f = Refused
 unfoldable pub many : (List ℕ → Size) → ℕ → List ℕ → Size
 many f zero q = Bytes 0
 many f (suc n) q = followed (f q) (λ m. many f n (drop m q))
-
--- a record that can stand for a condition, its operator known
-abbrev pub isCondition : ConditionRecord → Bool
-isCondition C.True = true
-isCondition C.False = true
-isCondition C.Not = true
-isCondition C.And = true
-isCondition C.Or = true
-isCondition (C.Compare o) = isOperator o
-isCondition (C.Some v r) = true
-isCondition C.Other = false
-
--- a record that can stand for a term, its function known
-abbrev pub isTerm : TermRecord → Bool
-isTerm (T.Constant a b c d) = true
-isTerm (T.Attribute v a) = true
-isTerm (T.Aggregate f v r a) = isFunction f
-isTerm T.Other = false
 
 -- the first record of a condition with the terms that are its children: what stands before the conditions that are
 unfoldable pub headSize : List ℕ → Size

@@ -1,7 +1,8 @@
 // Well-formedness of whole queries and permit lists, nested as deep as the bytes allow. Conditions that are still to be read are counted, so that only
 // an aggregate takes a level of the stack: 240 bytes for each 7 of the input.
 use kinds::ConditionRecord;
-use kinds::Record;
+use kinds::HeadRecord;
+use kinds::PermitRecord;
 use kinds::TermRecord;
 ghost use mathlib.Core.Path.{_≡_};
 ghost use Prim.Native.Nat.{_≤_};
@@ -9,10 +10,11 @@ ghost use mathlib.Core.Bool.{cond, not};
 ghost use Rattle.model.specs.Encoding.{failed, permitsRead};
 ghost use Rattle.model.specs.Checks.{fails20};
 ghost use Rattle.kinds.specs.Tables.{conditionsOf};
-ghost use Rattle.grammar.specs.Sizes.{conditionSize, termSize, permitSize, many, headSize, isCondition, isTerm};
-ghost use Rattle.grammar.specs.Shapes.{isTarget, rangesPart, targetsPart, shapeOf, shapeWithin, fails30At, numberOf};
+ghost use Rattle.kinds.specs.Places.{isCondition, isTerm};
+ghost use Rattle.grammar.specs.Sizes.{conditionSize, termSize, permitSize, many, headSize};
+ghost use Rattle.grammar.specs.Shapes.{isTarget, rangesPart, targetsPart, shapeOf, shapeWithin, fails30At, numberOf, refusedAs};
 
-pub enum Size {
+enum Size {
     Bytes(usize),
     Refused,
 }
@@ -118,7 +120,7 @@ fn condition(q: &[u8]) -> Size
 fn permit(q: &[u8]) -> Size
     ensures { λ r. ⌜ r ≡ permitSize (now (q .entry)) ⌝ }
 {
-    let Record::Permit(_, _, _) = kinds::read(q) else {
+    let PermitRecord::Permit(_, _) = kinds::permit_record(q) else {
         return Size::Refused;
     };
     let start = kinds::record_length(kinds::byte(q, 0));
@@ -129,12 +131,12 @@ fn permit(q: &[u8]) -> Size
 }
 
 // Whether a list of permits is well formed.
-fn permits(list: &[u8]) -> bool
-    ensures { λ r. ⌜ r ≡ not (failed (permitsRead (now (list .entry)))) ⌝ }
+fn permits(bytes: &[u8]) -> bool
+    ensures { λ r. ⌜ r ≡ not (failed (permitsRead (now (bytes .entry)))) ⌝ }
 {
     let mut at = 0;
-    while at < list.len() {
-        let Size::Bytes(n) = permit(kinds::tail(list, at)) else {
+    while at < bytes.len() {
+        let Size::Bytes(n) = permit(kinds::tail(bytes, at)) else {
             return false;
         };
         at += n;
@@ -143,13 +145,13 @@ fn permits(list: &[u8]) -> bool
 }
 
 // 20: over 2,048 bytes or not well formed.
-pub fn permits_refused(list: &[u8]) -> bool
-    ensures { λ r. ⌜ r ≡ fails20 (now (list .entry)) ⌝ }
+fn permits_refused(bytes: &[u8]) -> bool
+    ensures { λ r. ⌜ r ≡ fails20 (now (bytes .entry)) ⌝ }
 {
-    if model::LIST_BYTES < list.len() {
+    if model::LIST_BYTES < bytes.len() {
         true
     } else {
-        !permits(list)
+        !permits(bytes)
     }
 }
 
@@ -166,7 +168,7 @@ fn ranges(q: &[u8]) -> Part
     let mut at = 0;
     let mut n = 0;
     while kinds::byte(q, at) == 1 {
-        let Record::Range(_, _) = kinds::read(kinds::tail(q, at)) else {
+        let HeadRecord::Range(_, _) = kinds::head_record(kinds::tail(q, at)) else {
             return Part::Refused;
         };
         at += kinds::record_length(1);
@@ -205,7 +207,7 @@ pub struct Layout {
     pub condition: usize,
 }
 
-pub enum Shape {
+enum Shape {
     WellFormed(Layout),
     NotWellFormed,
 }
@@ -238,7 +240,7 @@ fn query(q: &[u8]) -> Shape
 }
 
 // The same, of at most so many bytes: a longer query is not looked at. The number of each case is 30's.
-pub fn query_within(q: &[u8], limit: usize) -> Shape
+fn query_within(q: &[u8], limit: usize) -> Shape
     ensures { λ r. ⌜ r ≡ shapeWithin limit (now (q .entry)) ⌝ }
     ensures { λ r. ⌜ numberOf r ≡ cond (fails30At limit (now (q .entry))) 30 0 ⌝ }
 {
@@ -247,4 +249,24 @@ pub fn query_within(q: &[u8], limit: usize) -> Shape
     } else {
         query(q)
     }
+}
+
+// What bytes are read as.
+pub enum Input {
+    // a query of at most so many bytes
+    Query(usize),
+    Permits,
+}
+
+// Whether bytes are too many or not well formed, at any depth: 30 of a query, 20 of permits.
+pub fn refused(bytes: &[u8], input: Input) -> bool
+    ensures { λ r. ⌜ r ≡ refusedAs input (now (bytes .entry)) ⌝ }
+{
+    let Input::Query(limit) = input else {
+        return permits_refused(bytes);
+    };
+    let Shape::WellFormed(_) = query_within(bytes, limit) else {
+        return true;
+    };
+    false
 }

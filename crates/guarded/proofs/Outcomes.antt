@@ -36,9 +36,10 @@ use Rattle.grammar.specs.declared.Layout.{Layout}
 use Rattle.grammar.specs.Shapes.{layout}
 use Rattle.queries.specs.Parts.{queryAt, Laid}
 use Rattle.queries.proofs.Numbers.{condition-room}
+use Rattle.queries.proofs.Targeting.{own-ranges}
 use Rattle.copier.specs.Guard.{part, bitsOf}
 use Rattle.rewriter.specs.Rewritten.{StandsFor, Stands, Room}
-use Rattle.rewriter.specs.Parts.{queryBytes, queryNew}
+use Rattle.rewriter.specs.Parts.{queryRead, queryBytes, queryNew}
 use Rattle.rewriter.proofs.Agrees.{numbers-agree, query-agrees}
 use Rattle.guards.specs.Filled.{placedFrom, maskFor, masked}
 use Rattle.guards.proofs.Stands.{stands, masks-of, mask-is, few-permits}
@@ -87,15 +88,22 @@ module _ (y : Layout) (cb pb qb z : List ℕ) (room : ℕ) (w : Writable y cb pb
   stand : Stands G M F (bindingsQ q)
   stand = subst (λ (x : List ℕ). Stands G (masked x pb cb (flatBindings x) masks₀) F (bindingsQ q)) (sym (query-read guardedLimits qb (pass .p30) .bytes)) (stands cb pb (w .catalogue) (pass .p20) (pass .p21) q (pass .p33) (scope sh pb qb room (w .passed) .once) masks₀ places₀ (few-variables sh q (scope sh pb qb room (w .passed)) (length masks₀) wide) enough)
 
+  -- its RANGE records, read one at a time, are its own
+  read : queryRead y 32 qb z ≡ q
+  read =
+      ap (λ (bs : List Binding). record { ranges = bs; targets = queryAt y 32 qb z .targets; condition = queryAt y 32 qb z .condition })
+      (own-ranges q qb (y .ranges) (query-read guardedLimits qb (pass .p30) .bytes) (ap (λ (u : Query). u .ranges) (w .ready)))
+      ∙ w .ready
+
   module _ (places masks : List ℕ) (ep : places ≡ placedFrom 8 pb 0 0 places₀) (em : masks ≡ M) where
-    pub written : queryBytes masks (part pb places) (queryAt y 32 qb z) ≡ bytesOf cb pb qb
+    pub written : queryBytes masks (part pb places) (queryRead y 32 qb z) ≡ bytesOf cb pb qb
     unfolding rewrittenBytes
-    written = ap (queryBytes masks (part pb places)) (w .ready) ∙ ap₂ (λ (m p : List ℕ). queryBytes m (part pb p) q) em ep ∙ query-agrees G M F q stand
+    written = ap (queryBytes masks (part pb places)) read ∙ ap₂ (λ (m p : List ℕ). queryBytes m (part pb p) q) em ep ∙ query-agrees G M F q stand
 
-    numbers : queryNew masks (part pb places) (queryAt y 32 qb z) ≡ newFor G (bindingsQ q)
-    numbers = ap (queryNew masks (part pb places)) (w .ready) ∙ ap₂ (λ (m p : List ℕ). queryNew m (part pb p) q) em ep ∙ numbers-agree G M F q stand
+    numbers : queryNew masks (part pb places) (queryRead y 32 qb z) ≡ newFor G (bindingsQ q)
+    numbers = ap (queryNew masks (part pb places)) read ∙ ap₂ (λ (m p : List ℕ). queryNew m (part pb p) q) em ep ∙ numbers-agree G M F q stand
 
-    pub roomy : Room 0 8 (queryBytes masks (part pb places) (queryAt y 32 qb z)) (queryNew masks (part pb places) (queryAt y 32 qb z))
+    pub roomy : Room 0 8 (queryBytes masks (part pb places) (queryRead y 32 qb z)) (queryNew masks (part pb places) (queryRead y 32 qb z))
     unfolding rewrittenBytes
     roomy =
         let b = bounds sh pb qb room (w .passed) .0 in
@@ -104,7 +112,7 @@ module _ (y : Layout) (cb pb qb z : List ℕ) (room : ℕ) (w : Writable y cb pb
         let l = within guardedLimits q (pass .p31) .bound in
         (omega (arith, ap length written, b, s), omega (arith, numbers, n, l))
 
-    pub written-all : (before after : List ℕ) → after ≡ sets before 0 (queryBytes masks (part pb places) (queryAt y 32 qb z)) → after ≡ sets before 0 (bytesOf cb pb qb)
+    pub written-all : (before after : List ℕ) → after ≡ sets before 0 (queryBytes masks (part pb places) (queryRead y 32 qb z)) → after ≡ sets before 0 (bytesOf cb pb qb)
     written-all before after e = e ∙ ap (sets before 0) written
 
   once : unique (variables (bindingsQ q)) ≡ true

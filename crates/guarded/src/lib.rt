@@ -48,11 +48,11 @@ fn refused(number: u8) -> Reply
 }
 
 // 20 to 23, the list alone.
-fn check_permits(list: &[u8], catalogue: &[u8]) -> u8
+fn check_permits(permits: &[u8], catalogue: &[u8]) -> u8
     requires { ⌜ fails10 (now catalogue) ≡ false ⌝ }
-    ensures { λ r. ⌜ r ≡ refusal (permitChecks (shapeOf (catalogueOf (now (catalogue .entry)))) (now (list .entry))) ⌝ }
+    ensures { λ r. ⌜ r ≡ refusal (permitChecks (shapeOf (catalogueOf (now (catalogue .entry)))) (now (permits .entry))) ⌝ }
 {
-    permits::check(list, catalogue)
+    permits::check(permits, catalogue)
 }
 
 // The asker's own query over the permitted rows of its variables, which are found first: nothing of it runs on another row.
@@ -62,18 +62,18 @@ fn answer_many(
     layout: Layout,
     catalogue: &[u8],
     values: &[i32],
-    list: &[u8],
+    permits: &[u8],
     places: &[usize],
     masks: &[u8],
     answer: &mut [i64],
 ) -> plain::Reply
     requires { ⌜ Answerable layout 32 (now query) (now z) (now catalogue) × Bound (now catalogue) (now query) ⌝ }
     ensures { λ r. ⌜ answerOf r (now (answer .exit)) ≡ give (length (queryOf (now (query .entry)) .targets))
-        (answers (queryOf (now (query .entry))) (givenRows (now (catalogue .entry)) (now (values .entry)) (now (list .entry))
+        (answers (queryOf (now (query .entry))) (givenRows (now (catalogue .entry)) (now (values .entry)) (now (permits .entry))
         (now (places .entry)) (now (masks .entry)))) (now (answer .entry)) ⌝ }
 {
     let mut walks = [0u16; WALKS];
-    permitted::fill(query, list, places, masks, catalogue, values, &mut walks);
+    permitted::fill(query, permits, places, masks, catalogue, values, &mut walks);
     plain::answer_query(query, z, layout, LEVELS, &walks, values, answer)
 }
 
@@ -84,7 +84,7 @@ fn answer_few(
     layout: Layout,
     catalogue: &[u8],
     values: &[i32],
-    list: &[u8],
+    permits: &[u8],
     places: &[usize],
     masks: &[u8],
     answer: &mut [i64],
@@ -92,11 +92,11 @@ fn answer_few(
     requires { ⌜ Answerable layout 32 (now query) (now z) (now catalogue) × Bound (now catalogue) (now query)
         × (all (tiny (now catalogue)) (flatBindings (now query)) ≡ true) ⌝ }
     ensures { λ r. ⌜ answerOf r (now (answer .exit)) ≡ give (length (queryOf (now (query .entry)) .targets))
-        (answers (queryOf (now (query .entry))) (givenRows (now (catalogue .entry)) (now (values .entry)) (now (list .entry))
+        (answers (queryOf (now (query .entry))) (givenRows (now (catalogue .entry)) (now (values .entry)) (now (permits .entry))
         (now (places .entry)) (now (masks .entry)))) (now (answer .entry)) ⌝ }
 {
     let mut walks = [0u16; FEW_WALKS];
-    permitted::fill(query, list, places, masks, catalogue, values, &mut walks);
+    permitted::fill(query, permits, places, masks, catalogue, values, &mut walks);
     plain::answer_query(query, z, layout, LEVELS, &walks, values, answer)
 }
 
@@ -130,14 +130,14 @@ fn answer_permitted(
     layout: Layout,
     catalogue: &[u8],
     values: &[i32],
-    list: &[u8],
+    permits: &[u8],
     places: &[usize],
     masks: &[u8],
     answer: &mut [i64],
 ) -> plain::Reply
     requires { ⌜ Answerable layout 32 (now query) (now z) (now catalogue) × Bound (now catalogue) (now query) ⌝ }
     ensures { λ r. ⌜ answerOf r (now (answer .exit)) ≡ give (length (queryOf (now (query .entry)) .targets))
-        (answers (queryOf (now (query .entry))) (givenRows (now (catalogue .entry)) (now (values .entry)) (now (list .entry))
+        (answers (queryOf (now (query .entry))) (givenRows (now (catalogue .entry)) (now (values .entry)) (now (permits .entry))
         (now (places .entry)) (now (masks .entry)))) (now (answer .entry)) ⌝ }
 {
     if few(query, catalogue) {
@@ -147,7 +147,7 @@ fn answer_permitted(
             layout,
             catalogue,
             values,
-            list,
+            permits,
             places,
             masks,
             answer,
@@ -159,7 +159,7 @@ fn answer_permitted(
         layout,
         catalogue,
         values,
-        list,
+        permits,
         places,
         masks,
         answer,
@@ -174,30 +174,39 @@ fn answer_query(
     layout: Layout,
     catalogue: &[u8],
     values: &[i32],
-    list: &[u8],
+    permits: &[u8],
     rewritten: &mut [u8],
     answer: &mut [i64],
 ) -> Reply
-    requires { ⌜ Checks32 layout (now catalogue) (now values) (now list) (now query) (now z) ⌝ }
+    requires { ⌜ Checks32 layout (now catalogue) (now values) (now permits) (now query) (now z) ⌝ }
     ensures { λ r. ⌜ outcomeOf r (now (answer .exit)) (now (rewritten .exit))
-        ≡ ask (now (catalogue .entry)) (now (values .entry)) (now (list .entry)) (now (query .entry)) (now (rewritten .entry)) (now (answer .entry)) ⌝ }
+        ≡ ask (now (catalogue .entry)) (now (values .entry)) (now (permits .entry)) (now (query .entry)) (now (rewritten .entry)) (now (answer .entry)) ⌝ }
 {
     let mut places = [0usize; 2 * model::PERMITS];
     let mut masks = [0u8; 256];
-    let Check33::Passed(n) = guards::fill(query, list, catalogue, &mut places, &mut masks) else {
+    let Check33::Passed(n) = guards::fill(query, permits, catalogue, &mut places, &mut masks) else {
         return refused(33);
     };
     if rewritten.len() < n {
         return refused(40);
     }
-    rewriter::rewrite_query(query, z, layout, LEVELS, list, &places, &masks, rewritten);
+    rewriter::rewrite_query(
+        query,
+        z,
+        layout,
+        LEVELS,
+        permits,
+        &places,
+        &masks,
+        rewritten,
+    );
     let r = answer_permitted(
         query,
         z,
         layout,
         catalogue,
         values,
-        list,
+        permits,
         &places,
         &masks,
         answer,
@@ -215,20 +224,20 @@ fn ask_with(
     z: &mut [u16],
     catalogue: &[u8],
     values: &[i32],
-    list: &[u8],
+    permits: &[u8],
     query: &[u8],
     rewritten: &mut [u8],
     answer: &mut [i64],
 ) -> Reply
     requires { ⌜ 1024 ≤ length (now z) ⌝ }
     ensures { λ r. ⌜ outcomeOf r (now (answer .exit)) (now (rewritten .exit))
-        ≡ ask (now (catalogue .entry)) (now (values .entry)) (now (list .entry)) (now (query .entry)) (now (rewritten .entry)) (now (answer .entry)) ⌝ }
+        ≡ ask (now (catalogue .entry)) (now (values .entry)) (now (permits .entry)) (now (query .entry)) (now (rewritten .entry)) (now (answer .entry)) ⌝ }
 {
     let kept = catalogue::check(catalogue, values);
     if kept != 0 {
         return refused(kept);
     }
-    let number = check_permits(list, catalogue);
+    let number = check_permits(permits, catalogue);
     if number != 0 {
         return refused(number);
     }
@@ -240,7 +249,16 @@ fn ask_with(
     match queries::check(query, limits, catalogue, z) {
         Checked::Refused(n) => refused(n),
         Checked::Passed(layout) => {
-            answer_query(query, z, layout, catalogue, values, list, rewritten, answer)
+            answer_query(
+                query,
+                z,
+                layout,
+                catalogue,
+                values,
+                permits,
+                rewritten,
+                answer,
+            )
         }
     }
 }
@@ -249,14 +267,14 @@ fn ask_with(
 pub fn ask(
     catalogue: &[u8],
     values: &[i32],
-    list: &[u8],
+    permits: &[u8],
     query: &[u8],
     rewritten: &mut [u8],
     answer: &mut [i64],
 ) -> Reply
     ensures { λ r. ⌜ outcomeOf r (now (answer .exit)) (now (rewritten .exit))
-        ≡ ask (now (catalogue .entry)) (now (values .entry)) (now (list .entry)) (now (query .entry)) (now (rewritten .entry)) (now (answer .entry)) ⌝ }
+        ≡ ask (now (catalogue .entry)) (now (values .entry)) (now (permits .entry)) (now (query .entry)) (now (rewritten .entry)) (now (answer .entry)) ⌝ }
 {
     let mut z = [0u16; model::ASKED_BYTES];
-    ask_with(&mut z, catalogue, values, list, query, rewritten, answer)
+    ask_with(&mut z, catalogue, values, permits, query, rewritten, answer)
 }

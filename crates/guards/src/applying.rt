@@ -1,10 +1,11 @@
 // Which permits of a list apply to a variable, and which bar it. They are found by a flat walk: inside a condition no record has their kind.
+use kinds::PermitRecord;
 ghost use mathlib.Core.Path.{_≡_};
 ghost use mathlib.Core.Bool.{not, _||_};
 ghost use Prim.Native.Nat.{_+_, _≤_, _<_};
 ghost use lib.ListN.{length};
 ghost use Rattle.model.specs.Permits.{bit};
-ghost use Rattle.permits.specs.Entries.{spanOf, sizeOf, maskOf, entryAt};
+ghost use Rattle.permits.specs.Entries.{spanOf, sizeOf, entryAt};
 ghost use Rattle.permits.specs.Applying as App;
 
 // How many bytes come before the next permit.
@@ -30,26 +31,12 @@ pub(crate) fn header() -> usize
 }
 
 // How many bytes the permit takes that a list starts with.
-pub(crate) fn size(list: &[u8]) -> usize
-    ensures { λ r. ⌜ r ≡ sizeOf (now (list .entry)) ⌝ }
-    ensures { λ r. ⌜ (4 ≤ r) × (r ≤ length (now (list .entry)) + 8) ⌝ }
+pub(crate) fn size(permits: &[u8]) -> usize
+    ensures { λ r. ⌜ r ≡ sizeOf (now (permits .entry)) ⌝ }
+    ensures { λ r. ⌜ (4 ≤ r) × (r ≤ length (now (permits .entry)) + 8) ⌝ }
 {
     let own = header();
-    own + span(kinds::tail(list, own))
-}
-
-fn wide(x: u8) -> u16
-    ensures { λ r. ⌜ r ≡ x ⌝ }
-    ensures { λ r. ⌜ r ≤ 255 ⌝ }
-{
-    x as u16
-}
-
-// The mask of the permit that a list starts with, low byte first.
-fn mask(list: &[u8]) -> u16
-    ensures { λ r. ⌜ r ≡ maskOf (now (list .entry)) ⌝ }
-{
-    wide(kinds::byte(list, 2)) + 256 * wide(kinds::byte(list, 3))
+    own + span(kinds::tail(permits, own))
 }
 
 // Whether a mask has the bit of an attribute.
@@ -89,34 +76,40 @@ fn all_used(used: u16, mask: u16, wanted: bool) -> bool
 }
 
 // Whether the permit that a list starts with is NO ACCESS: a condition that starts with FALSE is that record alone.
-fn no_access(list: &[u8]) -> bool
-    ensures { λ r. ⌜ r ≡ App.noAccessAt (entryAt (now (list .entry))) ⌝ }
+fn no_access(permits: &[u8]) -> bool
+    ensures { λ r. ⌜ r ≡ App.noAccessAt (entryAt (now (permits .entry))) ⌝ }
 {
-    kinds::byte(list, header()) == 17
+    kinds::byte(permits, header()) == 17
 }
 
 // Whether the permit that a list starts with applies to a variable over the relation, of which these attributes are used.
-pub(crate) fn applies(list: &[u8], relation: u8, used: u16) -> bool
-    ensures { λ r. ⌜ r ≡ App.appliesTo (λ a. bit used a) relation (entryAt (now (list .entry))) ⌝ }
+pub(crate) fn applies(permits: &[u8], relation: u8, used: u16) -> bool
+    ensures { λ r. ⌜ r ≡ App.appliesTo (λ a. bit used a) relation (entryAt (now (permits .entry))) ⌝ }
 {
-    if no_access(list) {
+    if no_access(permits) {
         return false;
     }
-    if kinds::byte(list, 1) != relation {
+    let PermitRecord::Permit(own, mask) = kinds::permit_record(permits) else {
+        return false;
+    };
+    if own != relation {
         return false;
     }
-    all_used(used, mask(list), true)
+    all_used(used, mask, true)
 }
 
 // Whether that permit bars the variable.
-pub(crate) fn bars(list: &[u8], relation: u8, used: u16) -> bool
-    ensures { λ r. ⌜ r ≡ App.barsFrom (λ a. bit used a) relation (entryAt (now (list .entry))) ⌝ }
+pub(crate) fn bars(permits: &[u8], relation: u8, used: u16) -> bool
+    ensures { λ r. ⌜ r ≡ App.barsFrom (λ a. bit used a) relation (entryAt (now (permits .entry))) ⌝ }
 {
-    if !no_access(list) {
+    if !no_access(permits) {
         return false;
     }
-    if relation != kinds::byte(list, 1) {
+    let PermitRecord::Permit(own, mask) = kinds::permit_record(permits) else {
+        return false;
+    };
+    if own != relation {
         return false;
     }
-    !all_used(used, mask(list), false)
+    !all_used(used, mask, false)
 }

@@ -45,22 +45,22 @@ fn put_place(places: &mut [usize], i: usize, x: usize)
 }
 
 // The permits from `at` on, at most so many, permit k first.
-fn fill_places(list: &[u8], at: usize, k: usize, left: usize, places: &mut [usize])
-    requires { ⌜ (at ≤ 65536) × (k + left ≤ 8) × (length (now list) ≤ 2048) ⌝ }
-    ensures { λ _. ⌜ now (places .exit) ≡ placedFrom left (now (list .entry)) at k (now (places .entry)) ⌝ }
+fn fill_places(permits: &[u8], at: usize, k: usize, left: usize, places: &mut [usize])
+    requires { ⌜ (at ≤ 65536) × (k + left ≤ 8) × (length (now permits) ≤ 2048) ⌝ }
+    ensures { λ _. ⌜ now (places .exit) ≡ placedFrom left (now (permits .entry)) at k (now (places .entry)) ⌝ }
 {
     if left == 0 {
         return;
     }
-    if list.len() <= at {
+    if permits.len() <= at {
         return;
     }
     let own = applying::header();
-    let rest = kinds::tail(list, at);
+    let rest = kinds::tail(permits, at);
     put_place(places, 2 * k, at + own);
     let n = applying::size(rest);
     put_place(places, 2 * k + 1, n - own);
-    fill_places(list, at + n, k + 1, left - 1, places);
+    fill_places(permits, at + n, k + 1, left - 1, places);
 }
 
 fn one_if(b: bool) -> u8
@@ -76,9 +76,9 @@ fn either(a: bool, b: bool) -> bool
 }
 
 // Of the first so many permits: which apply to a variable, and whether one bars it.
-fn standing(list: &[u8], left: u8, relation: u8, used: u16) -> Verdict
+fn standing(permits: &[u8], left: u8, relation: u8, used: u16) -> Verdict
     requires { ⌜ left ≤ 8 ⌝ }
-    ensures { λ r. ⌜ r ≡ verdictOf (λ a. bit used a) relation (take left (entries (now (list .entry)))) ⌝ }
+    ensures { λ r. ⌜ r ≡ verdictOf (λ a. bit used a) relation (take left (entries (now (permits .entry)))) ⌝ }
     ensures { λ r. ⌜ r .mask < 2 ^ left ⌝ }
 {
     if left == 0 {
@@ -87,16 +87,16 @@ fn standing(list: &[u8], left: u8, relation: u8, used: u16) -> Verdict
             barred: false,
         };
     }
-    if list.len() == 0 {
+    if permits.len() == 0 {
         return Verdict {
             mask: 0,
             barred: false,
         };
     }
-    let first = one_if(applying::applies(list, relation, used));
-    let bars = applying::bars(list, relation, used);
+    let first = one_if(applying::applies(permits, relation, used));
+    let bars = applying::bars(permits, relation, used);
     let rest = standing(
-        kinds::tail(list, applying::size(list)),
+        kinds::tail(permits, applying::size(permits)),
         left - 1,
         relation,
         used,
@@ -117,14 +117,14 @@ fn put_mask(masks: &mut [u8], variable: u8, x: u8)
 }
 
 // The mask of a variable over a relation; 0 over a workspace, and where the variable is barred: 33 is then due.
-fn mask_for(query: &[u8], list: &[u8], catalogue: &[u8], variable: u8, relation: u8) -> u8
-    ensures { λ r. ⌜ r ≡ maskFor (now (query .entry)) (now (list .entry)) (now (catalogue .entry)) (record { variable = variable; relation = relation }) ⌝ }
+fn mask_for(query: &[u8], permits: &[u8], catalogue: &[u8], variable: u8, relation: u8) -> u8
+    ensures { λ r. ⌜ r ≡ maskFor (now (query .entry)) (now (permits .entry)) (now (catalogue .entry)) (record { variable = variable; relation = relation }) ⌝ }
 {
     let known = catalogue::entry(catalogue, relation);
     if !known.stored {
         return 0;
     }
-    let found = standing(list, PERMITS, relation, uses::used_mask(query, variable));
+    let found = standing(permits, PERMITS, relation, uses::used_mask(query, variable));
     if found.barred {
         return 0;
     }
@@ -187,16 +187,16 @@ fn served(catalogue: &[u8], relation: u8, mask: u8) -> bool
 // Enters what a record binds into the table.
 fn enter(
     query: &[u8],
-    list: &[u8],
+    permits: &[u8],
     catalogue: &[u8],
     b: Bound,
     places: &[usize],
     masks: &mut [u8],
 ) -> Tally
     requires { ⌜ Short (now places) ⌝ }
-    ensures { λ r. ⌜ r ≡ tallyOf (now (query .entry)) (now (list .entry)) (now (catalogue .entry)) (now (places .entry)) (boundBy b) ⌝ }
+    ensures { λ r. ⌜ r ≡ tallyOf (now (query .entry)) (now (permits .entry)) (now (catalogue .entry)) (now (places .entry)) (boundBy b) ⌝ }
     ensures { λ r. ⌜ r .length ≤ 32776 ⌝ }
-    ensures { λ _. ⌜ now (masks .exit) ≡ masked (now (query .entry)) (now (list .entry)) (now (catalogue .entry)) (boundBy b) (now (masks .entry)) ⌝ }
+    ensures { λ _. ⌜ now (masks .exit) ≡ masked (now (query .entry)) (now (permits .entry)) (now (catalogue .entry)) (boundBy b) (now (masks .entry)) ⌝ }
 {
     let Bound::To(variable, relation) = b else {
         return Tally {
@@ -204,7 +204,7 @@ fn enter(
             length: 0,
         };
     };
-    let mask = mask_for(query, list, catalogue, variable, relation);
+    let mask = mask_for(query, permits, catalogue, variable, relation);
     put_mask(masks, variable, mask);
     Tally {
         served: served(catalogue, relation, mask),
@@ -215,14 +215,14 @@ fn enter(
 // Enters all variables that the query binds; to the bytes of their guards the query's own are added.
 fn enter_all(
     query: &[u8],
-    list: &[u8],
+    permits: &[u8],
     catalogue: &[u8],
     places: &[usize],
     masks: &mut [u8],
 ) -> Tally
     requires { ⌜ (length (now query) ≤ 1024) × Short (now places) ⌝ }
-    ensures { λ r. ⌜ r ≡ tallyAll (now (query .entry)) (now (list .entry)) (now (catalogue .entry)) (now (places .entry)) ⌝ }
-    ensures { λ _. ⌜ now (masks .exit) ≡ masked (now (query .entry)) (now (list .entry)) (now (catalogue .entry)) (flatBindings (now (query .entry)))
+    ensures { λ r. ⌜ r ≡ tallyAll (now (query .entry)) (now (permits .entry)) (now (catalogue .entry)) (now (places .entry)) ⌝ }
+    ensures { λ _. ⌜ now (masks .exit) ≡ masked (now (query .entry)) (now (permits .entry)) (now (catalogue .entry)) (flatBindings (now (query .entry)))
         (now (masks .entry)) ⌝ }
 {
     let mut passed = true;
@@ -231,7 +231,7 @@ fn enter_all(
     while at < query.len() {
         let t = enter(
             query,
-            list,
+            permits,
             catalogue,
             scans::binding(query, at),
             places,
@@ -250,19 +250,19 @@ fn enter_all(
 // Fills both tables. A variable without a permit does not end the walk: a refusal too is said after all of them.
 pub fn fill(
     query: &[u8],
-    list: &[u8],
+    permits: &[u8],
     catalogue: &[u8],
     places: &mut [usize],
     masks: &mut [u8],
 ) -> Check33
-    requires { ⌜ (length (now query) ≤ 1024) × (length (now list) ≤ 2048) × Short (now places) ⌝ }
-    ensures { λ r. ⌜ r ≡ check33 (now (query .entry)) (now (list .entry)) (now (catalogue .entry)) (now (places .exit)) ⌝ }
-    ensures { λ _. ⌜ now (places .exit) ≡ placedFrom 8 (now (list .entry)) 0 0 (now (places .entry)) ⌝ }
-    ensures { λ _. ⌜ now (masks .exit) ≡ masked (now (query .entry)) (now (list .entry)) (now (catalogue .entry)) (flatBindings (now (query .entry)))
+    requires { ⌜ (length (now query) ≤ 1024) × (length (now permits) ≤ 2048) × Short (now places) ⌝ }
+    ensures { λ r. ⌜ r ≡ check33 (now (query .entry)) (now (permits .entry)) (now (catalogue .entry)) (now (places .exit)) ⌝ }
+    ensures { λ _. ⌜ now (places .exit) ≡ placedFrom 8 (now (permits .entry)) 0 0 (now (places .entry)) ⌝ }
+    ensures { λ _. ⌜ now (masks .exit) ≡ masked (now (query .entry)) (now (permits .entry)) (now (catalogue .entry)) (flatBindings (now (query .entry)))
         (now (masks .entry)) ⌝ }
 {
-    fill_places(list, 0, 0, model::PERMITS, places);
-    let t = enter_all(query, list, catalogue, places, masks);
+    fill_places(permits, 0, 0, model::PERMITS, places);
+    let t = enter_all(query, permits, catalogue, places, masks);
     if !t.served {
         return Check33::Refused;
     }

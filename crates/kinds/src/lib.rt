@@ -9,7 +9,7 @@ ghost use Rattle.model.specs.Syntax.{isOperator, isFunction};
 ghost use Rattle.model.specs.Meaning.{signed};
 ghost use Rattle.kinds.specs.Tables.{byteIn, bodyOf, conditionsOf, termsOf, recordLength};
 ghost use Rattle.kinds.specs.Record.{recordAt};
-ghost use Rattle.kinds.specs.Places.{conditionAt, termAt};
+ghost use Rattle.kinds.specs.Places.{conditionAt, termAt, headAt, permitAt};
 
 // Tables by kind: a word for each sixteen kinds that have any, of which only the first eight are in use, and in it a byte for each kind, the first
 // one lowest. Words and no array: the compiler writes an array to the stack wherever it is read.
@@ -208,7 +208,7 @@ fn cut(length: usize, kind: u8) -> bool
     }
 }
 
-// The record that q starts with, for flat walks and where one kind alone may stand (RANGE, PERMIT).
+// The record that q starts with, for flat walks.
 pub fn read(q: &[u8]) -> Record
     ensures { λ r. ⌜ r ≡ recordAt (now (q .entry)) ⌝ }
 {
@@ -285,6 +285,40 @@ pub fn term_record(q: &[u8]) -> TermRecord
         Record::Aggregate(f, v, r, a) => TermRecord::Aggregate(f, v, r, a),
         _ => TermRecord::Other,
     }
+}
+
+// A record at the head of a query, before its targets.
+pub enum HeadRecord {
+    // variable, relation
+    Range(u8, u8),
+    Other,
+}
+
+pub fn head_record(q: &[u8]) -> HeadRecord
+    ensures { λ r. ⌜ r ≡ headAt (now (q .entry)) ⌝ }
+{
+    let Record::Range(v, r) = read(q) else {
+        return HeadRecord::Other;
+    };
+    HeadRecord::Range(v, r)
+}
+
+// A record where a permit starts.
+pub enum PermitRecord {
+    // relation, mask
+    Permit(u8, u16),
+    Other,
+}
+
+// The mask is one number, its low byte read first.
+pub fn permit_record(q: &[u8]) -> PermitRecord
+    ensures { λ r. ⌜ r ≡ permitAt (now (q .entry)) ⌝ }
+{
+    let Record::Permit(relation, low, high) = read(q) else {
+        return PermitRecord::Other;
+    };
+    let mask = low as u16 + 256 * (high as u16);
+    PermitRecord::Permit(relation, mask)
 }
 
 fn wide_byte(x: u8) -> u32

@@ -11,12 +11,13 @@ use borrow.Author.Tests.{leb-true, le-leb, lt-leb, lt-ltb, le-ltb, leb-false, no
 use Rattle.model.proofs.Tests.{and-inv}
 use Rattle.quel.specs.Results.{Word}
 use Rattle.quel.specs.Names.{isPadded}
+use Rattle.model.proofs.Lists.{first-at}
 use Rattle.names.specs.Entries.{placeOf, widthOf, nameAt}
 use Rattle.names.specs.Search.{isNamed, seek, again, goodCode, goodAt}
 use Rattle.tokens.specs.Spans.{capped}
 use Rattle.tokens.specs.Kinds.{codeOf}
 use Rattle.tokens.proofs.Values.{above}
-use Rattle.names.proofs.Walk.{head-at, name-at, rest-at}
+use Rattle.names.proofs.Walk.{name-at, rest-at}
 use Rattle.names.proofs.Reading.{passes, passes-cons, passes-none}
 
 -- a good name lies within the list
@@ -57,7 +58,7 @@ module _ (x : List ℕ) (at k : ℕ) (ek : k ≡ getD x at 0) where
   pub good-of : goodAt (drop at x) ≡ goodBy k (getD x (at + 1) 0) (nameAt x (at + placeOf k)) (drop (at + placeOf k) x) (drop (at + widthOf k) x)
   unfolding goodAt again
   good-of =
-      ap (λ (k : ℕ). goodBy k (getD (drop at x) 1 0) (nameAt (drop at x) (placeOf k)) (drop (placeOf k) (drop at x)) (drop (widthOf k) (drop at x))) (head-at x at ∙ sym ek)
+      ap (λ (k : ℕ). goodBy k (getD (drop at x) 1 0) (nameAt (drop at x) (placeOf k)) (drop (placeOf k) (drop at x)) (drop (widthOf k) (drop at x))) (first-at at x ∙ sym ek)
       ∙ ap₂ (λ (a : ℕ) (w : Word). goodBy k a w (drop (placeOf k) (drop at x)) (drop (widthOf k) (drop at x))) (getD-drop at x 1 0) (name-at x at (placeOf k))
       ∙ ap₂ (λ (p y : List ℕ). goodBy k (getD x (at + 1) 0) (nameAt x (at + placeOf k)) p y) (drop-drop (placeOf k) at x) (drop-drop (widthOf k) at x)
 

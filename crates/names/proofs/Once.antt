@@ -19,10 +19,11 @@ use Rattle.tokens.specs.Spans.{capped}
 use Rattle.tokens.specs.Kinds.{codeOf}
 use Rattle.tokens.proofs.Places.{run-all}
 use Rattle.quel.specs.Tokens.{isLetter}
+use Rattle.model.proofs.Lists.{first-at}
 use Rattle.names.specs.Entries.{placeOf, widthOf, nameAt}
 use Rattle.names.specs.Search.{goodCode, isNamed, seekAfter, seek, nameOf, recordCode, like, HeldIn, ChainedIn, listedBefore, later, apart, after, Index, Told, IndexedBy}
 use Rattle.names.proofs.Same.{eqb-turned, same-turned}
-use Rattle.names.proofs.Walk.{place-small, named-of, head-at, name-at, rest-at, seek-some, seek-none}
+use Rattle.names.proofs.Walk.{place-small, named-of, name-at, rest-at, seek-some, seek-none}
 use Rattle.names.proofs.Reading.{passes, passes-cons, passes-none}
 use Rattle.names.proofs.Checked.{padded-room, letters-some, letters-none, good-of, passes-some}
 
@@ -83,7 +84,7 @@ module _ (x : List ℕ) where
   like-is : (i j : ℕ) → like x i (drop j x) ≡ (eqb (getD x j 0) (getD x i 0) && ((not (eqb (getD x i 0) 81) || eqb (getD x (j + 1) 0) (getD x (i + 1) 0)) && sameWord (nameAt x (j + placeOf (getD x i 0))) (nameOf x i)))
   unfolding isNamed
   like-is i j =
-      ap₂ (λ (a b : ℕ). eqb a (getD x i 0) && ((not (eqb (getD x i 0) 81) || eqb b (getD x (i + 1) 0)) && sameWord (nameAt (drop j x) (placeOf (getD x i 0))) (nameOf x i))) (head-at x j) (getD-drop j x 1 0)
+      ap₂ (λ (a b : ℕ). eqb a (getD x i 0) && ((not (eqb (getD x i 0) 81) || eqb b (getD x (i + 1) 0)) && sameWord (nameAt (drop j x) (placeOf (getD x i 0))) (nameOf x i))) (first-at j x) (getD-drop j x 1 0)
       ∙ ap (λ (w : Word). eqb (getD x j 0) (getD x i 0) && ((not (eqb (getD x i 0) 81) || eqb (getD x (j + 1) 0) (getD x (i + 1) 0)) && sameWord w (nameOf x i))) (name-at x j (placeOf (getD x i 0)))
 
   like-turned : (i j : ℕ) → like x i (drop j x) ≡ like x j (drop i x)

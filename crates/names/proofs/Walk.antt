@@ -3,7 +3,6 @@ use mathlib.Core.Path.{_≡_, refl, sym, ap, ap₂, _∙_}
 use mathlib.Core.Bool.{Bool, true, false, not, cond, _&&_, _||_}
 use mathlib.Core.List.{List, [], _∷_, _++_}
 use Prim.Native.Nat.{ℕ, zero, suc, _+_, _-_, _<_, _≤_}
-use native.Mathlib.Nat.{add-zero}
 use native.Mathlib.Omega.{arith}
 use lib.Dec.{eqb}
 use lib.ListN.{length, getD, drop, take, length-drop, drop-of-length-le}
@@ -12,6 +11,7 @@ use borrow.Author.Tests.{eq-eqb, ne-eqb, not-true, not-false}
 use Rattle.quel.specs.Results.{Word, sameWord}
 use Rattle.quel.specs.Tokens.{isLetter, run}
 use Rattle.quel.specs.Names.{Entry}
+use Rattle.model.proofs.Lists.{first-at}
 use Rattle.names.specs.Entries.{placeOf, widthOf, nameAt, entryAt, entriesAfter, entries}
 use Rattle.names.specs.Search.{isNamed, seekAfter, seek}
 
@@ -65,9 +65,6 @@ module _ (p : List ℕ → Bool) where
   unfolding seekAfter seek
   seek-none = refl
 
-pub head-at : (x : List ℕ) (at : ℕ) → getD (drop at x) 0 0 ≡ getD x at 0
-head-at x at = getD-drop at x 0 0 ∙ ap (λ (i : ℕ). getD x i 0) (add-zero at)
-
 pub name-at : (x : List ℕ) (at o : ℕ) → nameAt (drop at x) o ≡ nameAt x (at + o)
 unfolding nameAt
 name-at x at o = ap (λ (y : List ℕ). run isLetter (take 12 y)) (drop-drop o at x)
@@ -78,7 +75,7 @@ module _ (x : List ℕ) (at k o : ℕ) (h : at < length x) (ek : k ≡ getD x at
   some-left = simp length-drop (omega arith)
 
   pub rest-at : drop (widthOf (getD (drop at x) 0 0)) (drop at x) ≡ drop (at + (o + 12)) x
-  rest-at = drop-drop (widthOf (getD (drop at x) 0 0)) at x ∙ ap (λ (n : ℕ). drop (at + n) x) (ap (λ (i : ℕ). i + 12) (ap placeOf (head-at x at ∙ sym ek) ∙ sym eo))
+  rest-at = drop-drop (widthOf (getD (drop at x) 0 0)) at x ∙ ap (λ (n : ℕ). drop (at + n) x) (ap (λ (i : ℕ). i + 12) (ap placeOf (first-at at x ∙ sym ek) ∙ sym eo))
 
   module _ (p : List ℕ → Bool) (t : Bool) (et : t ≡ p (drop at x)) (y : List ℕ) (e : seek p (drop at x) ≡ y) where
     pub seek-on : t ≡ false → seek p (drop (at + (o + 12)) x) ≡ y
@@ -102,7 +99,7 @@ module _ (x : List ℕ) (at b k q : ℕ) (w : Word) (eb : b ≡ getD x at 0) whe
   pub named-of : isNamed k q w (drop at x) ≡ (eqb b k && ((not (eqb k 81) || eqb (getD x (at + 1) 0) q) && sameWord (nameAt x (at + placeOf k)) w))
   unfolding isNamed
   named-of =
-      ap₂ (λ (c d : ℕ). eqb c k && ((not (eqb k 81) || eqb d q) && sameWord (nameAt (drop at x) (placeOf k)) w)) (head-at x at ∙ sym eb) (getD-drop at x 1 0)
+      ap₂ (λ (c d : ℕ). eqb c k && ((not (eqb k 81) || eqb d q) && sameWord (nameAt (drop at x) (placeOf k)) w)) (first-at at x ∙ sym eb) (getD-drop at x 1 0)
       ∙ ap (λ (n : Word). eqb b k && ((not (eqb k 81) || eqb (getD x (at + 1) 0) q) && sameWord n w)) (name-at x at (placeOf k))
 
   pub named-kind : (b ≡ k → ⊥) → false ≡ isNamed k q w (drop at x)

@@ -1,5 +1,5 @@
 -- Signed numbers bounded by natAbs, a natural number that omega reads; operations and tests on i64 read their operands from bits.
-use mathlib.Core.Path.{_≡_, refl, sym, ap, _∙_, subst}
+use mathlib.Core.Path.{_≡_, refl, sym, ap, ap₂, _∙_, subst}
 use mathlib.Core.Bool.{Bool, true, false, cond}
 use Prim.Native.Nat.{ℕ, zero, suc, _+_, _-_, _*_, _/_, _≤_, _<_}
 use native.Mathlib.Nat.{mul-le-mul, le-refl, div-le-self}
@@ -94,3 +94,17 @@ module _ (x : ℤ) (f : SFits w64 x) (h : natAbs x ≤ 2147483647) where
 
   pub narrowed : toZ w32 (ofZ w32 (toZ w64 (ofZ w64 x))) ≡ x
   narrowed = toZ-ofZ narrows ∙ toZ-ofZ f
+
+-- the cross product of a value with a denominator, as code computes it
+module _ (a d : ℤ) (fa : SFits w32 a) (fd : SFits w64 d) (h : natAbs d ≤ 65535) where
+  product : SFits w64 (a *ℤ d)
+  product = cross a d (omega (arith, abs32 a (fa .sfits))) h
+
+  same-product : toZ w64 (ofZ w64 (toZ w32 (ofZ w32 a))) *ℤ toZ w64 (ofZ w64 d) ≡ a *ℤ d
+  same-product = ap₂ _*ℤ_ (widened a fa) (toZ-ofZ fd)
+
+  pub scaled-fits : SFits w64 (toZ w64 (ofZ w64 (toZ w32 (ofZ w32 a))) *ℤ toZ w64 (ofZ w64 d))
+  scaled-fits = subst (SFits w64) (sym same-product) product
+
+  pub scaled-is : toZ w64 (ofZ w64 (toZ w64 (ofZ w64 (toZ w32 (ofZ w32 a))) *ℤ toZ w64 (ofZ w64 d))) ≡ a *ℤ d
+  scaled-is = ap (λ (z : ℤ). toZ w64 (ofZ w64 z)) same-product ∙ toZ-ofZ {w = w64} product

@@ -7,11 +7,11 @@ use Prim.Native.Nat.{ℕ, zero, suc, _+_, _-_, _*_, _≤_, _<_}
 use native.Mathlib.Omega.{arith}
 use native.Mathlib.Numerals.{sub-one, add-one}
 use lib.IntN.{ℤ, pos}
-use lib.ListN.{length, getD, set, drop, length-set}
+use lib.ListN.{length, getD, set, drop, length-set, List·getD-eq-default}
 use lib.Seq.{getD-set-same, getD-set-other}
 use borrow.Author.Tests.{lt-ltb}
 use Rattle.model.specs.Syntax.{Condition, Term, AGGREGATE}
-use Rattle.model.specs.Meaning.{Assignment, Rows, Value, whole, cell, withCell, targetRowWith}
+use Rattle.model.specs.Meaning.{Assignment, Rows, Value, whole, signed, cell, withCell, targetRowWith}
 use Rattle.model.proofs.Tests.{not-yes, not-no, clash}
 use Rattle.model.proofs.Rounding.{cell-whole}
 use Rattle.kinds.specs.Places.{termAt}
@@ -25,7 +25,7 @@ use Rattle.sizes.specs.Parts.{targetsAt}
 use Rattle.walks.specs.Assigned.{assigned}
 use Rattle.numbers.specs.Recalled.{valueBy}
 use Rattle.walks.proofs.Assigned.{getD-inside}
-use Rattle.branches.specs.Branches.{operand}
+use Rattle.branches.specs.Branches.{number, operand}
 use Rattle.branches.proofs.Operands.{recalled-means, attribute-means, aggregate-means}
 use Rattle.odometer.specs.declared.Plan.{Plan}
 use Rattle.odometer.specs.Plan.{cellsBy, cellsIn, Listed, Put, Written, rowsBelow}
@@ -49,13 +49,15 @@ module _ (m : List ℤ) (l l′ : List ℕ) (i v a : ℕ) (el : l′ ≡ set (se
 
   module _ (q : List ℕ) (n : ℕ) (r : TermRecord) (room : 2 * i + 2 ≤ length l) (nz : n ≡ 0 → ⊥) (er : r ≡ termAt q) where
     pub put-attribute : (w b : ℕ) → w < 256 → r ≡ T.Attribute w b → v ≡ w → a ≡ b → (z : List ℕ) (R : Rows) (e : Assignment) → valueBy m (decodeT n q z) R e ≡ valueIn m l′ i e
+    unfolding signed
     put-attribute w b g h ev ea z R e =
-        attribute-means m q n r nz er (record { known = true; variable = w; attribute = b; number = pos 0 }) w b g h refl z refl R e
+        attribute-means m q n r nz er (record { known = true; variable = w; attribute = b; low = 0; high = 0 }) w b g h refl z refl R e
         ∙ ap₂ (λ (x y : ℕ). operand m x y (pos 0) e) (sym ev) (sym ea) ∙ put-value room e
 
     pub put-aggregate : (f w s b u : ℕ) (k : Bool) → w < 256 → r ≡ T.Aggregate f w s b → k ≡ knows m w → not k ≡ false → u ≡ w → v ≡ u + 256 → a ≡ 0 → (z : List ℕ) (R : Rows) (e : Assignment) → valueBy m (decodeT n q z) R e ≡ valueIn m l′ i e
+    unfolding signed
     put-aggregate f w s b u k g h ek hk eu ev ea z R e =
-        aggregate-means m q n r nz er (record { known = true; variable = u + 256; attribute = 0; number = pos 0 }) f w s b h (recalled-means m w u k (record { known = true; variable = u + 256; attribute = 0; number = pos 0 }) ek hk eu g refl) z refl R e
+        aggregate-means m q n r nz er (record { known = true; variable = u + 256; attribute = 0; low = 0; high = 0 }) f w s b h (recalled-means m w u k (record { known = true; variable = u + 256; attribute = 0; low = 0; high = 0 }) ek hk eu g refl) z refl R e
         ∙ ap₂ (λ (x y : ℕ). operand m x y (pos 0) e) (sym ev) (sym ea) ∙ put-value room e
 
 -- the targets listed one after the other
@@ -82,6 +84,11 @@ module _ (m : List ℤ) (q z : List ℕ) (left n i : ℕ) where
           let first = here z R e ∙ sym (ap₂ (λ (x y : ℕ). operand m x y (pos 0) e) (same (2 * i) (omega arith)) (same (2 * i + 1) (omega arith))) in
           let others : cellsBy m (targetsAt c n (drop (getD z 0 0) q) (drop (getD z 0 0) z)) R e ≡ cellsIn m l₂ c (suc i) e = sym (rw (sub-one, eu, ev, ek)) ∙ f R e ∙ rw (sub-one, add-one) in
           ap₂ withCell first others
+
+-- a list has no numbers behind it
+pub no-number : (l : List ℕ) → length l ≤ 16 → number l 0 ≡ pos 0
+unfolding signed
+no-number l h = ap₂ (λ (a b : ℕ). signed a 0 b 0) (List·getD-eq-default l 0 (omega arith)) (List·getD-eq-default l 0 (omega arith))
 
 -- one cell read
 module _ (m : List ℤ) (l e : List ℕ) (vs : List ℤ) (i : ℕ) (row y : List ℤ) where
@@ -136,16 +143,16 @@ module _ (m : List ℤ) (l : List ℕ) (n : ℕ) (e : Assignment) (row₀ : List
           go none k = clash (sym k ∙ not-no b h)
           go (some x) k = one-cell c row y w i x (cellsIn m l (n - (i + 1)) (i + 1) e) (k .1) g
 
--- the plan with its list
-abbrev marked : Plan → Bool → Plan
-marked p b = record { targets = p .targets; columns = p .columns; level = p .level; listed = b; left = p .left; depth = p .depth }
+-- the plan with its list, before the first row
+abbrev pub marked : Plan → Bool → Plan
+marked p b = record { targets = p .targets; columns = p .columns; level = p .level; listed = b; left = p .left; depth = p .depth; front = p .front; rows = 0; full = false }
 
-module _ (p r : Plan) (b : Bool) (er : r ≡ marked p b) where
+module _ (p : Plan) (b : Bool) where
   pub targets-listed : (q z u v l : List ℕ) (m : List ℤ) → u ≡ drop (p .targets) q → v ≡ drop (p .targets) z
-      → (b ≡ true → (R : Rows) (e : Assignment) → cellsBy m (targetsAt (p .columns) (p .level) u v) R e ≡ cellsIn m l (p .columns) 0 e) → Listed l r q z m
-  targets-listed q z u v l m eu ev h = subst (λ (k : Plan). Listed l k q z m) (sym er) (λ k R e. sym (rw (eu, ev)) ∙ h k R e)
+      → (b ≡ true → (R : Rows) (e : Assignment) → cellsBy m (targetsAt (p .columns) (p .level) u v) R e ≡ cellsIn m l (p .columns) 0 e) → Listed l (marked p b) q z m
+  targets-listed q z u v l m eu ev h k R e = sym (rw (eu, ev)) ∙ h k R e
 
   -- it gives the same rows
-  pub rows-marked : (t : List ℕ) (xs : List ℤ) (q z ws : List ℕ) (vs m : List ℤ) (e : Assignment) → rowsBelow r t xs q z ws vs m e ≡ rowsBelow p t xs q z ws vs m e
+  pub rows-marked : (t q z ws : List ℕ) (vs m : List ℤ) (e : Assignment) → rowsBelow (marked p b) t q z ws vs m e ≡ rowsBelow p t q z ws vs m e
   unfolding rowsBelow
-  rows-marked t xs q z ws vs m e = ap (λ (k : Plan). rowsBelow k t xs q z ws vs m e) er
+  rows-marked t q z ws vs m e = refl

@@ -123,18 +123,18 @@ depths-from g d (suc n) =
     ∙ depths-from g (suc d) n
     ∙ ap (λ (k : ℕ). all g (below k)) (omega arith)
 
-module _ (t : List ℕ) (xs : List ℤ) (q z ws : List ℕ) (vs m : List ℤ) where
+module _ (t q z ws : List ℕ) (vs m : List ℤ) where
   -- the stages of all depths are all stages
-  depths-all : (n : ℕ) (e : Assignment) → depths (λ d. depthHolds t xs q z ws vs m d e) 0 n ≡ stagesHold t xs q z ws vs m n e
+  depths-all : (n : ℕ) (e : Assignment) → depths (λ d. depthHolds t q z ws vs m d e) 0 n ≡ stagesHold t q z ws vs m n e
   unfolding depthHolds stagesHold all below
-  depths-all n e = depths-from (λ s. stageHolds t xs q z ws vs m s e) 0 n ∙ ap (λ (k : ℕ). all (λ s. stageHolds t xs q z ws vs m s e) (below (2 * k + 2))) (zero-add n)
+  depths-all n e = depths-from (λ s. stageHolds t q z ws vs m s e) 0 n ∙ ap (λ (k : ℕ). all (λ s. stageHolds t q z ws vs m s e) (below (2 * k + 2))) (zero-add n)
 
-  module _ (bs : List Binding) (steady : Steady t xs q z ws vs m bs) where
-    depth-stable : (d : ℕ) (e e′ : Assignment) → d ≤ length bs → Extends (drop d bs) e e′ → depthHolds t xs q z ws vs m d e′ ≡ depthHolds t xs q z ws vs m d e
+  module _ (bs : List Binding) (steady : Steady t q z ws vs m bs) where
+    depth-stable : (d : ℕ) (e e′ : Assignment) → d ≤ length bs → Extends (drop d bs) e e′ → depthHolds t q z ws vs m d e′ ≡ depthHolds t q z ws vs m d e
     unfolding depthHolds
     depth-stable d e e′ l x = ap₂ _&&_ (steady (2 * d) d (omega arith) l e e′ x) (steady (2 * d + 1) d (omega arith) l e e′ x)
 
-    suffix-stable : (d : ℕ) (cs : List Binding) → drop d bs ≡ cs → d + length cs ≡ length bs → Stable (depthHolds t xs q z ws vs m) d cs
+    suffix-stable : (d : ℕ) (cs : List Binding) → drop d bs ≡ cs → d + length cs ≡ length bs → Stable (depthHolds t q z ws vs m) d cs
     unfolding Stable
     suffix-stable d [] h l = tt
     suffix-stable d (c ∷ cs) h l = (
@@ -143,16 +143,16 @@ module _ (t : List ℕ) (xs : List ℤ) (q z ws : List ℕ) (vs m : List ℤ) wh
     )
 
 -- so the stages of a planned condition, two at each depth, find the assignments that meet the condition
-pub planned-rows : (t : List ℕ) (xs : List ℤ) (q z ws : List ℕ) (vs m : List ℤ) (c : Condition) (bs : List Binding) → Planned t xs q z ws vs m c bs → (e : Assignment)
-    → stagedFrom (depthHolds t xs q z ws vs m) 0 bs (rowsBy ws vs) e ≡ filter (holdsBy m c (rowsBy ws vs)) (assignments bs (rowsBy ws vs) e)
-planned-rows t xs q z ws vs m c bs p e =
-    staged-all (depthHolds t xs q z ws vs m) (rowsBy ws vs) 0 bs e (suffix-stable t xs q z ws vs m bs (p .steady) 0 bs refl (omega arith))
-    ∙ filter-same (λ a. depths (λ d. depthHolds t xs q z ws vs m d a) 0 (length bs)) (holdsBy m c (rowsBy ws vs)) (λ a. depths-all t xs q z ws vs m (length bs) a ∙ p .whole a) (assignments bs (rowsBy ws vs) e)
+pub planned-rows : (t q z ws : List ℕ) (vs m : List ℤ) (c : Condition) (bs : List Binding) → Planned t q z ws vs m c bs → (e : Assignment)
+    → stagedFrom (depthHolds t q z ws vs m) 0 bs (rowsBy ws vs) e ≡ filter (holdsBy m c (rowsBy ws vs)) (assignments bs (rowsBy ws vs) e)
+planned-rows t q z ws vs m c bs p e =
+    staged-all (depthHolds t q z ws vs m) (rowsBy ws vs) 0 bs e (suffix-stable t q z ws vs m bs (p .steady) 0 bs refl (omega arith))
+    ∙ filter-same (λ a. depths (λ d. depthHolds t q z ws vs m d a) 0 (length bs)) (holdsBy m c (rowsBy ws vs)) (λ a. depths-all t q z ws vs m (length bs) a ∙ p .whole a) (assignments bs (rowsBy ws vs) e)
 
 -- what the odometer finds for a planned condition, from its start
-pub rows-planned : (p : Plan) (t : List ℕ) (xs : List ℤ) (q z ws : List ℕ) (vs m : List ℤ) (c : Condition) → p .depth ≡ 0 → Planned t xs q z ws vs m c (rangesAt (p .left) q) → (e : Assignment)
-    → rowsFrom p t xs q z ws vs m e ≡ rowsOf p q z ws vs m (filter (holdsBy m c (rowsBy ws vs)) (assignments (rangesAt (p .left) q) (rowsBy ws vs) e))
+pub rows-planned : (p : Plan) (t q z ws : List ℕ) (vs m : List ℤ) (c : Condition) → p .depth ≡ 0 → Planned t q z ws vs m c (rangesAt (p .left) q) → (e : Assignment)
+    → rowsFrom p t q z ws vs m e ≡ rowsOf p q z ws vs m (filter (holdsBy m c (rowsBy ws vs)) (assignments (rangesAt (p .left) q) (rowsBy ws vs) e))
 unfolding rowsFrom
-rows-planned p t xs q z ws vs m c h w e =
-    ap (λ (d : ℕ). rowsOf p q z ws vs m (stagedFrom (depthHolds t xs q z ws vs m) d (rangesAt (p .left) (drop (3 * d) q)) (rowsBy ws vs) e)) h
-    ∙ ap (rowsOf p q z ws vs m) (planned-rows t xs q z ws vs m c (rangesAt (p .left) q) w e)
+rows-planned p t q z ws vs m c h w e =
+    ap (λ (d : ℕ). rowsOf p q z ws vs m (stagedFrom (depthHolds t q z ws vs m) d (rangesAt (p .left) (drop (3 * d) q)) (rowsBy ws vs) e)) h
+    ∙ ap (rowsOf p q z ws vs m) (planned-rows t q z ws vs m c (rangesAt (p .left) q) w e)

@@ -38,7 +38,7 @@ use Rattle.decide.specs.declared.seeks.Cursor.{Cursor}
 use Rattle.branches.specs.Branches.{runs, leads}
 use Rattle.odometer.specs.declared.Plan.{Plan}
 use Rattle.odometer.specs.Staged.{stagedFrom, depthHolds}
-use Rattle.odometer.specs.Plan.{cellsBy, cellsIn, Listed, Written, Cells, addedRow, rowBy, rowsOf, rangeVariable, rowsFrom, rowsBelow}
+use Rattle.odometer.specs.Plan.{Bounds, listIn, cellsBy, cellsIn, Listed, Written, Cells, addedRow, rowBy, rowsOf, rangeVariable, rowsFrom, rowsBelow}
 
 -- the cell of one target before those of the others
 pub one-cell : (b : Bool) (row y w : List ℤ) (at : ℕ) (x : Ratio) (cells : Option (List ℤ)) → y ≡ set row at (cell x) → Written b y (at + 1) w cells → Written b row at w (withCell (some x) cells)
@@ -122,44 +122,44 @@ module _ (n : ℕ) (row : List ℤ) (k : ℕ) (cells : List ℤ) (t : List ℕ) 
   linked-row l = subst (λ (w : ℕ). Linked w k cells t) (length-take-le n row h) l
 
 -- the conjuncts of a depth, by the branches that its stages go on from
-module _ (t : List ℕ) (xs : List ℤ) (q z ws : List ℕ) (vs m : List ℤ) where
-  pub no-branch : (e : Assignment) (i : ℕ) → i ≡ 0 → true ≡ runs t xs q z ws vs m i e
+module _ (t q z ws : List ℕ) (vs m : List ℤ) where
+  pub no-branch : (e : Assignment) (i : ℕ) → i ≡ 0 → true ≡ runs t q z ws vs m i e
   unfolding runs leads
   no-branch e i h = sym (rw h)
 
-  pub stage-start : (s n i : ℕ) (e : Assignment) → i ≡ getD t n 0 → n ≡ s → runs t xs q z ws vs m i e ≡ stageHolds t xs q z ws vs m s e
+  pub stage-start : (s n i : ℕ) (e : Assignment) → i ≡ getD t n 0 → n ≡ s → runs t q z ws vs m i e ≡ stageHolds t q z ws vs m s e
   unfolding stageHolds
-  stage-start s n i e ei en = ap (λ (k : ℕ). runs t xs q z ws vs m k e) (ei ∙ ap (λ (k : ℕ). getD t k 0) en)
+  stage-start s n i e ei en = ap (λ (k : ℕ). runs t q z ws vs m k e) (ei ∙ ap (λ (k : ℕ). getD t k 0) en)
 
-  module _ (e : List ℕ) (d i : ℕ) (f : runs t xs q z ws vs m i (assigned vs e) ≡ stageHolds t xs q z ws vs m (2 * d) (assigned vs e)) (b : Bool) (eb : b ≡ runs t xs q z ws vs m i (assigned vs e)) where
-    pub first-fails : not b ≡ true → depthHolds t xs q z ws vs m d (assigned vs e) ≡ false
+  module _ (e : List ℕ) (d i : ℕ) (f : runs t q z ws vs m i (assigned vs e) ≡ stageHolds t q z ws vs m (2 * d) (assigned vs e)) (b : Bool) (eb : b ≡ runs t q z ws vs m i (assigned vs e)) where
+    pub first-fails : not b ≡ true → depthHolds t q z ws vs m d (assigned vs e) ≡ false
     unfolding depthHolds
     first-fails h = rw (sym f ∙ sym eb ∙ not-yes b h)
 
-    module _ (h : not b ≡ false) (k : ℕ) (g : runs t xs q z ws vs m k (assigned vs e) ≡ stageHolds t xs q z ws vs m (2 * d + 1) (assigned vs e)) (c : Bool) (e₁ : List ℕ) (ee : e₁ ≡ e) (ec : c ≡ runs t xs q z ws vs m k (assigned vs e₁)) where
-      second : stageHolds t xs q z ws vs m (2 * d + 1) (assigned vs e) ≡ c
-      second = sym g ∙ ap (λ (u : List ℕ). runs t xs q z ws vs m k (assigned vs u)) (sym ee) ∙ sym ec
+    module _ (h : not b ≡ false) (k : ℕ) (g : runs t q z ws vs m k (assigned vs e) ≡ stageHolds t q z ws vs m (2 * d + 1) (assigned vs e)) (c : Bool) (e₁ : List ℕ) (ee : e₁ ≡ e) (ec : c ≡ runs t q z ws vs m k (assigned vs e₁)) where
+      second : stageHolds t q z ws vs m (2 * d + 1) (assigned vs e) ≡ c
+      second = sym g ∙ ap (λ (u : List ℕ). runs t q z ws vs m k (assigned vs u)) (sym ee) ∙ sym ec
 
-      pub second-fails : not c ≡ true → depthHolds t xs q z ws vs m d (assigned vs e) ≡ false
+      pub second-fails : not c ≡ true → depthHolds t q z ws vs m d (assigned vs e) ≡ false
       unfolding depthHolds
       second-fails l = rw (sym f ∙ sym eb ∙ not-no b h, second ∙ not-yes c l)
 
-      pub both-hold : not c ≡ false → depthHolds t xs q z ws vs m d (assigned vs e) ≡ true
+      pub both-hold : not c ≡ false → depthHolds t q z ws vs m d (assigned vs e) ≡ true
       unfolding depthHolds
       both-hold l = rw (sym f ∙ sym eb ∙ not-no b h, second ∙ not-no c l)
 
 -- a cursor for the rows of variable v, by the stage of the depth at which v is bound
-module _ (c : Cursor) (d : ℕ) (t : List ℕ) (xs : List ℤ) (q z ws : List ℕ) (vs m : List ℤ) (e chains : List ℕ) (v start n : ℕ) (ready : Prepared c t xs start v ws vs m e chains) (es : start ≡ getD t n 0) (en : n ≡ 2 * d) where
-  pub unmet : (row : Tuple) → stops c row ≡ false → stageHolds t xs q z ws vs m (2 * d) (update (assigned vs e) v row) ≡ false
-  unmet row h = sym (stage-start t xs q z ws vs m (2 * d) n start (update (assigned vs e) v row) es en) ∙ ready .fails q z ws row h
+module _ (c : Cursor) (d : ℕ) (t q z ws : List ℕ) (vs m : List ℤ) (e chains : List ℕ) (v start n : ℕ) (ready : Prepared c t start v ws vs m e chains) (es : start ≡ getD t n 0) (en : n ≡ 2 * d) where
+  pub unmet : (row : Tuple) → stops c row ≡ false → stageHolds t q z ws vs m (2 * d) (update (assigned vs e) v row) ≡ false
+  unmet row h = sym (stage-start t q z ws vs m (2 * d) n start (update (assigned vs e) v row) es en) ∙ ready .fails q z ws row h
 
-  pub onward : (y : List ℕ) (place k : ℕ) → v < length e → y ≡ set e v place → place ≡ k → stops c (tupleAt vs k) ≡ true → runs t xs q z ws vs m (c .next) (assigned vs y) ≡ stageHolds t xs q z ws vs m (2 * d) (assigned vs y)
+  pub onward : (y : List ℕ) (place k : ℕ) → v < length e → y ≡ set e v place → place ≡ k → stops c (tupleAt vs k) ≡ true → runs t q z ws vs m (c .next) (assigned vs y) ≡ stageHolds t q z ws vs m (2 * d) (assigned vs y)
   onward y place k hv ey ek h =
       let a : assigned vs y ≡ update (assigned vs e) v (tupleAt vs k) = ap (λ (l : List ℕ). assigned vs l) ey ∙ assigned-set vs e v place hv ∙ ap (λ (j : ℕ). update (assigned vs e) v (tupleAt vs j)) ek in
-      ap (runs t xs q z ws vs m (c .next)) a
+      ap (runs t q z ws vs m (c .next)) a
       ∙ sym (ready .found q z ws (tupleAt vs k) h)
-      ∙ stage-start t xs q z ws vs m (2 * d) n start (update (assigned vs e) v (tupleAt vs k)) es en
-      ∙ ap (stageHolds t xs q z ws vs m (2 * d)) (sym a)
+      ∙ stage-start t q z ws vs m (2 * d) n start (update (assigned vs e) v (tupleAt vs k)) es en
+      ∙ ap (stageHolds t q z ws vs m (2 * d)) (sym a)
 
 -- the row before the next one is one that it stopped at
 pub stopped-before : (c : Cursor) (vs : List ℤ) (P : ℕ → ℕ) (j : ℕ) → stops c (tupleAt vs (P j)) ≡ true → 0 < j + 1 → stops c (tupleAt vs (P (j + 1 - 1))) ≡ true
@@ -189,82 +189,94 @@ next-ranges : (d : ℕ) (q : List ℕ) → drop (recordLength 1) (drop (3 * d) q
 unfolding recordLength ofKind kindOf find
 next-ranges d q = let three : 3 * d + 3 ≡ 3 * suc d = omega arith in drop-drop 3 (3 * d) q ∙ ap (λ (j : ℕ). drop j q) three
 
-module _ (p : Plan) (t : List ℕ) (xs : List ℤ) (q z ws : List ℕ) (vs m : List ℤ) (e : List ℕ) (s : Buffer) where
-  pub run-no : depthHolds t xs q z ws vs m (p .depth) (assigned vs e) ≡ false → s ≡ addedAll s (rowsFrom p t xs q z ws vs m (assigned vs e))
+module _ (p : Plan) (t q z ws : List ℕ) (vs m : List ℤ) (e : List ℕ) (s : Buffer) where
+  pub run-no : depthHolds t q z ws vs m (p .depth) (assigned vs e) ≡ false → s ≡ addedAll s (rowsFrom p t q z ws vs m (assigned vs e))
   unfolding rowsFrom addedAll present
-  run-no h = sym (ap (λ (l : List Assignment). addedAll s (rowsOf p q z ws vs m l)) (staged-no (depthHolds t xs q z ws vs m) (p .depth) (rangesAt (p .left) (drop (3 * p .depth) q)) (rowsBy ws vs) (assigned vs e) h))
+  run-no h = sym (ap (λ (l : List Assignment). addedAll s (rowsOf p q z ws vs m l)) (staged-no (depthHolds t q z ws vs m) (p .depth) (rangesAt (p .left) (drop (3 * p .depth) q)) (rowsBy ws vs) (assigned vs e) h))
 
-  pub run-row : (r : Buffer) (e₁ : List ℕ) → depthHolds t xs q z ws vs m (p .depth) (assigned vs e) ≡ true → p .left ≡ 0 → e₁ ≡ e → r ≡ addedRow s (rowBy p q z ws vs m (assigned vs e₁)) → r ≡ addedAll s (rowsFrom p t xs q z ws vs m (assigned vs e))
+  pub run-row : (r : Buffer) (e₁ : List ℕ) → depthHolds t q z ws vs m (p .depth) (assigned vs e) ≡ true → p .left ≡ 0 → e₁ ≡ e → r ≡ addedRow s (rowBy p q z ws vs m (assigned vs e₁)) → r ≡ addedAll s (rowsFrom p t q z ws vs m (assigned vs e))
   unfolding rowsFrom stagedFrom rangesAt
   run-row r e₁ h hl ee er = er ∙ ap (λ (x : List ℕ). addedRow s (rowBy p q z ws vs m (assigned vs x))) ee ∙ one-row-added s (rowBy p q z ws vs m (assigned vs e)) ∙ sym (rw (hl, h))
 
-  pub run-rows : (r : Buffer) (e₁ : List ℕ) → depthHolds t xs q z ws vs m (p .depth) (assigned vs e) ≡ true → (p .left ≡ 0 → ⊥) → e₁ ≡ e → r ≡ addedAll s (rowsBelow p t xs q z ws vs m (assigned vs e₁)) → r ≡ addedAll s (rowsFrom p t xs q z ws vs m (assigned vs e))
+  pub run-rows : (r : Buffer) (e₁ : List ℕ) → depthHolds t q z ws vs m (p .depth) (assigned vs e) ≡ true → (p .left ≡ 0 → ⊥) → e₁ ≡ e → r ≡ addedAll s (rowsBelow p t q z ws vs m (assigned vs e₁)) → r ≡ addedAll s (rowsFrom p t q z ws vs m (assigned vs e))
   unfolding rowsFrom rowsBelow stagedFrom rangesAt
-  run-rows r e₁ h hl ee er = er ∙ ap (λ (x : List ℕ). addedAll s (rowsBelow p t xs q z ws vs m (assigned vs x))) ee ∙ ap (λ (l : List Assignment). addedAll s (rowsOf p q z ws vs m l)) (go (p .left) hl)
+  run-rows r e₁ h hl ee er = er ∙ ap (λ (x : List ℕ). addedAll s (rowsBelow p t q z ws vs m (assigned vs x))) ee ∙ ap (λ (l : List Assignment). addedAll s (rowsOf p q z ws vs m l)) (go (p .left) hl)
     where
       go : (k : ℕ) → (k ≡ 0 → ⊥)
-          → concatMap (λ x. stagedFrom (depthHolds t xs q z ws vs m) (suc (p .depth)) (rangesAt (k - 1) (drop (3 * suc (p .depth)) q)) (rowsBy ws vs) (update (assigned vs e) (rangeVariable q (p .depth)) x)) (walked ws vs (rangeVariable q (p .depth)))
-          ≡ stagedFrom (depthHolds t xs q z ws vs m) (p .depth) (rangesAt k (drop (3 * p .depth) q)) (rowsBy ws vs) (assigned vs e)
+          → concatMap (λ x. stagedFrom (depthHolds t q z ws vs m) (suc (p .depth)) (rangesAt (k - 1) (drop (3 * suc (p .depth)) q)) (rowsBy ws vs) (update (assigned vs e) (rangeVariable q (p .depth)) x)) (walked ws vs (rangeVariable q (p .depth)))
+          ≡ stagedFrom (depthHolds t q z ws vs m) (p .depth) (rangesAt k (drop (3 * p .depth) q)) (rowsBy ws vs) (assigned vs e)
       go zero i = absurd (i refl)
       go (suc k) i =
           let v : getD (drop (3 * p .depth) q) 1 0 ≡ rangeVariable q (p .depth) = getD-drop (3 * p .depth) q 1 0 in
           sym (rw (h, v, next-ranges (p .depth) q, sub-one))
 
 -- the rows of the first i rows of a range variable, which stand at the places P 0, P 1 and so on
-abbrev pub passed : Plan → List ℕ → List ℤ → List ℕ → List ℕ → List ℕ → List ℤ → List ℤ → List ℕ → ℕ → (ℕ → ℕ) → ℕ → List (List ℤ)
-passed p t xs q z ws vs m e v P i = rowsOf p q z ws vs m (concatMap (λ x. stagedFrom (depthHolds t xs q z ws vs m) (p .depth) (rangesAt (p .left) (drop (3 * p .depth) q)) (rowsBy ws vs) (update (assigned vs e) v x)) (map (tupleAt vs) (places P 0 i)))
+abbrev pub passed : Plan → List ℕ → List ℕ → List ℕ → List ℕ → List ℤ → List ℤ → List ℕ → ℕ → (ℕ → ℕ) → ℕ → List (List ℤ)
+passed p t q z ws vs m e v P i = rowsOf p q z ws vs m (concatMap (λ x. stagedFrom (depthHolds t q z ws vs m) (p .depth) (rangesAt (p .left) (drop (3 * p .depth) q)) (rowsBy ws vs) (update (assigned vs e) v x)) (map (tupleAt vs) (places P 0 i)))
 
-module _ (p : Plan) (t : List ℕ) (xs : List ℤ) (q z ws : List ℕ) (vs m : List ℤ) (e : List ℕ) (v : ℕ) (P : ℕ → ℕ) (u : Buffer) where
-  pub each-start : u ≡ addedAll u (passed p t xs q z ws vs m e v P 0)
+module _ (p : Plan) (t q z ws : List ℕ) (vs m : List ℤ) (e : List ℕ) (v : ℕ) (P : ℕ → ℕ) (u : Buffer) where
+  pub each-start : u ≡ addedAll u (passed p t q z ws vs m e v P 0)
   unfolding concatMap places addedAll present
   each-start = refl
 
   abbrev below : Tuple → List Assignment
-  below x = stagedFrom (depthHolds t xs q z ws vs m) (p .depth) (rangesAt (p .left) (drop (3 * p .depth) q)) (rowsBy ws vs) (update (assigned vs e) v x)
+  below x = stagedFrom (depthHolds t q z ws vs m) (p .depth) (rangesAt (p .left) (drop (3 * p .depth) q)) (rowsBy ws vs) (update (assigned vs e) v x)
 
-  one-row : (i : ℕ) → passed p t xs q z ws vs m e v P (i + 1) ≡ passed p t xs q z ws vs m e v P i ++ rowsOf p q z ws vs m (below (tupleAt vs (P i)))
+  one-row : (i : ℕ) → passed p t q z ws vs m e v P (i + 1) ≡ passed p t q z ws vs m e v P i ++ rowsOf p q z ws vs m (below (tupleAt vs (P i)))
   one-row i = ap (rowsOf p q z ws vs m) (concat-to P below vs i) ∙ rows-append p q z ws vs m (concatMap below (map (tupleAt vs) (places P 0 i))) (below (tupleAt vs (P i)))
 
   -- row i
-  pub each-row : (i row : ℕ) (c r : Buffer) (y : List ℕ) → c ≡ addedAll u (passed p t xs q z ws vs m e v P i) → row ≡ P i → v < length e → y ≡ set e v row
-      → r ≡ addedAll c (rowsFrom p t xs q z ws vs m (assigned vs y))
-      → r ≡ addedAll u (passed p t xs q z ws vs m e v P (i + 1))
+  pub each-row : (i row : ℕ) (c r : Buffer) (y : List ℕ) → c ≡ addedAll u (passed p t q z ws vs m e v P i) → row ≡ P i → v < length e → y ≡ set e v row
+      → r ≡ addedAll c (rowsFrom p t q z ws vs m (assigned vs y))
+      → r ≡ addedAll u (passed p t q z ws vs m e v P (i + 1))
   unfolding rowsFrom
   each-row i row c r y ec ei hv ey er =
       let n = ap (λ (l : List ℕ). assigned vs l) ey ∙ assigned-set vs e v row hv ∙ ap (λ (k : ℕ). update (assigned vs e) v (tupleAt vs k)) ei in
       er
-      ∙ ap₂ (λ (c : Buffer) (a : Assignment). addedAll c (rowsFrom p t xs q z ws vs m a)) ec n
-      ∙ sym (added-append u (passed p t xs q z ws vs m e v P i) (rowsOf p q z ws vs m (below (tupleAt vs (P i)))))
+      ∙ ap₂ (λ (c : Buffer) (a : Assignment). addedAll c (rowsFrom p t q z ws vs m a)) ec n
+      ∙ sym (added-append u (passed p t q z ws vs m e v P i) (rowsOf p q z ws vs m (below (tupleAt vs (P i)))))
       ∙ ap (addedAll u) (sym (one-row i))
 
   -- a row once the answer is full
-  pub each-full : (i : ℕ) (c : Buffer) → c ≡ addedAll u (passed p t xs q z ws vs m e v P i) → c .full ≡ true → c ≡ addedAll u (passed p t xs q z ws vs m e v P (i + 1))
+  pub each-full : (i : ℕ) (c : Buffer) → c ≡ addedAll u (passed p t q z ws vs m e v P i) → c .full ≡ true → c ≡ addedAll u (passed p t q z ws vs m e v P (i + 1))
   each-full i c ec h =
       sym (full-stays c (rowsOf p q z ws vs m (below (tupleAt vs (P i)))) h)
       ∙ ap (λ (b : Buffer). addedAll b (rowsOf p q z ws vs m (below (tupleAt vs (P i))))) ec
-      ∙ sym (added-append u (passed p t xs q z ws vs m e v P i) (rowsOf p q z ws vs m (below (tupleAt vs (P i)))))
+      ∙ sym (added-append u (passed p t q z ws vs m e v P i) (rowsOf p q z ws vs m (below (tupleAt vs (P i)))))
       ∙ ap (addedAll u) (sym (one-row i))
 
   -- a row that fails a conjunct gives nothing
-  none-here : (i : ℕ) → stageHolds t xs q z ws vs m (2 * p .depth) (update (assigned vs e) v (tupleAt vs (P i))) ≡ false → passed p t xs q z ws vs m e v P (i + 1) ≡ passed p t xs q z ws vs m e v P i
+  none-here : (i : ℕ) → stageHolds t q z ws vs m (2 * p .depth) (update (assigned vs e) v (tupleAt vs (P i))) ≡ false → passed p t q z ws vs m e v P (i + 1) ≡ passed p t q z ws vs m e v P i
   unfolding depthHolds present
   none-here i h =
       one-row i
-      ∙ ap (λ (l : List Assignment). passed p t xs q z ws vs m e v P i ++ rowsOf p q z ws vs m l) (staged-no (depthHolds t xs q z ws vs m) (p .depth) (rangesAt (p .left) (drop (3 * p .depth) q)) (rowsBy ws vs) (update (assigned vs e) v (tupleAt vs (P i))) (rw h))
-      ∙ append-nil (passed p t xs q z ws vs m e v P i)
+      ∙ ap (λ (l : List Assignment). passed p t q z ws vs m e v P i ++ rowsOf p q z ws vs m l) (staged-no (depthHolds t q z ws vs m) (p .depth) (rangesAt (p .left) (drop (3 * p .depth) q)) (rowsBy ws vs) (update (assigned vs e) v (tupleAt vs (P i))) (rw h))
+      ∙ append-nil (passed p t q z ws vs m e v P i)
 
   -- the rows that were passed over
-  pub each-skip : (i s : ℕ) (c : Buffer) → i ≤ s → ((j : ℕ) → i ≤ j → j < s → stageHolds t xs q z ws vs m (2 * p .depth) (update (assigned vs e) v (tupleAt vs (P j))) ≡ false)
-      → c ≡ addedAll u (passed p t xs q z ws vs m e v P i) → c ≡ addedAll u (passed p t xs q z ws vs m e v P s)
-  each-skip i s c hs h ec = ec ∙ sym (passed-over (λ (k : ℕ). addedAll u (passed p t xs q z ws vs m e v P k)) i s hs λ j a b. ap (addedAll u) (none-here j (h j a b)))
+  pub each-skip : (i s : ℕ) (c : Buffer) → i ≤ s → ((j : ℕ) → i ≤ j → j < s → stageHolds t q z ws vs m (2 * p .depth) (update (assigned vs e) v (tupleAt vs (P j))) ≡ false)
+      → c ≡ addedAll u (passed p t q z ws vs m e v P i) → c ≡ addedAll u (passed p t q z ws vs m e v P s)
+  each-skip i s c hs h ec = ec ∙ sym (passed-over (λ (k : ℕ). addedAll u (passed p t q z ws vs m e v P k)) i s hs λ j a b. ap (addedAll u) (none-here j (h j a b)))
 
 -- the inner plan is the outer one with one range more bound
 abbrev pub inner : Plan → Plan
-inner p = record { targets = p .targets; columns = p .columns; level = p .level; listed = p .listed; left = p .left - 1; depth = p .depth + 1 }
+inner p = record { targets = p .targets; columns = p .columns; level = p .level; listed = p .listed; left = p .left - 1; depth = p .depth + 1; front = p .front; rows = p .rows; full = p .full }
 
-pub each-all : (o p : Plan) (t : List ℕ) (xs : List ℤ) (q z ws : List ℕ) (vs m : List ℤ) (e : List ℕ) (v : ℕ) (x : Walk) (s : Buffer) (i : ℕ) (c : Buffer)
-    → p ≡ inner o → v ≡ rangeVariable q (o .depth) → x ≡ walkOf ws v → i ≡ x .count → c ≡ addedAll s (passed p t xs q z ws vs m e v (placeAt ws x) i)
-    → c ≡ addedAll s (rowsBelow o t xs q z ws vs m (assigned vs e))
+-- a plan with another state of the answer
+abbrev pub held : Plan → ℕ → Bool → Plan
+held p n b = record { targets = p .targets; columns = p .columns; level = p .level; listed = p .listed; left = p .left; depth = p .depth; front = p .front; rows = n; full = b }
+
+pub each-all : (o p : Plan) (t q z ws : List ℕ) (vs m : List ℤ) (e : List ℕ) (v : ℕ) (x : Walk) (s : Buffer) (i : ℕ) (c : Buffer)
+    → p ≡ held (inner o) (p .rows) (p .full) → v ≡ rangeVariable q (o .depth) → x ≡ walkOf ws v → i ≡ x .count → c ≡ addedAll s (passed p t q z ws vs m e v (placeAt ws x) i)
+    → c ≡ addedAll s (rowsBelow o t q z ws vs m (assigned vs e))
 unfolding rowsBelow walked
-each-all o p t xs q z ws vs m e v x s i c ep ev ex ei ec =
-    ec ∙ ap (λ (u : Plan). addedAll s (passed u t xs q z ws vs m e v (placeAt ws x) i)) ep ∙ rw ei (rw (ex, ev, add-one))
+each-all o p t q z ws vs m e v x s i c ep ev ex ei ec =
+    ec ∙ ap (λ (u : Plan). addedAll s (passed u t q z ws vs m e v (placeAt ws x) i)) ep ∙ rw ei (rw (ex, ev, add-one))
+
+-- what holds of the inner plan, whatever the state of the answer
+module _ (o p : Plan) (n : ℕ) (ep : p ≡ held (inner o) (p .rows) (p .full)) where
+  pub bounds-held : Bounds o n → 1 ≤ o .left → Bounds p n
+  bounds-held b h = subst (λ (k : Plan). Bounds k n) (sym ep) (record { columns = b .columns; ranges = omega (arith, b .ranges); branches = b .branches; room = b .room })
+
+  pub listed-held : (w q z : List ℕ) (m : List ℤ) → Listed (listIn o w) o q z m → Listed (listIn p w) p q z m
+  listed-held w q z m l = subst (λ (k : Plan). Listed (listIn k w) k q z m) (sym ep) l

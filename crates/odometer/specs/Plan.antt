@@ -18,10 +18,29 @@ use Rattle.sizes.specs.Parts.{rangesAt, targetsAt}
 use Rattle.odometer.specs.Staged.{stagedFrom, depthHolds}
 use Rattle.odometer.specs.declared.Plan.{Plan}
 
--- what a plan keeps to
-pub record Bounds (p : Plan) : Type 0 where
+-- what a plan keeps to, for a table of n entries
+pub record Bounds (p : Plan) (n : ℕ) : Type 0 where
   pub columns : p .columns ≤ 8
   pub ranges : p .depth + p .left < 65536
+  pub branches : 768 ≤ p .front
+  pub room : p .front + 16 ≤ n
+
+-- the parts of that table: the branches, the chains, the list of targets, the table of the answer's rows
+abbrev pub codeIn : List ℕ → List ℕ
+codeIn w = take 768 w
+
+abbrev pub chainsIn : Plan → List ℕ → List ℕ
+chainsIn p w = take (p .front - 768) (drop 768 w)
+
+abbrev pub listIn : Plan → List ℕ → List ℕ
+listIn p w = take 16 (drop (p .front) w)
+
+abbrev pub tableIn : Plan → List ℕ → List ℕ
+tableIn p w = drop (p .front + 16) w
+
+-- all but the last
+abbrev pub frontOf : Plan → List ℕ → List ℕ
+frontOf p w = take (p .front + 16) w
 
 -- the cells of an assignment's targets, with the memo m
 abbrev pub cellsBy : List ℤ → List Term → Rows → Assignment → Option (List ℤ)
@@ -67,12 +86,12 @@ Listed l p q z m = p .listed ≡ true → (R : Rows) (e : Assignment) → cellsB
 abbrev pub rangeVariable : List ℕ → ℕ → ℕ
 rangeVariable q d = getD q (3 * d + 1) 0
 
-module _ (p : Plan) (t : List ℕ) (xs : List ℤ) (q z ws : List ℕ) (vs m : List ℤ) where
+module _ (p : Plan) (t q z ws : List ℕ) (vs m : List ℤ) where
   -- the rows of the ranges that are left
   unfoldable pub rowsFrom : Assignment → List (List ℤ)
-  rowsFrom e = rowsOf p q z ws vs m (stagedFrom (depthHolds t xs q z ws vs m) (p .depth) (rangesAt (p .left) (drop (3 * p .depth) q)) (rowsBy ws vs) e)
+  rowsFrom e = rowsOf p q z ws vs m (stagedFrom (depthHolds t q z ws vs m) (p .depth) (rangesAt (p .left) (drop (3 * p .depth) q)) (rowsBy ws vs) e)
 
   -- the same with no test at this depth, for at least one range
   unfoldable pub rowsBelow : Assignment → List (List ℤ)
   rowsBelow e = rowsOf p q z ws vs m
-      (concatMap (λ x. stagedFrom (depthHolds t xs q z ws vs m) (suc (p .depth)) (rangesAt (p .left - 1) (drop (3 * suc (p .depth)) q)) (rowsBy ws vs) (update e (rangeVariable q (p .depth)) x)) (walked ws vs (rangeVariable q (p .depth))))
+      (concatMap (λ x. stagedFrom (depthHolds t q z ws vs m) (suc (p .depth)) (rangesAt (p .left - 1) (drop (3 * suc (p .depth)) q)) (rowsBy ws vs) (update e (rangeVariable q (p .depth)) x)) (walked ws vs (rangeVariable q (p .depth))))

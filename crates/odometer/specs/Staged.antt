@@ -14,5 +14,5 @@ stagedFrom T d [] R e = cond (T d e) (e ∷ []) []
 stagedFrom T d (b ∷ bs) R e = cond (T d e) (concatMap (λ x. stagedFrom T (suc d) bs R (update e (b .variable) x)) (R (b .variable) (b .relation))) []
 
 -- the stages that are due where d range variables are bound
-unfoldable pub depthHolds : List ℕ → List ℤ → List ℕ → List ℕ → List ℕ → List ℤ → List ℤ → ℕ → Assignment → Bool
-depthHolds t xs q z ws vs m d e = stageHolds t xs q z ws vs m (2 * d) e && stageHolds t xs q z ws vs m (2 * d + 1) e
+unfoldable pub depthHolds : List ℕ → List ℕ → List ℕ → List ℕ → List ℤ → List ℤ → ℕ → Assignment → Bool
+depthHolds t q z ws vs m d e = stageHolds t q z ws vs m (2 * d) e && stageHolds t q z ws vs m (2 * d + 1) e

@@ -22,8 +22,16 @@ ghost use Rattle.walks.specs.Assigned.{assigned};
 ghost use Rattle.numbers.specs.Recalled.{valueBy};
 ghost use Rattle.branches.specs.Branches.{operand};
 ghost use Rattle.odometer.specs.Plan.{Bounds, cellsBy, cellsIn, Listed, Put, Written, Cells, addedRow, rowBy, rowsFrom, rowsBelow};
+ghost use Rattle.odometer.specs.Plan.{codeIn, chainsIn, listIn, tableIn, frontOf};
 
-// Where a query's targets start, how many they are and how deep, and whether they are listed; how many ranges are left, and are bound.
+// How many entries of the lent table `work` are branches; behind them stand the chains, the list of targets, and the table of the answer's rows.
+pub const BRANCHES: usize = 768;
+
+// How many the list has, two for each target.
+const LIST: usize = 2 * model::TARGETS;
+
+// Where a query's targets start, how many they are and how deep, and whether they are listed; how many ranges are left, and are bound; where in
+// `work` the list starts; how many rows are stored, and whether a distinct row did not fit.
 pub struct Plan {
     pub targets: usize,
     pub columns: usize,
@@ -31,6 +39,9 @@ pub struct Plan {
     pub listed: bool,
     pub left: usize,
     pub depth: usize,
+    pub front: usize,
+    pub rows: usize,
+    pub full: bool,
 }
 
 fn wide(x: u8) -> u16
@@ -125,23 +136,23 @@ fn cell(x: Ratio) -> i64
 fn listed_cell(
     list: &[u16],
     i: usize,
-    vs: &[i32],
+    values: &[i32],
     memo: &[i64],
     env: &[usize],
     row: &mut [i64],
 ) -> bool
-    requires { ⌜ (256 ≤ length (now env)) × (i < length (now row)) × (i < 8) ⌝ }
+    requires { ⌜ (256 ≤ length (now env)) × (i < length (now row)) × (i < 8) × (length (now list) ≤ 16) ⌝ }
     ensures { λ r. ⌜ Put r (now (row .entry)) i (now (row .exit)) (operand (now (memo .entry)) (getD (now (list .entry)) (2 * i) 0)
-        (getD (now (list .entry)) (2 * i + 1) 0) (pos 0) (assigned (now (vs .entry)) (now (env .entry)))) ⌝ }
+        (getD (now (list .entry)) (2 * i + 1) 0) (pos 0) (assigned (now (values .entry)) (now (env .entry)))) ⌝ }
 {
     let at = 2 * i;
     let v = kinds::size_at(list, at);
     if v < 256 {
         let place = env[v];
-        row[i] = catalogue::value(vs, place, kinds::size_at(list, at + 1)) as i64;
+        row[i] = catalogue::value(values, place, kinds::size_at(list, at + 1)) as i64;
         return true;
     }
-    let x = branches::side(list, at, vs, vs.len(), vs, memo, env);
+    let x = branches::side(list, at, 0, values, memo, env);
     let d = x.denominator;
     if d <= 0 {
         return false;
@@ -154,18 +165,18 @@ fn listed_cell(
 fn listed_cells(
     list: &[u16],
     n: usize,
-    vs: &[i32],
+    values: &[i32],
     memo: &[i64],
     env: &[usize],
     row: &mut [i64],
 ) -> bool
-    requires { ⌜ (256 ≤ length (now env)) × (n ≤ length (now row)) × (n ≤ 8) ⌝ }
+    requires { ⌜ (256 ≤ length (now env)) × (n ≤ length (now row)) × (n ≤ 8) × (length (now list) ≤ 16) ⌝ }
     ensures { λ r. ⌜ Written r (now (row .entry)) 0 (now (row .exit)) (cellsIn (now (memo .entry)) (now (list .entry)) n 0
-        (assigned (now (vs .entry)) (now (env .entry)))) ⌝ }
+        (assigned (now (values .entry)) (now (env .entry)))) ⌝ }
 {
     let mut i = 0;
     while i < n {
-        if !listed_cell(list, i, vs, memo, env, row) {
+        if !listed_cell(list, i, values, memo, env, row) {
             return false;
         }
         i += 1;
@@ -186,15 +197,15 @@ fn targets(
     z: &[u16],
     ahead: Ahead,
     walks: &[u16],
-    vs: &[i32],
+    values: &[i32],
     memo: &[i64],
     env: &mut [usize],
     row: &mut [i64],
 ) -> bool
     requires { ⌜ (256 ≤ length (now env)) × (ahead .at + ahead .left ≤ length (now row)) ⌝ }
     ensures { λ r. ⌜ Written r (now (row .entry)) (ahead .at) (now (row .exit)) (cellsBy (now (memo .entry))
-        (targetsAt (ahead .left) (ahead .level) (now (q .entry)) (now (z .entry))) (rowsBy (now (walks .entry)) (now (vs .entry)))
-        (assigned (now (vs .entry)) (now (env .entry)))) ⌝ }
+        (targetsAt (ahead .left) (ahead .level) (now (q .entry)) (now (z .entry))) (rowsBy (now (walks .entry)) (now (values .entry)))
+        (assigned (now (values .entry)) (now (env .entry)))) ⌝ }
     ensures { λ _. ⌜ now (env .exit) ≡ now (env .entry) ⌝ }
 {
     let left = ahead.left;
@@ -203,7 +214,7 @@ fn targets(
     if left == 0 {
         return true;
     }
-    let x = evaluator::term(q, z, level, walks, vs, memo, env);
+    let x = evaluator::term(q, z, level, walks, values, memo, env);
     let d = x.denominator;
     if d <= 0 {
         return false;
@@ -220,7 +231,7 @@ fn targets(
         level,
         at: next,
     };
-    targets(u, v, rest, walks, vs, memo, env, row)
+    targets(u, v, rest, walks, values, memo, env, row)
 }
 
 // The cells of an assignment's row; whether each target has a value.
@@ -230,20 +241,21 @@ fn cells(
     z: &[u16],
     plan: Plan,
     walks: &[u16],
-    vs: &[i32],
+    values: &[i32],
     memo: &[i64],
     env: &mut [usize],
     row: &mut [i64],
 ) -> bool
-    requires { ⌜ (256 ≤ length (now env)) × (plan .columns ≤ length (now row)) × (plan .columns ≤ 8) × Listed (now list) plan (now q) (now z) (now memo) ⌝ }
-    ensures { λ r. ⌜ Cells r (plan .columns) (now (row .exit)) (rowBy plan (now (q .entry)) (now (z .entry)) (now (walks .entry)) (now (vs .entry))
-        (now (memo .entry)) (assigned (now (vs .entry)) (now (env .entry)))) ⌝ }
+    requires { ⌜ (256 ≤ length (now env)) × (plan .columns ≤ length (now row)) × (plan .columns ≤ 8) × Listed (now list) plan (now q) (now z) (now memo)
+        × (length (now list) ≤ 16) ⌝ }
+    ensures { λ r. ⌜ Cells r (plan .columns) (now (row .exit)) (rowBy plan (now (q .entry)) (now (z .entry)) (now (walks .entry)) (now (values .entry))
+        (now (memo .entry)) (assigned (now (values .entry)) (now (env .entry)))) ⌝ }
     ensures { λ _. ⌜ now (env .exit) ≡ now (env .entry) ⌝ }
 {
     let n = plan.columns;
     let listed = plan.listed;
     if listed {
-        return listed_cells(list, n, vs, memo, env, row);
+        return listed_cells(list, n, values, memo, env, row);
     }
     let t = plan.targets;
     let x = kinds::tail(q, t);
@@ -253,153 +265,120 @@ fn cells(
         level: plan.level,
         at: 0,
     };
-    targets(x, y, ahead, walks, vs, memo, env, row)
+    targets(x, y, ahead, walks, values, memo, env, row)
 }
 
 // The row of one assignment, if each of its targets has a value.
 fn write(
-    list: &[u16],
     q: &[u8],
     z: &[u16],
+    work: &mut [u16],
     plan: Plan,
     walks: &[u16],
-    vs: &[i32],
+    values: &[i32],
     memo: &[i64],
     env: &mut [usize],
     answer: &mut [i64],
-    table: &mut [u16],
-    state: Filled,
 ) -> Filled
-    requires { ⌜ (256 ≤ length (now env)) × (plan .columns ≤ 8) × Linked (plan .columns) (state .rows) (now answer) (now table)
-        × Listed (now list) plan (now q) (now z) (now memo) ⌝ }
+    requires { ⌜ (256 ≤ length (now env)) × Bounds plan (length (now work)) × Linked (plan .columns) (plan .rows) (now answer) (tableIn plan (now work))
+        × Listed (listIn plan (now work)) plan (now q) (now z) (now memo) ⌝ }
     ensures { λ r. ⌜ record { rows = r .rows; full = r .full; cells = now (answer .exit) }
-        ≡ addedRow (record { rows = state .rows; full = state .full; cells = now (answer .entry) })
-        (rowBy plan (now (q .entry)) (now (z .entry)) (now (walks .entry)) (now (vs .entry)) (now (memo .entry))
-        (assigned (now (vs .entry)) (now (env .entry)))) ⌝ }
+        ≡ addedRow (record { rows = plan .rows; full = plan .full; cells = now (answer .entry) })
+        (rowBy plan (now (q .entry)) (now (z .entry)) (now (walks .entry)) (now (values .entry)) (now (memo .entry))
+        (assigned (now (values .entry)) (now (env .entry)))) ⌝ }
     ensures { λ _. ⌜ now (env .exit) ≡ now (env .entry) ⌝ }
-    ensures { λ r. ⌜ Linked (plan .columns) (r .rows) (now (answer .exit)) (now (table .exit)) ⌝ }
+    ensures { λ r. ⌜ Linked (plan .columns) (r .rows) (now (answer .exit)) (tableIn plan (now (work .exit)))
+        × (frontOf plan (now (work .exit)) ≡ frontOf plan (now (work .entry))) ⌝ }
 {
     let n = plan.columns;
+    let front = plan.front;
+    let behind = front + LIST;
+    let state = Filled {
+        rows: plan.rows,
+        full: plan.full,
+    };
     let mut row = [0i64; model::TARGETS];
-    if !cells(list, q, z, plan, walks, vs, memo, env, &mut row) {
+    let list = &work[front..behind];
+    if !cells(list, q, z, plan, walks, values, memo, env, &mut row) {
         return state;
     }
-    rows::add_row(answer, table, state, &row[..n])
-}
-
-// The plan with one range more bound.
-fn deeper(plan: Plan) -> Plan
-    requires { ⌜ Bounds plan × (1 ≤ plan .left) ⌝ }
-    ensures { λ r. ⌜ r ≡ record {
-      targets = plan .targets;
-      columns = plan .columns;
-      level = plan .level;
-      listed = plan .listed;
-      left = plan .left -
-          1;
-      depth = plan .depth + 1;
-    } ⌝ }
-    ensures { λ r. ⌜ Bounds r ⌝ }
-{
-    Plan {
-        targets: plan.targets,
-        columns: plan.columns,
-        level: plan.level,
-        listed: plan.listed,
-        left: plan.left - 1,
-        depth: plan.depth + 1,
-    }
+    rows::add_row(answer, &mut work[behind..], state, &row[..n])
 }
 
 // The variable of the first RANGE record that is left on each row that its cursor stops at; once the answer is full nothing can change.
 fn each_row(
-    list: &[u16],
     q: &[u8],
     z: &[u16],
-    t: &[u16],
-    xs: &[i32],
+    work: &mut [u16],
     plan: Plan,
     walks: &[u16],
-    chains: &[u16],
-    vs: &[i32],
+    values: &[i32],
     memo: &[i64],
     env: &mut [usize],
     answer: &mut [i64],
-    table: &mut [u16],
-    state: Filled,
 ) -> Filled
-    requires { ⌜ (256 ≤ length (now env)) × Bounds plan × Linked (plan .columns) (state .rows) (now answer) (now table)
-        × Faithful (now t) (now walks) (now vs) (now chains) × Listed (now list) plan (now q) (now z) (now memo) × (1 ≤ plan .left) ⌝ }
+    requires { ⌜ (256 ≤ length (now env)) × Bounds plan (length (now work)) × Linked (plan .columns) (plan .rows) (now answer) (tableIn plan (now work))
+        × Faithful (codeIn (now work)) (now walks) (now values) (chainsIn plan (now work)) × Listed (listIn plan (now work)) plan (now q) (now z) (now memo)
+        × (1 ≤ plan .left) ⌝ }
     ensures { λ r. ⌜ record { rows = r .rows; full = r .full; cells = now (answer .exit) }
-        ≡ addedAll (record { rows = state .rows; full = state .full; cells = now (answer .entry) })
-        (rowsBelow plan (now (t .entry)) (now (xs .entry)) (now (q .entry)) (now (z .entry)) (now (walks .entry)) (now (vs .entry))
-        (now (memo .entry)) (assigned (now (vs .entry)) (now (env .entry)))) ⌝ }
+        ≡ addedAll (record { rows = plan .rows; full = plan .full; cells = now (answer .entry) })
+        (rowsBelow plan (codeIn (now (work .entry))) (now (q .entry)) (now (z .entry)) (now (walks .entry)) (now (values .entry))
+        (now (memo .entry)) (assigned (now (values .entry)) (now (env .entry)))) ⌝ }
     ensures { λ _. ⌜ now (env .exit) ≡ now (env .entry) ⌝ }
-    ensures { λ r. ⌜ Linked (plan .columns) (r .rows) (now (answer .exit)) (now (table .exit)) ⌝ }
+    ensures { λ r. ⌜ Linked (plan .columns) (r .rows) (now (answer .exit)) (tableIn plan (now (work .exit)))
+        × (frontOf plan (now (work .exit)) ≡ frontOf plan (now (work .entry))) ⌝ }
 {
     let d = plan.depth;
+    let front = plan.front;
     let variable = kinds::byte(q, 3 * d + 1);
+    let all = &work[..];
+    let t = &all[..BRANCHES];
+    let chains = &all[BRANCHES..front];
     let start = kinds::size_at(t, 2 * d + 2);
     let second = kinds::size_at(t, 2 * d + 3);
-    let cursor = decide::seeks::prepare(t, xs, start, variable, chains, vs, memo, env);
+    let cursor = decide::seeks::prepare(t, start, variable, chains, values, memo, env);
     let next = cursor.next;
-    let inner = deeper(plan);
+    let mut inner = plan;
+    inner.left = plan.left - 1;
+    inner.depth = plan.depth + 1;
     let left = inner.left;
     let walk = walks::walk_of(walks, variable);
     let n = walk.count;
     let old = env[variable as usize];
-    let mut filled = state;
     let mut i = 0;
     loop {
-        let j = decide::seeks::next_row(cursor, vs, walks, walk, chains, i);
+        let all = &work[..];
+        let chains = &all[BRANCHES..front];
+        let j = decide::seeks::next_row(cursor, values, walks, walk, chains, i);
         if n <= j {
             env[variable as usize] = old;
-            return filled;
+            return Filled {
+                rows: inner.rows,
+                full: inner.full,
+            };
         }
         i = j + 1;
-        let full = filled.full;
+        let full = inner.full;
         if full {
             continue;
         }
         env[variable as usize] = walks::place(walks, walk, j);
-        if !decide::leads(t, xs, next, q, z, walks, chains, vs, memo, env) {
+        let t = &all[..BRANCHES];
+        if !decide::leads(t, next, q, z, walks, chains, values, memo, env) {
             continue;
         }
-        if !decide::leads(t, xs, second, q, z, walks, chains, vs, memo, env) {
+        if !decide::leads(t, second, q, z, walks, chains, values, memo, env) {
             continue;
         }
         if left == 0 {
-            filled = write(
-                list,
-                q,
-                z,
-                inner,
-                walks,
-                vs,
-                memo,
-                env,
-                answer,
-                table,
-                filled,
-            );
+            let filled = write(q, z, work, inner, walks, values, memo, env, answer);
+            inner.rows = filled.rows;
+            inner.full = filled.full;
             continue;
         }
-        filled = each_row(
-            list,
-            q,
-            z,
-            t,
-            xs,
-            inner,
-            walks,
-            chains,
-            vs,
-            memo,
-            env,
-            answer,
-            table,
-            filled,
-        );
+        let filled = each_row(q, z, work, inner, walks, values, memo, env, answer);
+        inner.rows = filled.rows;
+        inner.full = filled.full;
     }
 }
 
@@ -409,15 +388,15 @@ fn only(
     z: &[u16],
     plan: Plan,
     walks: &[u16],
-    vs: &[i32],
+    values: &[i32],
     memo: &[i64],
     env: &mut [usize],
     answer: &mut [i64],
 ) -> Filled
     requires { ⌜ (256 ≤ length (now env)) × (plan .columns ≤ 8) ⌝ }
     ensures { λ r. ⌜ record { rows = r .rows; full = r .full; cells = now (answer .exit) }
-        ≡ addedRow (start (now (answer .entry))) (rowBy plan (now (q .entry)) (now (z .entry)) (now (walks .entry)) (now (vs .entry))
-        (now (memo .entry)) (assigned (now (vs .entry)) (now (env .entry)))) ⌝ }
+        ≡ addedRow (start (now (answer .entry))) (rowBy plan (now (q .entry)) (now (z .entry)) (now (walks .entry)) (now (values .entry))
+        (now (memo .entry)) (assigned (now (values .entry)) (now (env .entry)))) ⌝ }
     ensures { λ _. ⌜ now (env .exit) ≡ now (env .entry) ⌝ }
 {
     let n = plan.columns;
@@ -430,7 +409,7 @@ fn only(
         level: plan.level,
         at: 0,
     };
-    if !targets(x, y, ahead, walks, vs, memo, env, &mut row) {
+    if !targets(x, y, ahead, walks, values, memo, env, &mut row) {
         return none();
     }
     rows::only_row(answer, &row[..n])
@@ -446,84 +425,56 @@ fn none() -> Filled
     }
 }
 
-// The plan, and whether its targets are listed.
-fn with_list(plan: Plan, listed: bool) -> Plan
-    requires { ⌜ Bounds plan ⌝ }
-    ensures { λ r. ⌜ r ≡ record {
-      targets = plan .targets;
-      columns = plan .columns;
-      level = plan .level;
-      listed = listed;
-      left = plan .left;
-      depth =
-          plan .depth;
-    } ⌝ }
-    ensures { λ r. ⌜ Bounds r ⌝ }
-{
-    Plan {
-        targets: plan.targets,
-        columns: plan.columns,
-        level: plan.level,
-        listed,
-        left: plan.left,
-        depth: plan.depth,
-    }
-}
-
 // All assignments of the RANGE records. The targets are listed once it is known that there may be a row.
 pub fn run(
     q: &[u8],
     z: &[u16],
-    t: &[u16],
-    xs: &[i32],
+    work: &mut [u16],
     plan: Plan,
     walks: &[u16],
-    chains: &[u16],
-    vs: &[i32],
+    values: &[i32],
     memo: &[i64],
     env: &mut [usize],
     answer: &mut [i64],
-    table: &mut [u16],
 ) -> Filled
-    requires { ⌜ (256 ≤ length (now env)) × Bounds plan × Linked (plan .columns) 0 (now answer) (now table)
-        × Faithful (now t) (now walks) (now vs) (now chains) ⌝ }
+    requires { ⌜ (256 ≤ length (now env)) × Bounds plan (length (now work)) × Linked (plan .columns) 0 (now answer) (tableIn plan (now work))
+        × Faithful (codeIn (now work)) (now walks) (now values) (chainsIn plan (now work)) ⌝ }
     ensures { λ r. ⌜ record { rows = r .rows; full = r .full; cells = now (answer .exit) }
-        ≡ addedAll (start (now (answer .entry))) (rowsFrom plan (now (t .entry)) (now (xs .entry)) (now (q .entry)) (now (z .entry))
-        (now (walks .entry)) (now (vs .entry)) (now (memo .entry)) (assigned (now (vs .entry)) (now (env .entry)))) ⌝ }
+        ≡ addedAll (start (now (answer .entry))) (rowsFrom plan (codeIn (now (work .entry))) (now (q .entry)) (now (z .entry))
+        (now (walks .entry)) (now (values .entry)) (now (memo .entry)) (assigned (now (values .entry)) (now (env .entry)))) ⌝ }
 {
     let d = plan.depth;
+    let front = plan.front;
+    let all = &work[..];
+    let t = &all[..BRANCHES];
+    let chains = &all[BRANCHES..front];
     let first = kinds::size_at(t, 2 * d);
-    if !decide::leads(t, xs, first, q, z, walks, chains, vs, memo, env) {
+    if !decide::leads(t, first, q, z, walks, chains, values, memo, env) {
         return none();
     }
     let second = kinds::size_at(t, 2 * d + 1);
-    if !decide::leads(t, xs, second, q, z, walks, chains, vs, memo, env) {
+    if !decide::leads(t, second, q, z, walks, chains, values, memo, env) {
         return none();
     }
     let left = plan.left;
     if left == 0 {
-        return only(q, z, plan, walks, vs, memo, env, answer);
+        return only(q, z, plan, walks, values, memo, env, answer);
     }
-    let mut list = [0u16; 2 * model::TARGETS];
+    let behind = front + LIST;
     let x = kinds::tail(q, plan.targets);
     let y = kinds::tail_sizes(z, plan.targets);
-    let listed = list_targets(x, y, plan.columns, plan.level, memo, &mut list, 0);
-    let all = with_list(plan, listed);
-    let state = none();
-    each_row(
-        &list,
-        q,
-        z,
-        t,
-        xs,
-        all,
-        walks,
-        chains,
-        vs,
+    let listed = list_targets(
+        x,
+        y,
+        plan.columns,
+        plan.level,
         memo,
-        env,
-        answer,
-        table,
-        state,
-    )
+        &mut work[front..behind],
+        0,
+    );
+    let mut ready = plan;
+    ready.listed = listed;
+    ready.rows = 0;
+    ready.full = false;
+    each_row(q, z, work, ready, walks, values, memo, env, answer)
 }

@@ -23,15 +23,11 @@ use Rattle.model.proofs.Reading.{read-encode}
 use Rattle.model.proofs.ReadingQueries.{read-permits}
 use Rattle.model.proofs.Sizes.{size, size-encode}
 use Rattle.kinds.specs.Tables.{recordLength, ofKind}
-use Rattle.kinds.specs.Record.{recordAt}
-use Rattle.kinds.specs.declared.Record.{Record}
-use Rattle.kinds.specs.declared.Record.the-variants as R
-use Rattle.kinds.proofs.Record.{enum}
-use Rattle.kinds.proofs.Records.{whole-record}
-use Rattle.grammar.proofs.Listed.{permit-head}
-use denote.Enum.Declared.{tagOf, declared}
-use types.Run.{OneOf, miss}
-use Rattle.model.specs.Kinds.{kindOf, find, k-permit}
+use Rattle.kinds.specs.Places.{permitAt}
+use Rattle.kinds.specs.declared.PermitRecord.{PermitRecord}
+use Rattle.kinds.specs.declared.PermitRecord.the-variants as P
+use Rattle.kinds.proofs.Heads.{Opened, permit-bytes, permit-at}
+use Rattle.model.specs.Kinds.{kindOf, find}
 use Rattle.catalogue.specs.Layout.{countOf, storedOf, attributesOf}
 use Rattle.catalogue.proofs.Reading.{shape-count}
 use Rattle.scans.specs.Flat.{flatBindings, storedIn}
@@ -43,7 +39,6 @@ use Rattle.conditions.specs.declared.Reading.{Reading}
 use Rattle.conditions.specs.declared.Reading.the-variants as A
 use Rattle.conditions.specs.Answers.{conditionReading}
 use Rattle.conditions.proofs.Found.{Found, found, unread, the-condition, same-read}
-use Rattle.permits.specs.Entries.{maskOf}
 use Rattle.permits.specs.Masks.{maskIn}
 use Rattle.permits.specs.declared.Grant.{Grant}
 use Rattle.permits.specs.declared.Grant.the-variants as G
@@ -83,32 +78,18 @@ four : recordLength 64 ≡ 4
 unfolding recordLength ofKind kindOf find
 four = refl
 
--- no permit starts at p
-abbrev Others : List ℕ
-Others = 0 ∷ 1 ∷ 2 ∷ 3 ∷ 4 ∷ 5 ∷ 6 ∷ 7 ∷ 8 ∷ 9 ∷ 10 ∷ 12 ∷ 13 ∷ []
+-- no permit starts at p, or one does
+pub no-permit : (sh : Shape) (list x : List ℕ) (p : ℕ) (k : PermitRecord) → x ≡ drop p list → k ≡ permitAt x → k ≡ P.Other → Granted G.Refused sh list p
+unfolding encodePermit
+no-permit sh list x p k ex ek h g r e w f =
+    let i : P.Permit (g .relation) (mask g) ≡ P.Other = sym (ap permitAt (ex ∙ e) ∙ permit-at (g .relation) (g .low) (g .high) (encode (g .condition) r)) ∙ sym ek ∙ h in
+    absurd (let z : _≡_ {A = ℕ} 0 1 = cc in omega arith)
 
-pub no-permit : (sh : Shape) (list x : List ℕ) (p : ℕ) (k : Record) → x ≡ drop p list → k ≡ recordAt x → OneOf Others (tagOf (declared enum) k) → Granted G.Refused sh list p
-unfolding encodePermit kindOf find
-no-permit sh list x p k ex ek o g r e w f = absurd (miss Others 11 tt (subst (λ v. OneOf Others (tagOf (declared enum) v)) (ek ∙ ap recordAt (ex ∙ e) ∙ whole-record 64 (g .relation ∷ g .low ∷ g .high ∷ encode (g .condition) r) k-permit refl (omega arith)) o))
-
--- the bytes that a permit's record was read from
-permit-bytes : (q : List ℕ) (x l h : ℕ) → recordAt q ≡ R.Permit x l h → q ≡ 64 ∷ x ∷ l ∷ h ∷ drop 4 q
-unfolding kindOf find
-permit-bytes [] x l h e = absurd (omega (arith, permit-head [] x l h e .1))
-permit-bytes (k ∷ []) x l h e = absurd (omega (arith, permit-head (k ∷ []) x l h e .1))
-permit-bytes (k ∷ a ∷ []) x l h e = absurd (omega (arith, permit-head (k ∷ a ∷ []) x l h e .1))
-permit-bytes (k ∷ a ∷ b ∷ []) x l h e = absurd (omega (arith, permit-head (k ∷ a ∷ b ∷ []) x l h e .1))
-permit-bytes (k ∷ a ∷ b ∷ c ∷ r) x l h e =
-    let g : k ≡ 64 = permit-head (k ∷ a ∷ b ∷ c ∷ r) x l h e .0 in
-    let i : R.Permit a b c ≡ R.Permit x l h = sym (ap (λ j. recordAt (j ∷ a ∷ b ∷ c ∷ r)) g ∙ whole-record 64 (a ∷ b ∷ c ∷ r) k-permit refl (omega arith)) ∙ e in
-    let first : a ≡ x = cc in let second : b ≡ l = cc in let third : c ≡ h = cc in
-    rw (g, first, second, third)
-
-pub begins : (list x : List ℕ) (p : ℕ) → x ≡ drop p list → (k : Record) → k ≡ recordAt x → (r lo hi : ℕ) → k ≡ R.Permit r lo hi → drop p list ≡ 64 ∷ r ∷ lo ∷ hi ∷ drop 4 (drop p list)
-begins list x p ex k ek r lo hi e = permit-bytes (drop p list) r lo hi (sym (ap recordAt ex) ∙ sym ek ∙ e)
+pub begins : (list x : List ℕ) (p : ℕ) → x ≡ drop p list → (k : PermitRecord) → k ≡ permitAt x → (r m : ℕ) → k ≡ P.Permit r m → Opened (drop p list) r m
+begins list x p ex k ek r m e = permit-bytes (drop p list) r m (sym (ap permitAt ex) ∙ sym ek ∙ e)
 
 -- a permit's head at p, and what was read after it
-module _ (cb list : List ℕ) (h10 : fails10 cb ≡ false) (p : ℕ) (inside : p ≤ length list) (r lo hi : ℕ) (starts : drop p list ≡ 64 ∷ r ∷ lo ∷ hi ∷ drop 4 (drop p list)) (k : ℕ) (ek : k ≡ recordLength 64)
+module _ (cb list : List ℕ) (h10 : fails10 cb ≡ false) (p : ℕ) (inside : p ≤ length list) (r m : ℕ) (head : Opened (drop p list) r m) (k : ℕ) (ek : k ≡ recordLength 64)
     (x y : List ℕ) (ex : x ≡ drop p list) (ey : y ≡ drop k x) (t : Reading) (et : t ≡ conditionReading (shapeIn cb) 4 16 (permitScope r) y) where
   abbrev sh : Shape
   sh = shapeOf (catalogueOf cb)
@@ -159,24 +140,23 @@ module _ (cb list : List ℕ) (h10 : fails10 cb ≡ false) (p : ℕ) (inside : p
           ap (λ j. drop j list) i ∙ sym (drop-drop n (p + 4) list) ∙ ap (drop n) (sym (drop-drop 4 p list) ∙ sym y-is) ∙ ap (λ j. drop j y) (sym (zero-add n)) ∙ a .after
 
       pub permit-room : p + (k + n) ≤ length list
-      permit-room = omega (arith, ek ∙ four, a .sized, ap length (a .bytes), size-encode c (a .rest), ap length y-is, length-drop 4 (drop p list), length-drop p list, ap length starts)
+      permit-room = omega (arith, ek ∙ four, a .sized, ap length (a .bytes), size-encode c (a .rest), ap length y-is, length-drop 4 (drop p list), length-drop p list, ap length (head .bytes))
 
       abbrev g : Permit
-      g = record { relation = r; low = lo; high = hi; condition = c }
+      g = record { relation = r; low = head .low; high = head .high; condition = c }
 
-      module _ (few : d ≤ 3) (short : n ≤ 256 - k) (o : Bool) (eo : o ≡ (storedOf cb r && all (storedIn cb) (flatBindings u))) (m : ℕ) (em : m ≡ maskOf x) (v : Bool) (ev : v ≡ (ltb r (countOf cb) && maskIn (attributesOf cb r) m)) where
+      module _ (few : d ≤ 3) (short : n ≤ 256 - k) (o : Bool) (eo : o ≡ (storedOf cb r && all (storedIn cb) (flatBindings u))) (v : Bool) (ev : v ≡ (ltb r (countOf cb) && maskIn (attributesOf cb r) m)) where
         reads : (i : Bool) → i ≡ (v && (b && unique (0 ∷ variables (flatBindings u)))) → PermitRead sh list p (k + n) i o
-        unfolding encodePermit permitFits permitKnown maskOf
+        unfolding encodePermit permitFits permitKnown
         reads i ei =
-            let s : x ≡ 64 ∷ r ∷ lo ∷ hi ∷ drop 4 (drop p list) = ex ∙ starts in
-            let me : maskIn (attributesOf cb r) m ≡ maskIn (attributesOf cb r) (mask g) = ap (maskIn (attributesOf cb r)) (em ∙ ap maskOf s) in
+            let me : maskIn (attributesOf cb r) m ≡ maskIn (attributesOf cb r) (mask g) = ap (maskIn (attributesOf cb r)) (head .mask) in
             let long = le-leb (length (encodePermit g [])) 256 (omega (arith, size-encode c [], a .sized, short, ek ∙ four)) in
             let deep = le-leb (levels c) 16 (a .deep) in
             let binds = le-leb (length (bindings c)) 3 (omega (arith, few, ed, ap length bound)) in
             let sc : inScope sh 4 c (permitScope r) ≡ b = ap (λ (v : Shape). inScope v 4 c (permitScope r)) (sym (shape-is cb h10)) ∙ a .scope in
             record {
               permit = g;
-              bytes = starts ∙ ap (λ v. 64 ∷ r ∷ lo ∷ hi ∷ v) (sym y-is ∙ a .bytes ∙ ap (encode c) (sym follows));
+              bytes = head .bytes ∙ ap (λ v. 64 ∷ r ∷ head .low ∷ head .high ∷ v) (sym y-is ∙ a .bytes ∙ ap (encode c) (sym follows));
               inside = permit-room;
               well = a .well;
               fits = rw (long, deep, binds);

@@ -1,15 +1,29 @@
--- One turn of a loop over the attributes.
+-- One turn of a loop over the attributes, and the bit of an attribute in a mask.
 use mathlib.Core.Path.{_≡_, refl, sym, ap, _∙_}
 use mathlib.Core.Bool.{Bool, true, false, not, _&&_}
 use mathlib.Core.List.{[], _∷_}
-use Prim.Native.Nat.{ℕ, zero, suc, _+_, _<_}
+use Prim.Native.Nat.{ℕ, zero, suc, _+_, _/_, _^_, _<_}
 use native.Mathlib.Numerals.{add-one}
 use native.Mathlib.Omega.{arith}
-use borrow.Author.Tests.{not-true, not-false, eqb-true, eqb-false}
+use borrow.Author.Tests.{not-true, not-false, eqb-true, eqb-false, eq-eqb, ne-eqb}
+use lib.Bits.{bitAnd, and-mask}
 use lib.Dec.{eqb}
 use Rattle.model.specs.Lists.{all, below}
+use Rattle.model.specs.Permits.{bit}
 use Rattle.model.proofs.Tests.{and-true}
 use Rattle.scans.proofs.Lists.{all-join}
+
+-- the bit of an attribute, as the code tests it
+module _ (m a : ℕ) where
+  pub bit-is : eqb (bitAnd (m / 2 ^ a) 1) 1 ≡ bit m a
+  unfolding bit
+  bit-is = ap (λ (k : ℕ). eqb k 1) (and-mask (m / 2 ^ a) 1)
+
+  pub bit-set : bitAnd (m / 2 ^ a) 1 ≡ 1 → true ≡ bit m a
+  bit-set h = sym (eq-eqb (bitAnd (m / 2 ^ a) 1) 1 h) ∙ bit-is
+
+  pub bit-clear : (bitAnd (m / 2 ^ a) 1 ≡ 1 → ⊥) → false ≡ bit m a
+  bit-clear h = sym (ne-eqb (bitAnd (m / 2 ^ a) 1) 1 h) ∙ bit-is
 
 and-false : (b : Bool) → (b && false) ≡ false
 and-false true = refl

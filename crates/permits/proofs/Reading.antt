@@ -17,12 +17,15 @@ use Rattle.model.proofs.Tests.{clash, or-no}
 use Rattle.model.proofs.Sizes.{size, sizeT, size-encode, drop-encode}
 use Rattle.model.proofs.ReadingQueries.{permits-inverse}
 use Rattle.kinds.specs.Tables.{ofKind, recordLength}
-use Rattle.permits.specs.Entries.{spanAfter, spanOf, Entry, conditionOf, sizeOf, maskOf, entryAt, entries}
+use Rattle.kinds.specs.declared.PermitRecord.{PermitRecord}
+use Rattle.kinds.specs.declared.PermitRecord.the-variants as P
+use Rattle.kinds.proofs.Heads.{permit-at}
+use Rattle.permits.specs.Entries.{spanAfter, spanOf, Entry, conditionOf, sizeOf, entryAt, entries}
 use Rattle.permits.proofs.Walk.{span-cons, entries-cons, entries-none}
 
 -- a permit by its bytes
 abbrev pub entryOf : Permit → Entry
-entryOf p = record { relation = p .relation; mask = mask p; condition = encode (p .condition) [] }
+entryOf p = record { head = P.Permit (p .relation) (mask p); condition = encode (p .condition) [] }
 
 lead : (b n : ℕ) (s : List ℕ) → eqb b 64 ≡ false → recordLength b ≡ suc n → spanOf (b ∷ s) ≡ suc n + spanOf (drop n s)
 lead b n s h e = span-cons b s h ∙ ap (λ (m : ℕ). m + spanOf (drop m (b ∷ s))) e
@@ -89,8 +92,9 @@ module _ (p : Permit) (r : List ℕ) (h : spanOf r ≡ 0) where
   first-size = ap (λ (n : ℕ). 4 + n) span-is
 
   pub first-entry : entryAt (encodePermit p r) ≡ entryOf p
-  unfolding encodePermit maskOf
-  first-entry = ap (λ (c : List ℕ). record { relation = p .relation; mask = mask p; condition = c }) first-condition
+  unfolding encodePermit
+  first-entry =
+      ap₂ (λ (h : PermitRecord) (c : List ℕ). record { head = h; condition = c }) (permit-at (p .relation) (p .low) (p .high) (encode (p .condition) r)) first-condition
 
   pub first-rest : drop (sizeOf (encodePermit p r)) (encodePermit p r) ≡ r
   unfolding encodePermit

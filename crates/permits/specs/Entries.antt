@@ -1,11 +1,13 @@
 -- The permits of a list by their bytes, for any bytes: a permit goes up to the next record of its kind (document 01, "Permits and the rewriting").
 -- For a list that passes check 20 these are the model's permits (proofs/Reading).
-use Prim.Native.Nat.{ℕ, zero, suc, _+_, _*_, _-_}
+use Prim.Native.Nat.{ℕ, zero, suc, _+_, _-_}
 use mathlib.Core.Bool.{cond}
 use mathlib.Core.List.{List, [], _∷_}
 use lib.Dec.{eqb}
-use lib.ListN.{getD, take, drop}
+use lib.ListN.{take, drop}
 use Rattle.kinds.specs.Tables.{recordLength}
+use Rattle.kinds.specs.Places.{permitAt}
+use Rattle.kinds.specs.declared.PermitRecord.{PermitRecord}
 
 -- the bytes before the next permit, after so many that belong to the record before
 unfoldable pub spanAfter : ℕ → List ℕ → ℕ
@@ -17,8 +19,7 @@ unfoldable pub spanOf : List ℕ → ℕ
 spanOf q = spanAfter 0 q
 
 pub record Entry : Type 0 where
-  pub relation : ℕ
-  pub mask : ℕ
+  pub head : PermitRecord
   pub condition : List ℕ
 
 -- of the permit that bytes start with: its condition, its length, and the whole
@@ -28,11 +29,8 @@ conditionOf x = take (spanOf (drop 4 x)) (drop 4 x)
 unfoldable pub sizeOf : List ℕ → ℕ
 sizeOf x = 4 + spanOf (drop 4 x)
 
-unfoldable pub maskOf : List ℕ → ℕ
-maskOf x = getD x 2 0 + 256 * getD x 3 0
-
 abbrev pub entryAt : List ℕ → Entry
-entryAt x = record { relation = getD x 1 0; mask = maskOf x; condition = conditionOf x }
+entryAt x = record { head = permitAt x; condition = conditionOf x }
 
 -- the permits, after so many bytes that belong to the one before
 unfoldable pub entriesAfter : ℕ → List ℕ → List Entry

@@ -1,6 +1,7 @@
 // The permit list: its checks 20 to 23, from one reading.
 use conditions::Reading;
-use kinds::Record;
+use grammar::Input;
+use kinds::PermitRecord;
 use scans::Bound;
 ghost use mathlib.Core.Path.{_≡_};
 ghost use mathlib.Core.Bool.{false, cond, not, _&&_, _||_};
@@ -16,7 +17,6 @@ ghost use Rattle.catalogue.specs.Layout.{countOf, storedOf, attributesOf};
 ghost use Rattle.scans.specs.Flat.{flatBindings, storedIn, boundBy};
 ghost use Rattle.conditions.specs.Reach.{shapeIn, permitScope};
 ghost use Rattle.conditions.specs.Answers.{conditionReading};
-ghost use Rattle.permits.specs.Entries.{maskOf};
 ghost use Rattle.permits.specs.Masks as Lim;
 ghost use Rattle.permits.specs.Granted.{Granted, Listed};
 
@@ -26,39 +26,18 @@ const LEVELS: usize = model::PERMIT_LEVELS;
 
 const VARIABLES: u8 = model::PERMIT_VARIABLES;
 
-pub fn part(q: &[u8], n: usize) -> &[u8]
+fn part(q: &[u8], n: usize) -> &[u8]
     ensures { λ r. ⌜ now r ≡ take n (now (q .entry)) ⌝ }
 {
     if n <= q.len() { &q[..n] } else { q }
 }
 
-fn wide(x: u8) -> u16
-    ensures { λ r. ⌜ r ≡ x ⌝ }
-    ensures { λ r. ⌜ r ≤ 255 ⌝ }
-{
-    x as u16
-}
-
-// The mask of the permit that a list starts with, low byte first.
-fn mask(list: &[u8]) -> u16
-    ensures { λ r. ⌜ r ≡ maskOf (now (list .entry)) ⌝ }
-{
-    wide(kinds::byte(list, 2)) + 256 * wide(kinds::byte(list, 3))
-}
-
-// Whether a mask has the bit of an attribute.
-fn has(mask: u16, attribute: u16) -> bool
-    requires { ⌜ attribute < 16 ⌝ }
-    ensures { λ r. ⌜ r ≡ bit mask attribute ⌝ }
-{
-    (mask >> attribute) & 1 == 1
-}
-
+// Whether an attribute is one that a relation of so many has, where the mask has its bit.
 fn has_if_known(mask: u16, attribute: u16, attributes: usize) -> bool
     requires { ⌜ attribute < 16 ⌝ }
     ensures { λ r. ⌜ r ≡ (not (bit mask attribute) || ltb attribute attributes) ⌝ }
 {
-    if has(mask, attribute) {
+    if (mask >> attribute) & 1 == 1 {
         (attribute as usize) < attributes
     } else {
         true
@@ -166,12 +145,12 @@ fn condition(bytes: &[u8], z: &mut [u16], catalogue: &[u8], relation: u8) -> Rea
 }
 
 // The permit at a place.
-fn permit(list: &[u8], at: usize, catalogue: &[u8], z: &mut [u16]) -> Grant
-    requires { ⌜ (fails10 (now catalogue) ≡ false) × (at ≤ length (now list)) ⌝ }
-    ensures { λ r. ⌜ Granted r (shapeOf (catalogueOf (now (catalogue .entry)))) (now (list .entry)) at ⌝ }
+fn permit(permits: &[u8], at: usize, catalogue: &[u8], z: &mut [u16]) -> Grant
+    requires { ⌜ (fails10 (now catalogue) ≡ false) × (at ≤ length (now permits)) ⌝ }
+    ensures { λ r. ⌜ Granted r (shapeOf (catalogueOf (now (catalogue .entry)))) (now (permits .entry)) at ⌝ }
 {
-    let here = kinds::tail(list, at);
-    let Record::Permit(relation, _, _) = kinds::read(here) else {
+    let here = kinds::tail(permits, at);
+    let PermitRecord::Permit(relation, mask) = kinds::permit_record(here) else {
         return Grant::Refused;
     };
     let own = kinds::record_length(64);
@@ -188,7 +167,7 @@ fn permit(list: &[u8], at: usize, catalogue: &[u8], z: &mut [u16]) -> Grant
         return Grant::Refused;
     }
     let over = stored(catalogue, relation, c, bound.count);
-    if !named(catalogue, relation, mask(here)) {
+    if !named(catalogue, relation, mask) {
         return Grant::Whole(own + n, false, over);
     }
     if !inside {
@@ -198,20 +177,20 @@ fn permit(list: &[u8], at: usize, catalogue: &[u8], z: &mut [u16]) -> Grant
 }
 
 // The permits from a place on, at most so many.
-fn rest(list: &[u8], at: usize, left: usize, catalogue: &[u8], z: &mut [u16]) -> Listing
-    requires { ⌜ (fails10 (now catalogue) ≡ false) × (at ≤ length (now list)) ⌝ }
-    ensures { λ r. ⌜ Listed r (shapeOf (catalogueOf (now (catalogue .entry)))) (now (list .entry)) at left ⌝ }
+fn rest(permits: &[u8], at: usize, left: usize, catalogue: &[u8], z: &mut [u16]) -> Listing
+    requires { ⌜ (fails10 (now catalogue) ≡ false) × (at ≤ length (now permits)) ⌝ }
+    ensures { λ r. ⌜ Listed r (shapeOf (catalogueOf (now (catalogue .entry)))) (now (permits .entry)) at left ⌝ }
 {
-    if list.len() <= at {
+    if permits.len() <= at {
         return Listing::Whole(true, true);
     }
     if left == 0 {
         return Listing::Refused;
     }
-    let Grant::Whole(n, known, over) = permit(list, at, catalogue, z) else {
+    let Grant::Whole(n, known, over) = permit(permits, at, catalogue, z) else {
         return Listing::Refused;
     };
-    let Listing::Whole(others_known, others_over) = rest(list, at + n, left - 1, catalogue, z)
+    let Listing::Whole(others_known, others_over) = rest(permits, at + n, left - 1, catalogue, z)
     else {
         return Listing::Refused;
     };
@@ -225,10 +204,10 @@ fn both(a: bool, b: bool) -> bool
 }
 
 // The number of a list that was not read: 20 where it is not well formed at any depth, else 21.
-fn number(list: &[u8]) -> u8
-    ensures { λ r. ⌜ r ≡ cond (fails20 (now (list .entry))) 20 21 ⌝ }
+fn number(permits: &[u8]) -> u8
+    ensures { λ r. ⌜ r ≡ cond (fails20 (now (permits .entry))) 20 21 ⌝ }
 {
-    if grammar::permits_refused(list) {
+    if grammar::refused(permits, Input::Permits) {
         20
     } else {
         21
@@ -236,16 +215,16 @@ fn number(list: &[u8]) -> u8
 }
 
 // Checks 20 to 23 of a list, from one reading: the number of the first that fails, or 0.
-pub fn check(list: &[u8], catalogue: &[u8]) -> u8
+pub fn check(permits: &[u8], catalogue: &[u8]) -> u8
     requires { ⌜ fails10 (now catalogue) ≡ false ⌝ }
-    ensures { λ r. ⌜ r ≡ refusal (permitChecks (shapeOf (catalogueOf (now (catalogue .entry)))) (now (list .entry))) ⌝ }
+    ensures { λ r. ⌜ r ≡ refusal (permitChecks (shapeOf (catalogueOf (now (catalogue .entry)))) (now (permits .entry))) ⌝ }
 {
-    if model::LIST_BYTES < list.len() {
+    if model::LIST_BYTES < permits.len() {
         return 20;
     }
     let mut z = [0u16; BYTES];
-    let Listing::Whole(known, over) = rest(list, 0, model::PERMITS, catalogue, &mut z) else {
-        return number(list);
+    let Listing::Whole(known, over) = rest(permits, 0, model::PERMITS, catalogue, &mut z) else {
+        return number(permits);
     };
     if !known {
         return 22;

@@ -39,7 +39,7 @@ use Rattle.walks.specs.Assigned.{assigned}
 use Rattle.numbers.specs.Memo.{knows}
 use Rattle.aggregates.specs.Filled.{filledC}
 use Rattle.aggregates.proofs.Faithful.{Unknown, faithful-holds, filled-faithful}
-use Rattle.plain.proofs.Memo.{none-bound}
+use Rattle.walks.proofs.Assigned.{none-bound}
 use Rattle.permitted.specs.Meets.{noPlaces, ownMemo, meetsBytes}
 
 -- a memo with nothing in it

@@ -48,8 +48,8 @@ unfoldable pub judgedOn : ℕ → List ℕ → List ℕ → List ℕ → List �
 judgedOn l q z ws vs m x wanted i = turned wanted (holdsBy m (decode l q z) (rowsBy ws vs) (update (assigned vs (noPlaces vs)) 0 (tupleOf vs x i)))
 
 -- whether branch s of a table leads to 0 with variable 0 on row i and no other bound
-abbrev pub ranOn : List ℕ → List ℤ → ℕ → List ℕ → List ℕ → List ℕ → List ℤ → List ℤ → Walk → ℕ → Bool
-ranOn t xs s q z ws vs m x i = runs t xs q z ws vs m s (update (assigned vs (noPlaces vs)) 0 (tupleOf vs x i))
+abbrev pub ranOn : List ℕ → ℕ → List ℕ → List ℕ → List ℕ → List ℤ → List ℤ → Walk → ℕ → Bool
+ranOn t s q z ws vs m x i = runs t q z ws vs m s (update (assigned vs (noPlaces vs)) 0 (tupleOf vs x i))
 
 -- bytes that are one comparison of an attribute of variable 0 with a number
 pub record Short (q : List ℕ) : Type 0 where

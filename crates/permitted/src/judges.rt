@@ -335,29 +335,28 @@ struct Trial {
 // Marks the rows of a trial that do, row by row. A row that is marked is not tried.
 fn mark_rows(
     t: &[u16],
-    xs: &[i32],
     trial: Trial,
     q: &[u8],
     z: &[u16],
     walks: &[u16],
     chains: &[u16],
-    vs: &[i32],
+    values: &[i32],
     memo: &[i64],
     marks: &mut [u8],
 )
     requires { ⌜ (trial .start ≤ 65535) × Fits (trial .walk) × (trial .walk .count ≤ length (now marks)) × J.Bits (now marks)
-        × Faithful (now t) (now walks) (now vs) (now chains) ⌝ }
-    ensures { λ _. ⌜ J.Marked (J.ranOn (now (t .entry)) (now (xs .entry)) (trial .start) (now (q .entry)) (now (z .entry)) (now (walks .entry))
-        (now (vs .entry)) (now (memo .entry)) (trial .walk)) (trial .walk .count) (now (marks .entry)) (now (marks .exit)) ⌝ }
+        × Faithful (now t) (now walks) (now values) (now chains) ⌝ }
+    ensures { λ _. ⌜ J.Marked (J.ranOn (now (t .entry)) (trial .start) (now (q .entry)) (now (z .entry)) (now (walks .entry))
+        (now (values .entry)) (now (memo .entry)) (trial .walk)) (trial .walk .count) (now (marks .entry)) (now (marks .exit)) ⌝ }
 {
     let walk = trial.walk;
     let start = trial.start;
     let n = walk.count;
-    let mut env = [vs.len(); 256];
+    let mut env = [values.len(); 256];
     let mut i = unmarked(marks, n, 0);
     while i < n {
         env[0] = place_of(walk, i);
-        let met = decide::leads(t, xs, start, q, z, walks, chains, vs, memo, &mut env);
+        let met = decide::leads(t, start, q, z, walks, chains, values, memo, &mut env);
         marks[i] = joined(marks[i], met);
         i = unmarked(marks, n, i + 1);
     }
@@ -366,22 +365,21 @@ fn mark_rows(
 // The same where the table asks for rows of other variables: those are chained once for all rows of the walk, up to three of 1,024 rows.
 fn mark_linked(
     t: &[u16],
-    xs: &[i32],
     trial: Trial,
     q: &[u8],
     z: &[u16],
     walks: &[u16],
-    vs: &[i32],
+    values: &[i32],
     memo: &[i64],
     marks: &mut [u8],
 )
     requires { ⌜ (trial .start ≤ 65535) × Fits (trial .walk) × (trial .walk .count ≤ length (now marks)) × J.Bits (now marks) ⌝ }
-    ensures { λ _. ⌜ J.Marked (J.ranOn (now (t .entry)) (now (xs .entry)) (trial .start) (now (q .entry)) (now (z .entry)) (now (walks .entry))
-        (now (vs .entry)) (now (memo .entry)) (trial .walk)) (trial .walk .count) (now (marks .entry)) (now (marks .exit)) ⌝ }
+    ensures { λ _. ⌜ J.Marked (J.ranOn (now (t .entry)) (trial .start) (now (q .entry)) (now (z .entry)) (now (walks .entry))
+        (now (values .entry)) (now (memo .entry)) (trial .walk)) (trial .walk .count) (now (marks .entry)) (now (marks .exit)) ⌝ }
 {
     let mut chains = [0u16; 6220];
-    decide::seeks::link(q, 0, t, walks, vs, &mut chains);
-    mark_rows(t, xs, trial, q, z, walks, &chains, vs, memo, marks);
+    decide::seeks::link(q, 0, t, walks, values, &mut chains);
+    mark_rows(t, trial, q, z, walks, &chains, values, memo, marks);
 }
 
 // The end that a condition leads to where it is as wanted.
@@ -398,29 +396,28 @@ fn judge_each(
     level: usize,
     walks: &[u16],
     walk: Walk,
-    vs: &[i32],
+    values: &[i32],
     memo: &[i64],
     wanted: bool,
     marks: &mut [u8],
 )
     requires { ⌜ (level ≤ 65535) × Fits walk × (walk .count ≤ length (now marks)) × J.Bits (now marks) ⌝ }
-    ensures { λ _. ⌜ J.Marked (J.judgedOn level (now (q .entry)) (now (z .entry)) (now (walks .entry)) (now (vs .entry)) (now (memo .entry)) walk
+    ensures { λ _. ⌜ J.Marked (J.judgedOn level (now (q .entry)) (now (z .entry)) (now (walks .entry)) (now (values .entry)) (now (memo .entry)) walk
         wanted) (walk .count) (now (marks .entry)) (now (marks .exit)) ⌝ }
 {
-    let mut t = [0u16; 512];
-    let mut xs = [0i32; 128];
+    let mut t = [0u16; 768];
     let met = end_of(wanted);
     let unmet = end_of(!wanted);
     let room = Room { next: 2, end: 64 };
     let ways = Ways { met, unmet };
-    let start = branches::compile(q, z, 0, level, memo, &mut t, &mut xs, room, ways);
+    let start = branches::compile(q, z, 0, level, memo, &mut t, room, ways);
     let trial = Trial { walk, start };
     if kinds::byte(q, 0) == 22 {
-        mark_linked(&t, &xs, trial, q, z, walks, vs, memo, marks);
+        mark_linked(&t, trial, q, z, walks, values, memo, marks);
         return;
     }
     let chains = [0u16; 1];
-    mark_rows(&t, &xs, trial, q, z, walks, &chains, vs, memo, marks);
+    mark_rows(&t, trial, q, z, walks, &chains, values, memo, marks);
 }
 
 // What is no AND, OR or NOT: a comparison with something known in one loop, else row by row.
@@ -430,19 +427,19 @@ fn judge_leaf(
     level: usize,
     walks: &[u16],
     walk: Walk,
-    vs: &[i32],
+    values: &[i32],
     memo: &[i64],
     wanted: bool,
     marks: &mut [u8],
 )
     requires { ⌜ (level ≤ 65535) × Fits walk × (walk .count ≤ length (now marks)) × J.Bits (now marks) ⌝ }
-    ensures { λ _. ⌜ J.Marked (J.judgedOn level (now (q .entry)) (now (z .entry)) (now (walks .entry)) (now (vs .entry)) (now (memo .entry)) walk
+    ensures { λ _. ⌜ J.Marked (J.judgedOn level (now (q .entry)) (now (z .entry)) (now (walks .entry)) (now (values .entry)) (now (memo .entry)) walk
         wanted) (walk .count) (now (marks .entry)) (now (marks .exit)) ⌝ }
 {
-    if mark_compared(q, z, level, memo, walk, vs, wanted, marks) {
+    if mark_compared(q, z, level, memo, walk, values, wanted, marks) {
         return;
     }
-    judge_each(q, z, level, walks, walk, vs, memo, wanted, marks);
+    judge_each(q, z, level, walks, walk, values, memo, wanted, marks);
 }
 
 // Where two conditions are both as wanted: what either leaves out is marked apart, and the others are marked.
@@ -452,20 +449,20 @@ fn judge_both(
     level: usize,
     walks: &[u16],
     walk: Walk,
-    vs: &[i32],
+    values: &[i32],
     memo: &[i64],
     wanted: bool,
     marks: &mut [u8],
 )
     requires { ⌜ (level ≤ 65534) × Fits walk × (walk .count ≤ 1024) × (walk .count ≤ length (now marks)) × J.Bits (now marks) ⌝ }
     ensures { λ _. ⌜ J.Marked (λ i. J.judgedOn level (drop (first (now (q .entry))) (now (q .entry)))
-        (drop (first (now (q .entry))) (now (z .entry))) (now (walks .entry)) (now (vs .entry)) (now (memo .entry)) walk wanted i && J.judgedOn
+        (drop (first (now (q .entry))) (now (z .entry))) (now (walks .entry)) (now (values .entry)) (now (memo .entry)) walk wanted i && J.judgedOn
         level (drop (second (now (q .entry)) (now (z .entry))) (now (q .entry)))
-        (drop (second (now (q .entry)) (now (z .entry))) (now (z .entry))) (now (walks .entry)) (now (vs .entry)) (now (memo .entry)) walk wanted
+        (drop (second (now (q .entry)) (now (z .entry))) (now (z .entry))) (now (walks .entry)) (now (values .entry)) (now (memo .entry)) walk wanted
         i) (walk .count) (now (marks .entry)) (now (marks .exit)) ⌝ }
 {
     let mut others = [0u8; model::ROWS];
-    judge_two(q, z, level, walks, walk, vs, memo, !wanted, &mut others);
+    judge_two(q, z, level, walks, walk, values, memo, !wanted, &mut others);
     mark_others(&others, walk.count, marks);
 }
 
@@ -476,16 +473,16 @@ fn judge_two(
     level: usize,
     walks: &[u16],
     walk: Walk,
-    vs: &[i32],
+    values: &[i32],
     memo: &[i64],
     wanted: bool,
     marks: &mut [u8],
 )
     requires { ⌜ (level ≤ 65534) × Fits walk × (walk .count ≤ 1024) × (walk .count ≤ length (now marks)) × J.Bits (now marks) ⌝ }
     ensures { λ _. ⌜ J.Marked (λ i. J.judgedOn level (drop (first (now (q .entry))) (now (q .entry)))
-        (drop (first (now (q .entry))) (now (z .entry))) (now (walks .entry)) (now (vs .entry)) (now (memo .entry)) walk wanted i || J.judgedOn
+        (drop (first (now (q .entry))) (now (z .entry))) (now (walks .entry)) (now (values .entry)) (now (memo .entry)) walk wanted i || J.judgedOn
         level (drop (second (now (q .entry)) (now (z .entry))) (now (q .entry)))
-        (drop (second (now (q .entry)) (now (z .entry))) (now (z .entry))) (now (walks .entry)) (now (vs .entry)) (now (memo .entry)) walk wanted
+        (drop (second (now (q .entry)) (now (z .entry))) (now (z .entry))) (now (walks .entry)) (now (values .entry)) (now (memo .entry)) walk wanted
         i) (walk .count) (now (marks .entry)) (now (marks .exit)) ⌝ }
 {
     let a = kinds::record_length(kinds::byte(q, 0));
@@ -495,12 +492,12 @@ fn judge_two(
     let u = kinds::tail(q, b);
     let v = kinds::tail_sizes(z, b);
     if kinds::byte(q, b) == 21 {
-        judge_at(u, v, level, walks, walk, vs, memo, wanted, marks);
-        judge_at(x, y, level, walks, walk, vs, memo, wanted, marks);
+        judge_at(u, v, level, walks, walk, values, memo, wanted, marks);
+        judge_at(x, y, level, walks, walk, values, memo, wanted, marks);
         return;
     }
-    judge_at(x, y, level, walks, walk, vs, memo, wanted, marks);
-    judge_at(u, v, level, walks, walk, vs, memo, wanted, marks);
+    judge_at(x, y, level, walks, walk, values, memo, wanted, marks);
+    judge_at(u, v, level, walks, walk, values, memo, wanted, marks);
 }
 
 // Marks the rows with which the condition that q starts with is as wanted.
@@ -510,17 +507,17 @@ fn judge_at(
     level: usize,
     walks: &[u16],
     walk: Walk,
-    vs: &[i32],
+    values: &[i32],
     memo: &[i64],
     wanted: bool,
     marks: &mut [u8],
 )
     requires { ⌜ (level ≤ 65535) × Fits walk × (walk .count ≤ 1024) × (walk .count ≤ length (now marks)) × J.Bits (now marks) ⌝ }
-    ensures { λ _. ⌜ J.Marked (J.judgedOn level (now (q .entry)) (now (z .entry)) (now (walks .entry)) (now (vs .entry)) (now (memo .entry)) walk
+    ensures { λ _. ⌜ J.Marked (J.judgedOn level (now (q .entry)) (now (z .entry)) (now (walks .entry)) (now (values .entry)) (now (memo .entry)) walk
         wanted) (walk .count) (now (marks .entry)) (now (marks .exit)) ⌝ }
 {
     if level == 0 {
-        judge_leaf(q, z, level, walks, walk, vs, memo, wanted, marks);
+        judge_leaf(q, z, level, walks, walk, values, memo, wanted, marks);
         return;
     }
     let l = level - 1;
@@ -530,26 +527,36 @@ fn judge_at(
             let a = kinds::record_length(kinds::byte(q, 0));
             let x = kinds::tail(q, a);
             let y = kinds::tail_sizes(z, a);
-            judge_at(x, y, l, walks, walk, vs, memo, !wanted, marks);
+            judge_at(x, y, l, walks, walk, values, memo, !wanted, marks);
         }
         ConditionRecord::And => {
             if wanted {
-                judge_both(q, z, l, walks, walk, vs, memo, true, marks);
+                judge_both(q, z, l, walks, walk, values, memo, true, marks);
             } else {
-                judge_two(q, z, l, walks, walk, vs, memo, false, marks);
+                judge_two(q, z, l, walks, walk, values, memo, false, marks);
             }
         }
         ConditionRecord::Or => {
             if wanted {
-                judge_two(q, z, l, walks, walk, vs, memo, true, marks);
+                judge_two(q, z, l, walks, walk, values, memo, true, marks);
             } else {
-                judge_both(q, z, l, walks, walk, vs, memo, false, marks);
+                judge_both(q, z, l, walks, walk, values, memo, false, marks);
             }
         }
         ConditionRecord::False
         | ConditionRecord::Compare(_)
         | ConditionRecord::Some(_, _)
-        | ConditionRecord::Other => judge_leaf(q, z, level, walks, walk, vs, memo, wanted, marks),
+        | ConditionRecord::Other => judge_leaf(
+            q,
+            z,
+            level,
+            walks,
+            walk,
+            values,
+            memo,
+            wanted,
+            marks,
+        ),
     }
 }
 

@@ -33,17 +33,18 @@ fn place(places: &[usize], i: usize) -> usize
 }
 
 // The bytes of permit k's condition.
-fn part_at<'a>(list: &'a [u8], places: &[usize], k: usize) -> &'a [u8]
+fn part_at<'a>(permits: &'a [u8], places: &[usize], k: usize) -> &'a [u8]
     requires { ⌜ k < 8 ⌝ }
-    ensures { λ r. ⌜ now r ≡ part (now (list .entry)) (now (places .entry)) k ⌝ }
+    ensures { λ r. ⌜ now r ≡ part (now (permits .entry)) (now (places .entry)) k ⌝ }
 {
-    let rest = kinds::tail(list, place(places, 2 * k));
-    permits::part(rest, place(places, 2 * k + 1))
+    let rest = kinds::tail(permits, place(places, 2 * k));
+    let n = place(places, 2 * k + 1);
+    if n <= rest.len() { &rest[..n] } else { rest }
 }
 
 // Permit k, if its bit, the mask's lowest, is set.
 fn turn(
-    list: &[u8],
+    permits: &[u8],
     places: &[usize],
     mask: u8,
     k: usize,
@@ -54,19 +55,19 @@ fn turn(
 )
     requires { ⌜ (k < 8) × (rowsOf (now catalogue) relation ≤ 1024) × (rowsOf (now catalogue) relation ≤ length (now marks)) × Bits (now marks) ⌝ }
     ensures { λ _. ⌜ Marked (λ i. eqb (mask % 2) 1 && meetsBytes (now (catalogue .entry)) (now (values .entry))
-        (part (now (list .entry)) (now (places .entry)) k) (rowOf (now (catalogue .entry)) (now (values .entry)) relation i))
+        (part (now (permits .entry)) (now (places .entry)) k) (rowOf (now (catalogue .entry)) (now (values .entry)) relation i))
         (rowsOf (now (catalogue .entry)) relation) (now (marks .entry)) (now (marks .exit)) ⌝ }
 {
     if mask % 2 != 1 {
         return;
     }
-    let q = part_at(list, places, k);
+    let q = part_at(permits, places, k);
     judges::judge(q, catalogue, values, relation, marks);
 }
 
 // Marks the rows of a relation that meet the condition of a permit in the mask.
 fn judge_all(
-    list: &[u8],
+    permits: &[u8],
     places: &[usize],
     mask: u8,
     catalogue: &[u8],
@@ -75,14 +76,14 @@ fn judge_all(
     marks: &mut [u8],
 )
     requires { ⌜ (rowsOf (now catalogue) relation ≤ 1024) × (rowsOf (now catalogue) relation ≤ length (now marks)) × Bits (now marks) ⌝ }
-    ensures { λ _. ⌜ Marked (λ i. G.meetsAny (now (catalogue .entry)) (now (values .entry)) (part (now (list .entry)) (now (places .entry))) mask
+    ensures { λ _. ⌜ Marked (λ i. G.meetsAny (now (catalogue .entry)) (now (values .entry)) (part (now (permits .entry)) (now (places .entry))) mask
         (rowOf (now (catalogue .entry)) (now (values .entry)) relation i)) (rowsOf (now (catalogue .entry)) relation) (now (marks .entry))
         (now (marks .exit)) ⌝ }
 {
     let mut m = mask;
     let mut k: usize = 0;
     while k < model::PERMITS {
-        turn(list, places, m, k, catalogue, values, relation, marks);
+        turn(permits, places, m, k, catalogue, values, relation, marks);
         m = m / 2;
         k += 1;
     }
@@ -130,7 +131,7 @@ fn collect(marks: &[u8], latest: bool, n: usize, walks: &mut [u16], start: usize
 
 // The rows of a relation that meet a permit in the mask, with marks that are lent, cleared.
 fn list_by(
-    list: &[u8],
+    permits: &[u8],
     places: &[usize],
     mask: u8,
     catalogue: &[u8],
@@ -142,17 +143,17 @@ fn list_by(
 ) -> usize
     requires { ⌜ (rowsOf (now catalogue) relation ≤ 1024) × (rowsOf (now catalogue) relation ≤ length (now marks))
         × ((i : ℕ) → getD (now marks) i 0 ≡ 0) × (start + rowsOf (now catalogue) relation ≤ length (now walks)) × (length (now walks) ≤ 65535) ⌝ }
-    ensures { λ r. ⌜ G.Listed (G.numbersFor (now (catalogue .entry)) (now (values .entry)) (part (now (list .entry)) (now (places .entry))) mask
+    ensures { λ r. ⌜ G.Listed (G.numbersFor (now (catalogue .entry)) (now (values .entry)) (part (now (permits .entry)) (now (places .entry))) mask
         relation) start r (now (walks .entry)) (now (walks .exit)) ⌝ }
     ensures { λ r. ⌜ (start ≤ r) × (r ≤ start + rowsOf (now (catalogue .entry)) relation) ⌝ }
 {
-    judge_all(list, places, mask, catalogue, values, relation, marks);
+    judge_all(permits, places, mask, catalogue, values, relation, marks);
     let known = catalogue::entry(catalogue, relation);
     collect(marks, known.latest, known.rows, walks, start)
 }
 
 fn list_few(
-    list: &[u8],
+    permits: &[u8],
     places: &[usize],
     mask: u8,
     catalogue: &[u8],
@@ -162,13 +163,13 @@ fn list_few(
     start: usize,
 ) -> usize
     requires { ⌜ (rowsOf (now catalogue) relation ≤ 16) × (start + rowsOf (now catalogue) relation ≤ length (now walks)) × (length (now walks) ≤ 65535) ⌝ }
-    ensures { λ r. ⌜ G.Listed (G.numbersFor (now (catalogue .entry)) (now (values .entry)) (part (now (list .entry)) (now (places .entry))) mask
+    ensures { λ r. ⌜ G.Listed (G.numbersFor (now (catalogue .entry)) (now (values .entry)) (part (now (permits .entry)) (now (places .entry))) mask
         relation) start r (now (walks .entry)) (now (walks .exit)) ⌝ }
     ensures { λ r. ⌜ (start ≤ r) × (r ≤ start + rowsOf (now (catalogue .entry)) relation) ⌝ }
 {
     let mut marks = [0u8; 16];
     list_by(
-        list,
+        permits,
         places,
         mask,
         catalogue,
@@ -181,7 +182,7 @@ fn list_few(
 }
 
 fn list_many(
-    list: &[u8],
+    permits: &[u8],
     places: &[usize],
     mask: u8,
     catalogue: &[u8],
@@ -191,13 +192,13 @@ fn list_many(
     start: usize,
 ) -> usize
     requires { ⌜ (rowsOf (now catalogue) relation ≤ 1024) × (start + rowsOf (now catalogue) relation ≤ length (now walks)) × (length (now walks) ≤ 65535) ⌝ }
-    ensures { λ r. ⌜ G.Listed (G.numbersFor (now (catalogue .entry)) (now (values .entry)) (part (now (list .entry)) (now (places .entry))) mask
+    ensures { λ r. ⌜ G.Listed (G.numbersFor (now (catalogue .entry)) (now (values .entry)) (part (now (permits .entry)) (now (places .entry))) mask
         relation) start r (now (walks .entry)) (now (walks .exit)) ⌝ }
     ensures { λ r. ⌜ (start ≤ r) × (r ≤ start + rowsOf (now (catalogue .entry)) relation) ⌝ }
 {
     let mut marks = [0u8; model::ROWS];
     list_by(
-        list,
+        permits,
         places,
         mask,
         catalogue,
@@ -211,7 +212,7 @@ fn list_many(
 
 // A large array is not cleared for few rows.
 fn list_rows(
-    list: &[u8],
+    permits: &[u8],
     places: &[usize],
     mask: u8,
     catalogue: &[u8],
@@ -221,14 +222,14 @@ fn list_rows(
     start: usize,
 ) -> usize
     requires { ⌜ (rowsOf (now catalogue) relation ≤ 1024) × (start + rowsOf (now catalogue) relation ≤ length (now walks)) × (length (now walks) ≤ 65535) ⌝ }
-    ensures { λ r. ⌜ G.Listed (G.numbersFor (now (catalogue .entry)) (now (values .entry)) (part (now (list .entry)) (now (places .entry))) mask
+    ensures { λ r. ⌜ G.Listed (G.numbersFor (now (catalogue .entry)) (now (values .entry)) (part (now (permits .entry)) (now (places .entry))) mask
         relation) start r (now (walks .entry)) (now (walks .exit)) ⌝ }
     ensures { λ r. ⌜ (start ≤ r) × (r ≤ start + rowsOf (now (catalogue .entry)) relation) ⌝ }
 {
     let known = catalogue::entry(catalogue, relation);
     if known.rows <= 16 {
         return list_few(
-            list,
+            permits,
             places,
             mask,
             catalogue,
@@ -239,7 +240,7 @@ fn list_rows(
         );
     }
     list_many(
-        list,
+        permits,
         places,
         mask,
         catalogue,
@@ -281,7 +282,7 @@ fn with_key(walks: &[u16], key: usize) -> usize
 
 // A list of its own for a variable; where the next one can start.
 fn give_new(
-    list: &[u8],
+    permits: &[u8],
     places: &[usize],
     mask: u8,
     catalogue: &[u8],
@@ -293,12 +294,21 @@ fn give_new(
 ) -> usize
     requires { ⌜ ((mask ≡ 0 → ⊥) × (variable < 8) × (rowsOf (now catalogue) relation ≤ 1024))
         × ((next + rowsOf (now catalogue) relation ≤ length (now walks)) × (length (now walks) ≤ 65535))
-        × G.Keyed (now catalogue) (now values) (part (now list) (now places)) (now walks) next ⌝ }
-    ensures { λ r. ⌜ G.Stepped (now (catalogue .entry)) (now (values .entry)) (part (now (list .entry)) (now (places .entry))) variable
-        (G.rowsFor (now (catalogue .entry)) (now (values .entry)) (part (now (list .entry)) (now (places .entry))) mask relation)
+        × G.Keyed (now catalogue) (now values) (part (now permits) (now places)) (now walks) next ⌝ }
+    ensures { λ r. ⌜ G.Stepped (now (catalogue .entry)) (now (values .entry)) (part (now (permits .entry)) (now (places .entry))) variable
+        (G.rowsFor (now (catalogue .entry)) (now (values .entry)) (part (now (permits .entry)) (now (places .entry))) mask relation)
         (rowsOf (now (catalogue .entry)) relation) next r (now (walks .entry)) (now (walks .exit)) ⌝ }
 {
-    let end = list_rows(list, places, mask, catalogue, values, relation, walks, next);
+    let end = list_rows(
+        permits,
+        places,
+        mask,
+        catalogue,
+        values,
+        relation,
+        walks,
+        next,
+    );
     let all = allrows::whole(catalogue, relation);
     let walk = Walk {
         start: next,
@@ -319,7 +329,7 @@ fn byte_of(x: usize) -> u8
 
 // The list of another variable with the same key, or one of its own.
 fn give_listed(
-    list: &[u8],
+    permits: &[u8],
     places: &[usize],
     mask: u8,
     catalogue: &[u8],
@@ -331,9 +341,9 @@ fn give_listed(
 ) -> usize
     requires { ⌜ ((mask ≡ 0 → ⊥) × (variable < 8) × (rowsOf (now catalogue) relation ≤ 1024))
         × ((next + rowsOf (now catalogue) relation ≤ length (now walks)) × (length (now walks) ≤ 65535))
-        × G.Keyed (now catalogue) (now values) (part (now list) (now places)) (now walks) next ⌝ }
-    ensures { λ r. ⌜ G.Stepped (now (catalogue .entry)) (now (values .entry)) (part (now (list .entry)) (now (places .entry))) variable
-        (G.rowsFor (now (catalogue .entry)) (now (values .entry)) (part (now (list .entry)) (now (places .entry))) mask relation)
+        × G.Keyed (now catalogue) (now values) (part (now permits) (now places)) (now walks) next ⌝ }
+    ensures { λ r. ⌜ G.Stepped (now (catalogue .entry)) (now (values .entry)) (part (now (permits .entry)) (now (places .entry))) variable
+        (G.rowsFor (now (catalogue .entry)) (now (values .entry)) (part (now (permits .entry)) (now (places .entry))) mask relation)
         (rowsOf (now (catalogue .entry)) relation) next r (now (walks .entry)) (now (walks .exit)) ⌝ }
 {
     let key = key_of(relation, mask);
@@ -344,7 +354,7 @@ fn give_listed(
         return next;
     }
     give_new(
-        list,
+        permits,
         places,
         mask,
         catalogue,
@@ -358,7 +368,7 @@ fn give_listed(
 
 // Where 33 has passed, a mask of 0 is a workspace's, of which all rows are permitted.
 fn give(
-    list: &[u8],
+    permits: &[u8],
     places: &[usize],
     mask: u8,
     catalogue: &[u8],
@@ -370,9 +380,9 @@ fn give(
 ) -> usize
     requires { ⌜ ((variable < 8) × (rowsOf (now catalogue) relation ≤ 1024))
         × ((next + rowsOf (now catalogue) relation ≤ length (now walks)) × (length (now walks) ≤ 65535))
-        × G.Keyed (now catalogue) (now values) (part (now list) (now places)) (now walks) next ⌝ }
-    ensures { λ r. ⌜ G.Stepped (now (catalogue .entry)) (now (values .entry)) (part (now (list .entry)) (now (places .entry))) variable
-        (G.rowsFor (now (catalogue .entry)) (now (values .entry)) (part (now (list .entry)) (now (places .entry))) mask relation)
+        × G.Keyed (now catalogue) (now values) (part (now permits) (now places)) (now walks) next ⌝ }
+    ensures { λ r. ⌜ G.Stepped (now (catalogue .entry)) (now (values .entry)) (part (now (permits .entry)) (now (places .entry))) variable
+        (G.rowsFor (now (catalogue .entry)) (now (values .entry)) (part (now (permits .entry)) (now (places .entry))) mask relation)
         (rowsOf (now (catalogue .entry)) relation) next r (now (walks .entry)) (now (walks .exit)) ⌝ }
 {
     if mask == 0 {
@@ -380,7 +390,7 @@ fn give(
         return next;
     }
     give_listed(
-        list,
+        permits,
         places,
         mask,
         catalogue,
@@ -394,7 +404,7 @@ fn give(
 
 // One record of the query: what it binds is given its rows.
 fn fill_one(
-    list: &[u8],
+    permits: &[u8],
     places: &[usize],
     masks: &[u8],
     catalogue: &[u8],
@@ -405,11 +415,11 @@ fn fill_one(
 ) -> usize
     requires { ⌜ ((v r : ℕ) → b ≡ To v r → ((v < 8) × (rowsOf (now catalogue) r ≤ 1024))
         × ((next + rowsOf (now catalogue) r ≤ length (now walks)) × (length (now walks) ≤ 65535))
-        × G.Keyed (now catalogue) (now values) (part (now list) (now places)) (now walks) next) ⌝ }
+        × G.Keyed (now catalogue) (now values) (part (now permits) (now places)) (now walks) next) ⌝ }
     ensures { λ r. ⌜ (b ≡ Nothing → (r ≡ next) × (now (walks .exit) ≡ now (walks .entry))) ⌝ }
     ensures { λ n. ⌜ ((v r : ℕ) → b ≡ To v r → G.Stepped (now (catalogue .entry)) (now (values .entry))
-        (part (now (list .entry)) (now (places .entry))) v (G.rowsFor (now (catalogue .entry)) (now (values .entry))
-        (part (now (list .entry)) (now (places .entry))) (getD (now (masks .entry)) v 0) r) (rowsOf (now (catalogue .entry)) r) next n
+        (part (now (permits .entry)) (now (places .entry))) v (G.rowsFor (now (catalogue .entry)) (now (values .entry))
+        (part (now (permits .entry)) (now (places .entry))) (getD (now (masks .entry)) v 0) r) (rowsOf (now (catalogue .entry)) r) next n
         (now (walks .entry)) (now (walks .exit))) ⌝ }
 {
     let Bound::To(variable, relation) = b else {
@@ -417,7 +427,7 @@ fn fill_one(
     };
     let mask = kinds::byte(masks, wide(variable));
     give(
-        list,
+        permits,
         places,
         mask,
         catalogue,
@@ -432,7 +442,7 @@ fn fill_one(
 // The walks of all variables that the query binds, in a cleared table with 64 numbers and room for eight lists.
 pub fn fill(
     query: &[u8],
-    list: &[u8],
+    permits: &[u8],
     places: &[usize],
     masks: &[u8],
     catalogue: &[u8],
@@ -443,14 +453,14 @@ pub fn fill(
         × Every (G.Low (now catalogue) (G.mostIn (now walks))) (flatBindings (now query)) × (length (flatBindings (now query)) ≤ 8)
         × ((64 ≤ length (now walks)) × (length (now walks) ≤ 8256)) × ((i : ℕ) → getD (now walks) i 0 ≡ 0) ⌝ }
     ensures { λ _. ⌜ Every (λ (b : Binding). walked (now (walks .exit)) (now (values .entry)) (b .variable)
-        ≡ G.rowsFor (now (catalogue .entry)) (now (values .entry)) (part (now (list .entry)) (now (places .entry)))
+        ≡ G.rowsFor (now (catalogue .entry)) (now (values .entry)) (part (now (permits .entry)) (now (places .entry)))
         (getD (now (masks .entry)) (b .variable) 0) (b .relation)) (flatBindings (now (query .entry))) ⌝ }
 {
     let mut next = LISTS;
     let mut at = 0;
     while at < query.len() {
         let b = scans::binding(query, at);
-        next = fill_one(list, places, masks, catalogue, values, b, next, walks);
+        next = fill_one(permits, places, masks, catalogue, values, b, next, walks);
         at += scans::step(query, at);
     }
 }

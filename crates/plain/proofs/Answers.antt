@@ -33,7 +33,7 @@ use Rattle.scans.proofs.Whole.{bindings-query}
 use Rattle.walks.specs.Walks.{rowsBy}
 use Rattle.allrows.specs.Filled.{filledBy}
 use Rattle.allrows.proofs.All.{answers-agree, filled-agree}
-use Rattle.walks.specs.Assigned.{assigned}
+use Rattle.walks.specs.Assigned.{assigned, Unbound}
 use Rattle.grammar.specs.declared.Layout.{Layout}
 use Rattle.grammar.specs.Shapes.{layout}
 use Rattle.odometer.specs.declared.Plan.{Plan}
@@ -46,7 +46,7 @@ use Rattle.model.proofs.Tests.{or-no}
 use Rattle.queries.proofs.Numbers.{condition-room}
 use Rattle.queries.specs.Parts.{queryAt, Laid}
 use Rattle.plain.specs.declared.Reply.{Reply}
-use Rattle.plain.specs.Reply.{answerOf, replyOf, planOf, Answerable, Trusted, Unbound}
+use Rattle.plain.specs.Reply.{answerOf, replyOf, planOf, Answerable, Trusted}
 
 -- the rows of a query before equal ones are dropped
 abbrev rowsBefore : Query → Rows → List (List ℤ)
@@ -61,16 +61,16 @@ unfolding rowsMet qualifying
 wide-rows u R = rows-wide u R
 
 -- its plan is in bounds
-pub bounded : (y : Layout) (l : ℕ) (q z cb : List ℕ) (p : Plan) → Answerable y l q z cb → p ≡ planOf y l → Bounds p
-bounded y l q z cb p ok e = subst Bounds (sym e) (record { columns = ok .columns; ranges = omega (arith, ok .ranges) })
+pub bounded : (y : Layout) (l f n : ℕ) (q z cb : List ℕ) (p : Plan) → Answerable y l q z cb → 768 ≤ f → f + 16 ≤ n → p ≡ planOf y l f → Bounds p n
+bounded y l f n q z cb p ok b r e = subst (λ (k : Plan). Bounds k n) (sym e) (record { columns = ok .columns; ranges = omega (arith, ok .ranges); branches = b; room = r })
 
-module _ (y : Layout) (l : ℕ) (q z cb ws : List ℕ) (vs m : List ℤ) (e : List ℕ) (ok : Answerable y l q z cb) (h : Trusted m (rowsBy ws vs) (queryAt y l q z)) (b : Unbound vs e) where
-  module _ (t : List ℕ) (xs : List ℤ) (w : Planned t xs q z ws vs m (decode l (drop (y .condition) q) (drop (y .condition) z)) (rangesAt (y .ranges) q)) where
-    as-query : rowsFrom (planOf y l) t xs q z ws vs m (assigned vs e) ≡ rowsBefore (queryOf q) (rowsBy ws vs)
+module _ (y : Layout) (l f : ℕ) (q z cb ws : List ℕ) (vs m : List ℤ) (e : List ℕ) (ok : Answerable y l q z cb) (h : Trusted m (rowsBy ws vs) (queryAt y l q z)) (b : Unbound vs e) where
+  module _ (t : List ℕ) (w : Planned t q z ws vs m (decode l (drop (y .condition) q) (drop (y .condition) z)) (rangesAt (y .ranges) q)) where
+    as-query : rowsFrom (planOf y l f) t q z ws vs m (assigned vs e) ≡ rowsBefore (queryOf q) (rowsBy ws vs)
     as-query =
         let u = queryAt y l q z in
         let R = rowsBy ws vs in
-        rows-planned (planOf y l) t xs q z ws vs m (u .condition) refl w (assigned vs e)
+        rows-planned (planOf y l f) t q z ws vs m (u .condition) refl w (assigned vs e)
         ∙ ap₂ (λ (f : Assignment → Option (List ℤ)) (g : Assignment → Bool). present (map f (filter g (assignments (u .ranges) R (assigned vs e))))) (fun-ext (h .targets)) (fun-ext (h .condition))
         ∙ ap (λ (e : Assignment). present (map (targetRow (u .targets) R) (filter (holds (u .condition) R) (assignments (u .ranges) R e)))) (b .none)
         ∙ ap (λ (u : Query). rowsBefore u R) (ok .ready)
@@ -79,14 +79,14 @@ module _ (y : Layout) (l : ℕ) (q z cb ws : List ℕ) (vs m : List ℤ) (e : Li
     unfolding layout
     columns-are = ap (λ (x : Layout). x .targets) (ok .laid .place)
 
-    pub answered : (p : Plan) (s : Filled) (r : Reply) (cells after : List ℤ) → p ≡ planOf y l
-        → record { rows = s .rows; full = s .full; cells = after } ≡ addedAll (start cells) (rowsFrom p t xs q z ws vs m (assigned vs e))
+    pub answered : (p : Plan) (s : Filled) (r : Reply) (cells after : List ℤ) → p ≡ planOf y l f
+        → record { rows = s .rows; full = s .full; cells = after } ≡ addedAll (start cells) (rowsFrom p t q z ws vs m (assigned vs e))
         → r ≡ replyOf (y .targets) s → answerOf r after ≡ give (length (queryOf q .targets)) (answers (queryOf q) (rowsBy ws vs)) cells
     answered p s r cells after ep eb er =
         let R = rowsBy ws vs in
         let w = length (queryOf q .targets) in
         ap (λ (x : Reply). answerOf x after) (er ∙ ap (λ k. replyOf k s) columns-are)
-        ∙ ap (λ (b : Buffer). record { number = cond (b .full) 41 0; rows = b .rows; columns = w; cells = b .cells }) (eb ∙ ap (λ (i : Plan). addedAll (start cells) (rowsFrom i t xs q z ws vs m (assigned vs e))) ep ∙ ap (addedAll (start cells)) as-query)
+        ∙ ap (λ (b : Buffer). record { number = cond (b .full) 41 0; rows = b .rows; columns = w; cells = b .cells }) (eb ∙ ap (λ (i : Plan). addedAll (start cells) (rowsFrom i t q z ws vs m (assigned vs e))) ep ∙ ap (addedAll (start cells)) as-query)
         ∙ sym (given w (rowsBefore (queryOf q) R) cells (wide-rows (queryOf q) R))
         ∙ ap (λ (xs : List (List ℤ)). give w xs cells) (sym (answers-are (queryOf q) R))
 

@@ -24,7 +24,7 @@ use Rattle.aggregates.specs.Filled.{filledC, filledTs}
 use Rattle.model.proofs.Lists.{getD-same}
 use Rattle.aggregates.proofs.Faithful.{Faithful, FaithfulT, FaithfulQ, faithful-value, faithful-holds, query-faithful}
 use Rattle.queries.specs.Parts.{queryAt}
-use Rattle.plain.specs.Reply.{memoOf, Answerable, Trusted, Unbound}
+use Rattle.plain.specs.Reply.{memoOf, Answerable, Trusted}
 
 cells-are : (m : List ℤ) (R : Rows) (ts : List Term) → Every (FaithfulT m R) ts → (e : Assignment) → cellsBy m ts R e ≡ targetRow ts R e
 unfolding targetRowWith Every
@@ -79,11 +79,3 @@ filled-trusted y l q z cb ws vs m e ok em =
 pub remembered-is : (y : Layout) (l : ℕ) (q z ws : List ℕ) (vs : List ℤ) (e e₁ a b c d : List ℕ) (m n o : List ℤ) → a ≡ drop (y .first) q → b ≡ drop (y .first) z → n ≡ filledTs (targetsAt (y .targets) l a b) (rowsBy ws vs) (assigned vs e) m
     → e₁ ≡ e → c ≡ drop (y .condition) q → d ≡ drop (y .condition) z → o ≡ filledC (decode l c d) (rowsBy ws vs) (assigned vs e₁) n → o ≡ memoOf (queryAt y l q z) (rowsBy ws vs) (assigned vs e) m
 remembered-is y l q z ws vs e e₁ a b c d m n o ea eb en ee ec ed eo = eo ∙ rw (en, ee, ec, ed, ea, eb)
-
--- places past the values: no variable is bound yet
-pub none-bound : (vs : List ℤ) → Unbound vs (replicate 256 (length vs))
-none-bound vs =
-    record {
-      places = omega (arith, length-replicate 256 (length vs));
-      none = fun-ext λ v. fun-ext λ a. ap (λ k. getD vs (k + a) (pos 0)) (getD-same 256 (length vs) v) ∙ List·getD-eq-default vs (pos 0) (omega arith);
-    }

@@ -6,8 +6,9 @@ use queries::Limits;
 use rows::Filled;
 ghost use mathlib.Core.Path.{_≡_};
 ghost use mathlib.Core.Bool.{false};
-ghost use Prim.Native.Nat.{ℕ, _≤_};
-ghost use lib.ListN.{length, getD};
+ghost use Prim.Native.Nat.{_≤_};
+ghost use mathlib.Core.List.{_++_};
+ghost use lib.ListN.{length, drop};
 ghost use Rattle.model.specs.Encoding.{queryOf};
 ghost use Rattle.model.specs.Meaning.{answers};
 ghost use Rattle.model.specs.Catalogue.{catalogueOf, tuplesAt, allRows};
@@ -15,9 +16,21 @@ ghost use Rattle.model.specs.Calls.{give, evaluate};
 ghost use Rattle.walks.specs.Walks.{rowsBy};
 ghost use Rattle.walks.specs.Assigned.{assigned};
 ghost use Rattle.queries.specs.Parts.{queryAt};
-ghost use Rattle.plain.specs.Reply.{answerOf, replyOf, planOf, memoOf, Answerable, Passed, Trusted};
+ghost use Rattle.plain.specs.Reply.{answerOf, replyOf, planOf, memoOf, Cleared, Furnished, Answerable, Passed, Trusted};
 
 const LEVELS: usize = model::PLAIN_LEVELS;
+
+const BRANCHES: usize = odometer::BRANCHES;
+
+const LIST: usize = 2 * model::TARGETS;
+
+const FEW: usize = 1536;
+
+const MANY: usize = 20480;
+
+const TWO: usize = 4168;
+
+const EIGHT: usize = 16480;
 
 // The number of a refusal, 0 where there is none, and the counts of rows and columns.
 pub struct Reply {
@@ -83,28 +96,97 @@ fn remember(
     aggregates::condition(u, v, level, walks, values, env, memo);
 }
 
-// The parts of a query, and how many levels it may have.
+// The parts of a query, how many levels it may have, and where in its table the targets stand.
 struct Task {
     layout: Layout,
     level: usize,
+    front: usize,
 }
 
-// All ranges are left to bind, and no target is listed yet.
-fn plan_of(layout: Layout, level: usize) -> Plan
-    ensures { λ r. ⌜ r ≡ planOf layout level ⌝ }
+// All ranges are left to bind, no target is listed yet, and no row stored.
+fn plan_of(task: Task) -> Plan
+    ensures { λ r. ⌜ r ≡ planOf (task .layout) (task .level) (task .front) ⌝ }
 {
+    let layout = task.layout;
     Plan {
         targets: layout.first,
         columns: layout.targets,
-        level,
+        level: task.level,
         listed: false,
         left: layout.ranges,
         depth: 0,
+        front: task.front,
+        rows: 0,
+        full: false,
     }
 }
 
-// A query that passed its checks, over the rows of its walks, by a memo that says nothing false of it. The tables for the
-// answer's rows and for chains are lent, cleared.
+// The code at the start of the table.
+fn copy(code: &[u16], work: &mut [u16])
+    requires { ⌜ length (now code) ≤ length (now work) ⌝ }
+    ensures { λ _. ⌜ now (work .exit) ≡ now (code .entry) ++ drop (length (now (code .entry))) (now (work .entry)) ⌝ }
+{
+    let mut i = 0;
+    while i < code.len() {
+        let x = code[i];
+        work[i] = x;
+        i += 1;
+    }
+}
+
+// A query's branches at the start of the table, and chains behind them: two parts of the table, so the branches are made beside it.
+fn furnish_linked(
+    q: &[u8],
+    z: &[u16],
+    task: Task,
+    walks: &[u16],
+    values: &[i32],
+    memo: &[i64],
+    work: &mut [u16],
+)
+    requires { ⌜ Passed (task .layout) (task .level) (now q) (now z) × Cleared (task .front) (now work) ⌝ }
+    ensures { λ _. ⌜ Furnished (task .layout) (task .level) (task .front) (now (q .entry)) (now (z .entry)) (now (walks .entry)) (now (values .entry))
+        (now (memo .entry)) (now (work .entry)) (now (work .exit)) ⌝ }
+{
+    let mut code = [0u16; BRANCHES];
+    let layout = task.layout;
+    let level = task.level;
+    let front = task.front;
+    let n = layout.ranges;
+    let c = layout.condition;
+    conjuncts::plan(q, z, n, c, level, memo, &mut code);
+    decide::seeks::link(q, n, &code, walks, values, &mut work[BRANCHES..front]);
+    copy(&code, work);
+}
+
+// The same, with no chains where there is no room for them.
+fn furnish(
+    q: &[u8],
+    z: &[u16],
+    task: Task,
+    walks: &[u16],
+    values: &[i32],
+    memo: &[i64],
+    work: &mut [u16],
+)
+    requires { ⌜ Passed (task .layout) (task .level) (now q) (now z) × Cleared (task .front) (now work) ⌝ }
+    ensures { λ _. ⌜ Furnished (task .layout) (task .level) (task .front) (now (q .entry)) (now (z .entry)) (now (walks .entry)) (now (values .entry))
+        (now (memo .entry)) (now (work .entry)) (now (work .exit)) ⌝ }
+{
+    let front = task.front;
+    if front != BRANCHES {
+        furnish_linked(q, z, task, walks, values, memo, work);
+        return;
+    }
+    let layout = task.layout;
+    let level = task.level;
+    let n = layout.ranges;
+    let c = layout.condition;
+    conjuncts::plan(q, z, n, c, level, memo, &mut work[..BRANCHES]);
+}
+
+// A query that passed its checks, over the rows of its walks, by a memo that says nothing false of it. The table for branches, chains, targets and the
+// answer's rows is lent, cleared.
 fn answer_in(
     q: &[u8],
     z: &[u16],
@@ -113,102 +195,20 @@ fn answer_in(
     values: &[i32],
     memo: &[i64],
     answer: &mut [i64],
-    table: &mut [u16],
-    chains: &mut [u16],
+    work: &mut [u16],
 ) -> Reply
     requires { ⌜ Passed (task .layout) (task .level) (now q) (now z)
         × Trusted (now memo) (rowsBy (now walks) (now values)) (queryAt (task .layout) (task .level) (now q) (now z))
-        × (length (now table) ≤ 65535) × ((i : ℕ) → getD (now table) i 0 ≡ 0) × ((i : ℕ) → getD (now chains) i 0 ≡ 0) ⌝ }
+        × Cleared (task .front) (now work) ⌝ }
     ensures { λ r. ⌜ answerOf r (now (answer .exit)) ≡ give (length (queryOf (now (q .entry)) .targets))
         (answers (queryOf (now (q .entry))) (rowsBy (now (walks .entry)) (now (values .entry)))) (now (answer .entry)) ⌝ }
 {
-    let mut t = [0u16; 512];
-    let mut xs = [0i32; 128];
     let mut env = [values.len(); 256];
     let layout = task.layout;
-    let level = task.level;
-    let n = layout.ranges;
-    let c = layout.condition;
-    conjuncts::plan(q, z, n, c, level, memo, &mut t, &mut xs);
-    decide::seeks::link(q, n, &t, walks, values, chains);
-    let state = odometer::run(
-        q,
-        z,
-        &t,
-        &xs,
-        plan_of(layout, level),
-        walks,
-        chains,
-        values,
-        memo,
-        &mut env,
-        answer,
-        table,
-    );
+    furnish(q, z, task, walks, values, memo, work);
+    let plan = plan_of(task);
+    let state = odometer::run(q, z, work, plan, walks, values, memo, &mut env, answer);
     filled(state, layout.targets)
-}
-
-// The same with no room for chains.
-fn answer_unlinked(
-    q: &[u8],
-    z: &[u16],
-    task: Task,
-    walks: &[u16],
-    values: &[i32],
-    memo: &[i64],
-    answer: &mut [i64],
-    table: &mut [u16],
-) -> Reply
-    requires { ⌜ Passed (task .layout) (task .level) (now q) (now z)
-        × Trusted (now memo) (rowsBy (now walks) (now values)) (queryAt (task .layout) (task .level) (now q) (now z))
-        × (length (now table) ≤ 65535) × ((i : ℕ) → getD (now table) i 0 ≡ 0) ⌝ }
-    ensures { λ r. ⌜ answerOf r (now (answer .exit)) ≡ give (length (queryOf (now (q .entry)) .targets))
-        (answers (queryOf (now (q .entry))) (rowsBy (now (walks .entry)) (now (values .entry)))) (now (answer .entry)) ⌝ }
-{
-    let mut chains = [0u16; 1];
-    answer_in(q, z, task, walks, values, memo, answer, table, &mut chains)
-}
-
-// The same with room for two chains of 1,024 rows.
-fn answer_linked(
-    q: &[u8],
-    z: &[u16],
-    task: Task,
-    walks: &[u16],
-    values: &[i32],
-    memo: &[i64],
-    answer: &mut [i64],
-    table: &mut [u16],
-) -> Reply
-    requires { ⌜ Passed (task .layout) (task .level) (now q) (now z)
-        × Trusted (now memo) (rowsBy (now walks) (now values)) (queryAt (task .layout) (task .level) (now q) (now z))
-        × (length (now table) ≤ 65535) × ((i : ℕ) → getD (now table) i 0 ≡ 0) ⌝ }
-    ensures { λ r. ⌜ answerOf r (now (answer .exit)) ≡ give (length (queryOf (now (q .entry)) .targets))
-        (answers (queryOf (now (q .entry))) (rowsBy (now (walks .entry)) (now (values .entry)))) (now (answer .entry)) ⌝ }
-{
-    let mut chains = [0u16; 4168];
-    answer_in(q, z, task, walks, values, memo, answer, table, &mut chains)
-}
-
-// The same with room for eight.
-fn answer_chained(
-    q: &[u8],
-    z: &[u16],
-    task: Task,
-    walks: &[u16],
-    values: &[i32],
-    memo: &[i64],
-    answer: &mut [i64],
-    table: &mut [u16],
-) -> Reply
-    requires { ⌜ Passed (task .layout) (task .level) (now q) (now z)
-        × Trusted (now memo) (rowsBy (now walks) (now values)) (queryAt (task .layout) (task .level) (now q) (now z))
-        × (length (now table) ≤ 65535) × ((i : ℕ) → getD (now table) i 0 ≡ 0) ⌝ }
-    ensures { λ r. ⌜ answerOf r (now (answer .exit)) ≡ give (length (queryOf (now (q .entry)) .targets))
-        (answers (queryOf (now (q .entry))) (rowsBy (now (walks .entry)) (now (values .entry)))) (now (answer .entry)) ⌝ }
-{
-    let mut chains = [0u16; 16480];
-    answer_in(q, z, task, walks, values, memo, answer, table, &mut chains)
 }
 
 // The same with one record more; no more than 1,000 are counted.
@@ -247,72 +247,6 @@ fn chained(q: &[u8], ranges: usize, walks: &[u16]) -> usize
     n
 }
 
-// The same with room for the chains that may pay.
-fn answer_walked(
-    q: &[u8],
-    z: &[u16],
-    task: Task,
-    walks: &[u16],
-    values: &[i32],
-    memo: &[i64],
-    answer: &mut [i64],
-    table: &mut [u16],
-) -> Reply
-    requires { ⌜ Passed (task .layout) (task .level) (now q) (now z)
-        × Trusted (now memo) (rowsBy (now walks) (now values)) (queryAt (task .layout) (task .level) (now q) (now z))
-        × (length (now table) ≤ 65535) × ((i : ℕ) → getD (now table) i 0 ≡ 0) ⌝ }
-    ensures { λ r. ⌜ answerOf r (now (answer .exit)) ≡ give (length (queryOf (now (q .entry)) .targets))
-        (answers (queryOf (now (q .entry))) (rowsBy (now (walks .entry)) (now (values .entry)))) (now (answer .entry)) ⌝ }
-{
-    let layout = task.layout;
-    let n = chained(q, layout.ranges, walks) + holding(q) / 2;
-    if n == 0 {
-        return answer_unlinked(q, z, task, walks, values, memo, answer, table);
-    }
-    if n < 3 {
-        return answer_linked(q, z, task, walks, values, memo, answer, table);
-    }
-    answer_chained(q, z, task, walks, values, memo, answer, table)
-}
-
-// The same where the answer has at most 1,024 rows: 512 heads.
-fn answer_few(
-    q: &[u8],
-    z: &[u16],
-    task: Task,
-    walks: &[u16],
-    values: &[i32],
-    memo: &[i64],
-    answer: &mut [i64],
-) -> Reply
-    requires { ⌜ Passed (task .layout) (task .level) (now q) (now z)
-        × Trusted (now memo) (rowsBy (now walks) (now values)) (queryAt (task .layout) (task .level) (now q) (now z)) ⌝ }
-    ensures { λ r. ⌜ answerOf r (now (answer .exit)) ≡ give (length (queryOf (now (q .entry)) .targets))
-        (answers (queryOf (now (q .entry))) (rowsBy (now (walks .entry)) (now (values .entry)))) (now (answer .entry)) ⌝ }
-{
-    let mut table = [0u16; 1536];
-    answer_walked(q, z, task, walks, values, memo, answer, &mut table)
-}
-
-// The same for more rows: 4,096 heads, and 16,384 rows are linked.
-fn answer_many(
-    q: &[u8],
-    z: &[u16],
-    task: Task,
-    walks: &[u16],
-    values: &[i32],
-    memo: &[i64],
-    answer: &mut [i64],
-) -> Reply
-    requires { ⌜ Passed (task .layout) (task .level) (now q) (now z)
-        × Trusted (now memo) (rowsBy (now walks) (now values)) (queryAt (task .layout) (task .level) (now q) (now z)) ⌝ }
-    ensures { λ r. ⌜ answerOf r (now (answer .exit)) ≡ give (length (queryOf (now (q .entry)) .targets))
-        (answers (queryOf (now (q .entry))) (rowsBy (now (walks .entry)) (now (values .entry)))) (now (answer .entry)) ⌝ }
-{
-    let mut table = [0u16; 20480];
-    answer_walked(q, z, task, walks, values, memo, answer, &mut table)
-}
-
 // How many rows the ranges can give, exact up to 1,024. It promises nothing, since a table of any length will do: it only saves time.
 fn most_rows(q: &[u8], ranges: usize, walks: &[u16]) -> usize
     requires { ⌜ ranges ≤ 4 ⌝ }
@@ -330,7 +264,112 @@ fn most_rows(q: &[u8], ranges: usize, walks: &[u16]) -> usize
     n
 }
 
-// The same for any number of rows, by the ranges and by the room for them.
+// The same where the answer has at most 1,024 rows: 512 heads.
+fn answer_few(
+    q: &[u8],
+    z: &[u16],
+    task: Task,
+    walks: &[u16],
+    values: &[i32],
+    memo: &[i64],
+    answer: &mut [i64],
+) -> Reply
+    requires { ⌜ Passed (task .layout) (task .level) (now q) (now z)
+        × Trusted (now memo) (rowsBy (now walks) (now values)) (queryAt (task .layout) (task .level) (now q) (now z)) ⌝ }
+    ensures { λ r. ⌜ answerOf r (now (answer .exit)) ≡ give (length (queryOf (now (q .entry)) .targets))
+        (answers (queryOf (now (q .entry))) (rowsBy (now (walks .entry)) (now (values .entry)))) (now (answer .entry)) ⌝ }
+{
+    let mut work = [0u16; BRANCHES + LIST + FEW];
+    let mut with = task;
+    with.front = BRANCHES;
+    answer_in(q, z, with, walks, values, memo, answer, &mut work)
+}
+
+// The same with room for two chains of 1,024 rows.
+fn answer_few_linked(
+    q: &[u8],
+    z: &[u16],
+    task: Task,
+    walks: &[u16],
+    values: &[i32],
+    memo: &[i64],
+    answer: &mut [i64],
+) -> Reply
+    requires { ⌜ Passed (task .layout) (task .level) (now q) (now z)
+        × Trusted (now memo) (rowsBy (now walks) (now values)) (queryAt (task .layout) (task .level) (now q) (now z)) ⌝ }
+    ensures { λ r. ⌜ answerOf r (now (answer .exit)) ≡ give (length (queryOf (now (q .entry)) .targets))
+        (answers (queryOf (now (q .entry))) (rowsBy (now (walks .entry)) (now (values .entry)))) (now (answer .entry)) ⌝ }
+{
+    let mut work = [0u16; BRANCHES + TWO + LIST + FEW];
+    let mut with = task;
+    with.front = BRANCHES + TWO;
+    answer_in(q, z, with, walks, values, memo, answer, &mut work)
+}
+
+// The same for more rows: 4,096 heads, and 16,384 rows are linked.
+fn answer_many(
+    q: &[u8],
+    z: &[u16],
+    task: Task,
+    walks: &[u16],
+    values: &[i32],
+    memo: &[i64],
+    answer: &mut [i64],
+) -> Reply
+    requires { ⌜ Passed (task .layout) (task .level) (now q) (now z)
+        × Trusted (now memo) (rowsBy (now walks) (now values)) (queryAt (task .layout) (task .level) (now q) (now z)) ⌝ }
+    ensures { λ r. ⌜ answerOf r (now (answer .exit)) ≡ give (length (queryOf (now (q .entry)) .targets))
+        (answers (queryOf (now (q .entry))) (rowsBy (now (walks .entry)) (now (values .entry)))) (now (answer .entry)) ⌝ }
+{
+    let mut work = [0u16; BRANCHES + LIST + MANY];
+    let mut with = task;
+    with.front = BRANCHES;
+    answer_in(q, z, with, walks, values, memo, answer, &mut work)
+}
+
+// The same with room for two chains.
+fn answer_many_linked(
+    q: &[u8],
+    z: &[u16],
+    task: Task,
+    walks: &[u16],
+    values: &[i32],
+    memo: &[i64],
+    answer: &mut [i64],
+) -> Reply
+    requires { ⌜ Passed (task .layout) (task .level) (now q) (now z)
+        × Trusted (now memo) (rowsBy (now walks) (now values)) (queryAt (task .layout) (task .level) (now q) (now z)) ⌝ }
+    ensures { λ r. ⌜ answerOf r (now (answer .exit)) ≡ give (length (queryOf (now (q .entry)) .targets))
+        (answers (queryOf (now (q .entry))) (rowsBy (now (walks .entry)) (now (values .entry)))) (now (answer .entry)) ⌝ }
+{
+    let mut work = [0u16; BRANCHES + TWO + LIST + MANY];
+    let mut with = task;
+    with.front = BRANCHES + TWO;
+    answer_in(q, z, with, walks, values, memo, answer, &mut work)
+}
+
+// The same with room for eight.
+fn answer_chained(
+    q: &[u8],
+    z: &[u16],
+    task: Task,
+    walks: &[u16],
+    values: &[i32],
+    memo: &[i64],
+    answer: &mut [i64],
+) -> Reply
+    requires { ⌜ Passed (task .layout) (task .level) (now q) (now z)
+        × Trusted (now memo) (rowsBy (now walks) (now values)) (queryAt (task .layout) (task .level) (now q) (now z)) ⌝ }
+    ensures { λ r. ⌜ answerOf r (now (answer .exit)) ≡ give (length (queryOf (now (q .entry)) .targets))
+        (answers (queryOf (now (q .entry))) (rowsBy (now (walks .entry)) (now (values .entry)))) (now (answer .entry)) ⌝ }
+{
+    let mut work = [0u16; BRANCHES + EIGHT + LIST + MANY];
+    let mut with = task;
+    with.front = BRANCHES + EIGHT;
+    answer_in(q, z, with, walks, values, memo, answer, &mut work)
+}
+
+// The same for any number of rows, by the ranges and by the room for them, with room for the chains that may pay.
 fn answer_by(
     q: &[u8],
     z: &[u16],
@@ -349,10 +388,20 @@ fn answer_by(
     let room = answer.len();
     let most = most_rows(q, layout.ranges, walks);
     let n = if room < most { room } else { most };
-    if 1024 < n {
-        return answer_many(q, z, task, walks, values, memo, answer);
+    let chains = chained(q, layout.ranges, walks) + holding(q) / 2;
+    if 2 < chains {
+        return answer_chained(q, z, task, walks, values, memo, answer);
     }
-    answer_few(q, z, task, walks, values, memo, answer)
+    if 1024 < n {
+        if chains == 0 {
+            return answer_many(q, z, task, walks, values, memo, answer);
+        }
+        return answer_many_linked(q, z, task, walks, values, memo, answer);
+    }
+    if chains == 0 {
+        return answer_few(q, z, task, walks, values, memo, answer);
+    }
+    answer_few_linked(q, z, task, walks, values, memo, answer)
 }
 
 // The same where the query may have aggregates: each is evaluated once, into a memo with two cells for each variable.
@@ -413,7 +462,11 @@ pub fn answer_query(
     ensures { λ r. ⌜ answerOf r (now (answer .exit)) ≡ give (length (queryOf (now (q .entry)) .targets))
         (answers (queryOf (now (q .entry))) (rowsBy (now (walks .entry)) (now (values .entry)))) (now (answer .entry)) ⌝ }
 {
-    let task = Task { layout, level };
+    let task = Task {
+        layout,
+        level,
+        front: BRANCHES,
+    };
     let h = holding(q);
     if h % 2 == 1 {
         return answer_filled(q, z, task, walks, values, answer);
@@ -422,8 +475,8 @@ pub fn answer_query(
     if !few(h, most_rows(q, layout.ranges, walks)) {
         return answer_by(q, z, task, walks, values, &memo, answer);
     }
-    let mut table = [0u16; 1];
-    answer_unlinked(q, z, task, walks, values, &memo, answer, &mut table)
+    let mut work = [0u16; BRANCHES + LIST + 1];
+    answer_in(q, z, task, walks, values, &memo, answer, &mut work)
 }
 
 // The same over all rows.

@@ -6,7 +6,7 @@ use Prim.Native.Nat.{ℕ, _+_, _-_, _*_, _≤_, _<_}
 use native.Mathlib.Omega.{arith}
 use lib.ListN.{length, getD, drop, length-drop}
 use Rattle.model.specs.Syntax.{Term, Query, Targets, levels, levelsQ}
-use Rattle.model.proofs.Lists.{nothing-left}
+use Rattle.model.proofs.Lists.{nothing-left, first-at}
 use Rattle.model.specs.Encoding.{encode, encodeTargets, ok, readQuery}
 use Rattle.model.specs.Catalogue.{Shape}
 use Rattle.model.specs.Scope.{Scope}
@@ -26,7 +26,7 @@ use Rattle.queries.specs.declared.Run.{Run}
 use Rattle.queries.specs.declared.Run.the-variants as T
 use Rattle.queries.specs.declared.Found.the-variants.{Whole, Refused}
 use Rattle.queries.specs.Found.{Targeted, Standing, Leads, TargetsFound, RestFound, Rest}
-use Rattle.queries.proofs.Targeting.{target-byte, byte-at}
+use Rattle.queries.proofs.Targeting.{target-byte}
 
 module _ (sh : Shape) (limit l : ℕ) (σ : Scope) (q : List ℕ) (r : ℕ) (z w : List ℕ) where
   -- no query with so many RANGE records, at most 8 targets and l levels is there
@@ -61,7 +61,7 @@ module _ (sh : Shape) (limit l : ℕ) (σ : Scope) (q : List ℕ) (r : ℕ) (z w
       no-target ts [] s v h w e f g = omega arith
       no-target (t ∷ ts) (u ∷ us) s v h w e f g = omega arith
       no-target [] (u ∷ us) s v h w e f g =
-          omega (arith, target-byte u us (encodeTargets us s) w, ap (λ x. getD x 0 0) g, ap (λ x. getD x 0 0) f, byte-at q c, run .stops)
+          omega (arith, target-byte u us (encodeTargets us s) w, ap (λ x. getD x 0 0) g, ap (λ x. getD x 0 0) f, first-at c q, run .stops)
 
       pub rest-none : n ≡ 0 → None
       rest-none h u e er et el =

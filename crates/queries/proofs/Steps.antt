@@ -1,58 +1,63 @@
 -- One step of each function as an equation over plain variables.
 use mathlib.Core.Path.{_≡_, refl, sym, ap, ap₂, _∙_}
-use mathlib.Core.Bool.{Bool, true, false, not}
+use mathlib.Core.Bool.{Bool, true, false, _&&_}
 use mathlib.Core.List.{List, [], _∷_}
 use mathlib.Core.Option.{some}
 use Prim.Native.Nat.{ℕ, zero, suc, _+_, _-_, _<_}
-use native.Mathlib.Numerals.{sub-one}
-use lib.ListN.{length, getD, drop, set}
+use native.Mathlib.Omega.{arith}
+use lib.ListN.{length, drop, set}
 use Rattle.model.specs.Lists.{update, all}
 use Rattle.model.specs.Syntax.{Binding}
-use Rattle.model.specs.Catalogue.{Shape}
-use Rattle.model.specs.Scope.{Scope, nobody, knownBinding, rangeScope}
-use Rattle.model.proofs.Tests.{not-yes, not-no}
+use Rattle.model.specs.Scope.{Scope, nobody, rangeScope}
 use Rattle.kinds.specs.Tables.{recordLength}
+use Rattle.kinds.specs.Places.{headAt}
+use Rattle.kinds.specs.declared.HeadRecord.{HeadRecord}
+use Rattle.kinds.specs.declared.HeadRecord.the-variants as H
 use Rattle.conditions.specs.Reach.{scopeOf}
 use Rattle.conditions.proofs.scope.Tables.{scope-set}
-use Rattle.sizes.specs.Parts.{rangesAt}
 use Rattle.queries.specs.Parts.{reachOn}
+use Rattle.queries.specs.Found.{rangeThen, headRanges}
 
--- the RANGE records, one at a time
-ranges-step : (left : ℕ) (q : List ℕ) → (left ≡ 0 → ⊥) → rangesAt left q ≡ record { variable = getD q 1 0; relation = getD q 2 0 } ∷ rangesAt (left - 1) (drop (recordLength 1) q)
-unfolding rangesAt
-ranges-step zero q h = absurd (h refl)
-ranges-step (suc n) q h = rw sub-one
+-- the RANGE records, one at a time: none are left, or another record stands there, or one more
+pub none-left : (left : ℕ) (q : List ℕ) → left ≡ 0 → headRanges left q ≡ []
+unfolding headRanges
+none-left left q h = rw h
 
-pub none-known : (f : Binding → Bool) (left : ℕ) (q : List ℕ) → left ≡ 0 → true ≡ all f (rangesAt left q)
-unfolding rangesAt all
-none-known f left q h = rw h
+module _ (left : ℕ) (q : List ℕ) (nz : left ≡ 0 → ⊥) (h : HeadRecord) (eh : h ≡ headAt q) where
+  step : headRanges left q ≡ rangeThen h (headRanges (left - 1) (drop (recordLength 1) q))
+  unfolding headRanges
+  step =
+      let e : left ≡ suc (left - 1) = omega (arith, nz) in
+      ap (λ n. headRanges n q) e ∙ ap (λ (x : HeadRecord). rangeThen x (headRanges (left - 1) (drop (recordLength 1) q))) (sym eh)
 
-pub none-bound : (left : ℕ) (q : List ℕ) (σ : Scope) → left ≡ 0 → σ ≡ reachOn (rangesAt left q) σ
-unfolding rangesAt reachOn
-none-bound left q σ h = rw h
+  pub other-here : h ≡ H.Other → headRanges left q ≡ []
+  other-here e = step ∙ ap (λ (x : HeadRecord). rangeThen x (headRanges (left - 1) (drop (recordLength 1) q))) e
 
-module _ (sh : Shape) (limit left : ℕ) (q : List ℕ) (v r : ℕ) (b : Bool) (nz : left ≡ 0 → ⊥) (ev : v ≡ getD q 1 0) (er : r ≡ getD q 2 0) (eb : b ≡ knownBinding sh limit (record { variable = v; relation = r })) where
-  head-known : knownBinding sh limit (record { variable = getD q 1 0; relation = getD q 2 0 }) ≡ b
-  head-known = sym (eb ∙ ap₂ (λ (x y : ℕ). knownBinding sh limit (record { variable = x; relation = y })) ev er)
+  pub range-here : (v r : ℕ) → h ≡ H.Range v r → (n : ℕ) (u : List ℕ) → n ≡ recordLength 1 → u ≡ drop n q
+      → headRanges left q ≡ record { variable = v; relation = r } ∷ headRanges (left - 1) u
+  range-here v r e n u en eu =
+      step ∙ ap (λ (x : HeadRecord). rangeThen x (headRanges (left - 1) (drop (recordLength 1) q))) e
+      ∙ ap (λ (x : List ℕ). record { variable = v; relation = r } ∷ headRanges (left - 1) x) (sym (eu ∙ ap (λ k. drop k q) en))
 
-  pub range-unknown : not b ≡ true → false ≡ all (knownBinding sh limit) (rangesAt left q)
+-- what is known of them, and whom they put in reach
+module _ (f : Binding → Bool) (bs : List Binding) where
+  pub none-known : bs ≡ [] → (0 ≡ length bs) × (true ≡ all f bs)
   unfolding all
-  range-unknown h = let g = head-known ∙ not-yes b h in sym (ap (all (knownBinding sh limit)) (ranges-step left q nz) ∙ rw g)
+  none-known e = (sym (ap length e), sym (ap (all f) e))
 
-  pub range-known : (n : ℕ) (u : List ℕ) (c : Bool) → not b ≡ false → n ≡ recordLength 1 → u ≡ drop n q → c ≡ all (knownBinding sh limit) (rangesAt (left - 1) u) → c ≡ all (knownBinding sh limit) (rangesAt left q)
+  pub more-known : (b : Binding) (cs : List Binding) → bs ≡ b ∷ cs → (n : ℕ) (x y z : Bool) → n ≡ length cs → x ≡ f b → y ≡ all f cs → z ≡ (x && y) → (1 + n ≡ length bs) × (z ≡ all f bs)
   unfolding all
-  range-known n u c h en eu ec =
-      let g = head-known ∙ not-no b h in
-      ec ∙ ap (λ (x : List ℕ). all (knownBinding sh limit) (rangesAt (left - 1) x)) (eu ∙ ap (λ k. drop k q) en) ∙ sym (ap (all (knownBinding sh limit)) (ranges-step left q nz) ∙ rw g)
+  more-known b cs e n x y z en ex ey ez = (omega (arith, en, ap length e), ez ∙ ap₂ _&&_ ex ey ∙ sym (ap (all f) e))
 
-pub range-bound : (left : ℕ) (q : List ℕ) (s t w : List ℕ) (n : ℕ) (u : List ℕ) (v r : ℕ) → (left ≡ 0 → ⊥) → n ≡ recordLength 1 → u ≡ drop n q
-    → scopeOf t ≡ reachOn (rangesAt (left - 1) u) (scopeOf s) → v ≡ getD q 1 0 → r ≡ getD q 2 0 → v < length t → w ≡ set t v (r + 1) → scopeOf w ≡ reachOn (rangesAt left q) (scopeOf s)
+pub none-bound : (bs : List Binding) (σ : Scope) → bs ≡ [] → σ ≡ reachOn bs σ
 unfolding reachOn
-range-bound left q s t w n u v r nz en eu et ev er hv ew =
-    ap scopeOf ew ∙ scope-set t v r hv
-    ∙ ap (λ (σ : Scope). update σ v (some r)) (et ∙ ap (λ (x : List ℕ). reachOn (rangesAt (left - 1) x) (scopeOf s)) (eu ∙ ap (λ k. drop k q) en))
-    ∙ ap₂ (λ (x y : ℕ). update (reachOn (rangesAt (left - 1) (drop (recordLength 1) q)) (scopeOf s)) x (some y)) ev er
-    ∙ sym (ap (λ (bs : List Binding). reachOn bs (scopeOf s)) (ranges-step left q nz))
+none-bound bs σ e = sym (ap (λ (l : List Binding). reachOn l σ) e)
+
+pub more-bound : (bs : List Binding) (v r : ℕ) (cs : List Binding) → bs ≡ record { variable = v; relation = r } ∷ cs → (s t w : List ℕ) → scopeOf t ≡ reachOn cs (scopeOf s)
+    → v < length t → w ≡ set t v (r + 1) → scopeOf w ≡ reachOn bs (scopeOf s)
+unfolding reachOn
+more-bound bs v r cs e s t w et hv ew =
+    ap scopeOf ew ∙ scope-set t v r hv ∙ ap (λ (σ : Scope). update σ v (some r)) et ∙ sym (ap (λ (l : List Binding). reachOn l (scopeOf s)) e)
 
 -- the whole query
 pub scope-ranges : (bs : List Binding) → reachOn bs nobody ≡ rangeScope bs

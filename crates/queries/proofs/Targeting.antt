@@ -1,21 +1,23 @@
--- RANGE records counted, and targets read one at a time.
+-- RANGE records and targets, read one at a time.
 use mathlib.Core.Path.{_≡_, refl, sym, ap, ap₂, _∙_, subst}
-use mathlib.Core.Bool.{Bool, true, false, not, cond, _&&_}
+use mathlib.Core.Bool.{Bool, true, false, not, _&&_}
 use mathlib.Core.List.{List, [], _∷_}
 use Prim.Native.Nat.{ℕ, zero, suc, _+_, _-_, _*_, _≤_, _<_}
-use native.Mathlib.Nat.{add-zero}
 use native.Mathlib.Omega.{arith}
-use lib.Dec.{eqb}
 use lib.ListN.{length, getD, drop}
-use lib.Seq.{getD-drop}
-use borrow.Author.Tests.{eqb-true, eq-eqb, ne-eqb}
+use lib.Seq.{drop-drop}
 use Rattle.model.specs.Lists.{all}
-use Rattle.model.specs.Syntax.{Condition, Term, TRUE, FALSE, NOT, AND, OR, COMPARE, SOME, CONSTANT, ATTRIBUTE, AGGREGATE, Binding, Targets, WellFormed, WellFormedT, levelsTs}
-use Rattle.model.specs.Encoding.{encode, encodeT, encodeTargets, encodeRanges}
+use Rattle.model.proofs.Lists.{first-at}
+use Rattle.model.specs.Syntax.{Condition, Term, TRUE, FALSE, NOT, AND, OR, COMPARE, SOME, CONSTANT, ATTRIBUTE, AGGREGATE, Binding, Query, Targets, WellFormed, WellFormedT, levelsTs}
+use Rattle.model.specs.Encoding.{encode, encodeT, encodeTargets, encodeRanges, encodeQuery}
 use Rattle.model.specs.Catalogue.{Shape}
 use Rattle.model.specs.Scope.{Scope}
 use Rattle.model.specs.Kinds.{kindOf, find}
 use Rattle.kinds.specs.Tables.{recordLength, ofKind}
+use Rattle.kinds.specs.Places.{headAt}
+use Rattle.kinds.specs.declared.HeadRecord.{HeadRecord}
+use Rattle.kinds.specs.declared.HeadRecord.the-variants as H
+use Rattle.kinds.proofs.Heads.{range-bytes, range-at, no-range}
 use Rattle.sizes.specs.declared.Size.{Size}
 use Rattle.sizes.specs.declared.Size.the-variants.{Bytes}
 use Rattle.sizes.specs.Measured.{Measured, onward, termSize, termTable}
@@ -29,57 +31,58 @@ use Rattle.conditions.proofs.Found.{FoundT, foundT, unreadT, the-term}
 use Rattle.queries.specs.Tables.{targetsMeasured}
 use Rattle.queries.specs.declared.Run.{Run}
 use Rattle.queries.specs.declared.Run.the-variants as T
-use Rattle.queries.specs.Found.{countRanges, Targeted, Standing, Leads, TargetsFound}
+use Rattle.queries.specs.Found.{rangeThen, headRanges, Targeted, Standing, Leads, TargetsFound}
 use Rattle.queries.proofs.Prepared.{target-well}
 
--- RANGE records
-pub count-none : (k : ℕ) (q : List ℕ) → k ≡ 0 → 0 ≡ countRanges k q
-unfolding countRanges
-count-none k q e = sym (rw e)
-
-module _ (k : ℕ) (q : List ℕ) (nz : k ≡ 0 → ⊥) (b : ℕ) (eb : b ≡ getD q 0 0) where
-  step : countRanges k q ≡ cond (eqb (getD q 0 0) 1) (1 + countRanges (k - 1) (drop 3 q)) 0
-  unfolding countRanges
-  step = let e : k ≡ suc (k - 1) = omega (arith, nz) in ap (λ n. countRanges n q) e
-
-  pub count-stop : (b ≡ 1 → ⊥) → 0 ≡ countRanges k q
-  count-stop h = let f : eqb (getD q 0 0) 1 ≡ false = ne-eqb (getD q 0 0) 1 (λ e. h (eb ∙ e)) in sym (step ∙ rw f)
-
-  pub count-more : b ≡ 1 → (n : ℕ) (t : List ℕ) (r : ℕ) → n ≡ recordLength 1 → t ≡ drop n q → r ≡ countRanges (k - 1) t → 1 + r ≡ countRanges k q
-  unfolding recordLength ofKind kindOf find
-  count-more h n t r en et er =
-      let f : eqb (getD q 0 0) 1 ≡ true = eq-eqb (getD q 0 0) 1 (sym eb ∙ h) in
-      ap (λ i. 1 + i) (er ∙ ap (countRanges (k - 1)) (et ∙ ap (λ i. drop i q) en)) ∙ sym (step ∙ rw f)
-
-ranged-more : (q : List ℕ) (r : ℕ) → getD q 0 0 ≡ 1 → (3 * r ≤ length (drop 3 q) → drop 3 q ≡ encodeRanges (rangesAt r (drop 3 q)) (drop (3 * r) (drop 3 q))) → 3 * (1 + r) ≤ length q → q ≡ encodeRanges (rangesAt (1 + r) q) (drop (3 * (1 + r)) q)
-unfolding rangesAt encodeRanges recordLength ofKind kindOf find
-ranged-more [] r e k h = absurd (omega arith)
-ranged-more (a ∷ []) r e k h = absurd (omega arith)
-ranged-more (a ∷ v ∷ []) r e k h = absurd (omega arith)
-ranged-more (a ∷ v ∷ w ∷ s) r e k h =
-    let i : s ≡ encodeRanges (rangesAt r s) (drop (3 * r) s) = k (omega arith) in
-    let one : 1 + r ≡ suc r = omega arith in
-    let three : 3 * suc r ≡ suc (suc (suc (3 * r))) = omega arith in
-    rw (one, three) (ap₂ (λ x y. x ∷ v ∷ w ∷ y) e i)
-
--- those that were counted stand there
-pub ranged : (k : ℕ) (q : List ℕ) → 3 * countRanges k q ≤ length q → q ≡ encodeRanges (rangesAt (countRanges k q) q) (drop (3 * countRanges k q) q)
-unfolding countRanges rangesAt encodeRanges
-ranged zero q h = refl
-ranged (suc k) q h = go (λ i. ranged k (drop 3 q) i) (eqb (getD q 0 0) 1) refl h
+-- RANGE records that were read stand there
+pub ranged : (k : ℕ) (q : List ℕ) → q ≡ encodeRanges (headRanges k q) (drop (3 * length (headRanges k q)) q)
+unfolding headRanges encodeRanges recordLength ofKind kindOf find
+ranged zero q = refl
+ranged (suc k) q = go (headAt q) refl (ranged k (drop 3 q))
   where
-    go : (3 * countRanges k (drop 3 q) ≤ length (drop 3 q) → drop 3 q ≡ encodeRanges (rangesAt (countRanges k (drop 3 q)) (drop 3 q)) (drop (3 * countRanges k (drop 3 q)) (drop 3 q))) → (b : Bool) → eqb (getD q 0 0) 1 ≡ b
-        → 3 * cond b (1 + countRanges k (drop 3 q)) 0 ≤ length q → q ≡ encodeRanges (rangesAt (cond b (1 + countRanges k (drop 3 q)) 0) q) (drop (3 * cond b (1 + countRanges k (drop 3 q)) 0) q)
-    go ih true e h = ranged-more q (countRanges k (drop 3 q)) (eqb-true (getD q 0 0) 1 e) ih h
-    go ih false e h = refl
+    go : (h : HeadRecord) → headAt q ≡ h → drop 3 q ≡ encodeRanges (headRanges k (drop 3 q)) (drop (3 * length (headRanges k (drop 3 q))) (drop 3 q))
+        → q ≡ encodeRanges (rangeThen h (headRanges k (drop 3 q))) (drop (3 * length (rangeThen h (headRanges k (drop 3 q)))) q)
+    go H.Other e ih = refl
+    go (H.Range v y) e ih =
+        let three : 3 + 3 * length (headRanges k (drop 3 q)) ≡ 3 * suc (length (headRanges k (drop 3 q))) = omega arith in
+        range-bytes q v y e
+        ∙ ap (λ (l : List ℕ). 1 ∷ v ∷ y ∷ l) (ih ∙ ap (encodeRanges (headRanges k (drop 3 q))) (drop-drop (3 * length (headRanges k (drop 3 q))) 3 q ∙ ap (λ n. drop n q) three))
 
--- and where RANGE records stand, all are counted
-pub counted : (bs : List Binding) (k : ℕ) (x : List ℕ) → length bs ≤ k → (getD x 0 0 ≡ 1 → ⊥) → countRanges k (encodeRanges bs x) ≡ length bs
-unfolding countRanges encodeRanges
-counted [] zero x h n = refl
-counted [] (suc k) x h n = let f : eqb (getD x 0 0) 1 ≡ false = ne-eqb (getD x 0 0) 1 n in rw f
-counted (b ∷ bs) zero x h n = absurd (omega arith)
-counted (b ∷ bs) (suc k) x h n = omega (arith, counted bs k x (omega arith) n)
+-- and are those at their places
+pub ranges-are : (k : ℕ) (q : List ℕ) → headRanges k q ≡ rangesAt (length (headRanges k q)) q
+unfolding headRanges rangesAt
+ranges-are zero q = refl
+ranges-are (suc k) q = go (headAt q) refl (headRanges k (drop (recordLength 1) q)) (ranges-are k (drop (recordLength 1) q))
+  where
+    go : (h : HeadRecord) → headAt q ≡ h → (bs : List Binding) → bs ≡ rangesAt (length bs) (drop (recordLength 1) q) → rangeThen h bs ≡ rangesAt (length (rangeThen h bs)) q
+    go H.Other e bs ih = refl
+    go (H.Range v y) e bs ih =
+        let b = range-bytes q v y e in
+        let f : v ≡ getD q 1 0 = sym (ap (λ (l : List ℕ). getD l 1 0) b) in let g : y ≡ getD q 2 0 = sym (ap (λ (l : List ℕ). getD l 2 0) b) in
+        ap (λ (l : List Binding). record { variable = v; relation = y } ∷ l) ih
+        ∙ ap₂ (λ (i j : ℕ). record { variable = i; relation = j } ∷ rangesAt (length bs) (drop (recordLength 1) q)) f g
+
+-- where RANGE records stand, all are read
+pub all-read : (bs : List Binding) (k : ℕ) (x : List ℕ) → length bs ≤ k → (length bs < k → getD x 0 0 ≡ 1 → ⊥) → headRanges k (encodeRanges bs x) ≡ bs
+unfolding headRanges encodeRanges recordLength ofKind kindOf find
+all-read [] zero x h n = refl
+all-read [] (suc k) x h n = ap (λ (r : HeadRecord). rangeThen r (headRanges k (drop 3 x))) (no-range x (n (omega arith)))
+all-read (b ∷ bs) zero x h n = absurd (omega arith)
+all-read (b ∷ bs) (suc k) x h n =
+    ap (λ (r : HeadRecord). rangeThen r (headRanges k (encodeRanges bs x))) (range-at (b .variable) (b .relation) (encodeRanges bs x))
+    ∙ ap (λ (l : List Binding). b ∷ l) (all-read bs k x (omega arith) (λ l. n (omega arith)))
+
+pub ranges-length : (n : ℕ) (q : List ℕ) → length (rangesAt n q) ≡ n
+unfolding rangesAt
+ranges-length zero q = refl
+ranges-length (suc n) q = ap suc (ranges-length n (drop (recordLength 1) q))
+
+-- of a query they are its own
+pub own-ranges : (u : Query) (q : List ℕ) (n : ℕ) → q ≡ encodeQuery u → rangesAt n q ≡ u .ranges → headRanges n q ≡ rangesAt n q
+unfolding encodeQuery
+own-ranges u q n e h =
+    let l : n ≡ length (u .ranges) = sym (ranges-length n q) ∙ ap length h in
+    ap₂ headRanges l e ∙ all-read (u .ranges) (length (u .ranges)) (encodeTargets (u .targets) (encode (u .condition) [])) (omega arith) (λ l. absurd (omega arith)) ∙ sym h
 
 -- the first byte of a target, and of a condition
 pub target-byte : (t : Term) (ts : List Term) (r : List ℕ) → Targets (t ∷ ts) → 33 ≤ getD (encodeT t r) 0 0
@@ -98,21 +101,18 @@ condition-byte (OR c d) r = omega arith
 condition-byte (COMPARE o s t) r = omega arith
 condition-byte (SOME v s c) r = omega arith
 
-pub byte-at : (q : List ℕ) (p : ℕ) → getD q p 0 ≡ getD (drop p q) 0 0
-byte-at q p = sym (getD-drop p q 0 0 ∙ ap (λ i. getD q i 0) (add-zero p))
-
 module _ (l : ℕ) (q : List ℕ) (p k b : ℕ) (eb : b ≡ getD q p 0) where
   -- no target starts here
   pub leads-end : b < 33 → Leads (T.Whole 0 p true) l q p k
   unfolding encodeTargets
   leads-end h [] c s st = st .bytes
-  leads-end h (t ∷ ts) c s st = absurd (omega (arith, target-byte t ts (encodeTargets ts (encode c s)) (st .well), ap (λ x. getD x 0 0) (st .bytes), byte-at q p, eb))
+  leads-end h (t ∷ ts) c s st = absurd (omega (arith, target-byte t ts (encodeTargets ts (encode c s)) (st .well), ap (λ x. getD x 0 0) (st .bytes), first-at p q, eb))
 
   -- one does
   module _ (hb : 33 ≤ b) where
     starts : {X : Type 0} (ts : List Term) (c : Condition) (s : List ℕ) → Standing l q p k ts c s → ((t : Term) (us : List Term) → ts ≡ t ∷ us → X) → X
     unfolding encodeTargets
-    starts [] c s st f = absurd (omega (arith, condition-byte c s, ap (λ x. getD x 0 0) (st .bytes), byte-at q p, eb))
+    starts [] c s st f = absurd (omega (arith, condition-byte c s, ap (λ x. getD x 0 0) (st .bytes), first-at p q, eb))
     starts (t ∷ us) c s st f = f t us refl
 
     pub leads-full : k ≡ 0 → Leads T.Refused l q p k
@@ -152,7 +152,7 @@ module _ (sh : Shape) (limit l : ℕ) (σ : Scope) (q : List ℕ) (p k : ℕ) (z
 
   target-first : (t : Term) (ts : List Term) (r : List ℕ) → drop p q ≡ encodeT t r → 33 ≤ b → WellFormedT t → Targets ts → Targets (t ∷ ts)
   unfolding encode Targets
-  target-first (CONSTANT a b c d) ts r e h w v = absurd (omega (arith, eb, byte-at q p, ap (λ x. getD x 0 0) e))
+  target-first (CONSTANT a b c d) ts r e h w v = absurd (omega (arith, eb, first-at p q, ap (λ x. getD x 0 0) e))
   target-first (ATTRIBUTE x a) ts r e h w v = v
   target-first (AGGREGATE f x s a c) ts r e h w v = (w, v)
 

@@ -8,7 +8,7 @@ use lib.Dec.{ltb}
 use lib.ListN.{length, getD, drop, length-drop, replicate}
 use borrow.Author.Tests.{le-ltb, lt-ltb, ltb-false}
 use Rattle.model.specs.Lists.{all, unique}
-use Rattle.model.specs.Syntax.{Term, Query, Targets, WellFormedQ, bindingsQ, levels, levelsQ, variables}
+use Rattle.model.specs.Syntax.{Binding, Term, Query, Targets, WellFormedQ, bindingsQ, levels, levelsQ, variables}
 use Rattle.model.specs.Encoding.{encode, encodeTargets, encodeRanges, encodeQuery, Read as Reads, fail, ok, failed, readOr, readQuery, queryOf}
 use Rattle.model.specs.Catalogue.{Shape, shapeOf, catalogueOf}
 use Rattle.model.specs.Scope.{Scope, knownBinding, inScope, inScopeT, rangeScope, queryInScope, boundOnce}
@@ -24,26 +24,24 @@ use Rattle.conditions.specs.Reach.{scopeOf, shapeIn}
 use Rattle.conditions.proofs.scope.Shapes.{shape-is}
 use Rattle.conditions.proofs.scope.Tables.{scope-blank}
 use Rattle.grammar.specs.declared.Layout.{Layout}
-use Rattle.grammar.specs.declared.Shape.{Shape as Form}
-use Rattle.grammar.specs.declared.Shape.the-variants.{WellFormed, NotWellFormed}
-use Rattle.grammar.specs.Shapes.{layout, shapeWithin, fails30At}
-use Rattle.grammar.proofs.Whole.{at-limit, ill-formed, well-formed}
+use Rattle.grammar.specs.Shapes.{layout, fails30At}
+use Rattle.grammar.proofs.Whole.{at-limit}
 use Rattle.queries.specs.Tables.{queryMeasured}
 use Rattle.queries.specs.declared.Limits.{Limits}
 use Rattle.queries.specs.declared.Found.{Found}
 use Rattle.queries.specs.declared.Found.the-variants.{Whole, Refused}
 use Rattle.queries.specs.Parts.{queryAt, reachOn, limitsOf, Laid, Room}
-use Rattle.queries.specs.Found.{countRanges, Targeted, RestFound, Rest, Read, Told}
+use Rattle.queries.specs.Found.{headRanges, Targeted, RestFound, Rest, Read, Told}
 use Rattle.queries.proofs.Numbers.{ready-is}
 use Rattle.queries.proofs.Steps.{scope-ranges}
-use Rattle.queries.proofs.Targeting.{ranged, counted, target-byte}
+use Rattle.queries.proofs.Targeting.{ranged, ranges-are, all-read, ranges-length, target-byte}
 
 -- what the grammar finds
-pub number-30 : (limit : ℕ) (q : List ℕ) (s : Form) → s ≡ shapeWithin limit q → s ≡ NotWellFormed → _≡_ {A = ℕ} 30 (cond (fails30At limit q) 30 31)
-number-30 limit q s e h = ap (λ b. cond {A = ℕ} b 30 31) (ill-formed limit q (sym h ∙ e))
+pub number-30 : (limit : ℕ) (q : List ℕ) (b : Bool) → b ≡ fails30At limit q → b ≡ true → _≡_ {A = ℕ} 30 (cond (fails30At limit q) 30 31)
+number-30 limit q b e h = ap (λ b. cond {A = ℕ} b 30 31) (sym h ∙ e)
 
-pub number-31 : (limit : ℕ) (q : List ℕ) (s : Form) (y : Layout) → s ≡ shapeWithin limit q → s ≡ WellFormed y → _≡_ {A = ℕ} 31 (cond (fails30At limit q) 30 31)
-number-31 limit q s y e h = ap (λ b. cond {A = ℕ} b 30 31) (well-formed limit q y (sym h ∙ e))
+pub number-31 : (limit : ℕ) (q : List ℕ) (b : Bool) → b ≡ fails30At limit q → b ≡ false → _≡_ {A = ℕ} 31 (cond (fails30At limit q) 30 31)
+number-31 limit q b e h = ap (λ b. cond {A = ℕ} b 30 31) (sym h ∙ e)
 
 -- a query that passes 30 was read
 record Good (q : List ℕ) : Type 0 where
@@ -81,7 +79,7 @@ module _ (l : Limits) (q : List ℕ) where
   first-target [] s h w e = omega arith
   first-target (t ∷ ts) s h w e = omega (arith, target-byte t ts (encodeTargets ts s) w)
 
-  pub over-rest : (sh : Shape) (limit : ℕ) (σ : Scope) (z w : List ℕ) (n : ℕ) → n ≡ countRanges 4 q → (m : Found) → m ≡ Refused → Rest m sh limit (l .levels) σ q n z w → fails30 (limitsOf l) q ≡ false → fails31 (limitsOf l) (queryOf q) ≡ true
+  pub over-rest : (sh : Shape) (limit : ℕ) (σ : Scope) (z w : List ℕ) (n : ℕ) → n ≡ length (headRanges 4 q) → (m : Found) → m ≡ Refused → Rest m sh limit (l .levels) σ q n z w → fails30 (limitsOf l) q ≡ false → fails31 (limitsOf l) (queryOf q) ≡ true
   unfolding fails31 encodeQuery
   over-rest sh limit σ z w n en m em h f = go (fails31 (limitsOf l) (queryOf q)) refl
     where
@@ -91,20 +89,18 @@ module _ (l : Limits) (q : List ℕ) where
           let g = good l q f in let i = g .is in
           let a = or-no _ _ e in let b = or-no _ _ (a .0) in let c = or-no _ _ (a .1) in
           let few : length (queryOf q .ranges) ≤ 4 = ltb-false 4 (length (queryOf q .ranges)) (b .0) in
-          let c4 : n ≡ length (queryOf q .ranges) = en ∙ ap (countRanges 4) (i .bytes) ∙ counted (queryOf q .ranges) 4 (encodeTargets (queryOf q .targets) (encode (queryOf q .condition) [])) few (first-target (queryOf q .targets) (encode (queryOf q .condition) []) (i .well .some-target) (i .well .targets)) in
+          let c4 : n ≡ length (queryOf q .ranges) = en ∙ ap (λ (x : List ℕ). length (headRanges 4 x)) (i .bytes) ∙ ap length (all-read (queryOf q .ranges) 4 (encodeTargets (queryOf q .targets) (encode (queryOf q .condition) [])) few (λ _. first-target (queryOf q .targets) (encode (queryOf q .condition) []) (i .well .some-target) (i .well .targets))) in
           absurd (subst (λ x. Rest x sh limit (l .levels) σ q n z w) em h (queryOf q) (g .read) (sym c4) (ltb-false 8 (length (queryOf q .targets)) (b .1)) (ltb-false (l .levels) (levelsQ (queryOf q)) (c .0)))
 
-ranges-length : (n : ℕ) (q : List ℕ) → length (rangesAt n q) ≡ n
-unfolding rangesAt
-ranges-length zero q = refl
-ranges-length (suc n) q = ap suc (ranges-length n (drop (recordLength 1) q))
-
 -- a query that was read: it is what its RANGE records, targets and condition encode
-module _ (l : Limits) (cb q : List ℕ) (h10 : fails10 cb ≡ false) (short : length q ≤ l .bytes) (n : ℕ) (en : n ≡ countRanges 4 q) (few : n ≤ 4)
-    (k : ℕ) (ek : k ≡ length (flatBindings q)) (hk : k ≤ l .variables) (s : List ℕ) (es : scopeOf s ≡ reachOn (rangesAt n q) (scopeOf (replicate 256 0)))
+module _ (l : Limits) (cb q : List ℕ) (h10 : fails10 cb ≡ false) (short : length q ≤ l .bytes) (n : ℕ) (en : n ≡ length (headRanges 4 q)) (few : n ≤ 4)
+    (k : ℕ) (ek : k ≡ length (flatBindings q)) (hk : k ≤ l .variables) (s : List ℕ) (es : scopeOf s ≡ reachOn (headRanges 4 q) (scopeOf (replicate 256 0)))
     (z : List ℕ) (room : Room q z) (y : Layout) (i : Bool) (w : List ℕ) where
-  those : 3 * n ≤ length q → q ≡ encodeRanges (rangesAt n q) (drop (3 * n) q)
-  those = subst (λ m. 3 * m ≤ length q → q ≡ encodeRanges (rangesAt m q) (drop (3 * m) q)) (sym en) (ranged 4 q)
+  heads : headRanges 4 q ≡ rangesAt n q
+  heads = ranges-are 4 q ∙ ap (λ m. rangesAt m q) (sym en)
+
+  those : q ≡ encodeRanges (rangesAt n q) (drop (3 * n) q)
+  those = ranged 4 q ∙ ap₂ (λ (bs : List Binding) (m : ℕ). encodeRanges bs (drop (3 * m) q)) heads (sym en)
 
   module _ (a : RestFound (shapeIn cb) (l .variables) (l .levels) (scopeOf s) q n y i z w) where
     abbrev t : Targeted (shapeIn cb) (l .variables) (l .levels) (scopeOf s) q (3 * n) 8 (y .targets) (y .condition) (a .first-in) z (a .between)
@@ -115,7 +111,7 @@ module _ (l : Limits) (cb q : List ℕ) (h10 : fails10 cb ≡ false) (short : le
 
     encoded : q ≡ encodeQuery u
     unfolding encodeQuery
-    encoded = those (a .room) ∙ ap (encodeRanges (rangesAt n q)) (t .bytes ∙ ap (encodeTargets (t .targets)) (a .bytes))
+    encoded = those ∙ ap (encodeRanges (rangesAt n q)) (t .bytes ∙ ap (encodeTargets (t .targets)) (a .bytes))
 
     well : WellFormedQ u
     well = record { some-target = omega (arith, a .some-target, t .counted); targets = t .well; condition = a .well }
@@ -145,7 +141,7 @@ module _ (l : Limits) (cb q : List ℕ) (h10 : fails10 cb ≡ false) (short : le
     deep = omega (arith, t .deep, a .deep)
 
     in-ranges : scopeOf s ≡ rangeScope (rangesAt n q)
-    in-ranges = es ∙ ap (reachOn (rangesAt n q)) (scope-blank 256) ∙ scope-ranges (rangesAt n q)
+    in-ranges = es ∙ ap₂ reachOn heads (scope-blank 256) ∙ scope-ranges (rangesAt n q)
 
     targets-in : all (λ x. inScopeT (shapeOf (catalogueOf cb)) (l .variables) x (rangeScope (rangesAt n q))) (t .targets) ≡ a .first-in
     targets-in =
@@ -206,12 +202,15 @@ module _ (l : Limits) (cb q : List ℕ) (h10 : fails10 cb ≡ false) (short : le
         none true d = refl
         none false d = refl
 
-    module _ (g : not i ≡ false) (b : Bool) (eb : b ≡ all (knownBinding (shapeIn cb) (l .variables)) (rangesAt n q)) where
+    module _ (g : not i ≡ false) (b : Bool) (eb : b ≡ all (knownBinding (shapeIn cb) (l .variables)) (headRanges 4 q)) where
+      known : all (knownBinding (shapeIn cb) (l .variables)) (rangesAt n q) ≡ b
+      known = ap (all (knownBinding (shapeIn cb) (l .variables))) (sym heads) ∙ sym eb
+
       pub read-unknown : not b ≡ true → Read y false l (shapeOf (catalogueOf cb)) q w
-      read-unknown f = reads a false (sym (ap (λ x. (x && i) && unique (variables (flatBindings q))) (sym eb ∙ not-yes b f)))
+      read-unknown f = reads a false (sym (ap (λ x. (x && i) && unique (variables (flatBindings q))) (known ∙ not-yes b f)))
 
       pub read-all : not b ≡ false → (d : Bool) → d ≡ unique (variables (flatBindings q)) → Read y d l (shapeOf (catalogueOf cb)) q w
-      read-all f d ed = reads a d (ed ∙ sym (ap₂ (λ x y. (x && y) && unique (variables (flatBindings q))) (sym eb ∙ not-no b f) (not-no i g)))
+      read-all f d ed = reads a d (ed ∙ sym (ap₂ (λ x y. (x && y) && unique (variables (flatBindings q))) (known ∙ not-no b f) (not-no i g)))
 
 -- the number
 module _ (l : Limits) (sh : Shape) (q w : List ℕ) (m : Found) (h : Told m l sh q w) where

@@ -1,16 +1,19 @@
 -- What the reading of a query says: where it found one, and where it found none.
-use Prim.Native.Nat.{ℕ, zero, suc, _+_, _*_, _≤_, _<_}
+use Prim.Native.Nat.{ℕ, zero, suc, _*_, _≤_, _<_}
 use mathlib.Core.Bool.{Bool, true, false, not, cond}
-use mathlib.Core.List.{List, []}
+use mathlib.Core.List.{List, [], _∷_}
 use mathlib.Core.Path.{_≡_}
-use lib.Dec.{eqb}
 use lib.ListN.{length, getD, drop}
 use Rattle.model.specs.Lists.{all}
-use Rattle.model.specs.Syntax.{Condition, Term, Query, Targets, WellFormed, levels, levelsTs, levelsQ}
+use Rattle.model.specs.Syntax.{Binding, Condition, Term, Query, Targets, WellFormed, levels, levelsTs, levelsQ}
 use Rattle.model.specs.Encoding.{encode, encodeTargets, ok, readQuery, queryOf}
 use Rattle.model.specs.Catalogue.{Shape}
 use Rattle.model.specs.Scope.{Scope, inScope, inScopeT}
 use Rattle.model.specs.Checks.{fails30, fails31, fails32}
+use Rattle.kinds.specs.Tables.{recordLength}
+use Rattle.kinds.specs.Places.{headAt}
+use Rattle.kinds.specs.declared.HeadRecord.{HeadRecord}
+use Rattle.kinds.specs.declared.HeadRecord.the-variants as H
 use Rattle.sizes.specs.declared.Size.the-variants.{Bytes}
 use Rattle.queries.specs.Tables.{targetsMeasured, queryMeasured}
 use Rattle.grammar.specs.declared.Layout.{Layout}
@@ -21,10 +24,15 @@ use Rattle.queries.specs.declared.Found.{Found}
 use Rattle.queries.specs.declared.Found.the-variants.{Whole, Refused}
 use Rattle.queries.specs.Parts.{queryAt, limitsOf, Laid}
 
--- RANGE records from the first on, at most k
-unfoldable pub countRanges : ℕ → List ℕ → ℕ
-countRanges zero q = 0
-countRanges (suc k) q = cond (eqb (getD q 0 0) 1) (1 + countRanges k (drop 3 q)) 0
+-- a RANGE and those after it, none where another record stands
+abbrev pub rangeThen : HeadRecord → List Binding → List Binding
+rangeThen (H.Range v r) bs = record { variable = v; relation = r } ∷ bs
+rangeThen H.Other bs = []
+
+-- the RANGE records that bytes start with, at most k
+unfoldable pub headRanges : ℕ → List ℕ → List Binding
+headRanges zero q = []
+headRanges (suc k) q = rangeThen (headAt q) (headRanges k (drop (recordLength 1) q))
 
 module _ (sh : Shape) (limit l : ℕ) (σ : Scope) (q : List ℕ) where
   -- n targets from p on, at most k, up to e, in scope where b says so; the table z before and w afterwards

@@ -1,22 +1,22 @@
 // The checks of a query (30, 31, 32), and its table of sizes, from one reading. Only where it finds no query within the limits does the grammar say
 // whether the query is ill formed or too large.
 use conditions::Reading;
+use grammar::Input;
 use grammar::Layout;
-use grammar::Shape;
+use kinds::HeadRecord;
 ghost use mathlib.Core.Path.{_≡_};
-ghost use mathlib.Core.Bool.{cond, true, false};
+ghost use mathlib.Core.Bool.{cond, true, false, _&&_};
 ghost use Prim.Native.Nat.{_≤_, _<_};
 ghost use lib.ListN.{length, drop};
 ghost use Rattle.model.specs.Lists.{all};
 ghost use Rattle.model.specs.Syntax.{variables};
 ghost use Rattle.model.specs.Scope.{knownBinding};
 ghost use Rattle.conditions.specs.Reach.{scopeOf, shapeIn};
-ghost use Rattle.sizes.specs.Parts.{rangesAt};
 ghost use Rattle.model.specs.Catalogue.{catalogueOf, shapeOf};
 ghost use Rattle.model.specs.Checks.{fails10, queryChecks, refusal};
 ghost use Rattle.queries.specs.Parts.{reachOn, limitsOf, numberOf, Ready};
 ghost use Rattle.grammar.specs.Shapes.{fails30At};
-ghost use Rattle.queries.specs.Found.{countRanges, TargetsFound, Leads, Rest, Told};
+ghost use Rattle.queries.specs.Found.{headRanges, TargetsFound, Leads, Rest, Told};
 
 // The limits of a call.
 pub struct Limits {
@@ -31,49 +31,50 @@ pub enum Checked {
     Passed(Layout),
 }
 
-// Puts the variables of so many RANGE records in reach; whether they and their relations have known numbers.
-fn bind_ranges(ranges: &[u8], left: usize, catalogue: &[u8], limit: u8, reach: &mut [u16]) -> bool
+// The RANGE records that a query starts with: how many, and whether they and their relations have known numbers.
+struct Ranges {
+    count: usize,
+    known: bool,
+}
+
+const NO_RANGES: Ranges = Ranges {
+    count: 0,
+    known: true,
+};
+
+fn both(a: bool, b: bool) -> bool
+    ensures { λ r. ⌜ r ≡ (a && b) ⌝ }
+{
+    if a { b } else { false }
+}
+
+// Puts the variables of the RANGE records that q starts with in reach, of at most so many.
+fn bind_ranges(q: &[u8], left: usize, catalogue: &[u8], limit: u8, reach: &mut [u16]) -> Ranges
     requires { ⌜ 256 ≤ length (now reach) ⌝ }
-    ensures { λ r. ⌜ r ≡ all (knownBinding (shapeIn (now (catalogue .entry))) limit) (rangesAt left (now (ranges .entry))) ⌝ }
-    ensures { λ _. ⌜ scopeOf (now (reach .exit)) ≡ reachOn (rangesAt left (now (ranges .entry))) (scopeOf (now (reach .entry))) ⌝ }
+    ensures { λ r. ⌜ (r .count ≡ length (headRanges left (now (q .entry))))
+        × (r .known ≡ all (knownBinding (shapeIn (now (catalogue .entry))) limit) (headRanges left (now (q .entry)))) ⌝ }
+    ensures { λ _. ⌜ scopeOf (now (reach .exit)) ≡ reachOn (headRanges left (now (q .entry))) (scopeOf (now (reach .entry))) ⌝ }
+    ensures { λ r. ⌜ r .count ≤ left ⌝ }
 {
     if left == 0 {
-        return true;
+        return NO_RANGES;
     }
-    let others = bind_ranges(
-        kinds::tail(ranges, kinds::record_length(1)),
-        left - 1,
-        catalogue,
-        limit,
-        reach,
-    );
-    let variable = kinds::byte(ranges, 1);
-    let relation = kinds::byte(ranges, 2);
+    let HeadRecord::Range(variable, relation) = kinds::head_record(q) else {
+        return NO_RANGES;
+    };
+    let rest = kinds::tail(q, kinds::record_length(1));
+    let others = bind_ranges(rest, left - 1, catalogue, limit, reach);
     let known = conditions::scope::enter(catalogue, reach, limit, variable, relation);
-    if !known {
-        return false;
+    Ranges {
+        count: 1 + others.count,
+        known: both(known, others.known),
     }
-    others
 }
 
 fn wide(x: u8) -> usize
     ensures { λ r. ⌜ r ≡ x ⌝ }
 {
     x as usize
-}
-
-// How many RANGE records q starts with, of at most so many.
-fn count_ranges(q: &[u8], left: usize) -> usize
-    ensures { λ r. ⌜ r ≡ countRanges left (now (q .entry)) ⌝ }
-    ensures { λ r. ⌜ r ≤ left ⌝ }
-{
-    if left == 0 {
-        return 0;
-    }
-    if kinds::byte(q, 0) != 1 {
-        return 0;
-    }
-    1 + count_ranges(kinds::tail(q, kinds::record_length(1)), left - 1)
 }
 
 // Targets one after the other.
@@ -211,16 +212,16 @@ fn read(q: &[u8], limits: Limits, catalogue: &[u8], z: &mut [u16]) -> Found
     if wide(variables) < bound.count {
         return Found::Refused;
     }
-    let n = count_ranges(q, model::RANGES);
     let mut reach = [0u16; 256];
-    let known = bind_ranges(q, n, catalogue, variables, &mut reach);
+    let heads = bind_ranges(q, model::RANGES, catalogue, variables, &mut reach);
+    let n = heads.count;
     let Found::Whole(layout, inside) = rest(q, z, n, level, catalogue, variables, &mut reach) else {
         return Found::Refused;
     };
     if !inside {
         return Found::Whole(layout, false);
     }
-    if !known {
+    if !heads.known {
         return Found::Whole(layout, false);
     }
     Found::Whole(layout, bound.once)
@@ -230,9 +231,10 @@ fn read(q: &[u8], limits: Limits, catalogue: &[u8], z: &mut [u16]) -> Found
 fn number(q: &[u8], bytes: usize) -> u8
     ensures { λ r. ⌜ r ≡ cond (fails30At bytes (now (q .entry))) 30 31 ⌝ }
 {
-    match grammar::query_within(q, bytes) {
-        Shape::WellFormed(_) => 31,
-        Shape::NotWellFormed => 30,
+    if grammar::refused(q, Input::Query(bytes)) {
+        30
+    } else {
+        31
     }
 }
 

@@ -10,15 +10,14 @@ use lib.Seq.{sets}
 use Rattle.model.specs.Lists.{total}
 use Rattle.model.specs.Syntax.{Term, Binding, bindings, bindingsT}
 use Rattle.model.specs.Encoding.{encodeRanges}
-use Rattle.kinds.specs.Tables.{recordLength}
 use Rattle.sizes.specs.Decode.{decode, decodeT}
-use Rattle.sizes.specs.Parts.{rangesAt, targetsAt}
+use Rattle.sizes.specs.Parts.{targetsAt}
 use Rattle.grammar.specs.declared.Layout.{Layout}
 use Rattle.copier.specs.Guard.{opening, guardBytes, guardNew}
 use Rattle.copier.proofs.Sets.{Wrote, wrote-then, wrote-as}
 use Rattle.rewriter.specs.Rewritten.{maskOf, newOf, rewritten, rewrittenT, Room, After}
-use Rattle.queries.specs.Parts.{queryAt}
-use Rattle.rewriter.specs.Parts.{targetsBytes, targetsNew, openings, rangeGuards, finalBytes, queryBytes, queryNew}
+use Rattle.queries.specs.Found.{headRanges}
+use Rattle.rewriter.specs.Parts.{queryRead, targetsBytes, targetsNew, openings, rangeGuards, finalBytes, queryBytes, queryNew}
 use Rattle.rewriter.proofs.Runs.{Did, did-as, did-then, did-head, room-left, room-then, room-as}
 
 -- bytes that are two runs
@@ -57,53 +56,42 @@ module _ (W : List ℕ) (K n : ℕ) (w : List ℕ) (k : ℕ) (w′ : ℕ → Lis
         (did-then d at n w k x p j (w′ (n + k)) k′ y e m g (did-as x p j (w′ j) (w′ (n + k)) k′ k′ y e m (ap w′ (g .0 .1)) refl h))
 
 -- no RANGE is left, or no target
-pub ranges-none : (l : ℕ) (q : List ℕ) → l ≡ 0 → rangesAt l q ≡ []
-unfolding rangesAt
-ranges-none l q h = rw h
-
-pub no-ranges : (l : ℕ) (q : List ℕ) → l ≡ 0 → [] ≡ encodeRanges (rangesAt l q) []
+pub no-ranges : (bs : List Binding) → bs ≡ [] → [] ≡ encodeRanges bs []
 unfolding encodeRanges
-no-ranges l q h = sym (ap (λ (bs : List Binding). encodeRanges bs []) (ranges-none l q h))
+no-ranges bs e = sym (ap (λ (l : List Binding). encodeRanges l []) e)
 
-pub no-openings : (masks : List ℕ) (l : ℕ) (q : List ℕ) → l ≡ 0 → [] ≡ openings masks (rangesAt l q)
+pub no-openings : (masks : List ℕ) (bs : List Binding) → bs ≡ [] → [] ≡ openings masks bs
 unfolding openings
-no-openings masks l q h = sym (ap (openings masks) (ranges-none l q h))
+no-openings masks bs e = sym (ap (openings masks) e)
 
 nothing : (d : List ℕ) (at n : ℕ) (W : List ℕ) (K : ℕ) → W ≡ [] → K ≡ 0 → Did d at n W K d at n
 nothing d at n W K e k = did-as d at n [] W 0 K d at n (sym e) (sym k) ((sym (add-zero at), sym (add-zero n)), refl)
 
 module _ (masks : List ℕ) (f : ℕ → List ℕ) where
-  pub no-guards : (l : ℕ) (q : List ℕ) → l ≡ 0 → (d : List ℕ) (at n : ℕ) → Did d at n (rangeGuards masks f (rangesAt l q) n) (newOf masks f (rangesAt l q)) d at n
+  pub no-guards : (bs : List Binding) → bs ≡ [] → (d : List ℕ) (at n : ℕ) → Did d at n (rangeGuards masks f bs n) (newOf masks f bs) d at n
   unfolding rangeGuards newOf total
-  no-guards l q h d at n = nothing d at n _ _ (ap (λ (bs : List Binding). rangeGuards masks f bs n) (ranges-none l q h)) (ap (newOf masks f) (ranges-none l q h))
+  no-guards bs e d at n = nothing d at n _ _ (ap (λ (l : List Binding). rangeGuards masks f l n) e) (ap (newOf masks f) e)
 
   pub no-targets : (k l : ℕ) (q z : List ℕ) → k ≡ 0 → (d : List ℕ) (at n : ℕ) → Did d at n (targetsBytes masks f (targetsAt k l q z) n) (targetsNew masks f (targetsAt k l q z)) d at n
   unfolding targetsAt targetsBytes targetsNew
   no-targets k l q z h d at n = nothing d at n _ _ (ap (λ (i : ℕ). targetsBytes masks f (targetsAt i l q z) n) h) (ap (λ (i : ℕ). targetsNew masks f (targetsAt i l q z)) h)
 
 -- a RANGE and those after it
-module _ (l : ℕ) (q : List ℕ) (h : l ≡ 0 → ⊥) (k : ℕ) (ek : k ≡ recordLength 1) (x : List ℕ) (ex : x ≡ drop k q) (v : ℕ) (ev : v ≡ getD q 1 0) where
-  ranges-cons : (r : ℕ) → r ≡ getD q 2 0 → rangesAt l q ≡ record { variable = v; relation = r } ∷ rangesAt (l - 1) x
-  unfolding rangesAt
-  ranges-cons r er = go l h ∙ ap₂ (λ (u w : ℕ). record { variable = u; relation = w } ∷ rangesAt (l - 1) x) (sym ev) (sym er)
-    where
-      go : (m : ℕ) → (m ≡ 0 → ⊥) → rangesAt m q ≡ record { variable = getD q 1 0; relation = getD q 2 0 } ∷ rangesAt (m - 1) x
-      go zero h = absurd (h refl)
-      go (suc m) h = rw (sub-one, ex, ek)
-
-  pub range-first : (r : ℕ) → r ≡ getD q 2 0 → Two (encodeRanges (rangesAt l q) []) (1 ∷ v ∷ r ∷ []) (encodeRanges (rangesAt (l - 1) x) [])
+module _ (bs : List Binding) (v r : ℕ) (cs : List Binding) (e : bs ≡ record { variable = v; relation = r } ∷ cs) where
+  pub range-first : Two (encodeRanges bs []) (1 ∷ v ∷ r ∷ []) (encodeRanges cs [])
   unfolding encodeRanges
-  range-first r er = record { bytes = ap (λ (bs : List Binding). encodeRanges bs []) (ranges-cons r er) }
+  range-first = record { bytes = ap (λ (l : List Binding). encodeRanges l []) e }
 
-  pub opening-last : (masks : List ℕ) (m : ℕ) → m ≡ getD masks v 0 → Two (openings masks (rangesAt l q)) (openings masks (rangesAt (l - 1) x)) (opening m)
+  pub opening-last : (masks : List ℕ) (m : ℕ) → m ≡ getD masks v 0 → Two (openings masks bs) (openings masks cs) (opening m)
   unfolding openings
-  opening-last masks m em = record { bytes = ap (openings masks) (ranges-cons (getD q 2 0) refl) ∙ ap (λ (i : ℕ). openings masks (rangesAt (l - 1) x) ++ opening i) (sym em) }
+  opening-last masks m em = record { bytes = ap (openings masks) e ∙ ap (λ (i : ℕ). openings masks cs ++ opening i) (sym em) }
 
-  pub guard-first : (masks : List ℕ) (f : ℕ → List ℕ) (m n : ℕ) → m ≡ getD masks v 0 → Pair (rangeGuards masks f (rangesAt l q) n) (newOf masks f (rangesAt l q)) n (guardBytes m f v n) (guardNew m f) (λ j. rangeGuards masks f (rangesAt (l - 1) x) j) (newOf masks f (rangesAt (l - 1) x))
+  pub guard-first : (masks : List ℕ) (f : ℕ → List ℕ) (m n : ℕ) → m ≡ getD masks v 0
+      → Pair (rangeGuards masks f bs n) (newOf masks f bs) n (guardBytes m f v n) (guardNew m f) (λ j. rangeGuards masks f cs j) (newOf masks f cs)
   unfolding rangeGuards newOf total
   guard-first masks f m n em = record {
-    bytes = ap (λ (bs : List Binding). rangeGuards masks f bs n) (ranges-cons (getD q 2 0) refl) ∙ ap (λ (i : ℕ). guardBytes i f v n ++ rangeGuards masks f (rangesAt (l - 1) x) (n + guardNew i f)) (sym em);
-    numbers = ap (newOf masks f) (ranges-cons (getD q 2 0) refl) ∙ ap (λ (i : ℕ). guardNew i f + newOf masks f (rangesAt (l - 1) x)) (sym em);
+    bytes = ap (λ (l : List Binding). rangeGuards masks f l n) e ∙ ap (λ (i : ℕ). guardBytes i f v n ++ rangeGuards masks f cs (n + guardNew i f)) (sym em);
+    numbers = ap (newOf masks f) e ∙ ap (λ (i : ℕ). guardNew i f + newOf masks f cs) (sym em);
   }
 
 -- a target and those after it
@@ -172,7 +160,7 @@ module _ (Q : List ℕ) (K : ℕ) (R T O : List ℕ) (C G : ℕ → List ℕ) (k
               (omega (arith, done .0 .0), done .1)
 
 pub query-whole : (masks : List ℕ) (f : ℕ → List ℕ) (o : Layout) (l : ℕ) (q z : List ℕ) (x y : List ℕ) → x ≡ drop (o .first) q → y ≡ drop (o .first) z → (u v : List ℕ) → u ≡ drop (o .condition) q → v ≡ drop (o .condition) z
-    → Whole (queryBytes masks f (queryAt o l q z)) (queryNew masks f (queryAt o l q z)) (encodeRanges (rangesAt (o .ranges) q) []) (targetsBytes masks f (targetsAt (o .targets) l x y) 8) (openings masks (rangesAt (o .ranges) q))
-    (λ i. rewritten masks f (decode l u v) i) (λ i. rangeGuards masks f (rangesAt (o .ranges) q) i) (targetsNew masks f (targetsAt (o .targets) l x y)) (newOf masks f (bindings (decode l u v))) (newOf masks f (rangesAt (o .ranges) q))
+    → Whole (queryBytes masks f (queryRead o l q z)) (queryNew masks f (queryRead o l q z)) (encodeRanges (headRanges (o .ranges) q) []) (targetsBytes masks f (targetsAt (o .targets) l x y) 8) (openings masks (headRanges (o .ranges) q))
+    (λ i. rewritten masks f (decode l u v) i) (λ i. rangeGuards masks f (headRanges (o .ranges) q) i) (targetsNew masks f (targetsAt (o .targets) l x y)) (newOf masks f (bindings (decode l u v))) (newOf masks f (headRanges (o .ranges) q))
 unfolding queryBytes queryNew
 query-whole masks f o l q z x y ex ey u v eu ev = rw (ex, ey, eu, ev) (record { bytes = refl; numbers = refl })

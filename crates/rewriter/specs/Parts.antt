@@ -1,11 +1,23 @@
 -- The bytes of a rewritten query, part by part (document 01, "Permits and the rewriting", step 4 and the numbering).
 use Prim.Native.Nat.{ℕ, _+_}
 use mathlib.Core.List.{List, [], _∷_, _++_}
-use lib.ListN.{getD}
+use lib.ListN.{getD, drop}
 use Rattle.model.specs.Syntax.{Condition, Term, Binding, Query, bindings, bindingsT}
 use Rattle.model.specs.Encoding.{encodeRanges}
+use Rattle.sizes.specs.Decode.{decode}
+use Rattle.sizes.specs.Parts.{targetsAt}
+use Rattle.grammar.specs.declared.Layout.{Layout}
+use Rattle.queries.specs.Found.{headRanges}
 use Rattle.copier.specs.Guard.{opening, guardBytes, guardNew}
 use Rattle.rewriter.specs.Rewritten.{maskOf, newOf, rewritten, rewrittenT}
+
+-- the query that bytes and their table stand for, its RANGE records read one at a time
+abbrev pub queryRead : Layout → ℕ → List ℕ → List ℕ → Query
+queryRead y l q z = record {
+  ranges = headRanges (y .ranges) q;
+  targets = targetsAt (y .targets) l (drop (y .first) q) (drop (y .first) z);
+  condition = decode l (drop (y .condition) q) (drop (y .condition) z);
+}
 
 -- an AND for each RANGE with a guard, before the final condition
 unfoldable pub openings : List ℕ → List Binding → List ℕ

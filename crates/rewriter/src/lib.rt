@@ -4,6 +4,7 @@ mod guard;
 use grammar::Layout;
 use guard::Written;
 use kinds::ConditionRecord;
+use kinds::HeadRecord;
 use kinds::Record;
 use kinds::TermRecord;
 ghost use mathlib.Core.Path.{_≡_};
@@ -15,9 +16,9 @@ ghost use Rattle.sizes.specs.Decode.{first, second};
 ghost use Rattle.copier.specs.Guard.{part};
 ghost use Rattle.copier.specs.Copied.{recordBytes};
 ghost use Rattle.model.specs.Encoding.{encodeRanges};
-ghost use Rattle.sizes.specs.Parts.{rangesAt, targetsAt};
-ghost use Rattle.queries.specs.Parts.{queryAt};
-ghost use Rattle.rewriter.specs.Parts.{targetsBytes, targetsNew, openings, rangeGuards, queryBytes, queryNew};
+ghost use Rattle.sizes.specs.Parts.{targetsAt};
+ghost use Rattle.queries.specs.Found.{headRanges};
+ghost use Rattle.rewriter.specs.Parts.{queryRead, targetsBytes, targetsNew, openings, rangeGuards, queryBytes, queryNew};
 ghost use Rattle.rewriter.specs.Rewritten.{maskOf, newOf, conditionBytes, conditionNew, termBytes, termNew, bothBytes, bothNew, underBytes, underNew, Room, After};
 
 // The place of the first child.
@@ -242,16 +243,19 @@ fn under(
     guard::write_guard(out, e, permits, places, m, variable, n)
 }
 
-// Writes so many RANGE records.
+// Writes the RANGE records that q starts with, at most so many.
 fn ranges(q: &[u8], left: usize, out: &mut [u8], at: usize) -> usize
-    requires { ⌜ at + length (encodeRanges (rangesAt left (now q)) []) < 9223372036854775808 ⌝ }
-    ensures { λ r. ⌜ r ≡ at + length (encodeRanges (rangesAt left (now (q .entry))) []) ⌝ }
-    ensures { λ _. ⌜ now (out .exit) ≡ sets (now (out .entry)) at (encodeRanges (rangesAt left (now (q .entry))) []) ⌝ }
+    requires { ⌜ at + length (encodeRanges (headRanges left (now q)) []) < 9223372036854775808 ⌝ }
+    ensures { λ r. ⌜ r ≡ at + length (encodeRanges (headRanges left (now (q .entry))) []) ⌝ }
+    ensures { λ _. ⌜ now (out .exit) ≡ sets (now (out .entry)) at (encodeRanges (headRanges left (now (q .entry))) []) ⌝ }
 {
     if left == 0 {
         return at;
     }
-    let p = copier::put_record(out, at, Record::Range(kinds::byte(q, 1), kinds::byte(q, 2)));
+    let HeadRecord::Range(variable, relation) = kinds::head_record(q) else {
+        return at;
+    };
+    let p = copier::put_record(out, at, Record::Range(variable, relation));
     ranges(kinds::tail(q, kinds::record_length(1)), left - 1, out, p)
 }
 
@@ -286,26 +290,24 @@ fn targets(
     targets(x, y, left - 1, permits, places, masks, out, w, level)
 }
 
-// Writes an AND for each of so many RANGEs with a guard.
+// Writes an AND for each RANGE with a guard, of at most so many.
 fn open_ranges(q: &[u8], left: usize, masks: &[u8], out: &mut [u8], at: usize) -> usize
-    requires { ⌜ at + length (openings (now masks) (rangesAt left (now q))) < 9223372036854775808 ⌝ }
-    ensures { λ r. ⌜ r ≡ at + length (openings (now (masks .entry)) (rangesAt left (now (q .entry)))) ⌝ }
-    ensures { λ _. ⌜ now (out .exit) ≡ sets (now (out .entry)) at (openings (now (masks .entry)) (rangesAt left (now (q .entry)))) ⌝ }
+    requires { ⌜ at + length (openings (now masks) (headRanges left (now q))) < 9223372036854775808 ⌝ }
+    ensures { λ r. ⌜ r ≡ at + length (openings (now (masks .entry)) (headRanges left (now (q .entry)))) ⌝ }
+    ensures { λ _. ⌜ now (out .exit) ≡ sets (now (out .entry)) at (openings (now (masks .entry)) (headRanges left (now (q .entry)))) ⌝ }
 {
     if left == 0 {
         return at;
     }
-    let p = open_ranges(
-        kinds::tail(q, kinds::record_length(1)),
-        left - 1,
-        masks,
-        out,
-        at,
-    );
-    guard::open_guard(out, p, mask(masks, kinds::byte(q, 1)))
+    let HeadRecord::Range(variable, _) = kinds::head_record(q) else {
+        return at;
+    };
+    let rest = kinds::tail(q, kinds::record_length(1));
+    let p = open_ranges(rest, left - 1, masks, out, at);
+    guard::open_guard(out, p, mask(masks, variable))
 }
 
-// Writes the guards of so many RANGEs.
+// Writes the guards of the RANGEs, of at most so many.
 fn guard_ranges(
     q: &[u8],
     left: usize,
@@ -315,18 +317,20 @@ fn guard_ranges(
     out: &mut [u8],
     to: Written,
 ) -> Written
-    requires { ⌜ Room (to .at) (to .next) (rangeGuards (now masks) (part (now permits) (now places)) (rangesAt left (now q)) (to .next))
-        (newOf (now masks) (part (now permits) (now places)) (rangesAt left (now q))) ⌝ }
+    requires { ⌜ Room (to .at) (to .next) (rangeGuards (now masks) (part (now permits) (now places)) (headRanges left (now q)) (to .next))
+        (newOf (now masks) (part (now permits) (now places)) (headRanges left (now q))) ⌝ }
     ensures { λ r. ⌜ After (to .at) (to .next) (rangeGuards (now (masks .entry)) (part (now (permits .entry)) (now (places .entry)))
-        (rangesAt left (now (q .entry))) (to .next)) (newOf (now (masks .entry)) (part (now (permits .entry)) (now (places .entry)))
-        (rangesAt left (now (q .entry)))) (r .at) (r .next) ⌝ }
+        (headRanges left (now (q .entry))) (to .next)) (newOf (now (masks .entry)) (part (now (permits .entry)) (now (places .entry)))
+        (headRanges left (now (q .entry)))) (r .at) (r .next) ⌝ }
     ensures { λ _. ⌜ now (out .exit) ≡ sets (now (out .entry)) (to .at) (rangeGuards (now (masks .entry))
-        (part (now (permits .entry)) (now (places .entry))) (rangesAt left (now (q .entry))) (to .next)) ⌝ }
+        (part (now (permits .entry)) (now (places .entry))) (headRanges left (now (q .entry))) (to .next)) ⌝ }
 {
     if left == 0 {
         return to;
     }
-    let v = kinds::byte(q, 1);
+    let HeadRecord::Range(v, _) = kinds::head_record(q) else {
+        return to;
+    };
     let w = guard::write_guard(out, to.at, permits, places, mask(masks, v), v, to.next);
     let x = kinds::tail(q, kinds::record_length(1));
     guard_ranges(x, left - 1, permits, places, masks, out, w)
@@ -343,12 +347,12 @@ pub fn rewrite_query(
     masks: &[u8],
     out: &mut [u8],
 ) -> usize
-    requires { ⌜ Room 0 8 (queryBytes (now masks) (part (now permits) (now places)) (queryAt layout level (now q) (now z)))
-        (queryNew (now masks) (part (now permits) (now places)) (queryAt layout level (now q) (now z))) ⌝ }
+    requires { ⌜ Room 0 8 (queryBytes (now masks) (part (now permits) (now places)) (queryRead layout level (now q) (now z)))
+        (queryNew (now masks) (part (now permits) (now places)) (queryRead layout level (now q) (now z))) ⌝ }
     ensures { λ r. ⌜ r ≡ length (queryBytes (now (masks .entry)) (part (now (permits .entry)) (now (places .entry)))
-        (queryAt layout level (now (q .entry)) (now (z .entry)))) ⌝ }
+        (queryRead layout level (now (q .entry)) (now (z .entry)))) ⌝ }
     ensures { λ _. ⌜ now (out .exit) ≡ sets (now (out .entry)) 0 (queryBytes (now (masks .entry)) (part (now (permits .entry)) (now (places .entry)))
-        (queryAt layout level (now (q .entry)) (now (z .entry)))) ⌝ }
+        (queryRead layout level (now (q .entry)) (now (z .entry)))) ⌝ }
 {
     let r = layout.ranges;
     let k = layout.targets;

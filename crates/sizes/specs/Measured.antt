@@ -4,16 +4,11 @@ use mathlib.Core.Bool.{Bool, true, false, not, cond}
 use mathlib.Core.List.{List}
 use lib.Dec.{ltb, eqb}
 use lib.ListN.{length, getD, drop, set}
-use Rattle.model.specs.Syntax.{isOperator, isFunction}
 use Rattle.model.specs.Encoding.{Read, fail, ok, readCondition, readTerm}
 use Rattle.kinds.specs.Tables.{conditionsOf, termsOf, recordLength}
 use Rattle.kinds.specs.Record.{recordAt}
 use Rattle.kinds.specs.declared.Record.{Record}
-use Rattle.kinds.specs.declared.ConditionRecord.{ConditionRecord}
-use Rattle.kinds.specs.declared.ConditionRecord.the-variants as C
-use Rattle.kinds.specs.declared.TermRecord.{TermRecord}
-use Rattle.kinds.specs.declared.TermRecord.the-variants as T
-use Rattle.kinds.specs.Places.{conditionOf, termOf}
+use Rattle.kinds.specs.Places.{conditionOf, termOf, isCondition, isTerm}
 use Rattle.sizes.specs.declared.Size.{Size}
 use Rattle.sizes.specs.declared.Size.the-variants.{Bytes, Refused}
 
@@ -33,27 +28,9 @@ abbrev pub sizeOr0 : Size → ℕ
 sizeOr0 (Bytes n) = n
 sizeOr0 Refused = 0
 
--- a record that can stand for a condition, its operator known
-abbrev pub acceptsCondition : ConditionRecord → Bool
-acceptsCondition C.True = true
-acceptsCondition C.False = true
-acceptsCondition C.Not = true
-acceptsCondition C.And = true
-acceptsCondition C.Or = true
-acceptsCondition (C.Compare o) = isOperator o
-acceptsCondition (C.Some v r) = true
-acceptsCondition C.Other = false
-
--- a record that can stand for a term, its function known
-abbrev pub acceptsTerm : TermRecord → Bool
-acceptsTerm (T.Constant a b c d) = true
-acceptsTerm (T.Attribute v a) = true
-acceptsTerm (T.Aggregate f v r a) = isFunction f
-acceptsTerm T.Other = false
-
 -- a record that can stand for a condition (false) or a term (true)
 abbrev pub accepts : Bool → Record → Bool
-accepts t r = cond t (acceptsTerm (termOf r)) (acceptsCondition (conditionOf r))
+accepts t r = cond t (isTerm (termOf r)) (isCondition (conditionOf r))
 
 -- how many children follow a record, and whether they are terms
 unfoldable pub childrenOf : ℕ → ℕ

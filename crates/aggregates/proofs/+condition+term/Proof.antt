@@ -58,9 +58,8 @@ abbrev term-claims : ℕ → term-lts.Claims
 term-claims t = (term-record-reads.Asked, term-record-reads.Learnt, byte-reads.Asked, byte-reads.Learnt, record-length-reads.Asked, record-length-reads.Learnt, tail-reads.Asked, tail-reads.Learnt, tail-sizes-reads.Asked, tail-sizes-reads.Learnt, condition-below t, condition.Post, value-reads.Asked, value-reads.Learnt, remember-reads.Asked, remember-reads.Learnt)
 
 condition-returns : (t : ℕ) → condition-lts.Need-returns (condition-claims t) (condition-at t) condition.Post
-condition-returns t c =
-    let c₅ = c .before .before .before .before .before in let args = c₅ .args in
-    let vs = now (args .vs) in
+condition-returns t c = let args = c .before .before .before .before .before .args in
+    let vs = now (args .values) in
     (none-left (rowsBy (now (args .walks)) vs) (assigned vs (now (args .env))) (now (args .q)) (now (args .z)) (now (args .memo)) (args .level) (c .if1 .taken), search needs)
 
 condition-sub-l : (t : ℕ) → condition-lts.Need-sub-l (condition-claims t) (condition-at t) condition.Post
@@ -106,10 +105,9 @@ condition-condition-requires-2 : (t : ℕ) → condition-lts.Need-condition-requ
 condition-condition-requires-2 t c κs = search needs
 
 condition-condition-requires-3 : (t : ℕ) → condition-lts.Need-condition-requires-3 (condition-claims t) (condition-at t) condition.Post
-condition-condition-requires-3 t c κs =
-    let c₅ = c .before .before .before .before .before in let condition2 = c₅ .condition2 in
-    let c₁₈ = c₅ .before .before .before .before .before .before .before .before .before .before .before .before .before in let if1 = c₁₈ .if1 in
-    let c₂₃ = c₁₈ .before .before .before .before .before in let pre = c₂₃ .pre in
+condition-condition-requires-3 t c κs = let condition2 = c .before .before .before .before .before .condition2 in
+    let if1 = c .before .before .before .before .before .before .before .before .before .before .before .before .before .before .before .before .before .before .if1 in
+    let pre = c .before .before .before .before .before .before .before .before .before .before .before .before .before .before .before .before .before .before .before .before .before .before .before .pre in
     (omega (arith, pre .0, if1 .left), omega (arith, pre .1, ap length (condition2 .ensures .1)))
 
 condition-enum-told-3 : (t : ℕ) → condition-lts.Need-enum-told-3 (condition-claims t) (condition-at t) condition.Post
@@ -119,10 +117,9 @@ condition-condition-requires-4 : (t : ℕ) → condition-lts.Need-condition-requ
 condition-condition-requires-4 t c κs = search needs
 
 condition-condition-requires-5 : (t : ℕ) → condition-lts.Need-condition-requires-5 (condition-claims t) (condition-at t) condition.Post
-condition-condition-requires-5 t c κs =
-    let c₅ = c .before .before .before .before .before in let condition4 = c₅ .condition4 in
-    let c₁₈ = c₅ .before .before .before .before .before .before .before .before .before .before .before .before .before in let if1 = c₁₈ .if1 in
-    let c₂₃ = c₁₈ .before .before .before .before .before in let pre = c₂₃ .pre in
+condition-condition-requires-5 t c κs = let condition4 = c .before .before .before .before .before .condition4 in
+    let if1 = c .before .before .before .before .before .before .before .before .before .before .before .before .before .before .before .before .before .before .if1 in
+    let pre = c .before .before .before .before .before .before .before .before .before .before .before .before .before .before .before .before .before .before .before .before .before .before .before .pre in
     (omega (arith, pre .0, if1 .left), omega (arith, pre .1, ap length (condition4 .ensures .1)))
 
 condition-enum-told-4 : (t : ℕ) → condition-lts.Need-enum-told-4 (condition-claims t) (condition-at t) condition.Post
@@ -132,10 +129,9 @@ condition-term-requires : (t : ℕ) → condition-lts.Need-term-requires (condit
 condition-term-requires t c κs = search needs
 
 condition-term-requires-2 : (t : ℕ) → condition-lts.Need-term-requires-2 (condition-claims t) (condition-at t) condition.Post
-condition-term-requires-2 t c κs =
-    let c₅ = c .before .before .before .before .before in let term = c₅ .term in
-    let c₁₈ = c₅ .before .before .before .before .before .before .before .before .before .before .before .before .before in let if1 = c₁₈ .if1 in
-    let c₂₃ = c₁₈ .before .before .before .before .before in let pre = c₂₃ .pre in
+condition-term-requires-2 t c κs = let term = c .before .before .before .before .before .term in
+    let if1 = c .before .before .before .before .before .before .before .before .before .before .before .before .before .before .before .before .before .before .if1 in
+    let pre = c .before .before .before .before .before .before .before .before .before .before .before .before .before .before .before .before .before .before .before .before .before .before .before .pre in
     (omega (arith, pre .0, if1 .left), omega (arith, pre .1, ap length (term .ensures .1)))
 
 condition-enum-told-5 : (t : ℕ) → condition-lts.Need-enum-told-5 (condition-claims t) (condition-at t) condition.Post
@@ -151,17 +147,16 @@ condition-same-length-2 : (t : ℕ) → condition-lts.Need-same-length-2 (condit
 condition-same-length-2 t c = search needs
 
 condition-returns-2 : (t : ℕ) → condition-lts.Need-returns-2 (condition-claims t) (condition-at t) condition.Post
-condition-returns-2 t c =
-    let c₃ = c .before .before .before in let condition = c₃ .condition in
-    let c₆ = c₃ .before .before .before in let enum-told = c₆ .enum-told in
-    let c₈ = c₆ .before .before in let condition-record = c₈ .condition-record in
-    let c₁₁ = c₈ .before .before .before in let tail-sizes = c₁₁ .tail-sizes in
-    let c₁₂ = c₁₁ .before in let tail = c₁₂ .tail in
-    let c₁₄ = c₁₂ .before .before in let record-length = c₁₄ .record-length in
-    let c₁₅ = c₁₄ .before in let byte = c₁₅ .byte in
-    let c₁₆ = c₁₅ .before in let if1 = c₁₆ .if1 in
-    let c₂₁ = c₁₆ .before .before .before .before .before in let args = c₂₁ .args in
-    let vs = now (args .vs) in
+condition-returns-2 t c = let condition = c .before .before .before .condition in
+    let enum-told = c .before .before .before .before .before .before .enum-told in
+    let condition-record = c .before .before .before .before .before .before .before .before .condition-record in
+    let tail-sizes = c .before .before .before .before .before .before .before .before .before .before .before .tail-sizes in
+    let tail = c .before .before .before .before .before .before .before .before .before .before .before .before .tail in
+    let record-length = c .before .before .before .before .before .before .before .before .before .before .before .before .before .before .record-length in
+    let byte = c .before .before .before .before .before .before .before .before .before .before .before .before .before .before .before .byte in
+    let if1 = c .before .before .before .before .before .before .before .before .before .before .before .before .before .before .before .before .if1 in
+    let args = c .before .before .before .before .before .before .before .before .before .before .before .before .before .before .before .before .before .before .before .before .before .args in
+    let vs = now (args .values) in
     (not-is (rowsBy (now (args .walks)) vs) (assigned vs (now (args .env))) (now (args .q)) (now (args .z)) (now (args .memo)) (args .level) _ _ _ (if1 .left) (byte .ensures) (record-length .ensures .0) (condition-record .ensures) _ _ (tail .ensures) (tail-sizes .ensures) _ (enum-told .given .1) (condition .ensures .0), condition .ensures .1)
 
 condition-same-length-3 : (t : ℕ) → condition-lts.Need-same-length-3 (condition-claims t) (condition-at t) condition.Post
@@ -171,21 +166,20 @@ condition-same-length-4 : (t : ℕ) → condition-lts.Need-same-length-4 (condit
 condition-same-length-4 t c = search needs
 
 condition-returns-3 : (t : ℕ) → condition-lts.Need-returns-3 (condition-claims t) (condition-at t) condition.Post
-condition-returns-3 t c =
-    let c₃ = c .before .before .before in let condition3 = c₃ .condition3 in
-    let c₉ = c₃ .before .before .before .before .before .before in let condition2 = c₉ .condition2 in
-    let c₁₂ = c₉ .before .before .before in let enum-told2 = c₁₂ .enum-told2 in
-    let c₁₄ = c₁₂ .before .before in let condition-record = c₁₄ .condition-record in
-    let c₁₅ = c₁₄ .before in let tail-sizes2 = c₁₅ .tail-sizes2 in
-    let c₁₆ = c₁₅ .before in let tail2 = c₁₆ .tail2 in
-    let c₁₇ = c₁₆ .before in let tail-sizes = c₁₇ .tail-sizes in
-    let c₁₈ = c₁₇ .before in let tail = c₁₈ .tail in
-    let c₁₉ = c₁₈ .before in let size-at = c₁₉ .size-at in
-    let c₂₀ = c₁₉ .before in let record-length = c₂₀ .record-length in
-    let c₂₁ = c₂₀ .before in let byte = c₂₁ .byte in
-    let c₂₂ = c₂₁ .before in let if1 = c₂₂ .if1 in
-    let c₂₇ = c₂₂ .before .before .before .before .before in let args = c₂₇ .args in
-    let vs = now (args .vs) in
+condition-returns-3 t c = let condition3 = c .before .before .before .condition3 in
+    let condition2 = c .before .before .before .before .before .before .before .before .before .condition2 in
+    let enum-told2 = c .before .before .before .before .before .before .before .before .before .before .before .before .enum-told2 in
+    let condition-record = c .before .before .before .before .before .before .before .before .before .before .before .before .before .before .condition-record in
+    let tail-sizes2 = c .before .before .before .before .before .before .before .before .before .before .before .before .before .before .before .tail-sizes2 in
+    let tail2 = c .before .before .before .before .before .before .before .before .before .before .before .before .before .before .before .before .tail2 in
+    let tail-sizes = c .before .before .before .before .before .before .before .before .before .before .before .before .before .before .before .before .before .tail-sizes in
+    let tail = c .before .before .before .before .before .before .before .before .before .before .before .before .before .before .before .before .before .before .tail in
+    let size-at = c .before .before .before .before .before .before .before .before .before .before .before .before .before .before .before .before .before .before .before .size-at in
+    let record-length = c .before .before .before .before .before .before .before .before .before .before .before .before .before .before .before .before .before .before .before .before .record-length in
+    let byte = c .before .before .before .before .before .before .before .before .before .before .before .before .before .before .before .before .before .before .before .before .before .byte in
+    let if1 = c .before .before .before .before .before .before .before .before .before .before .before .before .before .before .before .before .before .before .before .before .before .before .if1 in
+    let args = c .before .before .before .before .before .before .before .before .before .before .before .before .before .before .before .before .before .before .before .before .before .before .before .before .before .before .before .args in
+    let vs = now (args .values) in
     (and-is (rowsBy (now (args .walks)) vs) (assigned vs (now (args .env))) (now (args .q)) (now (args .z)) (now (args .memo)) (args .level) _ _ _ (if1 .left) (byte .ensures) (record-length .ensures .0) (condition-record .ensures) _ _ (tail .ensures) (tail-sizes .ensures) _ _ _ _ (size-at .ensures .0) refl (tail2 .ensures) (tail-sizes2 .ensures) _ _ _ (ap (assigned vs) (condition2 .ensures .1)) (condition2 .ensures .0) (condition3 .ensures .0) (enum-told2 .given .1), condition3 .ensures .1 ∙ condition2 .ensures .1)
 
 condition-same-length-5 : (t : ℕ) → condition-lts.Need-same-length-5 (condition-claims t) (condition-at t) condition.Post
@@ -195,21 +189,20 @@ condition-same-length-6 : (t : ℕ) → condition-lts.Need-same-length-6 (condit
 condition-same-length-6 t c = search needs
 
 condition-returns-4 : (t : ℕ) → condition-lts.Need-returns-4 (condition-claims t) (condition-at t) condition.Post
-condition-returns-4 t c =
-    let c₃ = c .before .before .before in let condition5 = c₃ .condition5 in
-    let c₉ = c₃ .before .before .before .before .before .before in let condition4 = c₉ .condition4 in
-    let c₁₂ = c₉ .before .before .before in let enum-told3 = c₁₂ .enum-told3 in
-    let c₁₄ = c₁₂ .before .before in let condition-record = c₁₄ .condition-record in
-    let c₁₅ = c₁₄ .before in let tail-sizes2 = c₁₅ .tail-sizes2 in
-    let c₁₆ = c₁₅ .before in let tail2 = c₁₆ .tail2 in
-    let c₁₇ = c₁₆ .before in let tail-sizes = c₁₇ .tail-sizes in
-    let c₁₈ = c₁₇ .before in let tail = c₁₈ .tail in
-    let c₁₉ = c₁₈ .before in let size-at = c₁₉ .size-at in
-    let c₂₀ = c₁₉ .before in let record-length = c₂₀ .record-length in
-    let c₂₁ = c₂₀ .before in let byte = c₂₁ .byte in
-    let c₂₂ = c₂₁ .before in let if1 = c₂₂ .if1 in
-    let c₂₇ = c₂₂ .before .before .before .before .before in let args = c₂₇ .args in
-    let vs = now (args .vs) in
+condition-returns-4 t c = let condition5 = c .before .before .before .condition5 in
+    let condition4 = c .before .before .before .before .before .before .before .before .before .condition4 in
+    let enum-told3 = c .before .before .before .before .before .before .before .before .before .before .before .before .enum-told3 in
+    let condition-record = c .before .before .before .before .before .before .before .before .before .before .before .before .before .before .condition-record in
+    let tail-sizes2 = c .before .before .before .before .before .before .before .before .before .before .before .before .before .before .before .tail-sizes2 in
+    let tail2 = c .before .before .before .before .before .before .before .before .before .before .before .before .before .before .before .before .tail2 in
+    let tail-sizes = c .before .before .before .before .before .before .before .before .before .before .before .before .before .before .before .before .before .tail-sizes in
+    let tail = c .before .before .before .before .before .before .before .before .before .before .before .before .before .before .before .before .before .before .tail in
+    let size-at = c .before .before .before .before .before .before .before .before .before .before .before .before .before .before .before .before .before .before .before .size-at in
+    let record-length = c .before .before .before .before .before .before .before .before .before .before .before .before .before .before .before .before .before .before .before .before .record-length in
+    let byte = c .before .before .before .before .before .before .before .before .before .before .before .before .before .before .before .before .before .before .before .before .before .byte in
+    let if1 = c .before .before .before .before .before .before .before .before .before .before .before .before .before .before .before .before .before .before .before .before .before .before .if1 in
+    let args = c .before .before .before .before .before .before .before .before .before .before .before .before .before .before .before .before .before .before .before .before .before .before .before .before .before .before .before .args in
+    let vs = now (args .values) in
     (or-is (rowsBy (now (args .walks)) vs) (assigned vs (now (args .env))) (now (args .q)) (now (args .z)) (now (args .memo)) (args .level) _ _ _ (if1 .left) (byte .ensures) (record-length .ensures .0) (condition-record .ensures) _ _ (tail .ensures) (tail-sizes .ensures) _ _ _ _ (size-at .ensures .0) refl (tail2 .ensures) (tail-sizes2 .ensures) _ _ _ (ap (assigned vs) (condition4 .ensures .1)) (condition4 .ensures .0) (condition5 .ensures .0) (enum-told3 .given .1), condition5 .ensures .1 ∙ condition4 .ensures .1)
 
 condition-same-length-7 : (t : ℕ) → condition-lts.Need-same-length-7 (condition-claims t) (condition-at t) condition.Post
@@ -219,21 +212,20 @@ condition-same-length-8 : (t : ℕ) → condition-lts.Need-same-length-8 (condit
 condition-same-length-8 t c = search needs
 
 condition-returns-5 : (t : ℕ) → condition-lts.Need-returns-5 (condition-claims t) (condition-at t) condition.Post
-condition-returns-5 t c =
-    let c₃ = c .before .before .before in let term2 = c₃ .term2 in
-    let c₉ = c₃ .before .before .before .before .before .before in let term = c₉ .term in
-    let c₁₂ = c₉ .before .before .before in let enum-told4 = c₁₂ .enum-told4 in
-    let c₁₄ = c₁₂ .before .before in let condition-record = c₁₄ .condition-record in
-    let c₁₅ = c₁₄ .before in let tail-sizes2 = c₁₅ .tail-sizes2 in
-    let c₁₆ = c₁₅ .before in let tail2 = c₁₆ .tail2 in
-    let c₁₇ = c₁₆ .before in let tail-sizes = c₁₇ .tail-sizes in
-    let c₁₈ = c₁₇ .before in let tail = c₁₈ .tail in
-    let c₁₉ = c₁₈ .before in let size-at = c₁₉ .size-at in
-    let c₂₀ = c₁₉ .before in let record-length = c₂₀ .record-length in
-    let c₂₁ = c₂₀ .before in let byte = c₂₁ .byte in
-    let c₂₂ = c₂₁ .before in let if1 = c₂₂ .if1 in
-    let c₂₇ = c₂₂ .before .before .before .before .before in let args = c₂₇ .args in
-    let vs = now (args .vs) in
+condition-returns-5 t c = let term2 = c .before .before .before .term2 in
+    let term = c .before .before .before .before .before .before .before .before .before .term in
+    let enum-told4 = c .before .before .before .before .before .before .before .before .before .before .before .before .enum-told4 in
+    let condition-record = c .before .before .before .before .before .before .before .before .before .before .before .before .before .before .condition-record in
+    let tail-sizes2 = c .before .before .before .before .before .before .before .before .before .before .before .before .before .before .before .tail-sizes2 in
+    let tail2 = c .before .before .before .before .before .before .before .before .before .before .before .before .before .before .before .before .tail2 in
+    let tail-sizes = c .before .before .before .before .before .before .before .before .before .before .before .before .before .before .before .before .before .tail-sizes in
+    let tail = c .before .before .before .before .before .before .before .before .before .before .before .before .before .before .before .before .before .before .tail in
+    let size-at = c .before .before .before .before .before .before .before .before .before .before .before .before .before .before .before .before .before .before .before .size-at in
+    let record-length = c .before .before .before .before .before .before .before .before .before .before .before .before .before .before .before .before .before .before .before .before .record-length in
+    let byte = c .before .before .before .before .before .before .before .before .before .before .before .before .before .before .before .before .before .before .before .before .before .byte in
+    let if1 = c .before .before .before .before .before .before .before .before .before .before .before .before .before .before .before .before .before .before .before .before .before .before .if1 in
+    let args = c .before .before .before .before .before .before .before .before .before .before .before .before .before .before .before .before .before .before .before .before .before .before .before .before .before .before .before .args in
+    let vs = now (args .values) in
     (compare-is (rowsBy (now (args .walks)) vs) (assigned vs (now (args .env))) (now (args .q)) (now (args .z)) (now (args .memo)) (args .level) _ _ _ (if1 .left) (byte .ensures) (record-length .ensures .0) (condition-record .ensures) _ _ (tail .ensures) (tail-sizes .ensures) _ _ _ _ (size-at .ensures .0) refl (tail2 .ensures) (tail-sizes2 .ensures) _ _ _ (ap (assigned vs) (term .ensures .1)) _ (enum-told4 .given .1) (term .ensures .0) (term2 .ensures .0), term2 .ensures .1 ∙ term .ensures .1)
 
 condition-same-length-9 : (t : ℕ) → condition-lts.Need-same-length-9 (condition-claims t) (condition-at t) condition.Post
@@ -243,30 +235,27 @@ condition-same-length-10 : (t : ℕ) → condition-lts.Need-same-length-10 (cond
 condition-same-length-10 t c = search needs
 
 condition-returns-6 : (t : ℕ) → condition-lts.Need-returns-6 (condition-claims t) (condition-at t) condition.Post
-condition-returns-6 t c =
-    let c₃ = c .before .before .before in let condition6 = c₃ .condition6 in
-    let c₆ = c₃ .before .before .before in let enum-told5 = c₆ .enum-told5 in
-    let c₈ = c₆ .before .before in let condition-record = c₈ .condition-record in
-    let c₁₁ = c₈ .before .before .before in let tail-sizes = c₁₁ .tail-sizes in
-    let c₁₂ = c₁₁ .before in let tail = c₁₂ .tail in
-    let c₁₄ = c₁₂ .before .before in let record-length = c₁₄ .record-length in
-    let c₁₅ = c₁₄ .before in let byte = c₁₅ .byte in
-    let c₁₆ = c₁₅ .before in let if1 = c₁₆ .if1 in
-    let c₂₁ = c₁₆ .before .before .before .before .before in let args = c₂₁ .args in
-    let vs = now (args .vs) in
+condition-returns-6 t c = let condition6 = c .before .before .before .condition6 in
+    let enum-told5 = c .before .before .before .before .before .before .enum-told5 in
+    let condition-record = c .before .before .before .before .before .before .before .before .condition-record in
+    let tail-sizes = c .before .before .before .before .before .before .before .before .before .before .before .tail-sizes in
+    let tail = c .before .before .before .before .before .before .before .before .before .before .before .before .tail in
+    let record-length = c .before .before .before .before .before .before .before .before .before .before .before .before .before .before .record-length in
+    let byte = c .before .before .before .before .before .before .before .before .before .before .before .before .before .before .before .byte in
+    let if1 = c .before .before .before .before .before .before .before .before .before .before .before .before .before .before .before .before .if1 in
+    let args = c .before .before .before .before .before .before .before .before .before .before .before .before .before .before .before .before .before .before .before .before .before .args in
+    let vs = now (args .values) in
     (some-is (rowsBy (now (args .walks)) vs) (assigned vs (now (args .env))) (now (args .q)) (now (args .z)) (now (args .memo)) (args .level) _ _ _ (if1 .left) (byte .ensures) (record-length .ensures .0) (condition-record .ensures) _ _ (tail .ensures) (tail-sizes .ensures) _ _ _ (enum-told5 .given .1) (condition6 .ensures .0), condition6 .ensures .1)
 
 condition-returns-7 : (t : ℕ) → condition-lts.Need-returns-7 (condition-claims t) (condition-at t) condition.Post
-condition-returns-7 t c =
-    let c₉ = c .before .before .before .before .before .before .before .before .before in let if1 = c₉ .if1 in
-    let c₁₄ = c₉ .before .before .before .before .before in let args = c₁₄ .args in
-    let vs = now (args .vs) in
+condition-returns-7 t c = let if1 = c .before .before .before .before .before .before .before .before .before .if1 in
+    let args = c .before .before .before .before .before .before .before .before .before .before .before .before .before .before .args in
+    let vs = now (args .values) in
     (no-aggregate (rowsBy (now (args .walks)) vs) (assigned vs (now (args .env))) (now (args .q)) (now (args .z)) (now (args .memo)) (args .level) _ (if1 .left) (c .before .condition-record .ensures) (c .match .keys6), search needs)
 
 term-returns : (t : ℕ) → term-lts.Need-returns (term-claims t) (term-at t) term.Post
-term-returns t c =
-    let c₅ = c .before .before .before .before .before in let args = c₅ .args in
-    let vs = now (args .vs) in
+term-returns t c = let args = c .before .before .before .before .before .args in
+    let vs = now (args .values) in
     (none-leftT (rowsBy (now (args .walks)) vs) (assigned vs (now (args .env))) (now (args .q)) (now (args .z)) (now (args .memo)) (args .level) (c .if1 .taken), search needs)
 
 term-term-record-requires : (t : ℕ) → term-lts.Need-term-record-requires (term-claims t) (term-at t) term.Post
@@ -276,9 +265,8 @@ term-enum-known-variable : (t : ℕ) → term-lts.Need-enum-known-variable (term
 term-enum-known-variable t c = search needs
 
 term-returns-2 : (t : ℕ) → term-lts.Need-returns-2 (term-claims t) (term-at t) term.Post
-term-returns-2 t c =
-    let c₇ = c .before .before .before .before .before .before .before in let args = c₇ .args in
-    let vs = now (args .vs) in
+term-returns-2 t c = let args = c .before .before .before .before .before .before .before .args in
+    let vs = now (args .values) in
     (no-term (rowsBy (now (args .walks)) vs) (assigned vs (now (args .env))) (now (args .q)) (now (args .z)) (now (args .memo)) (args .level) _ (c .before .before .if1 .left) (c .before .term-record .ensures) (c .match .keys2), search needs)
 
 term-byte-requires : (t : ℕ) → term-lts.Need-byte-requires (term-claims t) (term-at t) term.Post
@@ -312,18 +300,17 @@ term-same-length-2 : (t : ℕ) → term-lts.Need-same-length-2 (term-claims t) (
 term-same-length-2 t c = search needs
 
 term-returns-3 : (t : ℕ) → term-lts.Need-returns-3 (term-claims t) (term-at t) term.Post
-term-returns-3 t c =
-    let c₅ = c .before .before .before .before .before in let value = c₅ .value in
-    let c₁₁ = c₅ .before .before .before .before .before .before in let condition = c₁₁ .condition in
-    let c₁₄ = c₁₁ .before .before .before in let tail-sizes = c₁₄ .tail-sizes in
-    let c₁₅ = c₁₄ .before in let tail = c₁₅ .tail in
-    let c₁₆ = c₁₅ .before in let record-length = c₁₆ .record-length in
-    let c₁₇ = c₁₆ .before in let byte = c₁₇ .byte in
-    let c₁₉ = c₁₇ .before .before in let variable = c₁₉ .variable in
-    let c₂₁ = c₁₉ .before .before in let term-record = c₂₁ .term-record in
-    let c₂₂ = c₂₁ .before in let if1 = c₂₂ .if1 in
-    let c₂₇ = c₂₂ .before .before .before .before .before in let args = c₂₇ .args in
-    let ws = now (args .walks) in let env = now (args .env) in let q = now (args .q) in let vs = now (args .vs) in let z = now (args .z) in let level = args .level in
+term-returns-3 t c = let value = c .before .before .before .before .before .value in
+    let condition = c .before .before .before .before .before .before .before .before .before .before .before .condition in
+    let tail-sizes = c .before .before .before .before .before .before .before .before .before .before .before .before .before .before .tail-sizes in
+    let tail = c .before .before .before .before .before .before .before .before .before .before .before .before .before .before .before .tail in
+    let record-length = c .before .before .before .before .before .before .before .before .before .before .before .before .before .before .before .before .record-length in
+    let byte = c .before .before .before .before .before .before .before .before .before .before .before .before .before .before .before .before .before .byte in
+    let variable = c .before .before .before .before .before .before .before .before .before .before .before .before .before .before .before .before .before .before .before .variable in
+    let term-record = c .before .before .before .before .before .before .before .before .before .before .before .before .before .before .before .before .before .before .before .before .before .term-record in
+    let if1 = c .before .before .before .before .before .before .before .before .before .before .before .before .before .before .before .before .before .before .before .before .before .before .if1 in
+    let args = c .before .before .before .before .before .before .before .before .before .before .before .before .before .before .before .before .before .before .before .before .before .before .before .before .before .before .before .args in
+    let ws = now (args .walks) in let env = now (args .env) in let q = now (args .q) in let vs = now (args .values) in let z = now (args .z) in let level = args .level in
     (aggregate-is (rowsBy ws vs) (assigned vs env) q z (now (args .memo)) level _ _ _ (if1 .left) (byte .ensures) (record-length .ensures .0) (term-record .ensures) _ _ (tail .ensures) (tail-sizes .ensures) _ _ _ _ _ _ _ (variable .given .1) (condition .ensures .0) (term-is level q z ws vs _ env _ _ (condition .ensures .1) (value .ensures .0)) (c .before .remember .ensures), value .ensures .1 .1 ∙ condition .ensures .1)
 
 pub +condition+term-spec : {M : Type 1} → statement M

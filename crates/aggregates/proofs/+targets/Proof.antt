@@ -32,9 +32,8 @@ abbrev targets-claims : ℕ → targets-lts.Claims
 targets-claims t = (target-term-reads.Asked, target-term-reads.Learnt, size-at-reads.Asked, size-at-reads.Learnt, tail-reads.Asked, tail-reads.Learnt, tail-sizes-reads.Asked, tail-sizes-reads.Learnt, targets-below t, targets.Post)
 
 targets-returns : (t : ℕ) → targets-lts.Need-returns (targets-claims t) (targets-at t) targets.Post
-targets-returns t c =
-    let c₅ = c .before .before .before .before .before in let args = c₅ .args in
-    let vs = now (args .vs) in
+targets-returns t c = let args = c .before .before .before .before .before .args in
+    let vs = now (args .values) in
     (targets-none (rowsBy (now (args .walks)) vs) (assigned vs (now (args .env))) (now (args .q)) (now (args .z)) (now (args .memo)) (args .left) (args .level) (c .if1 .taken), search needs)
 
 targets-target-term-requires : (t : ℕ) → targets-lts.Need-target-term-requires (targets-claims t) (targets-at t) targets.Post
@@ -62,15 +61,14 @@ targets-same-length-2 : (t : ℕ) → targets-lts.Need-same-length-2 (targets-cl
 targets-same-length-2 t c = search needs
 
 targets-returns-2 : (t : ℕ) → targets-lts.Need-returns-2 (targets-claims t) (targets-at t) targets.Post
-targets-returns-2 t c =
-    let c₃ = c .before .before .before in let targets = c₃ .targets in
-    let c₆ = c₃ .before .before .before in let tail-sizes = c₆ .tail-sizes in
-    let c₇ = c₆ .before in let tail = c₇ .tail in
-    let c₈ = c₇ .before in let size-at = c₈ .size-at in
-    let c₁₂ = c₈ .before .before .before .before in let target = c₁₂ .target-term in
-    let c₁₅ = c₁₂ .before .before .before in let if1 = c₁₅ .if1 in
-    let c₂₀ = c₁₅ .before .before .before .before .before in let args = c₂₀ .args in
-    let vs = now (args .vs) in
+targets-returns-2 t c = let targets = c .before .before .before .targets in
+    let tail-sizes = c .before .before .before .before .before .before .tail-sizes in
+    let tail = c .before .before .before .before .before .before .before .tail in
+    let size-at = c .before .before .before .before .before .before .before .before .size-at in
+    let target = c .before .before .before .before .before .before .before .before .before .before .before .before .target-term in
+    let if1 = c .before .before .before .before .before .before .before .before .before .before .before .before .before .before .before .if1 in
+    let args = c .before .before .before .before .before .before .before .before .before .before .before .before .before .before .before .before .before .before .before .before .args in
+    let vs = now (args .values) in
     (targets-more (rowsBy (now (args .walks)) vs) (assigned vs (now (args .env))) (now (args .q)) (now (args .z)) (now (args .memo)) (args .left) (args .level) _ _ _ _ _ _ (if1 .left) (target .ensures .0) (size-at .ensures .0) (tail .ensures) (tail-sizes .ensures) (ap (assigned vs) (target .ensures .1)) (targets .ensures .0), targets .ensures .1 ∙ target .ensures .1)
 
 pub +targets-spec : {M : Type 1} → statement M

@@ -10,19 +10,17 @@ use Rattle.decide.proofs.leads.Reads as leads-reads
 use Rattle.kinds.proofs.size_at.Reads as size-at-reads
 
 returns : tie.Need-returns
-returns c =
-    let c₃ = c .before .before .before in let leads = c₃ .leads in
-    let c₁₁ = c₃ .before .before .before .before .before .before .before .before in let args = c₁₁ .args in
-    (both-no (now (args .t)) (now (args .xs)) (now (args .q)) (now (args .z)) (now (args .walks)) (now (args .vs)) (now (args .memo)) (now (args .env)) (args .next) _ (leads .ensures .0) (c .if1 .taken), leads .ensures .1)
+returns c = let leads = c .before .before .before .leads in
+    let args = c .before .before .before .before .before .before .before .before .before .before .before .args in
+    (both-no (now (args .t)) (now (args .q)) (now (args .z)) (now (args .walks)) (now (args .values)) (now (args .memo)) (now (args .env)) (args .next) _ (leads .ensures .0) (c .if1 .taken), leads .ensures .1)
 
 returns-2 : tie.Need-returns-2
-returns-2 c =
-    let c₂ = c .before .before in let leads2 = c₂ .leads2 in
-    let c₄ = c₂ .before .before in let size-at = c₄ .size-at in
-    let c₅ = c₄ .before in let if1 = c₅ .if1 in
-    let c₈ = c₅ .before .before .before in let leads = c₈ .leads in
-    let c₁₆ = c₈ .before .before .before .before .before .before .before .before in let args = c₁₆ .args in
-    (both-yes (now (args .t)) (now (args .xs)) (now (args .q)) (now (args .z)) (now (args .walks)) (now (args .vs)) (now (args .memo)) (now (args .env)) (args .next) _ _ _ _ (leads .ensures .0) (if1 .left) (leads .ensures .1) (size-at .ensures .0) (leads2 .ensures .0), leads2 .ensures .1 ∙ leads .ensures .1)
+returns-2 c = let leads2 = c .before .before .leads2 in
+    let size-at = c .before .before .before .before .size-at in
+    let if1 = c .before .before .before .before .before .if1 in
+    let leads = c .before .before .before .before .before .before .before .before .leads in
+    let args = c .before .before .before .before .before .before .before .before .before .before .before .before .before .before .before .before .args in
+    (both-yes (now (args .t)) (now (args .q)) (now (args .z)) (now (args .walks)) (now (args .values)) (now (args .memo)) (now (args .env)) (args .next) _ _ _ _ (leads .ensures .0) (if1 .left) (leads .ensures .1) (size-at .ensures .0) (leads2 .ensures .0), leads2 .ensures .1 ∙ leads .ensures .1)
 
 pub both-spec : {M : Type 1} → statement M
 both-spec =

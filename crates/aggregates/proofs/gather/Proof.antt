@@ -1,6 +1,5 @@
 use Prim.Native.Nat.{ℕ}
 use denote.Ref.{now}
-use lib.IntN.{pos}
 use lib.ListN.{length-replicate}
 use native.Mathlib.Omega.{arith}
 use mathlib.Core.Path.{_≡_, refl, sym, ap, _∙_}
@@ -18,36 +17,32 @@ use Rattle.conjuncts.proofs.plan.Reads as plan-reads
 use Rattle.aggregates.proofs.asks.Reads as asks-reads
 
 plan-requires : tie.Need-plan-requires
-plan-requires c κs = (omega (arith, length-replicate {A = ℕ} 512 0), omega (arith, length-replicate 128 (pos 0)), omega arith, omega arith, c .before .before .before .before .before .before .pre .1, getD-same {A = ℕ} 512 0)
+plan-requires c κs = (omega (arith, length-replicate {A = ℕ} 768 0), omega arith, omega arith, c .before .before .before .before .before .pre .1, getD-same {A = ℕ} 768 0)
 
 returns : tie.Need-returns
-returns c = let take = c .before .before .take-linked in let plan = c .before .before .before .before .before .before .before .before .before .before .before .plan in let args = c .before .before .before .before .before .before .before .before .before .before .before .before .before .before .before .before .before .before .args in let vs = now (args .vs) in
-    (taken-planned _ _ (now (args .q)) (now (args .z)) (now (args .walks)) vs (now (args .memo)) (args .level) (now (args .env)) (args .variable) (args .attribute) _ (plan .ensures (now (args .walks)) vs) (take .ensures .0), (take .ensures .1 .0, take .ensures .1 .1))
+returns c = let take = c .before .before .take-linked in let plan = c .before .before .before .before .before .before .before .before .before .plan in let args = c .before .before .before .before .before .before .before .before .before .before .before .before .before .before .before .args in let vs = now (args .values) in
+    (taken-planned _ (now (args .q)) (now (args .z)) (now (args .walks)) vs (now (args .memo)) (args .level) (now (args .env)) (args .column .variable) (args .column .attribute) _ (plan .ensures (now (args .walks)) vs) (take .ensures .0), (take .ensures .1 .0, take .ensures .1 .1))
 
 take-requires : tie.Need-take-requires
-take-requires c κs =
-    let c₁₆ = c .before .before .before .before .before .before .before .before .before .before .before .before .before .before .before .before in let pre = c₁₆ .pre in
-    (pre .0, nothing _ _ _ _ (getD-same {A = ℕ} 1 0) .faithful)
+take-requires c κs = let pre = c .before .before .before .before .before .before .before .before .before .before .before .before .before .pre in
+    (pre .0, nothing _ _ _ _ (getD-same {A = ℕ} 1 0) .faithful, pre .2)
 
 returns-2 : tie.Need-returns-2
-returns-2 c = let take = c .before .before .take in let plan = c .before .before .before .before .before .before .before .before .before .before .before .before .plan in let args = c .before .before .before .before .before .before .before .before .before .before .before .before .before .before .before .before .before .before .before .args in let vs = now (args .vs) in
-    (taken-planned _ _ (now (args .q)) (now (args .z)) (now (args .walks)) vs (now (args .memo)) (args .level) (now (args .env)) (args .variable) (args .attribute) _ (plan .ensures (now (args .walks)) vs) (take .ensures .0), (take .ensures .1 .0, take .ensures .1 .1))
+returns-2 c = let take = c .before .before .take in let plan = c .before .before .before .before .before .before .before .before .before .before .plan in let args = c .before .before .before .before .before .before .before .before .before .before .before .before .before .before .before .before .args in let vs = now (args .values) in
+    (taken-planned _ (now (args .q)) (now (args .z)) (now (args .walks)) vs (now (args .memo)) (args .level) (now (args .env)) (args .column .variable) (args .column .attribute) _ (plan .ensures (now (args .walks)) vs) (take .ensures .0), (take .ensures .1 .0, take .ensures .1 .1))
 
 pub gather-spec : {M : Type 1} → statement M
 gather-spec =
     tie.close
     (tie.spec
     (λ c. search needs)
-    (λ c. search needs)
     plan-requires
     (λ c. search needs)
     (λ c κs. search needs)
     (λ c. search needs)
-    (λ c. search needs)
     (λ c κs. search needs)
     (λ c. search needs)
     returns
-    (λ c. search needs)
     (λ c. search needs)
     (λ c. search needs)
     take-requires

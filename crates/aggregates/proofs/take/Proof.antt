@@ -30,10 +30,10 @@ use Rattle.walks.proofs.place.Reads as place-reads
 use Rattle.walks.proofs.walk_of.Reads as walk-of-reads
 
 abbrev Inv-loop : tie.InvT-loop
-Inv-loop t xs q z walks chains vs memo env₀ variable attribute walk n old start none cursor next taken₀ i₀ env taken i = (set env variable old ≡ env₀) × Accumulates taken (kept vs (meets t xs q z walks vs memo env₀ variable) attribute (placeAt walks walk) i) × (i ≤ n) × (length env ≡ length env₀) × (0 < i → stops cursor (tupleAt vs (placeAt walks walk (i - 1))) ≡ true)
+Inv-loop t q z walks chains vs memo env₀ column own walk n old start none cursor next taken₀ i₀ env taken i = (set env (column .variable) old ≡ env₀) × Accumulates taken (kept vs (meets t q z walks vs memo env₀ (column .variable)) (column .attribute) (placeAt walks walk) i) × (i ≤ n) × (length env ≡ length env₀) × (0 < i → stops cursor (tupleAt vs (placeAt walks walk (i - 1))) ≡ true)
 
 abbrev μ-loop : tie.MeasureT-loop
-μ-loop t xs q z walks chains vs memo env₀ variable attribute walk n old start none cursor next taken₀ i₀ env taken i = n - i
+μ-loop t q z walks chains vs memo env₀ column own walk n old start none cursor next taken₀ i₀ env taken i = n - i
 
 walk-of-requires : tie.Need-walk-of-requires Inv-loop μ-loop
 walk-of-requires c κs = search needs
@@ -42,9 +42,8 @@ mul-old : tie.Need-mul-old Inv-loop μ-loop
 mul-old c = search needs
 
 slice-read-old : tie.Need-slice-read-old Inv-loop μ-loop
-slice-read-old c =
-    let c₈ = c .before .before .before .before .before .before .before .before in let good = c₈ .good in let pre = c₈ .pre in
-    omega (arith, pre .0, good)
+slice-read-old c = let pre = c .before .before .before .before .before .before .before .before .pre in
+    omega (arith, pre .0, pre .2)
 
 size-at-requires : tie.Need-size-at-requires Inv-loop μ-loop
 size-at-requires c κs = search needs
@@ -58,8 +57,8 @@ prepare-requires c κs = (c .before .before .before .before .before .before .bef
 loop-holds : tie.Need-loop-holds Inv-loop μ-loop
 loop-holds c = let walk-of = c .before .before .before .before .before .walk-of in
     let args = c .before .before .before .before .before .before .before .before .before .before .before .before .args in
-    let env = now (args .env) in let vs = now (args .vs) in let walks = now (args .walks) in let variable = args .variable in
-    (places-start env variable (getD (now (c .before .before .before .before .before .before .before .before .before .before .before .before .args .env)) (c .before .before .before .before .before .before .before .before .before .before .before .before .args .variable) 0) refl, taken-start (placeAt walks (walk-of .result)) vs (meets (now (args .t)) (now (args .xs)) (now (args .q)) (now (args .z)) walks vs (now (args .memo)) env variable) (args .attribute) _ nothing-taken, omega arith, refl, λ h. absurd (omega arith))
+    let env = now (args .env) in let vs = now (args .values) in let walks = now (args .walks) in let variable = args .column .variable in
+    (places-start env variable (getD (now (c .before .before .before .before .before .before .before .before .before .before .before .before .args .env)) (c .before .before .before .before .before .before .before .before .before .before .before .before .args .column .variable) 0) refl, taken-start (placeAt walks (walk-of .result)) vs (meets (now (args .t)) (now (args .q)) (now (args .z)) walks vs (now (args .memo)) env variable) (args .column .attribute) _ nothing-taken, omega arith, refl, λ h. absurd (omega arith))
 
 slice-aggregate-next-row : tie.Need-slice-aggregate-next-row Inv-loop μ-loop
 slice-aggregate-next-row c = search needs
@@ -70,25 +69,25 @@ next-row-requires c κs = let loop = c .before .loop in
     let size-at = c .before .before .before .before .before .size-at in
     let walk-of = c .before .before .before .before .before .before .before .walk-of in
     let args = c .before .before .before .before .before .before .before .before .before .before .before .before .before .before .args in
-    let vs = now (args .vs) in let walks = now (args .walks) in
-    (walk-of .ensures .1, loop .inv .2, ready-for (now (args .t)) (now (args .xs)) (now (args .q)) (now (args .z)) walks vs (now (args .memo)) (now (args .env)) (args .variable) (args .attribute) (placeAt walks (walk-of .result)) (prepare .result) (size-at .result) (replicate 1 0) (size-at .ensures .0) (prepare .ensures walks (nothing (now (args .t)) walks vs (replicate 1 0) (getD-same {A = ℕ} 1 0) .faithful)) (walk-of .result) (walk-of .ensures .0), loop .inv .4)
+    let vs = now (args .values) in let walks = now (args .walks) in
+    (walk-of .ensures .1, loop .inv .2, ready-for (now (args .t)) (now (args .q)) (now (args .z)) walks vs (now (args .memo)) (now (args .env)) (args .column .variable) (args .column .attribute) (placeAt walks (walk-of .result)) (prepare .result) (size-at .result) (replicate 1 0) (size-at .ensures .0) (prepare .ensures walks (nothing (now (args .t)) walks vs (replicate 1 0) (getD-same {A = ℕ} 1 0) .faithful)) (walk-of .result) (walk-of .ensures .0), loop .inv .4)
+
+cast-env : tie.Need-cast-env Inv-loop μ-loop
+cast-env c = let pre = c .before .before .before .before .before .before .before .before .before .before .before .before .before .before .before .before .pre in record { fits = omega (arith, pre .2) }
 
 mul-env : tie.Need-mul-env Inv-loop μ-loop
-mul-env c =
-    let c₁₇ = c .before .before .before .before .before .before .before .before .before .before .before .before .before .before .before .before in let good = c₁₇ .good in
-    omega (arith, good)
+mul-env c = let pre = c .before .before .before .before .before .before .before .before .before .before .before .before .before .before .before .before .pre in
+    omega (arith, pre .2)
 
 slice-write-env : tie.Need-slice-write-env Inv-loop μ-loop
-slice-write-env c =
-    let c₃ = c .before .before .before in let loop = c₃ .loop in
-    let c₁₇ = c₃ .before .before .before .before .before .before .before .before .before .before .before .before .before in let good = c₁₇ .good in let pre = c₁₇ .pre in
-    omega (arith, pre .0, good, loop .inv .3)
+slice-write-env c = let loop = c .before .before .before .loop in
+    let pre = c .before .before .before .before .before .before .before .before .before .before .before .before .before .before .before .before .pre in
+    omega (arith, pre .0, pre .2, loop .inv .3)
 
 same-length : tie.Need-same-length Inv-loop μ-loop
-same-length c =
-    let c₃ = c .before .before .before in let loop = c₃ .loop in
-    let c₁₇ = c₃ .before .before .before .before .before .before .before .before .before .before .before .before .before in let args = c₁₇ .args in
-    let variable = args .variable in
+same-length c = let loop = c .before .before .before .loop in
+    let args = c .before .before .before .before .before .before .before .before .before .before .before .before .before .before .before .before .args in
+    let variable = args .column .variable in
     length-set (loop .env) variable (getD (now (args .env)) variable 0) ∙ loop .inv .3
 
 returns : tie.Need-returns Inv-loop μ-loop
@@ -99,8 +98,8 @@ returns c = let if1 = c .if1 in
     let size-at = c .before .before .before .before .before .before .before .size-at in
     let walk-of = c .before .before .before .before .before .before .before .before .before .walk-of in
     let args = c .before .before .before .before .before .before .before .before .before .before .before .before .before .before .before .before .args in
-    let env = now (args .env) in let memo = now (args .memo) in let q = now (args .q) in let vs = now (args .vs) in let walks = now (args .walks) in let xs = now (args .xs) in let z = now (args .z) in let attribute = args .attribute in let variable = args .variable in
-    (take-all (now (args .t)) xs q z walks vs memo env variable attribute (next-row .result) (walk-of .result) _ (walk-of .ensures .0) (omega (arith, if1 .taken, next-row .ensures .0 .1)) (taken-over (now (args .t)) xs q z walks vs memo env variable attribute (placeAt walks (walk-of .result)) (prepare .result) (size-at .result) (replicate 1 0) (size-at .ensures .0) (prepare .ensures walks (nothing (now (args .t)) walks vs (replicate 1 0) (getD-same {A = ℕ} 1 0) .faithful)) (loop .i) (next-row .result) (loop .taken) (next-row .ensures .0 .0) (next-row .ensures .1 .0) (loop .inv .1)), (omega (arith, taken-few (placeAt walks (walk-of .result)) vs (meets (now (args .t)) xs q z walks vs memo env variable) attribute (next-row .result) (loop .taken) (taken-over (now (args .t)) xs q z walks vs memo env variable attribute (placeAt walks (walk-of .result)) (prepare .result) (size-at .result) (replicate 1 0) (size-at .ensures .0) (prepare .ensures walks (nothing (now (args .t)) walks vs (replicate 1 0) (getD-same {A = ℕ} 1 0) .faithful)) (loop .i) (next-row .result) (loop .taken) (next-row .ensures .0 .0) (next-row .ensures .1 .0) (loop .inv .1)) (next-row .result) (omega arith), next-row .ensures .0 .1, walk-of .ensures .1 .count), loop .inv .0))
+    let env = now (args .env) in let memo = now (args .memo) in let q = now (args .q) in let vs = now (args .values) in let walks = now (args .walks) in let z = now (args .z) in let attribute = args .column .attribute in let variable = args .column .variable in
+    (take-all (now (args .t)) q z walks vs memo env variable attribute (next-row .result) (walk-of .result) _ (walk-of .ensures .0) (omega (arith, if1 .taken, next-row .ensures .0 .1)) (taken-over (now (args .t)) q z walks vs memo env variable attribute (placeAt walks (walk-of .result)) (prepare .result) (size-at .result) (replicate 1 0) (size-at .ensures .0) (prepare .ensures walks (nothing (now (args .t)) walks vs (replicate 1 0) (getD-same {A = ℕ} 1 0) .faithful)) (loop .i) (next-row .result) (loop .taken) (next-row .ensures .0 .0) (next-row .ensures .1 .0) (loop .inv .1)), (omega (arith, taken-few (placeAt walks (walk-of .result)) vs (meets (now (args .t)) q z walks vs memo env variable) attribute (next-row .result) (loop .taken) (taken-over (now (args .t)) q z walks vs memo env variable attribute (placeAt walks (walk-of .result)) (prepare .result) (size-at .result) (replicate 1 0) (size-at .ensures .0) (prepare .ensures walks (nothing (now (args .t)) walks vs (replicate 1 0) (getD-same {A = ℕ} 1 0) .faithful)) (loop .i) (next-row .result) (loop .taken) (next-row .ensures .0 .0) (next-row .ensures .1 .0) (loop .inv .1)) (next-row .result) (omega arith), next-row .ensures .0 .1, walk-of .ensures .1 .count), loop .inv .0))
 
 add-i : tie.Need-add-i Inv-loop μ-loop
 add-i c = let if1 = c .if1 in
@@ -111,16 +110,17 @@ place-requires : tie.Need-place-requires Inv-loop μ-loop
 place-requires c κs = let walk-of = c .before .before .before .before .before .before .before .before .before .walk-of in
     (walk-of .ensures .1, omega (arith, walk-of .ensures .1 .count, c .if1 .left))
 
+cast-env-2 : tie.Need-cast-env-2 Inv-loop μ-loop
+cast-env-2 c = let pre = c .before .before .before .before .before .before .before .before .before .before .before .before .before .before .before .before .before .pre in record { fits = omega (arith, pre .2) }
+
 mul-env-2 : tie.Need-mul-env-2 Inv-loop μ-loop
-mul-env-2 c =
-    let c₁₈ = c .before .before .before .before .before .before .before .before .before .before .before .before .before .before .before .before .before in let good = c₁₈ .good in
-    omega (arith, good)
+mul-env-2 c = let pre = c .before .before .before .before .before .before .before .before .before .before .before .before .before .before .before .before .before .pre in
+    omega (arith, pre .2)
 
 slice-write-env-2 : tie.Need-slice-write-env-2 Inv-loop μ-loop
-slice-write-env-2 c =
-    let c₄ = c .before .before .before .before in let loop = c₄ .loop in
-    let c₁₈ = c₄ .before .before .before .before .before .before .before .before .before .before .before .before .before in let good = c₁₈ .good in let pre = c₁₈ .pre in
-    omega (arith, pre .0, good, loop .inv .3)
+slice-write-env-2 c = let loop = c .before .before .before .before .loop in
+    let pre = c .before .before .before .before .before .before .before .before .before .before .before .before .before .before .before .before .before .pre in
+    omega (arith, pre .0, pre .2, loop .inv .3)
 
 both-requires : tie.Need-both-requires Inv-loop μ-loop
 both-requires c κs = let place = c .before .place in
@@ -131,7 +131,7 @@ both-requires c κs = let place = c .before .place in
     let size-at = c .before .before .before .before .before .before .before .before .before .size-at in
     let walk-of = c .before .before .before .before .before .before .before .before .before .before .before .walk-of in
     let args = c .before .before .before .before .before .before .before .before .before .before .before .before .before .before .before .before .before .before .args in let pre = c .before .before .before .before .before .before .before .before .before .before .before .before .before .before .before .before .before .before .pre in
-    let env = now (args .env) in let memo = now (args .memo) in let q = now (args .q) in let vs = now (args .vs) in let walks = now (args .walks) in let xs = now (args .xs) in let z = now (args .z) in let attribute = args .attribute in let variable = args .variable in
+    let env = now (args .env) in let memo = now (args .memo) in let q = now (args .q) in let vs = now (args .values) in let walks = now (args .walks) in let z = now (args .z) in let attribute = args .column .attribute in let variable = args .column .variable in
     (omega (arith, pre .0, loop .inv .3, length-set (loop .env) variable (place .result)), omega (arith, (prepare .ensures walks (nothing (now (args .t)) walks vs (replicate 1 0) (getD-same {A = ℕ} 1 0) .faithful)) .low, size-at .ensures .1), pre .1)
 
 loop-less : tie.Need-loop-less Inv-loop μ-loop
@@ -148,9 +148,9 @@ loop-again c = let both = c .before .before .before .both in let if2 = c .if2 in
     let prepare = c .before .before .before .before .before .before .before .before .before .before .prepare in
     let size-at = c .before .before .before .before .before .before .before .before .before .before .before .before .before .size-at in
     let walk-of = c .before .before .before .before .before .before .before .before .before .before .before .before .before .before .before .walk-of in
-    let args = c .before .before .before .before .before .before .before .before .before .before .before .before .before .before .before .before .before .before .before .before .before .before .args in let good = c .before .before .before .before .before .before .before .before .before .before .before .before .before .before .before .before .before .before .before .before .before .before .good in let pre = c .before .before .before .before .before .before .before .before .before .before .before .before .before .before .before .before .before .before .before .before .before .before .pre in
-    let env = now (args .env) in let memo = now (args .memo) in let q = now (args .q) in let vs = now (args .vs) in let walks = now (args .walks) in let xs = now (args .xs) in let z = now (args .z) in let attribute = args .attribute in let variable = args .variable in
-    (places-back (loop .env) env _ variable (getD (now (c .before .before .before .before .before .before .before .before .before .before .before .before .before .before .before .before .before .before .before .before .before .before .args .env)) (c .before .before .before .before .before .before .before .before .before .before .before .before .before .before .before .before .before .before .before .before .before .before .args .variable) 0) (place .result) (loop .inv .0) refl _ (both .ensures .1), take-next (now (args .t)) xs q z walks vs memo env variable attribute (placeAt walks (walk-of .result)) (prepare .result) (size-at .result) (replicate 1 0) (size-at .ensures .0) (prepare .ensures walks (nothing (now (args .t)) walks vs (replicate 1 0) (getD-same {A = ℕ} 1 0) .faithful)) _ (next-row .result) (place .result) (loop .taken) _ (next-row .ensures .1 .1 (if1 .left)) (place .ensures) (places-on (loop .env) env _ variable (getD (now (c .before .before .before .before .before .before .before .before .before .before .before .before .before .before .before .before .before .before .before .before .before .before .args .env)) (c .before .before .before .before .before .before .before .before .before .before .before .before .before .before .before .before .before .before .before .before .before .before .args .variable) 0) (place .result) (loop .inv .0) refl) (omega (arith, pre .0, good)) (taken-over (now (args .t)) xs q z walks vs memo env variable attribute (placeAt walks (walk-of .result)) (prepare .result) (size-at .result) (replicate 1 0) (size-at .ensures .0) (prepare .ensures walks (nothing (now (args .t)) walks vs (replicate 1 0) (getD-same {A = ℕ} 1 0) .faithful)) (loop .i) (next-row .result) (loop .taken) (next-row .ensures .0 .0) (next-row .ensures .1 .0) (loop .inv .1)) (row-no (now (args .t)) xs q z walks vs memo (set (loop .env) variable (place .result)) (prepare .result .next) (both .result) (loop .taken) (both .ensures .0) (if2 .taken) _) (loop .inv .1 .bounded), omega (arith, if1 .left), places-length (loop .env) env _ variable (getD (now (c .before .before .before .before .before .before .before .before .before .before .before .before .before .before .before .before .before .before .before .before .before .before .args .env)) (c .before .before .before .before .before .before .before .before .before .before .before .before .before .before .before .before .before .before .before .before .before .before .args .variable) 0) (place .result) (loop .inv .0) refl _ (both .ensures .1) (loop .inv .3), λ h. (let e : next-row .result + 1 - 1 ≡ next-row .result = omega arith in ap (λ (i : ℕ). stops (prepare .result) (tupleAt vs ((placeAt walks (walk-of .result)) i))) e) ∙ next-row .ensures .1 .1 (if1 .left))
+    let args = c .before .before .before .before .before .before .before .before .before .before .before .before .before .before .before .before .before .before .before .before .before .before .args in let pre = c .before .before .before .before .before .before .before .before .before .before .before .before .before .before .before .before .before .before .before .before .before .before .pre in
+    let env = now (args .env) in let memo = now (args .memo) in let q = now (args .q) in let vs = now (args .values) in let walks = now (args .walks) in let z = now (args .z) in let attribute = args .column .attribute in let variable = args .column .variable in
+    (places-back (loop .env) env _ variable (getD (now (c .before .before .before .before .before .before .before .before .before .before .before .before .before .before .before .before .before .before .before .before .before .before .args .env)) (c .before .before .before .before .before .before .before .before .before .before .before .before .before .before .before .before .before .before .before .before .before .before .args .column .variable) 0) (place .result) (loop .inv .0) refl _ (both .ensures .1), take-next (now (args .t)) q z walks vs memo env variable attribute (placeAt walks (walk-of .result)) (prepare .result) (size-at .result) (replicate 1 0) (size-at .ensures .0) (prepare .ensures walks (nothing (now (args .t)) walks vs (replicate 1 0) (getD-same {A = ℕ} 1 0) .faithful)) _ (next-row .result) (place .result) (loop .taken) _ (next-row .ensures .1 .1 (if1 .left)) (place .ensures) (places-on (loop .env) env _ variable (getD (now (c .before .before .before .before .before .before .before .before .before .before .before .before .before .before .before .before .before .before .before .before .before .before .args .env)) (c .before .before .before .before .before .before .before .before .before .before .before .before .before .before .before .before .before .before .before .before .before .before .args .column .variable) 0) (place .result) (loop .inv .0) refl) (omega (arith, pre .0, pre .2)) (taken-over (now (args .t)) q z walks vs memo env variable attribute (placeAt walks (walk-of .result)) (prepare .result) (size-at .result) (replicate 1 0) (size-at .ensures .0) (prepare .ensures walks (nothing (now (args .t)) walks vs (replicate 1 0) (getD-same {A = ℕ} 1 0) .faithful)) (loop .i) (next-row .result) (loop .taken) (next-row .ensures .0 .0) (next-row .ensures .1 .0) (loop .inv .1)) (row-no (now (args .t)) q z walks vs memo (set (loop .env) variable (place .result)) (prepare .result .next) (both .result) (loop .taken) (both .ensures .0) (if2 .taken) _) (loop .inv .1 .bounded), omega (arith, if1 .left), places-length (loop .env) env _ variable (getD (now (c .before .before .before .before .before .before .before .before .before .before .before .before .before .before .before .before .before .before .before .before .before .before .args .env)) (c .before .before .before .before .before .before .before .before .before .before .before .before .before .before .before .before .before .before .before .before .before .before .args .column .variable) 0) (place .result) (loop .inv .0) refl _ (both .ensures .1) (loop .inv .3), λ h. (let e : next-row .result + 1 - 1 ≡ next-row .result = omega arith in ap (λ (i : ℕ). stops (prepare .result) (tupleAt vs ((placeAt walks (walk-of .result)) i))) e) ∙ next-row .ensures .1 .1 (if1 .left))
 
 value-requires : tie.Need-value-requires Inv-loop μ-loop
 value-requires c κs = search needs
@@ -164,8 +164,8 @@ add-requires c κs = let place = c .before .before .before .before .before .befo
     let size-at = c .before .before .before .before .before .before .before .before .before .before .before .before .before .before .size-at in
     let walk-of = c .before .before .before .before .before .before .before .before .before .before .before .before .before .before .before .before .walk-of in
     let args = c .before .before .before .before .before .before .before .before .before .before .before .before .before .before .before .before .before .before .before .before .before .before .before .args in let pre = c .before .before .before .before .before .before .before .before .before .before .before .before .before .before .before .before .before .before .before .before .before .before .before .pre in
-    let env = now (args .env) in let memo = now (args .memo) in let q = now (args .q) in let vs = now (args .vs) in let walks = now (args .walks) in let xs = now (args .xs) in let z = now (args .z) in let attribute = args .attribute in let variable = args .variable in
-    (loop .inv .1 .bounded, omega (arith, taken-few (placeAt walks (walk-of .result)) vs (meets (now (args .t)) xs q z walks vs memo env variable) attribute (next-row .result) (loop .taken) (taken-over (now (args .t)) xs q z walks vs memo env variable attribute (placeAt walks (walk-of .result)) (prepare .result) (size-at .result) (replicate 1 0) (size-at .ensures .0) (prepare .ensures walks (nothing (now (args .t)) walks vs (replicate 1 0) (getD-same {A = ℕ} 1 0) .faithful)) (loop .i) (next-row .result) (loop .taken) (next-row .ensures .0 .0) (next-row .ensures .1 .0) (loop .inv .1)) (next-row .result) (omega arith), if1 .left, walk-of .ensures .1 .count))
+    let env = now (args .env) in let memo = now (args .memo) in let q = now (args .q) in let vs = now (args .values) in let walks = now (args .walks) in let z = now (args .z) in let attribute = args .column .attribute in let variable = args .column .variable in
+    (loop .inv .1 .bounded, omega (arith, taken-few (placeAt walks (walk-of .result)) vs (meets (now (args .t)) q z walks vs memo env variable) attribute (next-row .result) (loop .taken) (taken-over (now (args .t)) q z walks vs memo env variable attribute (placeAt walks (walk-of .result)) (prepare .result) (size-at .result) (replicate 1 0) (size-at .ensures .0) (prepare .ensures walks (nothing (now (args .t)) walks vs (replicate 1 0) (getD-same {A = ℕ} 1 0) .faithful)) (loop .i) (next-row .result) (loop .taken) (next-row .ensures .0 .0) (next-row .ensures .1 .0) (loop .inv .1)) (next-row .result) (omega arith), if1 .left, walk-of .ensures .1 .count))
 
 loop-less-2 : tie.Need-loop-less-2 Inv-loop μ-loop
 loop-less-2 c = let if1 = c .before .before .before .before .before .before .before .before .if1 in
@@ -181,9 +181,9 @@ loop-again-2 c = let both = c .before .before .before .before .before .both in l
     let prepare = c .before .before .before .before .before .before .before .before .before .before .before .before .prepare in
     let size-at = c .before .before .before .before .before .before .before .before .before .before .before .before .before .before .before .size-at in
     let walk-of = c .before .before .before .before .before .before .before .before .before .before .before .before .before .before .before .before .before .walk-of in
-    let args = c .before .before .before .before .before .before .before .before .before .before .before .before .before .before .before .before .before .before .before .before .before .before .before .before .args in let good = c .before .before .before .before .before .before .before .before .before .before .before .before .before .before .before .before .before .before .before .before .before .before .before .before .good in let pre = c .before .before .before .before .before .before .before .before .before .before .before .before .before .before .before .before .before .before .before .before .before .before .before .before .pre in
-    let env = now (args .env) in let memo = now (args .memo) in let q = now (args .q) in let vs = now (args .vs) in let walks = now (args .walks) in let xs = now (args .xs) in let z = now (args .z) in let attribute = args .attribute in let variable = args .variable in
-    (places-back (loop .env) env _ variable (getD (now (c .before .before .before .before .before .before .before .before .before .before .before .before .before .before .before .before .before .before .before .before .before .before .before .before .args .env)) (c .before .before .before .before .before .before .before .before .before .before .before .before .before .before .before .before .before .before .before .before .before .before .before .before .args .variable) 0) (place .result) (loop .inv .0) refl _ (both .ensures .1), take-next (now (args .t)) xs q z walks vs memo env variable attribute (placeAt walks (walk-of .result)) (prepare .result) (size-at .result) (replicate 1 0) (size-at .ensures .0) (prepare .ensures walks (nothing (now (args .t)) walks vs (replicate 1 0) (getD-same {A = ℕ} 1 0) .faithful)) _ (next-row .result) (place .result) (loop .taken) _ (next-row .ensures .1 .1 (if1 .left)) (place .ensures) (places-on (loop .env) env _ variable (getD (now (c .before .before .before .before .before .before .before .before .before .before .before .before .before .before .before .before .before .before .before .before .before .before .before .before .args .env)) (c .before .before .before .before .before .before .before .before .before .before .before .before .before .before .before .before .before .before .before .before .before .before .before .before .args .variable) 0) (place .result) (loop .inv .0) refl) (omega (arith, pre .0, good)) (taken-over (now (args .t)) xs q z walks vs memo env variable attribute (placeAt walks (walk-of .result)) (prepare .result) (size-at .result) (replicate 1 0) (size-at .ensures .0) (prepare .ensures walks (nothing (now (args .t)) walks vs (replicate 1 0) (getD-same {A = ℕ} 1 0) .faithful)) (loop .i) (next-row .result) (loop .taken) (next-row .ensures .0 .0) (next-row .ensures .1 .0) (loop .inv .1)) (row-yes (now (args .t)) xs q z walks vs memo (set (loop .env) variable (place .result)) (prepare .result .next) (both .result) (loop .taken) (both .ensures .0) (add .result) _ _ (if2 .left) (toZ-ofZ {w = w32} (record { sfits = value .ok }) ∙ value .ensures) (add .ensures .0)) (add .ensures .1), omega (arith, if1 .left), places-length (loop .env) env _ variable (getD (now (c .before .before .before .before .before .before .before .before .before .before .before .before .before .before .before .before .before .before .before .before .before .before .before .before .args .env)) (c .before .before .before .before .before .before .before .before .before .before .before .before .before .before .before .before .before .before .before .before .before .before .before .before .args .variable) 0) (place .result) (loop .inv .0) refl _ (both .ensures .1) (loop .inv .3), λ h. (let e : next-row .result + 1 - 1 ≡ next-row .result = omega arith in ap (λ (i : ℕ). stops (prepare .result) (tupleAt vs ((placeAt walks (walk-of .result)) i))) e) ∙ next-row .ensures .1 .1 (if1 .left))
+    let args = c .before .before .before .before .before .before .before .before .before .before .before .before .before .before .before .before .before .before .before .before .before .before .before .before .args in let pre = c .before .before .before .before .before .before .before .before .before .before .before .before .before .before .before .before .before .before .before .before .before .before .before .before .pre in
+    let env = now (args .env) in let memo = now (args .memo) in let q = now (args .q) in let vs = now (args .values) in let walks = now (args .walks) in let z = now (args .z) in let attribute = args .column .attribute in let variable = args .column .variable in
+    (places-back (loop .env) env _ variable (getD (now (c .before .before .before .before .before .before .before .before .before .before .before .before .before .before .before .before .before .before .before .before .before .before .before .before .args .env)) (c .before .before .before .before .before .before .before .before .before .before .before .before .before .before .before .before .before .before .before .before .before .before .before .before .args .column .variable) 0) (place .result) (loop .inv .0) refl _ (both .ensures .1), take-next (now (args .t)) q z walks vs memo env variable attribute (placeAt walks (walk-of .result)) (prepare .result) (size-at .result) (replicate 1 0) (size-at .ensures .0) (prepare .ensures walks (nothing (now (args .t)) walks vs (replicate 1 0) (getD-same {A = ℕ} 1 0) .faithful)) _ (next-row .result) (place .result) (loop .taken) _ (next-row .ensures .1 .1 (if1 .left)) (place .ensures) (places-on (loop .env) env _ variable (getD (now (c .before .before .before .before .before .before .before .before .before .before .before .before .before .before .before .before .before .before .before .before .before .before .before .before .args .env)) (c .before .before .before .before .before .before .before .before .before .before .before .before .before .before .before .before .before .before .before .before .before .before .before .before .args .column .variable) 0) (place .result) (loop .inv .0) refl) (omega (arith, pre .0, pre .2)) (taken-over (now (args .t)) q z walks vs memo env variable attribute (placeAt walks (walk-of .result)) (prepare .result) (size-at .result) (replicate 1 0) (size-at .ensures .0) (prepare .ensures walks (nothing (now (args .t)) walks vs (replicate 1 0) (getD-same {A = ℕ} 1 0) .faithful)) (loop .i) (next-row .result) (loop .taken) (next-row .ensures .0 .0) (next-row .ensures .1 .0) (loop .inv .1)) (row-yes (now (args .t)) q z walks vs memo (set (loop .env) variable (place .result)) (prepare .result .next) (both .result) (loop .taken) (both .ensures .0) (add .result) _ _ (if2 .left) (toZ-ofZ {w = w32} (record { sfits = value .ok }) ∙ value .ensures) (add .ensures .0)) (add .ensures .1), omega (arith, if1 .left), places-length (loop .env) env _ variable (getD (now (c .before .before .before .before .before .before .before .before .before .before .before .before .before .before .before .before .before .before .before .before .before .before .before .before .args .env)) (c .before .before .before .before .before .before .before .before .before .before .before .before .before .before .before .before .before .before .before .before .before .before .before .before .args .column .variable) 0) (place .result) (loop .inv .0) refl _ (both .ensures .1) (loop .inv .3), λ h. (let e : next-row .result + 1 - 1 ≡ next-row .result = omega arith in ap (λ (i : ℕ). stops (prepare .result) (tupleAt vs ((placeAt walks (walk-of .result)) i))) e) ∙ next-row .ensures .1 .1 (if1 .left))
 
 pub take-spec : {M : Type 1} → statement M
 take-spec =
@@ -192,6 +192,7 @@ take-spec =
     Inv-loop
     μ-loop
     walk-of-requires
+    (λ c. search needs)
     mul-old
     slice-read-old
     size-at-requires
@@ -200,12 +201,14 @@ take-spec =
     loop-holds
     slice-aggregate-next-row
     next-row-requires
+    cast-env
     mul-env
     slice-write-env
     same-length
     returns
     add-i
     place-requires
+    cast-env-2
     mul-env-2
     slice-write-env-2
     both-requires

@@ -26,42 +26,38 @@ recall-requires : tie.Need-recall-requires
 recall-requires c κs = sym (c .before .knows .ensures) ∙ c .if2 .taken
 
 returns-3 : tie.Need-returns-3
-returns-3 c =
-    let c₄ = c .before .before .before .before in let function = c₄ .function in
-    let c₆ = c₄ .before .before in let term-record = c₆ .term-record in
-    let c₇ = c₆ .before in let if1 = c₇ .if1 in
-    let c₈ = c₇ .before in let compiled = c₈ .compiled in
-    let c₁₃ = c₈ .before .before .before .before .before in let args = c₁₃ .args in
-    (c .recall .ensures .0 ∙ (known-is (now (args .walks)) (now (args .vs)) (now (args .memo)) (now (args .env)) (now (args .q)) (now (args .z)) (args .level) _ _ _ (nonzero _ (compiled .ensures (not-no _ (if1 .left)) .0)) refl refl (term-record .ensures) _ _ _ _ _ _ (function .given .1) (c .before .before .knows .ensures) (c .before .if2 .taken) refl), (c .recall .ensures .1, refl))
+returns-3 c = let function = c .before .before .before .before .function in
+    let term-record = c .before .before .before .before .before .before .term-record in
+    let if1 = c .before .before .before .before .before .before .before .if1 in
+    let compiled = c .before .before .before .before .before .before .before .before .compiled in
+    let args = c .before .before .before .before .before .before .before .before .before .before .before .before .before .args in
+    (c .recall .ensures .0 ∙ (known-is (now (args .walks)) (now (args .values)) (now (args .memo)) (now (args .env)) (now (args .q)) (now (args .z)) (args .level) _ _ _ (nonzero _ (compiled .ensures (not-no _ (if1 .left)) .0)) refl refl (term-record .ensures) _ _ _ _ _ _ (function .given .1) (c .before .before .knows .ensures) (c .before .if2 .taken) refl), (c .recall .ensures .1, refl))
 
 sub-l : tie.Need-sub-l
-sub-l c =
-    let c₁₀ = c .before .before .before .before .before .before .before .before .before .before in let if1 = c₁₀ .if1 in
-    let c₁₁ = c₁₀ .before in let compiled = c₁₁ .compiled in
+sub-l c = let if1 = c .before .before .before .before .before .before .before .before .before .before .if1 in
+    let compiled = c .before .before .before .before .before .before .before .before .before .before .before .compiled in
     compiled .ensures (not-no _ (if1 .left)) .0
 
 gather-requires : tie.Need-gather-requires
-gather-requires c κs =
-    let c₁₁ = c .before .before .before .before .before .before .before .before .before .before .before in let if1 = c₁₁ .if1 in
-    let c₁₂ = c₁₁ .before in let compiled = c₁₂ .compiled in
-    let c₁₇ = c₁₂ .before .before .before .before .before in let pre = c₁₇ .pre in
-    (pre, omega (arith, compiled .ensures (not-no _ (if1 .left)) .1))
+gather-requires c κs = let if1 = c .before .before .before .before .before .before .before .before .before .before .before .if1 in
+    let compiled = c .before .before .before .before .before .before .before .before .before .before .before .before .compiled in
+    let pre = c .before .before .before .before .before .before .before .before .before .before .before .before .before .before .before .before .before .pre in
+    (pre, omega (arith, compiled .ensures (not-no _ (if1 .left)) .1), omega arith)
 
 returns-4 : tie.Need-returns-4
-returns-4 c =
-    let c₃ = c .before .before .before in let gather = c₃ .gather in
-    let c₅ = c₃ .before .before in let tail-sizes = c₅ .tail-sizes in
-    let c₆ = c₅ .before in let tail = c₆ .tail in
-    let c₇ = c₆ .before in let record-length = c₇ .record-length in
-    let c₈ = c₇ .before in let byte = c₈ .byte in
-    let c₉ = c₈ .before in let if2 = c₉ .if2 in
-    let c₁₀ = c₉ .before in let knows = c₁₀ .knows in
-    let c₁₂ = c₁₀ .before .before in let function = c₁₂ .function in
-    let c₁₄ = c₁₂ .before .before in let term-record = c₁₄ .term-record in
-    let c₁₅ = c₁₄ .before in let if1 = c₁₅ .if1 in
-    let c₁₆ = c₁₅ .before in let compiled = c₁₆ .compiled in
-    let c₂₁ = c₁₆ .before .before .before .before .before in let args = c₂₁ .args in
-    (ends _ _ (c .finish .result) _ (gather .ensures .0) (c .finish .ensures .0) ∙ (aggregate-is (now (args .walks)) (now (args .vs)) (now (args .memo)) (now (args .env)) (now (args .q)) (now (args .z)) (args .level) _ _ _ (nonzero _ (compiled .ensures (not-no _ (if1 .left)) .0)) (byte .ensures) (record-length .ensures .0) (term-record .ensures) _ _ (tail .ensures) (tail-sizes .ensures) _ _ _ _ _ _ (function .given .1) (knows .ensures) (if2 .left) refl), (c .finish .ensures .1, gather .ensures .1 .1))
+returns-4 c = let gather = c .before .before .before .gather in
+    let tail-sizes = c .before .before .before .before .before .tail-sizes in
+    let tail = c .before .before .before .before .before .before .tail in
+    let record-length = c .before .before .before .before .before .before .before .record-length in
+    let byte = c .before .before .before .before .before .before .before .before .byte in
+    let if2 = c .before .before .before .before .before .before .before .before .before .if2 in
+    let knows = c .before .before .before .before .before .before .before .before .before .before .knows in
+    let function = c .before .before .before .before .before .before .before .before .before .before .before .before .function in
+    let term-record = c .before .before .before .before .before .before .before .before .before .before .before .before .before .before .term-record in
+    let if1 = c .before .before .before .before .before .before .before .before .before .before .before .before .before .before .before .if1 in
+    let compiled = c .before .before .before .before .before .before .before .before .before .before .before .before .before .before .before .before .compiled in
+    let args = c .before .before .before .before .before .before .before .before .before .before .before .before .before .before .before .before .before .before .before .before .before .args in
+    (ends _ _ (c .finish .result) _ (gather .ensures .0) (c .finish .ensures .0) ∙ (aggregate-is (now (args .walks)) (now (args .values)) (now (args .memo)) (now (args .env)) (now (args .q)) (now (args .z)) (args .level) _ _ _ (nonzero _ (compiled .ensures (not-no _ (if1 .left)) .0)) (byte .ensures) (record-length .ensures .0) (term-record .ensures) _ _ (tail .ensures) (tail-sizes .ensures) _ _ _ _ _ _ (function .given .1) (knows .ensures) (if2 .left) refl), (c .finish .ensures .1, gather .ensures .1 .1))
 
 pub value-spec : {M : Type 1} → statement M
 value-spec =
@@ -84,6 +80,7 @@ value-spec =
     (λ c κs. search needs)
     (λ c κs. search needs)
     sub-l
+    (λ c. search needs)
     gather-requires
     (λ c κs. search needs)
     (λ c. search needs)

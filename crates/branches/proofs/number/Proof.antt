@@ -1,13 +1,24 @@
-use mathlib.Core.Path.{sym}
-use denote.Ref.{now}
-use lib.IntN.{pos}
-use lib.ListN.{List·getD-eq-default}
+use mathlib.Core.Path.{_∙_, ap₂}
+use Prim.Native.Nat.{ℕ}
+use mir.Facts.{toZ-ofZ}
+use mir.Syntax.{w32}
+use Rattle.model.specs.Meaning.{signed}
 use borrow.Author.Needs.{needs}
 use Rattle.branches.proofs.number.Statement.{statement}
 use Rattle.branches.proofs.number.Tie as tie
 
-returns-2 : tie.Need-returns-2
-returns-2 c = sym (List·getD-eq-default (now (c .before .args .xs)) (pos 0) (c .if1 .left))
+returns : tie.Need-returns
+returns c = toZ-ofZ {w = w32} (record { sfits = c .joined .ok }) ∙ c .joined .ensures ∙ ap₂ (λ (a b : ℕ). signed a 0 b 0) (c .before .before .size-at .ensures .0) (c .before .size-at2 .ensures .0)
 
 pub number-spec : {M : Type 1} → statement M
-number-spec = tie.close (tie.spec (λ c. search needs) (λ c. search needs) (λ c. search needs) returns-2)
+number-spec =
+    tie.close
+    (tie.spec
+    (λ c. search needs)
+    (λ c. search needs)
+    (λ c κs. search needs)
+    (λ c. search needs)
+    (λ c. search needs)
+    (λ c κs. search needs)
+    (λ c κs. search needs)
+    returns)

@@ -20,14 +20,14 @@ use Rattle.conjuncts.proofs.join.Reads as join-reads
 use Rattle.conjuncts.proofs.+split.{statement}
 use Rattle.conjuncts.proofs.+split.Tie.{close}
 
-abbrev μ-split : Measures 5 split-kinds.ps ℕ
+abbrev μ-split : Measures 4 split-kinds.ps ℕ
 μ-split κs a = a .1 .1 .1 .1 .0
 
-abbrev split-at : ℕ → In 5 split-kinds.ps
-split-at t = and 5 split-kinds.ps (is 5 split-kinds.ps μ-split t) split.Pre
+abbrev split-at : ℕ → In 4 split-kinds.ps
+split-at t = and 4 split-kinds.ps (is 4 split-kinds.ps μ-split t) split.Pre
 
-abbrev split-below : ℕ → In 5 split-kinds.ps
-split-below t = and 5 split-kinds.ps (falls 5 split-kinds.ps _<_ μ-split t) split.Pre
+abbrev split-below : ℕ → In 4 split-kinds.ps
+split-below t = and 4 split-kinds.ps (falls 4 split-kinds.ps _<_ μ-split t) split.Pre
 
 abbrev split-claims : ℕ → split-lts.Claims
 split-claims t = (parts-at-reads.Asked, parts-at-reads.Learnt, join-reads.Asked, join-reads.Learnt, split-below t, split.Post)
@@ -44,11 +44,8 @@ split-join-requires t c κs = search needs
 split-same-length : (t : ℕ) → split-lts.Need-same-length (split-claims t) (split-at t) split.Post
 split-same-length t c = search needs
 
-split-same-length-2 : (t : ℕ) → split-lts.Need-same-length-2 (split-claims t) (split-at t) split.Post
-split-same-length-2 t c = search needs
-
 split-returns : (t : ℕ) → split-lts.Need-returns (split-claims t) (split-at t) split.Post
-split-returns t c = c .before .before .before .join .ensures
+split-returns t c = c .before .before .join .ensures
 
 split-sub-l : (t : ℕ) → split-lts.Need-sub-l (split-claims t) (split-at t) split.Post
 split-sub-l t c = let parts-at = c .before .before .parts-at in
@@ -60,34 +57,31 @@ split-sub-last : (t : ℕ) → split-lts.Need-sub-last (split-claims t) (split-a
 split-sub-last t c = search needs
 
 split-split-requires : (t : ℕ) → split-lts.Need-split-requires (split-claims t) (split-at t) split.Post
-split-split-requires t c κs = let if1 = c .before .before .if1 in
-    let parts-at = c .before .before .before .before .parts-at in
-    let args = c .before .before .before .before .before .before .before .before .args in let pre = c .before .before .before .before .before .before .before .before .pre in
+split-split-requires t c κs = let if1 = c .before .if1 in
+    let parts-at = c .before .before .before .parts-at in
+    let args = c .before .before .before .before .before .before .before .args in let pre = c .before .before .before .before .before .before .before .pre in
     let q = now (args .q) in let z = now (args .z) in let end = args .room .end in let k = args .room .next in let level = args .level in let place = args .place in
-    (falls-by level t ((parts (parts-at .result) (end - k) level place q z (parts-at .ensures) (if1 .left)) .deep) (pre .0), (omega (arith, pre .1 .0), omega (arith, pre .1 .1), pre .1 .2, omega (arith, and-room (parts-at .result) (end - k) level place q z (parts-at .ensures) (if1 .left), pre .1 .3), omega (arith, pre .1 .4), pre .1 .5, (parts (parts-at .result) (end - k) level place q z (parts-at .ensures) (if1 .left)) .second, omega (arith, pre .1 .7), pre .1 .8))
+    (falls-by level t ((parts (parts-at .result) (end - k) level place q z (parts-at .ensures) (if1 .left)) .deep) (pre .0), (pre .1 .0, pre .1 .1, omega (arith, and-room (parts-at .result) (end - k) level place q z (parts-at .ensures) (if1 .left), pre .1 .2), omega (arith, pre .1 .3), pre .1 .4, (parts (parts-at .result) (end - k) level place q z (parts-at .ensures) (if1 .left)) .second, omega (arith, pre .1 .6), pre .1 .7))
 
 split-split-requires-2 : (t : ℕ) → split-lts.Need-split-requires-2 (split-claims t) (split-at t) split.Post
-split-split-requires-2 t c κs = let split = c .before .before .before .before .before .split in
-    let if1 = c .before .before .before .before .before .before .before .before .if1 in
-    let parts-at = c .before .before .before .before .before .before .before .before .before .before .parts-at in
-    let args = c .before .before .before .before .before .before .before .before .before .before .before .before .before .before .args in let pre = c .before .before .before .before .before .before .before .before .before .before .before .before .before .before .pre in
+split-split-requires-2 t c κs = let split = c .before .before .before .split in
+    let if1 = c .before .before .before .before .before .if1 in
+    let parts-at = c .before .before .before .before .before .before .before .parts-at in
+    let args = c .before .before .before .before .before .before .before .before .before .before .before .args in let pre = c .before .before .before .before .before .before .before .before .before .before .before .pre in
     let q = now (args .q) in let z = now (args .z) in let end = args .room .end in let k = args .room .next in let level = args .level in let place = args .place in
-    (falls-by level t ((parts (parts-at .result) (end - k) level place q z (parts-at .ensures) (if1 .left)) .deep) (pre .0), (omega (arith, pre .1 .0, split .kept), omega (arith, pre .1 .1, split .kept), omega (arith, pre .1 .2, split .ensures .0 .0), omega (arith, split .ensures .0 .1, and-room (parts-at .result) (end - k) level place q z (parts-at .ensures) (if1 .left), pre .1 .3), pre .1 .4, pre .1 .5, (parts (parts-at .result) (end - k) level place q z (parts-at .ensures) (if1 .left)) .first, omega (arith, pre .1 .7), split .ensures .1 .begun))
+    (falls-by level t ((parts (parts-at .result) (end - k) level place q z (parts-at .ensures) (if1 .left)) .deep) (pre .0), (omega (arith, pre .1 .0, split .kept), omega (arith, pre .1 .1, split .ensures .0 .0), omega (arith, split .ensures .0 .1, and-room (parts-at .result) (end - k) level place q z (parts-at .ensures) (if1 .left), pre .1 .2), pre .1 .3, pre .1 .4, (parts (parts-at .result) (end - k) level place q z (parts-at .ensures) (if1 .left)) .first, omega (arith, pre .1 .6), split .ensures .1 .begun))
 
-split-same-length-3 : (t : ℕ) → split-lts.Need-same-length-3 (split-claims t) (split-at t) split.Post
-split-same-length-3 t c = search needs
-
-split-same-length-4 : (t : ℕ) → split-lts.Need-same-length-4 (split-claims t) (split-at t) split.Post
-split-same-length-4 t c = search needs
+split-same-length-2 : (t : ℕ) → split-lts.Need-same-length-2 (split-claims t) (split-at t) split.Post
+split-same-length-2 t c = search needs
 
 split-returns-2 : (t : ℕ) → split-lts.Need-returns-2 (split-claims t) (split-at t) split.Post
-split-returns-2 t c = let split2 = c .before .before .before .split2 in
-    let split = c .before .before .before .before .before .before .before .before .before .split in
-    let if1 = c .before .before .before .before .before .before .before .before .before .before .before .before .if1 in
-    let parts-at = c .before .before .before .before .before .before .before .before .before .before .before .before .before .before .parts-at in
-    let args = c .before .before .before .before .before .before .before .before .before .before .before .before .before .before .before .before .before .before .args in
-    let memo = now (args .memo) in let q = now (args .q) in let xs = now (args .xs) in let z = now (args .z) in let level = args .level in let ranges = args .ranges in
-    ((omega (arith, split .ensures .0 .0, split2 .ensures .0 .0), split2 .ensures .0 .1), subst (λ (d : Condition). Joined (split2 .result) (now (args .t)) (split2 .last .1 .1 .1 .1 .1 .1 .0) xs (split2 .last .1 .1 .1 .1 .1 .1 .1 .0) q z memo d (rangesAt ranges q)) (sym (and-whole (parts-at .result) ((args .room .end) - (args .room .next)) level (args .place) q z (parts-at .ensures) (if1 .left))) (joined-both (split .result) (split2 .result) (now (args .t)) (split .last .1 .1 .1 .1 .1 .1 .0) (split2 .last .1 .1 .1 .1 .1 .1 .0) xs (split .last .1 .1 .1 .1 .1 .1 .1 .0) (split2 .last .1 .1 .1 .1 .1 .1 .1 .0) q z memo (decode (level - 1) (drop (parts-at .result .first) q) (drop (parts-at .result .first) z)) (decode (level - 1) (drop (parts-at .result .second) q) (drop (parts-at .result .second) z)) (rangesAt ranges q) (split .ensures .1) (split2 .ensures .1)))
+split-returns-2 t c = let split2 = c .before .before .split2 in
+    let split = c .before .before .before .before .before .before .split in
+    let if1 = c .before .before .before .before .before .before .before .before .if1 in
+    let parts-at = c .before .before .before .before .before .before .before .before .before .before .parts-at in
+    let args = c .before .before .before .before .before .before .before .before .before .before .before .before .before .before .args in
+    let memo = now (args .memo) in let q = now (args .q) in let z = now (args .z) in let level = args .level in let ranges = args .ranges in
+    ((omega (arith, split .ensures .0 .0, split2 .ensures .0 .0), split2 .ensures .0 .1), subst (λ (d : Condition). Joined (split2 .result) (now (args .t)) (split2 .last .1 .1 .1 .1 .1 .1 .0) q z memo d (rangesAt ranges q)) (sym (and-whole (parts-at .result) ((args .room .end) - (args .room .next)) level (args .place) q z (parts-at .ensures) (if1 .left))) (joined-both (split .result) (split2 .result) (now (args .t)) (split .last .1 .1 .1 .1 .1 .1 .0) (split2 .last .1 .1 .1 .1 .1 .1 .0) q z memo (decode (level - 1) (drop (parts-at .result .first) q) (drop (parts-at .result .first) z)) (decode (level - 1) (drop (parts-at .result .second) q) (drop (parts-at .result .second) z)) (rangesAt ranges q) (split .ensures .1) (split2 .ensures .1)))
 
 pub +split-spec : {M : Type 1} → statement M
 +split-spec = close μ-split λ t. split-lts.spec (split-claims t)
@@ -97,12 +91,10 @@ pub +split-spec : {M : Type 1} → statement M
     (split-parts-at-requires t)
     (split-join-requires t)
     (split-same-length t)
-    (split-same-length-2 t)
     (split-returns t)
     (split-sub-l t)
     (split-sub-last t)
     (split-split-requires t)
     (split-split-requires-2 t)
-    (split-same-length-3 t)
-    (split-same-length-4 t)
+    (split-same-length-2 t)
     (split-returns-2 t)

@@ -38,34 +38,34 @@ use Rattle.walks.proofs.walk_of.Reads as walk-of-reads
 use Rattle.decide.proofs.+first_row+holds+some_row.{statement}
 use Rattle.decide.proofs.+first_row+holds+some_row.Tie.{close}
 
-abbrev μ-first-row : Measures 9 first-row-kinds.ps ℕ
-μ-first-row κs a = 3 * (a .1 .1 .0) + 3
+abbrev μ-first-row : Measures 8 first-row-kinds.ps ℕ
+μ-first-row κs a = 3 * (a .1 .0 .start) + 3
 
-abbrev μ-holds : Measures 9 holds-kinds.ps ℕ
-μ-holds κs a = 3 * (a .1 .1 .0) + 2
+abbrev μ-holds : Measures 8 holds-kinds.ps ℕ
+μ-holds κs a = 3 * (a .1 .0) + 2
 
-abbrev μ-some-row : Measures 9 some-row-kinds.ps ℕ
-μ-some-row κs a = 3 * (a .1 .1 .0) + 1
+abbrev μ-some-row : Measures 8 some-row-kinds.ps ℕ
+μ-some-row κs a = 3 * (a .1 .0) + 1
 
-abbrev first-row-at : ℕ → In 9 first-row-kinds.ps
-first-row-at t = and 9 first-row-kinds.ps (is 9 first-row-kinds.ps μ-first-row t) first-row.Pre
+abbrev first-row-at : ℕ → In 8 first-row-kinds.ps
+first-row-at t = and 8 first-row-kinds.ps (is 8 first-row-kinds.ps μ-first-row t) first-row.Pre
 
-abbrev first-row-below : ℕ → In 9 first-row-kinds.ps
+abbrev first-row-below : ℕ → In 8 first-row-kinds.ps
 first-row-below t =
-    and 9 first-row-kinds.ps (falls 9 first-row-kinds.ps _<_ μ-first-row t) first-row.Pre
+    and 8 first-row-kinds.ps (falls 8 first-row-kinds.ps _<_ μ-first-row t) first-row.Pre
 
-abbrev holds-at : ℕ → In 9 holds-kinds.ps
-holds-at t = and 9 holds-kinds.ps (is 9 holds-kinds.ps μ-holds t) holds.Pre
+abbrev holds-at : ℕ → In 8 holds-kinds.ps
+holds-at t = and 8 holds-kinds.ps (is 8 holds-kinds.ps μ-holds t) holds.Pre
 
-abbrev holds-below : ℕ → In 9 holds-kinds.ps
-holds-below t = and 9 holds-kinds.ps (falls 9 holds-kinds.ps _<_ μ-holds t) holds.Pre
+abbrev holds-below : ℕ → In 8 holds-kinds.ps
+holds-below t = and 8 holds-kinds.ps (falls 8 holds-kinds.ps _<_ μ-holds t) holds.Pre
 
-abbrev some-row-at : ℕ → In 9 some-row-kinds.ps
-some-row-at t = and 9 some-row-kinds.ps (is 9 some-row-kinds.ps μ-some-row t) some-row.Pre
+abbrev some-row-at : ℕ → In 8 some-row-kinds.ps
+some-row-at t = and 8 some-row-kinds.ps (is 8 some-row-kinds.ps μ-some-row t) some-row.Pre
 
-abbrev some-row-below : ℕ → In 9 some-row-kinds.ps
+abbrev some-row-below : ℕ → In 8 some-row-kinds.ps
 some-row-below t =
-    and 9 some-row-kinds.ps (falls 9 some-row-kinds.ps _<_ μ-some-row t) some-row.Pre
+    and 8 some-row-kinds.ps (falls 8 some-row-kinds.ps _<_ μ-some-row t) some-row.Pre
 
 abbrev first-row-claims : ℕ → first-row-lts.Claims
 first-row-claims t = (walk-of-reads.Asked, walk-of-reads.Learnt, prepare-reads.Asked, prepare-reads.Learnt, next-row-reads.Asked, next-row-reads.Learnt, place-reads.Asked, place-reads.Learnt, holds-below t, holds.Post)
@@ -77,21 +77,29 @@ abbrev some-row-claims : ℕ → some-row-lts.Claims
 some-row-claims t = (size-at-reads.Asked, size-at-reads.Learnt, byte-of-reads.Asked, byte-of-reads.Learnt, first-row-below t, first-row.Post)
 
 abbrev first-row-Inv-loop : first-row-lts.InvT-loop
-first-row-Inv-loop t xs start variable q z walks chains values memo env₀ walk n old cursor next i₀ env i = (set env variable old ≡ env₀) × Failed (placeAt walks walk) values (S.asks t xs q z walks values memo start variable env₀) i × (i ≤ n) × (length env ≡ length env₀) × (0 < i → stops cursor (tupleAt values (placeAt walks walk (i - 1))) ≡ true)
+first-row-Inv-loop t sought q z walks chains values memo env₀ own walk n old cursor next i₀ env i = (set env (sought .variable) old ≡ env₀) × Failed (placeAt walks walk) values (S.asks t q z walks values memo (sought .start) (sought .variable) env₀) i × (i ≤ n) × (length env ≡ length env₀) × (0 < i → stops cursor (tupleAt values (placeAt walks walk (i - 1))) ≡ true)
 
 abbrev first-row-μ-loop : first-row-lts.MeasureT-loop
-first-row-μ-loop t xs start variable q z walks chains values memo env₀ walk n old cursor next i₀ env i = n - i
+first-row-μ-loop t sought q z walks chains values memo env₀ own walk n old cursor next i₀ env i = n - i
+
+abbrev holds-Inv-loop : holds-lts.InvT-loop
+holds-Inv-loop t start q z walks chains values memo env₀ from₀ env from = (runs t q z walks values memo from (assigned values env₀) ≡ runs t q z walks values memo start (assigned values env₀)) × (env ≡ env₀) × (from ≤ start) × (length env ≡ length env₀)
+
+abbrev holds-μ-loop : holds-lts.MeasureT-loop
+holds-μ-loop t start q z walks chains values memo env₀ from₀ env from = from
 
 first-row-walk-of-requires : (t : ℕ) → first-row-lts.Need-walk-of-requires (first-row-claims t) (first-row-at t) first-row.Post first-row-Inv-loop first-row-μ-loop
 first-row-walk-of-requires t c κs = search needs
+
+first-row-cast-old : (t : ℕ) → first-row-lts.Need-cast-old (first-row-claims t) (first-row-at t) first-row.Post first-row-Inv-loop first-row-μ-loop
+first-row-cast-old t c = search needs
 
 first-row-mul-old : (t : ℕ) → first-row-lts.Need-mul-old (first-row-claims t) (first-row-at t) first-row.Post first-row-Inv-loop first-row-μ-loop
 first-row-mul-old t c = search needs
 
 first-row-slice-read-old : (t : ℕ) → first-row-lts.Need-slice-read-old (first-row-claims t) (first-row-at t) first-row.Post first-row-Inv-loop first-row-μ-loop
-first-row-slice-read-old t c =
-    let c₈ = c .before .before .before .before .before .before .before .before in let good = c₈ .good in let pre = c₈ .pre in
-    omega (arith, pre .1 .0, good .1 .1 .1 .0)
+first-row-slice-read-old t c = let pre = c .before .before .before .before .before .before .before .before .pre in
+    omega (arith, pre .1 .0, pre .1 .3)
 
 first-row-prepare-requires : (t : ℕ) → first-row-lts.Need-prepare-requires (first-row-claims t) (first-row-at t) first-row.Post first-row-Inv-loop first-row-μ-loop
 first-row-prepare-requires t c κs = let pre = c .before .before .before .before .before .before .before .before .before .pre in
@@ -100,29 +108,30 @@ first-row-prepare-requires t c κs = let pre = c .before .before .before .before
 first-row-loop-holds : (t : ℕ) → first-row-lts.Need-loop-holds (first-row-claims t) (first-row-at t) first-row.Post first-row-Inv-loop first-row-μ-loop
 first-row-loop-holds t c = let walk-of = c .before .before .before .walk-of in
     let args = c .before .before .before .before .before .before .before .before .before .before .args in
-    let env = now (args .env) in let values = now (args .values) in let walks = now (args .walks) in let variable = args .variable in
-    (places-start env variable (getD (now (c .before .before .before .before .before .before .before .before .before .before .args .env)) (c .before .before .before .before .before .before .before .before .before .before .args .variable) 0) refl, none-start (λ j. S.asks (now (args .t)) (now (args .xs)) (now (args .q)) (now (args .z)) walks values (now (args .memo)) (args .start) variable env (tupleAt values ((placeAt walks (walk-of .result)) j))), omega arith, refl, λ h. absurd (omega arith))
+    let env = now (args .env) in let values = now (args .values) in let walks = now (args .walks) in let variable = args .sought .variable in
+    (places-start env variable (getD (now (c .before .before .before .before .before .before .before .before .before .before .args .env)) (c .before .before .before .before .before .before .before .before .before .before .args .sought .variable) 0) refl, none-start (λ j. S.asks (now (args .t)) (now (args .q)) (now (args .z)) walks values (now (args .memo)) (args .sought .start) variable env (tupleAt values ((placeAt walks (walk-of .result)) j))), omega arith, refl, λ h. absurd (omega arith))
 
 first-row-next-row-requires : (t : ℕ) → first-row-lts.Need-next-row-requires (first-row-claims t) (first-row-at t) first-row.Post first-row-Inv-loop first-row-μ-loop
 first-row-next-row-requires t c κs = let prepare = c .before .prepare in
     let walk-of = c .before .before .before .before .walk-of in
     let args = c .before .before .before .before .before .before .before .before .before .before .before .args in let pre = c .before .before .before .before .before .before .before .before .before .before .before .pre in
     let walks = now (args .walks) in
-    (walk-of .ensures .1, c .loop .inv .2, S.ready-for (now (args .t)) (now (args .xs)) (now (args .q)) (now (args .z)) walks (now (args .values)) (now (args .memo)) (args .start) (args .variable) (now (args .env)) (prepare .result) (now (args .chains)) (prepare .ensures walks (pre .1 .2)) (placeAt walks (walk-of .result)) (walk-of .result) (walk-of .ensures .0), c .loop .inv .4)
+    (walk-of .ensures .1, c .loop .inv .2, S.ready-for (now (args .t)) (now (args .q)) (now (args .z)) walks (now (args .values)) (now (args .memo)) (args .sought .start) (args .sought .variable) (now (args .env)) (prepare .result) (now (args .chains)) (prepare .ensures walks (pre .1 .2)) (placeAt walks (walk-of .result)) (walk-of .result) (walk-of .ensures .0), c .loop .inv .4)
+
+first-row-cast-env : (t : ℕ) → first-row-lts.Need-cast-env (first-row-claims t) (first-row-at t) first-row.Post first-row-Inv-loop first-row-μ-loop
+first-row-cast-env t c = let pre = c .before .before .before .before .before .before .before .before .before .before .before .before .before .pre in record { fits = omega (arith, pre .1 .3) }
 
 first-row-mul-env : (t : ℕ) → first-row-lts.Need-mul-env (first-row-claims t) (first-row-at t) first-row.Post first-row-Inv-loop first-row-μ-loop
-first-row-mul-env t c = omega (arith, c .before .before .before .before .before .before .before .before .before .before .before .before .before .good .1 .1 .1 .0)
+first-row-mul-env t c = omega (arith, c .before .before .before .before .before .before .before .before .before .before .before .before .before .pre .1 .3)
 
 first-row-slice-write-env : (t : ℕ) → first-row-lts.Need-slice-write-env (first-row-claims t) (first-row-at t) first-row.Post first-row-Inv-loop first-row-μ-loop
-first-row-slice-write-env t c =
-    let c₁₃ = c .before .before .before .before .before .before .before .before .before .before .before .before .before in let good = c₁₃ .good in let pre = c₁₃ .pre in
-    omega (arith, pre .1 .0, good .1 .1 .1 .0, c .before .before .loop .inv .3)
+first-row-slice-write-env t c = let pre = c .before .before .before .before .before .before .before .before .before .before .before .before .before .pre in
+    omega (arith, pre .1 .0, pre .1 .3, c .before .before .loop .inv .3)
 
 first-row-same-length : (t : ℕ) → first-row-lts.Need-same-length (first-row-claims t) (first-row-at t) first-row.Post first-row-Inv-loop first-row-μ-loop
-first-row-same-length t c =
-    let c₂ = c .before .before in let loop = c₂ .loop in
-    let c₁₃ = c₂ .before .before .before .before .before .before .before .before .before .before .before in let args = c₁₃ .args in
-    let variable = args .variable in
+first-row-same-length t c = let loop = c .before .before .loop in
+    let args = c .before .before .before .before .before .before .before .before .before .before .before .before .before .args in
+    let variable = args .sought .variable in
     length-set (loop .env) variable (getD (now (args .env)) variable 0) ∙ loop .inv .3
 
 first-row-returns : (t : ℕ) → first-row-lts.Need-returns (first-row-claims t) (first-row-at t) first-row.Post first-row-Inv-loop first-row-μ-loop
@@ -132,21 +141,23 @@ first-row-returns t c = let if1 = c .if1 in
     let prepare = c .before .before .before .prepare in
     let walk-of = c .before .before .before .before .before .before .walk-of in
     let args = c .before .before .before .before .before .before .before .before .before .before .before .before .before .args in let pre = c .before .before .before .before .before .before .before .before .before .before .before .before .before .pre in
-    let env = now (args .env) in let memo = now (args .memo) in let q = now (args .q) in let values = now (args .values) in let walks = now (args .walks) in let xs = now (args .xs) in let z = now (args .z) in let start = args .start in let variable = args .variable in
-    (sym (walked-none (S.asks (now (args .t)) xs q z walks values memo start variable env) walks values variable (walk-of .result) (walk-of .ensures .0) (let e : next-row .result ≡ walk-of .result .count = omega (arith, if1 .taken, next-row .ensures .0 .1) in subst (Failed (placeAt walks (walk-of .result)) values (S.asks (now (args .t)) xs q z walks values memo start variable env)) e (S.over (now (args .t)) xs q z walks values memo start variable env (prepare .result) (now (args .chains)) (prepare .ensures walks (pre .1 .2)) (placeAt walks (walk-of .result)) (loop .i) (next-row .result) (next-row .ensures .1 .0) (loop .inv .1)))), loop .inv .0)
+    let env = now (args .env) in let memo = now (args .memo) in let q = now (args .q) in let values = now (args .values) in let walks = now (args .walks) in let z = now (args .z) in let start = args .sought .start in let variable = args .sought .variable in
+    (sym (walked-none (S.asks (now (args .t)) q z walks values memo start variable env) walks values variable (walk-of .result) (walk-of .ensures .0) (let e : next-row .result ≡ walk-of .result .count = omega (arith, if1 .taken, next-row .ensures .0 .1) in subst (Failed (placeAt walks (walk-of .result)) values (S.asks (now (args .t)) q z walks values memo start variable env)) e (S.over (now (args .t)) q z walks values memo start variable env (prepare .result) (now (args .chains)) (prepare .ensures walks (pre .1 .2)) (placeAt walks (walk-of .result)) (loop .i) (next-row .result) (next-row .ensures .1 .0) (loop .inv .1)))), loop .inv .0)
 
 first-row-place-requires : (t : ℕ) → first-row-lts.Need-place-requires (first-row-claims t) (first-row-at t) first-row.Post first-row-Inv-loop first-row-μ-loop
 first-row-place-requires t c κs = let walk-of = c .before .before .before .before .before .before .walk-of in
     (walk-of .ensures .1, omega (arith, walk-of .ensures .1 .count, c .if1 .left))
 
+first-row-cast-env-2 : (t : ℕ) → first-row-lts.Need-cast-env-2 (first-row-claims t) (first-row-at t) first-row.Post first-row-Inv-loop first-row-μ-loop
+first-row-cast-env-2 t c = let pre = c .before .before .before .before .before .before .before .before .before .before .before .before .before .before .pre in record { fits = omega (arith, pre .1 .3) }
+
 first-row-mul-env-2 : (t : ℕ) → first-row-lts.Need-mul-env-2 (first-row-claims t) (first-row-at t) first-row.Post first-row-Inv-loop first-row-μ-loop
-first-row-mul-env-2 t c = omega (arith, c .before .before .before .before .before .before .before .before .before .before .before .before .before .before .good .1 .1 .1 .0)
+first-row-mul-env-2 t c = omega (arith, c .before .before .before .before .before .before .before .before .before .before .before .before .before .before .pre .1 .3)
 
 first-row-slice-write-env-2 : (t : ℕ) → first-row-lts.Need-slice-write-env-2 (first-row-claims t) (first-row-at t) first-row.Post first-row-Inv-loop first-row-μ-loop
-first-row-slice-write-env-2 t c =
-    let c₃ = c .before .before .before in let loop = c₃ .loop in
-    let c₁₄ = c₃ .before .before .before .before .before .before .before .before .before .before .before in let good = c₁₄ .good in let pre = c₁₄ .pre in
-    omega (arith, pre .1 .0, good .1 .1 .1 .0, loop .inv .3)
+first-row-slice-write-env-2 t c = let loop = c .before .before .before .loop in
+    let pre = c .before .before .before .before .before .before .before .before .before .before .before .before .before .before .pre in
+    omega (arith, pre .1 .0, pre .1 .3, loop .inv .3)
 
 first-row-holds-requires : (t : ℕ) → first-row-lts.Need-holds-requires (first-row-claims t) (first-row-at t) first-row.Post first-row-Inv-loop first-row-μ-loop
 first-row-holds-requires t c κs = let place = c .before .place in
@@ -154,20 +165,21 @@ first-row-holds-requires t c κs = let place = c .before .place in
     let prepare = c .before .before .before .before .before .prepare in
     let args = c .before .before .before .before .before .before .before .before .before .before .before .before .before .before .before .args in let pre = c .before .before .before .before .before .before .before .before .before .before .before .before .before .before .before .pre in
     let walks = now (args .walks) in
-    (omega (arith, pre .0, prepare .ensures walks (pre .1 .2) .low), (omega (arith, pre .1 .0, loop .inv .3, length-set (loop .env) (args .variable) (place .result)), omega (arith, pre .1 .1, prepare .ensures walks (pre .1 .2) .low), pre .1 .2))
+    (omega (arith, pre .0, prepare .ensures walks (pre .1 .2) .low), (omega (arith, pre .1 .0, loop .inv .3, length-set (loop .env) (args .sought .variable) (place .result)), omega (arith, pre .1 .1, prepare .ensures walks (pre .1 .2) .low), pre .1 .2))
+
+first-row-cast-env-3 : (t : ℕ) → first-row-lts.Need-cast-env-3 (first-row-claims t) (first-row-at t) first-row.Post first-row-Inv-loop first-row-μ-loop
+first-row-cast-env-3 t c = let pre = c .before .before .before .before .before .before .before .before .before .before .before .before .before .before .before .before .before .before .before .pre in record { fits = omega (arith, pre .1 .3) }
 
 first-row-mul-env-3 : (t : ℕ) → first-row-lts.Need-mul-env-3 (first-row-claims t) (first-row-at t) first-row.Post first-row-Inv-loop first-row-μ-loop
-first-row-mul-env-3 t c =
-    let c₁₉ = c .before .before .before .before .before .before .before .before .before .before .before .before .before .before .before .before .before .before .before in let good = c₁₉ .good in
-    omega (arith, good .1 .1 .1 .0)
+first-row-mul-env-3 t c = let pre = c .before .before .before .before .before .before .before .before .before .before .before .before .before .before .before .before .before .before .before .pre in
+    omega (arith, pre .1 .3)
 
 first-row-slice-write-env-3 : (t : ℕ) → first-row-lts.Need-slice-write-env-3 (first-row-claims t) (first-row-at t) first-row.Post first-row-Inv-loop first-row-μ-loop
-first-row-slice-write-env-3 t c =
-    let c₃ = c .before .before .before in let holds = c₃ .holds in
-    let c₅ = c₃ .before .before in let place = c₅ .place in
-    let c₈ = c₅ .before .before .before in let loop = c₈ .loop in
-    let c₁₉ = c₈ .before .before .before .before .before .before .before .before .before .before .before in let args = c₁₉ .args in let good = c₁₉ .good in let pre = c₁₉ .pre in
-    omega (arith, pre .1 .0, good .1 .1 .1 .0, loop .inv .3, ap length (holds .ensures .1), length-set (loop .env) (args .variable) (place .result))
+first-row-slice-write-env-3 t c = let holds = c .before .before .before .holds in
+    let place = c .before .before .before .before .before .place in
+    let loop = c .before .before .before .before .before .before .before .before .loop in
+    let args = c .before .before .before .before .before .before .before .before .before .before .before .before .before .before .before .before .before .before .before .args in let pre = c .before .before .before .before .before .before .before .before .before .before .before .before .before .before .before .before .before .before .before .pre in
+    omega (arith, pre .1 .0, pre .1 .3, loop .inv .3, ap length (holds .ensures .1), length-set (loop .env) (args .sought .variable) (place .result))
 
 first-row-add-tried : (t : ℕ) → first-row-lts.Need-add-tried (first-row-claims t) (first-row-at t) first-row.Post first-row-Inv-loop first-row-μ-loop
 first-row-add-tried t c = let if1 = c .before .before .before .before .before .before .if1 in
@@ -175,13 +187,12 @@ first-row-add-tried t c = let if1 = c .before .before .before .before .before .b
     omega (arith, walk-of .ensures .1 .count, if1 .left)
 
 first-row-same-length-2 : (t : ℕ) → first-row-lts.Need-same-length-2 (first-row-claims t) (first-row-at t) first-row.Post first-row-Inv-loop first-row-μ-loop
-first-row-same-length-2 t c =
-    let c₃ = c .before .before .before in let holds = c₃ .holds in
-    let c₅ = c₃ .before .before in let place = c₅ .place in
-    let c₈ = c₅ .before .before .before in let loop = c₈ .loop in
-    let c₁₉ = c₈ .before .before .before .before .before .before .before .before .before .before .before in let args = c₁₉ .args in
-    let variable = args .variable in
-    length-set (holds .last .1 .1 .1 .1 .1 .1 .1 .1 .1 .0) variable (getD (now (args .env)) variable 0) ∙ ap length (holds .ensures .1) ∙ length-set (loop .env) variable (place .result) ∙ loop .inv .3
+first-row-same-length-2 t c = let holds = c .before .before .before .holds in
+    let place = c .before .before .before .before .before .place in
+    let loop = c .before .before .before .before .before .before .before .before .loop in
+    let args = c .before .before .before .before .before .before .before .before .before .before .before .before .before .before .before .before .before .before .before .args in
+    let variable = args .sought .variable in
+    length-set (holds .last .1 .1 .1 .1 .1 .1 .1 .1 .0) variable (getD (now (args .env)) variable 0) ∙ ap length (holds .ensures .1) ∙ length-set (loop .env) variable (place .result) ∙ loop .inv .3
 
 first-row-returns-2 : (t : ℕ) → first-row-lts.Need-returns-2 (first-row-claims t) (first-row-at t) first-row.Post first-row-Inv-loop first-row-μ-loop
 first-row-returns-2 t c = let if2 = c .if2 in
@@ -192,9 +203,9 @@ first-row-returns-2 t c = let if2 = c .if2 in
     let loop = c .before .before .before .before .before .before .before .before .loop in
     let prepare = c .before .before .before .before .before .before .before .before .before .prepare in
     let walk-of = c .before .before .before .before .before .before .before .before .before .before .before .before .walk-of in
-    let args = c .before .before .before .before .before .before .before .before .before .before .before .before .before .before .before .before .before .before .before .args in let good = c .before .before .before .before .before .before .before .before .before .before .before .before .before .before .before .before .before .before .before .good in let pre = c .before .before .before .before .before .before .before .before .before .before .before .before .before .before .before .before .before .before .before .pre in
-    let chains = now (args .chains) in let env = now (args .env) in let memo = now (args .memo) in let q = now (args .q) in let values = now (args .values) in let walks = now (args .walks) in let xs = now (args .xs) in let z = now (args .z) in let start = args .start in let variable = args .variable in
-    (sym (walked-hit (S.asks (now (args .t)) xs q z walks values memo start variable env) walks values variable (walk-of .result) (walk-of .ensures .0) (next-row .result) (if1 .left) (S.over (now (args .t)) xs q z walks values memo start variable env (prepare .result) chains (prepare .ensures walks (pre .1 .2)) (placeAt walks (walk-of .result)) (loop .i) (next-row .result) (next-row .ensures .1 .0) (loop .inv .1)) (S.tried (now (args .t)) xs q z walks values memo start variable env (prepare .result) chains (prepare .ensures walks (pre .1 .2)) (placeAt walks (walk-of .result)) _ (place .result) (next-row .result) (holds .result) (next-row .ensures .1 .1 (if1 .left)) (place .ensures) (places-on (loop .env) env _ variable (getD (now (c .before .before .before .before .before .before .before .before .before .before .before .before .before .before .before .before .before .before .before .args .env)) (c .before .before .before .before .before .before .before .before .before .before .before .before .before .before .before .before .before .before .before .args .variable) 0) (place .result) (loop .inv .0) refl) (omega (arith, pre .1 .0, good .1 .1 .1 .0)) (holds .ensures .0) ∙ if2 .taken)), places-back (loop .env) env _ variable (getD (now (c .before .before .before .before .before .before .before .before .before .before .before .before .before .before .before .before .before .before .before .args .env)) (c .before .before .before .before .before .before .before .before .before .before .before .before .before .before .before .before .before .before .before .args .variable) 0) (place .result) (loop .inv .0) refl _ (holds .ensures .1))
+    let args = c .before .before .before .before .before .before .before .before .before .before .before .before .before .before .before .before .before .before .before .args in let pre = c .before .before .before .before .before .before .before .before .before .before .before .before .before .before .before .before .before .before .before .pre in
+    let chains = now (args .chains) in let env = now (args .env) in let memo = now (args .memo) in let q = now (args .q) in let values = now (args .values) in let walks = now (args .walks) in let z = now (args .z) in let start = args .sought .start in let variable = args .sought .variable in
+    (sym (walked-hit (S.asks (now (args .t)) q z walks values memo start variable env) walks values variable (walk-of .result) (walk-of .ensures .0) (next-row .result) (if1 .left) (S.over (now (args .t)) q z walks values memo start variable env (prepare .result) chains (prepare .ensures walks (pre .1 .2)) (placeAt walks (walk-of .result)) (loop .i) (next-row .result) (next-row .ensures .1 .0) (loop .inv .1)) (S.tried (now (args .t)) q z walks values memo start variable env (prepare .result) chains (prepare .ensures walks (pre .1 .2)) (placeAt walks (walk-of .result)) _ (place .result) (next-row .result) (holds .result) (next-row .ensures .1 .1 (if1 .left)) (place .ensures) (places-on (loop .env) env _ variable (getD (now (c .before .before .before .before .before .before .before .before .before .before .before .before .before .before .before .before .before .before .before .args .env)) (c .before .before .before .before .before .before .before .before .before .before .before .before .before .before .before .before .before .before .before .args .sought .variable) 0) (place .result) (loop .inv .0) refl) (omega (arith, pre .1 .0, pre .1 .3)) (holds .ensures .0) ∙ if2 .taken)), places-back (loop .env) env _ variable (getD (now (c .before .before .before .before .before .before .before .before .before .before .before .before .before .before .before .before .before .before .before .args .env)) (c .before .before .before .before .before .before .before .before .before .before .before .before .before .before .before .before .before .before .before .args .sought .variable) 0) (place .result) (loop .inv .0) refl _ (holds .ensures .1))
 
 first-row-add-i : (t : ℕ) → first-row-lts.Need-add-i (first-row-claims t) (first-row-at t) first-row.Post first-row-Inv-loop first-row-μ-loop
 first-row-add-i t c = let if1 = c .before .before .before .before .before .before .if1 in
@@ -214,15 +225,9 @@ first-row-loop-again t c = let holds = c .before .before .before .holds in
     let loop = c .before .before .before .before .before .before .before .before .loop in
     let prepare = c .before .before .before .before .before .before .before .before .before .prepare in
     let walk-of = c .before .before .before .before .before .before .before .before .before .before .before .before .walk-of in
-    let args = c .before .before .before .before .before .before .before .before .before .before .before .before .before .before .before .before .before .before .before .args in let good = c .before .before .before .before .before .before .before .before .before .before .before .before .before .before .before .before .before .before .before .good in let pre = c .before .before .before .before .before .before .before .before .before .before .before .before .before .before .before .before .before .before .before .pre in
-    let chains = now (args .chains) in let env = now (args .env) in let memo = now (args .memo) in let q = now (args .q) in let values = now (args .values) in let walks = now (args .walks) in let xs = now (args .xs) in let z = now (args .z) in let start = args .start in let variable = args .variable in
-    (places-back (loop .env) env _ variable (getD (now (c .before .before .before .before .before .before .before .before .before .before .before .before .before .before .before .before .before .before .before .args .env)) (c .before .before .before .before .before .before .before .before .before .before .before .before .before .before .before .before .before .before .before .args .variable) 0) (place .result) (loop .inv .0) refl _ (holds .ensures .1), none-next (λ j. S.asks (now (args .t)) xs q z walks values memo start variable env (tupleAt values ((placeAt walks (walk-of .result)) j))) (next-row .result) (S.over (now (args .t)) xs q z walks values memo start variable env (prepare .result) chains (prepare .ensures walks (pre .1 .2)) (placeAt walks (walk-of .result)) (loop .i) (next-row .result) (next-row .ensures .1 .0) (loop .inv .1)) (S.tried (now (args .t)) xs q z walks values memo start variable env (prepare .result) chains (prepare .ensures walks (pre .1 .2)) (placeAt walks (walk-of .result)) _ (place .result) (next-row .result) (holds .result) (next-row .ensures .1 .1 (if1 .left)) (place .ensures) (places-on (loop .env) env _ variable (getD (now (c .before .before .before .before .before .before .before .before .before .before .before .before .before .before .before .before .before .before .before .args .env)) (c .before .before .before .before .before .before .before .before .before .before .before .before .before .before .before .before .before .before .before .args .variable) 0) (place .result) (loop .inv .0) refl) (omega (arith, pre .1 .0, good .1 .1 .1 .0)) (holds .ensures .0) ∙ c .if2 .left), omega (arith, if1 .left), places-length (loop .env) env _ variable (getD (now (c .before .before .before .before .before .before .before .before .before .before .before .before .before .before .before .before .before .before .before .args .env)) (c .before .before .before .before .before .before .before .before .before .before .before .before .before .before .before .before .before .before .before .args .variable) 0) (place .result) (loop .inv .0) refl _ (holds .ensures .1) (loop .inv .3), λ h. (let e : next-row .result + 1 - 1 ≡ next-row .result = omega arith in ap (λ (i : ℕ). stops (prepare .result) (tupleAt values ((placeAt walks (walk-of .result)) i))) e) ∙ next-row .ensures .1 .1 (if1 .left))
-
-abbrev holds-Inv-loop : holds-lts.InvT-loop
-holds-Inv-loop t xs start q z walks chains values memo env₀ from₀ env from = (runs t xs q z walks values memo from (assigned values env₀) ≡ runs t xs q z walks values memo start (assigned values env₀)) × (env ≡ env₀) × (from ≤ start) × (length env ≡ length env₀)
-
-abbrev holds-μ-loop : holds-lts.MeasureT-loop
-holds-μ-loop t xs start q z walks chains values memo env₀ from₀ env from = from
+    let args = c .before .before .before .before .before .before .before .before .before .before .before .before .before .before .before .before .before .before .before .args in let pre = c .before .before .before .before .before .before .before .before .before .before .before .before .before .before .before .before .before .before .before .pre in
+    let chains = now (args .chains) in let env = now (args .env) in let memo = now (args .memo) in let q = now (args .q) in let values = now (args .values) in let walks = now (args .walks) in let z = now (args .z) in let start = args .sought .start in let variable = args .sought .variable in
+    (places-back (loop .env) env _ variable (getD (now (c .before .before .before .before .before .before .before .before .before .before .before .before .before .before .before .before .before .before .before .args .env)) (c .before .before .before .before .before .before .before .before .before .before .before .before .before .before .before .before .before .before .before .args .sought .variable) 0) (place .result) (loop .inv .0) refl _ (holds .ensures .1), none-next (λ j. S.asks (now (args .t)) q z walks values memo start variable env (tupleAt values ((placeAt walks (walk-of .result)) j))) (next-row .result) (S.over (now (args .t)) q z walks values memo start variable env (prepare .result) chains (prepare .ensures walks (pre .1 .2)) (placeAt walks (walk-of .result)) (loop .i) (next-row .result) (next-row .ensures .1 .0) (loop .inv .1)) (S.tried (now (args .t)) q z walks values memo start variable env (prepare .result) chains (prepare .ensures walks (pre .1 .2)) (placeAt walks (walk-of .result)) _ (place .result) (next-row .result) (holds .result) (next-row .ensures .1 .1 (if1 .left)) (place .ensures) (places-on (loop .env) env _ variable (getD (now (c .before .before .before .before .before .before .before .before .before .before .before .before .before .before .before .before .before .before .before .args .env)) (c .before .before .before .before .before .before .before .before .before .before .before .before .before .before .before .before .before .before .before .args .sought .variable) 0) (place .result) (loop .inv .0) refl) (omega (arith, pre .1 .0, pre .1 .3)) (holds .ensures .0) ∙ c .if2 .left), omega (arith, if1 .left), places-length (loop .env) env _ variable (getD (now (c .before .before .before .before .before .before .before .before .before .before .before .before .before .before .before .before .before .before .before .args .env)) (c .before .before .before .before .before .before .before .before .before .before .before .before .before .before .before .before .before .before .before .args .sought .variable) 0) (place .result) (loop .inv .0) refl _ (holds .ensures .1) (loop .inv .3), λ h. (let e : next-row .result + 1 - 1 ≡ next-row .result = omega arith in ap (λ (i : ℕ). stops (prepare .result) (tupleAt values ((placeAt walks (walk-of .result)) i))) e) ∙ next-row .ensures .1 .1 (if1 .left))
 
 holds-loop-holds : (t : ℕ) → holds-lts.Need-loop-holds (holds-claims t) (holds-at t) holds.Post holds-Inv-loop holds-μ-loop
 holds-loop-holds t c = (refl, refl, omega arith, refl)
@@ -239,8 +244,8 @@ holds-returns : (t : ℕ) → holds-lts.Need-returns (holds-claims t) (holds-at 
 holds-returns t c = let run = c .before .before .before .run in
     let loop = c .before .before .before .before .before .loop in
     let args = c .before .before .before .before .before .before .before .before .before .before .before .before .args in
-    let env = now (args .env) in let memo = now (args .memo) in let q = now (args .q) in let values = now (args .values) in let walks = now (args .walks) in let xs = now (args .xs) in let z = now (args .z) in let start = args .start in
-    (follow-end (now (args .t)) xs q z walks values memo env (run .result) start (c .if1 .taken) (S.moved (now (args .t)) xs q z walks values memo env (loop .env) (run .result) (loop .from) start (loop .inv .1) (run .ensures .0) (loop .inv .0)), run .ensures .1 .1 ∙ loop .inv .1)
+    let env = now (args .env) in let memo = now (args .memo) in let q = now (args .q) in let values = now (args .values) in let walks = now (args .walks) in let z = now (args .z) in let start = args .start in
+    (follow-end (now (args .t)) q z walks values memo env (run .result) start (c .if1 .taken) (S.moved (now (args .t)) q z walks values memo env (loop .env) (run .result) (loop .from) start (loop .inv .1) (run .ensures .0) (loop .inv .0)), run .ensures .1 .1 ∙ loop .inv .1)
 
 holds-some-row-requires : (t : ℕ) → holds-lts.Need-some-row-requires (holds-claims t) (holds-at t) holds.Post holds-Inv-loop holds-μ-loop
 holds-some-row-requires t c κs = let run = c .before .before .before .before .run in
@@ -264,8 +269,8 @@ holds-returns-2 t c = let way = c .before .way in
     let run = c .before .before .before .before .before .before .before .before .before .run in
     let loop = c .before .before .before .before .before .before .before .before .before .before .before .loop in
     let args = c .before .before .before .before .before .before .before .before .before .before .before .before .before .before .before .before .before .before .args in
-    let env = now (args .env) in let memo = now (args .memo) in let q = now (args .q) in let values = now (args .values) in let walks = now (args .walks) in let xs = now (args .xs) in let z = now (args .z) in let start = args .start in
-    (follow-stuck (now (args .t)) xs q z walks values memo env (run .result) start (way .result) _ (run .ensures .1 .1 ∙ loop .inv .1) (omega (arith, if1 .left)) (S.way-next (now (args .t)) xs q z walks values memo (run .last .1 .1 .1 .1 .1 .1 .1 .1 .0) (run .result) (way .result) (some-row .result) (way .ensures .0) (some-row .ensures .0)) (S.moved (now (args .t)) xs q z walks values memo env (loop .env) (run .result) (loop .from) start (loop .inv .1) (run .ensures .0) (loop .inv .0)) (c .if2 .taken), some-row .ensures .1 ∙ (run .ensures .1 .1 ∙ loop .inv .1))
+    let env = now (args .env) in let memo = now (args .memo) in let q = now (args .q) in let values = now (args .values) in let walks = now (args .walks) in let z = now (args .z) in let start = args .start in
+    (follow-stuck (now (args .t)) q z walks values memo env (run .result) start (way .result) _ (run .ensures .1 .1 ∙ loop .inv .1) (omega (arith, if1 .left)) (S.way-next (now (args .t)) q z walks values memo (run .last .1 .1 .1 .1 .1 .1 .1 .0) (run .result) (way .result) (some-row .result) (way .ensures .0) (some-row .ensures .0)) (S.moved (now (args .t)) q z walks values memo env (loop .env) (run .result) (loop .from) start (loop .inv .1) (run .ensures .0) (loop .inv .0)) (c .if2 .taken), some-row .ensures .1 ∙ (run .ensures .1 .1 ∙ loop .inv .1))
 
 holds-loop-less : (t : ℕ) → holds-lts.Need-loop-less (holds-claims t) (holds-at t) holds.Post holds-Inv-loop holds-μ-loop
 holds-loop-less t c = omega (arith, c .if2 .left, c .before .before .before .before .before .before .before .before .before .run .ensures .1 .0 .0)
@@ -277,8 +282,8 @@ holds-loop-again t c = let way = c .before .way in
     let run = c .before .before .before .before .before .before .before .before .before .run in
     let loop = c .before .before .before .before .before .before .before .before .before .before .before .loop in
     let args = c .before .before .before .before .before .before .before .before .before .before .before .before .before .before .before .before .before .before .args in
-    let env = now (args .env) in let memo = now (args .memo) in let q = now (args .q) in let values = now (args .values) in let walks = now (args .walks) in let xs = now (args .xs) in let z = now (args .z) in let start = args .start in
-    (follow-on (now (args .t)) xs q z walks values memo env (run .result) start (way .result) _ (run .ensures .1 .1 ∙ loop .inv .1) (omega (arith, if1 .left)) (S.way-next (now (args .t)) xs q z walks values memo (run .last .1 .1 .1 .1 .1 .1 .1 .1 .0) (run .result) (way .result) (some-row .result) (way .ensures .0) (some-row .ensures .0)) (S.moved (now (args .t)) xs q z walks values memo env (loop .env) (run .result) (loop .from) start (loop .inv .1) (run .ensures .0) (loop .inv .0)) (omega (arith, c .if2 .left)), some-row .ensures .1 ∙ (run .ensures .1 .1 ∙ loop .inv .1), omega (arith, c .if2 .left, run .ensures .1 .0 .0, loop .inv .2), ap length (some-row .ensures .1 ∙ (run .ensures .1 .1 ∙ loop .inv .1)))
+    let env = now (args .env) in let memo = now (args .memo) in let q = now (args .q) in let values = now (args .values) in let walks = now (args .walks) in let z = now (args .z) in let start = args .start in
+    (follow-on (now (args .t)) q z walks values memo env (run .result) start (way .result) _ (run .ensures .1 .1 ∙ loop .inv .1) (omega (arith, if1 .left)) (S.way-next (now (args .t)) q z walks values memo (run .last .1 .1 .1 .1 .1 .1 .1 .0) (run .result) (way .result) (some-row .result) (way .ensures .0) (some-row .ensures .0)) (S.moved (now (args .t)) q z walks values memo env (loop .env) (run .result) (loop .from) start (loop .inv .1) (run .ensures .0) (loop .inv .0)) (omega (arith, c .if2 .left)), some-row .ensures .1 ∙ (run .ensures .1 .1 ∙ loop .inv .1), omega (arith, c .if2 .left, run .ensures .1 .0 .0, loop .inv .2), ap length (some-row .ensures .1 ∙ (run .ensures .1 .1 ∙ loop .inv .1)))
 
 some-row-mul-size-at : (t : ℕ) → some-row-lts.Need-mul-size-at (some-row-claims t) (some-row-at t) some-row.Post
 some-row-mul-size-at t c = search needs
@@ -292,7 +297,7 @@ some-row-size-at-requires t c κs = search needs
 some-row-returns : (t : ℕ) → some-row-lts.Need-returns (some-row-claims t) (some-row-at t) some-row.Post
 some-row-returns t c = let size-at = c .before .size-at in
     let args = c .before .before .before .before .before .before .before .before .args in let pre = c .before .before .before .before .before .before .before .before .pre in
-    (S.some-stuck (now (args .t)) (now (args .xs)) (now (args .q)) (now (args .z)) (now (args .walks)) (now (args .values)) (now (args .memo)) (size-at .result) 0 (now (args .env)) (args .i) (pre .1 .2) (size-at .ensures .0) (c .if1 .taken), refl)
+    (S.some-stuck (now (args .t)) (now (args .q)) (now (args .z)) (now (args .walks)) (now (args .values)) (now (args .memo)) (size-at .result) 0 (now (args .env)) (args .i) (pre .1 .2) (size-at .ensures .0) (c .if1 .taken), refl)
 
 some-row-mul-size-at-2 : (t : ℕ) → some-row-lts.Need-mul-size-at-2 (some-row-claims t) (some-row-at t) some-row.Post
 some-row-mul-size-at-2 t c = search needs
@@ -307,7 +312,7 @@ some-row-returns-2 : (t : ℕ) → some-row-lts.Need-returns-2 (some-row-claims 
 some-row-returns-2 t c = let size-at2 = c .before .size-at2 in
     let size-at = c .before .before .before .size-at in
     let args = c .before .before .before .before .before .before .before .before .before .before .args in let pre = c .before .before .before .before .before .before .before .before .before .before .pre in
-    (S.some-high (now (args .t)) (now (args .xs)) (now (args .q)) (now (args .z)) (now (args .walks)) (now (args .values)) (now (args .memo)) (size-at .result) 0 (now (args .env)) (args .i) (pre .1 .2) (size-at .ensures .0) (size-at2 .result) (size-at2 .ensures .0) (omega (arith, c .before .before .if1 .left)) (c .if2 .taken), refl)
+    (S.some-high (now (args .t)) (now (args .q)) (now (args .z)) (now (args .walks)) (now (args .values)) (now (args .memo)) (size-at .result) 0 (now (args .env)) (args .i) (pre .1 .2) (size-at .ensures .0) (size-at2 .result) (size-at2 .ensures .0) (omega (arith, c .before .before .if1 .left)) (c .if2 .taken), refl)
 
 some-row-byte-of-requires : (t : ℕ) → some-row-lts.Need-byte-of-requires (some-row-claims t) (some-row-at t) some-row.Post
 some-row-byte-of-requires t c κs = omega (arith, c .if2 .left)
@@ -316,7 +321,7 @@ some-row-first-row-requires : (t : ℕ) → some-row-lts.Need-first-row-requires
 some-row-first-row-requires t c κs = let if1 = c .before .before .before .before .if1 in
     let size-at = c .before .before .before .before .before .size-at in
     let pre = c .before .before .before .before .before .before .before .before .before .before .before .before .pre in
-    (omega (arith, pre .0, if1 .left), (pre .1 .0, size-at .ensures .1, pre .1 .3))
+    (omega (arith, pre .0, if1 .left), (pre .1 .0, size-at .ensures .1, pre .1 .3, omega (arith, c .before .byte-of .ensures, c .before .before .if2 .left)))
 
 some-row-same-length : (t : ℕ) → some-row-lts.Need-same-length (some-row-claims t) (some-row-at t) some-row.Post
 some-row-same-length t c = search needs
@@ -329,7 +334,7 @@ some-row-returns-3 t c = let first-row = c .before .before .first-row in
     let if1 = c .before .before .before .before .before .before .before .if1 in
     let size-at = c .before .before .before .before .before .before .before .before .size-at in
     let args = c .before .before .before .before .before .before .before .before .before .before .before .before .before .before .before .args in let pre = c .before .before .before .before .before .before .before .before .before .before .before .before .before .before .before .pre in
-    (S.some-is (now (args .t)) (now (args .xs)) (now (args .q)) (now (args .z)) (now (args .walks)) (now (args .values)) (now (args .memo)) (size-at .result) (byte-of .result) (now (args .env)) (args .i) (pre .1 .2) (size-at .ensures .0) _ _ (byte-of .ensures ∙ size-at2 .ensures .0) (omega (arith, if1 .left)) (omega (arith, byte-of .ensures, if2 .left)) (first-row .ensures .0), first-row .ensures .1)
+    (S.some-is (now (args .t)) (now (args .q)) (now (args .z)) (now (args .walks)) (now (args .values)) (now (args .memo)) (size-at .result) (byte-of .result) (now (args .env)) (args .i) (pre .1 .2) (size-at .ensures .0) _ _ (byte-of .ensures ∙ size-at2 .ensures .0) (omega (arith, if1 .left)) (omega (arith, byte-of .ensures, if2 .left)) (first-row .ensures .0), first-row .ensures .1)
 
 pub +first-row+holds+some-row-spec : {M : Type 1} → statement M
 +first-row+holds+some-row-spec = close μ-first-row μ-holds μ-some-row (λ t. first-row-lts.spec (first-row-claims t)
@@ -338,19 +343,23 @@ pub +first-row+holds+some-row-spec : {M : Type 1} → statement M
     first-row-Inv-loop
     first-row-μ-loop
     (first-row-walk-of-requires t)
+    (first-row-cast-old t)
     (first-row-mul-old t)
     (first-row-slice-read-old t)
     (first-row-prepare-requires t)
     (first-row-loop-holds t)
     (first-row-next-row-requires t)
+    (first-row-cast-env t)
     (first-row-mul-env t)
     (first-row-slice-write-env t)
     (first-row-same-length t)
     (first-row-returns t)
     (first-row-place-requires t)
+    (first-row-cast-env-2 t)
     (first-row-mul-env-2 t)
     (first-row-slice-write-env-2 t)
     (first-row-holds-requires t)
+    (first-row-cast-env-3 t)
     (first-row-mul-env-3 t)
     (first-row-slice-write-env-3 t)
     (first-row-add-tried t)

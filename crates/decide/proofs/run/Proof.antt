@@ -16,10 +16,10 @@ use Rattle.decide.proofs.next.Reads as next-reads
 use Rattle.kinds.proofs.size_at.Reads as size-at-reads
 
 abbrev Inv-loop : tie.InvT-loop
-Inv-loop t xs start q z walks values memo env₀ at₀ env at = (runs t xs q z walks values memo at (assigned values env₀) ≡ runs t xs q z walks values memo start (assigned values env₀)) × (env ≡ env₀) × (at ≤ start) × (length env ≡ length env₀)
+Inv-loop t start q z walks values memo env₀ at₀ env at = (runs t q z walks values memo at (assigned values env₀) ≡ runs t q z walks values memo start (assigned values env₀)) × (env ≡ env₀) × (at ≤ start) × (length env ≡ length env₀)
 
 abbrev μ-loop : tie.MeasureT-loop
-μ-loop t xs start q z walks values memo env₀ at₀ env at = at
+μ-loop t start q z walks values memo env₀ at₀ env at = at
 
 loop-holds : tie.Need-loop-holds Inv-loop μ-loop
 loop-holds c = (refl, refl, omega arith, refl)
@@ -37,33 +37,30 @@ returns : tie.Need-returns Inv-loop μ-loop
 returns c = (c .before .before .before .loop .inv .0, ((c .before .before .before .loop .inv .2, λ h. sym (c .before .size-at .ensures .0) ∙ c .if1 .taken), c .before .before .before .loop .inv .1))
 
 next-requires : tie.Need-next-requires Inv-loop μ-loop
-next-requires c κs =
-    let c₄ = c .before .before .before .before in let loop = c₄ .loop in
-    let c₁₀ = c₄ .before .before .before .before .before .before in let pre = c₁₀ .pre in
+next-requires c κs = let loop = c .before .before .before .before .loop in
+    let pre = c .before .before .before .before .before .before .before .before .before .before .pre in
     (omega (arith, pre .0, loop .inv .3), omega (arith, pre .1, loop .inv .2), λ e. c .before .if1 .left (c .before .before .size-at .ensures .0 ∙ e))
 
 same-length-2 : tie.Need-same-length-2 Inv-loop μ-loop
 same-length-2 c = search needs
 
 returns-2 : tie.Need-returns-2 Inv-loop μ-loop
-returns-2 c =
-    let c₃ = c .before .before .before in let next = c₃ .next in
-    let c₇ = c₃ .before .before .before .before in let loop-test = c₇ .loop-test in
-    let c₈ = c₇ .before in let loop = c₈ .loop in
-    let c₁₄ = c₈ .before .before .before .before .before .before in let args = c₁₄ .args in
-    let memo = now (args .memo) in let q = now (args .q) in let values = now (args .values) in let walks = now (args .walks) in let xs = now (args .xs) in let z = now (args .z) in
-    (runs-1 (now (args .t)) xs q z walks values memo _ ∙ follow-stuck (now (args .t)) xs q z walks values memo (now (args .env)) (loop .at) (args .start) (next .result) (loop .env) (loop .inv .1) (loop-test .taken) (next .ensures .0) (loop .inv .0) (c .if2 .taken), ((omega (arith, loop-test .taken, loop .inv .2), λ h. absurd (omega arith)), next .ensures .1 ∙ loop .inv .1))
+returns-2 c = let next = c .before .before .before .next in
+    let loop-test = c .before .before .before .before .before .before .before .loop-test in
+    let loop = c .before .before .before .before .before .before .before .before .loop in
+    let args = c .before .before .before .before .before .before .before .before .before .before .before .before .before .before .args in
+    let memo = now (args .memo) in let q = now (args .q) in let values = now (args .values) in let walks = now (args .walks) in let z = now (args .z) in
+    (runs-1 (now (args .t)) q z walks values memo _ ∙ follow-stuck (now (args .t)) q z walks values memo (now (args .env)) (loop .at) (args .start) (next .result) (loop .env) (loop .inv .1) (loop-test .taken) (next .ensures .0) (loop .inv .0) (c .if2 .taken), ((omega (arith, loop-test .taken, loop .inv .2), λ h. absurd (omega arith)), next .ensures .1 ∙ loop .inv .1))
 
 loop-less : tie.Need-loop-less Inv-loop μ-loop
 loop-less c = search needs
 
 loop-again : tie.Need-loop-again Inv-loop μ-loop
-loop-again c =
-    let c₃ = c .before .before .before in let next = c₃ .next in
-    let c₇ = c₃ .before .before .before .before in let loop-test = c₇ .loop-test in
-    let c₈ = c₇ .before in let loop = c₈ .loop in
-    let c₁₄ = c₈ .before .before .before .before .before .before in let args = c₁₄ .args in
-    (follow-on (now (args .t)) (now (args .xs)) (now (args .q)) (now (args .z)) (now (args .walks)) (now (args .values)) (now (args .memo)) (now (args .env)) (loop .at) (args .start) (next .result) (loop .env) (loop .inv .1) (loop-test .taken) (next .ensures .0) (loop .inv .0) (c .if2 .left), next .ensures .1 ∙ loop .inv .1, omega (arith, c .if2 .left, loop .inv .2), ap length (next .ensures .1 ∙ loop .inv .1))
+loop-again c = let next = c .before .before .before .next in
+    let loop-test = c .before .before .before .before .before .before .before .loop-test in
+    let loop = c .before .before .before .before .before .before .before .before .loop in
+    let args = c .before .before .before .before .before .before .before .before .before .before .before .before .before .before .args in
+    (follow-on (now (args .t)) (now (args .q)) (now (args .z)) (now (args .walks)) (now (args .values)) (now (args .memo)) (now (args .env)) (loop .at) (args .start) (next .result) (loop .env) (loop .inv .1) (loop-test .taken) (next .ensures .0) (loop .inv .0) (c .if2 .left), next .ensures .1 ∙ loop .inv .1, omega (arith, c .if2 .left, loop .inv .2), ap length (next .ensures .1 ∙ loop .inv .1))
 
 same-length-3 : tie.Need-same-length-3 Inv-loop μ-loop
 same-length-3 c = search needs

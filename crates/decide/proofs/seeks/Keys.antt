@@ -17,7 +17,7 @@ use Rattle.numbers.specs.Numbers.{fraction, valueOf}
 use Rattle.numbers.specs.declared.Ratio.{Ratio}
 use Rattle.walks.specs.declared.Walk.{Walk}
 use Rattle.walks.specs.Walks.{walkOf}
-use Rattle.branches.specs.Branches.{field, operand, branchHolds, next, runs}
+use Rattle.branches.specs.Branches.{number, field, operand, branchHolds, next, runs}
 use Rattle.branches.proofs.Running.{runs-step}
 use Rattle.model.specs.Lists.{update}
 use Rattle.walks.specs.Assigned.{assigned}
@@ -53,38 +53,38 @@ module _ (t : List ℕ) (i v o a b c : ℕ) (eo : o ≡ getD t (8 * i) 0) (e1 : 
   no-search h = omega arith
 
   pub tells-left : a ≡ v → (b ≡ v → ⊥) → c ≡ field t i 2 → Tells t i v (8 * i + 3) (2 * i + 1) c
-  tells-left ha hb hc xs q z ws vs m e row =
-      let y = operand m (getD t (8 * i + 3) 0) (getD t (8 * i + 3 + 1) 0) (getD xs (2 * i + 1) (pos 0)) e in
-      left-is t xs q z ws vs m i v e row o a b y eo some-operator no-search ea eb l (8 * i + 3) c ha hb refl hc refl ∙ ap (λ (k : ℕ). compare k (some (whole (row c))) y) e1
+  tells-left ha hb hc q z ws vs m e row =
+      let y = operand m (getD t (8 * i + 3) 0) (getD t (8 * i + 3 + 1) 0) (number t (2 * i + 1)) e in
+      left-is t q z ws vs m i v e row o a b y eo some-operator no-search ea eb l (8 * i + 3) c ha hb refl hc refl ∙ ap (λ (k : ℕ). compare k (some (whole (row c))) y) e1
 
   pub tells-right : (a ≡ v → ⊥) → b ≡ v → c ≡ field t i 4 → Tells t i v (8 * i + 1) (2 * i) c
-  tells-right ha hb hc xs q z ws vs m e row =
-      let y = operand m (getD t (8 * i + 1) 0) (getD t (8 * i + 1 + 1) 0) (getD xs (2 * i) (pos 0)) e in
-      right-is t xs q z ws vs m i v e row o a b y eo some-operator no-search ea eb l (8 * i + 1) c ha hb refl hc refl ∙ ap (λ (k : ℕ). compare k y (some (whole (row c)))) e1 ∙ equal-turn y (some (whole (row c)))
+  tells-right ha hb hc q z ws vs m e row =
+      let y = operand m (getD t (8 * i + 1) 0) (getD t (8 * i + 1 + 1) 0) (number t (2 * i)) e in
+      right-is t q z ws vs m i v e row o a b y eo some-operator no-search ea eb l (8 * i + 1) c ha hb refl hc refl ∙ ap (λ (k : ℕ). compare k y (some (whole (row c)))) e1 ∙ equal-turn y (some (whole (row c)))
 
 -- what starts with branch s fails where it fails from branch i on
 abbrev pub Along : List ℕ → ℕ → ℕ → Type 0
-Along t s i = (xs : List ℤ) (q z ws : List ℕ) (vs m : List ℤ) (e : Assignment) → runs t xs q z ws vs m i e ≡ false → runs t xs q z ws vs m s e ≡ false
+Along t s i = (q z ws : List ℕ) (vs m : List ℤ) (e : Assignment) → runs t q z ws vs m i e ≡ false → runs t q z ws vs m s e ≡ false
 
 module _ (t : List ℕ) (s i f : ℕ) (l : 2 ≤ i) (ef : f ≡ field t i 6) (along : Along t s i) where
   pub along-found : (v p n a : ℕ) → Tells t i v p n a → Decides t s f v p n a
-  along-found v p n a tells xs q z ws vs m e row h k = along xs q z ws vs m _ (branch-fails t xs q z ws vs m i f _ l ef (tells xs q z ws vs m e row ∙ h) k)
+  along-found v p n a tells q z ws vs m e row h k = along q z ws vs m _ (branch-fails t q z ws vs m i f _ l ef (tells q z ws vs m e row ∙ h) k)
 
   pub along-here : (v p n a : ℕ) → Tells t i v p n a → p / 8 ≡ i → p / 8 ≡ s → Tells t s v p n a
   along-here v p n a tells e h = subst (λ (k : ℕ). Tells t k v p n a) (sym e ∙ h) tells
 
   pub along-next : f ≡ 1 → (to : ℕ) → to ≡ field t i 5 → to < i → Along t s to
-  along-next e1 to et g xs q z ws vs m e h = along xs q z ws vs m e (go (branchHolds t xs q z ws vs m i e) refl)
+  along-next e1 to et g q z ws vs m e h = along q z ws vs m e (go (branchHolds t q z ws vs m i e) refl)
     where
-      go : (b : Bool) → branchHolds t xs q z ws vs m i e ≡ b → runs t xs q z ws vs m i e ≡ false
+      go : (b : Bool) → branchHolds t q z ws vs m i e ≡ b → runs t q z ws vs m i e ≡ false
       go true p =
-          let n : next t xs q z ws vs m i e ≡ to = rw p (sym et) in
-          runs-step t xs q z ws vs m i e l (subst (λ (k : ℕ). k < i) (sym n) g) ∙ ap (λ (k : ℕ). runs t xs q z ws vs m k e) n ∙ h
-      go false p = start-fails t xs q z ws vs m i f e l ef e1 p
+          let n : next t q z ws vs m i e ≡ to = rw p (sym et) in
+          runs-step t q z ws vs m i e l (subst (λ (k : ℕ). k < i) (sym n) g) ∙ ap (λ (k : ℕ). runs t q z ws vs m k e) n ∙ h
+      go false p = start-fails t q z ws vs m i f e l ef e1 p
 
 -- a row that has the equality of a branch goes on from where that leads
 pub along-met : (t : List ℕ) (s r v p n a : ℕ) → 2 ≤ s → r ≡ cond (ltb (field t s 5) s) (field t s 5) 1 → Tells t s v p n a → Follows t s r v p n a
-along-met t s r v p n a l er tells xs q z ws vs m e row h = onward-met t xs q z ws vs m s r _ l er (tells xs q z ws vs m e row ∙ h)
+along-met t s r v p n a l er tells q z ws vs m e row h = onward-met t q z ws vs m s r _ l er (tells q z ws vs m e row ∙ h)
 
 -- a value compared with a whole number
 pub agrees : (u : ℤ) (x : Ratio) (y : M.Value) → valueOf x ≡ y → x .denominator ≡ pos 1 → compare 1 (some (whole u)) y ≡ same u (x .numerator)
@@ -130,16 +130,16 @@ module _ (t ws : List ℕ) (vs : List ℤ) (chains : List ℕ) where
     chain-decides p m o ep em eo = rw (eo, ep, em, ea, sym ev) (chain .decides)
 
     -- entered with a whole value
-    module _ (p m o : ℕ) (ep : p ≡ getD chains (at + 1) 0) (em : m ≡ getD chains (at + 2) 0) (eo : o ≡ onward m) (xs memo : List ℤ) (env : List ℕ) (x : Ratio)
-        (ex : valueOf x ≡ operand memo (getD t p 0) (getD t (p + 1) 0) (getD xs (m % 256) (pos 0)) (assigned vs env)) (e1 : x .denominator ≡ pos 1) where
-      pub chain-fails : (y : ℤ) → y ≡ x .numerator → (q z us : List ℕ) (row : Tuple) → (same (row a) y ≡ true → ⊥) → runs t xs q z us vs memo o (update (assigned vs env) v row) ≡ false → runs t xs q z us vs memo s (update (assigned vs env) v row) ≡ false
+    module _ (p m o : ℕ) (ep : p ≡ getD chains (at + 1) 0) (em : m ≡ getD chains (at + 2) 0) (eo : o ≡ onward m) (memo : List ℤ) (env : List ℕ) (x : Ratio)
+        (ex : valueOf x ≡ operand memo (getD t p 0) (getD t (p + 1) 0) (number t (m % 256)) (assigned vs env)) (e1 : x .denominator ≡ pos 1) where
+      pub chain-fails : (y : ℤ) → y ≡ x .numerator → (q z us : List ℕ) (row : Tuple) → (same (row a) y ≡ true → ⊥) → runs t q z us vs memo o (update (assigned vs env) v row) ≡ false → runs t q z us vs memo s (update (assigned vs env) v row) ≡ false
       chain-fails y ey q z us row h =
-          chain-decides p m o ep em eo xs q z us vs memo (assigned vs env) row (differs (row a) x _ ex e1 (λ k. h (ap (same (row a)) ey ∙ k)))
+          chain-decides p m o ep em eo q z us vs memo (assigned vs env) row (differs (row a) x _ ex e1 (λ k. h (ap (same (row a)) ey ∙ k)))
 
-      pub chain-equals : (y : ℤ) → y ≡ x .numerator → (row : Tuple) → same (row a) y ≡ true → equality t p (m % 256) a xs memo (assigned vs env) row ≡ true
+      pub chain-equals : (y : ℤ) → y ≡ x .numerator → (row : Tuple) → same (row a) y ≡ true → equality t p (m % 256) a memo (assigned vs env) row ≡ true
       chain-equals y ey row h = agrees (row a) x _ ex e1 ∙ ap (same (row a)) (sym ey) ∙ h
 
-      pub chain-enters : (y : ℤ) → y ≡ x .numerator → at ≤ 65535 → natAbs y ≤ 140735340871680 → Enters (record { at = at + 4; attribute = a; value = y }) t xs s o v ws vs memo env chains
+      pub chain-enters : (y : ℤ) → y ≡ x .numerator → at ≤ 65535 → natAbs y ≤ 140735340871680 → Enters (record { at = at + 4; attribute = a; value = y }) t s o v ws vs memo env chains
       chain-enters y ey h k = record { entered = record { place = omega arith; small = k; built = chain-built (walkOf ws v) refl }; fails = chain-fails y ey }
 
     pub chain-met : (p n : ℕ) → p ≡ getD chains (at + 1) 0 → n ≡ getD chains (at + 2) 0 % 256 → getD chains (at + 1) 0 / 8 ≡ s → Tells t s v (getD chains (at + 1) 0) n a

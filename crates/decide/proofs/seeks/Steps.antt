@@ -13,7 +13,7 @@ use borrow.Author.Tests.{eqb-true, eqb-false, ne-eqb, eq-eqb, lt-ltb, ltb-true, 
 use Rattle.model.specs.Lists.{update}
 use Rattle.model.specs.Meaning as M
 use Rattle.model.specs.Meaning.{Assignment, Tuple, compare}
-use Rattle.branches.specs.Branches.{field, operand, holdsIn, branchHolds, next, runs}
+use Rattle.branches.specs.Branches.{number, field, operand, holdsIn, branchHolds, next, runs}
 use Rattle.branches.proofs.Running.{runs-1, runs-step, runs-stuck}
 use Rattle.decide.specs.Probe.{sided}
 
@@ -25,7 +25,7 @@ one-more f a j h e i k l = go (eqb i j) refl
     go true p = ap f (eqb-true i j p) ∙ e
     go false p = h i k (omega (arith, eqb-false i j p))
 
-module _ (t : List ℕ) (xs : List ℤ) (q z ws : List ℕ) (vs m : List ℤ) (i v : ℕ) (e : Assignment) (row : Tuple) where
+module _ (t q z ws : List ℕ) (vs m : List ℤ) (i v : ℕ) (e : Assignment) (row : Tuple) where
   -- an operand of the variable, and one of no or another variable
   own : (w a : ℕ) (x : ℤ) → w ≡ v → v < 256 → operand m w a x (update e v row) ≡ some (M.whole (row a))
   own w a x h l = rw (lt-ltb w 256 (omega (arith, h, l)), eq-eqb w v h)
@@ -40,52 +40,52 @@ module _ (t : List ℕ) (xs : List ℤ) (q z ws : List ℕ) (vs m : List ℤ) (i
       hy ∙ ap (λ (n : ℕ). operand m (getD t n 0) (getD t (n + 1) 0) x e) hp ∙ ap₂ (λ (u n : ℕ). operand m u (getD t n 0) x e) (sym hw) k
 
   module _ (o a b : ℕ) (y : M.Value) (eo : o ≡ getD t (8 * i) 0) (nz : o ≡ 0 → ⊥) (nb : o ≡ 256 → ⊥) (ea : a ≡ field t i 1) (eb : b ≡ field t i 3) (l : v < 256) where
-    branch-is : branchHolds t xs q z ws vs m i (update e v row) ≡ compare o (operand m a (field t i 2) (getD xs (2 * i) (pos 0)) (update e v row)) (operand m b (field t i 4) (getD xs (2 * i + 1) (pos 0)) (update e v row))
+    branch-is : branchHolds t q z ws vs m i (update e v row) ≡ compare o (operand m a (field t i 2) (number t (2 * i)) (update e v row)) (operand m b (field t i 4) (number t (2 * i + 1)) (update e v row))
     unfolding branchHolds holdsIn
     branch-is = rw (add-zero (8 * i), sym eo, sym ea, sym eb, ne-eqb o 0 nz, ne-eqb o 256 nb)
 
-    pub left-is : (p c : ℕ) → a ≡ v → (b ≡ v → ⊥) → p ≡ 8 * i + 3 → c ≡ field t i 2 → y ≡ operand m (getD t p 0) (getD t (p + 1) 0) (getD xs (2 * i + 1) (pos 0)) e
-        → branchHolds t xs q z ws vs m i (update e v row) ≡ sided o false (some (M.whole (row c))) y
+    pub left-is : (p c : ℕ) → a ≡ v → (b ≡ v → ⊥) → p ≡ 8 * i + 3 → c ≡ field t i 2 → y ≡ operand m (getD t p 0) (getD t (p + 1) 0) (number t (2 * i + 1)) e
+        → branchHolds t q z ws vs m i (update e v row) ≡ sided o false (some (M.whole (row c))) y
     left-is p c ha hb hp hc hy =
         branch-is
-        ∙ ap₂ (compare o) (own a (field t i 2) (getD xs (2 * i) (pos 0)) ha l ∙ ap (λ (n : ℕ). some (M.whole (row n))) (sym hc)) (other b (field t i 4) (getD xs (2 * i + 1) (pos 0)) hb ∙ sym (fixed p 3 b (getD xs (2 * i + 1) (pos 0)) y hp eb hy))
+        ∙ ap₂ (compare o) (own a (field t i 2) (number t (2 * i)) ha l ∙ ap (λ (n : ℕ). some (M.whole (row n))) (sym hc)) (other b (field t i 4) (number t (2 * i + 1)) hb ∙ sym (fixed p 3 b (number t (2 * i + 1)) y hp eb hy))
 
-    pub right-is : (p c : ℕ) → (a ≡ v → ⊥) → b ≡ v → p ≡ 8 * i + 1 → c ≡ field t i 4 → y ≡ operand m (getD t p 0) (getD t (p + 1) 0) (getD xs (2 * i) (pos 0)) e
-        → branchHolds t xs q z ws vs m i (update e v row) ≡ sided o true (some (M.whole (row c))) y
+    pub right-is : (p c : ℕ) → (a ≡ v → ⊥) → b ≡ v → p ≡ 8 * i + 1 → c ≡ field t i 4 → y ≡ operand m (getD t p 0) (getD t (p + 1) 0) (number t (2 * i)) e
+        → branchHolds t q z ws vs m i (update e v row) ≡ sided o true (some (M.whole (row c))) y
     right-is p c ha hb hp hc hy =
         branch-is
-        ∙ ap₂ (compare o) (other a (field t i 2) (getD xs (2 * i) (pos 0)) ha ∙ sym (fixed p 1 a (getD xs (2 * i) (pos 0)) y hp ea hy)) (own b (field t i 4) (getD xs (2 * i + 1) (pos 0)) hb l ∙ ap (λ (n : ℕ). some (M.whole (row n))) (sym hc))
+        ∙ ap₂ (compare o) (other a (field t i 2) (number t (2 * i)) ha ∙ sym (fixed p 1 a (number t (2 * i)) y hp ea hy)) (own b (field t i 4) (number t (2 * i + 1)) hb l ∙ ap (λ (n : ℕ). some (M.whole (row n))) (sym hc))
 
 -- what starts with a branch that fails, and leads where it fails to one from which nothing leads to 0; 1 is such a branch
-module _ (t : List ℕ) (xs : List ℤ) (q z ws : List ℕ) (vs m : List ℤ) (i f : ℕ) (e : Assignment) (l : 2 ≤ i) (ef : f ≡ field t i 6) where
-  pub branch-fails : branchHolds t xs q z ws vs m i e ≡ false → runs t xs q z ws vs m f e ≡ false → runs t xs q z ws vs m i e ≡ false
+module _ (t q z ws : List ℕ) (vs m : List ℤ) (i f : ℕ) (e : Assignment) (l : 2 ≤ i) (ef : f ≡ field t i 6) where
+  pub branch-fails : branchHolds t q z ws vs m i e ≡ false → runs t q z ws vs m f e ≡ false → runs t q z ws vs m i e ≡ false
   branch-fails h k = go (ltb f i) refl
     where
-      n : next t xs q z ws vs m i e ≡ f
+      n : next t q z ws vs m i e ≡ f
       n = rw h (sym ef)
 
-      go : (b : Bool) → ltb f i ≡ b → runs t xs q z ws vs m i e ≡ false
-      go true p = runs-step t xs q z ws vs m i e l (omega (arith, n, ltb-true f i p)) ∙ ap (λ (k : ℕ). runs t xs q z ws vs m k e) n ∙ k
-      go false p = runs-stuck t xs q z ws vs m i e l (omega (arith, n, ltb-false f i p))
+      go : (b : Bool) → ltb f i ≡ b → runs t q z ws vs m i e ≡ false
+      go true p = runs-step t q z ws vs m i e l (omega (arith, n, ltb-true f i p)) ∙ ap (λ (k : ℕ). runs t q z ws vs m k e) n ∙ k
+      go false p = runs-stuck t q z ws vs m i e l (omega (arith, n, ltb-false f i p))
 
-  pub start-fails : f ≡ 1 → branchHolds t xs q z ws vs m i e ≡ false → runs t xs q z ws vs m i e ≡ false
-  start-fails e1 h = branch-fails h (ap (λ (k : ℕ). runs t xs q z ws vs m k e) e1 ∙ runs-1 t xs q z ws vs m e)
+  pub start-fails : f ≡ 1 → branchHolds t q z ws vs m i e ≡ false → runs t q z ws vs m i e ≡ false
+  start-fails e1 h = branch-fails h (ap (λ (k : ℕ). runs t q z ws vs m k e) e1 ∙ runs-1 t q z ws vs m e)
 
 -- what starts with a branch that holds leads on from where that leads; one that leads to itself or up leads to 1
-pub onward-met : (t : List ℕ) (xs : List ℤ) (q z ws : List ℕ) (vs m : List ℤ) (i r : ℕ) (e : Assignment) → 2 ≤ i → r ≡ cond (ltb (field t i 5) i) (field t i 5) 1 → branchHolds t xs q z ws vs m i e ≡ true
-    → runs t xs q z ws vs m i e ≡ runs t xs q z ws vs m r e
-onward-met t xs q z ws vs m i r e l er h = go (ltb (field t i 5) i) refl
+pub onward-met : (t q z ws : List ℕ) (vs m : List ℤ) (i r : ℕ) (e : Assignment) → 2 ≤ i → r ≡ cond (ltb (field t i 5) i) (field t i 5) 1 → branchHolds t q z ws vs m i e ≡ true
+    → runs t q z ws vs m i e ≡ runs t q z ws vs m r e
+onward-met t q z ws vs m i r e l er h = go (ltb (field t i 5) i) refl
   where
-    n : next t xs q z ws vs m i e ≡ field t i 5
+    n : next t q z ws vs m i e ≡ field t i 5
     n = rw h
 
-    go : (b : Bool) → ltb (field t i 5) i ≡ b → runs t xs q z ws vs m i e ≡ runs t xs q z ws vs m r e
+    go : (b : Bool) → ltb (field t i 5) i ≡ b → runs t q z ws vs m i e ≡ runs t q z ws vs m r e
     go true p =
         let k : r ≡ field t i 5 = er ∙ rw p in
-        runs-step t xs q z ws vs m i e l (omega (arith, n, ltb-true (field t i 5) i p)) ∙ ap (λ (j : ℕ). runs t xs q z ws vs m j e) (n ∙ sym k)
+        runs-step t q z ws vs m i e l (omega (arith, n, ltb-true (field t i 5) i p)) ∙ ap (λ (j : ℕ). runs t q z ws vs m j e) (n ∙ sym k)
     go false p =
         let k : r ≡ 1 = er ∙ rw p in
-        runs-stuck t xs q z ws vs m i e l (omega (arith, n, ltb-false (field t i 5) i p)) ∙ sym (ap (λ (j : ℕ). runs t xs q z ws vs m j e) k ∙ runs-1 t xs q z ws vs m e)
+        runs-stuck t q z ws vs m i e l (omega (arith, n, ltb-false (field t i 5) i p)) ∙ sym (ap (λ (j : ℕ). runs t q z ws vs m j e) k ∙ runs-1 t q z ws vs m e)
 
 pub onward-low : (i m r : ℕ) → 2 ≤ i → r ≡ cond (ltb m i) m 1 → r ≤ i
 onward-low i m r l er = go (ltb m i) refl

@@ -110,7 +110,7 @@ term-claims t = (whole-reads.Asked, whole-reads.Learnt, byte-reads.Asked, byte-r
 condition-returns : (t : ℕ) → condition-lts.Need-returns (condition-claims t) (condition-at t) condition.Post
 condition-returns t c =
     let c₅ = c .before .before .before .before .before in let args = c₅ .args in
-    (holds-zero (now (args .walks)) (now (args .vs)) (now (args .memo)) (now (args .env)) (now (args .q)) (now (args .z)) (args .level) (c .if1 .taken), search needs)
+    (holds-zero (now (args .walks)) (now (args .values)) (now (args .memo)) (now (args .env)) (now (args .q)) (now (args .z)) (args .level) (c .if1 .taken), search needs)
 
 condition-sub-l : (t : ℕ) → condition-lts.Need-sub-l (condition-claims t) (condition-at t) condition.Post
 condition-sub-l t c = search needs
@@ -159,7 +159,7 @@ condition-returns-2 t c =
     let c₁₁ = c₁₀ .before in let byte = c₁₁ .byte in
     let c₁₂ = c₁₁ .before in let if1 = c₁₂ .if1 in
     let c₁₇ = c₁₂ .before .before .before .before .before in let args = c₁₇ .args in
-    (and-no (now (args .walks)) (now (args .vs)) (now (args .memo)) (now (args .env)) (now (args .q)) (now (args .z)) (args .level) _ _ _ (if1 .left) (byte .ensures) (record-length .ensures .0) (condition-record .ensures) _ _ (tail .ensures) (tail-sizes .ensures) _ (enum-told3 .given .1) (condition2 .ensures .0) (c .if2 .taken), condition2 .ensures .1)
+    (and-no (now (args .walks)) (now (args .values)) (now (args .memo)) (now (args .env)) (now (args .q)) (now (args .z)) (args .level) _ _ _ (if1 .left) (byte .ensures) (record-length .ensures .0) (condition-record .ensures) _ _ (tail .ensures) (tail-sizes .ensures) _ (enum-told3 .given .1) (condition2 .ensures .0) (c .if2 .taken), condition2 .ensures .1)
 
 condition-size-at-requires : (t : ℕ) → condition-lts.Need-size-at-requires (condition-claims t) (condition-at t) condition.Post
 condition-size-at-requires t c κs = search needs
@@ -196,7 +196,7 @@ condition-returns-3 t c =
     let c₁₁ = c₁₀ .before in let byte = c₁₁ .byte in
     let c₁₂ = c₁₁ .before in let if1 = c₁₂ .if1 in
     let c₁₇ = c₁₂ .before .before .before .before .before in let args = c₁₇ .args in
-    (or-yes (now (args .walks)) (now (args .vs)) (now (args .memo)) (now (args .env)) (now (args .q)) (now (args .z)) (args .level) _ _ _ (if1 .left) (byte .ensures) (record-length .ensures .0) (condition-record .ensures) _ _ (tail .ensures) (tail-sizes .ensures) _ (enum-told4 .given .1) (condition4 .ensures .0) (c .if3 .taken), condition4 .ensures .1)
+    (or-yes (now (args .walks)) (now (args .values)) (now (args .memo)) (now (args .env)) (now (args .q)) (now (args .z)) (args .level) _ _ _ (if1 .left) (byte .ensures) (record-length .ensures .0) (condition-record .ensures) _ _ (tail .ensures) (tail-sizes .ensures) _ (enum-told4 .given .1) (condition4 .ensures .0) (c .if3 .taken), condition4 .ensures .1)
 
 condition-size-at-requires-2 : (t : ℕ) → condition-lts.Need-size-at-requires-2 (condition-claims t) (condition-at t) condition.Post
 condition-size-at-requires-2 t c κs = search needs
@@ -256,7 +256,7 @@ condition-returns-4 t c =
     let c₆ = c₅ .before in let byte = c₆ .byte in
     let c₇ = c₆ .before in let if1 = c₇ .if1 in
     let c₁₂ = c₇ .before .before .before .before .before in let args = c₁₂ .args in
-    (true-is (now (args .walks)) (now (args .vs)) (now (args .memo)) (now (args .env)) (now (args .q)) (now (args .z)) (args .level) _ _ _ (if1 .left) (byte .ensures) (record-length .ensures .0) (c .before .before .condition-record .ensures) (c .enum-told .given .1), search needs)
+    (true-is (now (args .walks)) (now (args .values)) (now (args .memo)) (now (args .env)) (now (args .q)) (now (args .z)) (args .level) _ _ _ (if1 .left) (byte .ensures) (record-length .ensures .0) (c .before .before .condition-record .ensures) (c .enum-told .given .1), search needs)
 
 condition-same-length-3 : (t : ℕ) → condition-lts.Need-same-length-3 (condition-claims t) (condition-at t) condition.Post
 condition-same-length-3 t c = search needs
@@ -272,7 +272,7 @@ condition-returns-5 t c =
     let c₁₀ = c₉ .before in let byte = c₁₀ .byte in
     let c₁₁ = c₁₀ .before in let if1 = c₁₁ .if1 in
     let c₁₆ = c₁₁ .before .before .before .before .before in let args = c₁₆ .args in
-    (not-is (now (args .walks)) (now (args .vs)) (now (args .memo)) (now (args .env)) (now (args .q)) (now (args .z)) (args .level) _ _ _ (if1 .left) (byte .ensures) (record-length .ensures .0) (condition-record .ensures) _ _ (tail .ensures) (tail-sizes .ensures) _ (enum-told2 .given .1) (condition .ensures .0), condition .ensures .1)
+    (not-is (now (args .walks)) (now (args .values)) (now (args .memo)) (now (args .env)) (now (args .q)) (now (args .z)) (args .level) _ _ _ (if1 .left) (byte .ensures) (record-length .ensures .0) (condition-record .ensures) _ _ (tail .ensures) (tail-sizes .ensures) _ (enum-told2 .given .1) (condition .ensures .0), condition .ensures .1)
 
 condition-same-length-4 : (t : ℕ) → condition-lts.Need-same-length-4 (condition-claims t) (condition-at t) condition.Post
 condition-same-length-4 t c = search needs
@@ -293,7 +293,7 @@ condition-returns-6 t c =
     let c₁₈ = c₁₇ .before in let byte = c₁₈ .byte in
     let c₁₉ = c₁₈ .before in let if1 = c₁₉ .if1 in
     let c₂₄ = c₁₉ .before .before .before .before .before in let args = c₂₄ .args in
-    (and-yes (now (args .walks)) (now (args .vs)) (now (args .memo)) (now (args .env)) (now (args .q)) (now (args .z)) (args .level) _ _ _ (if1 .left) (byte .ensures) (record-length .ensures .0) (condition-record .ensures) _ _ (tail .ensures) (tail-sizes .ensures) _ _ _ _ (size-at .ensures .0) refl (tail2 .ensures) (tail-sizes2 .ensures) _ _ _ (enum-told3 .given .1) (condition2 .ensures .0) (if2 .left) (condition2 .ensures .1) (condition3 .ensures .0), condition3 .ensures .1 ∙ condition2 .ensures .1)
+    (and-yes (now (args .walks)) (now (args .values)) (now (args .memo)) (now (args .env)) (now (args .q)) (now (args .z)) (args .level) _ _ _ (if1 .left) (byte .ensures) (record-length .ensures .0) (condition-record .ensures) _ _ (tail .ensures) (tail-sizes .ensures) _ _ _ _ (size-at .ensures .0) refl (tail2 .ensures) (tail-sizes2 .ensures) _ _ _ (enum-told3 .given .1) (condition2 .ensures .0) (if2 .left) (condition2 .ensures .1) (condition3 .ensures .0), condition3 .ensures .1 ∙ condition2 .ensures .1)
 
 condition-same-length-5 : (t : ℕ) → condition-lts.Need-same-length-5 (condition-claims t) (condition-at t) condition.Post
 condition-same-length-5 t c = search needs
@@ -314,7 +314,7 @@ condition-returns-7 t c =
     let c₁₈ = c₁₇ .before in let byte = c₁₈ .byte in
     let c₁₉ = c₁₈ .before in let if1 = c₁₉ .if1 in
     let c₂₄ = c₁₉ .before .before .before .before .before in let args = c₂₄ .args in
-    (or-no (now (args .walks)) (now (args .vs)) (now (args .memo)) (now (args .env)) (now (args .q)) (now (args .z)) (args .level) _ _ _ (if1 .left) (byte .ensures) (record-length .ensures .0) (condition-record .ensures) _ _ (tail .ensures) (tail-sizes .ensures) _ _ _ _ (size-at2 .ensures .0) refl (tail3 .ensures) (tail-sizes3 .ensures) _ _ _ (enum-told4 .given .1) (condition4 .ensures .0) (if3 .left) (condition4 .ensures .1) (condition5 .ensures .0), condition5 .ensures .1 ∙ condition4 .ensures .1)
+    (or-no (now (args .walks)) (now (args .values)) (now (args .memo)) (now (args .env)) (now (args .q)) (now (args .z)) (args .level) _ _ _ (if1 .left) (byte .ensures) (record-length .ensures .0) (condition-record .ensures) _ _ (tail .ensures) (tail-sizes .ensures) _ _ _ _ (size-at2 .ensures .0) refl (tail3 .ensures) (tail-sizes3 .ensures) _ _ _ (enum-told4 .given .1) (condition4 .ensures .0) (if3 .left) (condition4 .ensures .1) (condition5 .ensures .0), condition5 .ensures .1 ∙ condition4 .ensures .1)
 
 condition-same-length-6 : (t : ℕ) → condition-lts.Need-same-length-6 (condition-claims t) (condition-at t) condition.Post
 condition-same-length-6 t c = search needs
@@ -334,7 +334,7 @@ condition-returns-8 t c =
     let c₁₉ = c₁₈ .before in let byte = c₁₉ .byte in
     let c₂₀ = c₁₉ .before in let if1 = c₂₀ .if1 in
     let c₂₅ = c₂₀ .before .before .before .before .before in let args = c₂₅ .args in
-    (compare-is (now (args .walks)) (now (args .vs)) (now (args .memo)) (now (args .env)) (now (args .q)) (now (args .z)) (args .level) _ _ _ (if1 .left) (byte .ensures) (record-length .ensures .0) (condition-record .ensures) _ _ (tail .ensures) (tail-sizes .ensures) _ _ _ _ (size-at3 .ensures .0) refl (tail4 .ensures) (tail-sizes4 .ensures) _ _ _ _ _ (operator .given .1) (term .ensures .0) (term .ensures .1 .1) (term2 .ensures .0) (c .compared .ensures), term2 .ensures .1 .1 ∙ term .ensures .1 .1)
+    (compare-is (now (args .walks)) (now (args .values)) (now (args .memo)) (now (args .env)) (now (args .q)) (now (args .z)) (args .level) _ _ _ (if1 .left) (byte .ensures) (record-length .ensures .0) (condition-record .ensures) _ _ (tail .ensures) (tail-sizes .ensures) _ _ _ _ (size-at3 .ensures .0) refl (tail4 .ensures) (tail-sizes4 .ensures) _ _ _ _ _ (operator .given .1) (term .ensures .0) (term .ensures .1 .1) (term2 .ensures .0) (c .compared .ensures), term2 .ensures .1 .1 ∙ term .ensures .1 .1)
 
 condition-same-length-7 : (t : ℕ) → condition-lts.Need-same-length-7 (condition-claims t) (condition-at t) condition.Post
 condition-same-length-7 t c = search needs
@@ -350,7 +350,7 @@ condition-returns-9 t c =
     let c₁₁ = c₁₀ .before in let byte = c₁₁ .byte in
     let c₁₂ = c₁₁ .before in let if1 = c₁₂ .if1 in
     let c₁₇ = c₁₂ .before .before .before .before .before in let args = c₁₇ .args in
-    (some-is (now (args .walks)) (now (args .vs)) (now (args .memo)) (now (args .env)) (now (args .q)) (now (args .z)) (args .level) _ _ _ (if1 .left) (byte .ensures) (record-length .ensures .0) (condition-record .ensures) _ _ (tail .ensures) (tail-sizes .ensures) _ _ _ _ (variable .given .1) (some-row .ensures .0), some-row .ensures .1)
+    (some-is (now (args .walks)) (now (args .values)) (now (args .memo)) (now (args .env)) (now (args .q)) (now (args .z)) (args .level) _ _ _ (if1 .left) (byte .ensures) (record-length .ensures .0) (condition-record .ensures) _ _ (tail .ensures) (tail-sizes .ensures) _ _ _ _ (variable .given .1) (some-row .ensures .0), some-row .ensures .1)
 
 condition-enum-told-5 : (t : ℕ) → condition-lts.Need-enum-told-5 (condition-claims t) (condition-at t) condition.Post
 condition-enum-told-5 t c = search needs
@@ -364,7 +364,7 @@ condition-returns-10 t c =
     let c₆ = c₅ .before in let byte = c₆ .byte in
     let c₇ = c₆ .before in let if1 = c₇ .if1 in
     let c₁₂ = c₇ .before .before .before .before .before in let args = c₁₂ .args in
-    (false-is (now (args .walks)) (now (args .vs)) (now (args .memo)) (now (args .env)) (now (args .q)) (now (args .z)) (args .level) _ _ _ (if1 .left) (byte .ensures) (record-length .ensures .0) (c .before .before .condition-record .ensures) (c .enum-told5 .given .1), search needs)
+    (false-is (now (args .walks)) (now (args .values)) (now (args .memo)) (now (args .env)) (now (args .q)) (now (args .z)) (args .level) _ _ _ (if1 .left) (byte .ensures) (record-length .ensures .0) (c .before .before .condition-record .ensures) (c .enum-told5 .given .1), search needs)
 
 condition-returns-11 : (t : ℕ) → condition-lts.Need-returns-11 (condition-claims t) (condition-at t) condition.Post
 condition-returns-11 t c =
@@ -372,7 +372,7 @@ condition-returns-11 t c =
     let c₆ = c₅ .before in let byte = c₆ .byte in
     let c₇ = c₆ .before in let if1 = c₇ .if1 in
     let c₁₂ = c₇ .before .before .before .before .before in let args = c₁₂ .args in
-    (no-condition (now (args .walks)) (now (args .vs)) (now (args .memo)) (now (args .env)) (now (args .q)) (now (args .z)) (args .level) _ _ _ (if1 .left) (byte .ensures) (record-length .ensures .0) (c .before .before .condition-record .ensures) (c .enum-told6 .given .1), search needs)
+    (no-condition (now (args .walks)) (now (args .values)) (now (args .memo)) (now (args .env)) (now (args .q)) (now (args .z)) (args .level) _ _ _ (if1 .left) (byte .ensures) (record-length .ensures .0) (c .before .before .condition-record .ensures) (c .enum-told6 .given .1), search needs)
 
 abbrev gather-Inv-loop : gather-lts.InvT-loop
 gather-Inv-loop q z level ws vs memo env₀ variable attribute walk n old taken₀ i₀ env taken i =
@@ -394,7 +394,7 @@ gather-loop-holds t c =
     let place = c .place in
     let c₂ = c .before .before in let walk-of = c₂ .walk-of in
     let c₇ = c₂ .before .before .before .before .before in let args = c₇ .args in
-    let env = now (args .env) in let vs = now (args .vs) in let walks = now (args .walks) in let variable = args .variable in
+    let env = now (args .env) in let vs = now (args .values) in let walks = now (args .walks) in let variable = args .variable in
     (places-start env variable (place .result) (place .ensures), taken-start (placeAt walks (walk-of .result)) vs (holdsOn (args .level) (now (args .q)) (now (args .z)) walks vs (now (args .memo)) env variable) (args .attribute) _ nothing-taken, omega arith, refl)
 
 gather-place-requires-2 : (t : ℕ) → gather-lts.Need-place-requires-2 (gather-claims t) (gather-at t) gather.Post gather-Inv-loop gather-μ-loop
@@ -415,7 +415,7 @@ gather-add-requires t c κs =
     let c₁₂ = c₁₁ .before in let loop = c₁₂ .loop in
     let c₁₅ = c₁₂ .before .before .before in let walk-of = c₁₅ .walk-of in
     let c₂₀ = c₁₅ .before .before .before .before .before in let args = c₂₀ .args in
-    let vs = now (args .vs) in let walks = now (args .walks) in
+    let vs = now (args .values) in let walks = now (args .walks) in
     (loop .inv .1 .bounded, omega (arith, taken-few (placeAt walks (walk-of .result)) vs (holdsOn (args .level) (now (args .q)) (now (args .z)) walks vs (now (args .memo)) (now (args .env)) (args .variable)) (args .attribute) (loop .i) (loop .taken) (loop .inv .1) (loop .i) (omega arith), loop-test .taken, walk-of .ensures .1 .count))
 
 gather-add-i : (t : ℕ) → gather-lts.Need-add-i (gather-claims t) (gather-at t) gather.Post gather-Inv-loop gather-μ-loop
@@ -434,7 +434,7 @@ gather-loop-again t c =
     let c₁₂ = c₁₁ .before in let place = c₁₂ .place in
     let c₁₄ = c₁₂ .before .before in let walk-of = c₁₄ .walk-of in
     let c₁₉ = c₁₄ .before .before .before .before .before in let args = c₁₉ .args in let good = c₁₉ .good in let pre = c₁₉ .pre in
-    let env = now (args .env) in let memo = now (args .memo) in let q = now (args .q) in let vs = now (args .vs) in let walks = now (args .walks) in let z = now (args .z) in let attribute = args .attribute in let level = args .level in let variable = args .variable in
+    let env = now (args .env) in let memo = now (args .memo) in let q = now (args .q) in let vs = now (args .values) in let walks = now (args .walks) in let z = now (args .z) in let attribute = args .attribute in let level = args .level in let variable = args .variable in
     (places-back (loop .env) env _ variable (place .result) (place2 .result) (loop .inv .0) (set-place .ensures) _ (condition .ensures .1), ⊎-elim (λ h. subst (λ (u : Accumulator). Accumulates u (kept vs (holdsOn level q z walks vs memo env variable) attribute (placeAt walks (walk-of .result)) (loop .i + 1))) (sym (h .3)) (taken-hit (placeAt walks (walk-of .result)) vs (holdsOn level q z walks vs memo env variable) attribute (loop .i) (loop .taken) (loop .inv .1) _ _ ((ap (λ (p : ℕ). (holdsOn level q z walks vs memo env variable) (tupleAt vs p)) (sym (place2 .ensures)) ∙ on-row (loop .env) env _ variable (place .result) (place2 .result) (loop .inv .0) (set-place .ensures) level q z walks vs memo _ (omega (arith, pre, good)) (condition .ensures .0)) ∙ h .0 .taken) (toZ-ofZ {w = w32} (record { sfits = h .1 .ok }) ∙ h .1 .ensures ∙ ap (λ (k : ℕ). getD vs (k + attribute) (pos 0)) (place2 .ensures)) (h .2 .ensures .0) (h .2 .ensures .1))) (λ h. taken-miss (placeAt walks (walk-of .result)) vs (holdsOn level q z walks vs memo env variable) attribute (loop .i) (loop .taken) (loop .inv .1) _ ((ap (λ (p : ℕ). (holdsOn level q z walks vs memo env variable) (tupleAt vs p)) (sym (place2 .ensures)) ∙ on-row (loop .env) env _ variable (place .result) (place2 .result) (loop .inv .0) (set-place .ensures) level q z walks vs memo _ (omega (arith, pre, good)) (condition .ensures .0)) ∙ h .0 .left) (h .1)) (c .if1 .came), omega (arith, loop-test .taken), places-length (loop .env) env _ variable (place .result) (place2 .result) (loop .inv .0) (set-place .ensures) _ (condition .ensures .1) (loop .inv .3))
 
 gather-set-place-requires-2 : (t : ℕ) → gather-lts.Need-set-place-requires-2 (gather-claims t) (gather-at t) gather.Post gather-Inv-loop gather-μ-loop
@@ -449,7 +449,7 @@ gather-returns t c =
     let c₅ = c₄ .before in let loop = c₅ .loop in
     let c₈ = c₅ .before .before .before in let walk-of = c₈ .walk-of in
     let c₁₃ = c₈ .before .before .before .before .before in let args = c₁₃ .args in
-    let env = now (args .env) in let memo = now (args .memo) in let q = now (args .q) in let vs = now (args .vs) in let walks = now (args .walks) in let z = now (args .z) in let attribute = args .attribute in let level = args .level in let variable = args .variable in
+    let env = now (args .env) in let memo = now (args .memo) in let q = now (args .q) in let vs = now (args .values) in let walks = now (args .walks) in let z = now (args .z) in let attribute = args .attribute in let level = args .level in let variable = args .variable in
     (subst (Accumulates (loop .taken)) (taken-all level q z walks vs memo env variable attribute (loop .i) (walk-of .result) (walk-of .ensures .0) (omega (arith, loop-test .left, loop .inv .2))) (loop .inv .1), (omega (arith, taken-few (placeAt walks (walk-of .result)) vs (holdsOn level q z walks vs memo env variable) attribute (loop .i) (loop .taken) (loop .inv .1) (loop .i) (omega arith), loop .inv .2, walk-of .ensures .1 .count), c .before .before .set-place2 .ensures ∙ loop .inv .0))
 
 abbrev some-row-Inv-loop : some-row-lts.InvT-loop
@@ -471,7 +471,7 @@ some-row-loop-holds : (t : ℕ) → some-row-lts.Need-loop-holds (some-row-claim
 some-row-loop-holds t c =
     let c₂ = c .before .before in let walk-of = c₂ .walk-of in
     let c₇ = c₂ .before .before .before .before .before in let args = c₇ .args in
-    let env = now (args .env) in let vs = now (args .vs) in let walks = now (args .walks) in let variable = args .variable in
+    let env = now (args .env) in let vs = now (args .values) in let walks = now (args .walks) in let variable = args .variable in
     (places-start env variable (c .place .result) (c .place .ensures), none-start (λ j. holdsOn (args .level) (now (args .q)) (now (args .z)) walks vs (now (args .memo)) env variable (tupleAt vs (placeAt walks (walk-of .result) j))), omega arith, refl)
 
 some-row-place-requires-2 : (t : ℕ) → some-row-lts.Need-place-requires-2 (some-row-claims t) (some-row-at t) some-row.Post some-row-Inv-loop some-row-μ-loop
@@ -503,7 +503,7 @@ some-row-returns t c =
     let c₁₆ = c₁₅ .before in let place = c₁₆ .place in
     let c₁₈ = c₁₆ .before .before in let walk-of = c₁₈ .walk-of in
     let c₂₃ = c₁₈ .before .before .before .before .before in let args = c₂₃ .args in let good = c₂₃ .good in let pre = c₂₃ .pre in
-    let env = now (args .env) in let memo = now (args .memo) in let q = now (args .q) in let vs = now (args .vs) in let walks = now (args .walks) in let z = now (args .z) in let level = args .level in let variable = args .variable in
+    let env = now (args .env) in let memo = now (args .memo) in let q = now (args .q) in let vs = now (args .values) in let walks = now (args .walks) in let z = now (args .z) in let level = args .level in let variable = args .variable in
     (sym (walked-hit (holdsOn level q z walks vs memo env variable) walks vs variable (walk-of .result) (walk-of .ensures .0) (loop .i) (loop-test .taken) (loop .inv .1) ((ap (λ (p : ℕ). (holdsOn level q z walks vs memo env variable) (tupleAt vs p)) (sym (place2 .ensures)) ∙ on-row (loop .env) env _ variable (place .result) (place2 .result) (loop .inv .0) (set-place .ensures) level q z walks vs memo _ (omega (arith, pre, good)) (condition .ensures .0)) ∙ if1 .taken)), c .before .before .set-place2 .ensures ∙ places-back (loop .env) env _ variable (place .result) (place2 .result) (loop .inv .0) (set-place .ensures) _ (condition .ensures .1))
 
 some-row-add-i : (t : ℕ) → some-row-lts.Need-add-i (some-row-claims t) (some-row-at t) some-row.Post some-row-Inv-loop some-row-μ-loop
@@ -522,7 +522,7 @@ some-row-loop-again t c =
     let c₁₂ = c₁₁ .before in let place = c₁₂ .place in
     let c₁₄ = c₁₂ .before .before in let walk-of = c₁₄ .walk-of in
     let c₁₉ = c₁₄ .before .before .before .before .before in let args = c₁₉ .args in let good = c₁₉ .good in let pre = c₁₉ .pre in
-    let env = now (args .env) in let memo = now (args .memo) in let q = now (args .q) in let vs = now (args .vs) in let walks = now (args .walks) in let z = now (args .z) in let level = args .level in let variable = args .variable in
+    let env = now (args .env) in let memo = now (args .memo) in let q = now (args .q) in let vs = now (args .values) in let walks = now (args .walks) in let z = now (args .z) in let level = args .level in let variable = args .variable in
     (places-back (loop .env) env _ variable (place .result) (place2 .result) (loop .inv .0) (set-place .ensures) _ (condition .ensures .1), none-next (λ j. holdsOn level q z walks vs memo env variable (tupleAt vs (placeAt walks (walk-of .result) j))) (loop .i) (loop .inv .1) ((ap (λ (p : ℕ). (holdsOn level q z walks vs memo env variable) (tupleAt vs p)) (sym (place2 .ensures)) ∙ on-row (loop .env) env _ variable (place .result) (place2 .result) (loop .inv .0) (set-place .ensures) level q z walks vs memo _ (omega (arith, pre, good)) (condition .ensures .0)) ∙ c .if1 .left), omega (arith, loop-test .taken), places-length (loop .env) env _ variable (place .result) (place2 .result) (loop .inv .0) (set-place .ensures) _ (condition .ensures .1) (loop .inv .3))
 
 some-row-set-place-requires-3 : (t : ℕ) → some-row-lts.Need-set-place-requires-3 (some-row-claims t) (some-row-at t) some-row.Post some-row-Inv-loop some-row-μ-loop
@@ -537,7 +537,7 @@ some-row-returns-2 t c =
     let c₅ = c₄ .before in let loop = c₅ .loop in
     let c₈ = c₅ .before .before .before in let walk-of = c₈ .walk-of in
     let c₁₃ = c₈ .before .before .before .before .before in let args = c₁₃ .args in
-    let vs = now (args .vs) in let walks = now (args .walks) in let variable = args .variable in
+    let vs = now (args .values) in let walks = now (args .walks) in let variable = args .variable in
     (sym (walked-none (holdsOn (args .level) (now (args .q)) (now (args .z)) walks vs (now (args .memo)) (now (args .env)) variable) walks vs variable (walk-of .result) (walk-of .ensures .0) (λ j k. loop .inv .1 j (omega (arith, loop-test .left)))), c .before .before .set-place3 .ensures ∙ loop .inv .0)
 
 term-whole-requires : (t : ℕ) → term-lts.Need-whole-requires (term-claims t) (term-at t) term.Post
@@ -546,7 +546,7 @@ term-whole-requires t c κs = search needs
 term-returns : (t : ℕ) → term-lts.Need-returns (term-claims t) (term-at t) term.Post
 term-returns t c =
     let c₆ = c .before .before .before .before .before .before in let args = c₆ .args in
-    ((c .whole .ensures .0) ∙ (value-zero (now (args .walks)) (now (args .vs)) (now (args .memo)) (now (args .env)) (now (args .q)) (now (args .z)) (args .level) (c .before .if1 .taken)), (c .whole .ensures .1, search needs))
+    ((c .whole .ensures .0) ∙ (value-zero (now (args .walks)) (now (args .values)) (now (args .memo)) (now (args .env)) (now (args .q)) (now (args .z)) (args .level) (c .before .if1 .taken)), (c .whole .ensures .1, search needs))
 
 term-sub-l : (t : ℕ) → term-lts.Need-sub-l (term-claims t) (term-at t) term.Post
 term-sub-l t c = search needs
@@ -601,7 +601,7 @@ term-returns-2 t c =
     let c₈ = c₇ .before in let byte = c₈ .byte in
     let c₉ = c₈ .before in let if1 = c₉ .if1 in
     let c₁₄ = c₉ .before .before .before .before .before in let args = c₁₄ .args in
-    (c .recall .ensures .0 ∙ (known-is (now (args .walks)) (now (args .vs)) (now (args .memo)) (now (args .env)) (now (args .q)) (now (args .z)) (args .level) _ _ _ (if1 .left) (byte .ensures) (record-length .ensures .0) (term-record .ensures) _ _ _ _ _ _ (function .given .1) (c .before .before .knows .ensures) (c .before .if2 .taken) refl), (c .recall .ensures .1, search needs))
+    (c .recall .ensures .0 ∙ (known-is (now (args .walks)) (now (args .values)) (now (args .memo)) (now (args .env)) (now (args .q)) (now (args .z)) (args .level) _ _ _ (if1 .left) (byte .ensures) (record-length .ensures .0) (term-record .ensures) _ _ _ _ _ _ (function .given .1) (c .before .before .knows .ensures) (c .before .if2 .taken) refl), (c .recall .ensures .1, search needs))
 
 term-tail-requires : (t : ℕ) → term-lts.Need-tail-requires (term-claims t) (term-at t) term.Post
 term-tail-requires t c κs = search needs
@@ -625,7 +625,7 @@ term-returns-3 t c =
     let c₅ = c₃ .before .before in let term-record = c₅ .term-record in
     let c₈ = c₅ .before .before .before in let if1 = c₈ .if1 in
     let c₁₃ = c₈ .before .before .before .before .before in let args = c₁₃ .args in
-    ((c .whole2 .ensures .0) ∙ (constant-is (now (args .walks)) (now (args .vs)) (now (args .memo)) (now (args .env)) (now (args .q)) (now (args .z)) (args .level) _ _ _ _ _ _ (if1 .left) (term-record .ensures) (a .given .1) (toZ-ofZ {w = w32} (record { sfits = constant .ok }) ∙ constant .ensures .0)), (c .whole2 .ensures .1, search needs))
+    ((c .whole2 .ensures .0) ∙ (constant-is (now (args .walks)) (now (args .values)) (now (args .memo)) (now (args .env)) (now (args .q)) (now (args .z)) (args .level) _ _ _ _ _ _ (if1 .left) (term-record .ensures) (a .given .1) (toZ-ofZ {w = w32} (record { sfits = constant .ok }) ∙ constant .ensures .0)), (c .whole2 .ensures .1, search needs))
 
 term-same-length : (t : ℕ) → term-lts.Need-same-length (term-claims t) (term-at t) term.Post
 term-same-length t c = search needs
@@ -638,7 +638,7 @@ term-returns-4 t c =
     let c₇ = c₅ .before .before in let term-record = c₇ .term-record in
     let c₁₀ = c₇ .before .before .before in let if1 = c₁₀ .if1 in
     let c₁₅ = c₁₀ .before .before .before .before .before in let args = c₁₅ .args in let pre = c₁₅ .pre in
-    ((c .whole3 .ensures .0) ∙ (attribute-is (now (args .walks)) (now (args .vs)) (now (args .memo)) (now (args .env)) (now (args .q)) (now (args .z)) (args .level) _ _ _ _ _ (if1 .left) (term-record .ensures) (variable .given .1) (omega (arith, pre .1, known-told2 .given)) (c .before .before .place .ensures) (toZ-ofZ {w = w32} (record { sfits = cell .ok }) ∙ cell .ensures)), (c .whole3 .ensures .1, search needs))
+    ((c .whole3 .ensures .0) ∙ (attribute-is (now (args .walks)) (now (args .values)) (now (args .memo)) (now (args .env)) (now (args .q)) (now (args .z)) (args .level) _ _ _ _ _ (if1 .left) (term-record .ensures) (variable .given .1) (omega (arith, pre .1, known-told2 .given)) (c .before .before .place .ensures) (toZ-ofZ {w = w32} (record { sfits = cell .ok }) ∙ cell .ensures)), (c .whole3 .ensures .1, search needs))
 
 term-same-length-2 : (t : ℕ) → term-lts.Need-same-length-2 (term-claims t) (term-at t) term.Post
 term-same-length-2 t c = search needs
@@ -656,7 +656,7 @@ term-returns-5 t c =
     let c₁₄ = c₁₃ .before in let byte = c₁₄ .byte in
     let c₁₅ = c₁₄ .before in let if1 = c₁₅ .if1 in
     let c₂₀ = c₁₅ .before .before .before .before .before in let args = c₂₀ .args in
-    (ends _ _ (c .finish .result) _ (gather .ensures .0) (c .finish .ensures .0) ∙ (aggregate-is (now (args .walks)) (now (args .vs)) (now (args .memo)) (now (args .env)) (now (args .q)) (now (args .z)) (args .level) _ _ _ (if1 .left) (byte .ensures) (record-length .ensures .0) (term-record .ensures) _ _ (tail .ensures) (tail-sizes .ensures) _ _ _ _ _ _ (function .given .1) (knows .ensures) (if2 .left) refl), (c .finish .ensures .1, gather .ensures .1 .1))
+    (ends _ _ (c .finish .result) _ (gather .ensures .0) (c .finish .ensures .0) ∙ (aggregate-is (now (args .walks)) (now (args .values)) (now (args .memo)) (now (args .env)) (now (args .q)) (now (args .z)) (args .level) _ _ _ (if1 .left) (byte .ensures) (record-length .ensures .0) (term-record .ensures) _ _ (tail .ensures) (tail-sizes .ensures) _ _ _ _ _ _ (function .given .1) (knows .ensures) (if2 .left) refl), (c .finish .ensures .1, gather .ensures .1 .1))
 
 term-enum-told : (t : ℕ) → term-lts.Need-enum-told (term-claims t) (term-at t) term.Post
 term-enum-told t c = search needs
@@ -665,7 +665,7 @@ term-returns-6 : (t : ℕ) → term-lts.Need-returns-6 (term-claims t) (term-at 
 term-returns-6 t c =
     let c₅ = c .before .before .before .before .before .before in let if1 = c₅ .if1 in
     let c₁₀ = c₅ .before .before .before .before .before in let args = c₁₀ .args in
-    ((c .whole4 .ensures .0) ∙ (no-term (now (args .walks)) (now (args .vs)) (now (args .memo)) (now (args .env)) (now (args .q)) (now (args .z)) (args .level) _ (if1 .left) (c .before .before .before .term-record .ensures) (c .before .enum-told .given .1)), (c .whole4 .ensures .1, search needs))
+    ((c .whole4 .ensures .0) ∙ (no-term (now (args .walks)) (now (args .values)) (now (args .memo)) (now (args .env)) (now (args .q)) (now (args .z)) (args .level) _ (if1 .left) (c .before .before .before .term-record .ensures) (c .before .enum-told .given .1)), (c .whole4 .ensures .1, search needs))
 
 pub +condition+gather+some-row+term-spec : {M : Type 1} → statement M
 +condition+gather+some-row+term-spec =

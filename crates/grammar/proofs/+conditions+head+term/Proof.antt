@@ -4,7 +4,7 @@ use native.Mathlib.Omega.{arith}
 use mathlib.Core.Path.{_≡_, sym, ap, _∙_}
 use lib.ListN.{length, drop, length-drop}
 use denote.Ref.{now}
-use Rattle.grammar.specs.Sizes.{conditionSize, termSize, after, many, isCondition, isTerm, headSize}
+use Rattle.grammar.specs.Sizes.{conditionSize, termSize, after, many, headSize}
 use Rattle.grammar.proofs.Pending.{start, next, turn, stop, halt, end, no-head, no-leaf, head-whole, head-is, leaf-whole, leaf-is}
 use Rattle.grammar.proofs.Bounds.{condition-within, many-within, head-takes, term-takes, part-within, part-takes}
 use borrow.Fn.Kinds.{In}
@@ -22,6 +22,7 @@ use Rattle.grammar.proofs.children.Reads as children-reads
 use Rattle.grammar.proofs.is_condition.Reads as is-condition-reads
 use Rattle.grammar.proofs.is_term.Reads as is-term-reads
 use Rattle.grammar.proofs.wide.Reads as wide-reads
+use Rattle.kinds.specs.Places.{isCondition, isTerm}
 use Rattle.kinds.proofs.byte.Reads as byte-reads
 use Rattle.kinds.proofs.child_counts.Reads as child-counts-reads
 use Rattle.kinds.proofs.condition_record.Reads as condition-record-reads

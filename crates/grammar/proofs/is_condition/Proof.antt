@@ -6,10 +6,10 @@ use mathlib.Core.Bool.{true}
 use mathlib.Core.List.{[], _∷_}
 use denote.Enum.Declared.{tagOf, declared}
 use types.Run.{OneOf, miss}
+use Rattle.kinds.specs.Places.{isCondition}
 use Rattle.kinds.specs.declared.ConditionRecord.{ConditionRecord}
 use Rattle.kinds.specs.declared.ConditionRecord.the-variants as C
 use Rattle.kinds.proofs.ConditionRecord.{enum}
-use Rattle.grammar.specs.Sizes.{isCondition}
 
 taken : (r : ConditionRecord) → OneOf (0 ∷ 1 ∷ 2 ∷ 3 ∷ 4 ∷ 6 ∷ []) (tagOf (declared enum) r) → true ≡ isCondition r
 taken C.True h = refl

@@ -6,10 +6,10 @@ use mathlib.Core.Bool.{true}
 use mathlib.Core.List.{[], _∷_}
 use denote.Enum.Declared.{tagOf, declared}
 use types.Run.{OneOf, miss}
+use Rattle.kinds.specs.Places.{isTerm}
 use Rattle.kinds.specs.declared.TermRecord.{TermRecord}
 use Rattle.kinds.specs.declared.TermRecord.the-variants as T
 use Rattle.kinds.proofs.TermRecord.{enum}
-use Rattle.grammar.specs.Sizes.{isTerm}
 
 taken : (r : TermRecord) → OneOf (0 ∷ 1 ∷ []) (tagOf (declared enum) r) → true ≡ isTerm r
 taken (T.Constant a b x d) h = refl

@@ -39,7 +39,7 @@ returns c =
     let c₄ = c₃ .before in let loop-test = c₄ .loop-test in
     let c₅ = c₄ .before in let loop = c₅ .loop in
     let c₇ = c₅ .before .before in let args = c₇ .args in
-    refused-at (now (args .list)) (now (tail .result)) (loop .at) (permit .result) (tail .ensures) (permit .ensures) (loop-test .taken) (loop .inv .0) (c .enum-told .given .1)
+    refused-at (now (args .bytes)) (now (tail .result)) (loop .at) (permit .result) (tail .ensures) (permit .ensures) (loop-test .taken) (loop .inv .0) (c .enum-told .given .1)
 
 add-at : tie.Need-add-at Inv-loop μ-loop
 add-at c =
@@ -48,7 +48,7 @@ add-at c =
     let c₄ = c₃ .before in let tail = c₄ .tail in
     let c₆ = c₄ .before .before in let loop = c₆ .loop in
     let c₈ = c₆ .before .before in let args = c₈ .args in
-    let h = part-takes permitSize (now (args .list)) (now (tail .result)) (loop .at) (n .given .0 .0) (permit .result) (tail .ensures) (permit .ensures) (n .given .1) permit-takes in omega (arith, loop .inv .1)
+    let h = part-takes permitSize (now (args .bytes)) (now (tail .result)) (loop .at) (n .given .0 .0) (permit .result) (tail .ensures) (permit .ensures) (n .given .1) permit-takes in omega (arith, loop .inv .1)
 
 loop-less : tie.Need-loop-less Inv-loop μ-loop
 loop-less c =
@@ -57,7 +57,7 @@ loop-less c =
     let c₄ = c₃ .before in let tail = c₄ .tail in
     let c₆ = c₄ .before .before in let loop = c₆ .loop in
     let c₈ = c₆ .before .before in let args = c₈ .args in
-    let h = part-takes permitSize (now (args .list)) (now (tail .result)) (loop .at) (n .given .0 .0) (permit .result) (tail .ensures) (permit .ensures) (n .given .1) permit-takes in omega (arith, loop .inv .1)
+    let h = part-takes permitSize (now (args .bytes)) (now (tail .result)) (loop .at) (n .given .0 .0) (permit .result) (tail .ensures) (permit .ensures) (n .given .1) permit-takes in omega (arith, loop .inv .1)
 
 loop-again : tie.Need-loop-again Inv-loop μ-loop
 loop-again c =
@@ -67,11 +67,11 @@ loop-again c =
     let c₅ = c₄ .before in let loop-test = c₅ .loop-test in
     let c₆ = c₅ .before in let loop = c₆ .loop in
     let c₈ = c₆ .before .before in let args = c₈ .args in
-    let list = now (args .list) in
+    let list = now (args .bytes) in
     let h = part-takes permitSize list (now (tail .result)) (loop .at) (n .given .0 .0) (permit .result) (tail .ensures) (permit .ensures) (n .given .1) permit-takes in (turned-at list (now (tail .result)) (loop .at) (permit .result) (tail .ensures) (permit .ensures) (loop-test .taken) (loop .inv .0) (n .given .0 .0) (n .given .1), omega (arith, loop .inv .1))
 
 returns-2 : tie.Need-returns-2 Inv-loop μ-loop
-returns-2 c = passed-at (now (c .before .before .before .args .list)) (c .before .loop .at) (c .loop-test .left) (c .before .loop .inv .0)
+returns-2 c = passed-at (now (c .before .before .before .args .bytes)) (c .before .loop .at) (c .loop-test .left) (c .before .loop .inv .0)
 
 pub permits-spec : {M : Type 1} → statement M
 permits-spec =

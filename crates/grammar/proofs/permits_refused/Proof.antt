@@ -24,10 +24,10 @@ unfolding fails20
 tested l r h e = rw (le-ltb 2048 (length l) h) (ap not e ∙ double (failed (permitsRead l)))
 
 returns : tie.Need-returns
-returns c = too-long (now (c .before .before .args .list)) (c .if1 .taken)
+returns c = too-long (now (c .before .before .args .bytes)) (c .if1 .taken)
 
 returns-2 : tie.Need-returns-2
-returns-2 c = tested (now (c .before .before .before .args .list)) (c .permits .result) (c .before .if1 .left) (c .permits .ensures)
+returns-2 c = tested (now (c .before .before .before .args .bytes)) (c .permits .result) (c .before .if1 .left) (c .permits .ensures)
 
 pub permits-refused-spec : {M : Type 1} → statement M
 permits-refused-spec = tie.close (tie.spec (λ c κs. search needs) returns returns-2)

@@ -19,26 +19,26 @@ use Rattle.queries.proofs.check.Reads as check-reads′
 returns : tie.Need-returns
 returns c =
     let c₈ = c .before .before .before .before .before .before .before .before in let args = c₈ .args in
-    refused-kept (now (args .catalogue)) (now (args .values)) (now (args .list)) (now (args .query)) (now (args .rewritten)) (now (args .answer)) _ _ (c .before .before .check .ensures) (c .before .if1 .taken) (c .refused .ensures)
+    refused-kept (now (args .catalogue)) (now (args .values)) (now (args .permits)) (now (args .query)) (now (args .rewritten)) (now (args .answer)) _ _ (c .before .before .check .ensures) (c .before .if1 .taken) (c .refused .ensures)
 
 check-permits-requires : tie.Need-check-permits-requires
 check-permits-requires c κs =
     let c₇ = c .before .before .before .before .before .before .before in let args = c₇ .args in
-    catalogue-passes (now (args .catalogue)) (now (args .values)) (now (args .list)) (now (args .query)) (now (args .rewritten)) (now (args .answer)) (sym (c .before .check .ensures) ∙ c .if1 .left)
+    catalogue-passes (now (args .catalogue)) (now (args .values)) (now (args .permits)) (now (args .query)) (now (args .rewritten)) (now (args .answer)) (sym (c .before .check .ensures) ∙ c .if1 .left)
 
 returns-2 : tie.Need-returns-2
 returns-2 c =
     let c₃ = c .before .before .before in let if1 = c₃ .if1 in
     let c₄ = c₃ .before in let check = c₄ .check in
     let c₁₀ = c₄ .before .before .before .before .before .before in let args = c₁₀ .args in
-    refused-permits (now (args .catalogue)) (now (args .values)) (now (args .list)) (now (args .query)) (now (args .rewritten)) (now (args .answer)) (sym (check .ensures) ∙ if1 .left) _ _ (c .before .before .check-permits .ensures) (c .before .if2 .taken) (c .refused2 .ensures)
+    refused-permits (now (args .catalogue)) (now (args .values)) (now (args .permits)) (now (args .query)) (now (args .rewritten)) (now (args .answer)) (sym (check .ensures) ∙ if1 .left) _ _ (c .before .before .check-permits .ensures) (c .before .if2 .taken) (c .refused2 .ensures)
 
 check-requires-2 : tie.Need-check-requires-2
 check-requires-2 c κs =
     let c₃ = c .before .before .before in let if1 = c₃ .if1 in
     let c₄ = c₃ .before in let check = c₄ .check in
     let c₁₀ = c₄ .before .before .before .before .before .before in let args = c₁₀ .args in let pre = c₁₀ .pre in
-    (catalogue-passes (now (args .catalogue)) (now (args .values)) (now (args .list)) (now (args .query)) (now (args .rewritten)) (now (args .answer)) (sym (check .ensures) ∙ if1 .left), (λ h. omega (arith, pre)), omega arith)
+    (catalogue-passes (now (args .catalogue)) (now (args .values)) (now (args .permits)) (now (args .query)) (now (args .rewritten)) (now (args .answer)) (sym (check .ensures) ∙ if1 .left), (λ h. omega (arith, pre)), omega arith)
 
 answer-query-requires : tie.Need-answer-query-requires
 answer-query-requires c κs =
@@ -61,7 +61,7 @@ returns-3 c =
     let c₁₁ = c₁₀ .before in let check = c₁₁ .check in
     let c₁₇ = c₁₁ .before .before .before .before .before .before in let args = c₁₇ .args in
     let query = now (args .query) in
-    refused-query (now (args .catalogue)) (now (args .values)) (now (args .list)) query (now (args .rewritten)) (now (args .answer)) (sym (check .ensures) ∙ if1 .left) (sym (check-permits .ensures) ∙ if2 .left) _ _ (sym (ap numberOf (n .given .1)) ∙ check2 .ensures .0) (subst (λ (r : Checked). Ready r 32 query (check2 .last .1 .1 .1 .0)) (n .given .1) (check2 .ensures .1 .0)) (c .refused3 .ensures)
+    refused-query (now (args .catalogue)) (now (args .values)) (now (args .permits)) query (now (args .rewritten)) (now (args .answer)) (sym (check .ensures) ∙ if1 .left) (sym (check-permits .ensures) ∙ if2 .left) _ _ (sym (ap numberOf (n .given .1)) ∙ check2 .ensures .0) (subst (λ (r : Checked). Ready r 32 query (check2 .last .1 .1 .1 .0)) (n .given .1) (check2 .ensures .1 .0)) (c .refused3 .ensures)
 
 pub ask-with-spec : {M : Type 1} → statement M
 ask-with-spec =

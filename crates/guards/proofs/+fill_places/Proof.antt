@@ -32,12 +32,12 @@ fill-places-claims t = (header-reads.Asked, header-reads.Learnt, tail-reads.Aske
 fill-places-returns : (t : ℕ) → fill-places-lts.Need-returns (fill-places-claims t) (fill-places-at t) fill-places.Post
 fill-places-returns t c =
     let c₃ = c .before .before .before in let args = c₃ .args in
-    places-none (args .left) (now (args .list)) (args .at) (args .k) (now (args .places)) (c .if1 .taken)
+    places-none (args .left) (now (args .permits)) (args .at) (args .k) (now (args .places)) (c .if1 .taken)
 
 fill-places-returns-2 : (t : ℕ) → fill-places-lts.Need-returns-2 (fill-places-claims t) (fill-places-at t) fill-places.Post
 fill-places-returns-2 t c =
     let c₄ = c .before .before .before .before in let args = c₄ .args in
-    places-end (args .left) (now (args .list)) (args .at) (args .k) (now (args .places)) (c .if2 .taken)
+    places-end (args .left) (now (args .permits)) (args .at) (args .k) (now (args .places)) (c .if2 .taken)
 
 fill-places-header-requires : (t : ℕ) → fill-places-lts.Need-header-requires (fill-places-claims t) (fill-places-at t) fill-places.Post
 fill-places-header-requires t c κs = search needs
@@ -85,7 +85,7 @@ fill-places-fill-places-requires t c κs =
     let c₁₁ = c₁₀ .before .before in let if2 = c₁₁ .if2 in
     let c₁₂ = c₁₁ .before in let if1 = c₁₂ .if1 in
     let c₁₅ = c₁₂ .before .before .before in let args = c₁₅ .args in let pre = c₁₅ .pre in
-    (omega (arith, pre .0, if1 .left), (next-near (args .at) (size .result) (now (args .list)) _ (tail .ensures) (omega (arith, if2 .left)) (size .ensures .1 .1) (pre .1 .2), omega (arith, pre .1 .1, if1 .left), pre .1 .2))
+    (omega (arith, pre .0, if1 .left), (next-near (args .at) (size .result) (now (args .permits)) _ (tail .ensures) (omega (arith, if2 .left)) (size .ensures .1 .1) (pre .1 .2), omega (arith, pre .1 .1, if1 .left), pre .1 .2))
 
 fill-places-same-length : (t : ℕ) → fill-places-lts.Need-same-length (fill-places-claims t) (fill-places-at t) fill-places.Post
 fill-places-same-length t c = search needs
@@ -100,7 +100,7 @@ fill-places-returns-3 t c =
     let c₁₄ = c₁₃ .before .before in let if2 = c₁₄ .if2 in
     let c₁₅ = c₁₄ .before in let if1 = c₁₅ .if1 in
     let c₁₈ = c₁₅ .before .before .before in let args = c₁₈ .args in
-    places-next (args .left) (now (args .list)) (args .at) (args .k) (now (args .places)) (header .result) (header .ensures) _ _ _ _ _ (if1 .left) (omega (arith, if2 .left)) (tail .ensures) (put-place .ensures) (size .ensures .0) (put-place2 .ensures) (c .before .before .fill-places .ensures)
+    places-next (args .left) (now (args .permits)) (args .at) (args .k) (now (args .places)) (header .result) (header .ensures) _ _ _ _ _ (if1 .left) (omega (arith, if2 .left)) (tail .ensures) (put-place .ensures) (size .ensures .0) (put-place2 .ensures) (c .before .before .fill-places .ensures)
 
 pub +fill-places-spec : {M : Type 1} → statement M
 +fill-places-spec = close μ-fill-places λ t. fill-places-lts.spec (fill-places-claims t)

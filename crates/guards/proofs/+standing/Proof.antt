@@ -34,12 +34,12 @@ standing-claims t = (applies-reads.Asked, applies-reads.Learnt, one-if-reads.Ask
 standing-returns : (t : ℕ) → standing-lts.Need-returns (standing-claims t) (standing-at t) standing.Post
 standing-returns t c =
     let args = c .before .before .args in
-    (standing-none (λ a. bit (args .used) a) (args .relation) (args .left) (now (args .list)) (c .if1 .taken), omega (arith, pow-pos (args .left)))
+    (standing-none (λ a. bit (args .used) a) (args .relation) (args .left) (now (args .permits)) (c .if1 .taken), omega (arith, pow-pos (args .left)))
 
 standing-returns-2 : (t : ℕ) → standing-lts.Need-returns-2 (standing-claims t) (standing-at t) standing.Post
 standing-returns-2 t c =
     let args = c .before .before .before .args in
-    (standing-empty (λ a. bit (args .used) a) (args .relation) (args .left) (now (args .list)) (c .if2 .taken), omega (arith, pow-pos (args .left)))
+    (standing-empty (λ a. bit (args .used) a) (args .relation) (args .left) (now (args .permits)) (c .if2 .taken), omega (arith, pow-pos (args .left)))
 
 standing-applies-requires : (t : ℕ) → standing-lts.Need-applies-requires (standing-claims t) (standing-at t) standing.Post
 standing-applies-requires t c κs = search needs
@@ -81,7 +81,7 @@ standing-returns-3 : (t : ℕ) → standing-lts.Need-returns-3 (standing-claims 
 standing-returns-3 t c =
     let rest = c .before .before .standing in let one-if = c .before .before .before .before .before .before .one-if in let applies = c .before .before .before .before .before .before .before .applies in let if1 = c .before .before .before .before .before .before .before .before .before .if1 in
     let start = c .before .before .before .before .before .before .before .before .before .before .before in let args = start .args in
-    (standing-next (λ a. bit (args .used) a) (args .relation) (args .left) (now (args .list)) _ _ _ _ _ _ _ (if1 .left) (c .before .before .before .before .before .before .before .before .if2 .left) (applies .ensures) (one-if .ensures .0) (c .before .before .before .before .before .bars .ensures) (c .before .before .before .before .size .ensures .0) (c .before .before .before .tail .ensures) (rest .ensures .0) (c .either .ensures), omega (arith, rest .ensures .1, pow-step (args .left) (if1 .left), pow-few (args .left) (start .pre .1), one-if .ensures .1))
+    (standing-next (λ a. bit (args .used) a) (args .relation) (args .left) (now (args .permits)) _ _ _ _ _ _ _ (if1 .left) (c .before .before .before .before .before .before .before .before .if2 .left) (applies .ensures) (one-if .ensures .0) (c .before .before .before .before .before .bars .ensures) (c .before .before .before .before .size .ensures .0) (c .before .before .before .tail .ensures) (rest .ensures .0) (c .either .ensures), omega (arith, rest .ensures .1, pow-step (args .left) (if1 .left), pow-few (args .left) (start .pre .1), one-if .ensures .1))
 
 pub +standing-spec : {M : Type 1} → statement M
 +standing-spec = close μ-standing λ t. standing-lts.spec (standing-claims t)

@@ -11,9 +11,12 @@ use borrow.Author.Tests.{not-true, not-false, eqb-true, eq-eqb, ne-eqb}
 use Rattle.model.specs.Lists.{all, below}
 use Rattle.model.specs.Permits.{bit}
 use Rattle.kinds.specs.Tables.{recordLength}
+use Rattle.kinds.specs.Places.{permitAt}
+use Rattle.kinds.specs.declared.PermitRecord.{PermitRecord}
+use Rattle.kinds.specs.declared.PermitRecord.the-variants as P
 use Rattle.scans.proofs.Lists.{all-join}
-use Rattle.permits.specs.Entries.{Entry, spanAfter, spanOf, conditionOf, maskOf, entryAt}
-use Rattle.permits.specs.Applying.{agree, allUsed, noAccessAt, appliesTo, barsFrom}
+use Rattle.permits.specs.Entries.{Entry, spanAfter, spanOf, conditionOf, entryAt}
+use Rattle.permits.specs.Applying.{agree, allUsed, noAccessAt, overWith, appliesTo, barsFrom}
 
 -- NO ACCESS: the byte after the permit's head, unless it starts the next permit
 pub no-access-is : (list : List ℕ) (k : ℕ) → k ≡ getD list 4 0 → eqb k 17 ≡ noAccessAt (entryAt list)
@@ -38,6 +41,10 @@ used-in u x w h hw = rw (h, hw)
 pub used-out : (u x w : Bool) → not u ≡ false → w ≡ false → not x ≡ (not u || agree w x)
 used-out u x w h hw = rw (h, hw)
 
+and-false : (b : Bool) → (b && false) ≡ false
+and-false true = refl
+and-false false = refl
+
 -- whether a permit applies, or bars
 module _ (s : ℕ → Bool) (r : ℕ) (list : List ℕ) (n : Bool) (en : n ≡ noAccessAt (entryAt list)) where
   pub applies-never : n ≡ true → false ≡ appliesTo s r (entryAt list)
@@ -48,23 +55,34 @@ module _ (s : ℕ → Bool) (r : ℕ) (list : List ℕ) (n : Bool) (en : n ≡ n
   unfolding barsFrom
   bars-never h = sym (rw (sym en, not-true n h))
 
-  module _ (k : ℕ) (ek : k ≡ getD list 1 0) where
-    pub applies-not : n ≡ false → (k ≡ r → ⊥) → false ≡ appliesTo s r (entryAt list)
+  module _ (h : PermitRecord) (eh : h ≡ permitAt list) where
+    head-is : (f : ℕ → Bool) (x : PermitRecord) → h ≡ x → overWith r f (permitAt list) ≡ overWith r f x
+    head-is f x e = ap (overWith r f) (sym eh ∙ e)
+
+    pub applies-other : h ≡ P.Other → false ≡ appliesTo s r (entryAt list)
     unfolding appliesTo
-    applies-not hn h = sym (rw (sym en, hn, sym ek, ne-eqb k r h))
+    applies-other e = sym (ap (λ (b : Bool). not (noAccessAt (entryAt list)) && b) (head-is (λ m. allUsed s m true) P.Other e) ∙ and-false (not (noAccessAt (entryAt list))))
 
-    pub bars-not : not n ≡ false → (r ≡ k → ⊥) → false ≡ barsFrom s r (entryAt list)
+    pub bars-other : h ≡ P.Other → false ≡ barsFrom s r (entryAt list)
     unfolding barsFrom
-    bars-not hn h = sym (rw (sym en, not-false n hn, sym ek, ne-eqb k r (λ e. h (sym e))))
+    bars-other e = sym (ap (λ (b : Bool). noAccessAt (entryAt list) && b) (head-is (λ m. not (allUsed s m false)) P.Other e) ∙ and-false (noAccessAt (entryAt list)))
 
-    module _ (m : ℕ) (b : Bool) (em : m ≡ maskOf list) where
-      pub applies-is : k ≡ r → n ≡ false → b ≡ allUsed s m true → b ≡ appliesTo s r (entryAt list)
+    module _ (k m : ℕ) (e : h ≡ P.Permit k m) where
+      pub applies-not : n ≡ false → (k ≡ r → ⊥) → false ≡ appliesTo s r (entryAt list)
       unfolding appliesTo
-      applies-is h hn eb = eb ∙ sym (rw (sym en, hn, sym ek, eq-eqb k r h, sym em))
+      applies-not hn d = sym (rw (sym en, hn, head-is (λ m. allUsed s m true) (P.Permit k m) e, ne-eqb k r d))
 
-      pub bars-is : r ≡ k → not n ≡ false → b ≡ allUsed s m false → not b ≡ barsFrom s r (entryAt list)
+      pub bars-not : not n ≡ false → (k ≡ r → ⊥) → false ≡ barsFrom s r (entryAt list)
       unfolding barsFrom
-      bars-is h hn eb = ap not eb ∙ sym (rw (sym en, not-false n hn, sym ek, eq-eqb k r (sym h), sym em))
+      bars-not hn d = sym (rw (sym en, not-false n hn, head-is (λ m. not (allUsed s m false)) (P.Permit k m) e, ne-eqb k r d))
+
+      pub applies-is : (b : Bool) → k ≡ r → n ≡ false → b ≡ allUsed s m true → b ≡ appliesTo s r (entryAt list)
+      unfolding appliesTo
+      applies-is b d hn eb = eb ∙ sym (rw (sym en, hn, head-is (λ m. allUsed s m true) (P.Permit k m) e, eq-eqb k r d))
+
+      pub bars-is : (b : Bool) → k ≡ r → not n ≡ false → b ≡ allUsed s m false → not b ≡ barsFrom s r (entryAt list)
+      unfolding barsFrom
+      bars-is b d hn eb = ap not eb ∙ sym (rw (sym en, not-false n hn, head-is (λ m. not (allUsed s m false)) (P.Permit k m) e, eq-eqb k r d))
 
 -- tests that agree below 16 find the same permits
 all-below : (n : ℕ) (f g : ℕ → Bool) → ((a : ℕ) → a < n → f a ≡ g a) → all f (below n) ≡ all g (below n)
@@ -75,6 +93,10 @@ all-below (suc n) f g h =
     ∙ ap₂ (λ (x y : Bool). x && (y && true)) (all-below n f g (λ a l. h a (omega arith))) (h n (omega arith))
     ∙ sym (all-join g (below n) (n ∷ []))
 
+over-same : (r : ℕ) (f g : ℕ → Bool) → ((m : ℕ) → f m ≡ g m) → (h : PermitRecord) → overWith r f h ≡ overWith r g h
+over-same r f g e (P.Permit x m) = ap (λ (b : Bool). eqb x r && b) (e m)
+over-same r f g e P.Other = refl
+
 module _ (s t : ℕ → Bool) (h : (a : ℕ) → a < 16 → s a ≡ t a) where
   all-used-same : (m : ℕ) (w : Bool) → allUsed s m w ≡ allUsed t m w
   unfolding allUsed
@@ -82,8 +104,9 @@ module _ (s t : ℕ → Bool) (h : (a : ℕ) → a < 16 → s a ≡ t a) where
 
   pub applies-same : (r : ℕ) (e : Entry) → appliesTo s r e ≡ appliesTo t r e
   unfolding appliesTo
-  applies-same r e = rw (all-used-same (e .mask) true)
+  applies-same r e = ap (λ (b : Bool). not (noAccessAt e) && b) (over-same r (λ m. allUsed s m true) (λ m. allUsed t m true) (λ m. all-used-same m true) (e .head))
 
   pub bars-same : (r : ℕ) (e : Entry) → barsFrom s r e ≡ barsFrom t r e
   unfolding barsFrom
-  bars-same r e = rw (all-used-same (e .mask) false)
+  bars-same r e =
+      ap (λ (b : Bool). noAccessAt e && b) (over-same r (λ m. not (allUsed s m false)) (λ m. not (allUsed t m false)) (λ m. ap not (all-used-same m false)) (e .head))

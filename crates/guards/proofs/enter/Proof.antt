@@ -14,7 +14,7 @@ use Rattle.guards.proofs.served.Reads as served-reads
 returns : tie.Need-returns
 returns c =
     let c₇ = c .before .before .before .before .before .before .before in let args = c₇ .args in
-    let catalogue = now (args .catalogue) in let list = now (args .list) in let query = now (args .query) in let b = args .b in
+    let catalogue = now (args .catalogue) in let list = now (args .permits) in let query = now (args .query) in let b = args .b in
     (tally-none query list catalogue (now (args .places)) b (c .enum-told .given .1), (omega arith, masked-none query list catalogue b (now (args .masks)) (c .enum-told .given .1)))
 
 guard-length-requires : tie.Need-guard-length-requires
@@ -26,7 +26,7 @@ returns-2 c =
     let c₆ = c₄ .before .before in let mask-for = c₆ .mask-for in
     let c₈ = c₆ .before .before in let b = c₈ .b in
     let c₁₅ = c₈ .before .before .before .before .before .before .before in let args = c₁₅ .args in
-    let catalogue = now (args .catalogue) in let list = now (args .list) in let query = now (args .query) in
+    let catalogue = now (args .catalogue) in let list = now (args .permits) in let query = now (args .query) in
     (tally-one query list catalogue (now (args .places)) (args .b) _ _ (b .given .1) _ (mask-for .ensures) _ (c .before .served .ensures) _ (c .guard-length .ensures .0), (c .guard-length .ensures .1, masked-one query list catalogue (args .b) (now (args .masks)) _ _ (b .given .1) _ _ (mask-for .ensures) (put-mask .ensures)))
 
 pub enter-spec : {M : Type 1} → statement M

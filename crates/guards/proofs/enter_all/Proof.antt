@@ -61,7 +61,7 @@ loop-again c =
     let c₈ = c₇ .before in let loop-test = c₈ .loop-test in
     let c₉ = c₈ .before in let loop = c₉ .loop in
     let c₁₅ = c₉ .before .before .before .before .before .before in let args = c₁₅ .args in
-    let catalogue = now (args .catalogue) in let list = now (args .list) in let query = now (args .query) in
+    let catalogue = now (args .catalogue) in let list = now (args .permits) in let query = now (args .query) in
     (tally-on query list catalogue (now (args .places)) (loop .at) (c .step .result) (loop-test .taken) (c .step .ensures .0) (binding .result) (binding .ensures) (loop .passed) (loop .n) _ (enter .result) (enter .ensures .0) (both .result) (both .ensures) (loop .inv .0), omega (arith, loop .inv .1, enter .ensures .1 .0, c .step .ensures .1 .0), masked-on query list catalogue (loop .at) (c .step .result) (loop-test .taken) (c .step .ensures .0) (binding .result) (binding .ensures) _ _ _ (enter .ensures .1 .1) (loop .inv .2), enter .kept .1 .1 .1 .1 .1 .0 ∙ loop .inv .3)
 
 same-length : tie.Need-same-length Inv-loop μ-loop
@@ -71,7 +71,7 @@ returns : tie.Need-returns Inv-loop μ-loop
 returns c =
     let c₁ = c .before in let loop = c₁ .loop in
     let c₇ = c₁ .before .before .before .before .before .before in let args = c₇ .args in
-    let catalogue = now (args .catalogue) in let list = now (args .list) in let query = now (args .query) in
+    let catalogue = now (args .catalogue) in let list = now (args .permits) in let query = now (args .query) in
     (tally-end query list catalogue (now (args .places)) (loop .at) (c .loop-test .left) (loop .passed) (loop .n) _ (loop .inv .0), masked-end query list catalogue (loop .at) (c .loop-test .left) _ _ (loop .inv .2))
 
 pub enter-all-spec : {M : Type 1} → statement M

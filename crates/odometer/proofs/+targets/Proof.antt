@@ -36,7 +36,7 @@ targets-claims t = (term-reads.Asked, term-reads.Learnt, cell-reads.Asked, cell-
 
 targets-returns : (t : ℕ) → targets-lts.Need-returns (targets-claims t) (targets-at t) targets.Post
 targets-returns t c = let args = c .before .before .before .before .before .args in
-    (targets-none (now (args .walks)) (now (args .vs)) (now (args .memo)) (now (args .env)) (now (args .q)) (now (args .z)) (args .ahead .left) (args .ahead .level) (args .ahead .at) (now (args .row)) (c .if1 .taken), search needs)
+    (targets-none (now (args .walks)) (now (args .values)) (now (args .memo)) (now (args .env)) (now (args .q)) (now (args .z)) (args .ahead .left) (args .ahead .level) (args .ahead .at) (now (args .row)) (c .if1 .taken), search needs)
 
 targets-term-requires : (t : ℕ) → targets-lts.Need-term-requires (targets-claims t) (targets-at t) targets.Post
 targets-term-requires t c κs = search needs
@@ -48,7 +48,7 @@ targets-returns-2 : (t : ℕ) → targets-lts.Need-returns-2 (targets-claims t) 
 targets-returns-2 t c = let term = c .before .before .before .before .term in
     let if1 = c .before .before .before .before .before .before .if1 in
     let args = c .before .before .before .before .before .before .before .before .before .before .before .args in
-    (targets-nothing (now (args .walks)) (now (args .vs)) (now (args .memo)) (now (args .env)) (now (args .q)) (now (args .z)) (args .ahead .left) (args .ahead .level) (args .ahead .at) (now (args .row)) _ (if1 .left) (sym (term .ensures .0) ∙ value-none (term .result) (term .ensures .1 .0) (c .if2 .taken)), term .ensures .1 .1)
+    (targets-nothing (now (args .walks)) (now (args .values)) (now (args .memo)) (now (args .env)) (now (args .q)) (now (args .z)) (args .ahead .left) (args .ahead .level) (args .ahead .at) (now (args .row)) _ (if1 .left) (sym (term .ensures .0) ∙ value-none (term .result) (term .ensures .1 .0) (c .if2 .taken)), term .ensures .1 .1)
 
 targets-cell-requires : (t : ℕ) → targets-lts.Need-cell-requires (targets-claims t) (targets-at t) targets.Post
 targets-cell-requires t c κs = (c .before .before .before .before .term .ensures .1 .0, is-number (c .before .before .before .before .term .result) (c .before .before .before .before .term .ensures .1 .0) (c .if2 .left))
@@ -102,7 +102,7 @@ targets-returns-3 t c = let targets = c .before .before .before .targets in
     let term = c .before .before .before .before .before .before .before .before .before .before .before .before .before .before .term in
     let if1 = c .before .before .before .before .before .before .before .before .before .before .before .before .before .before .before .before .if1 in
     let args = c .before .before .before .before .before .before .before .before .before .before .before .before .before .before .before .before .before .before .before .before .before .args in
-    (targets-more (now (args .walks)) (now (args .vs)) (now (args .memo)) (now (args .env)) (now (args .q)) (now (args .z)) (args .ahead .left) (args .ahead .level) (args .ahead .at) (now (args .row)) _ _ _ _ _ _ _ _ _ (if1 .left) (sym (term .ensures .0) ∙ value-some (term .result) (is-number (term .result) (term .ensures .1 .0) (if2 .left))) (toZ-ofZ {w = w64} (record { sfits = cell .ok }) ∙ cell .ensures) refl (size-at .ensures .0) (tail .ensures) (tail-sizes .ensures) (term .ensures .1 .1) (targets .ensures .0), targets .ensures .1 ∙ term .ensures .1 .1)
+    (targets-more (now (args .walks)) (now (args .values)) (now (args .memo)) (now (args .env)) (now (args .q)) (now (args .z)) (args .ahead .left) (args .ahead .level) (args .ahead .at) (now (args .row)) _ _ _ _ _ _ _ _ _ (if1 .left) (sym (term .ensures .0) ∙ value-some (term .result) (is-number (term .result) (term .ensures .1 .0) (if2 .left))) (toZ-ofZ {w = w64} (record { sfits = cell .ok }) ∙ cell .ensures) refl (size-at .ensures .0) (tail .ensures) (tail-sizes .ensures) (term .ensures .1 .1) (targets .ensures .0), targets .ensures .1 ∙ term .ensures .1 .1)
 
 pub +targets-spec : {M : Type 1} → statement M
 +targets-spec = close μ-targets λ t. targets-lts.spec (targets-claims t)

@@ -10,30 +10,28 @@ use Rattle.odometer.proofs.listed_cells.Statement.{statement}
 use Rattle.odometer.proofs.listed_cells.Tie as tie
 
 abbrev Inv-loop : tie.InvT-loop
-Inv-loop list n vs memo env row₀ i₀ row i = Rest memo list n (assigned vs env) row₀ row i × (i ≤ n) × (length row ≡ length row₀)
+Inv-loop list n values memo env row₀ i₀ row i = Rest memo list n (assigned values env) row₀ row i × (i ≤ n) × (length row ≡ length row₀)
 
 abbrev μ-loop : tie.MeasureT-loop
-μ-loop list n vs memo env row₀ i₀ row i = n - i
+μ-loop list n values memo env row₀ i₀ row i = n - i
 
 loop-holds : tie.Need-loop-holds Inv-loop μ-loop
-loop-holds c = (rest-start (now (c .before .before .args .memo)) (now (c .before .before .args .list)) (c .before .before .args .n) (assigned (now (c .before .before .args .vs)) (now (c .before .before .args .env))) (now (c .before .before .args .row)), omega arith, refl)
+loop-holds c = (rest-start (now (c .before .before .args .memo)) (now (c .before .before .args .list)) (c .before .before .args .n) (assigned (now (c .before .before .args .values)) (now (c .before .before .args .env))) (now (c .before .before .args .row)), omega arith, refl)
 
 listed-cell-requires : tie.Need-listed-cell-requires Inv-loop μ-loop
-listed-cell-requires c κs =
-    let c₁ = c .before in let loop-test = c₁ .loop-test in
-    let c₅ = c₁ .before .before .before .before in let pre = c₅ .pre in
-    (pre .0, omega (arith, pre .1, c .before .before .loop .inv .2, loop-test .taken), omega (arith, pre .2, loop-test .taken))
+listed-cell-requires c κs = let loop-test = c .before .loop-test in
+    let pre = c .before .before .before .before .before .pre in
+    (pre .0, omega (arith, pre .1, c .before .before .loop .inv .2, loop-test .taken), omega (arith, pre .2, loop-test .taken), pre .3)
 
 same-length : tie.Need-same-length Inv-loop μ-loop
 same-length c = search needs
 
 returns : tie.Need-returns Inv-loop μ-loop
-returns c =
-    let c₂ = c .before .before in let listed-cell = c₂ .listed-cell in
-    let c₄ = c₂ .before .before in let loop-test = c₄ .loop-test in
-    let c₅ = c₄ .before in let loop = c₅ .loop in
-    let c₈ = c₅ .before .before .before in let args = c₈ .args in
-    rest-nothing (now (args .memo)) (now (args .list)) (args .n) (assigned (now (args .vs)) (now (args .env))) (now (args .row)) (loop .row) (loop .i) (loop .inv .0) (listed-cell .result) _ (loop-test .taken) (listed-cell .ensures) (c .if1 .taken)
+returns c = let listed-cell = c .before .before .listed-cell in
+    let loop-test = c .before .before .before .before .loop-test in
+    let loop = c .before .before .before .before .before .loop in
+    let args = c .before .before .before .before .before .before .before .before .args in
+    rest-nothing (now (args .memo)) (now (args .list)) (args .n) (assigned (now (args .values)) (now (args .env))) (now (args .row)) (loop .row) (loop .i) (loop .inv .0) (listed-cell .result) _ (loop-test .taken) (listed-cell .ensures) (c .if1 .taken)
 
 add-i : tie.Need-add-i Inv-loop μ-loop
 add-i c = search needs
@@ -42,21 +40,19 @@ loop-less : tie.Need-loop-less Inv-loop μ-loop
 loop-less c = search needs
 
 loop-again : tie.Need-loop-again Inv-loop μ-loop
-loop-again c =
-    let c₂ = c .before .before in let listed-cell = c₂ .listed-cell in
-    let c₄ = c₂ .before .before in let loop-test = c₄ .loop-test in
-    let c₅ = c₄ .before in let loop = c₅ .loop in
-    let c₈ = c₅ .before .before .before in let args = c₈ .args in
-    (rest-more (now (args .memo)) (now (args .list)) (args .n) (assigned (now (args .vs)) (now (args .env))) (now (args .row)) (loop .row) (loop .i) (loop .inv .0) (listed-cell .result) _ (loop-test .taken) (listed-cell .ensures) (c .if1 .left), omega (arith, loop-test .taken), listed-cell .kept .1 .1 .1 .1 .1 .0 ∙ loop .inv .2)
+loop-again c = let listed-cell = c .before .before .listed-cell in
+    let loop-test = c .before .before .before .before .loop-test in
+    let loop = c .before .before .before .before .before .loop in
+    let args = c .before .before .before .before .before .before .before .before .args in
+    (rest-more (now (args .memo)) (now (args .list)) (args .n) (assigned (now (args .values)) (now (args .env))) (now (args .row)) (loop .row) (loop .i) (loop .inv .0) (listed-cell .result) _ (loop-test .taken) (listed-cell .ensures) (c .if1 .left), omega (arith, loop-test .taken), listed-cell .kept .1 .1 .1 .1 .1 .0 ∙ loop .inv .2)
 
 same-length-2 : tie.Need-same-length-2 Inv-loop μ-loop
 same-length-2 c = search needs
 
 returns-2 : tie.Need-returns-2 Inv-loop μ-loop
-returns-2 c =
-    let c₁ = c .before in let loop = c₁ .loop in
-    let c₄ = c₁ .before .before .before in let args = c₄ .args in
-    rest-end (now (args .memo)) (now (args .list)) (args .n) (assigned (now (args .vs)) (now (args .env))) (now (args .row)) (loop .row) (loop .i) (loop .inv .0) (c .loop-test .left)
+returns-2 c = let loop = c .before .loop in
+    let args = c .before .before .before .before .args in
+    rest-end (now (args .memo)) (now (args .list)) (args .n) (assigned (now (args .values)) (now (args .env))) (now (args .row)) (loop .row) (loop .i) (loop .inv .0) (c .loop-test .left)
 
 pub listed-cells-spec : {M : Type 1} → statement M
 listed-cells-spec =

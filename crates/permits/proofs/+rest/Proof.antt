@@ -27,12 +27,12 @@ abbrev rest-claims : ℕ → rest-lts.Claims
 rest-claims t = (permit-reads.Asked, permit-reads.Learnt, rest-below t, rest.Post, both-reads.Asked, both-reads.Learnt)
 
 rest-returns : (t : ℕ) → rest-lts.Need-returns (rest-claims t) (rest-at t) rest.Post
-rest-returns t c = list-end _ (now (c .before .before .before .before .args .list)) (c .before .before .before .before .args .at) (c .before .before .before .before .args .left) (c .if1 .taken)
+rest-returns t c = list-end _ (now (c .before .before .before .before .args .permits)) (c .before .before .before .before .args .at) (c .before .before .before .before .args .left) (c .if1 .taken)
 
 rest-returns-2 : (t : ℕ) → rest-lts.Need-returns-2 (rest-claims t) (rest-at t) rest.Post
 rest-returns-2 t c =
     let c₅ = c .before .before .before .before .before in let args = c₅ .args in
-    list-full (shapeOf (catalogueOf (now (args .catalogue)))) (now (args .list)) (args .at) (args .left) (c .before .if1 .left) (c .if2 .taken)
+    list-full (shapeOf (catalogueOf (now (args .catalogue)))) (now (args .permits)) (args .at) (args .left) (c .before .if1 .left) (c .if2 .taken)
 
 rest-permit-requires : (t : ℕ) → rest-lts.Need-permit-requires (rest-claims t) (rest-at t) rest.Post
 rest-permit-requires t c κs = search needs
@@ -51,14 +51,14 @@ rest-returns-3 t c =
     let c₄ = c .before .before .before .before in let permit = c₄ .permit in
     let c₇ = c₄ .before .before .before in let if1 = c₇ .if1 in
     let c₁₁ = c₇ .before .before .before .before in let args = c₁₁ .args in
-    list-unread _ (now (args .list)) (args .at) (args .left) (if1 .left) (permit .result) (permit .ensures) (c .enum-told .given .1)
+    list-unread _ (now (args .permits)) (args .at) (args .left) (if1 .left) (permit .result) (permit .ensures) (c .enum-told .given .1)
 
 rest-add-rest : (t : ℕ) → rest-lts.Need-add-rest (rest-claims t) (rest-at t) rest.Post
 rest-add-rest t c =
     let c₅ = c .before .before .before .before .before in let permit = c₅ .permit in
     let c₈ = c₅ .before .before .before in let if1 = c₈ .if1 in
     let c₁₂ = c₈ .before .before .before .before in let args = c₁₂ .args in let good = c₁₂ .good in
-    omega (arith, one-room _ (now (args .list)) (args .at) (args .left) (if1 .left) (permit .result) (permit .ensures) _ _ _ (c .before .n .given .1), good)
+    omega (arith, one-room _ (now (args .permits)) (args .at) (args .left) (if1 .left) (permit .result) (permit .ensures) _ _ _ (c .before .n .given .1), good)
 
 rest-sub-rest : (t : ℕ) → rest-lts.Need-sub-rest (rest-claims t) (rest-at t) rest.Post
 rest-sub-rest t c = search needs
@@ -69,7 +69,7 @@ rest-rest-requires t c κs =
     let c₈ = c₆ .before .before in let if2 = c₈ .if2 in
     let c₉ = c₈ .before in let if1 = c₉ .if1 in
     let c₁₃ = c₉ .before .before .before .before in let args = c₁₃ .args in let pre = c₁₃ .pre in
-    (omega (arith, pre .0, if2 .left), (pre .1 .0, one-room _ (now (args .list)) (args .at) (args .left) (if1 .left) (permit .result) (permit .ensures) _ _ _ (c .before .before .n .given .1)))
+    (omega (arith, pre .0, if2 .left), (pre .1 .0, one-room _ (now (args .permits)) (args .at) (args .left) (if1 .left) (permit .result) (permit .ensures) _ _ _ (c .before .before .n .given .1)))
 
 rest-enum-known-others-known : (t : ℕ) → rest-lts.Need-enum-known-others-known (rest-claims t) (rest-at t) rest.Post
 rest-enum-known-others-known t c = search needs
@@ -87,7 +87,7 @@ rest-returns-4 t c =
     let c₁₁ = c₇ .before .before .before .before in let permit = c₁₁ .permit in
     let c₁₄ = c₁₁ .before .before .before in let if1 = c₁₄ .if1 in
     let c₁₈ = c₁₄ .before .before .before .before in let args = c₁₈ .args in
-    list-refused _ (now (args .list)) (args .at) (args .left) (if1 .left) (permit .result) (permit .ensures) _ _ _ (n .given .1) (rest .result) (rest .ensures) (c .enum-told2 .given .1)
+    list-refused _ (now (args .permits)) (args .at) (args .left) (if1 .left) (permit .result) (permit .ensures) _ _ _ (n .given .1) (rest .result) (rest .ensures) (c .enum-told2 .given .1)
 
 rest-both-requires : (t : ℕ) → rest-lts.Need-both-requires (rest-claims t) (rest-at t) rest.Post
 rest-both-requires t c κs = search needs
@@ -107,7 +107,7 @@ rest-returns-5 t c =
     let c₁₆ = c₁₄ .before .before in let if2 = c₁₆ .if2 in
     let c₁₇ = c₁₆ .before in let if1 = c₁₇ .if1 in
     let c₂₁ = c₁₇ .before .before .before .before in let args = c₂₁ .args in
-    list-more _ (now (args .list)) (args .at) (args .left) (if1 .left) (permit .result) (permit .ensures) _ _ _ (n .given .1) (rest .result) (rest .ensures) (if2 .left) _ _ (others-known .given .1) _ _ (c .before .both .ensures) (c .both2 .ensures)
+    list-more _ (now (args .permits)) (args .at) (args .left) (if1 .left) (permit .result) (permit .ensures) _ _ _ (n .given .1) (rest .result) (rest .ensures) (if2 .left) _ _ (others-known .given .1) _ _ (c .before .both .ensures) (c .both2 .ensures)
 
 pub +rest-spec : {M : Type 1} → statement M
 +rest-spec = close μ-rest λ t. rest-lts.spec (rest-claims t)

@@ -5,13 +5,12 @@ use Rattle.permits.proofs.number.Statement.{statement}
 use Rattle.permits.proofs.number.Tie as tie
 use Rattle.permits.proofs.number.Reads as reads
 use Rattle.permits.proofs.number.Lts as lts
-use Rattle.grammar.proofs.permits_refused.Reads as permits-refused-reads
 
 returns : tie.Need-returns
-returns c = told-20 (now (c .before .before .before .args .list)) _ (c .before .permits-refused .ensures) (c .if1 .taken)
+returns c = told-20 (now (c .before .before .before .args .permits)) _ (c .before .refused .ensures) (c .if1 .taken)
 
 returns-2 : tie.Need-returns-2
-returns-2 c = told-21 (now (c .before .before .before .args .list)) _ (c .before .permits-refused .ensures) (c .if1 .left)
+returns-2 c = told-21 (now (c .before .before .before .args .permits)) _ (c .before .refused .ensures) (c .if1 .left)
 
 pub number-spec : {M : Type 1} → statement M
 number-spec = tie.close (tie.spec (λ c κs. search needs) returns returns-2)

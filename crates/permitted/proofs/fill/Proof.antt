@@ -30,7 +30,7 @@ loop-holds : tie.Need-loop-holds Inv-loop μ-loop
 loop-holds c =
     let c₆ = c .before .before .before .before .before .before in let args = c₆ .args in let pre = c₆ .pre in
     let query = now (args .query) in let walks = now (args .walks) in
-    (refl, filling-start (now (args .catalogue)) (now (args .values)) (part (now (args .list)) (now (args .places))) (now (args .masks)) (mostIn walks) (flatBindings query) walks (pre .4) (room-enough (length walks) (length (flatBindings query)) (pre .2) (pre .3 .0)))
+    (refl, filling-start (now (args .catalogue)) (now (args .values)) (part (now (args .permits)) (now (args .places))) (now (args .masks)) (mostIn walks) (flatBindings query) walks (pre .4) (room-enough (length walks) (length (flatBindings query)) (pre .2) (pre .3 .0)))
 
 binding-requires : tie.Need-binding-requires Inv-loop μ-loop
 binding-requires c κs = search needs
@@ -41,7 +41,7 @@ fill-one-requires c κs =
     let c₃ = c₁ .before .before in let loop = c₃ .loop in
     let c₁₀ = c₃ .before .before .before .before .before .before .before in let args = c₁₀ .args in let pre = c₁₀ .pre in
     let query = now (args .query) in let walks = now (args .walks) in
-    λ v r e. let a = asked (now (args .catalogue)) (now (args .values)) (part (now (args .list)) (now (args .places))) (now (args .masks)) (mostIn walks) (flatBindings query) _ _ (binding .result) v r (loop .next) (loop .walks) (pre .1) e (bindings-on query (loop .at) _ (c .before .before .loop-test .taken) refl (binding .result) (binding .ensures)) (loop .inv .1) in ((a .0 .0, most-low _ (length walks) (a .0 .1) (pre .3 .1)), (omega (arith, a .1 .0, a .0 .1), omega (arith, loop .inv .0, pre .3 .1)), a .1 .1)
+    λ v r e. let a = asked (now (args .catalogue)) (now (args .values)) (part (now (args .permits)) (now (args .places))) (now (args .masks)) (mostIn walks) (flatBindings query) _ _ (binding .result) v r (loop .next) (loop .walks) (pre .1) e (bindings-on query (loop .at) _ (c .before .before .loop-test .taken) refl (binding .result) (binding .ensures)) (loop .inv .1) in ((a .0 .0, most-low _ (length walks) (a .0 .1) (pre .3 .1)), (omega (arith, a .1 .0, a .0 .1), omega (arith, loop .inv .0, pre .3 .1)), a .1 .1)
 
 step-requires : tie.Need-step-requires Inv-loop μ-loop
 step-requires c κs = search needs
@@ -60,7 +60,7 @@ loop-again c =
     let c₇ = c₆ .before in let loop = c₇ .loop in
     let c₁₄ = c₇ .before .before .before .before .before .before .before in let args = c₁₄ .args in let pre = c₁₄ .pre in
     let query = now (args .query) in
-    (fill-one .kept .1 .1 .1 .1 .1 .1 .1 .0 ∙ loop .inv .0, filling-step (now (args .catalogue)) (now (args .values)) (part (now (args .list)) (now (args .places))) (now (args .masks)) (mostIn (now (args .walks))) (flatBindings query) _ _ (binding .result) (loop .next) (fill-one .result) (loop .walks) _ (pre .0) (pre .1) (bindings-on query (loop .at) _ (loop-test .taken) (c .step .ensures .0) (binding .result) (binding .ensures)) (fill-one .ensures .0) (fill-one .ensures .1) (loop .inv .1))
+    (fill-one .kept .1 .1 .1 .1 .1 .1 .1 .0 ∙ loop .inv .0, filling-step (now (args .catalogue)) (now (args .values)) (part (now (args .permits)) (now (args .places))) (now (args .masks)) (mostIn (now (args .walks))) (flatBindings query) _ _ (binding .result) (loop .next) (fill-one .result) (loop .walks) _ (pre .0) (pre .1) (bindings-on query (loop .at) _ (loop-test .taken) (c .step .ensures .0) (binding .result) (binding .ensures)) (fill-one .ensures .0) (fill-one .ensures .1) (loop .inv .1))
 
 same-length : tie.Need-same-length Inv-loop μ-loop
 same-length c = search needs
@@ -69,7 +69,7 @@ returns : tie.Need-returns Inv-loop μ-loop
 returns c =
     let c₁ = c .before in let loop = c₁ .loop in
     let c₈ = c₁ .before .before .before .before .before .before .before in let args = c₈ .args in
-    let catalogue = now (args .catalogue) in let list = now (args .list) in let masks = now (args .masks) in let places = now (args .places) in let query = now (args .query) in let values = now (args .values) in let walks = now (args .walks) in
+    let catalogue = now (args .catalogue) in let list = now (args .permits) in let masks = now (args .masks) in let places = now (args .places) in let query = now (args .query) in let values = now (args .values) in let walks = now (args .walks) in
     filling-end catalogue values (part list places) masks (mostIn walks) (flatBindings query) (loop .next) (loop .walks) (subst (λ (l : List Binding). Filling catalogue values (part list places) masks (mostIn walks) (flatBindings query) l (loop .next) (loop .walks)) (flat-end bindingOf query (loop .at) (c .loop-test .left)) (loop .inv .1))
 
 pub fill-spec : {M : Type 1} → statement M

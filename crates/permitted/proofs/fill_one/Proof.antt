@@ -28,7 +28,7 @@ returns-2 c =
     let c₅ = c₄ .before in let wide = c₅ .wide in
     let c₇ = c₅ .before .before in let b = c₇ .b in
     let c₁₄ = c₇ .before .before .before .before .before .before .before in let args = c₁₄ .args in
-    ((λ h. binds-nothing (args .b) _ _ h (b .given .1)), bound-stepped (now (args .catalogue)) (now (args .values)) (part (now (args .list)) (now (args .places))) (now (args .masks)) (args .b) _ _ _ _ (args .next) (give .result) (now (args .walks)) _ (b .given .1) (wide .ensures) (byte .ensures) (give .ensures))
+    ((λ h. binds-nothing (args .b) _ _ h (b .given .1)), bound-stepped (now (args .catalogue)) (now (args .values)) (part (now (args .permits)) (now (args .places))) (now (args .masks)) (args .b) _ _ _ _ (args .next) (give .result) (now (args .walks)) _ (b .given .1) (wide .ensures) (byte .ensures) (give .ensures))
 
 pub fill-one-spec : {M : Type 1} → statement M
 fill-one-spec =

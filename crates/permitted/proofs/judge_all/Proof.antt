@@ -42,7 +42,7 @@ loop-again c =
     let c₄ = c₂ .before .before in let loop-test = c₄ .loop-test in
     let c₅ = c₄ .before in let loop = c₅ .loop in
     let c₁₀ = c₅ .before .before .before .before .before in let args = c₁₀ .args in
-    (omega (arith, loop-test .taken), turn .ensures .size ∙ loop .inv .1, bits-on (loop .inv .2) (turn .ensures), decides-on (now (args .catalogue)) (now (args .values)) (part (now (args .list)) (now (args .places))) (args .relation) (args .mask) _ (loop .m) (loop .k) (now (args .marks)) (loop .marks) _ (loop-test .taken) (loop .inv .3) (turn .ensures))
+    (omega (arith, loop-test .taken), turn .ensures .size ∙ loop .inv .1, bits-on (loop .inv .2) (turn .ensures), decides-on (now (args .catalogue)) (now (args .values)) (part (now (args .permits)) (now (args .places))) (args .relation) (args .mask) _ (loop .m) (loop .k) (now (args .marks)) (loop .marks) _ (loop-test .taken) (loop .inv .3) (turn .ensures))
 
 same-length : tie.Need-same-length Inv-loop μ-loop
 same-length c = search needs
@@ -51,7 +51,7 @@ returns : tie.Need-returns Inv-loop μ-loop
 returns c =
     let c₁ = c .before in let loop = c₁ .loop in
     let c₆ = c₁ .before .before .before .before .before in let args = c₆ .args in let pre = c₆ .pre in
-    decides-end (now (args .catalogue)) (now (args .values)) (part (now (args .list)) (now (args .places))) (args .relation) (args .mask) _ (loop .m) (loop .k) (now (args .marks)) (loop .marks) (c .loop-test .left) (omega (arith, pre .1, loop .inv .1)) (loop .inv .3)
+    decides-end (now (args .catalogue)) (now (args .values)) (part (now (args .permits)) (now (args .places))) (args .relation) (args .mask) _ (loop .m) (loop .k) (now (args .marks)) (loop .marks) (c .loop-test .left) (omega (arith, pre .1, loop .inv .1)) (loop .inv .3)
 
 pub judge-all-spec : {M : Type 1} → statement M
 judge-all-spec =

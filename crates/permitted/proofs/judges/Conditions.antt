@@ -15,6 +15,7 @@ use Rattle.kinds.specs.Places.{conditionAt}
 use Rattle.kinds.specs.declared.ConditionRecord.{ConditionRecord}
 use Rattle.kinds.specs.declared.ConditionRecord.the-variants as C
 use Rattle.sizes.specs.Decode.{first, second, conditionBy, decode, decodeT}
+use Rattle.sizes.proofs.Decoding.{decode-step}
 use Rattle.walks.specs.declared.Walk.{Walk}
 use Rattle.walks.specs.Walks.{rowsBy}
 use Rattle.numbers.specs.Recalled.{holdsBy}
@@ -25,7 +26,6 @@ use Rattle.model.proofs.Lists.{getD-same}
 use Rattle.permitted.specs.Marked.{Marked, turned, tupleOf, judgedOn, ranOn}
 use Rattle.permitted.specs.Meets.{noPlaces}
 use Rattle.permitted.proofs.judges.Steps.{marked-same, marked-then}
-use Rattle.permitted.proofs.judges.Terms.{condition-is}
 
 turned-yes : (w : Bool) → w ≡ turned w true
 turned-yes true = refl
@@ -65,21 +65,21 @@ pub end-low : (w : Bool) (k : ℕ) → k ≡ cond w 0 1 → k < 2
 end-low true k e = omega (arith, e)
 end-low false k e = omega (arith, e)
 
-ends : (t : List ℕ) (xs : List ℤ) (q z ws : List ℕ) (vs m : List ℤ) (w : Bool) (k : ℕ) (u : Assignment) → k ≡ cond w 0 1 → runs t xs q z ws vs m k u ≡ w
+ends : (t q z ws : List ℕ) (vs m : List ℤ) (w : Bool) (k : ℕ) (u : Assignment) → k ≡ cond w 0 1 → runs t q z ws vs m k u ≡ w
 unfolding runs leads
-ends t xs q z ws vs m w k u e = ap (λ n. runs t xs q z ws vs m n u) e ∙ go w
+ends t q z ws vs m w k u e = ap (λ n. runs t q z ws vs m n u) e ∙ go w
   where
-    go : (w : Bool) → runs t xs q z ws vs m (cond w 0 1) u ≡ w
+    go : (w : Bool) → runs t q z ws vs m (cond w 0 1) u ≡ w
     go true = refl
     go false = refl
 
 -- a table marks as the condition does that it was compiled from
-pub compiled-marks : (r a b : ℕ) (t t′ : List ℕ) (xs xs′ : List ℤ) (q z ws : List ℕ) (vs m : List ℤ) (l : ℕ) (x : Walk) (w : Bool) (n : ℕ) (ms y : List ℕ) → Compiled 2 r a b t t′ xs xs′ q z m (decode l (drop 0 q) (drop 0 z)) → a ≡ cond w 0 1 → b ≡ cond (not w) 0 1
-    → Marked (ranOn t′ xs′ r q z ws vs m x) n ms y → Marked (judgedOn l q z ws vs m x w) n ms y
+pub compiled-marks : (r a b : ℕ) (t t′ q z ws : List ℕ) (vs m : List ℤ) (l : ℕ) (x : Walk) (w : Bool) (n : ℕ) (ms y : List ℕ) → Compiled 2 r a b t t′ q z m (decode l (drop 0 q) (drop 0 z)) → a ≡ cond w 0 1 → b ≡ cond (not w) 0 1
+    → Marked (ranOn t′ r q z ws vs m x) n ms y → Marked (judgedOn l q z ws vs m x w) n ms y
 unfolding judgedOn
-compiled-marks r a b t t′ xs xs′ q z ws vs m l x w n ms y c ea eb h =
+compiled-marks r a b t t′ q z ws vs m l x w n ms y c ea eb h =
     marked-same h refl (λ i k. let u = update (assigned vs (noPlaces vs)) 0 (tupleOf vs x i) in
-    c .means ws vs u ∙ ap₂ (λ (f g : Bool). cond (holdsBy m (decode l q z) (rowsBy ws vs) u) f g) (ends t xs q z ws vs m w a u ea) (ends t xs q z ws vs m (not w) b u eb) ∙ either w (holdsBy m (decode l q z) (rowsBy ws vs) u))
+    c .means ws vs u ∙ ap₂ (λ (f g : Bool). cond (holdsBy m (decode l q z) (rowsBy ws vs) u) f g) (ends t q z ws vs m w a u ea) (ends t q z ws vs m (not w) b u eb) ∙ either w (holdsBy m (decode l q z) (rowsBy ws vs) u))
   where
     either : (w h : Bool) → cond h w (not w) ≡ turned w h
     either true true = refl
@@ -98,7 +98,7 @@ module _ (q z ws : List ℕ) (vs m : List ℤ) (x : Walk) where
   module _ (l : ℕ) (r : ConditionRecord) (nz : l ≡ 0 → ⊥) (er : r ≡ conditionAt q) where
     opened : (w : Bool) (i : ℕ) (k : ConditionRecord) → r ≡ k → judgedOn l q z ws vs m x w i ≡ turned w (holdsBy m (conditionBy k (λ x y. decode (l - 1) x y) (λ x y. decodeT (l - 1) x y) q z) (rowsBy ws vs) (update (assigned vs (noPlaces vs)) 0 (tupleOf vs x i)))
     unfolding judgedOn
-    opened w i k h = ap (λ (c : Condition). turned w (holdsBy m c (rowsBy ws vs) (update (assigned vs (noPlaces vs)) 0 (tupleOf vs x i)))) (sym (condition-is m q l r nz er z) ∙ ap (λ (s : ConditionRecord). conditionBy s (λ x y. decode (l - 1) x y) (λ x y. decodeT (l - 1) x y) q z) h)
+    opened w i k h = ap (λ (c : Condition). turned w (holdsBy m c (rowsBy ws vs) (update (assigned vs (noPlaces vs)) 0 (tupleOf vs x i)))) (decode-step l q z k nz (sym er ∙ h))
 
     -- whether the first, and the second, holds with row i
     abbrev fst : ℕ → Bool

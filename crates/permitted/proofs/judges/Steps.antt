@@ -125,11 +125,11 @@ marked-over {f = f} {i = i} {r = r} {ms = ms} {x = x} h m l k = record {
         old ∙ same (f j) j one
 
 -- one row is tried
-pub row-marked : (t : List ℕ) (xs : List ℤ) (s : ℕ) (q z ws : List ℕ) (vs m : List ℤ) (d u : List ℕ) (x : Walk) (ms y : List ℕ) (i p r : ℕ) (b : Bool) → 256 ≤ length d → i < length ms → set d 0 (length vs) ≡ noPlaces vs → p ≡ x .base + i * x .width → u ≡ set d 0 p → b ≡ runs t xs q z ws vs m s (assigned vs u) → r ≡ cond b 1 (getD y i 0)
-    → Marked (ranOn t xs s q z ws vs m x) i ms y → Marked (ranOn t xs s q z ws vs m x) (i + 1) ms (set y i r)
-row-marked t xs s q z ws vs m d u x ms y i p r b ld l hd hp eu eb er my =
+pub row-marked : (t : List ℕ) (s : ℕ) (q z ws : List ℕ) (vs m : List ℤ) (d u : List ℕ) (x : Walk) (ms y : List ℕ) (i p r : ℕ) (b : Bool) → 256 ≤ length d → i < length ms → set d 0 (length vs) ≡ noPlaces vs → p ≡ x .base + i * x .width → u ≡ set d 0 p → b ≡ runs t q z ws vs m s (assigned vs u) → r ≡ cond b 1 (getD y i 0)
+    → Marked (ranOn t s q z ws vs m x) i ms y → Marked (ranOn t s q z ws vs m x) (i + 1) ms (set y i r)
+row-marked t s q z ws vs m d u x ms y i p r b ld l hd hp eu eb er my =
     let row : assigned vs u ≡ update (assigned vs (noPlaces vs)) 0 (tupleOf vs x i) = ap (assigned vs) eu ∙ assigned-set vs d 0 p (omega arith) ∙ places-alike vs d (noPlaces vs) 0 (length vs) (tupleAt vs p) hd ∙ ap (λ n. update (assigned vs (noPlaces vs)) 0 (tupleAt vs n)) hp in
-    marked-next (ranOn t xs s q z ws vs m x) i ms y r l my (er ∙ ap (λ c. cond c 1 (getD y i 0)) (eb ∙ ap (runs t xs q z ws vs m s) row))
+    marked-next (ranOn t s q z ws vs m x) i ms y r l my (er ∙ ap (λ c. cond c 1 (getD y i 0)) (eb ∙ ap (runs t q z ws vs m s) row))
 
 pub marked-from : {f : ℕ → Bool} {n : ℕ} {a b c : List ℕ} → b ≡ a → Marked f n b c → Marked f n a c
 marked-from {f = f} {n = n} {a = a} {b = b} {c = c} e h = subst (λ (u : List ℕ). Marked f n u c) e h

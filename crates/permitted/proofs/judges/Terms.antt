@@ -30,6 +30,7 @@ use Rattle.numbers.specs.Numbers.{valueOf, Number, ordered, Small}
 use Rattle.numbers.proofs.Laws.{value-some}
 use Rattle.numbers.specs.Memo.{knows, recalled}
 use Rattle.sizes.specs.Decode.{first, second, conditionBy, termBy, decode, decodeT}
+use Rattle.sizes.proofs.Decoding.{decode-step, decodeT-step}
 use Rattle.walks.specs.declared.Walk.{Walk}
 use Rattle.walks.specs.Walks.{rowsBy}
 use Rattle.numbers.specs.Recalled.{holdsBy, valueBy}
@@ -140,36 +141,20 @@ pub nothing-known : {A : Type 0} (k : Known) → k .known ≡ false → k .known
 nothing-known k h e = clash (sym h ∙ e)
 
 module _ (m : List ℤ) (q : List ℕ) (l : ℕ) (r : TermRecord) (nz : l ≡ 0 → ⊥) (er : r ≡ termAt q) where
-  pub term-is : (z : List ℕ) → termBy r (λ x y. decode (l - 1) x y) q z ≡ decodeT l q z
-  unfolding decode
-  term-is z = go l nz
-    where
-      go : (k : ℕ) → (k ≡ 0 → ⊥) → termBy r (λ x y. decode (k - 1) x y) q z ≡ decodeT k q z
-      go zero h = absurd (h refl)
-      go (suc k) h = rw (sub-one, er)
-
   pub constant-known : (k : Known) (x : Ratio) (y : ℤ) (a b c d : ℕ) → r ≡ T.Constant a b c d → y ≡ signed a b c d → valueOf x ≡ some (whole y) → k ≡ record { known = true; value = x } → (z : List ℕ) (R : Rows) (e : Assignment) → valueOf (k .value) ≡ valueBy m (decodeT l q z) R e
   unfolding holdsWith
   constant-known k x y a b c d h ey ex ek z R e =
-      ap (λ (u : Known). valueOf (u .value)) ek ∙ ex ∙ ap (λ n. some (whole n)) ey ∙ sym (ap (λ (t : Term). valueBy m t R e) (sym (term-is z) ∙ ap (λ (s : TermRecord). termBy s (λ x y. decode (l - 1) x y) q z) h))
+      ap (λ (u : Known). valueOf (u .value)) ek ∙ ex ∙ ap (λ n. some (whole n)) ey ∙ sym (ap (λ (t : Term). valueBy m t R e) (decodeT-step l q z _ nz (sym er ∙ h)))
 
   pub aggregate-known : (x : Ratio) (f v s a : ℕ) → r ≡ T.Aggregate f v s a → knows m v ≡ true → valueOf x ≡ recalled m v → (z : List ℕ) (R : Rows) (e : Assignment) → valueOf x ≡ valueBy m (decodeT l q z) R e
   unfolding holdsWith
-  aggregate-known x f v s a h k ex z R e = ex ∙ sym (ap (λ (t : Term). valueBy m t R e) (sym (term-is z) ∙ ap (λ (s : TermRecord). termBy s (λ x y. decode (l - 1) x y) q z) h) ∙ rw k)
+  aggregate-known x f v s a h k ex z R e = ex ∙ sym (ap (λ (t : Term). valueBy m t R e) (decodeT-step l q z _ nz (sym er ∙ h)) ∙ rw k)
 
   pub attribute-is : (v a : ℕ) → r ≡ T.Attribute v a → (z : List ℕ) (R : Rows) (e : Assignment) → valueBy m (decodeT l q z) R e ≡ some (whole (e v a))
   unfolding holdsWith
-  attribute-is v a h z R e = ap (λ (t : Term). valueBy m t R e) (sym (term-is z) ∙ ap (λ (s : TermRecord). termBy s (λ x y. decode (l - 1) x y) q z) h)
+  attribute-is v a h z R e = ap (λ (t : Term). valueBy m t R e) (decodeT-step l q z _ nz (sym er ∙ h))
 
 module _ (m : List ℤ) (q : List ℕ) (l : ℕ) (r : ConditionRecord) (nz : l ≡ 0 → ⊥) (er : r ≡ conditionAt q) where
-  pub condition-is : (z : List ℕ) → conditionBy r (λ x y. decode (l - 1) x y) (λ x y. decodeT (l - 1) x y) q z ≡ decode l q z
-  unfolding decode
-  condition-is z = go l nz
-    where
-      go : (k : ℕ) → (k ≡ 0 → ⊥) → conditionBy r (λ x y. decode (k - 1) x y) (λ x y. decodeT (k - 1) x y) q z ≡ decode k q z
-      go zero h = absurd (h refl)
-      go (suc k) h = rw (sub-one, er)
-
   pub compared-is : (o k a s v at : ℕ) (u w : List ℕ) (y : TermRecord) (x : Ratio) (z : List ℕ) → r ≡ C.Compare o → k ≡ getD q 0 0 → a ≡ recordLength k → s ≡ getD z a 0 → u ≡ drop a q → w ≡ drop (a + s) q → (l - 1 ≡ 0 → ⊥) → y ≡ termAt u → y ≡ T.Attribute v at → v ≡ 0
       → ((z : List ℕ) (R : Rows) (e : Assignment) → valueOf x ≡ valueBy m (decodeT (l - 1) w z) R e)
       → (ws : List ℕ) (vs : List ℤ) (g : Walk) (wanted : Bool) (i : ℕ) → turned wanted (compare o (some (whole (tupleOf vs g i at))) (valueOf x)) ≡ judgedOn l q z ws vs m g wanted i
@@ -181,7 +166,7 @@ module _ (m : List ℤ) (q : List ℕ) (l : ℕ) (r : ConditionRecord) (nz : l �
       let at-second : a + s ≡ second q z = ap (λ n. a + n) es ∙ ap (λ n. n + getD z n 0) at-first in
       let fst : valueBy m (decodeT (l - 1) (drop (first q) q) (drop (first q) z)) R E ≡ some (whole (tupleOf vs g i at)) = subst (λ (p : List ℕ). valueBy m (decodeT (l - 1) p (drop (first q) z)) R E ≡ some (whole (tupleOf vs g i at))) (eu ∙ ap (λ n. drop n q) at-first) (left u y nz′ ey hy E (drop (first q) z) ∙ ap (λ n. some (whole (E n at))) ev) in
       let snd : valueOf x ≡ valueBy m (decodeT (l - 1) (drop (second q z) q) (drop (second q z) z)) R E = subst (λ (p : List ℕ). valueOf x ≡ valueBy m (decodeT (l - 1) p (drop (second q z) z)) R E) (ew ∙ ap (λ n. drop n q) at-second) (hx (drop (second q z) z) R E) in
-      ap (turned wanted) (ap₂ (compare o) (sym fst) snd ∙ sym (ap (λ (c : Condition). holdsBy m c R E) (sym (condition-is z) ∙ ap (λ (s : ConditionRecord). conditionBy s (λ x y. decode (l - 1) x y) (λ x y. decodeT (l - 1) x y) q z) h)))
+      ap (turned wanted) (ap₂ (compare o) (sym fst) snd ∙ sym (ap (λ (c : Condition). holdsBy m c R E) (decode-step l q z _ nz (sym er ∙ h))))
     where
       left : (u : List ℕ) (y : TermRecord) → (l - 1 ≡ 0 → ⊥) → y ≡ termAt u → y ≡ T.Attribute v at → (E : Assignment) (z : List ℕ) → valueBy m (decodeT (l - 1) u z) (rowsBy ws vs) E ≡ some (whole (E v at))
       left u y nz′ ey hy E z = go (l - 1) nz′

@@ -13,7 +13,7 @@ use Rattle.permitted.proofs.part_at.Reads as part-at-reads
 returns : tie.Need-returns
 returns c =
     let c₅ = c .before .before .before .before .before in let args = c₅ .args in let pre = c₅ .pre in
-    turn-no (now (args .catalogue)) (now (args .values)) (part (now (args .list)) (now (args .places))) (args .relation) (args .mask) (args .k) _ (now (args .marks)) (c .if1 .taken) (pre .2)
+    turn-no (now (args .catalogue)) (now (args .values)) (part (now (args .permits)) (now (args .places))) (args .relation) (args .mask) (args .k) _ (now (args .marks)) (c .if1 .taken) (pre .2)
 
 judge-requires : tie.Need-judge-requires
 judge-requires c κs =
@@ -25,7 +25,7 @@ returns-2 c =
     let c₄ = c .before .before .before .before in let part-at = c₄ .part-at in
     let c₅ = c₄ .before in let if1 = c₅ .if1 in
     let c₁₀ = c₅ .before .before .before .before .before in let args = c₁₀ .args in
-    turn-yes (now (args .catalogue)) (now (args .values)) (part (now (args .list)) (now (args .places))) (args .relation) (args .mask) (args .k) _ _ (now (args .marks)) _ (if1 .left) (part-at .ensures) (c .before .before .judge .ensures)
+    turn-yes (now (args .catalogue)) (now (args .values)) (part (now (args .permits)) (now (args .places))) (args .relation) (args .mask) (args .k) _ _ (now (args .marks)) _ (if1 .left) (part-at .ensures) (c .before .before .judge .ensures)
 
 pub turn-spec : {M : Type 1} → statement M
 turn-spec = tie.close (tie.spec returns (λ c κs. search needs) judge-requires (λ c. search needs) returns-2)

@@ -1,20 +1,17 @@
 use native.Mathlib.Omega.{arith}
-use Rattle.model.proofs.Lists.{getD-same}
+use Rattle.plain.proofs.Tables.{all-clear}
 use borrow.Author.Needs.{needs}
 use Rattle.plain.proofs.answer_many.Statement.{statement}
 use Rattle.plain.proofs.answer_many.Tie as tie
-use Rattle.plain.proofs.answer_many.Reads as reads
-use Rattle.plain.proofs.answer_many.Lts as lts
-use Rattle.plain.proofs.answer_walked.Reads as answer-walked-reads
 
-answer-walked-requires : tie.Need-answer-walked-requires
-answer-walked-requires c κs = (search needs, search needs, omega arith, getD-same 20480 0)
+answer-in-requires : tie.Need-answer-in-requires
+answer-in-requires c κs = let pre = c .before .before .before .before .before .pre in (pre .0, pre .1, all-clear 21264 768 (omega arith) (omega arith) (omega arith))
 
 pub answer-many-spec : {M : Type 1} → statement M
 answer-many-spec =
     tie.close
     (tie.spec
     (λ c. search needs)
-    answer-walked-requires
+    answer-in-requires
     (λ c. search needs)
     (λ c. search needs))

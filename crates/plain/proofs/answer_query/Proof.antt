@@ -9,7 +9,7 @@ use Rattle.plain.proofs.answer_query.Reads as reads
 use Rattle.plain.proofs.answer_query.Lts as lts
 use Rattle.plain.proofs.answer_by.Reads as answer-by-reads
 use Rattle.plain.proofs.answer_filled.Reads as answer-filled-reads
-use Rattle.plain.proofs.answer_unlinked.Reads as answer-unlinked-reads
+use Rattle.plain.proofs.Tables.{all-clear}
 use Rattle.plain.proofs.few.Reads as few-reads
 use Rattle.plain.proofs.holding.Reads as holding-reads
 use Rattle.plain.proofs.most_rows.Reads as most-rows-reads
@@ -17,8 +17,8 @@ use Rattle.plain.proofs.most_rows.Reads as most-rows-reads
 answer-by-requires : tie.Need-answer-by-requires
 answer-by-requires c κs = (search needs, blank-trusted _ _ (getD-same 2 (pos 0)) _)
 
-answer-unlinked-requires : tie.Need-answer-unlinked-requires
-answer-unlinked-requires c κs = (search needs, blank-trusted _ _ (getD-same 2 (pos 0)) _, omega arith, getD-same 1 0)
+answer-in-requires : tie.Need-answer-in-requires
+answer-in-requires c κs = (search needs, blank-trusted _ _ (getD-same 2 (pos 0)) _, all-clear 785 768 (omega arith) (omega arith) (omega arith))
 
 pub answer-query-spec : {M : Type 1} → statement M
 answer-query-spec =
@@ -36,6 +36,6 @@ answer-query-spec =
     (λ c. search needs)
     (λ c. search needs)
     (λ c. search needs)
-    answer-unlinked-requires
+    answer-in-requires
     (λ c. search needs)
     (λ c. search needs))

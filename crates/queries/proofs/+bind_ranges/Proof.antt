@@ -1,23 +1,21 @@
 use borrow.Author.Needs.{needs}
 use native.Mathlib.Omega.{arith}
-use Prim.Native.Nat.{ℕ, _<_}
-use mathlib.Core.Path.{_≡_, refl, sym, ap, _∙_}
-use mathlib.Core.List.{[]}
+use mathlib.Core.Path.{_≡_}
 use denote.Ref.{now}
-use Rattle.model.specs.Lists.{all}
-use Rattle.model.specs.Scope.{knownBinding, inScopeT}
+use Rattle.model.specs.Scope.{knownBinding}
 use Rattle.conditions.specs.Reach.{scopeOf, shapeIn}
-use Rattle.queries.specs.Parts.{reachOn}
-use Rattle.queries.proofs.Steps.{none-known, range-unknown, range-known, none-bound, range-bound}
+use Rattle.queries.proofs.Steps.{none-left, other-here, range-here, none-known, more-known, none-bound, more-bound}
+use Prim.Native.Nat.{ℕ, _<_}
 use borrow.Fn.Kinds.{In}
 use borrow.Fn.PlainCycle.{Measures, is, falls, and}
 use Rattle.queries.proofs.bind_ranges.Reads as bind-ranges
 use Rattle.queries.proofs.bind_ranges.Kinds as bind-ranges-kinds
 use Rattle.queries.proofs.+bind_ranges.Lts-bind_ranges as bind-ranges-lts
-use Rattle.kinds.proofs.byte.Reads as byte-reads
+use Rattle.conditions.proofs.scope.enter.Reads as enter-reads
+use Rattle.kinds.proofs.head_record.Reads as head-record-reads
 use Rattle.kinds.proofs.record_length.Reads as record-length-reads
 use Rattle.kinds.proofs.tail.Reads as tail-reads
-use Rattle.conditions.proofs.scope.enter.Reads as enter-reads
+use Rattle.queries.proofs.both.Reads as both-reads
 use Rattle.queries.proofs.+bind_ranges.{statement}
 use Rattle.queries.proofs.+bind_ranges.Tie.{close}
 
@@ -33,13 +31,28 @@ bind-ranges-below t =
     and 3 bind-ranges-kinds.ps (falls 3 bind-ranges-kinds.ps _<_ μ-bind-ranges t) bind-ranges.Pre
 
 abbrev bind-ranges-claims : ℕ → bind-ranges-lts.Claims
-bind-ranges-claims t = (record-length-reads.Asked, record-length-reads.Learnt, tail-reads.Asked, tail-reads.Learnt, bind-ranges-below t, bind-ranges.Post, byte-reads.Asked, byte-reads.Learnt, enter-reads.Asked, enter-reads.Learnt)
+bind-ranges-claims t = (head-record-reads.Asked, head-record-reads.Learnt, record-length-reads.Asked, record-length-reads.Learnt, tail-reads.Asked, tail-reads.Learnt, bind-ranges-below t, bind-ranges.Post, enter-reads.Asked, enter-reads.Learnt, both-reads.Asked, both-reads.Learnt)
 
 bind-ranges-returns : (t : ℕ) → bind-ranges-lts.Need-returns (bind-ranges-claims t) (bind-ranges-at t) bind-ranges.Post
 bind-ranges-returns t c =
     let c₄ = c .before .before .before .before in let args = c₄ .args in
-    let ranges = now (args .ranges) in let left = args .left in
-    (none-known (knownBinding (shapeIn (now (args .catalogue))) (args .limit)) left ranges (c .if1 .taken), none-bound left ranges (scopeOf (now (args .reach))) (c .if1 .taken))
+    let e = none-left (args .left) (now (args .q)) (c .if1 .taken) in (none-known (knownBinding (shapeIn (now (args .catalogue))) (args .limit)) _ e, (none-bound _ (scopeOf (now (args .reach))) e, omega arith))
+
+bind-ranges-head-record-requires : (t : ℕ) → bind-ranges-lts.Need-head-record-requires (bind-ranges-claims t) (bind-ranges-at t) bind-ranges.Post
+bind-ranges-head-record-requires t c κs = search needs
+
+bind-ranges-enum-known-variable : (t : ℕ) → bind-ranges-lts.Need-enum-known-variable (bind-ranges-claims t) (bind-ranges-at t) bind-ranges.Post
+bind-ranges-enum-known-variable t c = search needs
+
+bind-ranges-enum-told : (t : ℕ) → bind-ranges-lts.Need-enum-told (bind-ranges-claims t) (bind-ranges-at t) bind-ranges.Post
+bind-ranges-enum-told t c = search needs
+
+bind-ranges-returns-2 : (t : ℕ) → bind-ranges-lts.Need-returns-2 (bind-ranges-claims t) (bind-ranges-at t) bind-ranges.Post
+bind-ranges-returns-2 t c =
+    let c₂ = c .before .before in let head-record = c₂ .head-record in
+    let c₃ = c₂ .before in let if1 = c₃ .if1 in
+    let c₇ = c₃ .before .before .before .before in let args = c₇ .args in
+    let e = other-here (args .left) (now (args .q)) (if1 .left) (head-record .result) (head-record .ensures) (c .enum-told .given .1) in (none-known (knownBinding (shapeIn (now (args .catalogue))) (args .limit)) _ e, (none-bound _ (scopeOf (now (args .reach))) e, omega arith))
 
 bind-ranges-record-length-requires : (t : ℕ) → bind-ranges-lts.Need-record-length-requires (bind-ranges-claims t) (bind-ranges-at t) bind-ranges.Post
 bind-ranges-record-length-requires t c κs = search needs
@@ -53,60 +66,46 @@ bind-ranges-sub-bind-ranges t c = search needs
 bind-ranges-bind-ranges-requires : (t : ℕ) → bind-ranges-lts.Need-bind-ranges-requires (bind-ranges-claims t) (bind-ranges-at t) bind-ranges.Post
 bind-ranges-bind-ranges-requires t c κs = search needs
 
-bind-ranges-byte-requires : (t : ℕ) → bind-ranges-lts.Need-byte-requires (bind-ranges-claims t) (bind-ranges-at t) bind-ranges.Post
-bind-ranges-byte-requires t c κs = search needs
-
-bind-ranges-byte-requires-2 : (t : ℕ) → bind-ranges-lts.Need-byte-requires-2 (bind-ranges-claims t) (bind-ranges-at t) bind-ranges.Post
-bind-ranges-byte-requires-2 t c κs = search needs
-
 bind-ranges-enter-requires : (t : ℕ) → bind-ranges-lts.Need-enter-requires (bind-ranges-claims t) (bind-ranges-at t) bind-ranges.Post
 bind-ranges-enter-requires t c κs = search needs
+
+bind-ranges-add-t13 : (t : ℕ) → bind-ranges-lts.Need-add-t13 (bind-ranges-claims t) (bind-ranges-at t) bind-ranges.Post
+bind-ranges-add-t13 t c = search needs
+
+bind-ranges-both-requires : (t : ℕ) → bind-ranges-lts.Need-both-requires (bind-ranges-claims t) (bind-ranges-at t) bind-ranges.Post
+bind-ranges-both-requires t c κs = search needs
 
 bind-ranges-same-length : (t : ℕ) → bind-ranges-lts.Need-same-length (bind-ranges-claims t) (bind-ranges-at t) bind-ranges.Post
 bind-ranges-same-length t c = search needs
 
-bind-ranges-returns-2 : (t : ℕ) → bind-ranges-lts.Need-returns-2 (bind-ranges-claims t) (bind-ranges-at t) bind-ranges.Post
-bind-ranges-returns-2 t c =
-    let c₃ = c .before .before .before in let enter = c₃ .enter in
-    let c₅ = c₃ .before .before in let byte2 = c₅ .byte2 in
-    let c₆ = c₅ .before in let byte = c₆ .byte in
-    let c₉ = c₆ .before .before .before in let bind-ranges = c₉ .bind-ranges in
-    let c₁₁ = c₉ .before .before in let tail = c₁₁ .tail in
-    let c₁₂ = c₁₁ .before in let record-length = c₁₂ .record-length in
-    let c₁₃ = c₁₂ .before in let if1 = c₁₃ .if1 in
-    let c₁₇ = c₁₃ .before .before .before .before in let args = c₁₇ .args in let pre = c₁₇ .pre in
-    let ranges = now (args .ranges) in let left = args .left in
-    (range-unknown (shapeIn (now (args .catalogue))) (args .limit) left ranges _ _ _ (if1 .left) (byte .ensures) (byte2 .ensures) (enter .ensures .0) (c .if2 .taken), range-bound left ranges (now (args .reach)) (bind-ranges .last .1 .1 .1 .1 .0) _ _ _ (byte .result) _ (if1 .left) (record-length .ensures .0) (tail .ensures) (bind-ranges .ensures .1) (byte .ensures) (byte2 .ensures) (omega (arith, pre .1, bind-ranges .kept .1 .1 .1 .1 .0, byte .ok)) (enter .ensures .1))
-
-bind-ranges-same-length-2 : (t : ℕ) → bind-ranges-lts.Need-same-length-2 (bind-ranges-claims t) (bind-ranges-at t) bind-ranges.Post
-bind-ranges-same-length-2 t c = search needs
-
 bind-ranges-returns-3 : (t : ℕ) → bind-ranges-lts.Need-returns-3 (bind-ranges-claims t) (bind-ranges-at t) bind-ranges.Post
 bind-ranges-returns-3 t c =
-    let c₃ = c .before .before .before in let enter = c₃ .enter in
-    let c₅ = c₃ .before .before in let byte2 = c₅ .byte2 in
-    let c₆ = c₅ .before in let byte = c₆ .byte in
-    let c₉ = c₆ .before .before .before in let bind-ranges = c₉ .bind-ranges in
-    let c₁₁ = c₉ .before .before in let tail = c₁₁ .tail in
-    let c₁₂ = c₁₁ .before in let record-length = c₁₂ .record-length in
-    let c₁₃ = c₁₂ .before in let if1 = c₁₃ .if1 in
-    let c₁₇ = c₁₃ .before .before .before .before in let args = c₁₇ .args in let pre = c₁₇ .pre in
-    let ranges = now (args .ranges) in let left = args .left in
-    (range-known (shapeIn (now (args .catalogue))) (args .limit) left ranges _ _ _ (if1 .left) (byte .ensures) (byte2 .ensures) (enter .ensures .0) _ _ _ (c .if2 .left) (record-length .ensures .0) (tail .ensures) (bind-ranges .ensures .0), range-bound left ranges (now (args .reach)) (bind-ranges .last .1 .1 .1 .1 .0) _ _ _ (byte .result) _ (if1 .left) (record-length .ensures .0) (tail .ensures) (bind-ranges .ensures .1) (byte .ensures) (byte2 .ensures) (omega (arith, pre .1, bind-ranges .kept .1 .1 .1 .1 .0, byte .ok)) (enter .ensures .1))
+    let c₄ = c .before .before .before .before in let enter = c₄ .enter in
+    let c₈ = c₄ .before .before .before .before in let bind-ranges = c₈ .bind-ranges in
+    let c₁₀ = c₈ .before .before in let tail = c₁₀ .tail in
+    let c₁₁ = c₁₀ .before in let record-length = c₁₁ .record-length in
+    let c₁₂ = c₁₁ .before in let known-told = c₁₂ .known-told in
+    let c₁₃ = c₁₂ .before in let variable = c₁₃ .variable in
+    let c₁₅ = c₁₃ .before .before in let head-record = c₁₅ .head-record in
+    let c₁₆ = c₁₅ .before in let if1 = c₁₆ .if1 in
+    let c₂₀ = c₁₆ .before .before .before .before in let args = c₂₀ .args in let pre = c₂₀ .pre in
+    let e = range-here (args .left) (now (args .q)) (if1 .left) (head-record .result) (head-record .ensures) _ _ (variable .given .1) _ _ (record-length .ensures .0) (tail .ensures) in (more-known (knownBinding (shapeIn (now (args .catalogue))) (args .limit)) _ _ _ e _ _ _ _ (bind-ranges .ensures .0 .0) (enter .ensures .0) (bind-ranges .ensures .0 .1) (c .both .ensures), (more-bound _ _ _ _ e (now (args .reach)) (bind-ranges .last .1 .1 .1 .1 .0) _ (bind-ranges .ensures .1 .0) (omega (arith, pre .1, bind-ranges .kept .1 .1 .1 .1 .0, known-told .given .0)) (enter .ensures .1), omega (arith, bind-ranges .ensures .1 .1, if1 .left)))
 
 pub +bind-ranges-spec : {M : Type 1} → statement M
 +bind-ranges-spec = close μ-bind-ranges λ t. bind-ranges-lts.spec (bind-ranges-claims t)
     (bind-ranges-at t)
     bind-ranges.Post
     (bind-ranges-returns t)
+    (bind-ranges-head-record-requires t)
+    (bind-ranges-enum-known-variable t)
+    (bind-ranges-enum-told t)
+    (bind-ranges-returns-2 t)
     (bind-ranges-record-length-requires t)
     (bind-ranges-tail-requires t)
     (bind-ranges-sub-bind-ranges t)
     (bind-ranges-bind-ranges-requires t)
-    (bind-ranges-byte-requires t)
-    (bind-ranges-byte-requires-2 t)
     (bind-ranges-enter-requires t)
+    (bind-ranges-add-t13 t)
+    (bind-ranges-both-requires t)
     (bind-ranges-same-length t)
-    (bind-ranges-returns-2 t)
-    (bind-ranges-same-length-2 t)
     (bind-ranges-returns-3 t)

@@ -4,7 +4,7 @@ use mathlib.Core.Path.{_≡_, refl, sym, ap, ap₂, subst, _∙_}
 use Prim.Native.Nat.{ℕ, _+_, _-_, _≤_, _<_}
 use mathlib.Core.List.{List, []}
 use lib.ListN.{length, getD}
-use Rattle.buckets.proofs.Laws.{cleared}
+use Rattle.model.proofs.Lists.{getD-same}
 use lib.ListN.{length-replicate}
 use borrow.Author.Needs.{needs}
 use Rattle.reader.proofs.read_long.Statement.{statement}
@@ -15,7 +15,7 @@ use Rattle.reader.proofs.read_with.Reads as read-with-reads
 
 read-with-requires : tie.Need-read-with-requires
 read-with-requires c κs =
-    (λ l. (omega (arith, l), omega (arith, l), omega (arith, l), omega (arith, l)), (omega arith, omega arith, cleared 4608))
+    (λ l. (omega (arith, l), omega (arith, l), omega (arith, l), omega (arith, l)), (omega arith, omega arith, getD-same 4608 0))
 
 pub read-long-spec : {M : Type 1} → statement M
 read-long-spec =

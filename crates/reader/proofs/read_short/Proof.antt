@@ -4,7 +4,7 @@ use mathlib.Core.Path.{_≡_, refl, sym, ap, ap₂, subst, _∙_}
 use Prim.Native.Nat.{ℕ, _+_, _-_, _≤_, _<_}
 use mathlib.Core.List.{List, []}
 use lib.ListN.{length, getD}
-use Rattle.buckets.proofs.Laws.{cleared}
+use Rattle.model.proofs.Lists.{getD-same}
 use lib.ListN.{length-replicate}
 use borrow.Author.Needs.{needs}
 use Rattle.reader.proofs.read_short.Statement.{statement}
@@ -16,7 +16,7 @@ use Rattle.reader.proofs.read_with.Reads as read-with-reads
 read-with-requires : tie.Need-read-with-requires
 read-with-requires c κs =
     let pre = c .before .before .before .before .before .before .before .before .before .pre in
-    (λ l. (omega (arith, pre), omega (arith, pre), omega (arith, pre), omega (arith, pre)), (omega arith, omega arith, cleared 768))
+    (λ l. (omega (arith, pre), omega (arith, pre), omega (arith, pre), omega (arith, pre)), (omega arith, omega arith, getD-same 768 0))
 
 pub read-short-spec : {M : Type 1} → statement M
 read-short-spec =

@@ -3,6 +3,7 @@ use native.Mathlib.Omega.{arith}
 use mathlib.Core.Path.{_≡_, refl, sym, ap, _∙_}
 use denote.Ref.{now}
 use Rattle.copier.specs.Guard.{part}
+use Rattle.queries.proofs.Steps.{none-left, other-here, range-here}
 use Rattle.rewriter.proofs.Sequences.{pair-first, pair-second, pair-did, no-guards, guard-first}
 use Prim.Native.Nat.{ℕ, _<_, _+_, _-_}
 use borrow.Fn.Kinds.{In}
@@ -11,7 +12,7 @@ use Rattle.rewriter.proofs.guard_ranges.Reads as guard-ranges
 use Rattle.rewriter.proofs.guard_ranges.Kinds as guard-ranges-kinds
 use Rattle.rewriter.proofs.+guard_ranges.Lts-guard_ranges as guard-ranges-lts
 use Rattle.rewriter.proofs.guard.write_guard.Reads as write-guard-reads
-use Rattle.kinds.proofs.byte.Reads as byte-reads
+use Rattle.kinds.proofs.head_record.Reads as head-record-reads
 use Rattle.kinds.proofs.record_length.Reads as record-length-reads
 use Rattle.kinds.proofs.tail.Reads as tail-reads
 use Rattle.rewriter.proofs.mask.Reads as mask-reads
@@ -34,24 +35,39 @@ guard-ranges-below t =
     guard-ranges.Pre
 
 abbrev guard-ranges-claims : ℕ → guard-ranges-lts.Claims
-guard-ranges-claims t = (byte-reads.Asked, byte-reads.Learnt, mask-reads.Asked, mask-reads.Learnt, write-guard-reads.Asked, write-guard-reads.Learnt, record-length-reads.Asked, record-length-reads.Learnt, tail-reads.Asked, tail-reads.Learnt, guard-ranges-below t, guard-ranges.Post)
+guard-ranges-claims t = (head-record-reads.Asked, head-record-reads.Learnt, mask-reads.Asked, mask-reads.Learnt, write-guard-reads.Asked, write-guard-reads.Learnt, record-length-reads.Asked, record-length-reads.Learnt, tail-reads.Asked, tail-reads.Learnt, guard-ranges-below t, guard-ranges.Post)
 
 guard-ranges-returns : (t : ℕ) → guard-ranges-lts.Need-returns (guard-ranges-claims t) (guard-ranges-at t) guard-ranges.Post
 guard-ranges-returns t c =
     let c₆ = c .before .before .before .before .before .before in let args = c₆ .args in
-    no-guards (now (args .masks)) (part (now (args .permits)) (now (args .places))) (args .left) (now (args .q)) (c .if1 .taken) (now (args .out)) (args .to .at) (args .to .next)
+    no-guards (now (args .masks)) (part (now (args .permits)) (now (args .places))) _ (none-left (args .left) (now (args .q)) (c .if1 .taken)) (now (args .out)) (args .to .at) (args .to .next)
 
-guard-ranges-byte-requires : (t : ℕ) → guard-ranges-lts.Need-byte-requires (guard-ranges-claims t) (guard-ranges-at t) guard-ranges.Post
-guard-ranges-byte-requires t c κs = search needs
+guard-ranges-head-record-requires : (t : ℕ) → guard-ranges-lts.Need-head-record-requires (guard-ranges-claims t) (guard-ranges-at t) guard-ranges.Post
+guard-ranges-head-record-requires t c κs = search needs
+
+guard-ranges-enum-known-v : (t : ℕ) → guard-ranges-lts.Need-enum-known-v (guard-ranges-claims t) (guard-ranges-at t) guard-ranges.Post
+guard-ranges-enum-known-v t c = search needs
+
+guard-ranges-enum-told : (t : ℕ) → guard-ranges-lts.Need-enum-told (guard-ranges-claims t) (guard-ranges-at t) guard-ranges.Post
+guard-ranges-enum-told t c = search needs
+
+guard-ranges-returns-2 : (t : ℕ) → guard-ranges-lts.Need-returns-2 (guard-ranges-claims t) (guard-ranges-at t) guard-ranges.Post
+guard-ranges-returns-2 t c =
+    let c₂ = c .before .before in let head-record = c₂ .head-record in
+    let c₃ = c₂ .before in let if1 = c₃ .if1 in
+    let c₉ = c₃ .before .before .before .before .before .before in let args = c₉ .args in
+    no-guards (now (args .masks)) (part (now (args .permits)) (now (args .places))) _ (other-here (args .left) (now (args .q)) (if1 .left) (head-record .result) (head-record .ensures) (c .enum-told .given .1)) (now (args .out)) (args .to .at) (args .to .next)
 
 guard-ranges-mask-requires : (t : ℕ) → guard-ranges-lts.Need-mask-requires (guard-ranges-claims t) (guard-ranges-at t) guard-ranges.Post
 guard-ranges-mask-requires t c κs = search needs
 
 guard-ranges-write-guard-requires : (t : ℕ) → guard-ranges-lts.Need-write-guard-requires (guard-ranges-claims t) (guard-ranges-at t) guard-ranges.Post
 guard-ranges-write-guard-requires t c κs =
-    let c₃ = c .before .before .before in let if1 = c₃ .if1 in
-    let c₉ = c₃ .before .before .before .before .before .before in let args = c₉ .args in let pre = c₉ .pre in
-    pair-first _ _ _ _ _ _ _ (guard-first (args .left) (now (args .q)) (if1 .left) _ refl _ refl _ (c .before .before .byte .ensures) (now (args .masks)) (part (now (args .permits)) (now (args .places))) _ (args .to .next) (c .mask .ensures)) (args .to .at) (pre .1)
+    let c₃ = c .before .before .before in let v = c₃ .v in
+    let c₅ = c₃ .before .before in let head-record = c₅ .head-record in
+    let c₆ = c₅ .before in let if1 = c₆ .if1 in
+    let c₁₂ = c₆ .before .before .before .before .before .before in let args = c₁₂ .args in let pre = c₁₂ .pre in
+    pair-first _ _ _ _ _ _ _ (guard-first _ _ _ _ (range-here (args .left) (now (args .q)) (if1 .left) (head-record .result) (head-record .ensures) _ _ (v .given .1) _ _ refl refl) (now (args .masks)) (part (now (args .permits)) (now (args .places))) _ (args .to .next) (c .mask .ensures)) (args .to .at) (pre .1)
 
 guard-ranges-record-length-requires : (t : ℕ) → guard-ranges-lts.Need-record-length-requires (guard-ranges-claims t) (guard-ranges-at t) guard-ranges.Post
 guard-ranges-record-length-requires t c κs = search needs
@@ -66,31 +82,36 @@ guard-ranges-guard-ranges-requires : (t : ℕ) → guard-ranges-lts.Need-guard-r
 guard-ranges-guard-ranges-requires t c κs =
     let c₅ = c .before .before .before .before .before in let write-guard = c₅ .write-guard in
     let c₆ = c₅ .before in let mask = c₆ .mask in
-    let c₈ = c₆ .before .before in let byte = c₈ .byte in
-    let c₉ = c₈ .before in let if1 = c₉ .if1 in
-    let c₁₅ = c₉ .before .before .before .before .before .before in let args = c₁₅ .args in let pre = c₁₅ .pre in
-    (omega (arith, pre .0, if1 .left), pair-second _ _ _ _ _ _ _ (guard-first (args .left) (now (args .q)) (if1 .left) _ (c .before .before .record-length .ensures .0) _ (c .before .tail .ensures) _ (byte .ensures) (now (args .masks)) (part (now (args .permits)) (now (args .places))) _ (args .to .next) (mask .ensures)) (args .to .at) (now (args .out)) _ _ _ (write-guard .ensures) (pre .1))
+    let c₉ = c₆ .before .before .before in let v = c₉ .v in
+    let c₁₁ = c₉ .before .before in let head-record = c₁₁ .head-record in
+    let c₁₂ = c₁₁ .before in let if1 = c₁₂ .if1 in
+    let c₁₈ = c₁₂ .before .before .before .before .before .before in let args = c₁₈ .args in let pre = c₁₈ .pre in
+    (omega (arith, pre .0, if1 .left), pair-second _ _ _ _ _ _ _ (guard-first _ _ _ _ (range-here (args .left) (now (args .q)) (if1 .left) (head-record .result) (head-record .ensures) _ _ (v .given .1) _ _ (c .before .before .record-length .ensures .0) (c .before .tail .ensures)) (now (args .masks)) (part (now (args .permits)) (now (args .places))) _ (args .to .next) (mask .ensures)) (args .to .at) (now (args .out)) _ _ _ (write-guard .ensures) (pre .1))
 
 guard-ranges-same-length : (t : ℕ) → guard-ranges-lts.Need-same-length (guard-ranges-claims t) (guard-ranges-at t) guard-ranges.Post
 guard-ranges-same-length t c = search needs
 
-guard-ranges-returns-2 : (t : ℕ) → guard-ranges-lts.Need-returns-2 (guard-ranges-claims t) (guard-ranges-at t) guard-ranges.Post
-guard-ranges-returns-2 t c =
+guard-ranges-returns-3 : (t : ℕ) → guard-ranges-lts.Need-returns-3 (guard-ranges-claims t) (guard-ranges-at t) guard-ranges.Post
+guard-ranges-returns-3 t c =
     let c₄ = c .before .before .before .before in let tail = c₄ .tail in
     let c₅ = c₄ .before in let record-length = c₅ .record-length in
     let c₈ = c₅ .before .before .before in let write-guard = c₈ .write-guard in
     let c₉ = c₈ .before in let mask = c₉ .mask in
-    let c₁₁ = c₉ .before .before in let byte = c₁₁ .byte in
-    let c₁₂ = c₁₁ .before in let if1 = c₁₂ .if1 in
-    let c₁₈ = c₁₂ .before .before .before .before .before .before in let args = c₁₈ .args in
-    pair-did _ _ _ _ _ _ _ (guard-first (args .left) (now (args .q)) (if1 .left) _ (record-length .ensures .0) _ (tail .ensures) _ (byte .ensures) (now (args .masks)) (part (now (args .permits)) (now (args .places))) _ (args .to .next) (mask .ensures)) (args .to .at) (now (args .out)) _ _ _ (write-guard .ensures) _ _ _ (c .before .before .guard-ranges .ensures)
+    let c₁₂ = c₉ .before .before .before in let v = c₁₂ .v in
+    let c₁₄ = c₁₂ .before .before in let head-record = c₁₄ .head-record in
+    let c₁₅ = c₁₄ .before in let if1 = c₁₅ .if1 in
+    let c₂₁ = c₁₅ .before .before .before .before .before .before in let args = c₂₁ .args in
+    pair-did _ _ _ _ _ _ _ (guard-first _ _ _ _ (range-here (args .left) (now (args .q)) (if1 .left) (head-record .result) (head-record .ensures) _ _ (v .given .1) _ _ (record-length .ensures .0) (tail .ensures)) (now (args .masks)) (part (now (args .permits)) (now (args .places))) _ (args .to .next) (mask .ensures)) (args .to .at) (now (args .out)) _ _ _ (write-guard .ensures) _ _ _ (c .before .before .guard-ranges .ensures)
 
 pub +guard-ranges-spec : {M : Type 1} → statement M
 +guard-ranges-spec = close μ-guard-ranges λ t. guard-ranges-lts.spec (guard-ranges-claims t)
     (guard-ranges-at t)
     guard-ranges.Post
     (guard-ranges-returns t)
-    (guard-ranges-byte-requires t)
+    (guard-ranges-head-record-requires t)
+    (guard-ranges-enum-known-v t)
+    (guard-ranges-enum-told t)
+    (guard-ranges-returns-2 t)
     (guard-ranges-mask-requires t)
     (guard-ranges-write-guard-requires t)
     (guard-ranges-record-length-requires t)
@@ -98,4 +119,4 @@ pub +guard-ranges-spec : {M : Type 1} → statement M
     (guard-ranges-sub-guard-ranges t)
     (guard-ranges-guard-ranges-requires t)
     (guard-ranges-same-length t)
-    (guard-ranges-returns-2 t)
+    (guard-ranges-returns-3 t)

@@ -3,6 +3,7 @@ use native.Mathlib.Omega.{arith}
 use mathlib.Core.Path.{_≡_, refl, sym, ap, _∙_}
 use denote.Ref.{now}
 use Rattle.copier.specs.Guard.{part}
+use Rattle.queries.proofs.Steps.{none-left, other-here, range-here}
 use Rattle.rewriter.proofs.Sequences.{two-first, two-second, two-wrote, no-openings, opening-last}
 use Rattle.copier.proofs.Sets.{wrote-nothing}
 use lib.ListN.{getD}
@@ -13,7 +14,7 @@ use Rattle.rewriter.proofs.open_ranges.Reads as open-ranges
 use Rattle.rewriter.proofs.open_ranges.Kinds as open-ranges-kinds
 use Rattle.rewriter.proofs.+open_ranges.Lts-open_ranges as open-ranges-lts
 use Rattle.rewriter.proofs.guard.open_guard.Reads as open-guard-reads
-use Rattle.kinds.proofs.byte.Reads as byte-reads
+use Rattle.kinds.proofs.head_record.Reads as head-record-reads
 use Rattle.kinds.proofs.record_length.Reads as record-length-reads
 use Rattle.kinds.proofs.tail.Reads as tail-reads
 use Rattle.rewriter.proofs.mask.Reads as mask-reads
@@ -32,12 +33,28 @@ open-ranges-below t =
     and 3 open-ranges-kinds.ps (falls 3 open-ranges-kinds.ps _<_ μ-open-ranges t) open-ranges.Pre
 
 abbrev open-ranges-claims : ℕ → open-ranges-lts.Claims
-open-ranges-claims t = (record-length-reads.Asked, record-length-reads.Learnt, tail-reads.Asked, tail-reads.Learnt, open-ranges-below t, open-ranges.Post, byte-reads.Asked, byte-reads.Learnt, mask-reads.Asked, mask-reads.Learnt, open-guard-reads.Asked, open-guard-reads.Learnt)
+open-ranges-claims t = (head-record-reads.Asked, head-record-reads.Learnt, record-length-reads.Asked, record-length-reads.Learnt, tail-reads.Asked, tail-reads.Learnt, open-ranges-below t, open-ranges.Post, mask-reads.Asked, mask-reads.Learnt, open-guard-reads.Asked, open-guard-reads.Learnt)
 
 open-ranges-returns : (t : ℕ) → open-ranges-lts.Need-returns (open-ranges-claims t) (open-ranges-at t) open-ranges.Post
 open-ranges-returns t c =
     let c₄ = c .before .before .before .before in let args = c₄ .args in
-    wrote-nothing (now (args .out)) (args .at) _ (no-openings (now (args .masks)) (args .left) (now (args .q)) (c .if1 .taken))
+    wrote-nothing (now (args .out)) (args .at) _ (no-openings (now (args .masks)) _ (none-left (args .left) (now (args .q)) (c .if1 .taken)))
+
+open-ranges-head-record-requires : (t : ℕ) → open-ranges-lts.Need-head-record-requires (open-ranges-claims t) (open-ranges-at t) open-ranges.Post
+open-ranges-head-record-requires t c κs = search needs
+
+open-ranges-enum-known-variable : (t : ℕ) → open-ranges-lts.Need-enum-known-variable (open-ranges-claims t) (open-ranges-at t) open-ranges.Post
+open-ranges-enum-known-variable t c = search needs
+
+open-ranges-enum-told : (t : ℕ) → open-ranges-lts.Need-enum-told (open-ranges-claims t) (open-ranges-at t) open-ranges.Post
+open-ranges-enum-told t c = search needs
+
+open-ranges-returns-2 : (t : ℕ) → open-ranges-lts.Need-returns-2 (open-ranges-claims t) (open-ranges-at t) open-ranges.Post
+open-ranges-returns-2 t c =
+    let c₂ = c .before .before in let head-record = c₂ .head-record in
+    let c₃ = c₂ .before in let if1 = c₃ .if1 in
+    let c₇ = c₃ .before .before .before .before in let args = c₇ .args in
+    wrote-nothing (now (args .out)) (args .at) _ (no-openings (now (args .masks)) _ (other-here (args .left) (now (args .q)) (if1 .left) (head-record .result) (head-record .ensures) (c .enum-told .given .1)))
 
 open-ranges-record-length-requires : (t : ℕ) → open-ranges-lts.Need-record-length-requires (open-ranges-claims t) (open-ranges-at t) open-ranges.Post
 open-ranges-record-length-requires t c κs = search needs
@@ -50,50 +67,55 @@ open-ranges-sub-open-ranges t c = search needs
 
 open-ranges-open-ranges-requires : (t : ℕ) → open-ranges-lts.Need-open-ranges-requires (open-ranges-claims t) (open-ranges-at t) open-ranges.Post
 open-ranges-open-ranges-requires t c κs =
-    let c₃ = c .before .before .before in let if1 = c₃ .if1 in
-    let c₇ = c₃ .before .before .before .before in let args = c₇ .args in let pre = c₇ .pre in
-    (omega (arith, pre .0, if1 .left), two-first _ _ _ (opening-last (args .left) (now (args .q)) (if1 .left) _ (c .before .before .record-length .ensures .0) _ (c .before .tail .ensures) _ refl (now (args .masks)) _ refl) (args .at) (pre .1))
-
-open-ranges-byte-requires : (t : ℕ) → open-ranges-lts.Need-byte-requires (open-ranges-claims t) (open-ranges-at t) open-ranges.Post
-open-ranges-byte-requires t c κs = search needs
+    let c₄ = c .before .before .before .before in let variable = c₄ .variable in
+    let c₆ = c₄ .before .before in let head-record = c₆ .head-record in
+    let c₇ = c₆ .before in let if1 = c₇ .if1 in
+    let c₁₁ = c₇ .before .before .before .before in let args = c₁₁ .args in let pre = c₁₁ .pre in
+    (omega (arith, pre .0, if1 .left), two-first _ _ _ (opening-last _ _ _ _ (range-here (args .left) (now (args .q)) (if1 .left) (head-record .result) (head-record .ensures) _ _ (variable .given .1) _ _ (c .before .before .record-length .ensures .0) (c .before .tail .ensures)) (now (args .masks)) _ refl) (args .at) (pre .1))
 
 open-ranges-mask-requires : (t : ℕ) → open-ranges-lts.Need-mask-requires (open-ranges-claims t) (open-ranges-at t) open-ranges.Post
 open-ranges-mask-requires t c κs = search needs
 
 open-ranges-open-guard-requires : (t : ℕ) → open-ranges-lts.Need-open-guard-requires (open-ranges-claims t) (open-ranges-at t) open-ranges.Post
 open-ranges-open-guard-requires t c κs =
-    let c₅ = c .before .before .before .before .before in let open-ranges = c₅ .open-ranges in
-    let c₇ = c₅ .before .before in let tail = c₇ .tail in
-    let c₈ = c₇ .before in let record-length = c₈ .record-length in
-    let c₉ = c₈ .before in let if1 = c₉ .if1 in
-    let c₁₃ = c₉ .before .before .before .before in let args = c₁₃ .args in let pre = c₁₃ .pre in
-    two-second _ _ _ (opening-last (args .left) (now (args .q)) (if1 .left) _ (record-length .ensures .0) _ (tail .ensures) _ (c .before .byte .ensures) (now (args .masks)) _ (c .mask .ensures)) (args .at) (pre .1) (now (args .out)) _ _ (open-ranges .ensures)
+    let c₄ = c .before .before .before .before in let open-ranges = c₄ .open-ranges in
+    let c₆ = c₄ .before .before in let tail = c₆ .tail in
+    let c₇ = c₆ .before in let record-length = c₇ .record-length in
+    let c₉ = c₇ .before .before in let variable = c₉ .variable in
+    let c₁₁ = c₉ .before .before in let head-record = c₁₁ .head-record in
+    let c₁₂ = c₁₁ .before in let if1 = c₁₂ .if1 in
+    let c₁₆ = c₁₂ .before .before .before .before in let args = c₁₆ .args in let pre = c₁₆ .pre in
+    two-second _ _ _ (opening-last _ _ _ _ (range-here (args .left) (now (args .q)) (if1 .left) (head-record .result) (head-record .ensures) _ _ (variable .given .1) _ _ (record-length .ensures .0) (tail .ensures)) (now (args .masks)) _ (c .mask .ensures)) (args .at) (pre .1) (now (args .out)) _ _ (open-ranges .ensures)
 
 open-ranges-same-length : (t : ℕ) → open-ranges-lts.Need-same-length (open-ranges-claims t) (open-ranges-at t) open-ranges.Post
 open-ranges-same-length t c = search needs
 
-open-ranges-returns-2 : (t : ℕ) → open-ranges-lts.Need-returns-2 (open-ranges-claims t) (open-ranges-at t) open-ranges.Post
-open-ranges-returns-2 t c =
+open-ranges-returns-3 : (t : ℕ) → open-ranges-lts.Need-returns-3 (open-ranges-claims t) (open-ranges-at t) open-ranges.Post
+open-ranges-returns-3 t c =
     let c₃ = c .before .before .before in let mask = c₃ .mask in
-    let c₄ = c₃ .before in let byte = c₄ .byte in
-    let c₈ = c₄ .before .before .before .before in let open-ranges = c₈ .open-ranges in
-    let c₁₀ = c₈ .before .before in let tail = c₁₀ .tail in
-    let c₁₁ = c₁₀ .before in let record-length = c₁₁ .record-length in
-    let c₁₂ = c₁₁ .before in let if1 = c₁₂ .if1 in
-    let c₁₆ = c₁₂ .before .before .before .before in let args = c₁₆ .args in
-    two-wrote _ _ _ (opening-last (args .left) (now (args .q)) (if1 .left) _ (record-length .ensures .0) _ (tail .ensures) _ (byte .ensures) (now (args .masks)) _ (mask .ensures)) (now (args .out)) (args .at) _ _ (open-ranges .ensures) _ _ (c .before .before .open-guard .ensures)
+    let c₇ = c₃ .before .before .before .before in let open-ranges = c₇ .open-ranges in
+    let c₉ = c₇ .before .before in let tail = c₉ .tail in
+    let c₁₀ = c₉ .before in let record-length = c₁₀ .record-length in
+    let c₁₂ = c₁₀ .before .before in let variable = c₁₂ .variable in
+    let c₁₄ = c₁₂ .before .before in let head-record = c₁₄ .head-record in
+    let c₁₅ = c₁₄ .before in let if1 = c₁₅ .if1 in
+    let c₁₉ = c₁₅ .before .before .before .before in let args = c₁₉ .args in
+    two-wrote _ _ _ (opening-last _ _ _ _ (range-here (args .left) (now (args .q)) (if1 .left) (head-record .result) (head-record .ensures) _ _ (variable .given .1) _ _ (record-length .ensures .0) (tail .ensures)) (now (args .masks)) _ (mask .ensures)) (now (args .out)) (args .at) _ _ (open-ranges .ensures) _ _ (c .before .before .open-guard .ensures)
 
 pub +open-ranges-spec : {M : Type 1} → statement M
 +open-ranges-spec = close μ-open-ranges λ t. open-ranges-lts.spec (open-ranges-claims t)
     (open-ranges-at t)
     open-ranges.Post
     (open-ranges-returns t)
+    (open-ranges-head-record-requires t)
+    (open-ranges-enum-known-variable t)
+    (open-ranges-enum-told t)
+    (open-ranges-returns-2 t)
     (open-ranges-record-length-requires t)
     (open-ranges-tail-requires t)
     (open-ranges-sub-open-ranges t)
     (open-ranges-open-ranges-requires t)
-    (open-ranges-byte-requires t)
     (open-ranges-mask-requires t)
     (open-ranges-open-guard-requires t)
     (open-ranges-same-length t)
-    (open-ranges-returns-2 t)
+    (open-ranges-returns-3 t)

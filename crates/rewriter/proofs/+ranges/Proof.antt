@@ -3,6 +3,7 @@ use native.Mathlib.Omega.{arith}
 use mathlib.Core.Path.{_≡_, refl, sym, ap, _∙_}
 use denote.Ref.{now}
 use Rattle.copier.specs.Guard.{part}
+use Rattle.queries.proofs.Steps.{none-left, other-here, range-here}
 use Rattle.rewriter.proofs.Sequences.{two-first, two-second, two-wrote, no-ranges, range-first}
 use Rattle.copier.proofs.Sets.{wrote-nothing}
 use Prim.Native.Nat.{ℕ, _<_, _+_, _-_}
@@ -12,7 +13,7 @@ use Rattle.rewriter.proofs.ranges.Reads as ranges
 use Rattle.rewriter.proofs.ranges.Kinds as ranges-kinds
 use Rattle.rewriter.proofs.+ranges.Lts-ranges as ranges-lts
 use Rattle.copier.proofs.put_record.Reads as put-record-reads
-use Rattle.kinds.proofs.byte.Reads as byte-reads
+use Rattle.kinds.proofs.head_record.Reads as head-record-reads
 use Rattle.kinds.proofs.record_length.Reads as record-length-reads
 use Rattle.kinds.proofs.tail.Reads as tail-reads
 use Rattle.rewriter.proofs.+ranges.{statement}
@@ -28,22 +29,33 @@ abbrev ranges-below : ℕ → In 2 ranges-kinds.ps
 ranges-below t = and 2 ranges-kinds.ps (falls 2 ranges-kinds.ps _<_ μ-ranges t) ranges.Pre
 
 abbrev ranges-claims : ℕ → ranges-lts.Claims
-ranges-claims t = (byte-reads.Asked, byte-reads.Learnt, put-record-reads.Asked, put-record-reads.Learnt, record-length-reads.Asked, record-length-reads.Learnt, tail-reads.Asked, tail-reads.Learnt, ranges-below t, ranges.Post)
+ranges-claims t = (head-record-reads.Asked, head-record-reads.Learnt, put-record-reads.Asked, put-record-reads.Learnt, record-length-reads.Asked, record-length-reads.Learnt, tail-reads.Asked, tail-reads.Learnt, ranges-below t, ranges.Post)
 
 ranges-returns : (t : ℕ) → ranges-lts.Need-returns (ranges-claims t) (ranges-at t) ranges.Post
-ranges-returns t c = wrote-nothing (now (c .before .before .before .args .out)) (c .before .before .before .args .at) _ (no-ranges (c .before .before .before .args .left) (now (c .before .before .before .args .q)) (c .if1 .taken))
+ranges-returns t c = wrote-nothing (now (c .before .before .before .args .out)) (c .before .before .before .args .at) _ (no-ranges _ (none-left (c .before .before .before .args .left) (now (c .before .before .before .args .q)) (c .if1 .taken)))
 
-ranges-byte-requires : (t : ℕ) → ranges-lts.Need-byte-requires (ranges-claims t) (ranges-at t) ranges.Post
-ranges-byte-requires t c κs = search needs
+ranges-head-record-requires : (t : ℕ) → ranges-lts.Need-head-record-requires (ranges-claims t) (ranges-at t) ranges.Post
+ranges-head-record-requires t c κs = search needs
 
-ranges-byte-requires-2 : (t : ℕ) → ranges-lts.Need-byte-requires-2 (ranges-claims t) (ranges-at t) ranges.Post
-ranges-byte-requires-2 t c κs = search needs
+ranges-enum-known-variable : (t : ℕ) → ranges-lts.Need-enum-known-variable (ranges-claims t) (ranges-at t) ranges.Post
+ranges-enum-known-variable t c = search needs
+
+ranges-enum-told : (t : ℕ) → ranges-lts.Need-enum-told (ranges-claims t) (ranges-at t) ranges.Post
+ranges-enum-told t c = search needs
+
+ranges-returns-2 : (t : ℕ) → ranges-lts.Need-returns-2 (ranges-claims t) (ranges-at t) ranges.Post
+ranges-returns-2 t c =
+    let c₂ = c .before .before in let head-record = c₂ .head-record in
+    let c₃ = c₂ .before in let if1 = c₃ .if1 in
+    let c₆ = c₃ .before .before .before in let args = c₆ .args in
+    wrote-nothing (now (args .out)) (args .at) _ (no-ranges _ (other-here (args .left) (now (args .q)) (if1 .left) (head-record .result) (head-record .ensures) (c .enum-told .given .1)))
 
 ranges-put-record-requires : (t : ℕ) → ranges-lts.Need-put-record-requires (ranges-claims t) (ranges-at t) ranges.Post
 ranges-put-record-requires t c κs =
-    let c₃ = c .before .before .before in let if1 = c₃ .if1 in
-    let c₆ = c₃ .before .before .before in let args = c₆ .args in let pre = c₆ .pre in
-    two-first _ _ _ (range-first (args .left) (now (args .q)) (if1 .left) _ refl _ refl _ (c .before .byte .ensures) _ (c .byte2 .ensures)) (args .at) (pre .1)
+    let c₄ = c .before .before .before .before in let head-record = c₄ .head-record in
+    let c₅ = c₄ .before in let if1 = c₅ .if1 in
+    let c₈ = c₅ .before .before .before in let args = c₈ .args in let pre = c₈ .pre in
+    two-first _ _ _ (range-first _ _ _ _ (range-here (args .left) (now (args .q)) (if1 .left) (head-record .result) (head-record .ensures) _ _ (c .before .before .variable .given .1) _ _ refl refl)) (args .at) (pre .1)
 
 ranges-record-length-requires : (t : ℕ) → ranges-lts.Need-record-length-requires (ranges-claims t) (ranges-at t) ranges.Post
 ranges-record-length-requires t c κs = search needs
@@ -57,37 +69,39 @@ ranges-sub-ranges t c = search needs
 ranges-ranges-requires : (t : ℕ) → ranges-lts.Need-ranges-requires (ranges-claims t) (ranges-at t) ranges.Post
 ranges-ranges-requires t c κs =
     let c₅ = c .before .before .before .before .before in let put-record = c₅ .put-record in
-    let c₆ = c₅ .before in let byte2 = c₆ .byte2 in
-    let c₇ = c₆ .before in let byte = c₇ .byte in
-    let c₉ = c₇ .before .before in let if1 = c₉ .if1 in
-    let c₁₂ = c₉ .before .before .before in let args = c₁₂ .args in let pre = c₁₂ .pre in
-    (omega (arith, pre .0, if1 .left), two-second _ _ _ (range-first (args .left) (now (args .q)) (if1 .left) _ (c .before .before .record-length .ensures .0) _ (c .before .tail .ensures) _ (byte .ensures) _ (byte2 .ensures)) (args .at) (pre .1) (now (args .out)) _ _ (put-record .ensures))
+    let c₈ = c₅ .before .before .before in let variable = c₈ .variable in
+    let c₁₀ = c₈ .before .before in let head-record = c₁₀ .head-record in
+    let c₁₁ = c₁₀ .before in let if1 = c₁₁ .if1 in
+    let c₁₄ = c₁₁ .before .before .before in let args = c₁₄ .args in let pre = c₁₄ .pre in
+    (omega (arith, pre .0, if1 .left), two-second _ _ _ (range-first _ _ _ _ (range-here (args .left) (now (args .q)) (if1 .left) (head-record .result) (head-record .ensures) _ _ (variable .given .1) _ _ (c .before .before .record-length .ensures .0) (c .before .tail .ensures))) (args .at) (pre .1) (now (args .out)) _ _ (put-record .ensures))
 
 ranges-same-length : (t : ℕ) → ranges-lts.Need-same-length (ranges-claims t) (ranges-at t) ranges.Post
 ranges-same-length t c = search needs
 
-ranges-returns-2 : (t : ℕ) → ranges-lts.Need-returns-2 (ranges-claims t) (ranges-at t) ranges.Post
-ranges-returns-2 t c =
+ranges-returns-3 : (t : ℕ) → ranges-lts.Need-returns-3 (ranges-claims t) (ranges-at t) ranges.Post
+ranges-returns-3 t c =
     let c₄ = c .before .before .before .before in let tail = c₄ .tail in
     let c₅ = c₄ .before in let record-length = c₅ .record-length in
     let c₈ = c₅ .before .before .before in let put-record = c₈ .put-record in
-    let c₉ = c₈ .before in let byte2 = c₉ .byte2 in
-    let c₁₀ = c₉ .before in let byte = c₁₀ .byte in
-    let c₁₂ = c₁₀ .before .before in let if1 = c₁₂ .if1 in
-    let c₁₅ = c₁₂ .before .before .before in let args = c₁₅ .args in
-    two-wrote _ _ _ (range-first (args .left) (now (args .q)) (if1 .left) _ (record-length .ensures .0) _ (tail .ensures) _ (byte .ensures) _ (byte2 .ensures)) (now (args .out)) (args .at) _ _ (put-record .ensures) _ _ (c .before .before .ranges .ensures)
+    let c₁₁ = c₈ .before .before .before in let variable = c₁₁ .variable in
+    let c₁₃ = c₁₁ .before .before in let head-record = c₁₃ .head-record in
+    let c₁₄ = c₁₃ .before in let if1 = c₁₄ .if1 in
+    let c₁₇ = c₁₄ .before .before .before in let args = c₁₇ .args in
+    two-wrote _ _ _ (range-first _ _ _ _ (range-here (args .left) (now (args .q)) (if1 .left) (head-record .result) (head-record .ensures) _ _ (variable .given .1) _ _ (record-length .ensures .0) (tail .ensures))) (now (args .out)) (args .at) _ _ (put-record .ensures) _ _ (c .before .before .ranges .ensures)
 
 pub +ranges-spec : {M : Type 1} → statement M
 +ranges-spec = close μ-ranges λ t. ranges-lts.spec (ranges-claims t)
     (ranges-at t)
     ranges.Post
     (ranges-returns t)
-    (ranges-byte-requires t)
-    (ranges-byte-requires-2 t)
+    (ranges-head-record-requires t)
+    (ranges-enum-known-variable t)
+    (ranges-enum-told t)
+    (ranges-returns-2 t)
     (ranges-put-record-requires t)
     (ranges-record-length-requires t)
     (ranges-tail-requires t)
     (ranges-sub-ranges t)
     (ranges-ranges-requires t)
     (ranges-same-length t)
-    (ranges-returns-2 t)
+    (ranges-returns-3 t)

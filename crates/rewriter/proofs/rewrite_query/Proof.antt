@@ -5,8 +5,7 @@ use Rattle.copier.specs.Guard.{part}
 use Rattle.rewriter.proofs.Sequences.{ranges-room, targets-room, openings-room, condition-room, guards-room, query-done, query-whole}
 use lib.ListN.{length}
 use lib.Seq.{length-sets}
-use Rattle.queries.specs.Parts.{queryAt}
-use Rattle.rewriter.specs.Parts.{queryBytes}
+use Rattle.rewriter.specs.Parts.{queryRead, queryBytes}
 use borrow.Author.Needs.{needs}
 use Rattle.rewriter.proofs.rewrite_query.Statement.{statement}
 use Rattle.rewriter.proofs.rewrite_query.Tie as tie
@@ -75,7 +74,7 @@ same-length c =
     let c₂₂ = c₁₉ .before .before .before in let ranges = c₂₂ .ranges in
     let c₃₀ = c₂₂ .before .before .before .before .before .before .before .before in let args = c₃₀ .args in let pre = c₃₀ .pre in
     let masks = now (args .masks) in let out = now (args .out) in let permits = now (args .permits) in let places = now (args .places) in let q = now (args .q) in let z = now (args .z) in let layout = args .layout in let level = args .level in
-    ap length (query-done _ _ _ _ _ _ _ _ _ _ (query-whole masks (part permits places) layout level q z _ _ (tail .ensures) (tail-sizes .ensures) _ _ (tail2 .ensures) (tail-sizes2 .ensures)) (pre) out _ _ (ranges .ensures) _ _ _ (targets .ensures) _ _ (open-ranges .ensures) _ _ _ (condition .ensures) _ _ _ (c .before .before .guard-ranges .ensures) .1) ∙ length-sets out 0 (queryBytes masks (part permits places) (queryAt layout level q z))
+    ap length (query-done _ _ _ _ _ _ _ _ _ _ (query-whole masks (part permits places) layout level q z _ _ (tail .ensures) (tail-sizes .ensures) _ _ (tail2 .ensures) (tail-sizes2 .ensures)) (pre) out _ _ (ranges .ensures) _ _ _ (targets .ensures) _ _ (open-ranges .ensures) _ _ _ (condition .ensures) _ _ _ (c .before .before .guard-ranges .ensures) .1) ∙ length-sets out 0 (queryBytes masks (part permits places) (queryRead layout level q z))
 
 returns : tie.Need-returns
 returns c =

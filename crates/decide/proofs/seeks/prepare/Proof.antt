@@ -35,20 +35,19 @@ returns-3 : tie.Need-returns-3
 returns-3 c = λ ws f. c .compared2 .ensures ws (now (c .before .before .before .before .before .before .before .before .before .before .before .before .before .before .args .chains))
 
 returns-4 : tie.Need-returns-4
-returns-4 c =
-    let c₂ = c .before .before in let behind = c₂ .behind in
-    let c₃ = c₂ .before in let size-at3 = c₃ .size-at3 in
-    let c₄ = c₃ .before in let if3 = c₄ .if3 in
-    let c₅ = c₄ .before in let is-one = c₅ .is-one in
-    let c₈ = c₅ .before .before .before in let side = c₈ .side in
-    let c₉ = c₈ .before in let size-at2 = c₉ .size-at2 in
-    let c₁₀ = c₉ .before in let if2 = c₁₀ .if2 in
-    let c₁₁ = c₁₀ .before in let size-at = c₁₁ .size-at in
-    let c₁₂ = c₁₁ .before in let if1 = c₁₂ .if1 in
-    let c₁₃ = c₁₂ .before in let chain-of = c₁₃ .chain-of in
-    let c₁₇ = c₁₃ .before .before .before .before in let args = c₁₇ .args in
-    let chains = now (args .chains) in let env = now (args .env) in let memo = now (args .memo) in let values = now (args .values) in let xs = now (args .xs) in let start = args .start in let variable = args .variable in
-    λ ws f. chain-prepared (c .chained .result) (now (args .t)) xs start variable ws values memo env chains (record { at = chain-of .result + 4; attribute = size-at3 .result; value = (toZ w64 (ofZ w64 (side .result .numerator))) }) (behind .result) (getD chains (chain-of .result + 1) 0) (size-at .result % 256) (size-at3 .result) (c .chained .ensures .0) (c .chained .ensures .4) (c .chained .ensures .1) (behind .ensures .0) (c .chained .ensures .2) (chain-enters (now (args .t)) ws values chains start (chain-of .result) variable (size-at3 .result) (chain-here (now (args .t)) ws values chains f start (chain-of .result) variable (if1 .left) (chain-of .ensures .0)) (chain-of .ensures .0 (if1 .left) .1 .1) (size-at3 .ensures .0) (size-at2 .result) (size-at .result) 1 (size-at2 .ensures .0) (size-at .ensures .0) (onward-low (size-at .result) (omega (arith, if2 .left))) xs memo env (side .result) (side .ensures .0) (sym (toZ-ofZ {w = w64} (fits64 (side .result .denominator) (omega (arith, side .ensures .1 .denominator)))) ∙ is-one .ensures (not-no _ (if3 .left))) (toZ w64 (ofZ w64 (side .result .numerator))) (toZ-ofZ {w = w64} (fits64 (side .result .numerator) (omega (arith, side .ensures .1 .numerator)))) (chain-of .ensures .1) (subst (λ (y : ℤ). natAbs y ≤ 140735340871680) (sym (toZ-ofZ {w = w64} (fits64 (side .result .numerator) (omega (arith, side .ensures .1 .numerator))))) (side .ensures .1 .numerator))) (behind .ensures .1 variable (size-at .result % 256) (size-at3 .result) (chain-met (now (args .t)) ws values chains start (chain-of .result) variable (size-at3 .result) (chain-here (now (args .t)) ws values chains f start (chain-of .result) variable (if1 .left) (chain-of .ensures .0)) (chain-of .ensures .0 (if1 .left) .1 .1) (size-at3 .ensures .0) (size-at2 .result) (size-at .result % 256) (size-at2 .ensures .0) (ap (λ (i : ℕ). i % 256) (size-at .ensures .0)))) (λ row h. ap (λ (i : ℕ). equality (now (args .t)) i (size-at .result % 256) (size-at3 .result) xs memo (assigned values env) row) (sym (size-at2 .ensures .0)) ∙ chain-equals (now (args .t)) ws values chains start (chain-of .result) variable (size-at3 .result) (chain-here (now (args .t)) ws values chains f start (chain-of .result) variable (if1 .left) (chain-of .ensures .0)) (chain-of .ensures .0 (if1 .left) .1 .1) (size-at3 .ensures .0) (size-at2 .result) (size-at .result) 1 (size-at2 .ensures .0) (size-at .ensures .0) (onward-low (size-at .result) (omega (arith, if2 .left))) xs memo env (side .result) (side .ensures .0) (sym (toZ-ofZ {w = w64} (fits64 (side .result .denominator) (omega (arith, side .ensures .1 .denominator)))) ∙ is-one .ensures (not-no _ (if3 .left))) (toZ w64 (ofZ w64 (side .result .numerator))) (toZ-ofZ {w = w64} (fits64 (side .result .numerator) (omega (arith, side .ensures .1 .numerator)))) row h)
+returns-4 c = let behind = c .before .before .behind in
+    let size-at3 = c .before .before .before .size-at3 in
+    let if3 = c .before .before .before .before .if3 in
+    let is-one = c .before .before .before .before .before .is-one in
+    let side = c .before .before .before .before .before .before .before .before .side in
+    let size-at2 = c .before .before .before .before .before .before .before .before .before .size-at2 in
+    let if2 = c .before .before .before .before .before .before .before .before .before .before .if2 in
+    let size-at = c .before .before .before .before .before .before .before .before .before .before .before .size-at in
+    let if1 = c .before .before .before .before .before .before .before .before .before .before .before .before .if1 in
+    let chain-of = c .before .before .before .before .before .before .before .before .before .before .before .before .before .chain-of in
+    let args = c .before .before .before .before .before .before .before .before .before .before .before .before .before .before .before .before .before .args in
+    let chains = now (args .chains) in let env = now (args .env) in let memo = now (args .memo) in let values = now (args .values) in let start = args .start in let variable = args .variable in
+    λ ws f. chain-prepared (c .chained .result) (now (args .t)) start variable ws values memo env chains (record { at = chain-of .result + 4; attribute = size-at3 .result; value = (toZ w64 (ofZ w64 (side .result .numerator))) }) (behind .result) (getD chains (chain-of .result + 1) 0) (size-at .result % 256) (size-at3 .result) (c .chained .ensures .0) (c .chained .ensures .4) (c .chained .ensures .1) (behind .ensures .0) (c .chained .ensures .2) (chain-enters (now (args .t)) ws values chains start (chain-of .result) variable (size-at3 .result) (chain-here (now (args .t)) ws values chains f start (chain-of .result) variable (if1 .left) (chain-of .ensures .0)) (chain-of .ensures .0 (if1 .left) .1 .1) (size-at3 .ensures .0) (size-at2 .result) (size-at .result) 1 (size-at2 .ensures .0) (size-at .ensures .0) (onward-low (size-at .result) (omega (arith, if2 .left))) memo env (side .result) (side .ensures .0) (sym (toZ-ofZ {w = w64} (fits64 (side .result .denominator) (omega (arith, side .ensures .1 .denominator)))) ∙ is-one .ensures (not-no _ (if3 .left))) (toZ w64 (ofZ w64 (side .result .numerator))) (toZ-ofZ {w = w64} (fits64 (side .result .numerator) (omega (arith, side .ensures .1 .numerator)))) (chain-of .ensures .1) (subst (λ (y : ℤ). natAbs y ≤ 140735340871680) (sym (toZ-ofZ {w = w64} (fits64 (side .result .numerator) (omega (arith, side .ensures .1 .numerator))))) (side .ensures .1 .numerator))) (behind .ensures .1 variable (size-at .result % 256) (size-at3 .result) (chain-met (now (args .t)) ws values chains start (chain-of .result) variable (size-at3 .result) (chain-here (now (args .t)) ws values chains f start (chain-of .result) variable (if1 .left) (chain-of .ensures .0)) (chain-of .ensures .0 (if1 .left) .1 .1) (size-at3 .ensures .0) (size-at2 .result) (size-at .result % 256) (size-at2 .ensures .0) (ap (λ (i : ℕ). i % 256) (size-at .ensures .0)))) (λ row h. ap (λ (i : ℕ). equality (now (args .t)) i (size-at .result % 256) (size-at3 .result) memo (assigned values env) row) (sym (size-at2 .ensures .0)) ∙ chain-equals (now (args .t)) ws values chains start (chain-of .result) variable (size-at3 .result) (chain-here (now (args .t)) ws values chains f start (chain-of .result) variable (if1 .left) (chain-of .ensures .0)) (chain-of .ensures .0 (if1 .left) .1 .1) (size-at3 .ensures .0) (size-at2 .result) (size-at .result) 1 (size-at2 .ensures .0) (size-at .ensures .0) (onward-low (size-at .result) (omega (arith, if2 .left))) memo env (side .result) (side .ensures .0) (sym (toZ-ofZ {w = w64} (fits64 (side .result .denominator) (omega (arith, side .ensures .1 .denominator)))) ∙ is-one .ensures (not-no _ (if3 .left))) (toZ w64 (ofZ w64 (side .result .numerator))) (toZ-ofZ {w = w64} (fits64 (side .result .numerator) (omega (arith, side .ensures .1 .numerator)))) row h)
 
 pub prepare-spec : {M : Type 1} → statement M
 prepare-spec =

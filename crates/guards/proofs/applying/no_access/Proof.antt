@@ -9,7 +9,7 @@ use Rattle.guards.proofs.applying.no_access.Tie as tie
 
 returns : tie.Need-returns
 returns c =
-    let list = now (c .before .before .before .args .list) in
+    let list = now (c .before .before .before .args .permits) in
     finds.no-access-is list (c .byte .result) (c .byte .ensures ∙ ap (λ (i : ℕ). getD list i 0) (c .before .header .ensures))
 
 pub no-access-spec : {M : Type 1} → statement M

@@ -16,7 +16,7 @@ use lib.ListN.{length, drop, length-drop}
 returns : tie.Need-returns
 unfolding sizeOf
 returns c =
-    let tail = c .before .tail in let header = c .before .before .header in let list = now (c .before .before .before .before .args .list) in
+    let tail = c .before .tail in let header = c .before .before .header in let list = now (c .before .before .before .before .args .permits) in
     let rest = tail .ensures ∙ ap (λ (n : ℕ). drop n list) (header .ensures) in
     (ap₂ (λ (n m : ℕ). n + m) (header .ensures) (c .span .ensures .0 ∙ ap spanOf rest), (omega (arith, header .ensures), omega (arith, header .ensures, c .span .ensures .1, ap length rest, length-drop 4 list)))
 

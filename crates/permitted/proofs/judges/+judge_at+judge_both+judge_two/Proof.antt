@@ -157,7 +157,7 @@ judge-at-returns-2 t c =
     let c₆ = c₄ .before .before in let condition-record = c₆ .condition-record in
     let c₇ = c₆ .before in let if1 = c₇ .if1 in
     let c₁₂ = c₇ .before .before .before .before .before in let args = c₁₂ .args in
-    marked-same (c .before .before .mark-if .ensures) refl (λ i h. true-is (now (args .q)) (now (args .z)) (now (args .walks)) (now (args .vs)) (now (args .memo)) (args .walk) (args .level) _ (if1 .left) (condition-record .ensures) (enum-told .given .1) (args .wanted) i)
+    marked-same (c .before .before .mark-if .ensures) refl (λ i h. true-is (now (args .q)) (now (args .z)) (now (args .walks)) (now (args .values)) (now (args .memo)) (args .walk) (args .level) _ (if1 .left) (condition-record .ensures) (enum-told .given .1) (args .wanted) i)
 
 judge-at-same-length-3 : (t : ℕ) → judge-at-lts.Need-same-length-3 (judge-at-claims t) (judge-at-at t) judge-at.Post
 judge-at-same-length-3 t c = search needs
@@ -172,7 +172,7 @@ judge-at-returns-3 t c =
     let c₁₀ = c₈ .before .before in let condition-record = c₁₀ .condition-record in
     let c₁₁ = c₁₀ .before in let if1 = c₁₁ .if1 in
     let c₁₆ = c₁₁ .before .before .before .before .before in let args = c₁₆ .args in
-    let memo = now (args .memo) in let q = now (args .q) in let vs = now (args .vs) in let walks = now (args .walks) in let z = now (args .z) in let walk = args .walk in
+    let memo = now (args .memo) in let q = now (args .q) in let vs = now (args .values) in let walks = now (args .walks) in let z = now (args .z) in let walk = args .walk in
     marked-same (c .before .before .judge-at .ensures) refl (λ i h. under-first q z walks vs memo walk _ _ _ _ _ _ _ (byte .ensures) (record-length .ensures .0) (tail .ensures) (tail-sizes .ensures) ∙ not-is q z walks vs memo walk (args .level) _ (if1 .left) (condition-record .ensures) (enum-told2 .given .1) (args .wanted) i)
 
 judge-at-same-length-4 : (t : ℕ) → judge-at-lts.Need-same-length-4 (judge-at-claims t) (judge-at-at t) judge-at.Post
@@ -185,7 +185,7 @@ judge-at-returns-4 t c =
     let c₇ = c₅ .before .before in let condition-record = c₇ .condition-record in
     let c₈ = c₇ .before in let if1 = c₈ .if1 in
     let c₁₃ = c₈ .before .before .before .before .before in let args = c₁₃ .args in
-    marked-same (c .before .before .judge-both .ensures) refl (λ i h. and-is (now (args .q)) (now (args .z)) (now (args .walks)) (now (args .vs)) (now (args .memo)) (args .walk) (args .level) _ (if1 .left) (condition-record .ensures) (enum-told3 .given .1) (args .wanted) (if2 .taken) i)
+    marked-same (c .before .before .judge-both .ensures) refl (λ i h. and-is (now (args .q)) (now (args .z)) (now (args .walks)) (now (args .values)) (now (args .memo)) (args .walk) (args .level) _ (if1 .left) (condition-record .ensures) (enum-told3 .given .1) (args .wanted) (if2 .taken) i)
 
 judge-at-same-length-5 : (t : ℕ) → judge-at-lts.Need-same-length-5 (judge-at-claims t) (judge-at-at t) judge-at.Post
 judge-at-same-length-5 t c = search needs
@@ -197,7 +197,7 @@ judge-at-returns-5 t c =
     let c₇ = c₅ .before .before in let condition-record = c₇ .condition-record in
     let c₈ = c₇ .before in let if1 = c₈ .if1 in
     let c₁₃ = c₈ .before .before .before .before .before in let args = c₁₃ .args in
-    marked-same (c .before .before .judge-two .ensures) refl (λ i h. and-not (now (args .q)) (now (args .z)) (now (args .walks)) (now (args .vs)) (now (args .memo)) (args .walk) (args .level) _ (if1 .left) (condition-record .ensures) (enum-told3 .given .1) (args .wanted) (if2 .left) i)
+    marked-same (c .before .before .judge-two .ensures) refl (λ i h. and-not (now (args .q)) (now (args .z)) (now (args .walks)) (now (args .values)) (now (args .memo)) (args .walk) (args .level) _ (if1 .left) (condition-record .ensures) (enum-told3 .given .1) (args .wanted) (if2 .left) i)
 
 judge-at-same-length-6 : (t : ℕ) → judge-at-lts.Need-same-length-6 (judge-at-claims t) (judge-at-at t) judge-at.Post
 judge-at-same-length-6 t c = search needs
@@ -209,7 +209,7 @@ judge-at-returns-6 t c =
     let c₇ = c₅ .before .before in let condition-record = c₇ .condition-record in
     let c₈ = c₇ .before in let if1 = c₈ .if1 in
     let c₁₃ = c₈ .before .before .before .before .before in let args = c₁₃ .args in
-    marked-same (c .before .before .judge-two2 .ensures) refl (λ i h. or-is (now (args .q)) (now (args .z)) (now (args .walks)) (now (args .vs)) (now (args .memo)) (args .walk) (args .level) _ (if1 .left) (condition-record .ensures) (enum-told4 .given .1) (args .wanted) (if3 .taken) i)
+    marked-same (c .before .before .judge-two2 .ensures) refl (λ i h. or-is (now (args .q)) (now (args .z)) (now (args .walks)) (now (args .values)) (now (args .memo)) (args .walk) (args .level) _ (if1 .left) (condition-record .ensures) (enum-told4 .given .1) (args .wanted) (if3 .taken) i)
 
 judge-at-same-length-7 : (t : ℕ) → judge-at-lts.Need-same-length-7 (judge-at-claims t) (judge-at-at t) judge-at.Post
 judge-at-same-length-7 t c = search needs
@@ -221,7 +221,7 @@ judge-at-returns-7 t c =
     let c₇ = c₅ .before .before in let condition-record = c₇ .condition-record in
     let c₈ = c₇ .before in let if1 = c₈ .if1 in
     let c₁₃ = c₈ .before .before .before .before .before in let args = c₁₃ .args in
-    marked-same (c .before .before .judge-both2 .ensures) refl (λ i h. or-not (now (args .q)) (now (args .z)) (now (args .walks)) (now (args .vs)) (now (args .memo)) (args .walk) (args .level) _ (if1 .left) (condition-record .ensures) (enum-told4 .given .1) (args .wanted) (if3 .left) i)
+    marked-same (c .before .before .judge-both2 .ensures) refl (λ i h. or-not (now (args .q)) (now (args .z)) (now (args .walks)) (now (args .values)) (now (args .memo)) (args .walk) (args .level) _ (if1 .left) (condition-record .ensures) (enum-told4 .given .1) (args .wanted) (if3 .left) i)
 
 judge-at-same-length-8 : (t : ℕ) → judge-at-lts.Need-same-length-8 (judge-at-claims t) (judge-at-at t) judge-at.Post
 judge-at-same-length-8 t c = search needs
@@ -253,7 +253,7 @@ judge-both-returns : (t : ℕ) → judge-both-lts.Need-returns (judge-both-claim
 judge-both-returns t c =
     let c₆ = c .before .before .before .before .before .before in let judge-two = c₆ .judge-two in
     let c₁₂ = c₆ .before .before .before .before .before .before in let args = c₁₂ .args in
-    both-marked (now (args .q)) (now (args .z)) (now (args .walks)) (now (args .vs)) (now (args .memo)) (args .walk) (args .level) (args .wanted) _ 1024 _ (now (args .marks)) _ (judge-two .ensures) (c .before .before .mark-others .ensures)
+    both-marked (now (args .q)) (now (args .z)) (now (args .walks)) (now (args .values)) (now (args .memo)) (args .walk) (args .level) (args .wanted) _ 1024 _ (now (args .marks)) _ (judge-two .ensures) (c .before .before .mark-others .ensures)
 
 judge-two-byte-requires : (t : ℕ) → judge-two-lts.Need-byte-requires (judge-two-claims t) (judge-two-at t) judge-two.Post
 judge-two-byte-requires t c κs = search needs
@@ -307,7 +307,7 @@ judge-two-returns t c =
     let c₁₅ = c₁₄ .before in let record-length = c₁₅ .record-length in
     let c₁₆ = c₁₅ .before in let byte = c₁₆ .byte in
     let c₂₁ = c₁₆ .before .before .before .before .before in let args = c₂₁ .args in
-    swapped (now (args .q)) (now (args .z)) (now (args .walks)) (now (args .vs)) (now (args .memo)) (args .walk) (args .level) (args .wanted) _ _ _ _ _ _ _ _ (byte .ensures) (record-length .ensures .0) (size-at .ensures .0) (tail .ensures) (tail-sizes .ensures) (tail2 .ensures) (tail-sizes2 .ensures) (now (args .marks)) _ _ (judge-at .ensures) (c .before .before .judge-at2 .ensures)
+    swapped (now (args .q)) (now (args .z)) (now (args .walks)) (now (args .values)) (now (args .memo)) (args .walk) (args .level) (args .wanted) _ _ _ _ _ _ _ _ (byte .ensures) (record-length .ensures .0) (size-at .ensures .0) (tail .ensures) (tail-sizes .ensures) (tail2 .ensures) (tail-sizes2 .ensures) (now (args .marks)) _ _ (judge-at .ensures) (c .before .before .judge-at2 .ensures)
 
 judge-two-judge-at-requires-3 : (t : ℕ) → judge-two-lts.Need-judge-at-requires-3 (judge-two-claims t) (judge-two-at t) judge-two.Post
 judge-two-judge-at-requires-3 t c κs =
@@ -334,7 +334,7 @@ judge-two-returns-2 t c =
     let c₁₅ = c₁₄ .before in let record-length = c₁₅ .record-length in
     let c₁₆ = c₁₅ .before in let byte = c₁₆ .byte in
     let c₂₁ = c₁₆ .before .before .before .before .before in let args = c₂₁ .args in
-    in-order (now (args .q)) (now (args .z)) (now (args .walks)) (now (args .vs)) (now (args .memo)) (args .walk) (args .level) (args .wanted) _ _ _ _ _ _ _ _ (byte .ensures) (record-length .ensures .0) (size-at .ensures .0) (tail .ensures) (tail-sizes .ensures) (tail2 .ensures) (tail-sizes2 .ensures) (now (args .marks)) _ _ (judge-at3 .ensures) (c .before .before .judge-at4 .ensures)
+    in-order (now (args .q)) (now (args .z)) (now (args .walks)) (now (args .values)) (now (args .memo)) (args .walk) (args .level) (args .wanted) _ _ _ _ _ _ _ _ (byte .ensures) (record-length .ensures .0) (size-at .ensures .0) (tail .ensures) (tail-sizes .ensures) (tail2 .ensures) (tail-sizes2 .ensures) (now (args .marks)) _ _ (judge-at3 .ensures) (c .before .before .judge-at4 .ensures)
 
 pub +judge-at+judge-both+judge-two-spec : {M : Type 1} → statement M
 +judge-at+judge-both+judge-two-spec =

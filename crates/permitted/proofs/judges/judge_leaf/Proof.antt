@@ -16,10 +16,9 @@ returns : tie.Need-returns
 returns c = c .before .before .before .mark-compared .ensures .0 (c .if1 .taken) (now (c .before .before .before .before .before .before .before .before .before .args .walks))
 
 judge-each-requires : tie.Need-judge-each-requires
-judge-each-requires c κs =
-    let c₁ = c .before in let if1 = c₁ .if1 in
-    let c₄ = c₁ .before .before .before in let mark-compared = c₄ .mark-compared in
-    let c₁₀ = c₄ .before .before .before .before .before .before in let pre = c₁₀ .pre in
+judge-each-requires c κs = let if1 = c .before .if1 in
+    let mark-compared = c .before .before .before .before .mark-compared in
+    let pre = c .before .before .before .before .before .before .before .before .before .before .pre in
     (pre .0, pre .1, omega (arith, pre .2, ap length (mark-compared .ensures .1 (if1 .left))), subst Bits (sym (mark-compared .ensures .1 (if1 .left))) (pre .3))
 
 returns-2 : tie.Need-returns-2

@@ -11,11 +11,10 @@ use Rattle.conditions.proofs.condition.Reads as condition-reads′
 use Rattle.permitted.proofs.judges.judge_at.Reads as judge-at-reads
 
 returns : tie.Need-returns
-returns c =
-    let c₉ = c .before .before .before .before .before .before .before .before .before in let condition2 = c₉ .condition2 in
-    let c₁₅ = c₉ .before .before .before .before .before .before in let fill = c₁₅ .fill in
-    let c₁₉ = c₁₅ .before .before .before .before in let condition = c₁₉ .condition in
-    let c₂₅ = c₁₉ .before .before .before .before .before .before in let args = c₂₅ .args in
+returns c = let condition2 = c .before .before .before .before .before .before .before .before .before .condition2 in
+    let fill = c .before .before .before .before .before .before .before .before .before .before .before .before .before .before .before .fill in
+    let condition = c .before .before .before .before .before .before .before .before .before .before .before .before .before .before .before .before .before .before .before .condition in
+    let args = c .before .before .before .before .before .before .before .before .before .before .before .before .before .before .before .before .before .before .before .before .before .before .before .before .before .args in
     long-marks (now (args .catalogue)) (now (args .values)) (now (args .q)) _ _ _ (args .walk) _ (now (args .marks)) _ (condition .ensures .1 .0) (fill .ensures) (condition2 .ensures .0) (c .before .before .judge-at .ensures)
 
 pub judge-long-spec : {M : Type 1} → statement M

@@ -33,29 +33,27 @@ returns-5 : tie.Need-returns-5
 returns-5 c = (λ h. clash h, λ h. refl)
 
 mark-against-requires : tie.Need-mark-against-requires
-mark-against-requires c κs =
-    let c₃ = c .before .before .before in let known-at = c₃ .known-at in
-    let c₂₂ = c₃ .before .before .before .before .before .before .before .before .before .before .before .before .before .before .before .before .before .before .before in let pre = c₂₂ .pre in
+mark-against-requires c κs = let known-at = c .before .before .before .known-at in
+    let pre = c .before .before .before .before .before .before .before .before .before .before .before .before .before .before .before .before .before .before .before .before .before .before .pre in
     (pre .0, pre .1, known-at .ensures .1, pre .2)
 
 returns-6 : tie.Need-returns-6
-returns-6 c =
-    let c₀ = c .before .before in let c₃ = c₀ .before .before .before in let if3 = c₃ .if3 in
-    let c₄ = c₃ .before in let known-at = c₄ .known-at in
-    let c₅ = c₄ .before in let tail2 = c₅ .tail2 in
-    let c₆ = c₅ .before in let size-at = c₆ .size-at in
-    let c₇ = c₆ .before in let if2 = c₇ .if2 in
-    let c₉ = c₇ .before .before in let variable = c₉ .variable in
-    let c₁₁ = c₉ .before .before in let term-record = c₁₁ .term-record in
-    let c₁₂ = c₁₁ .before in let tail = c₁₂ .tail in
-    let c₁₃ = c₁₂ .before in let record-length = c₁₃ .record-length in
-    let c₁₄ = c₁₃ .before in let byte = c₁₄ .byte in
-    let c₁₆ = c₁₄ .before .before in let operator = c₁₆ .operator in
-    let c₁₈ = c₁₆ .before .before in let condition-record = c₁₈ .condition-record in
-    let c₁₉ = c₁₈ .before in let if1 = c₁₉ .if1 in
-    let c₂₃ = c₁₉ .before .before .before .before in let args = c₂₃ .args in
+returns-6 c = let if3 = c .before .before .before .before .before .if3 in
+    let known-at = c .before .before .before .before .before .before .known-at in
+    let tail2 = c .before .before .before .before .before .before .before .tail2 in
+    let size-at = c .before .before .before .before .before .before .before .before .size-at in
+    let if2 = c .before .before .before .before .before .before .before .before .before .if2 in
+    let variable = c .before .before .before .before .before .before .before .before .before .before .before .variable in
+    let term-record = c .before .before .before .before .before .before .before .before .before .before .before .before .before .term-record in
+    let tail = c .before .before .before .before .before .before .before .before .before .before .before .before .before .before .tail in
+    let record-length = c .before .before .before .before .before .before .before .before .before .before .before .before .before .before .before .record-length in
+    let byte = c .before .before .before .before .before .before .before .before .before .before .before .before .before .before .before .before .byte in
+    let operator = c .before .before .before .before .before .before .before .before .before .before .before .before .before .before .before .before .before .before .operator in
+    let condition-record = c .before .before .before .before .before .before .before .before .before .before .before .before .before .before .before .before .before .before .before .before .condition-record in
+    let if1 = c .before .before .before .before .before .before .before .before .before .before .before .before .before .before .before .before .before .before .before .before .before .if1 in
+    let args = c .before .before .before .before .before .before .before .before .before .before .before .before .before .before .before .before .before .before .before .before .before .before .before .before .before .args in
     let values = now (args .values) in let memo = now (args .memo) in let q = now (args .q) in let z = now (args .z) in
-    (λ h ws. marked-same (c₀ .mark-against .ensures .0 h) refl (λ i l. compared-is memo q (args .level) _ (not-zero (args .level) (if1 .left)) (condition-record .ensures) _ _ _ _ _ _ _ _ _ (known-at .result .value) z (operator .given .1) (byte .ensures) (record-length .ensures .0) (size-at .ensures .0) (tail .ensures) (tail2 .ensures) (not-one (args .level) (if1 .left)) (term-record .ensures) (variable .given .1) (eq-zero _ (if2 .left)) (known-at .ensures .0 (not-no _ (if3 .left))) ws values (args .walk) (args .wanted) i), c₀ .mark-against .ensures .1)
+    (λ h ws. marked-same (c .before .before .mark-against .ensures .0 h) refl (λ i l. compared-is memo q (args .level) _ (not-zero (args .level) (if1 .left)) (condition-record .ensures) _ _ _ _ _ _ _ _ _ (known-at .result .value) z (operator .given .1) (byte .ensures) (record-length .ensures .0) (size-at .ensures .0) (tail .ensures) (tail2 .ensures) (not-one (args .level) (if1 .left)) (term-record .ensures) (variable .given .1) (eq-zero _ (if2 .left)) (known-at .ensures .0 (not-no _ (if3 .left))) ws values (args .walk) (args .wanted) i), c .before .before .mark-against .ensures .1)
 
 pub mark-compared-spec : {M : Type 1} → statement M
 mark-compared-spec =

@@ -19,17 +19,17 @@ use Rattle.permitted.proofs.judges.place_of.Reads as place-of-reads
 use Rattle.permitted.proofs.judges.unmarked.Reads as unmarked-reads
 
 abbrev Inv-loop : tie.InvT-loop
-Inv-loop t xs q z walks chains vs memo marks₀ walk start n env₀ i₀ marks env i = (i ≤ n) × (set env 0 (length vs) ≡ noPlaces vs) × (length env ≡ 256) × Marked (ranOn t xs start q z walks vs memo walk) i marks₀ marks
+Inv-loop t q z walks chains vs memo marks₀ walk start n env₀ i₀ marks env i = (i ≤ n) × (set env 0 (length vs) ≡ noPlaces vs) × (length env ≡ 256) × Marked (ranOn t start q z walks vs memo walk) i marks₀ marks
 
 abbrev μ-loop : tie.MeasureT-loop
-μ-loop t xs q z walks chains vs memo marks₀ walk start n env₀ i₀ marks env i = n - i
+μ-loop t q z walks chains vs memo marks₀ walk start n env₀ i₀ marks env i = n - i
 
 unmarked-requires : tie.Need-unmarked-requires Inv-loop μ-loop
 unmarked-requires c κs = (c .before .before .before .before .before .before .before .before .pre .2, omega arith)
 
 loop-holds : tie.Need-loop-holds Inv-loop μ-loop
 loop-holds c = let args = c .before .before .before .before .before .before .before .before .before .args in let pre = c .before .before .before .before .before .before .before .before .before .pre in
-    (c .unmarked .ensures .0 .1, refl, length-replicate 256 (length (now (args .vs))), marked-over (pre .3) (marked-none _ (now (args .marks))) (c .unmarked .ensures .0 .0) (c .unmarked .ensures .1))
+    (c .unmarked .ensures .0 .1, refl, length-replicate 256 (length (now (args .values))), marked-over (pre .3) (marked-none _ (now (args .marks))) (c .unmarked .ensures .0 .0) (c .unmarked .ensures .1))
 
 place-of-requires : tie.Need-place-of-requires Inv-loop μ-loop
 place-of-requires c κs = let pre = c .before .before .before .before .before .before .before .before .before .before .before .pre in
@@ -85,8 +85,8 @@ loop-again c = let joined = c .before .before .joined in
     let loop-test = c .before .before .before .before .before .before .before .before .loop-test in
     let loop = c .before .before .before .before .before .before .before .before .before .loop in
     let args = c .before .before .before .before .before .before .before .before .before .before .before .before .before .before .before .before .before .before .before .args in let pre = c .before .before .before .before .before .before .before .before .before .before .before .before .before .before .before .before .before .before .before .pre in
-    let vs = now (args .vs) in
-    (c .unmarked2 .ensures .0 .1, ap (λ (u : List ℕ). set u 0 (length vs)) (leads .ensures .1) ∙ set-set (loop .env) 0 (place-of .result) (length vs) ∙ loop .inv .1, ap length (leads .ensures .1) ∙ length-set (loop .env) 0 (place-of .result) ∙ loop .inv .2, marked-over (pre .3) (row-marked (now (args .t)) (now (args .xs)) (args .trial .start) (now (args .q)) (now (args .z)) (now (args .walks)) vs (now (args .memo)) (loop .env) _ (args .trial .walk) (now (args .marks)) (loop .marks) (loop .i) (place-of .result) (joined .result) (leads .result) (omega (arith, loop .inv .2)) (omega (arith, pre .2, loop-test .taken)) (loop .inv .1) (place-of .ensures) refl (leads .ensures .0) (joined .ensures) (loop .inv .3)) (c .unmarked2 .ensures .0 .0) (c .unmarked2 .ensures .1))
+    let vs = now (args .values) in
+    (c .unmarked2 .ensures .0 .1, ap (λ (u : List ℕ). set u 0 (length vs)) (leads .ensures .1) ∙ set-set (loop .env) 0 (place-of .result) (length vs) ∙ loop .inv .1, ap length (leads .ensures .1) ∙ length-set (loop .env) 0 (place-of .result) ∙ loop .inv .2, marked-over (pre .3) (row-marked (now (args .t)) (args .trial .start) (now (args .q)) (now (args .z)) (now (args .walks)) vs (now (args .memo)) (loop .env) _ (args .trial .walk) (now (args .marks)) (loop .marks) (loop .i) (place-of .result) (joined .result) (leads .result) (omega (arith, loop .inv .2)) (omega (arith, pre .2, loop-test .taken)) (loop .inv .1) (place-of .ensures) refl (leads .ensures .0) (joined .ensures) (loop .inv .3)) (c .unmarked2 .ensures .0 .0) (c .unmarked2 .ensures .1))
 
 same-length : tie.Need-same-length Inv-loop μ-loop
 same-length c = search needs
