@@ -1,9 +1,10 @@
 #!/usr/bin/env python3
-# lambdas.py FILE ..: in the proof of a function, a need that is answered by `search needs` alone gets no name: a lambda stands in its place. Comments that
-# point to lines of the source go. Run it when a proof is done; tools/fill.py and tools/repath.py work on named answers.
+# lambdas.py FILE ..: in the proof of a function, a need that is answered by `search needs` alone gets no name: a lambda stands in its place, in loops and in cycles
+# of calls too. Comments that point to lines of the source go. Run it when a proof is done; tools/fill.py and tools/repath.py work on named answers, and tools/redo.py
+# names them again in a cycle.
 import re, sys
 
-ANSWER = re.compile(r'^(\S+) : (\S+\.Need-\S+)\n\1((?: [^\s=]+)+) = search needs\n\n?', re.M)
+ANSWER = re.compile(r'^(\S+) : (?:\(t : ℕ\) → )?(\S+\.Need-\S+)[^\n]*\n\1( t)?((?: [^\s=]+)+) = search needs\n\n?', re.M)
 
 
 def shorten(text):
@@ -11,16 +12,16 @@ def shorten(text):
     answers = {}
 
     def take(match):
-        answers[match.group(1)] = match.group(3).strip()
+        answers[match.group(1)] = (bool(match.group(3)), match.group(4).strip())
         return ''
 
     rest = ANSWER.sub(take, text)
-    for name, words in answers.items():
-        use = re.compile(r'(?<![\w\-.·+])' + re.escape(name) + r'(?![\w\-.·])')
+    for name, (numbered, words) in answers.items():
+        use = rf'\({re.escape(name)} t\)' if numbered else r'(?<![\w\-.·+])' + re.escape(name) + r'(?![\w\-.·])'
         # it stands once, as an argument; else all keep their names
-        if len(use.findall(rest)) != 1:
+        if len(re.findall(use, rest)) != 1 or len(re.findall(r'(?<![\w\-.·+])' + re.escape(name) + r'(?![\w\-.·])', rest)) != 1:
             return text
-        rest = use.sub(f'(λ {words}. search needs)', rest)
+        rest = re.sub(use, f'(λ {words}. search needs)', rest)
     return rest
 
 

@@ -8,6 +8,9 @@ ghost use lib.ListN.{length, getD};
 ghost use Rattle.model.specs.Checks.{fails10, refusal, keeperChecks};
 ghost use Rattle.catalogue.specs.Layout as L;
 
+// The length of a record, the same for all three kinds.
+pub const RECORD: usize = 4;
+
 // What the catalogue says of a relation.
 pub struct Relation {
     // whether there is such a relation
@@ -36,21 +39,21 @@ fn byte(bytes: &[u8], i: usize) -> usize
 fn kind(catalogue: &[u8], relation: u8) -> usize
     ensures { λ r. ⌜ r ≡ L.kindOf (now (catalogue .entry)) relation ⌝ }
 {
-    byte(catalogue, 4 * wide(relation))
+    byte(catalogue, RECORD * wide(relation))
 }
 
 fn attributes(catalogue: &[u8], relation: u8) -> usize
     ensures { λ r. ⌜ r ≡ L.attributesOf (now (catalogue .entry)) relation ⌝ }
     ensures { λ r. ⌜ r ≤ 255 ⌝ }
 {
-    byte(catalogue, 4 * wide(relation) + 1)
+    byte(catalogue, RECORD * wide(relation) + 1)
 }
 
 fn rows(catalogue: &[u8], relation: u8) -> usize
     ensures { λ r. ⌜ r ≡ L.rowsOf (now (catalogue .entry)) relation ⌝ }
     ensures { λ r. ⌜ r ≤ 65535 ⌝ }
 {
-    let at = 4 * wide(relation);
+    let at = RECORD * wide(relation);
     byte(catalogue, at + 2) + 256 * byte(catalogue, at + 3)
 }
 
@@ -71,7 +74,7 @@ fn latest(catalogue: &[u8], relation: u8) -> bool
 fn count(catalogue: &[u8]) -> usize
     ensures { λ r. ⌜ r ≡ L.countOf (now (catalogue .entry)) ⌝ }
 {
-    catalogue.len() / 4
+    catalogue.len() / RECORD
 }
 
 // What the catalogue says of a relation; past its bytes they are read as 0.
@@ -163,7 +166,7 @@ fn fails_10(catalogue: &[u8]) -> bool
     if model::RELATIONS < n {
         return true;
     }
-    if 4 * n != catalogue.len() {
+    if RECORD * n != catalogue.len() {
         return true;
     }
     let end = n as u8;

@@ -24,10 +24,10 @@ fn wide_entry(x: u16) -> usize
 pub(crate) fn has(catalogue: &[u8], relation: usize, attribute: u8) -> bool
     ensures { λ r. ⌜ r ≡ ltb attribute (attributesAt (shapeIn (now (catalogue .entry))) relation) ⌝ }
 {
-    if catalogue.len() / 4 <= relation {
+    if catalogue.len() / catalogue::RECORD <= relation {
         return false;
     }
-    attribute < kinds::byte(catalogue, 4 * relation + 1)
+    attribute < kinds::byte(catalogue, catalogue::RECORD * relation + 1)
 }
 
 // Whether a variable and its relation have known numbers.

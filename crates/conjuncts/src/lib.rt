@@ -23,7 +23,7 @@ fn range_of(q: &[u8], ranges: usize, variable: u8) -> usize
 {
     let mut n = ranges;
     while n != 0 {
-        if kinds::byte(q, 3 * n - 2) == variable {
+        if kinds::byte(q, kinds::RANGE * n - 2) == variable {
             return n;
         }
         n = n - 1;
@@ -80,7 +80,7 @@ fn stage_at(q: &[u8], z: &[u16], ranges: usize, place: usize, level: usize) -> u
         return 0;
     }
     if kinds::byte(q, place + 2) == 33 {
-        if kinds::byte(q, place + 3) == kinds::byte(q, 3 * ranges - 2) {
+        if kinds::byte(q, place + 3) == kinds::byte(q, kinds::RANGE * ranges - 2) {
             return ranges;
         }
     }

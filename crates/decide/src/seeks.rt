@@ -566,7 +566,7 @@ pub fn link(q: &[u8], ranges: usize, t: &[u16], walks: &[u16], values: &[i32], c
     let mut d = 1;
     while d < ranges {
         let start = kinds::size_at(t, 2 * d + 2);
-        let variable = kinds::byte(q, 3 * d + 1);
+        let variable = kinds::byte(q, kinds::RANGE * d + 1);
         free = add(t, start, variable, walks, values, chains, free);
         d += 1;
     }

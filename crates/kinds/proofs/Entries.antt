@@ -163,3 +163,8 @@ children-small b = go (kindOf b)
     go : (o : Option Kind) → elim o [ none ↦ 0 | some x ↦ childConditions x ] + elim o [ none ↦ 0 | some x ↦ childTerms x ] ≤ 2
     go none = omega arith
     go (some x) = kind-children x
+
+-- the length that code names
+pub range-length : recordLength 1 ≡ 3
+unfolding recordLength ofKind kindOf find
+range-length = refl

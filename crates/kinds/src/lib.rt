@@ -22,6 +22,9 @@ const BODY_32: u64 = 0xffff_ffff_ff04_0204;
 
 const BODY_64: u64 = 0xffff_ffff_ffff_ff03;
 
+// The length of a RANGE record, by the table (proofs/Entries: range-length): range i of a query that has passed stands at i times that.
+pub const RANGE: usize = 3;
+
 // How many conditions follow as children, and how many terms.
 const CONDITIONS_16: u64 = 0x0001_0002_0201_0000;
 

@@ -330,7 +330,7 @@ fn each_row(
 {
     let d = plan.depth;
     let front = plan.front;
-    let variable = kinds::byte(q, 3 * d + 1);
+    let variable = kinds::byte(q, kinds::RANGE * d + 1);
     let all = &work[..];
     let t = &all[..BRANCHES];
     let chains = &all[BRANCHES..front];

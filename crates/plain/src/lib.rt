@@ -240,7 +240,7 @@ fn chained(q: &[u8], ranges: usize, walks: &[u16]) -> usize
     let mut n = 0;
     let mut i = 1;
     while i < ranges {
-        let walk = walks::walk_of(walks, kinds::byte(q, 3 * i + 1));
+        let walk = walks::walk_of(walks, kinds::byte(q, kinds::RANGE * i + 1));
         n += pays(walk.count);
         i += 1;
     }
@@ -254,7 +254,7 @@ fn most_rows(q: &[u8], ranges: usize, walks: &[u16]) -> usize
     let mut n = 1;
     let mut i = 0;
     while i < ranges {
-        let walk = walks::walk_of(walks, kinds::byte(q, 3 * i + 1));
+        let walk = walks::walk_of(walks, kinds::byte(q, kinds::RANGE * i + 1));
         n *= walk.count;
         if 1024 < n {
             return n;

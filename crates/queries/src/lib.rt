@@ -151,7 +151,7 @@ fn rest(
         (now (z .exit)) ⌝ }
     ensures { λ _. ⌜ drop (length (now (q .entry))) (now (z .exit)) ≡ drop (length (now (q .entry))) (now (z .entry)) ⌝ }
 {
-    let first = 3 * ranges;
+    let first = kinds::RANGE * ranges;
     if q.len() < first {
         return Found::Refused;
     }

@@ -62,59 +62,11 @@ condition-returns t c = let args = c .before .before .before .before .before .ar
     let vs = now (args .values) in
     (none-left (rowsBy (now (args .walks)) vs) (assigned vs (now (args .env))) (now (args .q)) (now (args .z)) (now (args .memo)) (args .level) (c .if1 .taken), search needs)
 
-condition-sub-l : (t : ℕ) → condition-lts.Need-sub-l (condition-claims t) (condition-at t) condition.Post
-condition-sub-l t c = search needs
-
-condition-byte-requires : (t : ℕ) → condition-lts.Need-byte-requires (condition-claims t) (condition-at t) condition.Post
-condition-byte-requires t c κs = search needs
-
-condition-record-length-requires : (t : ℕ) → condition-lts.Need-record-length-requires (condition-claims t) (condition-at t) condition.Post
-condition-record-length-requires t c κs = search needs
-
-condition-size-at-requires : (t : ℕ) → condition-lts.Need-size-at-requires (condition-claims t) (condition-at t) condition.Post
-condition-size-at-requires t c κs = search needs
-
-condition-add-b : (t : ℕ) → condition-lts.Need-add-b (condition-claims t) (condition-at t) condition.Post
-condition-add-b t c = search needs
-
-condition-tail-requires : (t : ℕ) → condition-lts.Need-tail-requires (condition-claims t) (condition-at t) condition.Post
-condition-tail-requires t c κs = search needs
-
-condition-tail-sizes-requires : (t : ℕ) → condition-lts.Need-tail-sizes-requires (condition-claims t) (condition-at t) condition.Post
-condition-tail-sizes-requires t c κs = search needs
-
-condition-tail-requires-2 : (t : ℕ) → condition-lts.Need-tail-requires-2 (condition-claims t) (condition-at t) condition.Post
-condition-tail-requires-2 t c κs = search needs
-
-condition-tail-sizes-requires-2 : (t : ℕ) → condition-lts.Need-tail-sizes-requires-2 (condition-claims t) (condition-at t) condition.Post
-condition-tail-sizes-requires-2 t c κs = search needs
-
-condition-condition-record-requires : (t : ℕ) → condition-lts.Need-condition-record-requires (condition-claims t) (condition-at t) condition.Post
-condition-condition-record-requires t c κs = search needs
-
-condition-enum-told : (t : ℕ) → condition-lts.Need-enum-told (condition-claims t) (condition-at t) condition.Post
-condition-enum-told t c = search needs
-
-condition-condition-requires : (t : ℕ) → condition-lts.Need-condition-requires (condition-claims t) (condition-at t) condition.Post
-condition-condition-requires t c κs = search needs
-
-condition-enum-told-2 : (t : ℕ) → condition-lts.Need-enum-told-2 (condition-claims t) (condition-at t) condition.Post
-condition-enum-told-2 t c = search needs
-
-condition-condition-requires-2 : (t : ℕ) → condition-lts.Need-condition-requires-2 (condition-claims t) (condition-at t) condition.Post
-condition-condition-requires-2 t c κs = search needs
-
 condition-condition-requires-3 : (t : ℕ) → condition-lts.Need-condition-requires-3 (condition-claims t) (condition-at t) condition.Post
 condition-condition-requires-3 t c κs = let condition2 = c .before .before .before .before .before .condition2 in
     let if1 = c .before .before .before .before .before .before .before .before .before .before .before .before .before .before .before .before .before .before .if1 in
     let pre = c .before .before .before .before .before .before .before .before .before .before .before .before .before .before .before .before .before .before .before .before .before .before .before .pre in
     (omega (arith, pre .0, if1 .left), omega (arith, pre .1, ap length (condition2 .ensures .1)))
-
-condition-enum-told-3 : (t : ℕ) → condition-lts.Need-enum-told-3 (condition-claims t) (condition-at t) condition.Post
-condition-enum-told-3 t c = search needs
-
-condition-condition-requires-4 : (t : ℕ) → condition-lts.Need-condition-requires-4 (condition-claims t) (condition-at t) condition.Post
-condition-condition-requires-4 t c κs = search needs
 
 condition-condition-requires-5 : (t : ℕ) → condition-lts.Need-condition-requires-5 (condition-claims t) (condition-at t) condition.Post
 condition-condition-requires-5 t c κs = let condition4 = c .before .before .before .before .before .condition4 in
@@ -122,29 +74,11 @@ condition-condition-requires-5 t c κs = let condition4 = c .before .before .bef
     let pre = c .before .before .before .before .before .before .before .before .before .before .before .before .before .before .before .before .before .before .before .before .before .before .before .pre in
     (omega (arith, pre .0, if1 .left), omega (arith, pre .1, ap length (condition4 .ensures .1)))
 
-condition-enum-told-4 : (t : ℕ) → condition-lts.Need-enum-told-4 (condition-claims t) (condition-at t) condition.Post
-condition-enum-told-4 t c = search needs
-
-condition-term-requires : (t : ℕ) → condition-lts.Need-term-requires (condition-claims t) (condition-at t) condition.Post
-condition-term-requires t c κs = search needs
-
 condition-term-requires-2 : (t : ℕ) → condition-lts.Need-term-requires-2 (condition-claims t) (condition-at t) condition.Post
 condition-term-requires-2 t c κs = let term = c .before .before .before .before .before .term in
     let if1 = c .before .before .before .before .before .before .before .before .before .before .before .before .before .before .before .before .before .before .if1 in
     let pre = c .before .before .before .before .before .before .before .before .before .before .before .before .before .before .before .before .before .before .before .before .before .before .before .pre in
     (omega (arith, pre .0, if1 .left), omega (arith, pre .1, ap length (term .ensures .1)))
-
-condition-enum-told-5 : (t : ℕ) → condition-lts.Need-enum-told-5 (condition-claims t) (condition-at t) condition.Post
-condition-enum-told-5 t c = search needs
-
-condition-condition-requires-6 : (t : ℕ) → condition-lts.Need-condition-requires-6 (condition-claims t) (condition-at t) condition.Post
-condition-condition-requires-6 t c κs = search needs
-
-condition-same-length : (t : ℕ) → condition-lts.Need-same-length (condition-claims t) (condition-at t) condition.Post
-condition-same-length t c = search needs
-
-condition-same-length-2 : (t : ℕ) → condition-lts.Need-same-length-2 (condition-claims t) (condition-at t) condition.Post
-condition-same-length-2 t c = search needs
 
 condition-returns-2 : (t : ℕ) → condition-lts.Need-returns-2 (condition-claims t) (condition-at t) condition.Post
 condition-returns-2 t c = let condition = c .before .before .before .condition in
@@ -158,12 +92,6 @@ condition-returns-2 t c = let condition = c .before .before .before .condition i
     let args = c .before .before .before .before .before .before .before .before .before .before .before .before .before .before .before .before .before .before .before .before .before .args in
     let vs = now (args .values) in
     (not-is (rowsBy (now (args .walks)) vs) (assigned vs (now (args .env))) (now (args .q)) (now (args .z)) (now (args .memo)) (args .level) _ _ _ (if1 .left) (byte .ensures) (record-length .ensures .0) (condition-record .ensures) _ _ (tail .ensures) (tail-sizes .ensures) _ (enum-told .given .1) (condition .ensures .0), condition .ensures .1)
-
-condition-same-length-3 : (t : ℕ) → condition-lts.Need-same-length-3 (condition-claims t) (condition-at t) condition.Post
-condition-same-length-3 t c = search needs
-
-condition-same-length-4 : (t : ℕ) → condition-lts.Need-same-length-4 (condition-claims t) (condition-at t) condition.Post
-condition-same-length-4 t c = search needs
 
 condition-returns-3 : (t : ℕ) → condition-lts.Need-returns-3 (condition-claims t) (condition-at t) condition.Post
 condition-returns-3 t c = let condition3 = c .before .before .before .condition3 in
@@ -182,12 +110,6 @@ condition-returns-3 t c = let condition3 = c .before .before .before .condition3
     let vs = now (args .values) in
     (and-is (rowsBy (now (args .walks)) vs) (assigned vs (now (args .env))) (now (args .q)) (now (args .z)) (now (args .memo)) (args .level) _ _ _ (if1 .left) (byte .ensures) (record-length .ensures .0) (condition-record .ensures) _ _ (tail .ensures) (tail-sizes .ensures) _ _ _ _ (size-at .ensures .0) refl (tail2 .ensures) (tail-sizes2 .ensures) _ _ _ (ap (assigned vs) (condition2 .ensures .1)) (condition2 .ensures .0) (condition3 .ensures .0) (enum-told2 .given .1), condition3 .ensures .1 ∙ condition2 .ensures .1)
 
-condition-same-length-5 : (t : ℕ) → condition-lts.Need-same-length-5 (condition-claims t) (condition-at t) condition.Post
-condition-same-length-5 t c = search needs
-
-condition-same-length-6 : (t : ℕ) → condition-lts.Need-same-length-6 (condition-claims t) (condition-at t) condition.Post
-condition-same-length-6 t c = search needs
-
 condition-returns-4 : (t : ℕ) → condition-lts.Need-returns-4 (condition-claims t) (condition-at t) condition.Post
 condition-returns-4 t c = let condition5 = c .before .before .before .condition5 in
     let condition4 = c .before .before .before .before .before .before .before .before .before .condition4 in
@@ -205,12 +127,6 @@ condition-returns-4 t c = let condition5 = c .before .before .before .condition5
     let vs = now (args .values) in
     (or-is (rowsBy (now (args .walks)) vs) (assigned vs (now (args .env))) (now (args .q)) (now (args .z)) (now (args .memo)) (args .level) _ _ _ (if1 .left) (byte .ensures) (record-length .ensures .0) (condition-record .ensures) _ _ (tail .ensures) (tail-sizes .ensures) _ _ _ _ (size-at .ensures .0) refl (tail2 .ensures) (tail-sizes2 .ensures) _ _ _ (ap (assigned vs) (condition4 .ensures .1)) (condition4 .ensures .0) (condition5 .ensures .0) (enum-told3 .given .1), condition5 .ensures .1 ∙ condition4 .ensures .1)
 
-condition-same-length-7 : (t : ℕ) → condition-lts.Need-same-length-7 (condition-claims t) (condition-at t) condition.Post
-condition-same-length-7 t c = search needs
-
-condition-same-length-8 : (t : ℕ) → condition-lts.Need-same-length-8 (condition-claims t) (condition-at t) condition.Post
-condition-same-length-8 t c = search needs
-
 condition-returns-5 : (t : ℕ) → condition-lts.Need-returns-5 (condition-claims t) (condition-at t) condition.Post
 condition-returns-5 t c = let term2 = c .before .before .before .term2 in
     let term = c .before .before .before .before .before .before .before .before .before .term in
@@ -227,12 +143,6 @@ condition-returns-5 t c = let term2 = c .before .before .before .term2 in
     let args = c .before .before .before .before .before .before .before .before .before .before .before .before .before .before .before .before .before .before .before .before .before .before .before .before .before .before .before .args in
     let vs = now (args .values) in
     (compare-is (rowsBy (now (args .walks)) vs) (assigned vs (now (args .env))) (now (args .q)) (now (args .z)) (now (args .memo)) (args .level) _ _ _ (if1 .left) (byte .ensures) (record-length .ensures .0) (condition-record .ensures) _ _ (tail .ensures) (tail-sizes .ensures) _ _ _ _ (size-at .ensures .0) refl (tail2 .ensures) (tail-sizes2 .ensures) _ _ _ (ap (assigned vs) (term .ensures .1)) _ (enum-told4 .given .1) (term .ensures .0) (term2 .ensures .0), term2 .ensures .1 ∙ term .ensures .1)
-
-condition-same-length-9 : (t : ℕ) → condition-lts.Need-same-length-9 (condition-claims t) (condition-at t) condition.Post
-condition-same-length-9 t c = search needs
-
-condition-same-length-10 : (t : ℕ) → condition-lts.Need-same-length-10 (condition-claims t) (condition-at t) condition.Post
-condition-same-length-10 t c = search needs
 
 condition-returns-6 : (t : ℕ) → condition-lts.Need-returns-6 (condition-claims t) (condition-at t) condition.Post
 condition-returns-6 t c = let condition6 = c .before .before .before .condition6 in
@@ -258,46 +168,10 @@ term-returns t c = let args = c .before .before .before .before .before .args in
     let vs = now (args .values) in
     (none-leftT (rowsBy (now (args .walks)) vs) (assigned vs (now (args .env))) (now (args .q)) (now (args .z)) (now (args .memo)) (args .level) (c .if1 .taken), search needs)
 
-term-term-record-requires : (t : ℕ) → term-lts.Need-term-record-requires (term-claims t) (term-at t) term.Post
-term-term-record-requires t c κs = search needs
-
-term-enum-known-variable : (t : ℕ) → term-lts.Need-enum-known-variable (term-claims t) (term-at t) term.Post
-term-enum-known-variable t c = search needs
-
 term-returns-2 : (t : ℕ) → term-lts.Need-returns-2 (term-claims t) (term-at t) term.Post
 term-returns-2 t c = let args = c .before .before .before .before .before .before .before .args in
     let vs = now (args .values) in
     (no-term (rowsBy (now (args .walks)) vs) (assigned vs (now (args .env))) (now (args .q)) (now (args .z)) (now (args .memo)) (args .level) _ (c .before .before .if1 .left) (c .before .term-record .ensures) (c .match .keys2), search needs)
-
-term-byte-requires : (t : ℕ) → term-lts.Need-byte-requires (term-claims t) (term-at t) term.Post
-term-byte-requires t c κs = search needs
-
-term-record-length-requires : (t : ℕ) → term-lts.Need-record-length-requires (term-claims t) (term-at t) term.Post
-term-record-length-requires t c κs = search needs
-
-term-tail-requires : (t : ℕ) → term-lts.Need-tail-requires (term-claims t) (term-at t) term.Post
-term-tail-requires t c κs = search needs
-
-term-tail-sizes-requires : (t : ℕ) → term-lts.Need-tail-sizes-requires (term-claims t) (term-at t) term.Post
-term-tail-sizes-requires t c κs = search needs
-
-term-sub-condition : (t : ℕ) → term-lts.Need-sub-condition (term-claims t) (term-at t) term.Post
-term-sub-condition t c = search needs
-
-term-condition-requires : (t : ℕ) → term-lts.Need-condition-requires (term-claims t) (term-at t) term.Post
-term-condition-requires t c κs = search needs
-
-term-value-requires : (t : ℕ) → term-lts.Need-value-requires (term-claims t) (term-at t) term.Post
-term-value-requires t c κs = search needs
-
-term-remember-requires : (t : ℕ) → term-lts.Need-remember-requires (term-claims t) (term-at t) term.Post
-term-remember-requires t c κs = search needs
-
-term-same-length : (t : ℕ) → term-lts.Need-same-length (term-claims t) (term-at t) term.Post
-term-same-length t c = search needs
-
-term-same-length-2 : (t : ℕ) → term-lts.Need-same-length-2 (term-claims t) (term-at t) term.Post
-term-same-length-2 t c = search needs
 
 term-returns-3 : (t : ℕ) → term-lts.Need-returns-3 (term-claims t) (term-at t) term.Post
 term-returns-3 t c = let value = c .before .before .before .before .before .value in
@@ -318,60 +192,60 @@ pub +condition+term-spec : {M : Type 1} → statement M
     (condition-at t)
     condition.Post
     (condition-returns t)
-    (condition-sub-l t)
-    (condition-byte-requires t)
-    (condition-record-length-requires t)
-    (condition-size-at-requires t)
-    (condition-add-b t)
-    (condition-tail-requires t)
-    (condition-tail-sizes-requires t)
-    (condition-tail-requires-2 t)
-    (condition-tail-sizes-requires-2 t)
-    (condition-condition-record-requires t)
-    (condition-enum-told t)
-    (condition-condition-requires t)
-    (condition-enum-told-2 t)
-    (condition-condition-requires-2 t)
+    (λ c. search needs)
+    (λ c κs. search needs)
+    (λ c κs. search needs)
+    (λ c κs. search needs)
+    (λ c. search needs)
+    (λ c κs. search needs)
+    (λ c κs. search needs)
+    (λ c κs. search needs)
+    (λ c κs. search needs)
+    (λ c κs. search needs)
+    (λ c. search needs)
+    (λ c κs. search needs)
+    (λ c. search needs)
+    (λ c κs. search needs)
     (condition-condition-requires-3 t)
-    (condition-enum-told-3 t)
-    (condition-condition-requires-4 t)
+    (λ c. search needs)
+    (λ c κs. search needs)
     (condition-condition-requires-5 t)
-    (condition-enum-told-4 t)
-    (condition-term-requires t)
+    (λ c. search needs)
+    (λ c κs. search needs)
     (condition-term-requires-2 t)
-    (condition-enum-told-5 t)
-    (condition-condition-requires-6 t)
-    (condition-same-length t)
-    (condition-same-length-2 t)
+    (λ c. search needs)
+    (λ c κs. search needs)
+    (λ c. search needs)
+    (λ c. search needs)
     (condition-returns-2 t)
-    (condition-same-length-3 t)
-    (condition-same-length-4 t)
+    (λ c. search needs)
+    (λ c. search needs)
     (condition-returns-3 t)
-    (condition-same-length-5 t)
-    (condition-same-length-6 t)
+    (λ c. search needs)
+    (λ c. search needs)
     (condition-returns-4 t)
-    (condition-same-length-7 t)
-    (condition-same-length-8 t)
+    (λ c. search needs)
+    (λ c. search needs)
     (condition-returns-5 t)
-    (condition-same-length-9 t)
-    (condition-same-length-10 t)
+    (λ c. search needs)
+    (λ c. search needs)
     (condition-returns-6 t)
     (condition-returns-7 t))
     λ t. term-lts.spec (term-claims t)
     (term-at t)
     term.Post
     (term-returns t)
-    (term-term-record-requires t)
-    (term-enum-known-variable t)
+    (λ c κs. search needs)
+    (λ c. search needs)
     (term-returns-2 t)
-    (term-byte-requires t)
-    (term-record-length-requires t)
-    (term-tail-requires t)
-    (term-tail-sizes-requires t)
-    (term-sub-condition t)
-    (term-condition-requires t)
-    (term-value-requires t)
-    (term-remember-requires t)
-    (term-same-length t)
-    (term-same-length-2 t)
+    (λ c κs. search needs)
+    (λ c κs. search needs)
+    (λ c κs. search needs)
+    (λ c κs. search needs)
+    (λ c. search needs)
+    (λ c κs. search needs)
+    (λ c κs. search needs)
+    (λ c κs. search needs)
+    (λ c. search needs)
+    (λ c. search needs)
     (term-returns-3 t)

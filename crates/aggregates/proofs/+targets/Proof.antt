@@ -36,30 +36,6 @@ targets-returns t c = let args = c .before .before .before .before .before .args
     let vs = now (args .values) in
     (targets-none (rowsBy (now (args .walks)) vs) (assigned vs (now (args .env))) (now (args .q)) (now (args .z)) (now (args .memo)) (args .left) (args .level) (c .if1 .taken), search needs)
 
-targets-target-term-requires : (t : ℕ) → targets-lts.Need-target-term-requires (targets-claims t) (targets-at t) targets.Post
-targets-target-term-requires t c κs = search needs
-
-targets-size-at-requires : (t : ℕ) → targets-lts.Need-size-at-requires (targets-claims t) (targets-at t) targets.Post
-targets-size-at-requires t c κs = search needs
-
-targets-tail-requires : (t : ℕ) → targets-lts.Need-tail-requires (targets-claims t) (targets-at t) targets.Post
-targets-tail-requires t c κs = search needs
-
-targets-tail-sizes-requires : (t : ℕ) → targets-lts.Need-tail-sizes-requires (targets-claims t) (targets-at t) targets.Post
-targets-tail-sizes-requires t c κs = search needs
-
-targets-sub-targets : (t : ℕ) → targets-lts.Need-sub-targets (targets-claims t) (targets-at t) targets.Post
-targets-sub-targets t c = search needs
-
-targets-targets-requires : (t : ℕ) → targets-lts.Need-targets-requires (targets-claims t) (targets-at t) targets.Post
-targets-targets-requires t c κs = search needs
-
-targets-same-length : (t : ℕ) → targets-lts.Need-same-length (targets-claims t) (targets-at t) targets.Post
-targets-same-length t c = search needs
-
-targets-same-length-2 : (t : ℕ) → targets-lts.Need-same-length-2 (targets-claims t) (targets-at t) targets.Post
-targets-same-length-2 t c = search needs
-
 targets-returns-2 : (t : ℕ) → targets-lts.Need-returns-2 (targets-claims t) (targets-at t) targets.Post
 targets-returns-2 t c = let targets = c .before .before .before .targets in
     let tail-sizes = c .before .before .before .before .before .before .tail-sizes in
@@ -76,12 +52,12 @@ pub +targets-spec : {M : Type 1} → statement M
     (targets-at t)
     targets.Post
     (targets-returns t)
-    (targets-target-term-requires t)
-    (targets-size-at-requires t)
-    (targets-tail-requires t)
-    (targets-tail-sizes-requires t)
-    (targets-sub-targets t)
-    (targets-targets-requires t)
-    (targets-same-length t)
-    (targets-same-length-2 t)
+    (λ c κs. search needs)
+    (λ c κs. search needs)
+    (λ c κs. search needs)
+    (λ c κs. search needs)
+    (λ c. search needs)
+    (λ c κs. search needs)
+    (λ c. search needs)
+    (λ c. search needs)
     (targets-returns-2 t)

@@ -35,21 +35,9 @@ Inv-loop t q z walks chains vs memo env₀ column own walk n old start none curs
 abbrev μ-loop : tie.MeasureT-loop
 μ-loop t q z walks chains vs memo env₀ column own walk n old start none cursor next taken₀ i₀ env taken i = n - i
 
-walk-of-requires : tie.Need-walk-of-requires Inv-loop μ-loop
-walk-of-requires c κs = search needs
-
-mul-old : tie.Need-mul-old Inv-loop μ-loop
-mul-old c = search needs
-
 slice-read-old : tie.Need-slice-read-old Inv-loop μ-loop
 slice-read-old c = let pre = c .before .before .before .before .before .before .before .before .pre in
     omega (arith, pre .0, pre .2)
-
-size-at-requires : tie.Need-size-at-requires Inv-loop μ-loop
-size-at-requires c κs = search needs
-
-slice-aggregate-prepare : tie.Need-slice-aggregate-prepare Inv-loop μ-loop
-slice-aggregate-prepare c = search needs
 
 prepare-requires : tie.Need-prepare-requires Inv-loop μ-loop
 prepare-requires c κs = (c .before .before .before .before .before .before .before .before .before .before .before .pre .0, c .before .before .size-at .ensures .1)
@@ -59,9 +47,6 @@ loop-holds c = let walk-of = c .before .before .before .before .before .walk-of 
     let args = c .before .before .before .before .before .before .before .before .before .before .before .before .args in
     let env = now (args .env) in let vs = now (args .values) in let walks = now (args .walks) in let variable = args .column .variable in
     (places-start env variable (getD (now (c .before .before .before .before .before .before .before .before .before .before .before .before .args .env)) (c .before .before .before .before .before .before .before .before .before .before .before .before .args .column .variable) 0) refl, taken-start (placeAt walks (walk-of .result)) vs (meets (now (args .t)) (now (args .q)) (now (args .z)) walks vs (now (args .memo)) env variable) (args .column .attribute) _ nothing-taken, omega arith, refl, λ h. absurd (omega arith))
-
-slice-aggregate-next-row : tie.Need-slice-aggregate-next-row Inv-loop μ-loop
-slice-aggregate-next-row c = search needs
 
 next-row-requires : tie.Need-next-row-requires Inv-loop μ-loop
 next-row-requires c κs = let loop = c .before .loop in
@@ -152,9 +137,6 @@ loop-again c = let both = c .before .before .before .both in let if2 = c .if2 in
     let env = now (args .env) in let memo = now (args .memo) in let q = now (args .q) in let vs = now (args .values) in let walks = now (args .walks) in let z = now (args .z) in let attribute = args .column .attribute in let variable = args .column .variable in
     (places-back (loop .env) env _ variable (getD (now (c .before .before .before .before .before .before .before .before .before .before .before .before .before .before .before .before .before .before .before .before .before .before .args .env)) (c .before .before .before .before .before .before .before .before .before .before .before .before .before .before .before .before .before .before .before .before .before .before .args .column .variable) 0) (place .result) (loop .inv .0) refl _ (both .ensures .1), take-next (now (args .t)) q z walks vs memo env variable attribute (placeAt walks (walk-of .result)) (prepare .result) (size-at .result) (replicate 1 0) (size-at .ensures .0) (prepare .ensures walks (nothing (now (args .t)) walks vs (replicate 1 0) (getD-same {A = ℕ} 1 0) .faithful)) _ (next-row .result) (place .result) (loop .taken) _ (next-row .ensures .1 .1 (if1 .left)) (place .ensures) (places-on (loop .env) env _ variable (getD (now (c .before .before .before .before .before .before .before .before .before .before .before .before .before .before .before .before .before .before .before .before .before .before .args .env)) (c .before .before .before .before .before .before .before .before .before .before .before .before .before .before .before .before .before .before .before .before .before .before .args .column .variable) 0) (place .result) (loop .inv .0) refl) (omega (arith, pre .0, pre .2)) (taken-over (now (args .t)) q z walks vs memo env variable attribute (placeAt walks (walk-of .result)) (prepare .result) (size-at .result) (replicate 1 0) (size-at .ensures .0) (prepare .ensures walks (nothing (now (args .t)) walks vs (replicate 1 0) (getD-same {A = ℕ} 1 0) .faithful)) (loop .i) (next-row .result) (loop .taken) (next-row .ensures .0 .0) (next-row .ensures .1 .0) (loop .inv .1)) (row-no (now (args .t)) q z walks vs memo (set (loop .env) variable (place .result)) (prepare .result .next) (both .result) (loop .taken) (both .ensures .0) (if2 .taken) _) (loop .inv .1 .bounded), omega (arith, if1 .left), places-length (loop .env) env _ variable (getD (now (c .before .before .before .before .before .before .before .before .before .before .before .before .before .before .before .before .before .before .before .before .before .before .args .env)) (c .before .before .before .before .before .before .before .before .before .before .before .before .before .before .before .before .before .before .before .before .before .before .args .column .variable) 0) (place .result) (loop .inv .0) refl _ (both .ensures .1) (loop .inv .3), λ h. (let e : next-row .result + 1 - 1 ≡ next-row .result = omega arith in ap (λ (i : ℕ). stops (prepare .result) (tupleAt vs ((placeAt walks (walk-of .result)) i))) e) ∙ next-row .ensures .1 .1 (if1 .left))
 
-value-requires : tie.Need-value-requires Inv-loop μ-loop
-value-requires c κs = search needs
-
 add-requires : tie.Need-add-requires Inv-loop μ-loop
 add-requires c κs = let place = c .before .before .before .before .before .before .place in
     let if1 = c .before .before .before .before .before .before .before .if1 in
@@ -191,15 +173,15 @@ take-spec =
     (tie.spec
     Inv-loop
     μ-loop
-    walk-of-requires
+    (λ c κs. search needs)
     (λ c. search needs)
-    mul-old
+    (λ c. search needs)
     slice-read-old
-    size-at-requires
-    slice-aggregate-prepare
+    (λ c κs. search needs)
+    (λ c. search needs)
     prepare-requires
     loop-holds
-    slice-aggregate-next-row
+    (λ c. search needs)
     next-row-requires
     cast-env
     mul-env
@@ -214,7 +196,7 @@ take-spec =
     both-requires
     loop-less
     loop-again
-    value-requires
+    (λ c κs. search needs)
     add-requires
     loop-less-2
     loop-again-2)

@@ -24,21 +24,6 @@ abbrev μ-loop : tie.MeasureT-loop
 loop-holds : tie.Need-loop-holds Inv-loop μ-loop
 loop-holds c = (refl, refl)
 
-binding-requires : tie.Need-binding-requires Inv-loop μ-loop
-binding-requires c κs = search needs
-
-fill-one-requires : tie.Need-fill-one-requires Inv-loop μ-loop
-fill-one-requires c κs = search needs
-
-step-requires : tie.Need-step-requires Inv-loop μ-loop
-step-requires c κs = search needs
-
-add-at : tie.Need-add-at Inv-loop μ-loop
-add-at c = search needs
-
-loop-less : tie.Need-loop-less Inv-loop μ-loop
-loop-less c = search needs
-
 loop-again : tie.Need-loop-again Inv-loop μ-loop
 loop-again c =
     let c₃ = c .before .before .before in let fill-one = c₃ .fill-one in
@@ -47,9 +32,6 @@ loop-again c =
     let c₇ = c₆ .before in let loop = c₇ .loop in
     let c₁₁ = c₇ .before .before .before .before in let args = c₁₁ .args in
     (filled-on (now (args .catalogue)) (now (args .query)) (loop .at) (c .step .result) (loop-test .taken) (c .step .ensures .0) (binding .result) (binding .ensures) _ _ _ (fill-one .ensures) (loop .inv .0), fill-one .kept .1 .1 .0 ∙ loop .inv .1)
-
-same-length : tie.Need-same-length Inv-loop μ-loop
-same-length c = search needs
 
 returns : tie.Need-returns Inv-loop μ-loop
 returns c = filled-end (now (c .before .before .before .before .before .args .catalogue)) (now (c .before .before .before .before .before .args .query)) (c .before .loop .at) (c .loop-test .left) _ _ (c .before .loop .inv .0)
@@ -61,11 +43,11 @@ fill-spec =
     Inv-loop
     μ-loop
     loop-holds
-    binding-requires
-    fill-one-requires
-    step-requires
-    add-at
-    loop-less
+    (λ c κs. search needs)
+    (λ c κs. search needs)
+    (λ c κs. search needs)
+    (λ c. search needs)
+    (λ c. search needs)
     loop-again
-    same-length
+    (λ c. search needs)
     returns)

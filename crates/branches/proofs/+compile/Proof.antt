@@ -33,30 +33,6 @@ compile-below t = and 4 compile-kinds.ps (falls 4 compile-kinds.ps _<_ μ-compil
 abbrev compile-claims : ℕ → compile-lts.Claims
 compile-claims t = (parts-at-reads.Asked, parts-at-reads.Learnt, search-at-reads.Asked, search-at-reads.Learnt, single-reads.Asked, single-reads.Learnt, compile-below t, compile.Post, narrow-reads.Asked, narrow-reads.Learnt, write-reads.Asked, write-reads.Learnt)
 
-compile-sub-parts-at : (t : ℕ) → compile-lts.Need-sub-parts-at (compile-claims t) (compile-at t) compile.Post
-compile-sub-parts-at t c = search needs
-
-compile-parts-at-requires : (t : ℕ) → compile-lts.Need-parts-at-requires (compile-claims t) (compile-at t) compile.Post
-compile-parts-at-requires t c κs = search needs
-
-compile-sub-search-at : (t : ℕ) → compile-lts.Need-sub-search-at (compile-claims t) (compile-at t) compile.Post
-compile-sub-search-at t c = search needs
-
-compile-search-at-requires : (t : ℕ) → compile-lts.Need-search-at-requires (compile-claims t) (compile-at t) compile.Post
-compile-search-at-requires t c κs = search needs
-
-compile-single-requires : (t : ℕ) → compile-lts.Need-single-requires (compile-claims t) (compile-at t) compile.Post
-compile-single-requires t c κs = search needs
-
-compile-same-length : (t : ℕ) → compile-lts.Need-same-length (compile-claims t) (compile-at t) compile.Post
-compile-same-length t c = search needs
-
-compile-returns : (t : ℕ) → compile-lts.Need-returns (compile-claims t) (compile-at t) compile.Post
-compile-returns t c = search needs
-
-compile-sub-last : (t : ℕ) → compile-lts.Need-sub-last (compile-claims t) (compile-at t) compile.Post
-compile-sub-last t c = search needs
-
 compile-sub-compile : (t : ℕ) → compile-lts.Need-sub-compile (compile-claims t) (compile-at t) compile.Post
 compile-sub-compile t c = positive (c .before .before .before .before .before .before .before .args .level) ((c .before .search-at .ensures (c .if2 .left)) .deep)
 
@@ -65,21 +41,6 @@ compile-compile-requires t c κs = let if2 = c .before .if2 in
     let search-at = c .before .before .search-at in
     let args = c .before .before .before .before .before .before .before .before .args in let pre = c .before .before .before .before .before .before .before .before .pre in
     (falls-by (args .level) t ((search-at .ensures (if2 .left)) .deep) (pre .0), (pre .1 .0, pre .1 .1, omega (arith, (search-at .ensures (if2 .left)) .room, pre .1 .2), omega (arith, pre .1 .3), omega (arith, pre .1 .1), omega (arith, pre .1 .1), (search-at .ensures (if2 .left)) .low, omega (arith, pre .1 .7)))
-
-compile-add-write : (t : ℕ) → compile-lts.Need-add-write (compile-claims t) (compile-at t) compile.Post
-compile-add-write t c = search needs
-
-compile-narrow-requires : (t : ℕ) → compile-lts.Need-narrow-requires (compile-claims t) (compile-at t) compile.Post
-compile-narrow-requires t c κs = search needs
-
-compile-write-requires : (t : ℕ) → compile-lts.Need-write-requires (compile-claims t) (compile-at t) compile.Post
-compile-write-requires t c κs = search needs
-
-compile-add-result : (t : ℕ) → compile-lts.Need-add-result (compile-claims t) (compile-at t) compile.Post
-compile-add-result t c = search needs
-
-compile-same-length-2 : (t : ℕ) → compile-lts.Need-same-length-2 (compile-claims t) (compile-at t) compile.Post
-compile-same-length-2 t c = search needs
 
 compile-returns-2 : (t : ℕ) → compile-lts.Need-returns-2 (compile-claims t) (compile-at t) compile.Post
 compile-returns-2 t c = let write = c .before .before .write in
@@ -104,9 +65,6 @@ compile-compile-requires-2 t c κs = let args = c .before .before .before .befor
     let if1 = c .before .before .if1 in
     (falls-by (args .level) t ((parts-at .ensures (if1 .left)) .deep) (pre .0), (pre .1 .0, pre .1 .1, pre .1 .2, pre .1 .3, pre .1 .5, pre .1 .4, (parts-at .ensures (if1 .left)) .first, omega (arith, pre .1 .7)))
 
-compile-same-length-3 : (t : ℕ) → compile-lts.Need-same-length-3 (compile-claims t) (compile-at t) compile.Post
-compile-same-length-3 t c = search needs
-
 compile-returns-3 : (t : ℕ) → compile-lts.Need-returns-3 (compile-claims t) (compile-at t) compile.Post
 compile-returns-3 t c = let args = c .before .before .before .before .before .before .before .before .before .before .args in
     let parts-at = c .before .before .before .before .before .before .parts-at in
@@ -114,9 +72,6 @@ compile-returns-3 t c = let args = c .before .before .before .before .before .be
     let if3 = c .before .before .before .before .if3 in
     let compile2 = c .before .before .compile2 in
     (compile2 .ensures .0, joined-not (args .room .next) (args .ways .met) (args .ways .unmet) (now (args .q)) (now (args .z)) (now (args .memo)) (decode (args .level - 1) (drop (parts-at .result .first) (now (args .q))) (drop (parts-at .result .first) (now (args .z)))) (decode (args .level - 1) (drop (parts-at .result .second) (now (args .q))) (drop (parts-at .result .second) (now (args .z)))) (decode (args .level) (drop (args .place) (now (args .q))) (drop (args .place) (now (args .z)))) (parts-at .result .kind) ((parts-at .ensures (if1 .left)) .whole) (compile2 .result) (now (args .t)) (compile2 .last .1 .1 .1 .1 .1 .0) (if3 .taken) (compile2 .ensures .1))
-
-compile-sub-last-2 : (t : ℕ) → compile-lts.Need-sub-last-2 (compile-claims t) (compile-at t) compile.Post
-compile-sub-last-2 t c = search needs
 
 compile-compile-requires-3 : (t : ℕ) → compile-lts.Need-compile-requires-3 (compile-claims t) (compile-at t) compile.Post
 compile-compile-requires-3 t c κs = let args = c .before .before .before .before .before .before .before .args in
@@ -126,9 +81,6 @@ compile-compile-requires-3 t c κs = let args = c .before .before .before .befor
     let if3 = c .before .if3 in
     (falls-by (args .level) t ((parts-at .ensures (if1 .left)) .deep) (pre .0), (pre .1 .0, pre .1 .1, omega (arith, (parts-at .ensures (if1 .left)) .room (omega (arith, if1 .left, if3 .left)), pre .1 .2), omega (arith, pre .1 .3), pre .1 .4, pre .1 .5, (parts-at .ensures (if1 .left)) .second, omega (arith, pre .1 .7)))
 
-compile-add-next : (t : ℕ) → compile-lts.Need-add-next (compile-claims t) (compile-at t) compile.Post
-compile-add-next t c = search needs
-
 compile-compile-requires-4 : (t : ℕ) → compile-lts.Need-compile-requires-4 (compile-claims t) (compile-at t) compile.Post
 compile-compile-requires-4 t c κs = let args = c .before .before .before .before .before .before .before .before .before .before .before .before .args in
     let pre = c .before .before .before .before .before .before .before .before .before .before .before .before .pre in
@@ -137,9 +89,6 @@ compile-compile-requires-4 t c κs = let args = c .before .before .before .befor
     let if3 = c .before .before .before .before .before .before .if3 in
     let compile3 = c .before .before .before .before .compile3 in
     (falls-by (args .level) t ((parts-at .ensures (if1 .left)) .deep) (pre .0), (omega (arith, pre .1 .0, compile3 .kept), omega (arith, pre .1 .1, compile3 .ensures .0 .0), omega (arith, compile3 .ensures .0 .1, (parts-at .ensures (if1 .left)) .room (omega (arith, if1 .left, if3 .left)), pre .1 .2), pre .1 .3, omega arith, omega (arith, pre .1 .5, compile3 .ensures .0 .0), (parts-at .ensures (if1 .left)) .first, omega (arith, pre .1 .7)))
-
-compile-same-length-4 : (t : ℕ) → compile-lts.Need-same-length-4 (compile-claims t) (compile-at t) compile.Post
-compile-same-length-4 t c = search needs
 
 compile-returns-4 : (t : ℕ) → compile-lts.Need-returns-4 (compile-claims t) (compile-at t) compile.Post
 compile-returns-4 t c = let args = c .before .before .before .before .before .before .before .before .before .before .before .before .before .before .before .args in
@@ -161,9 +110,6 @@ compile-compile-requires-5 t c κs = let args = c .before .before .before .befor
     let compile3 = c .before .before .before .before .compile3 in
     (falls-by (args .level) t ((parts-at .ensures (if1 .left)) .deep) (pre .0), (omega (arith, pre .1 .0, compile3 .kept), omega (arith, pre .1 .1, compile3 .ensures .0 .0), omega (arith, compile3 .ensures .0 .1, (parts-at .ensures (if1 .left)) .room (omega (arith, if1 .left, if3 .left)), pre .1 .2), pre .1 .3, omega (arith, pre .1 .4, compile3 .ensures .0 .0), omega arith, (parts-at .ensures (if1 .left)) .first, omega (arith, pre .1 .7)))
 
-compile-same-length-5 : (t : ℕ) → compile-lts.Need-same-length-5 (compile-claims t) (compile-at t) compile.Post
-compile-same-length-5 t c = search needs
-
 compile-returns-5 : (t : ℕ) → compile-lts.Need-returns-5 (compile-claims t) (compile-at t) compile.Post
 compile-returns-5 t c = let args = c .before .before .before .before .before .before .before .before .before .before .before .before .before .before .before .args in
     let pre = c .before .before .before .before .before .before .before .before .before .before .before .before .before .before .before .pre in
@@ -179,32 +125,32 @@ pub +compile-spec : {M : Type 1} → statement M
 +compile-spec = close μ-compile λ t. compile-lts.spec (compile-claims t)
     (compile-at t)
     compile.Post
-    (compile-sub-parts-at t)
-    (compile-parts-at-requires t)
-    (compile-sub-search-at t)
-    (compile-search-at-requires t)
-    (compile-single-requires t)
-    (compile-same-length t)
-    (compile-returns t)
-    (compile-sub-last t)
+    (λ c. search needs)
+    (λ c κs. search needs)
+    (λ c. search needs)
+    (λ c κs. search needs)
+    (λ c κs. search needs)
+    (λ c. search needs)
+    (λ c. search needs)
+    (λ c. search needs)
     (compile-sub-compile t)
     (compile-compile-requires t)
-    (compile-add-write t)
-    (compile-narrow-requires t)
-    (compile-write-requires t)
-    (compile-add-result t)
-    (compile-same-length-2 t)
+    (λ c. search needs)
+    (λ c κs. search needs)
+    (λ c κs. search needs)
+    (λ c. search needs)
+    (λ c. search needs)
     (compile-returns-2 t)
     (compile-sub-l t)
     (compile-compile-requires-2 t)
-    (compile-same-length-3 t)
+    (λ c. search needs)
     (compile-returns-3 t)
-    (compile-sub-last-2 t)
+    (λ c. search needs)
     (compile-compile-requires-3 t)
-    (compile-add-next t)
+    (λ c. search needs)
     (compile-compile-requires-4 t)
-    (compile-same-length-4 t)
+    (λ c. search needs)
     (compile-returns-4 t)
     (compile-compile-requires-5 t)
-    (compile-same-length-5 t)
+    (λ c. search needs)
     (compile-returns-5 t)

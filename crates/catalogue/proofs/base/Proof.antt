@@ -24,23 +24,11 @@ loop-holds : tie.Need-loop-holds Inv-loop μ-loop
 unfolding baseOf
 loop-holds c = (refl, omega arith, omega arith)
 
-rows-requires : tie.Need-rows-requires Inv-loop μ-loop
-rows-requires c κs = search needs
-
-attributes-requires : tie.Need-attributes-requires Inv-loop μ-loop
-attributes-requires c κs = search needs
-
 mul-at : tie.Need-mul-at Inv-loop μ-loop
 mul-at c = omega (arith, mul-le-mul (c .before .rows .ensures .1) (c .attributes .ensures .1))
 
 add-at : tie.Need-add-at Inv-loop μ-loop
 add-at c = omega (arith, mul-le-mul (c .before .rows .ensures .1) (c .attributes .ensures .1))
-
-add-i : tie.Need-add-i Inv-loop μ-loop
-add-i c = search needs
-
-loop-less : tie.Need-loop-less Inv-loop μ-loop
-loop-less c = search needs
 
 loop-again : tie.Need-loop-again Inv-loop μ-loop
 loop-again c =
@@ -65,11 +53,11 @@ base-spec =
     Inv-loop
     μ-loop
     loop-holds
-    rows-requires
-    attributes-requires
+    (λ c κs. search needs)
+    (λ c κs. search needs)
     mul-at
     add-at
-    add-i
-    loop-less
+    (λ c. search needs)
+    (λ c. search needs)
     loop-again
     returns)

@@ -26,9 +26,6 @@ Inv-loop catalogue n end i₀ i = ((r : ℕ) → r < i → L.knownOf catalogue r
 abbrev μ-loop : tie.MeasureT-loop
 μ-loop catalogue n end i₀ i = end - i
 
-count-requires : tie.Need-count-requires Inv-loop μ-loop
-count-requires c κs = search needs
-
 returns : tie.Need-returns Inv-loop μ-loop
 returns c = sym (refused (now (c .before .before .before .args .catalogue)) (λ v. omega (arith, v .some, c .before .count .ensures)))
 
@@ -46,14 +43,8 @@ returns-3 c =
     let count = count in
     sym (refused (now (args .catalogue)) (λ v. omega (arith, v .size, count .ensures)))
 
-cast-end : tie.Need-cast-end Inv-loop μ-loop
-cast-end c = search needs
-
 loop-holds : tie.Need-loop-holds Inv-loop μ-loop
 loop-holds c = ((λ r l. absurd (omega arith)), omega arith)
-
-known-requires : tie.Need-known-requires Inv-loop μ-loop
-known-requires c κs = search needs
 
 returns-4 : tie.Need-returns-4 Inv-loop μ-loop
 returns-4 c =
@@ -66,12 +57,6 @@ returns-4 c =
     let the-loop = the-loop in
     let known = known in
     unknown (now (args .catalogue)) (the-loop .i) (known .result) (omega (arith, count .ensures)) (known .ensures) (not-true _ (c .if4 .taken))
-
-add-i : tie.Need-add-i Inv-loop μ-loop
-add-i c = search needs
-
-loop-less : tie.Need-loop-less Inv-loop μ-loop
-loop-less c = search needs
 
 loop-again : tie.Need-loop-again Inv-loop μ-loop
 loop-again c =
@@ -99,16 +84,16 @@ fails-10-spec =
     (tie.spec
     Inv-loop
     μ-loop
-    count-requires
+    (λ c κs. search needs)
     returns
     returns-2
     mul-if3
     returns-3
-    cast-end
+    (λ c. search needs)
     loop-holds
-    known-requires
+    (λ c κs. search needs)
     returns-4
-    add-i
-    loop-less
+    (λ c. search needs)
+    (λ c. search needs)
     loop-again
     returns-5)

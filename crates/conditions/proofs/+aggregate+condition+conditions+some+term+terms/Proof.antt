@@ -123,33 +123,6 @@ term-claims t = (tail-reads.Asked, tail-reads.Learnt, term-record-reads.Asked, t
 abbrev terms-claims : ℕ → terms-lts.Claims
 terms-claims t = (term-below t, term.Post, also-reads.Asked, also-reads.Learnt)
 
-aggregate-slice-aggregate-bind : (t : ℕ) → aggregate-lts.Need-slice-aggregate-bind (aggregate-claims t) (aggregate-at t) aggregate.Post
-aggregate-slice-aggregate-bind t c = search needs
-
-aggregate-bind-requires : (t : ℕ) → aggregate-lts.Need-bind-requires (aggregate-claims t) (aggregate-at t) aggregate.Post
-aggregate-bind-requires t c κs = search needs
-
-aggregate-slice-aggregate-condition : (t : ℕ) → aggregate-lts.Need-slice-aggregate-condition (aggregate-claims t) (aggregate-at t) aggregate.Post
-aggregate-slice-aggregate-condition t c = search needs
-
-aggregate-condition-requires : (t : ℕ) → aggregate-lts.Need-condition-requires (aggregate-claims t) (aggregate-at t) aggregate.Post
-aggregate-condition-requires t c κs = search needs
-
-aggregate-has-requires : (t : ℕ) → aggregate-lts.Need-has-requires (aggregate-claims t) (aggregate-at t) aggregate.Post
-aggregate-has-requires t c κs = search needs
-
-aggregate-also-requires : (t : ℕ) → aggregate-lts.Need-also-requires (aggregate-claims t) (aggregate-at t) aggregate.Post
-aggregate-also-requires t c κs = search needs
-
-aggregate-known-requires : (t : ℕ) → aggregate-lts.Need-known-requires (aggregate-claims t) (aggregate-at t) aggregate.Post
-aggregate-known-requires t c κs = search needs
-
-aggregate-also-requires-2 : (t : ℕ) → aggregate-lts.Need-also-requires-2 (aggregate-claims t) (aggregate-at t) aggregate.Post
-aggregate-also-requires-2 t c κs = search needs
-
-aggregate-same-length : (t : ℕ) → aggregate-lts.Need-same-length (aggregate-claims t) (aggregate-at t) aggregate.Post
-aggregate-same-length t c = search needs
-
 aggregate-returns : (t : ℕ) → aggregate-lts.Need-returns (aggregate-claims t) (aggregate-at t) aggregate.Post
 aggregate-returns t c =
     let c₁ = c .before in let known = c₁ .known in
@@ -164,30 +137,6 @@ condition-returns : (t : ℕ) → condition-lts.Need-returns (condition-claims t
 condition-returns t c =
     let c₅ = c .before .before .before .before .before in let args = c₅ .args in
     let h = no-level (shapeIn (now (args .catalogue))) (args .limit) (args .level) (scopeOf (now (args .reach))) (now (args .q)) (args .at) (now (args .z)) (c .if1 .taken) in (h .0, (h .1, refl))
-
-condition-sub-l : (t : ℕ) → condition-lts.Need-sub-l (condition-claims t) (condition-at t) condition.Post
-condition-sub-l t c = search needs
-
-condition-tail-requires : (t : ℕ) → condition-lts.Need-tail-requires (condition-claims t) (condition-at t) condition.Post
-condition-tail-requires t c κs = search needs
-
-condition-condition-record-requires : (t : ℕ) → condition-lts.Need-condition-record-requires (condition-claims t) (condition-at t) condition.Post
-condition-condition-record-requires t c κs = search needs
-
-condition-record-length-requires : (t : ℕ) → condition-lts.Need-record-length-requires (condition-claims t) (condition-at t) condition.Post
-condition-record-length-requires t c κs = search needs
-
-condition-leaf-requires : (t : ℕ) → condition-lts.Need-leaf-requires (condition-claims t) (condition-at t) condition.Post
-condition-leaf-requires t c κs = search needs
-
-condition-enum-told : (t : ℕ) → condition-lts.Need-enum-told (condition-claims t) (condition-at t) condition.Post
-condition-enum-told t c = search needs
-
-condition-record-length-requires-2 : (t : ℕ) → condition-lts.Need-record-length-requires-2 (condition-claims t) (condition-at t) condition.Post
-condition-record-length-requires-2 t c κs = search needs
-
-condition-add-condition : (t : ℕ) → condition-lts.Need-add-condition (condition-claims t) (condition-at t) condition.Post
-condition-add-condition t c = search needs
 
 condition-condition-requires : (t : ℕ) → condition-lts.Need-condition-requires (condition-claims t) (condition-at t) condition.Post
 condition-condition-requires t c κs =
@@ -210,12 +159,6 @@ condition-parent-requires t c κs =
     let q = now (args .q) in
     omega (arith, condition-ends q _ (not-room q (now (tail .result)) (args .at) (tail .ensures) (condition-record .result) (condition-record .ensures) (record-length2 .result) (record-length2 .ensures .0) (enum-told .given .1)) _ _ _ _ _ (condition .ensures .0), good)
 
-condition-record-length-requires-3 : (t : ℕ) → condition-lts.Need-record-length-requires-3 (condition-claims t) (condition-at t) condition.Post
-condition-record-length-requires-3 t c κs = search needs
-
-condition-add-conditions : (t : ℕ) → condition-lts.Need-add-conditions (condition-claims t) (condition-at t) condition.Post
-condition-add-conditions t c = search needs
-
 condition-conditions-requires : (t : ℕ) → condition-lts.Need-conditions-requires (condition-claims t) (condition-at t) condition.Post
 condition-conditions-requires t c κs =
     let c₂ = c .before .before in let record-length3 = c₂ .record-length3 in
@@ -237,12 +180,6 @@ condition-parent-requires-2 t c κs =
     let q = now (args .q) in
     omega (arith, conditions-ends q _ (both-room q (now (tail .result)) (args .at) (tail .ensures) (condition-record .result) (condition-record .ensures) (record-length3 .result) (record-length3 .ensures .0) (match .keys3)) _ _ _ _ _ (conditions .ensures .0), good)
 
-condition-enum-known-o : (t : ℕ) → condition-lts.Need-enum-known-o (condition-claims t) (condition-at t) condition.Post
-condition-enum-known-o t c = search needs
-
-condition-is-code-requires : (t : ℕ) → condition-lts.Need-is-code-requires (condition-claims t) (condition-at t) condition.Post
-condition-is-code-requires t c κs = search needs
-
 condition-returns-2 : (t : ℕ) → condition-lts.Need-returns-2 (condition-claims t) (condition-at t) condition.Post
 condition-returns-2 t c =
     let c₃ = c .before .before .before in let o = c₃ .o in
@@ -251,12 +188,6 @@ condition-returns-2 t c =
     let c₇ = c₆ .before in let if1 = c₇ .if1 in
     let c₁₂ = c₇ .before .before .before .before .before in let args = c₁₂ .args in
     let h = no-operator (shapeIn (now (args .catalogue))) (args .limit) (args .level) (scopeOf (now (args .reach))) (now (args .q)) (args .at) (now (args .z)) (if1 .left) (now (tail .result)) (tail .ensures) (condition-record .result) (condition-record .ensures) _ _ (o .given .1) (c .before .is-code .ensures) (c .if2 .taken) in (h .0, (h .1, refl))
-
-condition-record-length-requires-4 : (t : ℕ) → condition-lts.Need-record-length-requires-4 (condition-claims t) (condition-at t) condition.Post
-condition-record-length-requires-4 t c κs = search needs
-
-condition-add-terms : (t : ℕ) → condition-lts.Need-add-terms (condition-claims t) (condition-at t) condition.Post
-condition-add-terms t c = search needs
 
 condition-terms-requires : (t : ℕ) → condition-lts.Need-terms-requires (condition-claims t) (condition-at t) condition.Post
 condition-terms-requires t c κs =
@@ -279,15 +210,6 @@ condition-parent-requires-3 t c κs =
     let q = now (args .q) in
     omega (arith, terms-ends q _ (compare-room q (now (tail .result)) (args .at) (tail .ensures) (condition-record .result) (condition-record .ensures) (record-length4 .result) _ (record-length4 .ensures .0) (o .given .1)) _ _ _ _ _ (terms .ensures .0), good)
 
-condition-enum-known-v : (t : ℕ) → condition-lts.Need-enum-known-v (condition-claims t) (condition-at t) condition.Post
-condition-enum-known-v t c = search needs
-
-condition-record-length-requires-5 : (t : ℕ) → condition-lts.Need-record-length-requires-5 (condition-claims t) (condition-at t) condition.Post
-condition-record-length-requires-5 t c κs = search needs
-
-condition-add-some : (t : ℕ) → condition-lts.Need-add-some (condition-claims t) (condition-at t) condition.Post
-condition-add-some t c = search needs
-
 condition-some-requires : (t : ℕ) → condition-lts.Need-some-requires (condition-claims t) (condition-at t) condition.Post
 condition-some-requires t c κs =
     let c₂ = c .before .before in let record-length5 = c₂ .record-length5 in
@@ -309,12 +231,6 @@ condition-parent-requires-4 t c κs =
     let q = now (args .q) in
     omega (arith, some-ends q _ (some-room q (now (tail .result)) (args .at) (tail .ensures) (condition-record .result) (condition-record .ensures) (record-length5 .result) _ _ (record-length5 .ensures .0) (v .given .1)) _ _ _ _ _ _ (some .ensures .0), good)
 
-condition-enum-told-2 : (t : ℕ) → condition-lts.Need-enum-told-2 (condition-claims t) (condition-at t) condition.Post
-condition-enum-told-2 t c = search needs
-
-condition-same-length : (t : ℕ) → condition-lts.Need-same-length (condition-claims t) (condition-at t) condition.Post
-condition-same-length t c = search needs
-
 condition-returns-3 : (t : ℕ) → condition-lts.Need-returns-3 (condition-claims t) (condition-at t) condition.Post
 condition-returns-3 t c =
     let c₂ = c .before .before in let leaf = c₂ .leaf in
@@ -325,12 +241,6 @@ condition-returns-3 t c =
     let c₈ = c₇ .before in let if1 = c₈ .if1 in
     let c₁₃ = c₈ .before .before .before .before .before in let args = c₁₃ .args in
     let h = truth-is (shapeIn (now (args .catalogue))) (args .limit) (args .level) (if1 .left) (scopeOf (now (args .reach))) (now (args .q)) (args .at) (now (args .z)) (now (tail .result)) (tail .ensures) (condition-record .result) (condition-record .ensures) (record-length .result) _ _ (record-length .ensures .0) (match .keys1) (leaf .ensures .0) (leaf .ensures .1) in (h .0, (h .1, refl))
-
-condition-same-length-2 : (t : ℕ) → condition-lts.Need-same-length-2 (condition-claims t) (condition-at t) condition.Post
-condition-same-length-2 t c = search needs
-
-condition-same-length-3 : (t : ℕ) → condition-lts.Need-same-length-3 (condition-claims t) (condition-at t) condition.Post
-condition-same-length-3 t c = search needs
 
 condition-returns-4 : (t : ℕ) → condition-lts.Need-returns-4 (condition-claims t) (condition-at t) condition.Post
 condition-returns-4 t c =
@@ -344,12 +254,6 @@ condition-returns-4 t c =
     let c₂₁ = c₁₆ .before .before .before .before .before in let args = c₂₁ .args in
     let h = not-is (shapeIn (now (args .catalogue))) (args .limit) (args .level) (if1 .left) (scopeOf (now (args .reach))) (now (args .q)) (args .at) (now (args .z)) (now (tail .result)) (tail .ensures) (condition-record .result) (condition-record .ensures) (record-length2 .result) _ _ _ _ (parent .ensures .0) (parent .ensures .1) (record-length2 .ensures .0) (enum-told .given .1) (condition .ensures .0) (condition .ensures .1 .0) in (h .0, (h .1, condition .ensures .1 .1))
 
-condition-same-length-4 : (t : ℕ) → condition-lts.Need-same-length-4 (condition-claims t) (condition-at t) condition.Post
-condition-same-length-4 t c = search needs
-
-condition-same-length-5 : (t : ℕ) → condition-lts.Need-same-length-5 (condition-claims t) (condition-at t) condition.Post
-condition-same-length-5 t c = search needs
-
 condition-returns-5 : (t : ℕ) → condition-lts.Need-returns-5 (condition-claims t) (condition-at t) condition.Post
 condition-returns-5 t c =
     let c₂ = c .before .before in let parent2 = c₂ .parent2 in
@@ -361,12 +265,6 @@ condition-returns-5 t c =
     let c₁₅ = c₁₄ .before in let if1 = c₁₅ .if1 in
     let c₂₀ = c₁₅ .before .before .before .before .before in let args = c₂₀ .args in
     let h = both-is (shapeIn (now (args .catalogue))) (args .limit) (args .level) (if1 .left) (scopeOf (now (args .reach))) (now (args .q)) (args .at) (now (args .z)) (now (tail .result)) (tail .ensures) (condition-record .result) (condition-record .ensures) (record-length3 .result) _ _ _ _ (parent2 .ensures .0) (parent2 .ensures .1) (record-length3 .ensures .0) (match .keys3) (conditions .ensures .0) (conditions .ensures .1 .0) in (h .0, (h .1, conditions .ensures .1 .1))
-
-condition-same-length-6 : (t : ℕ) → condition-lts.Need-same-length-6 (condition-claims t) (condition-at t) condition.Post
-condition-same-length-6 t c = search needs
-
-condition-same-length-7 : (t : ℕ) → condition-lts.Need-same-length-7 (condition-claims t) (condition-at t) condition.Post
-condition-same-length-7 t c = search needs
 
 condition-returns-6 : (t : ℕ) → condition-lts.Need-returns-6 (condition-claims t) (condition-at t) condition.Post
 condition-returns-6 t c =
@@ -381,12 +279,6 @@ condition-returns-6 t c =
     let c₁₇ = c₁₆ .before in let if1 = c₁₇ .if1 in
     let c₂₂ = c₁₇ .before .before .before .before .before in let args = c₂₂ .args in
     let h = compare-is (shapeIn (now (args .catalogue))) (args .limit) (args .level) (if1 .left) (scopeOf (now (args .reach))) (now (args .q)) (args .at) (now (args .z)) (now (tail .result)) (tail .ensures) (condition-record .result) (condition-record .ensures) (record-length4 .result) _ _ _ _ (parent3 .ensures .0) (parent3 .ensures .1) _ _ (record-length4 .ensures .0) (o .given .1) (is-code .ensures) (if2 .left) (terms .ensures .0) (terms .ensures .1) in (h .0, (h .1, refl))
-
-condition-same-length-8 : (t : ℕ) → condition-lts.Need-same-length-8 (condition-claims t) (condition-at t) condition.Post
-condition-same-length-8 t c = search needs
-
-condition-same-length-9 : (t : ℕ) → condition-lts.Need-same-length-9 (condition-claims t) (condition-at t) condition.Post
-condition-same-length-9 t c = search needs
 
 condition-returns-7 : (t : ℕ) → condition-lts.Need-returns-7 (condition-claims t) (condition-at t) condition.Post
 condition-returns-7 t c =
@@ -408,21 +300,6 @@ condition-returns-8 t c =
     let c₈ = c₃ .before .before .before .before .before in let args = c₈ .args in
     let h = no-condition (shapeIn (now (args .catalogue))) (args .limit) (args .level) (scopeOf (now (args .reach))) (now (args .q)) (args .at) (now (args .z)) (if1 .left) (now (tail .result)) (tail .ensures) (condition-record .result) (condition-record .ensures) (c .enum-told2 .given .1) in (h .0, (h .1, refl))
 
-conditions-condition-requires : (t : ℕ) → conditions-lts.Need-condition-requires (conditions-claims t) (conditions-at t) conditions.Post
-conditions-condition-requires t c κs = search needs
-
-conditions-enum-known-n : (t : ℕ) → conditions-lts.Need-enum-known-n (conditions-claims t) (conditions-at t) conditions.Post
-conditions-enum-known-n t c = search needs
-
-conditions-enum-told : (t : ℕ) → conditions-lts.Need-enum-told (conditions-claims t) (conditions-at t) conditions.Post
-conditions-enum-told t c = search needs
-
-conditions-same-length : (t : ℕ) → conditions-lts.Need-same-length (conditions-claims t) (conditions-at t) conditions.Post
-conditions-same-length t c = search needs
-
-conditions-same-length-2 : (t : ℕ) → conditions-lts.Need-same-length-2 (conditions-claims t) (conditions-at t) conditions.Post
-conditions-same-length-2 t c = search needs
-
 conditions-returns : (t : ℕ) → conditions-lts.Need-returns (conditions-claims t) (conditions-at t) conditions.Post
 conditions-returns t c =
     let c₆ = c .before .before .before .before .before .before in let condition = c₆ .condition in
@@ -442,18 +319,6 @@ conditions-condition-requires-2 t c κs =
     let c₁₆ = c₉ .before .before .before .before .before .before .before in let args = c₁₆ .args in let pre = c₁₆ .pre in
     (omega (arith, pre .0), (omega (arith, ap bytesOf (n .given .1), condition-ends (now (args .q)) _ (pre .1 .0) _ _ _ _ (condition .result) (condition .ensures .0)), omega (arith, ap length (condition .ensures .1 .1), pre .1 .1)))
 
-conditions-enum-known-m : (t : ℕ) → conditions-lts.Need-enum-known-m (conditions-claims t) (conditions-at t) conditions.Post
-conditions-enum-known-m t c = search needs
-
-conditions-enum-told-2 : (t : ℕ) → conditions-lts.Need-enum-told-2 (conditions-claims t) (conditions-at t) conditions.Post
-conditions-enum-told-2 t c = search needs
-
-conditions-same-length-3 : (t : ℕ) → conditions-lts.Need-same-length-3 (conditions-claims t) (conditions-at t) conditions.Post
-conditions-same-length-3 t c = search needs
-
-conditions-same-length-4 : (t : ℕ) → conditions-lts.Need-same-length-4 (conditions-claims t) (conditions-at t) conditions.Post
-conditions-same-length-4 t c = search needs
-
 conditions-returns-2 : (t : ℕ) → conditions-lts.Need-returns-2 (conditions-claims t) (conditions-at t) conditions.Post
 conditions-returns-2 t c =
     let c₆ = c .before .before .before .before .before .before in let condition2 = c₆ .condition2 in
@@ -470,15 +335,6 @@ conditions-add-t20 t c =
     let c₂₄ = c₁₇ .before .before .before .before .before .before .before in let args = c₂₄ .args in let good = c₂₄ .good in let pre = c₂₄ .pre in
     omega (arith, conditions-fit (now (args .q)) _ (pre .1 .0) _ _ _ _ _ _ _ _ _ _ _ (n .given .1) (c .before .m .given .1) (condition .ensures .0) (condition2 .ensures .0), good)
 
-conditions-also-requires : (t : ℕ) → conditions-lts.Need-also-requires (conditions-claims t) (conditions-at t) conditions.Post
-conditions-also-requires t c κs = search needs
-
-conditions-same-length-5 : (t : ℕ) → conditions-lts.Need-same-length-5 (conditions-claims t) (conditions-at t) conditions.Post
-conditions-same-length-5 t c = search needs
-
-conditions-same-length-6 : (t : ℕ) → conditions-lts.Need-same-length-6 (conditions-claims t) (conditions-at t) conditions.Post
-conditions-same-length-6 t c = search needs
-
 conditions-returns-3 : (t : ℕ) → conditions-lts.Need-returns-3 (conditions-claims t) (conditions-at t) conditions.Post
 conditions-returns-3 t c =
     let c₈ = c .before .before .before .before .before .before .before .before in let condition2 = c₈ .condition2 in
@@ -486,30 +342,6 @@ conditions-returns-3 t c =
     let c₁₈ = c₁₂ .before .before .before .before .before .before in let condition = c₁₈ .condition in
     let c₂₅ = c₁₈ .before .before .before .before .before .before .before in let args = c₂₅ .args in
     let h = conditions-go (shapeIn (now (args .catalogue))) (args .limit) (args .level) (now (args .q)) (args .at) (now (args .z)) (condition .result) _ (now (args .reach)) (condition .ensures .0) (condition .ensures .1 .0) _ _ (n .given .1) _ (condition .ensures .1 .1) _ _ (sym (c .before .before .m .given .1) ∙ condition2 .ensures .0) (condition2 .ensures .1 .0) in (c .also .ensures ∙ h .0, (same-sized _ _ _ _ (c .also .ensures) (h .1), condition2 .ensures .1 .1 ∙ condition .ensures .1 .1))
-
-some-entry-requires : (t : ℕ) → some-lts.Need-entry-requires (some-claims t) (some-at t) some.Post
-some-entry-requires t c κs = search needs
-
-some-bind-requires : (t : ℕ) → some-lts.Need-bind-requires (some-claims t) (some-at t) some.Post
-some-bind-requires t c κs = search needs
-
-some-condition-requires : (t : ℕ) → some-lts.Need-condition-requires (some-claims t) (some-at t) some.Post
-some-condition-requires t c κs = search needs
-
-some-put-requires : (t : ℕ) → some-lts.Need-put-requires (some-claims t) (some-at t) some.Post
-some-put-requires t c κs = search needs
-
-some-known-requires : (t : ℕ) → some-lts.Need-known-requires (some-claims t) (some-at t) some.Post
-some-known-requires t c κs = search needs
-
-some-also-requires : (t : ℕ) → some-lts.Need-also-requires (some-claims t) (some-at t) some.Post
-some-also-requires t c κs = search needs
-
-some-same-length : (t : ℕ) → some-lts.Need-same-length (some-claims t) (some-at t) some.Post
-some-same-length t c = search needs
-
-some-same-length-2 : (t : ℕ) → some-lts.Need-same-length-2 (some-claims t) (some-at t) some.Post
-some-same-length-2 t c = search needs
 
 some-returns : (t : ℕ) → some-lts.Need-returns (some-claims t) (some-at t) some.Post
 some-returns t c =
@@ -527,39 +359,6 @@ term-returns t c =
     let c₅ = c .before .before .before .before .before in let args = c₅ .args in
     no-levelT (shapeIn (now (args .catalogue))) (args .limit) (args .level) (scopeOf (now (args .reach))) (now (args .q)) (args .at) (now (args .z)) (c .if1 .taken)
 
-term-tail-requires : (t : ℕ) → term-lts.Need-tail-requires (term-claims t) (term-at t) term.Post
-term-tail-requires t c κs = search needs
-
-term-term-record-requires : (t : ℕ) → term-lts.Need-term-record-requires (term-claims t) (term-at t) term.Post
-term-term-record-requires t c κs = search needs
-
-term-enum-told : (t : ℕ) → term-lts.Need-enum-told (term-claims t) (term-at t) term.Post
-term-enum-told t c = search needs
-
-term-record-length-requires : (t : ℕ) → term-lts.Need-record-length-requires (term-claims t) (term-at t) term.Post
-term-record-length-requires t c κs = search needs
-
-term-leaf-requires : (t : ℕ) → term-lts.Need-leaf-requires (term-claims t) (term-at t) term.Post
-term-leaf-requires t c κs = search needs
-
-term-enum-known-v : (t : ℕ) → term-lts.Need-enum-known-v (term-claims t) (term-at t) term.Post
-term-enum-known-v t c = search needs
-
-term-attribute-requires : (t : ℕ) → term-lts.Need-attribute-requires (term-claims t) (term-at t) term.Post
-term-attribute-requires t c κs = search needs
-
-term-record-length-requires-2 : (t : ℕ) → term-lts.Need-record-length-requires-2 (term-claims t) (term-at t) term.Post
-term-record-length-requires-2 t c κs = search needs
-
-term-leaf-requires-2 : (t : ℕ) → term-lts.Need-leaf-requires-2 (term-claims t) (term-at t) term.Post
-term-leaf-requires-2 t c κs = search needs
-
-term-enum-known-f : (t : ℕ) → term-lts.Need-enum-known-f (term-claims t) (term-at t) term.Post
-term-enum-known-f t c = search needs
-
-term-is-code-requires : (t : ℕ) → term-lts.Need-is-code-requires (term-claims t) (term-at t) term.Post
-term-is-code-requires t c κs = search needs
-
 term-returns-2 : (t : ℕ) → term-lts.Need-returns-2 (term-claims t) (term-at t) term.Post
 term-returns-2 t c =
     let c₃ = c .before .before .before in let f = c₃ .f in
@@ -568,15 +367,6 @@ term-returns-2 t c =
     let c₇ = c₆ .before in let if1 = c₇ .if1 in
     let c₁₂ = c₇ .before .before .before .before .before in let args = c₁₂ .args in
     no-function (shapeIn (now (args .catalogue))) (args .limit) (args .level) (scopeOf (now (args .reach))) (now (args .q)) (args .at) (now (args .z)) (if1 .left) (now (tail .result)) (tail .ensures) (term-record .result) (term-record .ensures) _ _ _ _ _ (f .given .1) (c .before .is-code .ensures) (c .if2 .taken)
-
-term-record-length-requires-3 : (t : ℕ) → term-lts.Need-record-length-requires-3 (term-claims t) (term-at t) term.Post
-term-record-length-requires-3 t c κs = search needs
-
-term-add-aggregate : (t : ℕ) → term-lts.Need-add-aggregate (term-claims t) (term-at t) term.Post
-term-add-aggregate t c = search needs
-
-term-sub-aggregate : (t : ℕ) → term-lts.Need-sub-aggregate (term-claims t) (term-at t) term.Post
-term-sub-aggregate t c = search needs
 
 term-aggregate-requires : (t : ℕ) → term-lts.Need-aggregate-requires (term-claims t) (term-at t) term.Post
 term-aggregate-requires t c κs =
@@ -599,12 +389,6 @@ term-parent-requires t c κs =
     let q = now (args .q) in
     omega (arith, aggregate-ends q _ (aggregate-room q (now (tail .result)) (args .at) (tail .ensures) (term-record .result) (term-record .ensures) (record-length3 .result) _ _ _ _ (record-length3 .ensures .0) (f .given .1)) _ _ _ (scopeOf (now (args .reach))) _ _ _ (aggregate .ensures .0), good)
 
-term-enum-told-2 : (t : ℕ) → term-lts.Need-enum-told-2 (term-claims t) (term-at t) term.Post
-term-enum-told-2 t c = search needs
-
-term-same-length : (t : ℕ) → term-lts.Need-same-length (term-claims t) (term-at t) term.Post
-term-same-length t c = search needs
-
 term-returns-3 : (t : ℕ) → term-lts.Need-returns-3 (term-claims t) (term-at t) term.Post
 term-returns-3 t c =
     let c₂ = c .before .before in let leaf = c₂ .leaf in
@@ -615,9 +399,6 @@ term-returns-3 t c =
     let c₉ = c₈ .before in let if1 = c₉ .if1 in
     let c₁₄ = c₉ .before .before .before .before .before in let args = c₁₄ .args in
     constant-is (shapeIn (now (args .catalogue))) (args .limit) (args .level) (if1 .left) (scopeOf (now (args .reach))) (now (args .q)) (args .at) (now (args .z)) (now (tail .result)) (tail .ensures) (term-record .result) (term-record .ensures) (record-length .result) _ _ _ _ _ _ (record-length .ensures .0) (enum-told .given .1) (leaf .ensures .0) (leaf .ensures .1)
-
-term-same-length-2 : (t : ℕ) → term-lts.Need-same-length-2 (term-claims t) (term-at t) term.Post
-term-same-length-2 t c = search needs
 
 term-returns-4 : (t : ℕ) → term-lts.Need-returns-4 (term-claims t) (term-at t) term.Post
 term-returns-4 t c =
@@ -630,9 +411,6 @@ term-returns-4 t c =
     let c₁₁ = c₁₀ .before in let if1 = c₁₁ .if1 in
     let c₁₆ = c₁₁ .before .before .before .before .before in let args = c₁₆ .args in
     attribute-is (shapeIn (now (args .catalogue))) (args .limit) (args .level) (if1 .left) (scopeOf (now (args .reach))) (now (args .q)) (args .at) (now (args .z)) (now (tail .result)) (tail .ensures) (term-record .result) (term-record .ensures) (record-length2 .result) _ _ _ _ _ (record-length2 .ensures .0) (v .given .1) (attribute .ensures) (leaf2 .ensures .0) (leaf2 .ensures .1)
-
-term-same-length-3 : (t : ℕ) → term-lts.Need-same-length-3 (term-claims t) (term-at t) term.Post
-term-same-length-3 t c = search needs
 
 term-returns-5 : (t : ℕ) → term-lts.Need-returns-5 (term-claims t) (term-at t) term.Post
 term-returns-5 t c =
@@ -656,18 +434,6 @@ term-returns-6 t c =
     let c₈ = c₃ .before .before .before .before .before in let args = c₈ .args in
     no-term (shapeIn (now (args .catalogue))) (args .limit) (args .level) (scopeOf (now (args .reach))) (now (args .q)) (args .at) (now (args .z)) (if1 .left) (now (tail .result)) (tail .ensures) (term-record .result) (term-record .ensures) (c .enum-told2 .given .1)
 
-terms-term-requires : (t : ℕ) → terms-lts.Need-term-requires (terms-claims t) (terms-at t) terms.Post
-terms-term-requires t c κs = search needs
-
-terms-enum-known-n : (t : ℕ) → terms-lts.Need-enum-known-n (terms-claims t) (terms-at t) terms.Post
-terms-enum-known-n t c = search needs
-
-terms-enum-told : (t : ℕ) → terms-lts.Need-enum-told (terms-claims t) (terms-at t) terms.Post
-terms-enum-told t c = search needs
-
-terms-same-length : (t : ℕ) → terms-lts.Need-same-length (terms-claims t) (terms-at t) terms.Post
-terms-same-length t c = search needs
-
 terms-returns : (t : ℕ) → terms-lts.Need-returns (terms-claims t) (terms-at t) terms.Post
 terms-returns t c =
     let c₄ = c .before .before .before .before in let term = c₄ .term in
@@ -686,15 +452,6 @@ terms-term-requires-2 t c κs =
     let c₁₂ = c₆ .before .before .before .before .before .before in let args = c₁₂ .args in let pre = c₁₂ .pre in
     (omega (arith, pre .0), omega (arith, ap bytesOf (c .before .before .n .given .1), term-ends (now (args .q)) _ (pre .1) _ _ _ _ (term .result) (term .ensures .0)))
 
-terms-enum-known-m : (t : ℕ) → terms-lts.Need-enum-known-m (terms-claims t) (terms-at t) terms.Post
-terms-enum-known-m t c = search needs
-
-terms-enum-told-2 : (t : ℕ) → terms-lts.Need-enum-told-2 (terms-claims t) (terms-at t) terms.Post
-terms-enum-told-2 t c = search needs
-
-terms-same-length-2 : (t : ℕ) → terms-lts.Need-same-length-2 (terms-claims t) (terms-at t) terms.Post
-terms-same-length-2 t c = search needs
-
 terms-returns-2 : (t : ℕ) → terms-lts.Need-returns-2 (terms-claims t) (terms-at t) terms.Post
 terms-returns-2 t c =
     let c₄ = c .before .before .before .before in let term2 = c₄ .term2 in
@@ -711,12 +468,6 @@ terms-add-t18 t c =
     let c₁₈ = c₁₂ .before .before .before .before .before .before in let args = c₁₈ .args in let good = c₁₈ .good in let pre = c₁₈ .pre in
     omega (arith, terms-fit (now (args .q)) _ (pre .1) _ _ _ _ _ _ _ _ _ _ _ (n .given .1) (c .before .m .given .1) (term .ensures .0) (term2 .ensures .0), good)
 
-terms-also-requires : (t : ℕ) → terms-lts.Need-also-requires (terms-claims t) (terms-at t) terms.Post
-terms-also-requires t c κs = search needs
-
-terms-same-length-3 : (t : ℕ) → terms-lts.Need-same-length-3 (terms-claims t) (terms-at t) terms.Post
-terms-same-length-3 t c = search needs
-
 terms-returns-3 : (t : ℕ) → terms-lts.Need-returns-3 (terms-claims t) (terms-at t) terms.Post
 terms-returns-3 t c =
     let c₆ = c .before .before .before .before .before .before in let term2 = c₆ .term2 in
@@ -730,140 +481,140 @@ pub +aggregate+condition+conditions+some+term+terms-spec : {M : Type 1} → stat
     close μ-aggregate μ-condition μ-conditions μ-some μ-term μ-terms (λ t. aggregate-lts.spec (aggregate-claims t)
     (aggregate-at t)
     aggregate.Post
-    (aggregate-slice-aggregate-bind t)
-    (aggregate-bind-requires t)
-    (aggregate-slice-aggregate-condition t)
-    (aggregate-condition-requires t)
-    (aggregate-has-requires t)
-    (aggregate-also-requires t)
-    (aggregate-known-requires t)
-    (aggregate-also-requires-2 t)
-    (aggregate-same-length t)
+    (λ c. search needs)
+    (λ c κs. search needs)
+    (λ c. search needs)
+    (λ c κs. search needs)
+    (λ c κs. search needs)
+    (λ c κs. search needs)
+    (λ c κs. search needs)
+    (λ c κs. search needs)
+    (λ c. search needs)
     (aggregate-returns t))
     (λ t. condition-lts.spec (condition-claims t)
     (condition-at t)
     condition.Post
     (condition-returns t)
-    (condition-sub-l t)
-    (condition-tail-requires t)
-    (condition-condition-record-requires t)
-    (condition-record-length-requires t)
-    (condition-leaf-requires t)
-    (condition-enum-told t)
-    (condition-record-length-requires-2 t)
-    (condition-add-condition t)
+    (λ c. search needs)
+    (λ c κs. search needs)
+    (λ c κs. search needs)
+    (λ c κs. search needs)
+    (λ c κs. search needs)
+    (λ c. search needs)
+    (λ c κs. search needs)
+    (λ c. search needs)
     (condition-condition-requires t)
     (condition-parent-requires t)
-    (condition-record-length-requires-3 t)
-    (condition-add-conditions t)
+    (λ c κs. search needs)
+    (λ c. search needs)
     (condition-conditions-requires t)
     (condition-parent-requires-2 t)
-    (condition-enum-known-o t)
-    (condition-is-code-requires t)
+    (λ c. search needs)
+    (λ c κs. search needs)
     (condition-returns-2 t)
-    (condition-record-length-requires-4 t)
-    (condition-add-terms t)
+    (λ c κs. search needs)
+    (λ c. search needs)
     (condition-terms-requires t)
     (condition-parent-requires-3 t)
-    (condition-enum-known-v t)
-    (condition-record-length-requires-5 t)
-    (condition-add-some t)
+    (λ c. search needs)
+    (λ c κs. search needs)
+    (λ c. search needs)
     (condition-some-requires t)
     (condition-parent-requires-4 t)
-    (condition-enum-told-2 t)
-    (condition-same-length t)
+    (λ c. search needs)
+    (λ c. search needs)
     (condition-returns-3 t)
-    (condition-same-length-2 t)
-    (condition-same-length-3 t)
+    (λ c. search needs)
+    (λ c. search needs)
     (condition-returns-4 t)
-    (condition-same-length-4 t)
-    (condition-same-length-5 t)
+    (λ c. search needs)
+    (λ c. search needs)
     (condition-returns-5 t)
-    (condition-same-length-6 t)
-    (condition-same-length-7 t)
+    (λ c. search needs)
+    (λ c. search needs)
     (condition-returns-6 t)
-    (condition-same-length-8 t)
-    (condition-same-length-9 t)
+    (λ c. search needs)
+    (λ c. search needs)
     (condition-returns-7 t)
     (condition-returns-8 t))
     (λ t. conditions-lts.spec (conditions-claims t)
     (conditions-at t)
     conditions.Post
-    (conditions-condition-requires t)
-    (conditions-enum-known-n t)
-    (conditions-enum-told t)
-    (conditions-same-length t)
-    (conditions-same-length-2 t)
+    (λ c κs. search needs)
+    (λ c. search needs)
+    (λ c. search needs)
+    (λ c. search needs)
+    (λ c. search needs)
     (conditions-returns t)
     (conditions-add-condition t)
     (conditions-condition-requires-2 t)
-    (conditions-enum-known-m t)
-    (conditions-enum-told-2 t)
-    (conditions-same-length-3 t)
-    (conditions-same-length-4 t)
+    (λ c. search needs)
+    (λ c. search needs)
+    (λ c. search needs)
+    (λ c. search needs)
     (conditions-returns-2 t)
     (conditions-add-t20 t)
-    (conditions-also-requires t)
-    (conditions-same-length-5 t)
-    (conditions-same-length-6 t)
+    (λ c κs. search needs)
+    (λ c. search needs)
+    (λ c. search needs)
     (conditions-returns-3 t))
     (λ t. some-lts.spec (some-claims t)
     (some-at t)
     some.Post
-    (some-entry-requires t)
-    (some-bind-requires t)
-    (some-condition-requires t)
-    (some-put-requires t)
-    (some-known-requires t)
-    (some-also-requires t)
-    (some-same-length t)
-    (some-same-length-2 t)
+    (λ c κs. search needs)
+    (λ c κs. search needs)
+    (λ c κs. search needs)
+    (λ c κs. search needs)
+    (λ c κs. search needs)
+    (λ c κs. search needs)
+    (λ c. search needs)
+    (λ c. search needs)
     (some-returns t))
     (λ t. term-lts.spec (term-claims t)
     (term-at t)
     term.Post
     (term-returns t)
-    (term-tail-requires t)
-    (term-term-record-requires t)
-    (term-enum-told t)
-    (term-record-length-requires t)
-    (term-leaf-requires t)
-    (term-enum-known-v t)
-    (term-attribute-requires t)
-    (term-record-length-requires-2 t)
-    (term-leaf-requires-2 t)
-    (term-enum-known-f t)
-    (term-is-code-requires t)
+    (λ c κs. search needs)
+    (λ c κs. search needs)
+    (λ c. search needs)
+    (λ c κs. search needs)
+    (λ c κs. search needs)
+    (λ c. search needs)
+    (λ c κs. search needs)
+    (λ c κs. search needs)
+    (λ c κs. search needs)
+    (λ c. search needs)
+    (λ c κs. search needs)
     (term-returns-2 t)
-    (term-record-length-requires-3 t)
-    (term-add-aggregate t)
-    (term-sub-aggregate t)
+    (λ c κs. search needs)
+    (λ c. search needs)
+    (λ c. search needs)
     (term-aggregate-requires t)
     (term-parent-requires t)
-    (term-enum-told-2 t)
-    (term-same-length t)
+    (λ c. search needs)
+    (λ c. search needs)
     (term-returns-3 t)
-    (term-same-length-2 t)
+    (λ c. search needs)
     (term-returns-4 t)
-    (term-same-length-3 t)
+    (λ c. search needs)
     (term-returns-5 t)
     (term-returns-6 t))
     λ t. terms-lts.spec
     (term-below t, term.Post, also-reads.Asked, also-reads.Learnt)
     (terms-at t)
     terms.Post
-    (terms-term-requires t)
-    (terms-enum-known-n t)
-    (terms-enum-told t)
-    (terms-same-length t)
+    (λ c κs. search needs)
+    (λ c. search needs)
+    (λ c. search needs)
+    (λ c. search needs)
     (terms-returns t)
     (terms-add-term t)
     (terms-term-requires-2 t)
-    (terms-enum-known-m t)
-    (terms-enum-told-2 t)
-    (terms-same-length-2 t)
+    (λ c. search needs)
+    (λ c. search needs)
+    (λ c. search needs)
     (terms-returns-2 t)
     (terms-add-t18 t)
-    (terms-also-requires t)
-    (terms-same-length-3 t)
+    (λ c κs. search needs)
+    (λ c. search needs)
     (terms-returns-3 t)

@@ -32,18 +32,6 @@ split-below t = and 4 split-kinds.ps (falls 4 split-kinds.ps _<_ μ-split t) spl
 abbrev split-claims : ℕ → split-lts.Claims
 split-claims t = (parts-at-reads.Asked, parts-at-reads.Learnt, join-reads.Asked, join-reads.Learnt, split-below t, split.Post)
 
-split-sub-parts-at : (t : ℕ) → split-lts.Need-sub-parts-at (split-claims t) (split-at t) split.Post
-split-sub-parts-at t c = search needs
-
-split-parts-at-requires : (t : ℕ) → split-lts.Need-parts-at-requires (split-claims t) (split-at t) split.Post
-split-parts-at-requires t c κs = search needs
-
-split-join-requires : (t : ℕ) → split-lts.Need-join-requires (split-claims t) (split-at t) split.Post
-split-join-requires t c κs = search needs
-
-split-same-length : (t : ℕ) → split-lts.Need-same-length (split-claims t) (split-at t) split.Post
-split-same-length t c = search needs
-
 split-returns : (t : ℕ) → split-lts.Need-returns (split-claims t) (split-at t) split.Post
 split-returns t c = c .before .before .join .ensures
 
@@ -52,9 +40,6 @@ split-sub-l t c = let parts-at = c .before .before .parts-at in
     let args = c .before .before .before .before .before .before .args in
     let level = args .level in
     positive level ((parts (parts-at .result) ((args .room .end) - (args .room .next)) level (args .place) (now (args .q)) (now (args .z)) (parts-at .ensures) (c .if1 .left)) .deep)
-
-split-sub-last : (t : ℕ) → split-lts.Need-sub-last (split-claims t) (split-at t) split.Post
-split-sub-last t c = search needs
 
 split-split-requires : (t : ℕ) → split-lts.Need-split-requires (split-claims t) (split-at t) split.Post
 split-split-requires t c κs = let if1 = c .before .if1 in
@@ -71,9 +56,6 @@ split-split-requires-2 t c κs = let split = c .before .before .before .split in
     let q = now (args .q) in let z = now (args .z) in let end = args .room .end in let k = args .room .next in let level = args .level in let place = args .place in
     (falls-by level t ((parts (parts-at .result) (end - k) level place q z (parts-at .ensures) (if1 .left)) .deep) (pre .0), (omega (arith, pre .1 .0, split .kept), omega (arith, pre .1 .1, split .ensures .0 .0), omega (arith, split .ensures .0 .1, and-room (parts-at .result) (end - k) level place q z (parts-at .ensures) (if1 .left), pre .1 .2), pre .1 .3, pre .1 .4, (parts (parts-at .result) (end - k) level place q z (parts-at .ensures) (if1 .left)) .first, omega (arith, pre .1 .6), split .ensures .1 .begun))
 
-split-same-length-2 : (t : ℕ) → split-lts.Need-same-length-2 (split-claims t) (split-at t) split.Post
-split-same-length-2 t c = search needs
-
 split-returns-2 : (t : ℕ) → split-lts.Need-returns-2 (split-claims t) (split-at t) split.Post
 split-returns-2 t c = let split2 = c .before .before .split2 in
     let split = c .before .before .before .before .before .before .split in
@@ -87,14 +69,14 @@ pub +split-spec : {M : Type 1} → statement M
 +split-spec = close μ-split λ t. split-lts.spec (split-claims t)
     (split-at t)
     split.Post
-    (split-sub-parts-at t)
-    (split-parts-at-requires t)
-    (split-join-requires t)
-    (split-same-length t)
+    (λ c. search needs)
+    (λ c κs. search needs)
+    (λ c κs. search needs)
+    (λ c. search needs)
     (split-returns t)
     (split-sub-l t)
-    (split-sub-last t)
+    (λ c. search needs)
     (split-split-requires t)
     (split-split-requires-2 t)
-    (split-same-length-2 t)
+    (λ c. search needs)
     (split-returns-2 t)

@@ -35,18 +35,6 @@ stage-claims t = (byte-reads.Asked, byte-reads.Learnt, range-of-reads.Asked, ran
 stage-returns : (t : ℕ) → stage-lts.Need-returns (stage-claims t) (stage-at t) stage.Post
 stage-returns t c = (omega arith, zero-settled (c .before .before .before .args .level) _ _ (rangesAt (c .before .before .before .args .ranges) (now (c .before .before .before .args .q))) (c .if1 .taken))
 
-stage-byte-requires : (t : ℕ) → stage-lts.Need-byte-requires (stage-claims t) (stage-at t) stage.Post
-stage-byte-requires t c κs = search needs
-
-stage-add-byte : (t : ℕ) → stage-lts.Need-add-byte (stage-claims t) (stage-at t) stage.Post
-stage-add-byte t c = search needs
-
-stage-byte-requires-2 : (t : ℕ) → stage-lts.Need-byte-requires-2 (stage-claims t) (stage-at t) stage.Post
-stage-byte-requires-2 t c κs = search needs
-
-stage-range-of-requires : (t : ℕ) → stage-lts.Need-range-of-requires (stage-claims t) (stage-at t) stage.Post
-stage-range-of-requires t c κs = search needs
-
 stage-returns-2 : (t : ℕ) → stage-lts.Need-returns-2 (stage-claims t) (stage-at t) stage.Post
 stage-returns-2 t c =
     let c₃ = c .before .before .before in let byte = c₃ .byte in
@@ -54,9 +42,6 @@ stage-returns-2 t c =
     let c₇ = c₄ .before .before .before in let args = c₇ .args in
     let q = now (args .q) in
     (c .range-of .ensures .0, attribute-settled q (now (args .z)) (rangesAt (args .ranges) q) (args .place) (args .level) _ (if1 .left) (byte .ensures) _ _ (c .before .before .if2 .taken) (c .before .byte2 .ensures) (c .range-of .ensures .1))
-
-stage-child-counts-requires : (t : ℕ) → stage-lts.Need-child-counts-requires (stage-claims t) (stage-at t) stage.Post
-stage-child-counts-requires t c κs = search needs
 
 stage-add-n : (t : ℕ) → stage-lts.Need-add-n (stage-claims t) (stage-at t) stage.Post
 stage-add-n t c = omega (arith, children-small (c .before .before .before .byte .result), c .before .child-counts .ensures .0, c .before .child-counts .ensures .1)
@@ -69,18 +54,6 @@ stage-returns-3 t c =
     let c₈ = c₅ .before .before .before in let args = c₈ .args in
     let q = now (args .q) in
     (omega arith, leaf-settled q (now (args .z)) (rangesAt (args .ranges) q) (args .place) (args .level) _ (if1 .left) (byte .ensures) _ (if2 .left) _ _ (c .before .before .child-counts .ensures .0) (c .before .before .child-counts .ensures .1) refl (c .if3 .taken))
-
-stage-sub-l : (t : ℕ) → stage-lts.Need-sub-l (stage-claims t) (stage-at t) stage.Post
-stage-sub-l t c = search needs
-
-stage-record-length-requires : (t : ℕ) → stage-lts.Need-record-length-requires (stage-claims t) (stage-at t) stage.Post
-stage-record-length-requires t c κs = search needs
-
-stage-add-first : (t : ℕ) → stage-lts.Need-add-first (stage-claims t) (stage-at t) stage.Post
-stage-add-first t c = search needs
-
-stage-stage-requires : (t : ℕ) → stage-lts.Need-stage-requires (stage-claims t) (stage-at t) stage.Post
-stage-stage-requires t c κs = search needs
 
 stage-returns-4 : (t : ℕ) → stage-lts.Need-returns-4 (stage-claims t) (stage-at t) stage.Post
 stage-returns-4 t c =
@@ -99,18 +72,6 @@ stage-returns-5 t c =
     let c₁₂ = c₉ .before .before .before in let args = c₁₂ .args in
     let q = now (args .q) in
     (stage .ensures .0, one-settled q (now (args .z)) (rangesAt (args .ranges) q) (args .place) (args .level) _ (if1 .left) (byte .ensures) _ (if2 .left) _ _ (child-counts .ensures .0) (child-counts .ensures .1) refl _ _ _ (record-length .ensures .0) refl (stage .ensures .1) (c .if5 .taken))
-
-stage-size-at-requires : (t : ℕ) → stage-lts.Need-size-at-requires (stage-claims t) (stage-at t) stage.Post
-stage-size-at-requires t c κs = search needs
-
-stage-add-second : (t : ℕ) → stage-lts.Need-add-second (stage-claims t) (stage-at t) stage.Post
-stage-add-second t c = search needs
-
-stage-stage-requires-2 : (t : ℕ) → stage-lts.Need-stage-requires-2 (stage-claims t) (stage-at t) stage.Post
-stage-stage-requires-2 t c κs = search needs
-
-stage-later-requires : (t : ℕ) → stage-lts.Need-later-requires (stage-claims t) (stage-at t) stage.Post
-stage-later-requires t c κs = search needs
 
 stage-returns-6 : (t : ℕ) → stage-lts.Need-returns-6 (stage-claims t) (stage-at t) stage.Post
 stage-returns-6 t c =
@@ -131,22 +92,22 @@ pub +stage-spec : {M : Type 1} → statement M
     (stage-at t)
     stage.Post
     (stage-returns t)
-    (stage-byte-requires t)
-    (stage-add-byte t)
-    (stage-byte-requires-2 t)
-    (stage-range-of-requires t)
+    (λ c κs. search needs)
+    (λ c. search needs)
+    (λ c κs. search needs)
+    (λ c κs. search needs)
     (stage-returns-2 t)
-    (stage-child-counts-requires t)
+    (λ c κs. search needs)
     (stage-add-n t)
     (stage-returns-3 t)
-    (stage-sub-l t)
-    (stage-record-length-requires t)
-    (stage-add-first t)
-    (stage-stage-requires t)
+    (λ c. search needs)
+    (λ c κs. search needs)
+    (λ c. search needs)
+    (λ c κs. search needs)
     (stage-returns-4 t)
     (stage-returns-5 t)
-    (stage-size-at-requires t)
-    (stage-add-second t)
-    (stage-stage-requires-2 t)
-    (stage-later-requires t)
+    (λ c κs. search needs)
+    (λ c. search needs)
+    (λ c κs. search needs)
+    (λ c κs. search needs)
     (stage-returns-6 t)

@@ -25,24 +25,6 @@ abbrev μ-loop : tie.MeasureT-loop
 loop-holds : tie.Need-loop-holds Inv-loop μ-loop
 loop-holds c = (le-refl _, none-from (c .before .args .variable) _ (c .before .args .ranges) (now (c .before .args .q)) refl)
 
-mul-byte : tie.Need-mul-byte Inv-loop μ-loop
-mul-byte c = search needs
-
-sub-byte : tie.Need-sub-byte Inv-loop μ-loop
-sub-byte c = search needs
-
-byte-requires : tie.Need-byte-requires Inv-loop μ-loop
-byte-requires c κs = search needs
-
-returns : tie.Need-returns Inv-loop μ-loop
-returns c = search needs
-
-sub-n : tie.Need-sub-n Inv-loop μ-loop
-sub-n c = search needs
-
-loop-less : tie.Need-loop-less Inv-loop μ-loop
-loop-less c = search needs
-
 loop-again : tie.Need-loop-again Inv-loop μ-loop
 loop-again c = (omega (arith, c .before .before .before .loop .inv .0), none-before (c .before .before .before .before .before .args .variable) _ (c .before .before .before .before .before .args .ranges) _ (now (c .before .before .before .before .before .args .q)) (c .before .before .loop-test .taken) (c .before .before .before .loop .inv .0) (c .before .byte .ensures) (c .if1 .left) (c .before .before .before .loop .inv .1))
 
@@ -56,11 +38,11 @@ range-of-spec =
     Inv-loop
     μ-loop
     loop-holds
-    mul-byte
-    sub-byte
-    byte-requires
-    returns
-    sub-n
-    loop-less
+    (λ c. search needs)
+    (λ c. search needs)
+    (λ c κs. search needs)
+    (λ c. search needs)
+    (λ c. search needs)
+    (λ c. search needs)
     loop-again
     returns-2)

@@ -88,15 +88,6 @@ holds-Inv-loop t start q z walks chains values memo env₀ from₀ env from = (r
 abbrev holds-μ-loop : holds-lts.MeasureT-loop
 holds-μ-loop t start q z walks chains values memo env₀ from₀ env from = from
 
-first-row-walk-of-requires : (t : ℕ) → first-row-lts.Need-walk-of-requires (first-row-claims t) (first-row-at t) first-row.Post first-row-Inv-loop first-row-μ-loop
-first-row-walk-of-requires t c κs = search needs
-
-first-row-cast-old : (t : ℕ) → first-row-lts.Need-cast-old (first-row-claims t) (first-row-at t) first-row.Post first-row-Inv-loop first-row-μ-loop
-first-row-cast-old t c = search needs
-
-first-row-mul-old : (t : ℕ) → first-row-lts.Need-mul-old (first-row-claims t) (first-row-at t) first-row.Post first-row-Inv-loop first-row-μ-loop
-first-row-mul-old t c = search needs
-
 first-row-slice-read-old : (t : ℕ) → first-row-lts.Need-slice-read-old (first-row-claims t) (first-row-at t) first-row.Post first-row-Inv-loop first-row-μ-loop
 first-row-slice-read-old t c = let pre = c .before .before .before .before .before .before .before .before .pre in
     omega (arith, pre .1 .0, pre .1 .3)
@@ -237,9 +228,6 @@ holds-run-requires t c κs = let loop = c .before .loop in
     let pre = c .before .before .before .before .before .before .before .before .pre in
     (omega (arith, pre .1 .0, loop .inv .3), omega (arith, pre .1 .1, loop .inv .2))
 
-holds-same-length : (t : ℕ) → holds-lts.Need-same-length (holds-claims t) (holds-at t) holds.Post holds-Inv-loop holds-μ-loop
-holds-same-length t c = search needs
-
 holds-returns : (t : ℕ) → holds-lts.Need-returns (holds-claims t) (holds-at t) holds.Post holds-Inv-loop holds-μ-loop
 holds-returns t c = let run = c .before .before .before .run in
     let loop = c .before .before .before .before .before .loop in
@@ -258,9 +246,6 @@ holds-way-requires t c κs = let run = c .before .before .before .before .before
     let loop = c .before .before .before .before .before .before .before .before .before .loop in
     let pre = c .before .before .before .before .before .before .before .before .before .before .before .before .before .before .before .before .pre in
     omega (arith, pre .1 .1, run .ensures .1 .0 .0, loop .inv .2)
-
-holds-same-length-2 : (t : ℕ) → holds-lts.Need-same-length-2 (holds-claims t) (holds-at t) holds.Post holds-Inv-loop holds-μ-loop
-holds-same-length-2 t c = search needs
 
 holds-returns-2 : (t : ℕ) → holds-lts.Need-returns-2 (holds-claims t) (holds-at t) holds.Post holds-Inv-loop holds-μ-loop
 holds-returns-2 t c = let way = c .before .way in
@@ -285,28 +270,10 @@ holds-loop-again t c = let way = c .before .way in
     let env = now (args .env) in let memo = now (args .memo) in let q = now (args .q) in let values = now (args .values) in let walks = now (args .walks) in let z = now (args .z) in let start = args .start in
     (follow-on (now (args .t)) q z walks values memo env (run .result) start (way .result) _ (run .ensures .1 .1 ∙ loop .inv .1) (omega (arith, if1 .left)) (S.way-next (now (args .t)) q z walks values memo (run .last .1 .1 .1 .1 .1 .1 .1 .0) (run .result) (way .result) (some-row .result) (way .ensures .0) (some-row .ensures .0)) (S.moved (now (args .t)) q z walks values memo env (loop .env) (run .result) (loop .from) start (loop .inv .1) (run .ensures .0) (loop .inv .0)) (omega (arith, c .if2 .left)), some-row .ensures .1 ∙ (run .ensures .1 .1 ∙ loop .inv .1), omega (arith, c .if2 .left, run .ensures .1 .0 .0, loop .inv .2), ap length (some-row .ensures .1 ∙ (run .ensures .1 .1 ∙ loop .inv .1)))
 
-some-row-mul-size-at : (t : ℕ) → some-row-lts.Need-mul-size-at (some-row-claims t) (some-row-at t) some-row.Post
-some-row-mul-size-at t c = search needs
-
-some-row-add-size-at : (t : ℕ) → some-row-lts.Need-add-size-at (some-row-claims t) (some-row-at t) some-row.Post
-some-row-add-size-at t c = search needs
-
-some-row-size-at-requires : (t : ℕ) → some-row-lts.Need-size-at-requires (some-row-claims t) (some-row-at t) some-row.Post
-some-row-size-at-requires t c κs = search needs
-
 some-row-returns : (t : ℕ) → some-row-lts.Need-returns (some-row-claims t) (some-row-at t) some-row.Post
 some-row-returns t c = let size-at = c .before .size-at in
     let args = c .before .before .before .before .before .before .before .before .args in let pre = c .before .before .before .before .before .before .before .before .pre in
     (S.some-stuck (now (args .t)) (now (args .q)) (now (args .z)) (now (args .walks)) (now (args .values)) (now (args .memo)) (size-at .result) 0 (now (args .env)) (args .i) (pre .1 .2) (size-at .ensures .0) (c .if1 .taken), refl)
-
-some-row-mul-size-at-2 : (t : ℕ) → some-row-lts.Need-mul-size-at-2 (some-row-claims t) (some-row-at t) some-row.Post
-some-row-mul-size-at-2 t c = search needs
-
-some-row-add-size-at-2 : (t : ℕ) → some-row-lts.Need-add-size-at-2 (some-row-claims t) (some-row-at t) some-row.Post
-some-row-add-size-at-2 t c = search needs
-
-some-row-size-at-requires-2 : (t : ℕ) → some-row-lts.Need-size-at-requires-2 (some-row-claims t) (some-row-at t) some-row.Post
-some-row-size-at-requires-2 t c κs = search needs
 
 some-row-returns-2 : (t : ℕ) → some-row-lts.Need-returns-2 (some-row-claims t) (some-row-at t) some-row.Post
 some-row-returns-2 t c = let size-at2 = c .before .size-at2 in
@@ -322,9 +289,6 @@ some-row-first-row-requires t c κs = let if1 = c .before .before .before .befor
     let size-at = c .before .before .before .before .before .size-at in
     let pre = c .before .before .before .before .before .before .before .before .before .before .before .before .pre in
     (omega (arith, pre .0, if1 .left), (pre .1 .0, size-at .ensures .1, pre .1 .3, omega (arith, c .before .byte-of .ensures, c .before .before .if2 .left)))
-
-some-row-same-length : (t : ℕ) → some-row-lts.Need-same-length (some-row-claims t) (some-row-at t) some-row.Post
-some-row-same-length t c = search needs
 
 some-row-returns-3 : (t : ℕ) → some-row-lts.Need-returns-3 (some-row-claims t) (some-row-at t) some-row.Post
 some-row-returns-3 t c = let first-row = c .before .before .first-row in
@@ -342,9 +306,9 @@ pub +first-row+holds+some-row-spec : {M : Type 1} → statement M
     first-row.Post
     first-row-Inv-loop
     first-row-μ-loop
-    (first-row-walk-of-requires t)
-    (first-row-cast-old t)
-    (first-row-mul-old t)
+    (λ c κs. search needs)
+    (λ c. search needs)
+    (λ c. search needs)
     (first-row-slice-read-old t)
     (first-row-prepare-requires t)
     (first-row-loop-holds t)
@@ -375,26 +339,26 @@ pub +first-row+holds+some-row-spec : {M : Type 1} → statement M
     holds-μ-loop
     (holds-loop-holds t)
     (holds-run-requires t)
-    (holds-same-length t)
+    (λ c. search needs)
     (holds-returns t)
     (holds-some-row-requires t)
     (holds-way-requires t)
-    (holds-same-length-2 t)
+    (λ c. search needs)
     (holds-returns-2 t)
     (holds-loop-less t)
     (holds-loop-again t))
     λ t. some-row-lts.spec (some-row-claims t)
     (some-row-at t)
     some-row.Post
-    (some-row-mul-size-at t)
-    (some-row-add-size-at t)
-    (some-row-size-at-requires t)
+    (λ c. search needs)
+    (λ c. search needs)
+    (λ c κs. search needs)
     (some-row-returns t)
-    (some-row-mul-size-at-2 t)
-    (some-row-add-size-at-2 t)
-    (some-row-size-at-requires-2 t)
+    (λ c. search needs)
+    (λ c. search needs)
+    (λ c κs. search needs)
     (some-row-returns-2 t)
     (some-row-byte-of-requires t)
     (some-row-first-row-requires t)
-    (some-row-same-length t)
+    (λ c. search needs)
     (some-row-returns-3 t)

@@ -24,15 +24,6 @@ abbrev μ-loop : tie.MeasureT-loop
 loop-holds : tie.Need-loop-holds Inv-loop μ-loop
 loop-holds c = (refl, refl, omega arith, refl)
 
-mul-size-at : tie.Need-mul-size-at Inv-loop μ-loop
-mul-size-at c = search needs
-
-size-at-requires : tie.Need-size-at-requires Inv-loop μ-loop
-size-at-requires c κs = search needs
-
-same-length : tie.Need-same-length Inv-loop μ-loop
-same-length c = search needs
-
 returns : tie.Need-returns Inv-loop μ-loop
 returns c = (c .before .before .before .loop .inv .0, ((c .before .before .before .loop .inv .2, λ h. sym (c .before .size-at .ensures .0) ∙ c .if1 .taken), c .before .before .before .loop .inv .1))
 
@@ -40,9 +31,6 @@ next-requires : tie.Need-next-requires Inv-loop μ-loop
 next-requires c κs = let loop = c .before .before .before .before .loop in
     let pre = c .before .before .before .before .before .before .before .before .before .before .pre in
     (omega (arith, pre .0, loop .inv .3), omega (arith, pre .1, loop .inv .2), λ e. c .before .if1 .left (c .before .before .size-at .ensures .0 ∙ e))
-
-same-length-2 : tie.Need-same-length-2 Inv-loop μ-loop
-same-length-2 c = search needs
 
 returns-2 : tie.Need-returns-2 Inv-loop μ-loop
 returns-2 c = let next = c .before .before .before .next in
@@ -52,18 +40,12 @@ returns-2 c = let next = c .before .before .before .next in
     let memo = now (args .memo) in let q = now (args .q) in let values = now (args .values) in let walks = now (args .walks) in let z = now (args .z) in
     (runs-1 (now (args .t)) q z walks values memo _ ∙ follow-stuck (now (args .t)) q z walks values memo (now (args .env)) (loop .at) (args .start) (next .result) (loop .env) (loop .inv .1) (loop-test .taken) (next .ensures .0) (loop .inv .0) (c .if2 .taken), ((omega (arith, loop-test .taken, loop .inv .2), λ h. absurd (omega arith)), next .ensures .1 ∙ loop .inv .1))
 
-loop-less : tie.Need-loop-less Inv-loop μ-loop
-loop-less c = search needs
-
 loop-again : tie.Need-loop-again Inv-loop μ-loop
 loop-again c = let next = c .before .before .before .next in
     let loop-test = c .before .before .before .before .before .before .before .loop-test in
     let loop = c .before .before .before .before .before .before .before .before .loop in
     let args = c .before .before .before .before .before .before .before .before .before .before .before .before .before .before .args in
     (follow-on (now (args .t)) (now (args .q)) (now (args .z)) (now (args .walks)) (now (args .values)) (now (args .memo)) (now (args .env)) (loop .at) (args .start) (next .result) (loop .env) (loop .inv .1) (loop-test .taken) (next .ensures .0) (loop .inv .0) (c .if2 .left), next .ensures .1 ∙ loop .inv .1, omega (arith, c .if2 .left, loop .inv .2), ap length (next .ensures .1 ∙ loop .inv .1))
-
-same-length-3 : tie.Need-same-length-3 Inv-loop μ-loop
-same-length-3 c = search needs
 
 returns-3 : tie.Need-returns-3 Inv-loop μ-loop
 returns-3 c = (c .before .loop .inv .0, ((c .before .loop .inv .2, λ h. absurd (omega (arith, c .loop-test .left, h))), c .before .loop .inv .1))
@@ -75,14 +57,14 @@ run-spec =
     Inv-loop
     μ-loop
     loop-holds
-    mul-size-at
-    size-at-requires
-    same-length
+    (λ c. search needs)
+    (λ c κs. search needs)
+    (λ c. search needs)
     returns
     next-requires
-    same-length-2
+    (λ c. search needs)
     returns-2
-    loop-less
+    (λ c. search needs)
     loop-again
-    same-length-3
+    (λ c. search needs)
     returns-3)

@@ -112,42 +112,6 @@ condition-returns t c =
     let c₅ = c .before .before .before .before .before in let args = c₅ .args in
     (holds-zero (now (args .walks)) (now (args .values)) (now (args .memo)) (now (args .env)) (now (args .q)) (now (args .z)) (args .level) (c .if1 .taken), search needs)
 
-condition-sub-l : (t : ℕ) → condition-lts.Need-sub-l (condition-claims t) (condition-at t) condition.Post
-condition-sub-l t c = search needs
-
-condition-byte-requires : (t : ℕ) → condition-lts.Need-byte-requires (condition-claims t) (condition-at t) condition.Post
-condition-byte-requires t c κs = search needs
-
-condition-record-length-requires : (t : ℕ) → condition-lts.Need-record-length-requires (condition-claims t) (condition-at t) condition.Post
-condition-record-length-requires t c κs = search needs
-
-condition-tail-requires : (t : ℕ) → condition-lts.Need-tail-requires (condition-claims t) (condition-at t) condition.Post
-condition-tail-requires t c κs = search needs
-
-condition-tail-sizes-requires : (t : ℕ) → condition-lts.Need-tail-sizes-requires (condition-claims t) (condition-at t) condition.Post
-condition-tail-sizes-requires t c κs = search needs
-
-condition-condition-record-requires : (t : ℕ) → condition-lts.Need-condition-record-requires (condition-claims t) (condition-at t) condition.Post
-condition-condition-record-requires t c κs = search needs
-
-condition-enum-told : (t : ℕ) → condition-lts.Need-enum-told (condition-claims t) (condition-at t) condition.Post
-condition-enum-told t c = search needs
-
-condition-enum-told-2 : (t : ℕ) → condition-lts.Need-enum-told-2 (condition-claims t) (condition-at t) condition.Post
-condition-enum-told-2 t c = search needs
-
-condition-condition-requires : (t : ℕ) → condition-lts.Need-condition-requires (condition-claims t) (condition-at t) condition.Post
-condition-condition-requires t c κs = search needs
-
-condition-enum-told-3 : (t : ℕ) → condition-lts.Need-enum-told-3 (condition-claims t) (condition-at t) condition.Post
-condition-enum-told-3 t c = search needs
-
-condition-condition-requires-2 : (t : ℕ) → condition-lts.Need-condition-requires-2 (condition-claims t) (condition-at t) condition.Post
-condition-condition-requires-2 t c κs = search needs
-
-condition-same-length : (t : ℕ) → condition-lts.Need-same-length (condition-claims t) (condition-at t) condition.Post
-condition-same-length t c = search needs
-
 condition-returns-2 : (t : ℕ) → condition-lts.Need-returns-2 (condition-claims t) (condition-at t) condition.Post
 condition-returns-2 t c =
     let c₃ = c .before .before .before in let condition2 = c₃ .condition2 in
@@ -160,30 +124,6 @@ condition-returns-2 t c =
     let c₁₂ = c₁₁ .before in let if1 = c₁₂ .if1 in
     let c₁₇ = c₁₂ .before .before .before .before .before in let args = c₁₇ .args in
     (and-no (now (args .walks)) (now (args .values)) (now (args .memo)) (now (args .env)) (now (args .q)) (now (args .z)) (args .level) _ _ _ (if1 .left) (byte .ensures) (record-length .ensures .0) (condition-record .ensures) _ _ (tail .ensures) (tail-sizes .ensures) _ (enum-told3 .given .1) (condition2 .ensures .0) (c .if2 .taken), condition2 .ensures .1)
-
-condition-size-at-requires : (t : ℕ) → condition-lts.Need-size-at-requires (condition-claims t) (condition-at t) condition.Post
-condition-size-at-requires t c κs = search needs
-
-condition-add-b : (t : ℕ) → condition-lts.Need-add-b (condition-claims t) (condition-at t) condition.Post
-condition-add-b t c = search needs
-
-condition-tail-requires-2 : (t : ℕ) → condition-lts.Need-tail-requires-2 (condition-claims t) (condition-at t) condition.Post
-condition-tail-requires-2 t c κs = search needs
-
-condition-tail-sizes-requires-2 : (t : ℕ) → condition-lts.Need-tail-sizes-requires-2 (condition-claims t) (condition-at t) condition.Post
-condition-tail-sizes-requires-2 t c κs = search needs
-
-condition-condition-requires-3 : (t : ℕ) → condition-lts.Need-condition-requires-3 (condition-claims t) (condition-at t) condition.Post
-condition-condition-requires-3 t c κs = search needs
-
-condition-enum-told-4 : (t : ℕ) → condition-lts.Need-enum-told-4 (condition-claims t) (condition-at t) condition.Post
-condition-enum-told-4 t c = search needs
-
-condition-condition-requires-4 : (t : ℕ) → condition-lts.Need-condition-requires-4 (condition-claims t) (condition-at t) condition.Post
-condition-condition-requires-4 t c κs = search needs
-
-condition-same-length-2 : (t : ℕ) → condition-lts.Need-same-length-2 (condition-claims t) (condition-at t) condition.Post
-condition-same-length-2 t c = search needs
 
 condition-returns-3 : (t : ℕ) → condition-lts.Need-returns-3 (condition-claims t) (condition-at t) condition.Post
 condition-returns-3 t c =
@@ -198,57 +138,12 @@ condition-returns-3 t c =
     let c₁₇ = c₁₂ .before .before .before .before .before in let args = c₁₇ .args in
     (or-yes (now (args .walks)) (now (args .values)) (now (args .memo)) (now (args .env)) (now (args .q)) (now (args .z)) (args .level) _ _ _ (if1 .left) (byte .ensures) (record-length .ensures .0) (condition-record .ensures) _ _ (tail .ensures) (tail-sizes .ensures) _ (enum-told4 .given .1) (condition4 .ensures .0) (c .if3 .taken), condition4 .ensures .1)
 
-condition-size-at-requires-2 : (t : ℕ) → condition-lts.Need-size-at-requires-2 (condition-claims t) (condition-at t) condition.Post
-condition-size-at-requires-2 t c κs = search needs
-
-condition-add-b-2 : (t : ℕ) → condition-lts.Need-add-b-2 (condition-claims t) (condition-at t) condition.Post
-condition-add-b-2 t c = search needs
-
-condition-tail-requires-3 : (t : ℕ) → condition-lts.Need-tail-requires-3 (condition-claims t) (condition-at t) condition.Post
-condition-tail-requires-3 t c κs = search needs
-
-condition-tail-sizes-requires-3 : (t : ℕ) → condition-lts.Need-tail-sizes-requires-3 (condition-claims t) (condition-at t) condition.Post
-condition-tail-sizes-requires-3 t c κs = search needs
-
-condition-condition-requires-5 : (t : ℕ) → condition-lts.Need-condition-requires-5 (condition-claims t) (condition-at t) condition.Post
-condition-condition-requires-5 t c κs = search needs
-
-condition-enum-known-operator : (t : ℕ) → condition-lts.Need-enum-known-operator (condition-claims t) (condition-at t) condition.Post
-condition-enum-known-operator t c = search needs
-
-condition-term-requires : (t : ℕ) → condition-lts.Need-term-requires (condition-claims t) (condition-at t) condition.Post
-condition-term-requires t c κs = search needs
-
-condition-size-at-requires-3 : (t : ℕ) → condition-lts.Need-size-at-requires-3 (condition-claims t) (condition-at t) condition.Post
-condition-size-at-requires-3 t c κs = search needs
-
-condition-add-b-3 : (t : ℕ) → condition-lts.Need-add-b-3 (condition-claims t) (condition-at t) condition.Post
-condition-add-b-3 t c = search needs
-
-condition-tail-requires-4 : (t : ℕ) → condition-lts.Need-tail-requires-4 (condition-claims t) (condition-at t) condition.Post
-condition-tail-requires-4 t c κs = search needs
-
-condition-tail-sizes-requires-4 : (t : ℕ) → condition-lts.Need-tail-sizes-requires-4 (condition-claims t) (condition-at t) condition.Post
-condition-tail-sizes-requires-4 t c κs = search needs
-
 condition-term-requires-2 : (t : ℕ) → condition-lts.Need-term-requires-2 (condition-claims t) (condition-at t) condition.Post
 condition-term-requires-2 t c κs =
     let c₆ = c .before .before .before .before .before .before in let term = c₆ .term in
     let c₁₆ = c₆ .before .before .before .before .before .before .before .before .before .before in let if1 = c₁₆ .if1 in
     let c₂₁ = c₁₆ .before .before .before .before .before in let pre = c₂₁ .pre in
     (omega (arith, pre .0, if1 .left), omega (arith, pre .1, ap length (term .ensures .1 .1)))
-
-condition-cast-compared : (t : ℕ) → condition-lts.Need-cast-compared (condition-claims t) (condition-at t) condition.Post
-condition-cast-compared t c = search needs
-
-condition-compared-requires : (t : ℕ) → condition-lts.Need-compared-requires (condition-claims t) (condition-at t) condition.Post
-condition-compared-requires t c κs = search needs
-
-condition-enum-known-variable : (t : ℕ) → condition-lts.Need-enum-known-variable (condition-claims t) (condition-at t) condition.Post
-condition-enum-known-variable t c = search needs
-
-condition-some-row-requires : (t : ℕ) → condition-lts.Need-some-row-requires (condition-claims t) (condition-at t) condition.Post
-condition-some-row-requires t c κs = search needs
 
 condition-returns-4 : (t : ℕ) → condition-lts.Need-returns-4 (condition-claims t) (condition-at t) condition.Post
 condition-returns-4 t c =
@@ -257,9 +152,6 @@ condition-returns-4 t c =
     let c₇ = c₆ .before in let if1 = c₇ .if1 in
     let c₁₂ = c₇ .before .before .before .before .before in let args = c₁₂ .args in
     (true-is (now (args .walks)) (now (args .values)) (now (args .memo)) (now (args .env)) (now (args .q)) (now (args .z)) (args .level) _ _ _ (if1 .left) (byte .ensures) (record-length .ensures .0) (c .before .before .condition-record .ensures) (c .enum-told .given .1), search needs)
-
-condition-same-length-3 : (t : ℕ) → condition-lts.Need-same-length-3 (condition-claims t) (condition-at t) condition.Post
-condition-same-length-3 t c = search needs
 
 condition-returns-5 : (t : ℕ) → condition-lts.Need-returns-5 (condition-claims t) (condition-at t) condition.Post
 condition-returns-5 t c =
@@ -273,9 +165,6 @@ condition-returns-5 t c =
     let c₁₁ = c₁₀ .before in let if1 = c₁₁ .if1 in
     let c₁₆ = c₁₁ .before .before .before .before .before in let args = c₁₆ .args in
     (not-is (now (args .walks)) (now (args .values)) (now (args .memo)) (now (args .env)) (now (args .q)) (now (args .z)) (args .level) _ _ _ (if1 .left) (byte .ensures) (record-length .ensures .0) (condition-record .ensures) _ _ (tail .ensures) (tail-sizes .ensures) _ (enum-told2 .given .1) (condition .ensures .0), condition .ensures .1)
-
-condition-same-length-4 : (t : ℕ) → condition-lts.Need-same-length-4 (condition-claims t) (condition-at t) condition.Post
-condition-same-length-4 t c = search needs
 
 condition-returns-6 : (t : ℕ) → condition-lts.Need-returns-6 (condition-claims t) (condition-at t) condition.Post
 condition-returns-6 t c =
@@ -295,9 +184,6 @@ condition-returns-6 t c =
     let c₂₄ = c₁₉ .before .before .before .before .before in let args = c₂₄ .args in
     (and-yes (now (args .walks)) (now (args .values)) (now (args .memo)) (now (args .env)) (now (args .q)) (now (args .z)) (args .level) _ _ _ (if1 .left) (byte .ensures) (record-length .ensures .0) (condition-record .ensures) _ _ (tail .ensures) (tail-sizes .ensures) _ _ _ _ (size-at .ensures .0) refl (tail2 .ensures) (tail-sizes2 .ensures) _ _ _ (enum-told3 .given .1) (condition2 .ensures .0) (if2 .left) (condition2 .ensures .1) (condition3 .ensures .0), condition3 .ensures .1 ∙ condition2 .ensures .1)
 
-condition-same-length-5 : (t : ℕ) → condition-lts.Need-same-length-5 (condition-claims t) (condition-at t) condition.Post
-condition-same-length-5 t c = search needs
-
 condition-returns-7 : (t : ℕ) → condition-lts.Need-returns-7 (condition-claims t) (condition-at t) condition.Post
 condition-returns-7 t c =
     let c₂ = c .before .before in let condition5 = c₂ .condition5 in
@@ -316,9 +202,6 @@ condition-returns-7 t c =
     let c₂₄ = c₁₉ .before .before .before .before .before in let args = c₂₄ .args in
     (or-no (now (args .walks)) (now (args .values)) (now (args .memo)) (now (args .env)) (now (args .q)) (now (args .z)) (args .level) _ _ _ (if1 .left) (byte .ensures) (record-length .ensures .0) (condition-record .ensures) _ _ (tail .ensures) (tail-sizes .ensures) _ _ _ _ (size-at2 .ensures .0) refl (tail3 .ensures) (tail-sizes3 .ensures) _ _ _ (enum-told4 .given .1) (condition4 .ensures .0) (if3 .left) (condition4 .ensures .1) (condition5 .ensures .0), condition5 .ensures .1 ∙ condition4 .ensures .1)
 
-condition-same-length-6 : (t : ℕ) → condition-lts.Need-same-length-6 (condition-claims t) (condition-at t) condition.Post
-condition-same-length-6 t c = search needs
-
 condition-returns-8 : (t : ℕ) → condition-lts.Need-returns-8 (condition-claims t) (condition-at t) condition.Post
 condition-returns-8 t c =
     let c₃ = c .before .before .before in let term2 = c₃ .term2 in
@@ -336,9 +219,6 @@ condition-returns-8 t c =
     let c₂₅ = c₂₀ .before .before .before .before .before in let args = c₂₅ .args in
     (compare-is (now (args .walks)) (now (args .values)) (now (args .memo)) (now (args .env)) (now (args .q)) (now (args .z)) (args .level) _ _ _ (if1 .left) (byte .ensures) (record-length .ensures .0) (condition-record .ensures) _ _ (tail .ensures) (tail-sizes .ensures) _ _ _ _ (size-at3 .ensures .0) refl (tail4 .ensures) (tail-sizes4 .ensures) _ _ _ _ _ (operator .given .1) (term .ensures .0) (term .ensures .1 .1) (term2 .ensures .0) (c .compared .ensures), term2 .ensures .1 .1 ∙ term .ensures .1 .1)
 
-condition-same-length-7 : (t : ℕ) → condition-lts.Need-same-length-7 (condition-claims t) (condition-at t) condition.Post
-condition-same-length-7 t c = search needs
-
 condition-returns-9 : (t : ℕ) → condition-lts.Need-returns-9 (condition-claims t) (condition-at t) condition.Post
 condition-returns-9 t c =
     let c₂ = c .before .before in let some-row = c₂ .some-row in
@@ -351,12 +231,6 @@ condition-returns-9 t c =
     let c₁₂ = c₁₁ .before in let if1 = c₁₂ .if1 in
     let c₁₇ = c₁₂ .before .before .before .before .before in let args = c₁₇ .args in
     (some-is (now (args .walks)) (now (args .values)) (now (args .memo)) (now (args .env)) (now (args .q)) (now (args .z)) (args .level) _ _ _ (if1 .left) (byte .ensures) (record-length .ensures .0) (condition-record .ensures) _ _ (tail .ensures) (tail-sizes .ensures) _ _ _ _ (variable .given .1) (some-row .ensures .0), some-row .ensures .1)
-
-condition-enum-told-5 : (t : ℕ) → condition-lts.Need-enum-told-5 (condition-claims t) (condition-at t) condition.Post
-condition-enum-told-5 t c = search needs
-
-condition-enum-told-6 : (t : ℕ) → condition-lts.Need-enum-told-6 (condition-claims t) (condition-at t) condition.Post
-condition-enum-told-6 t c = search needs
 
 condition-returns-10 : (t : ℕ) → condition-lts.Need-returns-10 (condition-claims t) (condition-at t) condition.Post
 condition-returns-10 t c =
@@ -383,12 +257,6 @@ gather-Inv-loop q z level ws vs memo env₀ variable attribute walk n old taken�
 abbrev gather-μ-loop : gather-lts.MeasureT-loop
 gather-μ-loop q z level ws vs memo env₀ variable attribute walk n old taken₀ i₀ env taken i = n - i
 
-gather-walk-of-requires : (t : ℕ) → gather-lts.Need-walk-of-requires (gather-claims t) (gather-at t) gather.Post gather-Inv-loop gather-μ-loop
-gather-walk-of-requires t c κs = search needs
-
-gather-place-requires : (t : ℕ) → gather-lts.Need-place-requires (gather-claims t) (gather-at t) gather.Post gather-Inv-loop gather-μ-loop
-gather-place-requires t c κs = search needs
-
 gather-loop-holds : (t : ℕ) → gather-lts.Need-loop-holds (gather-claims t) (gather-at t) gather.Post gather-Inv-loop gather-μ-loop
 gather-loop-holds t c =
     let place = c .place in
@@ -400,15 +268,6 @@ gather-loop-holds t c =
 gather-place-requires-2 : (t : ℕ) → gather-lts.Need-place-requires-2 (gather-claims t) (gather-at t) gather.Post gather-Inv-loop gather-μ-loop
 gather-place-requires-2 t c κs = (c .before .before .before .before .walk-of .ensures .1, omega (arith, c .before .before .before .before .walk-of .ensures .1 .count, c .loop-test .taken))
 
-gather-set-place-requires : (t : ℕ) → gather-lts.Need-set-place-requires (gather-claims t) (gather-at t) gather.Post gather-Inv-loop gather-μ-loop
-gather-set-place-requires t c κs = search needs
-
-gather-condition-requires : (t : ℕ) → gather-lts.Need-condition-requires (gather-claims t) (gather-at t) gather.Post gather-Inv-loop gather-μ-loop
-gather-condition-requires t c κs = search needs
-
-gather-value-requires : (t : ℕ) → gather-lts.Need-value-requires (gather-claims t) (gather-at t) gather.Post gather-Inv-loop gather-μ-loop
-gather-value-requires t c κs = search needs
-
 gather-add-requires : (t : ℕ) → gather-lts.Need-add-requires (gather-claims t) (gather-at t) gather.Post gather-Inv-loop gather-μ-loop
 gather-add-requires t c κs =
     let c₁₁ = c .before .before .before .before .before .before .before .before .before .before .before in let loop-test = c₁₁ .loop-test in
@@ -417,12 +276,6 @@ gather-add-requires t c κs =
     let c₂₀ = c₁₅ .before .before .before .before .before in let args = c₂₀ .args in
     let vs = now (args .values) in let walks = now (args .walks) in
     (loop .inv .1 .bounded, omega (arith, taken-few (placeAt walks (walk-of .result)) vs (holdsOn (args .level) (now (args .q)) (now (args .z)) walks vs (now (args .memo)) (now (args .env)) (args .variable)) (args .attribute) (loop .i) (loop .taken) (loop .inv .1) (loop .i) (omega arith), loop-test .taken, walk-of .ensures .1 .count))
-
-gather-add-i : (t : ℕ) → gather-lts.Need-add-i (gather-claims t) (gather-at t) gather.Post gather-Inv-loop gather-μ-loop
-gather-add-i t c = search needs
-
-gather-loop-less : (t : ℕ) → gather-lts.Need-loop-less (gather-claims t) (gather-at t) gather.Post gather-Inv-loop gather-μ-loop
-gather-loop-less t c = search needs
 
 gather-loop-again : (t : ℕ) → gather-lts.Need-loop-again (gather-claims t) (gather-at t) gather.Post gather-Inv-loop gather-μ-loop
 gather-loop-again t c =
@@ -436,12 +289,6 @@ gather-loop-again t c =
     let c₁₉ = c₁₄ .before .before .before .before .before in let args = c₁₉ .args in let good = c₁₉ .good in let pre = c₁₉ .pre in
     let env = now (args .env) in let memo = now (args .memo) in let q = now (args .q) in let vs = now (args .values) in let walks = now (args .walks) in let z = now (args .z) in let attribute = args .attribute in let level = args .level in let variable = args .variable in
     (places-back (loop .env) env _ variable (place .result) (place2 .result) (loop .inv .0) (set-place .ensures) _ (condition .ensures .1), ⊎-elim (λ h. subst (λ (u : Accumulator). Accumulates u (kept vs (holdsOn level q z walks vs memo env variable) attribute (placeAt walks (walk-of .result)) (loop .i + 1))) (sym (h .3)) (taken-hit (placeAt walks (walk-of .result)) vs (holdsOn level q z walks vs memo env variable) attribute (loop .i) (loop .taken) (loop .inv .1) _ _ ((ap (λ (p : ℕ). (holdsOn level q z walks vs memo env variable) (tupleAt vs p)) (sym (place2 .ensures)) ∙ on-row (loop .env) env _ variable (place .result) (place2 .result) (loop .inv .0) (set-place .ensures) level q z walks vs memo _ (omega (arith, pre, good)) (condition .ensures .0)) ∙ h .0 .taken) (toZ-ofZ {w = w32} (record { sfits = h .1 .ok }) ∙ h .1 .ensures ∙ ap (λ (k : ℕ). getD vs (k + attribute) (pos 0)) (place2 .ensures)) (h .2 .ensures .0) (h .2 .ensures .1))) (λ h. taken-miss (placeAt walks (walk-of .result)) vs (holdsOn level q z walks vs memo env variable) attribute (loop .i) (loop .taken) (loop .inv .1) _ ((ap (λ (p : ℕ). (holdsOn level q z walks vs memo env variable) (tupleAt vs p)) (sym (place2 .ensures)) ∙ on-row (loop .env) env _ variable (place .result) (place2 .result) (loop .inv .0) (set-place .ensures) level q z walks vs memo _ (omega (arith, pre, good)) (condition .ensures .0)) ∙ h .0 .left) (h .1)) (c .if1 .came), omega (arith, loop-test .taken), places-length (loop .env) env _ variable (place .result) (place2 .result) (loop .inv .0) (set-place .ensures) _ (condition .ensures .1) (loop .inv .3))
-
-gather-set-place-requires-2 : (t : ℕ) → gather-lts.Need-set-place-requires-2 (gather-claims t) (gather-at t) gather.Post gather-Inv-loop gather-μ-loop
-gather-set-place-requires-2 t c κs = search needs
-
-gather-same-length : (t : ℕ) → gather-lts.Need-same-length (gather-claims t) (gather-at t) gather.Post gather-Inv-loop gather-μ-loop
-gather-same-length t c = search needs
 
 gather-returns : (t : ℕ) → gather-lts.Need-returns (gather-claims t) (gather-at t) gather.Post gather-Inv-loop gather-μ-loop
 gather-returns t c =
@@ -461,12 +308,6 @@ some-row-Inv-loop q z level ws vs memo env₀ variable walk n old i₀ env i =
 abbrev some-row-μ-loop : some-row-lts.MeasureT-loop
 some-row-μ-loop q z level ws vs memo env₀ variable walk n old i₀ env i = n - i
 
-some-row-walk-of-requires : (t : ℕ) → some-row-lts.Need-walk-of-requires (some-row-claims t) (some-row-at t) some-row.Post some-row-Inv-loop some-row-μ-loop
-some-row-walk-of-requires t c κs = search needs
-
-some-row-place-requires : (t : ℕ) → some-row-lts.Need-place-requires (some-row-claims t) (some-row-at t) some-row.Post some-row-Inv-loop some-row-μ-loop
-some-row-place-requires t c κs = search needs
-
 some-row-loop-holds : (t : ℕ) → some-row-lts.Need-loop-holds (some-row-claims t) (some-row-at t) some-row.Post some-row-Inv-loop some-row-μ-loop
 some-row-loop-holds t c =
     let c₂ = c .before .before in let walk-of = c₂ .walk-of in
@@ -476,21 +317,6 @@ some-row-loop-holds t c =
 
 some-row-place-requires-2 : (t : ℕ) → some-row-lts.Need-place-requires-2 (some-row-claims t) (some-row-at t) some-row.Post some-row-Inv-loop some-row-μ-loop
 some-row-place-requires-2 t c κs = (c .before .before .before .before .before .walk-of .ensures .1, omega (arith, c .before .before .before .before .before .walk-of .ensures .1 .count, c .before .loop-test .taken))
-
-some-row-set-place-requires : (t : ℕ) → some-row-lts.Need-set-place-requires (some-row-claims t) (some-row-at t) some-row.Post some-row-Inv-loop some-row-μ-loop
-some-row-set-place-requires t c κs = search needs
-
-some-row-condition-requires : (t : ℕ) → some-row-lts.Need-condition-requires (some-row-claims t) (some-row-at t) some-row.Post some-row-Inv-loop some-row-μ-loop
-some-row-condition-requires t c κs = search needs
-
-some-row-set-place-requires-2 : (t : ℕ) → some-row-lts.Need-set-place-requires-2 (some-row-claims t) (some-row-at t) some-row.Post some-row-Inv-loop some-row-μ-loop
-some-row-set-place-requires-2 t c κs = search needs
-
-some-row-add-tried : (t : ℕ) → some-row-lts.Need-add-tried (some-row-claims t) (some-row-at t) some-row.Post some-row-Inv-loop some-row-μ-loop
-some-row-add-tried t c = search needs
-
-some-row-same-length : (t : ℕ) → some-row-lts.Need-same-length (some-row-claims t) (some-row-at t) some-row.Post some-row-Inv-loop some-row-μ-loop
-some-row-same-length t c = search needs
 
 some-row-returns : (t : ℕ) → some-row-lts.Need-returns (some-row-claims t) (some-row-at t) some-row.Post some-row-Inv-loop some-row-μ-loop
 some-row-returns t c =
@@ -506,12 +332,6 @@ some-row-returns t c =
     let env = now (args .env) in let memo = now (args .memo) in let q = now (args .q) in let vs = now (args .values) in let walks = now (args .walks) in let z = now (args .z) in let level = args .level in let variable = args .variable in
     (sym (walked-hit (holdsOn level q z walks vs memo env variable) walks vs variable (walk-of .result) (walk-of .ensures .0) (loop .i) (loop-test .taken) (loop .inv .1) ((ap (λ (p : ℕ). (holdsOn level q z walks vs memo env variable) (tupleAt vs p)) (sym (place2 .ensures)) ∙ on-row (loop .env) env _ variable (place .result) (place2 .result) (loop .inv .0) (set-place .ensures) level q z walks vs memo _ (omega (arith, pre, good)) (condition .ensures .0)) ∙ if1 .taken)), c .before .before .set-place2 .ensures ∙ places-back (loop .env) env _ variable (place .result) (place2 .result) (loop .inv .0) (set-place .ensures) _ (condition .ensures .1))
 
-some-row-add-i : (t : ℕ) → some-row-lts.Need-add-i (some-row-claims t) (some-row-at t) some-row.Post some-row-Inv-loop some-row-μ-loop
-some-row-add-i t c = search needs
-
-some-row-loop-less : (t : ℕ) → some-row-lts.Need-loop-less (some-row-claims t) (some-row-at t) some-row.Post some-row-Inv-loop some-row-μ-loop
-some-row-loop-less t c = search needs
-
 some-row-loop-again : (t : ℕ) → some-row-lts.Need-loop-again (some-row-claims t) (some-row-at t) some-row.Post some-row-Inv-loop some-row-μ-loop
 some-row-loop-again t c =
     let c₃ = c .before .before .before in let condition = c₃ .condition in
@@ -525,12 +345,6 @@ some-row-loop-again t c =
     let env = now (args .env) in let memo = now (args .memo) in let q = now (args .q) in let vs = now (args .values) in let walks = now (args .walks) in let z = now (args .z) in let level = args .level in let variable = args .variable in
     (places-back (loop .env) env _ variable (place .result) (place2 .result) (loop .inv .0) (set-place .ensures) _ (condition .ensures .1), none-next (λ j. holdsOn level q z walks vs memo env variable (tupleAt vs (placeAt walks (walk-of .result) j))) (loop .i) (loop .inv .1) ((ap (λ (p : ℕ). (holdsOn level q z walks vs memo env variable) (tupleAt vs p)) (sym (place2 .ensures)) ∙ on-row (loop .env) env _ variable (place .result) (place2 .result) (loop .inv .0) (set-place .ensures) level q z walks vs memo _ (omega (arith, pre, good)) (condition .ensures .0)) ∙ c .if1 .left), omega (arith, loop-test .taken), places-length (loop .env) env _ variable (place .result) (place2 .result) (loop .inv .0) (set-place .ensures) _ (condition .ensures .1) (loop .inv .3))
 
-some-row-set-place-requires-3 : (t : ℕ) → some-row-lts.Need-set-place-requires-3 (some-row-claims t) (some-row-at t) some-row.Post some-row-Inv-loop some-row-μ-loop
-some-row-set-place-requires-3 t c κs = search needs
-
-some-row-same-length-2 : (t : ℕ) → some-row-lts.Need-same-length-2 (some-row-claims t) (some-row-at t) some-row.Post some-row-Inv-loop some-row-μ-loop
-some-row-same-length-2 t c = search needs
-
 some-row-returns-2 : (t : ℕ) → some-row-lts.Need-returns-2 (some-row-claims t) (some-row-at t) some-row.Post some-row-Inv-loop some-row-μ-loop
 some-row-returns-2 t c =
     let c₄ = c .before .before .before .before in let loop-test = c₄ .loop-test in
@@ -540,55 +354,10 @@ some-row-returns-2 t c =
     let vs = now (args .values) in let walks = now (args .walks) in let variable = args .variable in
     (sym (walked-none (holdsOn (args .level) (now (args .q)) (now (args .z)) walks vs (now (args .memo)) (now (args .env)) variable) walks vs variable (walk-of .result) (walk-of .ensures .0) (λ j k. loop .inv .1 j (omega (arith, loop-test .left)))), c .before .before .set-place3 .ensures ∙ loop .inv .0)
 
-term-whole-requires : (t : ℕ) → term-lts.Need-whole-requires (term-claims t) (term-at t) term.Post
-term-whole-requires t c κs = search needs
-
 term-returns : (t : ℕ) → term-lts.Need-returns (term-claims t) (term-at t) term.Post
 term-returns t c =
     let c₆ = c .before .before .before .before .before .before in let args = c₆ .args in
     ((c .whole .ensures .0) ∙ (value-zero (now (args .walks)) (now (args .values)) (now (args .memo)) (now (args .env)) (now (args .q)) (now (args .z)) (args .level) (c .before .if1 .taken)), (c .whole .ensures .1, search needs))
-
-term-sub-l : (t : ℕ) → term-lts.Need-sub-l (term-claims t) (term-at t) term.Post
-term-sub-l t c = search needs
-
-term-byte-requires : (t : ℕ) → term-lts.Need-byte-requires (term-claims t) (term-at t) term.Post
-term-byte-requires t c κs = search needs
-
-term-record-length-requires : (t : ℕ) → term-lts.Need-record-length-requires (term-claims t) (term-at t) term.Post
-term-record-length-requires t c κs = search needs
-
-term-term-record-requires : (t : ℕ) → term-lts.Need-term-record-requires (term-claims t) (term-at t) term.Post
-term-term-record-requires t c κs = search needs
-
-term-enum-known-a : (t : ℕ) → term-lts.Need-enum-known-a (term-claims t) (term-at t) term.Post
-term-enum-known-a t c = search needs
-
-term-constant-requires : (t : ℕ) → term-lts.Need-constant-requires (term-claims t) (term-at t) term.Post
-term-constant-requires t c κs = search needs
-
-term-whole-requires-2 : (t : ℕ) → term-lts.Need-whole-requires-2 (term-claims t) (term-at t) term.Post
-term-whole-requires-2 t c κs = search needs
-
-term-enum-known-variable : (t : ℕ) → term-lts.Need-enum-known-variable (term-claims t) (term-at t) term.Post
-term-enum-known-variable t c = search needs
-
-term-place-requires : (t : ℕ) → term-lts.Need-place-requires (term-claims t) (term-at t) term.Post
-term-place-requires t c κs = search needs
-
-term-cast-value : (t : ℕ) → term-lts.Need-cast-value (term-claims t) (term-at t) term.Post
-term-cast-value t c = search needs
-
-term-value-requires : (t : ℕ) → term-lts.Need-value-requires (term-claims t) (term-at t) term.Post
-term-value-requires t c κs = search needs
-
-term-whole-requires-3 : (t : ℕ) → term-lts.Need-whole-requires-3 (term-claims t) (term-at t) term.Post
-term-whole-requires-3 t c κs = search needs
-
-term-enum-known-function : (t : ℕ) → term-lts.Need-enum-known-function (term-claims t) (term-at t) term.Post
-term-enum-known-function t c = search needs
-
-term-knows-requires : (t : ℕ) → term-lts.Need-knows-requires (term-claims t) (term-at t) term.Post
-term-knows-requires t c κs = search needs
 
 term-recall-requires : (t : ℕ) → term-lts.Need-recall-requires (term-claims t) (term-at t) term.Post
 term-recall-requires t c κs = sym (c .before .knows .ensures) ∙ c .if2 .taken
@@ -603,21 +372,6 @@ term-returns-2 t c =
     let c₁₄ = c₉ .before .before .before .before .before in let args = c₁₄ .args in
     (c .recall .ensures .0 ∙ (known-is (now (args .walks)) (now (args .values)) (now (args .memo)) (now (args .env)) (now (args .q)) (now (args .z)) (args .level) _ _ _ (if1 .left) (byte .ensures) (record-length .ensures .0) (term-record .ensures) _ _ _ _ _ _ (function .given .1) (c .before .before .knows .ensures) (c .before .if2 .taken) refl), (c .recall .ensures .1, search needs))
 
-term-tail-requires : (t : ℕ) → term-lts.Need-tail-requires (term-claims t) (term-at t) term.Post
-term-tail-requires t c κs = search needs
-
-term-tail-sizes-requires : (t : ℕ) → term-lts.Need-tail-sizes-requires (term-claims t) (term-at t) term.Post
-term-tail-sizes-requires t c κs = search needs
-
-term-gather-requires : (t : ℕ) → term-lts.Need-gather-requires (term-claims t) (term-at t) term.Post
-term-gather-requires t c κs = search needs
-
-term-finish-requires : (t : ℕ) → term-lts.Need-finish-requires (term-claims t) (term-at t) term.Post
-term-finish-requires t c κs = search needs
-
-term-whole-requires-4 : (t : ℕ) → term-lts.Need-whole-requires-4 (term-claims t) (term-at t) term.Post
-term-whole-requires-4 t c κs = search needs
-
 term-returns-3 : (t : ℕ) → term-lts.Need-returns-3 (term-claims t) (term-at t) term.Post
 term-returns-3 t c =
     let c₁ = c .before in let constant = c₁ .constant in
@@ -626,9 +380,6 @@ term-returns-3 t c =
     let c₈ = c₅ .before .before .before in let if1 = c₈ .if1 in
     let c₁₃ = c₈ .before .before .before .before .before in let args = c₁₃ .args in
     ((c .whole2 .ensures .0) ∙ (constant-is (now (args .walks)) (now (args .values)) (now (args .memo)) (now (args .env)) (now (args .q)) (now (args .z)) (args .level) _ _ _ _ _ _ (if1 .left) (term-record .ensures) (a .given .1) (toZ-ofZ {w = w32} (record { sfits = constant .ok }) ∙ constant .ensures .0)), (c .whole2 .ensures .1, search needs))
-
-term-same-length : (t : ℕ) → term-lts.Need-same-length (term-claims t) (term-at t) term.Post
-term-same-length t c = search needs
 
 term-returns-4 : (t : ℕ) → term-lts.Need-returns-4 (term-claims t) (term-at t) term.Post
 term-returns-4 t c =
@@ -639,9 +390,6 @@ term-returns-4 t c =
     let c₁₀ = c₇ .before .before .before in let if1 = c₁₀ .if1 in
     let c₁₅ = c₁₀ .before .before .before .before .before in let args = c₁₅ .args in let pre = c₁₅ .pre in
     ((c .whole3 .ensures .0) ∙ (attribute-is (now (args .walks)) (now (args .values)) (now (args .memo)) (now (args .env)) (now (args .q)) (now (args .z)) (args .level) _ _ _ _ _ (if1 .left) (term-record .ensures) (variable .given .1) (omega (arith, pre .1, known-told2 .given)) (c .before .before .place .ensures) (toZ-ofZ {w = w32} (record { sfits = cell .ok }) ∙ cell .ensures)), (c .whole3 .ensures .1, search needs))
-
-term-same-length-2 : (t : ℕ) → term-lts.Need-same-length-2 (term-claims t) (term-at t) term.Post
-term-same-length-2 t c = search needs
 
 term-returns-5 : (t : ℕ) → term-lts.Need-returns-5 (term-claims t) (term-at t) term.Post
 term-returns-5 t c =
@@ -658,9 +406,6 @@ term-returns-5 t c =
     let c₂₀ = c₁₅ .before .before .before .before .before in let args = c₂₀ .args in
     (ends _ _ (c .finish .result) _ (gather .ensures .0) (c .finish .ensures .0) ∙ (aggregate-is (now (args .walks)) (now (args .values)) (now (args .memo)) (now (args .env)) (now (args .q)) (now (args .z)) (args .level) _ _ _ (if1 .left) (byte .ensures) (record-length .ensures .0) (term-record .ensures) _ _ (tail .ensures) (tail-sizes .ensures) _ _ _ _ _ _ (function .given .1) (knows .ensures) (if2 .left) refl), (c .finish .ensures .1, gather .ensures .1 .1))
 
-term-enum-told : (t : ℕ) → term-lts.Need-enum-told (term-claims t) (term-at t) term.Post
-term-enum-told t c = search needs
-
 term-returns-6 : (t : ℕ) → term-lts.Need-returns-6 (term-claims t) (term-at t) term.Post
 term-returns-6 t c =
     let c₅ = c .before .before .before .before .before .before in let if1 = c₅ .if1 in
@@ -673,56 +418,56 @@ pub +condition+gather+some-row+term-spec : {M : Type 1} → statement M
     (condition-at t)
     condition.Post
     (condition-returns t)
-    (condition-sub-l t)
-    (condition-byte-requires t)
-    (condition-record-length-requires t)
-    (condition-tail-requires t)
-    (condition-tail-sizes-requires t)
-    (condition-condition-record-requires t)
-    (condition-enum-told t)
-    (condition-enum-told-2 t)
-    (condition-condition-requires t)
-    (condition-enum-told-3 t)
-    (condition-condition-requires-2 t)
-    (condition-same-length t)
+    (λ c. search needs)
+    (λ c κs. search needs)
+    (λ c κs. search needs)
+    (λ c κs. search needs)
+    (λ c κs. search needs)
+    (λ c κs. search needs)
+    (λ c. search needs)
+    (λ c. search needs)
+    (λ c κs. search needs)
+    (λ c. search needs)
+    (λ c κs. search needs)
+    (λ c. search needs)
     (condition-returns-2 t)
-    (condition-size-at-requires t)
-    (condition-add-b t)
-    (condition-tail-requires-2 t)
-    (condition-tail-sizes-requires-2 t)
-    (condition-condition-requires-3 t)
-    (condition-enum-told-4 t)
-    (condition-condition-requires-4 t)
-    (condition-same-length-2 t)
+    (λ c κs. search needs)
+    (λ c. search needs)
+    (λ c κs. search needs)
+    (λ c κs. search needs)
+    (λ c κs. search needs)
+    (λ c. search needs)
+    (λ c κs. search needs)
+    (λ c. search needs)
     (condition-returns-3 t)
-    (condition-size-at-requires-2 t)
-    (condition-add-b-2 t)
-    (condition-tail-requires-3 t)
-    (condition-tail-sizes-requires-3 t)
-    (condition-condition-requires-5 t)
-    (condition-enum-known-operator t)
-    (condition-term-requires t)
-    (condition-size-at-requires-3 t)
-    (condition-add-b-3 t)
-    (condition-tail-requires-4 t)
-    (condition-tail-sizes-requires-4 t)
+    (λ c κs. search needs)
+    (λ c. search needs)
+    (λ c κs. search needs)
+    (λ c κs. search needs)
+    (λ c κs. search needs)
+    (λ c. search needs)
+    (λ c κs. search needs)
+    (λ c κs. search needs)
+    (λ c. search needs)
+    (λ c κs. search needs)
+    (λ c κs. search needs)
     (condition-term-requires-2 t)
-    (condition-cast-compared t)
-    (condition-compared-requires t)
-    (condition-enum-known-variable t)
-    (condition-some-row-requires t)
-    (condition-enum-told-5 t)
-    (condition-enum-told-6 t)
+    (λ c. search needs)
+    (λ c κs. search needs)
+    (λ c. search needs)
+    (λ c κs. search needs)
+    (λ c. search needs)
+    (λ c. search needs)
     (condition-returns-4 t)
-    (condition-same-length-3 t)
+    (λ c. search needs)
     (condition-returns-5 t)
-    (condition-same-length-4 t)
+    (λ c. search needs)
     (condition-returns-6 t)
-    (condition-same-length-5 t)
+    (λ c. search needs)
     (condition-returns-7 t)
-    (condition-same-length-6 t)
+    (λ c. search needs)
     (condition-returns-8 t)
-    (condition-same-length-7 t)
+    (λ c. search needs)
     (condition-returns-9 t)
     (condition-returns-10 t)
     (condition-returns-11 t))
@@ -731,71 +476,71 @@ pub +condition+gather+some-row+term-spec : {M : Type 1} → statement M
     gather.Post
     gather-Inv-loop
     gather-μ-loop
-    (gather-walk-of-requires t)
-    (gather-place-requires t)
+    (λ c κs. search needs)
+    (λ c κs. search needs)
     (gather-loop-holds t)
     (gather-place-requires-2 t)
-    (gather-set-place-requires t)
-    (gather-condition-requires t)
-    (gather-value-requires t)
+    (λ c κs. search needs)
+    (λ c κs. search needs)
+    (λ c κs. search needs)
     (gather-add-requires t)
-    (gather-add-i t)
-    (gather-loop-less t)
+    (λ c. search needs)
+    (λ c. search needs)
     (gather-loop-again t)
-    (gather-set-place-requires-2 t)
-    (gather-same-length t)
+    (λ c κs. search needs)
+    (λ c. search needs)
     (gather-returns t))
     (λ t. some-row-lts.spec (some-row-claims t)
     (some-row-at t)
     some-row.Post
     some-row-Inv-loop
     some-row-μ-loop
-    (some-row-walk-of-requires t)
-    (some-row-place-requires t)
+    (λ c κs. search needs)
+    (λ c κs. search needs)
     (some-row-loop-holds t)
     (some-row-place-requires-2 t)
-    (some-row-set-place-requires t)
-    (some-row-condition-requires t)
-    (some-row-set-place-requires-2 t)
-    (some-row-add-tried t)
-    (some-row-same-length t)
+    (λ c κs. search needs)
+    (λ c κs. search needs)
+    (λ c κs. search needs)
+    (λ c. search needs)
+    (λ c. search needs)
     (some-row-returns t)
-    (some-row-add-i t)
-    (some-row-loop-less t)
+    (λ c. search needs)
+    (λ c. search needs)
     (some-row-loop-again t)
-    (some-row-set-place-requires-3 t)
-    (some-row-same-length-2 t)
+    (λ c κs. search needs)
+    (λ c. search needs)
     (some-row-returns-2 t))
     λ t. term-lts.spec (term-claims t)
     (term-at t)
     term.Post
-    (term-whole-requires t)
+    (λ c κs. search needs)
     (term-returns t)
-    (term-sub-l t)
-    (term-byte-requires t)
-    (term-record-length-requires t)
-    (term-term-record-requires t)
-    (term-enum-known-a t)
-    (term-constant-requires t)
-    (term-whole-requires-2 t)
-    (term-enum-known-variable t)
-    (term-place-requires t)
-    (term-cast-value t)
-    (term-value-requires t)
-    (term-whole-requires-3 t)
-    (term-enum-known-function t)
-    (term-knows-requires t)
+    (λ c. search needs)
+    (λ c κs. search needs)
+    (λ c κs. search needs)
+    (λ c κs. search needs)
+    (λ c. search needs)
+    (λ c κs. search needs)
+    (λ c κs. search needs)
+    (λ c. search needs)
+    (λ c κs. search needs)
+    (λ c. search needs)
+    (λ c κs. search needs)
+    (λ c κs. search needs)
+    (λ c. search needs)
+    (λ c κs. search needs)
     (term-recall-requires t)
     (term-returns-2 t)
-    (term-tail-requires t)
-    (term-tail-sizes-requires t)
-    (term-gather-requires t)
-    (term-finish-requires t)
-    (term-enum-told t)
-    (term-whole-requires-4 t)
+    (λ c κs. search needs)
+    (λ c κs. search needs)
+    (λ c κs. search needs)
+    (λ c κs. search needs)
+    (λ c. search needs)
+    (λ c κs. search needs)
     (term-returns-3 t)
-    (term-same-length t)
+    (λ c. search needs)
     (term-returns-4 t)
-    (term-same-length-2 t)
+    (λ c. search needs)
     (term-returns-5 t)
     (term-returns-6 t)

@@ -17,21 +17,6 @@ Inv-loop list at₀ at = (failed (permitsRead (drop at list)) ≡ failed (permit
 abbrev μ-loop : tie.MeasureT-loop
 μ-loop list at₀ at = length list - at
 
-loop-holds : tie.Need-loop-holds Inv-loop μ-loop
-loop-holds c = search needs
-
-tail-requires : tie.Need-tail-requires Inv-loop μ-loop
-tail-requires c κs = search needs
-
-permit-requires : tie.Need-permit-requires Inv-loop μ-loop
-permit-requires c κs = search needs
-
-enum-known-n : tie.Need-enum-known-n Inv-loop μ-loop
-enum-known-n c = search needs
-
-enum-told : tie.Need-enum-told Inv-loop μ-loop
-enum-told c = search needs
-
 returns : tie.Need-returns Inv-loop μ-loop
 returns c =
     let c₂ = c .before .before in let permit = c₂ .permit in
@@ -79,11 +64,11 @@ permits-spec =
     (tie.spec
     Inv-loop
     μ-loop
-    loop-holds
-    tail-requires
-    permit-requires
-    enum-known-n
-    enum-told
+    (λ c. search needs)
+    (λ c κs. search needs)
+    (λ c κs. search needs)
+    (λ c. search needs)
+    (λ c. search needs)
     returns
     add-at
     loop-less

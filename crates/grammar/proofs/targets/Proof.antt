@@ -20,24 +20,6 @@ abbrev μ-loop : tie.MeasureT-loop
 loop-holds : tie.Need-loop-holds Inv-loop μ-loop
 loop-holds c = (begins targetsPart (now (c .before .args .q)), omega arith, omega arith)
 
-byte-requires : tie.Need-byte-requires Inv-loop μ-loop
-byte-requires c κs = search needs
-
-is-target-requires : tie.Need-is-target-requires Inv-loop μ-loop
-is-target-requires c κs = search needs
-
-tail-requires : tie.Need-tail-requires Inv-loop μ-loop
-tail-requires c κs = search needs
-
-term-requires : tie.Need-term-requires Inv-loop μ-loop
-term-requires c κs = search needs
-
-enum-known-m : tie.Need-enum-known-m Inv-loop μ-loop
-enum-known-m c = search needs
-
-enum-told : tie.Need-enum-told Inv-loop μ-loop
-enum-told c = search needs
-
 returns : tie.Need-returns Inv-loop μ-loop
 returns c =
     let c₂ = c .before .before in let term = c₂ .term in
@@ -58,9 +40,6 @@ add-at c =
     let c₈ = c₄ .before .before .before .before in let loop = c₈ .loop in
     let c₁₀ = c₈ .before .before in let args = c₁₀ .args in
     let h = part-takes termSize (now (args .q)) (now (tail .result)) (loop .at) (m .given .0 .0) (term .result) (tail .ensures) (term .ensures) (m .given .1) term-takes in omega (arith, loop .inv .1)
-
-add-n : tie.Need-add-n Inv-loop μ-loop
-add-n c = search needs
 
 loop-less : tie.Need-loop-less Inv-loop μ-loop
 loop-less c =
@@ -100,15 +79,15 @@ targets-spec =
     Inv-loop
     μ-loop
     loop-holds
-    byte-requires
-    is-target-requires
-    tail-requires
-    term-requires
-    enum-known-m
-    enum-told
+    (λ c κs. search needs)
+    (λ c κs. search needs)
+    (λ c κs. search needs)
+    (λ c κs. search needs)
+    (λ c. search needs)
+    (λ c. search needs)
     returns
     add-at
-    add-n
+    (λ c. search needs)
     loop-less
     loop-again
     returns-2)

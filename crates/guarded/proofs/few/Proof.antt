@@ -25,12 +25,6 @@ abbrev μ-loop : tie.MeasureT-loop
 loop-holds : tie.Need-loop-holds Inv-loop μ-loop
 loop-holds c = refl
 
-binding-requires : tie.Need-binding-requires Inv-loop μ-loop
-binding-requires c κs = search needs
-
-fits-requires : tie.Need-fits-requires Inv-loop μ-loop
-fits-requires c κs = search needs
-
 returns : tie.Need-returns Inv-loop μ-loop
 returns c =
     let c₁ = c .before in let fits2 = c₁ .fits2 in
@@ -39,15 +33,6 @@ returns c =
     let c₄ = c₃ .before in let loop = c₄ .loop in
     let c₇ = c₄ .before .before .before in let args = c₇ .args in
     scanned.stopped (fits2 .result) _ _ (c .if1 .taken) (scanned.all-on (now (args .query)) (loop .at) _ (loop-test .taken) refl (binding .result) (binding .ensures) (tiny (now (args .catalogue))) _ (loop .inv) (fits2 .result) (fits2 .ensures))
-
-step-requires : tie.Need-step-requires Inv-loop μ-loop
-step-requires c κs = search needs
-
-add-at : tie.Need-add-at Inv-loop μ-loop
-add-at c = search needs
-
-loop-less : tie.Need-loop-less Inv-loop μ-loop
-loop-less c = search needs
 
 loop-again : tie.Need-loop-again Inv-loop μ-loop
 loop-again c =
@@ -68,11 +53,11 @@ few-spec =
     Inv-loop
     μ-loop
     loop-holds
-    binding-requires
-    fits-requires
+    (λ c κs. search needs)
+    (λ c κs. search needs)
     returns
-    step-requires
-    add-at
-    loop-less
+    (λ c κs. search needs)
+    (λ c. search needs)
+    (λ c. search needs)
     loop-again
     returns-2)

@@ -39,45 +39,6 @@ fill-places-returns-2 t c =
     let c₄ = c .before .before .before .before in let args = c₄ .args in
     places-end (args .left) (now (args .permits)) (args .at) (args .k) (now (args .places)) (c .if2 .taken)
 
-fill-places-header-requires : (t : ℕ) → fill-places-lts.Need-header-requires (fill-places-claims t) (fill-places-at t) fill-places.Post
-fill-places-header-requires t c κs = search needs
-
-fill-places-tail-requires : (t : ℕ) → fill-places-lts.Need-tail-requires (fill-places-claims t) (fill-places-at t) fill-places.Post
-fill-places-tail-requires t c κs = search needs
-
-fill-places-mul-put-place : (t : ℕ) → fill-places-lts.Need-mul-put-place (fill-places-claims t) (fill-places-at t) fill-places.Post
-fill-places-mul-put-place t c = search needs
-
-fill-places-add-put-place : (t : ℕ) → fill-places-lts.Need-add-put-place (fill-places-claims t) (fill-places-at t) fill-places.Post
-fill-places-add-put-place t c = search needs
-
-fill-places-put-place-requires : (t : ℕ) → fill-places-lts.Need-put-place-requires (fill-places-claims t) (fill-places-at t) fill-places.Post
-fill-places-put-place-requires t c κs = search needs
-
-fill-places-size-requires : (t : ℕ) → fill-places-lts.Need-size-requires (fill-places-claims t) (fill-places-at t) fill-places.Post
-fill-places-size-requires t c κs = search needs
-
-fill-places-mul-put-place-2 : (t : ℕ) → fill-places-lts.Need-mul-put-place-2 (fill-places-claims t) (fill-places-at t) fill-places.Post
-fill-places-mul-put-place-2 t c = search needs
-
-fill-places-add-put-place-2 : (t : ℕ) → fill-places-lts.Need-add-put-place-2 (fill-places-claims t) (fill-places-at t) fill-places.Post
-fill-places-add-put-place-2 t c = search needs
-
-fill-places-sub-put-place : (t : ℕ) → fill-places-lts.Need-sub-put-place (fill-places-claims t) (fill-places-at t) fill-places.Post
-fill-places-sub-put-place t c = search needs
-
-fill-places-put-place-requires-2 : (t : ℕ) → fill-places-lts.Need-put-place-requires-2 (fill-places-claims t) (fill-places-at t) fill-places.Post
-fill-places-put-place-requires-2 t c κs = search needs
-
-fill-places-add-fill-places : (t : ℕ) → fill-places-lts.Need-add-fill-places (fill-places-claims t) (fill-places-at t) fill-places.Post
-fill-places-add-fill-places t c = search needs
-
-fill-places-add-fill-places-2 : (t : ℕ) → fill-places-lts.Need-add-fill-places-2 (fill-places-claims t) (fill-places-at t) fill-places.Post
-fill-places-add-fill-places-2 t c = search needs
-
-fill-places-sub-fill-places : (t : ℕ) → fill-places-lts.Need-sub-fill-places (fill-places-claims t) (fill-places-at t) fill-places.Post
-fill-places-sub-fill-places t c = search needs
-
 fill-places-fill-places-requires : (t : ℕ) → fill-places-lts.Need-fill-places-requires (fill-places-claims t) (fill-places-at t) fill-places.Post
 fill-places-fill-places-requires t c κs =
     let c₅ = c .before .before .before .before .before in let size = c₅ .size in
@@ -86,9 +47,6 @@ fill-places-fill-places-requires t c κs =
     let c₁₂ = c₁₁ .before in let if1 = c₁₂ .if1 in
     let c₁₅ = c₁₂ .before .before .before in let args = c₁₅ .args in let pre = c₁₅ .pre in
     (omega (arith, pre .0, if1 .left), (next-near (args .at) (size .result) (now (args .permits)) _ (tail .ensures) (omega (arith, if2 .left)) (size .ensures .1 .1) (pre .1 .2), omega (arith, pre .1 .1, if1 .left), pre .1 .2))
-
-fill-places-same-length : (t : ℕ) → fill-places-lts.Need-same-length (fill-places-claims t) (fill-places-at t) fill-places.Post
-fill-places-same-length t c = search needs
 
 fill-places-returns-3 : (t : ℕ) → fill-places-lts.Need-returns-3 (fill-places-claims t) (fill-places-at t) fill-places.Post
 fill-places-returns-3 t c =
@@ -108,19 +66,19 @@ pub +fill-places-spec : {M : Type 1} → statement M
     fill-places.Post
     (fill-places-returns t)
     (fill-places-returns-2 t)
-    (fill-places-header-requires t)
-    (fill-places-tail-requires t)
-    (fill-places-mul-put-place t)
-    (fill-places-add-put-place t)
-    (fill-places-put-place-requires t)
-    (fill-places-size-requires t)
-    (fill-places-mul-put-place-2 t)
-    (fill-places-add-put-place-2 t)
-    (fill-places-sub-put-place t)
-    (fill-places-put-place-requires-2 t)
-    (fill-places-add-fill-places t)
-    (fill-places-add-fill-places-2 t)
-    (fill-places-sub-fill-places t)
+    (λ c κs. search needs)
+    (λ c κs. search needs)
+    (λ c. search needs)
+    (λ c. search needs)
+    (λ c κs. search needs)
+    (λ c κs. search needs)
+    (λ c. search needs)
+    (λ c. search needs)
+    (λ c. search needs)
+    (λ c κs. search needs)
+    (λ c. search needs)
+    (λ c. search needs)
+    (λ c. search needs)
     (fill-places-fill-places-requires t)
-    (fill-places-same-length t)
+    (λ c. search needs)
     (fill-places-returns-3 t)

@@ -41,27 +41,6 @@ standing-returns-2 t c =
     let args = c .before .before .before .args in
     (standing-empty (λ a. bit (args .used) a) (args .relation) (args .left) (now (args .permits)) (c .if2 .taken), omega (arith, pow-pos (args .left)))
 
-standing-applies-requires : (t : ℕ) → standing-lts.Need-applies-requires (standing-claims t) (standing-at t) standing.Post
-standing-applies-requires t c κs = search needs
-
-standing-one-if-requires : (t : ℕ) → standing-lts.Need-one-if-requires (standing-claims t) (standing-at t) standing.Post
-standing-one-if-requires t c κs = search needs
-
-standing-bars-requires : (t : ℕ) → standing-lts.Need-bars-requires (standing-claims t) (standing-at t) standing.Post
-standing-bars-requires t c κs = search needs
-
-standing-size-requires : (t : ℕ) → standing-lts.Need-size-requires (standing-claims t) (standing-at t) standing.Post
-standing-size-requires t c κs = search needs
-
-standing-tail-requires : (t : ℕ) → standing-lts.Need-tail-requires (standing-claims t) (standing-at t) standing.Post
-standing-tail-requires t c κs = search needs
-
-standing-sub-standing : (t : ℕ) → standing-lts.Need-sub-standing (standing-claims t) (standing-at t) standing.Post
-standing-sub-standing t c = search needs
-
-standing-standing-requires : (t : ℕ) → standing-lts.Need-standing-requires (standing-claims t) (standing-at t) standing.Post
-standing-standing-requires t c κs = search needs
-
 standing-mul-t11 : (t : ℕ) → standing-lts.Need-mul-t11 (standing-claims t) (standing-at t) standing.Post
 standing-mul-t11 t c =
     let rest = c .before .standing in let one-if = c .before .before .before .before .before .one-if in let if1 = c .before .before .before .before .before .before .before .before .if1 in
@@ -73,9 +52,6 @@ standing-add-t12 t c =
     let rest = c .before .standing in let one-if = c .before .before .before .before .before .one-if in let if1 = c .before .before .before .before .before .before .before .before .if1 in
     let start = c .before .before .before .before .before .before .before .before .before .before in let left = start .args .left in
     record { fits = omega (arith, rest .ensures .1, pow-step left (if1 .left), pow-few left (start .pre .1), one-if .ensures .1) }
-
-standing-either-requires : (t : ℕ) → standing-lts.Need-either-requires (standing-claims t) (standing-at t) standing.Post
-standing-either-requires t c κs = search needs
 
 standing-returns-3 : (t : ℕ) → standing-lts.Need-returns-3 (standing-claims t) (standing-at t) standing.Post
 standing-returns-3 t c =
@@ -89,14 +65,14 @@ pub +standing-spec : {M : Type 1} → statement M
     standing.Post
     (standing-returns t)
     (standing-returns-2 t)
-    (standing-applies-requires t)
-    (standing-one-if-requires t)
-    (standing-bars-requires t)
-    (standing-size-requires t)
-    (standing-tail-requires t)
-    (standing-sub-standing t)
-    (standing-standing-requires t)
+    (λ c κs. search needs)
+    (λ c κs. search needs)
+    (λ c κs. search needs)
+    (λ c κs. search needs)
+    (λ c κs. search needs)
+    (λ c. search needs)
+    (λ c κs. search needs)
     (standing-mul-t11 t)
     (standing-add-t12 t)
-    (standing-either-requires t)
+    (λ c κs. search needs)
     (standing-returns-3 t)

@@ -27,14 +27,8 @@ loop-holds : tie.Need-loop-holds Inv-loop μ-loop
 unfolding rewrittenLength
 loop-holds c = (refl, omega arith, refl, refl)
 
-binding-requires : tie.Need-binding-requires Inv-loop μ-loop
-binding-requires c κs = search needs
-
 enter-requires : tie.Need-enter-requires Inv-loop μ-loop
 enter-requires c κs = c .before .before .before .before .before .before .before .before .before .pre .1
-
-both-requires : tie.Need-both-requires Inv-loop μ-loop
-both-requires c κs = search needs
 
 add-n : tie.Need-add-n Inv-loop μ-loop
 add-n c =
@@ -43,15 +37,6 @@ add-n c =
     let c₈ = c₇ .before in let loop = c₈ .loop in
     let c₁₄ = c₈ .before .before .before .before .before .before in let pre = c₁₄ .pre in
     record { fits = omega (arith, loop .inv .1, pre .0, loop-test .taken, enter .ensures .1 .0) }
-
-step-requires : tie.Need-step-requires Inv-loop μ-loop
-step-requires c κs = search needs
-
-add-at : tie.Need-add-at Inv-loop μ-loop
-add-at c = search needs
-
-loop-less : tie.Need-loop-less Inv-loop μ-loop
-loop-less c = search needs
 
 loop-again : tie.Need-loop-again Inv-loop μ-loop
 loop-again c =
@@ -63,9 +48,6 @@ loop-again c =
     let c₁₅ = c₉ .before .before .before .before .before .before in let args = c₁₅ .args in
     let catalogue = now (args .catalogue) in let list = now (args .permits) in let query = now (args .query) in
     (tally-on query list catalogue (now (args .places)) (loop .at) (c .step .result) (loop-test .taken) (c .step .ensures .0) (binding .result) (binding .ensures) (loop .passed) (loop .n) _ (enter .result) (enter .ensures .0) (both .result) (both .ensures) (loop .inv .0), omega (arith, loop .inv .1, enter .ensures .1 .0, c .step .ensures .1 .0), masked-on query list catalogue (loop .at) (c .step .result) (loop-test .taken) (c .step .ensures .0) (binding .result) (binding .ensures) _ _ _ (enter .ensures .1 .1) (loop .inv .2), enter .kept .1 .1 .1 .1 .1 .0 ∙ loop .inv .3)
-
-same-length : tie.Need-same-length Inv-loop μ-loop
-same-length c = search needs
 
 returns : tie.Need-returns Inv-loop μ-loop
 returns c =
@@ -81,13 +63,13 @@ enter-all-spec =
     Inv-loop
     μ-loop
     loop-holds
-    binding-requires
+    (λ c κs. search needs)
     enter-requires
-    both-requires
+    (λ c κs. search needs)
     add-n
-    step-requires
-    add-at
-    loop-less
+    (λ c κs. search needs)
+    (λ c. search needs)
+    (λ c. search needs)
     loop-again
-    same-length
+    (λ c. search needs)
     returns)

@@ -26,12 +26,6 @@ turn-length-requires c κs = (c .loop-test .taken, c .before .before .before .pr
 add-n : tie.Need-add-n Inv-loop μ-loop
 add-n c = record { fits = omega (arith, c .before .before .loop .inv .1, c .before .before .loop .inv .2, c .turn-length .ensures .1) }
 
-add-k : tie.Need-add-k Inv-loop μ-loop
-add-k c = search needs
-
-loop-less : tie.Need-loop-less Inv-loop μ-loop
-loop-less c = search needs
-
 loop-again : tie.Need-loop-again Inv-loop μ-loop
 loop-again c =
     let c₁ = c .before in let loop-test = c₁ .loop-test in
@@ -51,7 +45,7 @@ guard-length-spec =
     loop-holds
     turn-length-requires
     add-n
-    add-k
-    loop-less
+    (λ c. search needs)
+    (λ c. search needs)
     loop-again
     returns)

@@ -29,30 +29,12 @@ abbrev μ-loop : tie.MeasureT-loop
 loop-holds : tie.Need-loop-holds Inv-loop μ-loop
 loop-holds c = λ w s. refl
 
-named-requires : tie.Need-named-requires Inv-loop μ-loop
-named-requires c κs = search needs
-
 returns : tie.Need-returns Inv-loop μ-loop
 returns c =
     let c₁ = c .before in let named = c₁ .named in
     let c₃ = c₁ .before .before in let loop = c₃ .loop in
     let c₅ = c₃ .before .before in let args = c₅ .args in
     λ w s. walk.seek-found (now (args .list)) (loop .at) (isNamed (args .kind) (args .relation) w) (named .result) _ (c .before .before .loop-test .taken) (named .ensures w s) (loop .inv w s) (c .if1 .taken)
-
-byte-requires : tie.Need-byte-requires Inv-loop μ-loop
-byte-requires c κs = search needs
-
-place-requires : tie.Need-place-requires Inv-loop μ-loop
-place-requires c κs = search needs
-
-add-at : tie.Need-add-at Inv-loop μ-loop
-add-at c = search needs
-
-add-at-2 : tie.Need-add-at-2 Inv-loop μ-loop
-add-at-2 c = search needs
-
-loop-less : tie.Need-loop-less Inv-loop μ-loop
-loop-less c = search needs
 
 loop-again : tie.Need-loop-again Inv-loop μ-loop
 loop-again c =
@@ -73,12 +55,12 @@ find-spec =
     Inv-loop
     μ-loop
     loop-holds
-    named-requires
+    (λ c κs. search needs)
     returns
-    byte-requires
-    place-requires
-    add-at
-    add-at-2
-    loop-less
+    (λ c κs. search needs)
+    (λ c κs. search needs)
+    (λ c. search needs)
+    (λ c. search needs)
+    (λ c. search needs)
     loop-again
     returns-2)

@@ -33,21 +33,12 @@ Inv-loop list index kind relation code link₀ link = (f : IndexedBy list (take 
 abbrev μ-loop : tie.MeasureT-loop
 μ-loop list index kind relation code link₀ link = link
 
-bucket-requires : tie.Need-bucket-requires Inv-loop μ-loop
-bucket-requires c κs = search needs
-
-size-at-requires : tie.Need-size-at-requires Inv-loop μ-loop
-size-at-requires c κs = search needs
-
 loop-holds : tie.Need-loop-holds Inv-loop μ-loop
 loop-holds c =
     let c₁ = c .before in let bucket = c₁ .bucket in
     let c₄ = c₁ .before .before .before in let args = c₄ .args in
     let index = now (args .index) in let list = now (args .list) in let kind = args .kind in let relation = args .relation in
     λ f l. (walk-start (λ (i : ℕ). i / 14) (drop 512 index) (λ (i : ℕ). false) (Sound list) (f .places) (λ (i : ℕ). bucketOf (nameOf list i)) (f .top) (take 512 index) (bucket .result) _ (bucket .ensures .1) (c .size-at .ensures .0 ∙ sym (getD-take 512 index (bucket .result) 0 (bucket .ensures .1))) (λ i e. clash e) (f .held) (index-each list (take 512 index) (drop 512 index) f l), λ w s. walk-start (λ (i : ℕ). i / 14) (drop 512 index) (λ (i : ℕ). isNamed kind relation w (drop i list)) (Sound list) (f .places) (λ (i : ℕ). bucketOf (nameOf list i)) (f .top) (take 512 index) (bucket .result) _ (bucket .ensures .1) (c .size-at .ensures .0 ∙ sym (getD-take 512 index (bucket .result) 0 (bucket .ensures .1))) (λ i e. ap bucketOf (named-name list i kind relation w e) ∙ sym (bucket .ensures .0 ∙ ap (λ (v : ℕ). v % 512) (s .code))) (f .held) (index-each list (take 512 index) (drop 512 index) f l))
-
-sub-i : tie.Need-sub-i Inv-loop μ-loop
-sub-i c = search needs
 
 named-requires : tie.Need-named-requires Inv-loop μ-loop
 named-requires c κs =
@@ -69,9 +60,6 @@ add-size-at c =
     let c₈ = c₃ .before .before .before .before .before in let args = c₈ .args in let pre = c₈ .pre in
     let index = now (args .index) in let list = now (args .list) in
     omega (arith, walk-low (λ (i : ℕ). i / 14) (drop 512 index) (λ (i : ℕ). false) (Sound list) (pre .1 .chains .places) (loop .link) (loop .link - 1) (omega (arith, c .before .before .loop-test .taken)) (loop .inv (pre .1 .chains) (room-of list index (pre .0)) .0) .0 .within)
-
-size-at-requires-2 : tie.Need-size-at-requires-2 Inv-loop μ-loop
-size-at-requires-2 c κs = search needs
 
 loop-less : tie.Need-loop-less Inv-loop μ-loop
 loop-less c =
@@ -102,14 +90,14 @@ follow-spec =
     (tie.spec
     Inv-loop
     μ-loop
-    bucket-requires
-    size-at-requires
+    (λ c κs. search needs)
+    (λ c κs. search needs)
     loop-holds
-    sub-i
+    (λ c. search needs)
     named-requires
     returns
     add-size-at
-    size-at-requires-2
+    (λ c κs. search needs)
     loop-less
     loop-again
     returns-2)

@@ -31,30 +31,12 @@ Inv-loop list index at code kind relation link₀ link = (xs : List ℕ) → Hel
 abbrev μ-loop : tie.MeasureT-loop
 μ-loop list index at code kind relation link₀ link = link
 
-byte-requires : tie.Need-byte-requires Inv-loop μ-loop
-byte-requires c κs = search needs
-
-add-byte : tie.Need-add-byte Inv-loop μ-loop
-add-byte c = search needs
-
-byte-requires-2 : tie.Need-byte-requires-2 Inv-loop μ-loop
-byte-requires-2 c κs = search needs
-
-bucket-requires : tie.Need-bucket-requires Inv-loop μ-loop
-bucket-requires c κs = search needs
-
-size-at-requires : tie.Need-size-at-requires Inv-loop μ-loop
-size-at-requires c κs = search needs
-
 loop-holds : tie.Need-loop-holds Inv-loop μ-loop
 loop-holds c =
     let c₁ = c .before in let bucket = c₁ .bucket in
     let c₆ = c₁ .before .before .before .before .before in let args = c₆ .args in let pre = c₆ .pre in
     let index = now (args .index) in let list = now (args .list) in
     λ xs f. walk-start (λ (i : ℕ). i / 14) (drop 512 index) (λ (i : ℕ). like list (args .at) (drop i list)) (λ (i : ℕ). i < (args .at)) xs (λ (i : ℕ). bucketOf (nameOf list i)) (args .at) (take 512 index) (bucket .result) _ (bucket .ensures .1) (c .size-at .ensures .0 ∙ sym (getD-take 512 index (bucket .result) 0 (bucket .ensures .1))) (λ i e. like-bucket list (args .at) i e ∙ sym (bucket .ensures .0 ∙ ap (λ (v : ℕ). v % 512) (pre .1 .code))) f (held-low _ (λ (i : ℕ). i / 14) (args .at) (take 512 index) (drop 512 index) xs f)
-
-sub-i : tie.Need-sub-i Inv-loop μ-loop
-sub-i c = search needs
 
 named-requires : tie.Need-named-requires Inv-loop μ-loop
 named-requires c κs =
@@ -78,9 +60,6 @@ add-size-at c =
     let c₁₀ = c₃ .before .before .before .before .before .before .before in let args = c₁₀ .args in let pre = c₁₀ .pre in
     let list = now (args .list) in
     omega (arith, walk-low (λ (i : ℕ). i / 14) (drop 512 (now (args .index))) (λ (i : ℕ). like list (args .at) (drop i list)) (λ (i : ℕ). i < (args .at)) (pre .2 .places) (loop .link) (loop .link - 1) (omega (arith, c .before .before .loop-test .taken)) (loop .inv (pre .2 .places) (pre .2 .held)) .0, pre .0)
-
-size-at-requires-2 : tie.Need-size-at-requires-2 Inv-loop μ-loop
-size-at-requires-2 c κs = search needs
 
 loop-less : tie.Need-loop-less Inv-loop μ-loop
 loop-less c =
@@ -113,17 +92,17 @@ known-spec =
     (tie.spec
     Inv-loop
     μ-loop
-    byte-requires
-    add-byte
-    byte-requires-2
-    bucket-requires
-    size-at-requires
+    (λ c κs. search needs)
+    (λ c. search needs)
+    (λ c κs. search needs)
+    (λ c κs. search needs)
+    (λ c κs. search needs)
     loop-holds
-    sub-i
+    (λ c. search needs)
     named-requires
     returns
     add-size-at
-    size-at-requires-2
+    (λ c κs. search needs)
     loop-less
     loop-again
     returns-2)

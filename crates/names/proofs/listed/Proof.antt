@@ -35,12 +35,6 @@ abbrev μ-loop : tie.MeasureT-loop
 loop-holds : tie.Need-loop-holds Inv-loop μ-loop
 loop-holds c = (left-start (now (c .before .before .args .list)) (length (drop 512 (now (c .before .before .args .index)))) (take 512 (now (c .before .before .args .index))) (drop 512 (now (c .before .before .args .index))) (heads-clear (now (c .before .before .args .index)) (c .before .before .pre .2)), refl)
 
-record-code-requires : tie.Need-record-code-requires Inv-loop μ-loop
-record-code-requires c κs = search needs
-
-same-length : tie.Need-same-length Inv-loop μ-loop
-same-length c = search needs
-
 returns : tie.Need-returns Inv-loop μ-loop
 returns c =
     let c₃ = c .before .before .before in let loop = c₃ .loop in
@@ -55,9 +49,6 @@ fresh-requires c κs =
     let c₇ = c₄ .before .before .before in let args = c₇ .args in let pre = c₇ .pre in
     (omega (arith, loop-test .taken), c .before .before .record-code .ensures, omega (arith, c .before .if1 .left), omega (arith, loop .inv .1, pre .0), omega (arith, loop .inv .1, pre .1), chained (now (args .list)) (length (drop 512 (now (args .index)))) _ _ _ (loop .inv .0))
 
-same-length-2 : tie.Need-same-length-2 Inv-loop μ-loop
-same-length-2 c = search needs
-
 returns-2 : tie.Need-returns-2 Inv-loop μ-loop
 returns-2 c =
     let c₃ = c .before .before .before in let fresh = c₃ .fresh in
@@ -69,21 +60,6 @@ returns-2 c =
     let list = now (args .list) in
     (left-twice list (length (drop 512 (now (args .index)))) (loop .at) _ _ (loop-test .taken) (loop .inv .0) (is-well list (loop .at) _ (record-code .ensures) (omega (arith, if1 .left)) .0) _ _ (fresh .result) (fresh .ensures (loop .inv .0 .places) (loop .inv .0 .held)) (not-true (fresh .result) (c .if2 .taken)), λ z. clash z)
 
-byte-requires : tie.Need-byte-requires Inv-loop μ-loop
-byte-requires c κs = search needs
-
-place-requires : tie.Need-place-requires Inv-loop μ-loop
-place-requires c κs = search needs
-
-add-at : tie.Need-add-at Inv-loop μ-loop
-add-at c = search needs
-
-add-at-2 : tie.Need-add-at-2 Inv-loop μ-loop
-add-at-2 c = search needs
-
-loop-less : tie.Need-loop-less Inv-loop μ-loop
-loop-less c = search needs
-
 loop-again : tie.Need-loop-again Inv-loop μ-loop
 loop-again c =
     let c₅ = c .before .before .before .before .before in let fresh = c₅ .fresh in
@@ -94,9 +70,6 @@ loop-again c =
     let c₁₃ = c₁₀ .before .before .before in let args = c₁₃ .args in
     let index = now (args .index) in let list = now (args .list) in
     (left-next list (length (drop 512 index)) (loop .at) _ _ (loop-test .taken) (loop .inv .0) (is-well list (loop .at) _ (record-code .ensures) (omega (arith, if1 .left)) .0) _ _ (fresh .result) (fresh .ensures (loop .inv .0 .places) (loop .inv .0 .held)) (not-false (fresh .result) (c .before .before .if2 .left)) (nexts-same (fresh .last .1 .1 .1 .0) index (fresh .kept .1 .1 .1 .0 ∙ loop .inv .1)) (here-room list (loop .at) _ (record-code .ensures) (omega (arith, if1 .left))) _ (ap (λ (i : ℕ). loop .at + (i + 12)) (c .place .ensures .0 ∙ ap placeOf (c .before .byte .ensures))), fresh .kept .1 .1 .1 .0 ∙ loop .inv .1)
-
-same-length-3 : tie.Need-same-length-3 Inv-loop μ-loop
-same-length-3 c = search needs
 
 returns-3 : tie.Need-returns-3 Inv-loop μ-loop
 returns-3 c =
@@ -112,17 +85,17 @@ listed-spec =
     Inv-loop
     μ-loop
     loop-holds
-    record-code-requires
-    same-length
+    (λ c κs. search needs)
+    (λ c. search needs)
     returns
     fresh-requires
-    same-length-2
+    (λ c. search needs)
     returns-2
-    byte-requires
-    place-requires
-    add-at
-    add-at-2
-    loop-less
+    (λ c κs. search needs)
+    (λ c κs. search needs)
+    (λ c. search needs)
+    (λ c. search needs)
+    (λ c. search needs)
     loop-again
-    same-length-3
+    (λ c. search needs)
     returns-3)

@@ -67,9 +67,6 @@ each-row-add-byte : (t : ℕ) → each-row-lts.Need-add-byte (each-row-claims t)
 each-row-add-byte t c = let pre = c .before .before .before .before .before .pre in
     omega (arith, pre .1 .1 .ranges)
 
-each-row-byte-requires : (t : ℕ) → each-row-lts.Need-byte-requires (each-row-claims t) (each-row-at t) each-row.Post each-row-Inv-loop each-row-μ-loop
-each-row-byte-requires t c κs = search needs
-
 each-row-slice-aggregate-t : (t : ℕ) → each-row-lts.Need-slice-aggregate-t (each-row-claims t) (each-row-at t) each-row.Post each-row-Inv-loop each-row-μ-loop
 each-row-slice-aggregate-t t c = let args = c .before .before .before .before .before .before .before .before .args in let pre = c .before .before .before .before .before .before .before .before .pre in
     let work = now (args .work) in
@@ -95,9 +92,6 @@ each-row-add-size-at : (t : ℕ) → each-row-lts.Need-add-size-at (each-row-cla
 each-row-add-size-at t c = let pre = c .before .before .before .before .before .before .before .before .before .pre in
     omega (arith, pre .1 .1 .ranges)
 
-each-row-size-at-requires : (t : ℕ) → each-row-lts.Need-size-at-requires (each-row-claims t) (each-row-at t) each-row.Post each-row-Inv-loop each-row-μ-loop
-each-row-size-at-requires t c κs = search needs
-
 each-row-mul-size-at-2 : (t : ℕ) → each-row-lts.Need-mul-size-at-2 (each-row-claims t) (each-row-at t) each-row.Post each-row-Inv-loop each-row-μ-loop
 each-row-mul-size-at-2 t c = let pre = c .before .before .before .before .before .before .before .before .before .before .pre in
     omega (arith, pre .1 .1 .ranges)
@@ -105,9 +99,6 @@ each-row-mul-size-at-2 t c = let pre = c .before .before .before .before .before
 each-row-add-size-at-2 : (t : ℕ) → each-row-lts.Need-add-size-at-2 (each-row-claims t) (each-row-at t) each-row.Post each-row-Inv-loop each-row-μ-loop
 each-row-add-size-at-2 t c = let pre = c .before .before .before .before .before .before .before .before .before .before .pre in
     omega (arith, pre .1 .1 .ranges)
-
-each-row-size-at-requires-2 : (t : ℕ) → each-row-lts.Need-size-at-requires-2 (each-row-claims t) (each-row-at t) each-row.Post each-row-Inv-loop each-row-μ-loop
-each-row-size-at-requires-2 t c κs = search needs
 
 each-row-prepare-requires : (t : ℕ) → each-row-lts.Need-prepare-requires (each-row-claims t) (each-row-at t) each-row.Post each-row-Inv-loop each-row-μ-loop
 each-row-prepare-requires t c κs = let size-at = c .before .before .size-at in
@@ -121,12 +112,6 @@ each-row-sub-inner t c = let pre = c .before .before .before .before .before .be
 each-row-add-inner : (t : ℕ) → each-row-lts.Need-add-inner (each-row-claims t) (each-row-at t) each-row.Post each-row-Inv-loop each-row-μ-loop
 each-row-add-inner t c = let pre = c .before .before .before .before .before .before .before .before .before .before .before .before .before .before .before .pre in
     omega (arith, pre .1 .1 .ranges)
-
-each-row-walk-of-requires : (t : ℕ) → each-row-lts.Need-walk-of-requires (each-row-claims t) (each-row-at t) each-row.Post each-row-Inv-loop each-row-μ-loop
-each-row-walk-of-requires t c κs = search needs
-
-each-row-cast-old : (t : ℕ) → each-row-lts.Need-cast-old (each-row-claims t) (each-row-at t) each-row.Post each-row-Inv-loop each-row-μ-loop
-each-row-cast-old t c = search needs
 
 each-row-mul-old : (t : ℕ) → each-row-lts.Need-mul-old (each-row-claims t) (each-row-at t) each-row.Post each-row-Inv-loop each-row-μ-loop
 each-row-mul-old t c = let byte = c .before .before .before .before .before .before .before .before .before .before .byte in
@@ -179,18 +164,12 @@ each-row-slice-write-env t c = let loop = c .before .before .before .before .loo
     let pre = c .before .before .before .before .before .before .before .before .before .before .before .before .before .before .before .before .before .before .before .before .before .before .pre in
     omega (arith, pre .1 .0, byte .ok, loop .inv .3)
 
-each-row-same-length : (t : ℕ) → each-row-lts.Need-same-length (each-row-claims t) (each-row-at t) each-row.Post each-row-Inv-loop each-row-μ-loop
-each-row-same-length t c = search needs
-
 each-row-same-length-2 : (t : ℕ) → each-row-lts.Need-same-length-2 (each-row-claims t) (each-row-at t) each-row.Post each-row-Inv-loop each-row-μ-loop
 each-row-same-length-2 t c = let loop = c .before .before .before .before .loop in
     let byte = c .before .before .before .before .before .before .before .before .before .before .before .before .before .before .before .before .byte in
     let args = c .before .before .before .before .before .before .before .before .before .before .before .before .before .before .before .before .before .before .before .before .before .before .args in
     let env = now (args .env) in
     length-set (loop .env) (byte .result) (getD env (byte .result) 0) ∙ loop .inv .3
-
-each-row-same-length-3 : (t : ℕ) → each-row-lts.Need-same-length-3 (each-row-claims t) (each-row-at t) each-row.Post each-row-Inv-loop each-row-μ-loop
-each-row-same-length-3 t c = search needs
 
 each-row-returns : (t : ℕ) → each-row-lts.Need-returns (each-row-claims t) (each-row-at t) each-row.Post each-row-Inv-loop each-row-μ-loop
 each-row-returns t c = let if1 = c .if1 in
@@ -394,22 +373,22 @@ pub +each-row-spec : {M : Type 1} → statement M
     each-row-μ-loop
     (each-row-mul-byte t)
     (each-row-add-byte t)
-    (each-row-byte-requires t)
+    (λ c κs. search needs)
     (each-row-slice-aggregate-t t)
     (each-row-sub-chains t)
     (each-row-part-chains-start t)
     (each-row-part-chains-end t)
     (each-row-mul-size-at t)
     (each-row-add-size-at t)
-    (each-row-size-at-requires t)
+    (λ c κs. search needs)
     (each-row-mul-size-at-2 t)
     (each-row-add-size-at-2 t)
-    (each-row-size-at-requires-2 t)
+    (λ c κs. search needs)
     (each-row-prepare-requires t)
     (each-row-sub-inner t)
     (each-row-add-inner t)
-    (each-row-walk-of-requires t)
-    (each-row-cast-old t)
+    (λ c κs. search needs)
+    (λ c. search needs)
     (each-row-mul-old t)
     (each-row-slice-read-old t)
     (each-row-loop-holds t)
@@ -420,9 +399,9 @@ pub +each-row-spec : {M : Type 1} → statement M
     (each-row-cast-env t)
     (each-row-mul-env t)
     (each-row-slice-write-env t)
-    (each-row-same-length t)
+    (λ c. search needs)
     (each-row-same-length-2 t)
-    (each-row-same-length-3 t)
+    (λ c. search needs)
     (each-row-returns t)
     (each-row-add-i t)
     (each-row-loop-less t)

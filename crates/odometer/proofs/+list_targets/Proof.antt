@@ -37,20 +37,8 @@ returns t c =
 list-target-requires : (t : ℕ) → list-targets-lts.Need-list-target-requires (list-targets-claims t) (list-targets-at t) list-targets.Post
 list-target-requires t c κs = (omega (arith, c .before .before .before .before .before .pre .1 .0, c .before .if1 .left), omega (arith, c .before .before .before .before .before .pre .1 .1, c .before .if1 .left))
 
-same-length : (t : ℕ) → list-targets-lts.Need-same-length (list-targets-claims t) (list-targets-at t) list-targets.Post
-same-length t c = search needs
-
 returns-2 : (t : ℕ) → list-targets-lts.Need-returns-2 (list-targets-claims t) (list-targets-at t) list-targets.Post
 returns-2 t c = ((λ g. clash g), c .before .before .before .list-target .ensures .1)
-
-size-at-requires : (t : ℕ) → list-targets-lts.Need-size-at-requires (list-targets-claims t) (list-targets-at t) list-targets.Post
-size-at-requires t c κs = search needs
-
-tail-requires : (t : ℕ) → list-targets-lts.Need-tail-requires (list-targets-claims t) (list-targets-at t) list-targets.Post
-tail-requires t c κs = search needs
-
-tail-sizes-requires : (t : ℕ) → list-targets-lts.Need-tail-sizes-requires (list-targets-claims t) (list-targets-at t) list-targets.Post
-tail-sizes-requires t c κs = search needs
 
 sub-list-targets : (t : ℕ) → list-targets-lts.Need-sub-list-targets (list-targets-claims t) (list-targets-at t) list-targets.Post
 sub-list-targets t c = omega (arith, c .before .before .before .before .before .before .before .before .if1 .left)
@@ -64,9 +52,6 @@ list-targets-requires t c κs =
     let c₉ = c₇ .before .before in let if1 = c₉ .if1 in
     let c₁₃ = c₉ .before .before .before .before in let pre = c₁₃ .pre in
     (omega (arith, pre .0, if1 .left), (omega (arith, pre .1 .0, if1 .left, list-target .kept .1 .1 .1 .0), omega (arith, pre .1 .1, if1 .left)))
-
-same-length-2 : (t : ℕ) → list-targets-lts.Need-same-length-2 (list-targets-claims t) (list-targets-at t) list-targets.Post
-same-length-2 t c = search needs
 
 returns-3 : (t : ℕ) → list-targets-lts.Need-returns-3 (list-targets-claims t) (list-targets-at t) list-targets.Post
 returns-3 t c =
@@ -86,13 +71,13 @@ pub +list-targets-spec : {M : Type 1} → statement M
     list-targets.Post
     (returns t)
     (list-target-requires t)
-    (same-length t)
+    (λ c. search needs)
     (returns-2 t)
-    (size-at-requires t)
-    (tail-requires t)
-    (tail-sizes-requires t)
+    (λ c κs. search needs)
+    (λ c κs. search needs)
+    (λ c κs. search needs)
     (sub-list-targets t)
     (add-list-targets t)
     (list-targets-requires t)
-    (same-length-2 t)
+    (λ c. search needs)
     (returns-3 t)

@@ -38,12 +38,6 @@ targets-returns : (t : ℕ) → targets-lts.Need-returns (targets-claims t) (tar
 targets-returns t c = let args = c .before .before .before .before .before .args in
     (targets-none (now (args .walks)) (now (args .values)) (now (args .memo)) (now (args .env)) (now (args .q)) (now (args .z)) (args .ahead .left) (args .ahead .level) (args .ahead .at) (now (args .row)) (c .if1 .taken), search needs)
 
-targets-term-requires : (t : ℕ) → targets-lts.Need-term-requires (targets-claims t) (targets-at t) targets.Post
-targets-term-requires t c κs = search needs
-
-targets-same-length : (t : ℕ) → targets-lts.Need-same-length (targets-claims t) (targets-at t) targets.Post
-targets-same-length t c = search needs
-
 targets-returns-2 : (t : ℕ) → targets-lts.Need-returns-2 (targets-claims t) (targets-at t) targets.Post
 targets-returns-2 t c = let term = c .before .before .before .before .term in
     let if1 = c .before .before .before .before .before .before .if1 in
@@ -52,24 +46,6 @@ targets-returns-2 t c = let term = c .before .before .before .before .term in
 
 targets-cell-requires : (t : ℕ) → targets-lts.Need-cell-requires (targets-claims t) (targets-at t) targets.Post
 targets-cell-requires t c κs = (c .before .before .before .before .term .ensures .1 .0, is-number (c .before .before .before .before .term .result) (c .before .before .before .before .term .ensures .1 .0) (c .if2 .left))
-
-targets-mul-cell : (t : ℕ) → targets-lts.Need-mul-cell (targets-claims t) (targets-at t) targets.Post
-targets-mul-cell t c = search needs
-
-targets-slice-set-from-cell : (t : ℕ) → targets-lts.Need-slice-set-from-cell (targets-claims t) (targets-at t) targets.Post
-targets-slice-set-from-cell t c = search needs
-
-targets-size-at-requires : (t : ℕ) → targets-lts.Need-size-at-requires (targets-claims t) (targets-at t) targets.Post
-targets-size-at-requires t c κs = search needs
-
-targets-tail-requires : (t : ℕ) → targets-lts.Need-tail-requires (targets-claims t) (targets-at t) targets.Post
-targets-tail-requires t c κs = search needs
-
-targets-tail-sizes-requires : (t : ℕ) → targets-lts.Need-tail-sizes-requires (targets-claims t) (targets-at t) targets.Post
-targets-tail-sizes-requires t c κs = search needs
-
-targets-sub-fewer : (t : ℕ) → targets-lts.Need-sub-fewer (targets-claims t) (targets-at t) targets.Post
-targets-sub-fewer t c = search needs
 
 targets-add-next : (t : ℕ) → targets-lts.Need-add-next (targets-claims t) (targets-at t) targets.Post
 targets-add-next t c = let if1 = c .before .before .before .before .before .before .before .before .before .before .if1 in
@@ -82,9 +58,6 @@ targets-targets-requires t c κs = let cell = c .before .before .before .before 
     let if1 = c .before .before .before .before .before .before .before .before .before .before .before .before .if1 in
     let args = c .before .before .before .before .before .before .before .before .before .before .before .before .before .before .before .before .before .args in let pre = c .before .before .before .before .before .before .before .before .before .before .before .before .before .before .before .before .before .pre in
     (omega (arith, pre .0, if1 .left), (omega (arith, pre .1 .0, ap length (term .ensures .1 .1)), omega (arith, pre .1 .1, if1 .left, length-set (now (args .row)) (args .ahead .at) (toZ w64 (ofZ w64 (cell .result))))))
-
-targets-same-length-2 : (t : ℕ) → targets-lts.Need-same-length-2 (targets-claims t) (targets-at t) targets.Post
-targets-same-length-2 t c = search needs
 
 targets-same-length-3 : (t : ℕ) → targets-lts.Need-same-length-3 (targets-claims t) (targets-at t) targets.Post
 targets-same-length-3 t c = let targets = c .before .before .before .targets in
@@ -109,18 +82,18 @@ pub +targets-spec : {M : Type 1} → statement M
     (targets-at t)
     targets.Post
     (targets-returns t)
-    (targets-term-requires t)
-    (targets-same-length t)
+    (λ c κs. search needs)
+    (λ c. search needs)
     (targets-returns-2 t)
     (targets-cell-requires t)
-    (targets-mul-cell t)
-    (targets-slice-set-from-cell t)
-    (targets-size-at-requires t)
-    (targets-tail-requires t)
-    (targets-tail-sizes-requires t)
-    (targets-sub-fewer t)
+    (λ c. search needs)
+    (λ c. search needs)
+    (λ c κs. search needs)
+    (λ c κs. search needs)
+    (λ c κs. search needs)
+    (λ c. search needs)
     (targets-add-next t)
     (targets-targets-requires t)
-    (targets-same-length-2 t)
+    (λ c. search needs)
     (targets-same-length-3 t)
     (targets-returns-3 t)

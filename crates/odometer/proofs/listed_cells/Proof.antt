@@ -23,9 +23,6 @@ listed-cell-requires c κs = let loop-test = c .before .loop-test in
     let pre = c .before .before .before .before .before .pre in
     (pre .0, omega (arith, pre .1, c .before .before .loop .inv .2, loop-test .taken), omega (arith, pre .2, loop-test .taken), pre .3)
 
-same-length : tie.Need-same-length Inv-loop μ-loop
-same-length c = search needs
-
 returns : tie.Need-returns Inv-loop μ-loop
 returns c = let listed-cell = c .before .before .listed-cell in
     let loop-test = c .before .before .before .before .loop-test in
@@ -33,21 +30,12 @@ returns c = let listed-cell = c .before .before .listed-cell in
     let args = c .before .before .before .before .before .before .before .before .args in
     rest-nothing (now (args .memo)) (now (args .list)) (args .n) (assigned (now (args .values)) (now (args .env))) (now (args .row)) (loop .row) (loop .i) (loop .inv .0) (listed-cell .result) _ (loop-test .taken) (listed-cell .ensures) (c .if1 .taken)
 
-add-i : tie.Need-add-i Inv-loop μ-loop
-add-i c = search needs
-
-loop-less : tie.Need-loop-less Inv-loop μ-loop
-loop-less c = search needs
-
 loop-again : tie.Need-loop-again Inv-loop μ-loop
 loop-again c = let listed-cell = c .before .before .listed-cell in
     let loop-test = c .before .before .before .before .loop-test in
     let loop = c .before .before .before .before .before .loop in
     let args = c .before .before .before .before .before .before .before .before .args in
     (rest-more (now (args .memo)) (now (args .list)) (args .n) (assigned (now (args .values)) (now (args .env))) (now (args .row)) (loop .row) (loop .i) (loop .inv .0) (listed-cell .result) _ (loop-test .taken) (listed-cell .ensures) (c .if1 .left), omega (arith, loop-test .taken), listed-cell .kept .1 .1 .1 .1 .1 .0 ∙ loop .inv .2)
-
-same-length-2 : tie.Need-same-length-2 Inv-loop μ-loop
-same-length-2 c = search needs
 
 returns-2 : tie.Need-returns-2 Inv-loop μ-loop
 returns-2 c = let loop = c .before .loop in
@@ -62,10 +50,10 @@ listed-cells-spec =
     μ-loop
     loop-holds
     listed-cell-requires
-    same-length
+    (λ c. search needs)
     returns
-    add-i
-    loop-less
+    (λ c. search needs)
+    (λ c. search needs)
     loop-again
-    same-length-2
+    (λ c. search needs)
     returns-2)

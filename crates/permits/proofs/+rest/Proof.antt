@@ -34,18 +34,6 @@ rest-returns-2 t c =
     let c₅ = c .before .before .before .before .before in let args = c₅ .args in
     list-full (shapeOf (catalogueOf (now (args .catalogue)))) (now (args .permits)) (args .at) (args .left) (c .before .if1 .left) (c .if2 .taken)
 
-rest-permit-requires : (t : ℕ) → rest-lts.Need-permit-requires (rest-claims t) (rest-at t) rest.Post
-rest-permit-requires t c κs = search needs
-
-rest-enum-known-n : (t : ℕ) → rest-lts.Need-enum-known-n (rest-claims t) (rest-at t) rest.Post
-rest-enum-known-n t c = search needs
-
-rest-enum-told : (t : ℕ) → rest-lts.Need-enum-told (rest-claims t) (rest-at t) rest.Post
-rest-enum-told t c = search needs
-
-rest-same-length : (t : ℕ) → rest-lts.Need-same-length (rest-claims t) (rest-at t) rest.Post
-rest-same-length t c = search needs
-
 rest-returns-3 : (t : ℕ) → rest-lts.Need-returns-3 (rest-claims t) (rest-at t) rest.Post
 rest-returns-3 t c =
     let c₄ = c .before .before .before .before in let permit = c₄ .permit in
@@ -60,9 +48,6 @@ rest-add-rest t c =
     let c₁₂ = c₈ .before .before .before .before in let args = c₁₂ .args in let good = c₁₂ .good in
     omega (arith, one-room _ (now (args .permits)) (args .at) (args .left) (if1 .left) (permit .result) (permit .ensures) _ _ _ (c .before .n .given .1), good)
 
-rest-sub-rest : (t : ℕ) → rest-lts.Need-sub-rest (rest-claims t) (rest-at t) rest.Post
-rest-sub-rest t c = search needs
-
 rest-rest-requires : (t : ℕ) → rest-lts.Need-rest-requires (rest-claims t) (rest-at t) rest.Post
 rest-rest-requires t c κs =
     let c₆ = c .before .before .before .before .before .before in let permit = c₆ .permit in
@@ -70,15 +55,6 @@ rest-rest-requires t c κs =
     let c₉ = c₈ .before in let if1 = c₉ .if1 in
     let c₁₃ = c₉ .before .before .before .before in let args = c₁₃ .args in let pre = c₁₃ .pre in
     (omega (arith, pre .0, if2 .left), (pre .1 .0, one-room _ (now (args .permits)) (args .at) (args .left) (if1 .left) (permit .result) (permit .ensures) _ _ _ (c .before .before .n .given .1)))
-
-rest-enum-known-others-known : (t : ℕ) → rest-lts.Need-enum-known-others-known (rest-claims t) (rest-at t) rest.Post
-rest-enum-known-others-known t c = search needs
-
-rest-enum-told-2 : (t : ℕ) → rest-lts.Need-enum-told-2 (rest-claims t) (rest-at t) rest.Post
-rest-enum-told-2 t c = search needs
-
-rest-same-length-2 : (t : ℕ) → rest-lts.Need-same-length-2 (rest-claims t) (rest-at t) rest.Post
-rest-same-length-2 t c = search needs
 
 rest-returns-4 : (t : ℕ) → rest-lts.Need-returns-4 (rest-claims t) (rest-at t) rest.Post
 rest-returns-4 t c =
@@ -88,15 +64,6 @@ rest-returns-4 t c =
     let c₁₄ = c₁₁ .before .before .before in let if1 = c₁₄ .if1 in
     let c₁₈ = c₁₄ .before .before .before .before in let args = c₁₈ .args in
     list-refused _ (now (args .permits)) (args .at) (args .left) (if1 .left) (permit .result) (permit .ensures) _ _ _ (n .given .1) (rest .result) (rest .ensures) (c .enum-told2 .given .1)
-
-rest-both-requires : (t : ℕ) → rest-lts.Need-both-requires (rest-claims t) (rest-at t) rest.Post
-rest-both-requires t c κs = search needs
-
-rest-both-requires-2 : (t : ℕ) → rest-lts.Need-both-requires-2 (rest-claims t) (rest-at t) rest.Post
-rest-both-requires-2 t c κs = search needs
-
-rest-same-length-3 : (t : ℕ) → rest-lts.Need-same-length-3 (rest-claims t) (rest-at t) rest.Post
-rest-same-length-3 t c = search needs
 
 rest-returns-5 : (t : ℕ) → rest-lts.Need-returns-5 (rest-claims t) (rest-at t) rest.Post
 rest-returns-5 t c =
@@ -115,19 +82,19 @@ pub +rest-spec : {M : Type 1} → statement M
     rest.Post
     (rest-returns t)
     (rest-returns-2 t)
-    (rest-permit-requires t)
-    (rest-enum-known-n t)
-    (rest-enum-told t)
-    (rest-same-length t)
+    (λ c κs. search needs)
+    (λ c. search needs)
+    (λ c. search needs)
+    (λ c. search needs)
     (rest-returns-3 t)
     (rest-add-rest t)
-    (rest-sub-rest t)
+    (λ c. search needs)
     (rest-rest-requires t)
-    (rest-enum-known-others-known t)
-    (rest-enum-told-2 t)
-    (rest-same-length-2 t)
+    (λ c. search needs)
+    (λ c. search needs)
+    (λ c. search needs)
     (rest-returns-4 t)
-    (rest-both-requires t)
-    (rest-both-requires-2 t)
-    (rest-same-length-3 t)
+    (λ c κs. search needs)
+    (λ c κs. search needs)
+    (λ c. search needs)
     (rest-returns-5 t)

@@ -23,12 +23,6 @@ abbrev μ-loop : tie.MeasureT-loop
 loop-holds : tie.Need-loop-holds Inv-loop μ-loop
 loop-holds c = refl
 
-binding-requires : tie.Need-binding-requires Inv-loop μ-loop
-binding-requires c κs = search needs
-
-over-stored-requires : tie.Need-over-stored-requires Inv-loop μ-loop
-over-stored-requires c κs = search needs
-
 returns : tie.Need-returns Inv-loop μ-loop
 returns c =
     let c₁ = c .before in let stored = c₁ .over-stored in
@@ -37,15 +31,6 @@ returns c =
     let c₄ = c₃ .before in let loop = c₄ .loop in
     let c₇ = c₄ .before .before .before in let args = c₇ .args in
     stopped (stored .result) _ _ (c .if1 .taken) (all-on (now (args .q)) (loop .at) _ (loop-test .taken) refl (binding .result) (binding .ensures) (storedIn (now (args .catalogue))) _ (loop .inv) _ (stored .ensures))
-
-step-requires : tie.Need-step-requires Inv-loop μ-loop
-step-requires c κs = search needs
-
-add-at : tie.Need-add-at Inv-loop μ-loop
-add-at c = search needs
-
-loop-less : tie.Need-loop-less Inv-loop μ-loop
-loop-less c = search needs
 
 loop-again : tie.Need-loop-again Inv-loop μ-loop
 loop-again c =
@@ -66,11 +51,11 @@ all-stored-spec =
     Inv-loop
     μ-loop
     loop-holds
-    binding-requires
-    over-stored-requires
+    (λ c κs. search needs)
+    (λ c κs. search needs)
     returns
-    step-requires
-    add-at
-    loop-less
+    (λ c κs. search needs)
+    (λ c. search needs)
+    (λ c. search needs)
     loop-again
     returns-2)

@@ -27,9 +27,6 @@ loop-holds : tie.Need-loop-holds Inv-loop μ-loop
 unfolding all below
 loop-holds c = (refl, omega arith)
 
-has-if-known-requires : tie.Need-has-if-known-requires Inv-loop μ-loop
-has-if-known-requires c κs = search needs
-
 returns : tie.Need-returns Inv-loop μ-loop
 unfolding spec.attributesIn
 returns c =
@@ -37,12 +34,6 @@ returns c =
     let c₃ = c₁ .before .before in let loop = c₃ .loop in
     let c₄ = c₃ .before in let args = c₄ .args in
     loops.below-stopped (λ (x : ℕ). not (bit (args .mask) x) || ltb x (args .attributes)) (loop .a) 16 (has-if-known .result) (c .before .before .loop-test .taken) (has-if-known .ensures) (c .if1 .taken)
-
-add-a : tie.Need-add-a Inv-loop μ-loop
-add-a c = search needs
-
-loop-less : tie.Need-loop-less Inv-loop μ-loop
-loop-less c = search needs
 
 loop-again : tie.Need-loop-again Inv-loop μ-loop
 loop-again c =
@@ -62,9 +53,9 @@ attributes-in-spec =
     Inv-loop
     μ-loop
     loop-holds
-    has-if-known-requires
+    (λ c κs. search needs)
     returns
-    add-a
-    loop-less
+    (λ c. search needs)
+    (λ c. search needs)
     loop-again
     returns-2)

@@ -29,17 +29,11 @@ number-requires c κs = (c .loop-test .taken, c .before .before .before .before 
 narrow-requires : tie.Need-narrow-requires Inv-loop μ-loop
 narrow-requires c κs = omega (arith, c .number .ensures .1, c .before .before .before .before .before .pre .1)
 
-mul-walks : tie.Need-mul-walks Inv-loop μ-loop
-mul-walks c = search needs
-
 slice-write-walks : tie.Need-slice-write-walks Inv-loop μ-loop
 slice-write-walks c = omega (arith, c .before .before .before .loop .inv .2, c .before .before .before .loop .inv .3 .size, c .before .before .loop-test .taken, c .before .before .before .before .before .before .pre .2)
 
 shared-slice-read-wide : tie.Need-shared-slice-read-wide Inv-loop μ-loop
 shared-slice-read-wide c = omega (arith, c .before .before .number .ensures .1, c .before .before .before .before .before .before .before .pre .0)
-
-wide-requires : tie.Need-wide-requires Inv-loop μ-loop
-wide-requires c κs = search needs
 
 add-at : tie.Need-add-at Inv-loop μ-loop
 add-at c =
@@ -48,12 +42,6 @@ add-at c =
     let c₅ = c₄ .before in let loop = c₅ .loop in
     let c₈ = c₅ .before .before .before in let pre = c₈ .pre in
     omega (arith, c .wide .ensures, pre .4 (number .result), loop .inv .2, loop-test .taken, pre .2, pre .3)
-
-add-i : tie.Need-add-i Inv-loop μ-loop
-add-i c = search needs
-
-loop-less : tie.Need-loop-less Inv-loop μ-loop
-loop-less c = search needs
 
 loop-again : tie.Need-loop-again Inv-loop μ-loop
 loop-again c =
@@ -64,9 +52,6 @@ loop-again c =
     let c₈ = c₅ .before .before .before in let args = c₈ .args in let pre = c₈ .pre in
     let marks = now (args .marks) in
     (omega (arith, loop-test .taken), omega (arith, loop .inv .1), omega (arith, loop .inv .2, c .wide .ensures, pre .4 (number .result)), listed-next marks (numberAt (args .latest) (args .n)) (args .start) (loop .at) (loop .i) (narrow .result) (c .wide .result) (now (args .walks)) (loop .walks) (pre .4) (loop .inv .3) (omega (arith, loop .inv .2, loop-test .taken, pre .2)) (narrow .ensures ∙ number .ensures .0) (c .wide .ensures ∙ ap (λ (k : ℕ). getD marks k 0) (number .ensures .0)))
-
-same-length : tie.Need-same-length Inv-loop μ-loop
-same-length c = search needs
 
 returns : tie.Need-returns Inv-loop μ-loop
 returns c =
@@ -84,13 +69,13 @@ collect-spec =
     loop-holds
     number-requires
     narrow-requires
-    mul-walks
+    (λ c. search needs)
     slice-write-walks
     shared-slice-read-wide
-    wide-requires
+    (λ c κs. search needs)
     add-at
-    add-i
-    loop-less
+    (λ c. search needs)
+    (λ c. search needs)
     loop-again
-    same-length
+    (λ c. search needs)
     returns)

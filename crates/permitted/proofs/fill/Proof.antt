@@ -32,9 +32,6 @@ loop-holds c =
     let query = now (args .query) in let walks = now (args .walks) in
     (refl, filling-start (now (args .catalogue)) (now (args .values)) (part (now (args .permits)) (now (args .places))) (now (args .masks)) (mostIn walks) (flatBindings query) walks (pre .4) (room-enough (length walks) (length (flatBindings query)) (pre .2) (pre .3 .0)))
 
-binding-requires : tie.Need-binding-requires Inv-loop μ-loop
-binding-requires c κs = search needs
-
 fill-one-requires : tie.Need-fill-one-requires Inv-loop μ-loop
 fill-one-requires c κs =
     let c₁ = c .before in let binding = c₁ .binding in
@@ -42,15 +39,6 @@ fill-one-requires c κs =
     let c₁₀ = c₃ .before .before .before .before .before .before .before in let args = c₁₀ .args in let pre = c₁₀ .pre in
     let query = now (args .query) in let walks = now (args .walks) in
     λ v r e. let a = asked (now (args .catalogue)) (now (args .values)) (part (now (args .permits)) (now (args .places))) (now (args .masks)) (mostIn walks) (flatBindings query) _ _ (binding .result) v r (loop .next) (loop .walks) (pre .1) e (bindings-on query (loop .at) _ (c .before .before .loop-test .taken) refl (binding .result) (binding .ensures)) (loop .inv .1) in ((a .0 .0, most-low _ (length walks) (a .0 .1) (pre .3 .1)), (omega (arith, a .1 .0, a .0 .1), omega (arith, loop .inv .0, pre .3 .1)), a .1 .1)
-
-step-requires : tie.Need-step-requires Inv-loop μ-loop
-step-requires c κs = search needs
-
-add-at : tie.Need-add-at Inv-loop μ-loop
-add-at c = search needs
-
-loop-less : tie.Need-loop-less Inv-loop μ-loop
-loop-less c = search needs
 
 loop-again : tie.Need-loop-again Inv-loop μ-loop
 loop-again c =
@@ -61,9 +49,6 @@ loop-again c =
     let c₁₄ = c₇ .before .before .before .before .before .before .before in let args = c₁₄ .args in let pre = c₁₄ .pre in
     let query = now (args .query) in
     (fill-one .kept .1 .1 .1 .1 .1 .1 .1 .0 ∙ loop .inv .0, filling-step (now (args .catalogue)) (now (args .values)) (part (now (args .permits)) (now (args .places))) (now (args .masks)) (mostIn (now (args .walks))) (flatBindings query) _ _ (binding .result) (loop .next) (fill-one .result) (loop .walks) _ (pre .0) (pre .1) (bindings-on query (loop .at) _ (loop-test .taken) (c .step .ensures .0) (binding .result) (binding .ensures)) (fill-one .ensures .0) (fill-one .ensures .1) (loop .inv .1))
-
-same-length : tie.Need-same-length Inv-loop μ-loop
-same-length c = search needs
 
 returns : tie.Need-returns Inv-loop μ-loop
 returns c =
@@ -79,11 +64,11 @@ fill-spec =
     Inv-loop
     μ-loop
     loop-holds
-    binding-requires
+    (λ c κs. search needs)
     fill-one-requires
-    step-requires
-    add-at
-    loop-less
+    (λ c κs. search needs)
+    (λ c. search needs)
+    (λ c. search needs)
     loop-again
-    same-length
+    (λ c. search needs)
     returns)

@@ -30,12 +30,6 @@ turn-requires c κs =
     let c₇ = c₂ .before .before .before .before .before in let pre = c₇ .pre in
     (c .before .loop-test .taken, pre .0, omega (arith, pre .1, loop .inv .1), loop .inv .2)
 
-add-k : tie.Need-add-k Inv-loop μ-loop
-add-k c = search needs
-
-loop-less : tie.Need-loop-less Inv-loop μ-loop
-loop-less c = search needs
-
 loop-again : tie.Need-loop-again Inv-loop μ-loop
 loop-again c =
     let c₂ = c .before .before in let turn = c₂ .turn in
@@ -43,9 +37,6 @@ loop-again c =
     let c₅ = c₄ .before in let loop = c₅ .loop in
     let c₁₀ = c₅ .before .before .before .before .before in let args = c₁₀ .args in
     (omega (arith, loop-test .taken), turn .ensures .size ∙ loop .inv .1, bits-on (loop .inv .2) (turn .ensures), decides-on (now (args .catalogue)) (now (args .values)) (part (now (args .permits)) (now (args .places))) (args .relation) (args .mask) _ (loop .m) (loop .k) (now (args .marks)) (loop .marks) _ (loop-test .taken) (loop .inv .3) (turn .ensures))
-
-same-length : tie.Need-same-length Inv-loop μ-loop
-same-length c = search needs
 
 returns : tie.Need-returns Inv-loop μ-loop
 returns c =
@@ -61,8 +52,8 @@ judge-all-spec =
     μ-loop
     loop-holds
     turn-requires
-    add-k
-    loop-less
+    (λ c. search needs)
+    (λ c. search needs)
     loop-again
-    same-length
+    (λ c. search needs)
     returns)

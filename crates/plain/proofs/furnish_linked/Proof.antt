@@ -27,9 +27,6 @@ link-requires : tie.Need-link-requires
 link-requires c κs = let args = c .before .before .before .before .before .before .before .before .before .before .args in let pre = c .before .before .before .before .before .before .before .before .before .before .pre in
     (omega (arith, pre .0 .answerable .ranges), part-clear 768 (args .task .front - 768) (now (args .work)) (pre .1 .clear))
 
-copy-requires : tie.Need-copy-requires
-copy-requires c κs = search needs
-
 returns : tie.Need-returns
 returns c = let args = c .before .before .before .before .before .before .before .before .before .before .before .before .before .before .before .before .before .before .args in let pre = c .before .before .before .before .before .before .before .before .before .before .before .before .before .before .before .before .before .before .pre in let plan = c .before .before .before .before .before .before .before .before .before .before .before .plan in let link = c .before .before .before .before .before .before .before .link in let copy = c .before .before .copy in
     let w = now (args .work) in let f = args .task .front in
@@ -53,6 +50,6 @@ furnish-linked-spec =
     part-link-end
     link-requires
     (λ c. search needs)
-    copy-requires
+    (λ c κs. search needs)
     (λ c. search needs)
     returns)

@@ -15,38 +15,8 @@ Inv-loop q ranges walks n₀ i₀ n i = (n ≤ 1024) × (i ≤ ranges)
 abbrev μ-loop : tie.MeasureT-loop
 μ-loop q ranges walks n₀ i₀ n i = ranges - i
 
-loop-holds : tie.Need-loop-holds Inv-loop μ-loop
-loop-holds c = search needs
-
-mul-byte : tie.Need-mul-byte Inv-loop μ-loop
-mul-byte c = search needs
-
-add-byte : tie.Need-add-byte Inv-loop μ-loop
-add-byte c = search needs
-
-byte-requires : tie.Need-byte-requires Inv-loop μ-loop
-byte-requires c κs = search needs
-
-walk-of-requires : tie.Need-walk-of-requires Inv-loop μ-loop
-walk-of-requires c κs = search needs
-
 mul-n : tie.Need-mul-n Inv-loop μ-loop
 mul-n c = omega (arith, mul-le-mul (c .before .before .before .before .loop .inv .0) (c .before .walk-of .ensures .1 .count))
-
-returns : tie.Need-returns Inv-loop μ-loop
-returns c = search needs
-
-add-i : tie.Need-add-i Inv-loop μ-loop
-add-i c = search needs
-
-loop-less : tie.Need-loop-less Inv-loop μ-loop
-loop-less c = search needs
-
-loop-again : tie.Need-loop-again Inv-loop μ-loop
-loop-again c = search needs
-
-returns-2 : tie.Need-returns-2 Inv-loop μ-loop
-returns-2 c = search needs
 
 pub most-rows-spec : {M : Type 1} → statement M
 most-rows-spec =
@@ -54,14 +24,14 @@ most-rows-spec =
     (tie.spec
     Inv-loop
     μ-loop
-    loop-holds
-    mul-byte
-    add-byte
-    byte-requires
-    walk-of-requires
+    (λ c. search needs)
+    (λ c. search needs)
+    (λ c. search needs)
+    (λ c κs. search needs)
+    (λ c κs. search needs)
     mul-n
-    returns
-    add-i
-    loop-less
-    loop-again
-    returns-2)
+    (λ c. search needs)
+    (λ c. search needs)
+    (λ c. search needs)
+    (λ c. search needs)
+    (λ c. search needs))

@@ -38,45 +38,12 @@ bind-ranges-returns t c =
     let c₄ = c .before .before .before .before in let args = c₄ .args in
     let e = none-left (args .left) (now (args .q)) (c .if1 .taken) in (none-known (knownBinding (shapeIn (now (args .catalogue))) (args .limit)) _ e, (none-bound _ (scopeOf (now (args .reach))) e, omega arith))
 
-bind-ranges-head-record-requires : (t : ℕ) → bind-ranges-lts.Need-head-record-requires (bind-ranges-claims t) (bind-ranges-at t) bind-ranges.Post
-bind-ranges-head-record-requires t c κs = search needs
-
-bind-ranges-enum-known-variable : (t : ℕ) → bind-ranges-lts.Need-enum-known-variable (bind-ranges-claims t) (bind-ranges-at t) bind-ranges.Post
-bind-ranges-enum-known-variable t c = search needs
-
-bind-ranges-enum-told : (t : ℕ) → bind-ranges-lts.Need-enum-told (bind-ranges-claims t) (bind-ranges-at t) bind-ranges.Post
-bind-ranges-enum-told t c = search needs
-
 bind-ranges-returns-2 : (t : ℕ) → bind-ranges-lts.Need-returns-2 (bind-ranges-claims t) (bind-ranges-at t) bind-ranges.Post
 bind-ranges-returns-2 t c =
     let c₂ = c .before .before in let head-record = c₂ .head-record in
     let c₃ = c₂ .before in let if1 = c₃ .if1 in
     let c₇ = c₃ .before .before .before .before in let args = c₇ .args in
     let e = other-here (args .left) (now (args .q)) (if1 .left) (head-record .result) (head-record .ensures) (c .enum-told .given .1) in (none-known (knownBinding (shapeIn (now (args .catalogue))) (args .limit)) _ e, (none-bound _ (scopeOf (now (args .reach))) e, omega arith))
-
-bind-ranges-record-length-requires : (t : ℕ) → bind-ranges-lts.Need-record-length-requires (bind-ranges-claims t) (bind-ranges-at t) bind-ranges.Post
-bind-ranges-record-length-requires t c κs = search needs
-
-bind-ranges-tail-requires : (t : ℕ) → bind-ranges-lts.Need-tail-requires (bind-ranges-claims t) (bind-ranges-at t) bind-ranges.Post
-bind-ranges-tail-requires t c κs = search needs
-
-bind-ranges-sub-bind-ranges : (t : ℕ) → bind-ranges-lts.Need-sub-bind-ranges (bind-ranges-claims t) (bind-ranges-at t) bind-ranges.Post
-bind-ranges-sub-bind-ranges t c = search needs
-
-bind-ranges-bind-ranges-requires : (t : ℕ) → bind-ranges-lts.Need-bind-ranges-requires (bind-ranges-claims t) (bind-ranges-at t) bind-ranges.Post
-bind-ranges-bind-ranges-requires t c κs = search needs
-
-bind-ranges-enter-requires : (t : ℕ) → bind-ranges-lts.Need-enter-requires (bind-ranges-claims t) (bind-ranges-at t) bind-ranges.Post
-bind-ranges-enter-requires t c κs = search needs
-
-bind-ranges-add-t13 : (t : ℕ) → bind-ranges-lts.Need-add-t13 (bind-ranges-claims t) (bind-ranges-at t) bind-ranges.Post
-bind-ranges-add-t13 t c = search needs
-
-bind-ranges-both-requires : (t : ℕ) → bind-ranges-lts.Need-both-requires (bind-ranges-claims t) (bind-ranges-at t) bind-ranges.Post
-bind-ranges-both-requires t c κs = search needs
-
-bind-ranges-same-length : (t : ℕ) → bind-ranges-lts.Need-same-length (bind-ranges-claims t) (bind-ranges-at t) bind-ranges.Post
-bind-ranges-same-length t c = search needs
 
 bind-ranges-returns-3 : (t : ℕ) → bind-ranges-lts.Need-returns-3 (bind-ranges-claims t) (bind-ranges-at t) bind-ranges.Post
 bind-ranges-returns-3 t c =
@@ -96,16 +63,16 @@ pub +bind-ranges-spec : {M : Type 1} → statement M
     (bind-ranges-at t)
     bind-ranges.Post
     (bind-ranges-returns t)
-    (bind-ranges-head-record-requires t)
-    (bind-ranges-enum-known-variable t)
-    (bind-ranges-enum-told t)
+    (λ c κs. search needs)
+    (λ c. search needs)
+    (λ c. search needs)
     (bind-ranges-returns-2 t)
-    (bind-ranges-record-length-requires t)
-    (bind-ranges-tail-requires t)
-    (bind-ranges-sub-bind-ranges t)
-    (bind-ranges-bind-ranges-requires t)
-    (bind-ranges-enter-requires t)
-    (bind-ranges-add-t13 t)
-    (bind-ranges-both-requires t)
-    (bind-ranges-same-length t)
+    (λ c κs. search needs)
+    (λ c κs. search needs)
+    (λ c. search needs)
+    (λ c κs. search needs)
+    (λ c κs. search needs)
+    (λ c. search needs)
+    (λ c κs. search needs)
+    (λ c. search needs)
     (bind-ranges-returns-3 t)

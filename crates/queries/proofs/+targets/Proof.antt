@@ -32,9 +32,6 @@ targets-below t = and 4 targets-kinds.ps (falls 4 targets-kinds.ps _<_ μ-target
 abbrev targets-claims : ℕ → targets-lts.Claims
 targets-claims t = (byte-reads.Asked, byte-reads.Learnt, term-reads.Asked, term-reads.Learnt, targets-below t, targets.Post)
 
-targets-byte-requires : (t : ℕ) → targets-lts.Need-byte-requires (targets-claims t) (targets-at t) targets.Post
-targets-byte-requires t c κs = search needs
-
 targets-returns : (t : ℕ) → targets-lts.Need-returns (targets-claims t) (targets-at t) targets.Post
 targets-returns t c =
     let c₁ = c .before in let byte = c₁ .byte in
@@ -47,18 +44,6 @@ targets-returns-2 t c =
     let c₂ = c .before .before in let byte = c₂ .byte in
     let c₇ = c₂ .before .before .before .before .before in let args = c₇ .args in
     (tt, (leads-full (args .level) (now (args .q)) (args .at) (args .left) (byte .result) (byte .ensures) (c .before .if1 .left) (c .if2 .taken), refl))
-
-targets-term-requires : (t : ℕ) → targets-lts.Need-term-requires (targets-claims t) (targets-at t) targets.Post
-targets-term-requires t c κs = search needs
-
-targets-enum-known-n : (t : ℕ) → targets-lts.Need-enum-known-n (targets-claims t) (targets-at t) targets.Post
-targets-enum-known-n t c = search needs
-
-targets-enum-told : (t : ℕ) → targets-lts.Need-enum-told (targets-claims t) (targets-at t) targets.Post
-targets-enum-told t c = search needs
-
-targets-same-length : (t : ℕ) → targets-lts.Need-same-length (targets-claims t) (targets-at t) targets.Post
-targets-same-length t c = search needs
 
 targets-returns-3 : (t : ℕ) → targets-lts.Need-returns-3 (targets-claims t) (targets-at t) targets.Post
 targets-returns-3 t c =
@@ -75,24 +60,12 @@ targets-add-targets t c =
     let c₁₅ = c₆ .before .before .before .before .before .before .before .before .before in let args = c₁₅ .args in let good = c₁₅ .good in let pre = c₁₅ .pre in
     omega (arith, ap bytesOf (c .before .before .n .given .1), term-ends (now (args .q)) (args .at) (pre .1) _ _ _ _ (term .result) (term .ensures .0), good)
 
-targets-sub-targets : (t : ℕ) → targets-lts.Need-sub-targets (targets-claims t) (targets-at t) targets.Post
-targets-sub-targets t c = search needs
-
 targets-targets-requires : (t : ℕ) → targets-lts.Need-targets-requires (targets-claims t) (targets-at t) targets.Post
 targets-targets-requires t c κs =
     let c₆ = c .before .before .before .before .before .before in let term = c₆ .term in
     let c₈ = c₆ .before .before in let if2 = c₈ .if2 in
     let c₁₅ = c₈ .before .before .before .before .before .before .before in let args = c₁₅ .args in let pre = c₁₅ .pre in
     (omega (arith, pre .0, if2 .left), omega (arith, ap bytesOf (c .before .before .n .given .1), term-ends (now (args .q)) (args .at) (pre .1) _ _ _ _ (term .result) (term .ensures .0)))
-
-targets-enum-known-count : (t : ℕ) → targets-lts.Need-enum-known-count (targets-claims t) (targets-at t) targets.Post
-targets-enum-known-count t c = search needs
-
-targets-enum-told-2 : (t : ℕ) → targets-lts.Need-enum-told-2 (targets-claims t) (targets-at t) targets.Post
-targets-enum-told-2 t c = search needs
-
-targets-same-length-2 : (t : ℕ) → targets-lts.Need-same-length-2 (targets-claims t) (targets-at t) targets.Post
-targets-same-length-2 t c = search needs
 
 targets-returns-4 : (t : ℕ) → targets-lts.Need-returns-4 (targets-claims t) (targets-at t) targets.Post
 targets-returns-4 t c =
@@ -110,9 +83,6 @@ targets-add-t24 t c =
     let c₆ = c .before .before .before .before .before .before in let targets = c₆ .targets in
     let c₂₂ = c₆ .before .before .before .before .before .before .before .before .before .before .before .before .before .before .before .before in let fits = c₂₂ .fits in
     omega (arith, found-few _ _ _ _ _ _ _ _ _ (targets .result) _ _ _ (c .before .before .count .given .1) (targets .ensures .0), fits .left .fits)
-
-targets-same-length-3 : (t : ℕ) → targets-lts.Need-same-length-3 (targets-claims t) (targets-at t) targets.Post
-targets-same-length-3 t c = search needs
 
 targets-returns-5 : (t : ℕ) → targets-lts.Need-returns-5 (targets-claims t) (targets-at t) targets.Post
 targets-returns-5 t c =
@@ -133,9 +103,6 @@ targets-add-t23 t c =
     let c₂₂ = c₆ .before .before .before .before .before .before .before .before .before .before .before .before .before .before .before .before in let fits = c₂₂ .fits in
     omega (arith, found-few _ _ _ _ _ _ _ _ _ (targets .result) _ _ _ (c .before .before .count .given .1) (targets .ensures .0), fits .left .fits)
 
-targets-same-length-4 : (t : ℕ) → targets-lts.Need-same-length-4 (targets-claims t) (targets-at t) targets.Post
-targets-same-length-4 t c = search needs
-
 targets-returns-6 : (t : ℕ) → targets-lts.Need-returns-6 (targets-claims t) (targets-at t) targets.Post
 targets-returns-6 t c =
     let c₂ = c .before .before in let count = c₂ .count in
@@ -153,24 +120,24 @@ pub +targets-spec : {M : Type 1} → statement M
 +targets-spec = close μ-targets λ t. targets-lts.spec (targets-claims t)
     (targets-at t)
     targets.Post
-    (targets-byte-requires t)
+    (λ c κs. search needs)
     (targets-returns t)
     (targets-returns-2 t)
-    (targets-term-requires t)
-    (targets-enum-known-n t)
-    (targets-enum-told t)
-    (targets-same-length t)
+    (λ c κs. search needs)
+    (λ c. search needs)
+    (λ c. search needs)
+    (λ c. search needs)
     (targets-returns-3 t)
     (targets-add-targets t)
-    (targets-sub-targets t)
+    (λ c. search needs)
     (targets-targets-requires t)
-    (targets-enum-known-count t)
-    (targets-enum-told-2 t)
-    (targets-same-length-2 t)
+    (λ c. search needs)
+    (λ c. search needs)
+    (λ c. search needs)
     (targets-returns-4 t)
     (targets-add-t24 t)
-    (targets-same-length-3 t)
+    (λ c. search needs)
     (targets-returns-5 t)
     (targets-add-t23 t)
-    (targets-same-length-4 t)
+    (λ c. search needs)
     (targets-returns-6 t)

@@ -108,20 +108,11 @@ condition-leaf-requires t c κs =
     let c₈ = c .before .before .before .before .before .before .before .before in let args = c₈ .args in let pre = c₈ .pre in
     leaf-room _ _ _ (zero-leaf (now (args .masks)) (part (now (args .permits)) (now (args .places))) (args .level) (now (args .q)) (now (args .z)) (c .before .if1 .taken)) (args .to .at) (args .to .next) (pre .1)
 
-condition-same-length : (t : ℕ) → condition-lts.Need-same-length (condition-claims t) (condition-at t) condition.Post
-condition-same-length t c = search needs
-
 condition-returns : (t : ℕ) → condition-lts.Need-returns (condition-claims t) (condition-at t) condition.Post
 condition-returns t c =
     let c₄ = c .before .before .before .before in let if1 = c₄ .if1 in
     let c₁₁ = c₄ .before .before .before .before .before .before .before in let args = c₁₁ .args in
     leaf-did _ _ _ (zero-leaf (now (args .masks)) (part (now (args .permits)) (now (args .places))) (args .level) (now (args .q)) (now (args .z)) (if1 .taken)) (args .to .at) (args .to .next) (now (args .out)) _ _ _ (c .before .before .leaf .ensures)
-
-condition-condition-record-requires : (t : ℕ) → condition-lts.Need-condition-record-requires (condition-claims t) (condition-at t) condition.Post
-condition-condition-record-requires t c κs = search needs
-
-condition-enum-told : (t : ℕ) → condition-lts.Need-enum-told (condition-claims t) (condition-at t) condition.Post
-condition-enum-told t c = search needs
 
 condition-leaf-requires-2 : (t : ℕ) → condition-lts.Need-leaf-requires-2 (condition-claims t) (condition-at t) condition.Post
 condition-leaf-requires-2 t c κs =
@@ -130,27 +121,12 @@ condition-leaf-requires-2 t c κs =
     let c₁₁ = c₄ .before .before .before .before .before .before .before in let args = c₁₁ .args in let pre = c₁₁ .pre in
     leaf-room _ _ _ (true-leaf (now (args .masks)) (part (now (args .permits)) (now (args .places))) (args .level) (now (args .q)) (now (args .z)) (if1 .left) (sym (condition-record .ensures) ∙ c .before .enum-told .given .1)) (args .to .at) (args .to .next) (pre .1)
 
-condition-enum-told-2 : (t : ℕ) → condition-lts.Need-enum-told-2 (condition-claims t) (condition-at t) condition.Post
-condition-enum-told-2 t c = search needs
-
 condition-put-requires : (t : ℕ) → condition-lts.Need-put-requires (condition-claims t) (condition-at t) condition.Post
 condition-put-requires t c κs =
     let c₃ = c .before .before .before in let condition-record = c₃ .condition-record in
     let c₄ = c₃ .before in let if1 = c₄ .if1 in
     let c₁₁ = c₄ .before .before .before .before .before .before .before in let args = c₁₁ .args in let pre = c₁₁ .pre in
     head-room _ _ _ _ _ (not-shape (now (args .masks)) (part (now (args .permits)) (now (args .places))) (args .level) (now (args .q)) (now (args .z)) (if1 .left) (sym (condition-record .ensures) ∙ c .before .enum-told2 .given .1)) (args .to .at) (args .to .next) (pre .1)
-
-condition-first-child-requires : (t : ℕ) → condition-lts.Need-first-child-requires (condition-claims t) (condition-at t) condition.Post
-condition-first-child-requires t c κs = search needs
-
-condition-tail-requires : (t : ℕ) → condition-lts.Need-tail-requires (condition-claims t) (condition-at t) condition.Post
-condition-tail-requires t c κs = search needs
-
-condition-tail-sizes-requires : (t : ℕ) → condition-lts.Need-tail-sizes-requires (condition-claims t) (condition-at t) condition.Post
-condition-tail-sizes-requires t c κs = search needs
-
-condition-sub-condition : (t : ℕ) → condition-lts.Need-sub-condition (condition-claims t) (condition-at t) condition.Post
-condition-sub-condition t c = search needs
 
 condition-condition-requires : (t : ℕ) → condition-lts.Need-condition-requires (condition-claims t) (condition-at t) condition.Post
 condition-condition-requires t c κs =
@@ -163,18 +139,12 @@ condition-condition-requires t c κs =
     let masks = now (args .masks) in let permits = now (args .permits) in let places = now (args .places) in let q = now (args .q) in let z = now (args .z) in let level = args .level in let next = args .to .next in
     (omega (arith, pre .0, if1 .left), child-room (λ x y i. conditionBytes masks (part permits places) (level - 1) x y i) (λ x y. conditionNew masks (part permits places) (level - 1) x y) q z 0 next _ (first-child .ensures .0) _ _ (c .before .before .tail .ensures) (c .before .tail-sizes .ensures) _ (body-room _ _ _ _ _ (not-shape masks (part permits places) level q z (if1 .left) (sym (condition-record .ensures) ∙ enum-told2 .given .1)) (args .to .at) next (now (args .out)) _ _ (put .ensures) (pre .1)))
 
-condition-enum-told-3 : (t : ℕ) → condition-lts.Need-enum-told-3 (condition-claims t) (condition-at t) condition.Post
-condition-enum-told-3 t c = search needs
-
 condition-put-requires-2 : (t : ℕ) → condition-lts.Need-put-requires-2 (condition-claims t) (condition-at t) condition.Post
 condition-put-requires-2 t c κs =
     let c₃ = c .before .before .before in let condition-record = c₃ .condition-record in
     let c₄ = c₃ .before in let if1 = c₄ .if1 in
     let c₁₁ = c₄ .before .before .before .before .before .before .before in let args = c₁₁ .args in let pre = c₁₁ .pre in
     head-room _ _ _ _ _ (and-shape (now (args .masks)) (part (now (args .permits)) (now (args .places))) (args .level) (now (args .q)) (now (args .z)) (if1 .left) (sym (condition-record .ensures) ∙ c .before .enum-told3 .given .1)) (args .to .at) (args .to .next) (pre .1)
-
-condition-sub-conditions : (t : ℕ) → condition-lts.Need-sub-conditions (condition-claims t) (condition-at t) condition.Post
-condition-sub-conditions t c = search needs
 
 condition-conditions-requires : (t : ℕ) → condition-lts.Need-conditions-requires (condition-claims t) (condition-at t) condition.Post
 condition-conditions-requires t c κs =
@@ -185,18 +155,12 @@ condition-conditions-requires t c κs =
     let c₁₅ = c₈ .before .before .before .before .before .before .before in let args = c₁₅ .args in let pre = c₁₅ .pre in
     (omega (arith, pre .0, if1 .left), body-room _ _ _ _ _ (and-shape (now (args .masks)) (part (now (args .permits)) (now (args .places))) (args .level) (now (args .q)) (now (args .z)) (if1 .left) (sym (condition-record .ensures) ∙ enum-told3 .given .1)) (args .to .at) (args .to .next) (now (args .out)) _ _ (put2 .ensures) (pre .1))
 
-condition-enum-told-4 : (t : ℕ) → condition-lts.Need-enum-told-4 (condition-claims t) (condition-at t) condition.Post
-condition-enum-told-4 t c = search needs
-
 condition-put-requires-3 : (t : ℕ) → condition-lts.Need-put-requires-3 (condition-claims t) (condition-at t) condition.Post
 condition-put-requires-3 t c κs =
     let c₃ = c .before .before .before in let condition-record = c₃ .condition-record in
     let c₄ = c₃ .before in let if1 = c₄ .if1 in
     let c₁₁ = c₄ .before .before .before .before .before .before .before in let args = c₁₁ .args in let pre = c₁₁ .pre in
     head-room _ _ _ _ _ (or-shape (now (args .masks)) (part (now (args .permits)) (now (args .places))) (args .level) (now (args .q)) (now (args .z)) (if1 .left) (sym (condition-record .ensures) ∙ c .before .enum-told4 .given .1)) (args .to .at) (args .to .next) (pre .1)
-
-condition-sub-conditions-2 : (t : ℕ) → condition-lts.Need-sub-conditions-2 (condition-claims t) (condition-at t) condition.Post
-condition-sub-conditions-2 t c = search needs
 
 condition-conditions-requires-2 : (t : ℕ) → condition-lts.Need-conditions-requires-2 (condition-claims t) (condition-at t) condition.Post
 condition-conditions-requires-2 t c κs =
@@ -207,18 +171,12 @@ condition-conditions-requires-2 t c κs =
     let c₁₅ = c₈ .before .before .before .before .before .before .before in let args = c₁₅ .args in let pre = c₁₅ .pre in
     (omega (arith, pre .0, if1 .left), body-room _ _ _ _ _ (or-shape (now (args .masks)) (part (now (args .permits)) (now (args .places))) (args .level) (now (args .q)) (now (args .z)) (if1 .left) (sym (condition-record .ensures) ∙ enum-told4 .given .1)) (args .to .at) (args .to .next) (now (args .out)) _ _ (put3 .ensures) (pre .1))
 
-condition-enum-known-o : (t : ℕ) → condition-lts.Need-enum-known-o (condition-claims t) (condition-at t) condition.Post
-condition-enum-known-o t c = search needs
-
 condition-put-record-requires : (t : ℕ) → condition-lts.Need-put-record-requires (condition-claims t) (condition-at t) condition.Post
 condition-put-record-requires t c κs =
     let c₄ = c .before .before .before .before in let condition-record = c₄ .condition-record in
     let c₅ = c₄ .before in let if1 = c₅ .if1 in
     let c₁₂ = c₅ .before .before .before .before .before .before .before in let args = c₁₂ .args in let pre = c₁₂ .pre in
     head-room _ _ _ _ _ (compare-shape (now (args .masks)) (part (now (args .permits)) (now (args .places))) (args .level) (now (args .q)) (now (args .z)) (if1 .left) _ (sym (condition-record .ensures) ∙ c .before .before .o .given .1)) (args .to .at) (args .to .next) (pre .1)
-
-condition-sub-terms : (t : ℕ) → condition-lts.Need-sub-terms (condition-claims t) (condition-at t) condition.Post
-condition-sub-terms t c = search needs
 
 condition-terms-requires : (t : ℕ) → condition-lts.Need-terms-requires (condition-claims t) (condition-at t) condition.Post
 condition-terms-requires t c κs =
@@ -229,18 +187,12 @@ condition-terms-requires t c κs =
     let c₁₆ = c₉ .before .before .before .before .before .before .before in let args = c₁₆ .args in let pre = c₁₆ .pre in
     (omega (arith, pre .0, if1 .left), body-room _ _ _ _ _ (compare-shape (now (args .masks)) (part (now (args .permits)) (now (args .places))) (args .level) (now (args .q)) (now (args .z)) (if1 .left) _ (sym (condition-record .ensures) ∙ o .given .1)) (args .to .at) (args .to .next) (now (args .out)) _ _ (put-record .ensures) (pre .1))
 
-condition-enum-known-v : (t : ℕ) → condition-lts.Need-enum-known-v (condition-claims t) (condition-at t) condition.Post
-condition-enum-known-v t c = search needs
-
 condition-put-record-requires-2 : (t : ℕ) → condition-lts.Need-put-record-requires-2 (condition-claims t) (condition-at t) condition.Post
 condition-put-record-requires-2 t c κs =
     let c₄ = c .before .before .before .before in let condition-record = c₄ .condition-record in
     let c₅ = c₄ .before in let if1 = c₅ .if1 in
     let c₁₂ = c₅ .before .before .before .before .before .before .before in let args = c₁₂ .args in let pre = c₁₂ .pre in
     head-room _ _ _ _ _ (some-shape (now (args .masks)) (part (now (args .permits)) (now (args .places))) (args .level) (now (args .q)) (now (args .z)) (if1 .left) _ _ (sym (condition-record .ensures) ∙ c .before .before .v .given .1)) (args .to .at) (args .to .next) (pre .1)
-
-condition-sub-under : (t : ℕ) → condition-lts.Need-sub-under (condition-claims t) (condition-at t) condition.Post
-condition-sub-under t c = search needs
 
 condition-under-requires : (t : ℕ) → condition-lts.Need-under-requires (condition-claims t) (condition-at t) condition.Post
 condition-under-requires t c κs =
@@ -258,9 +210,6 @@ condition-leaf-requires-3 t c κs =
     let c₁₀ = c₃ .before .before .before .before .before .before .before in let args = c₁₀ .args in let pre = c₁₀ .pre in
     leaf-room _ _ _ (rest-leaf (now (args .masks)) (part (now (args .permits)) (now (args .places))) (args .level) (now (args .q)) (now (args .z)) (if1 .left) (condition-record .result) (condition-record .ensures) (c .before .match .keys7)) (args .to .at) (args .to .next) (pre .1)
 
-condition-same-length-2 : (t : ℕ) → condition-lts.Need-same-length-2 (condition-claims t) (condition-at t) condition.Post
-condition-same-length-2 t c = search needs
-
 condition-returns-2 : (t : ℕ) → condition-lts.Need-returns-2 (condition-claims t) (condition-at t) condition.Post
 condition-returns-2 t c =
     let c₄ = c .before .before .before .before in let enum-told = c₄ .enum-told in
@@ -268,9 +217,6 @@ condition-returns-2 t c =
     let c₇ = c₆ .before in let if1 = c₇ .if1 in
     let c₁₄ = c₇ .before .before .before .before .before .before .before in let args = c₁₄ .args in
     leaf-did _ _ _ (true-leaf (now (args .masks)) (part (now (args .permits)) (now (args .places))) (args .level) (now (args .q)) (now (args .z)) (if1 .left) (sym (condition-record .ensures) ∙ enum-told .given .1)) (args .to .at) (args .to .next) (now (args .out)) _ _ _ (c .before .before .leaf2 .ensures)
-
-condition-same-length-3 : (t : ℕ) → condition-lts.Need-same-length-3 (condition-claims t) (condition-at t) condition.Post
-condition-same-length-3 t c = search needs
 
 condition-returns-3 : (t : ℕ) → condition-lts.Need-returns-3 (condition-claims t) (condition-at t) condition.Post
 condition-returns-3 t c =
@@ -285,9 +231,6 @@ condition-returns-3 t c =
     let masks = now (args .masks) in let permits = now (args .permits) in let places = now (args .places) in let q = now (args .q) in let z = now (args .z) in let level = args .level in let next = args .to .next in
     body-did _ _ _ _ _ (not-shape masks (part permits places) level q z (if1 .left) (sym (condition-record .ensures) ∙ enum-told2 .given .1)) (args .to .at) next (now (args .out)) _ _ (put .ensures) _ _ _ (child-did (λ x y i. conditionBytes masks (part permits places) (level - 1) x y i) (λ x y. conditionNew masks (part permits places) (level - 1) x y) q z _ next _ (first-child .ensures .0) _ _ (tail .ensures) (tail-sizes .ensures) _ _ _ _ (c .before .before .condition .ensures))
 
-condition-same-length-4 : (t : ℕ) → condition-lts.Need-same-length-4 (condition-claims t) (condition-at t) condition.Post
-condition-same-length-4 t c = search needs
-
 condition-returns-4 : (t : ℕ) → condition-lts.Need-returns-4 (condition-claims t) (condition-at t) condition.Post
 condition-returns-4 t c =
     let c₆ = c .before .before .before .before .before .before in let put2 = c₆ .put2 in
@@ -296,9 +239,6 @@ condition-returns-4 t c =
     let c₁₁ = c₁₀ .before in let if1 = c₁₁ .if1 in
     let c₁₈ = c₁₁ .before .before .before .before .before .before .before in let args = c₁₈ .args in
     body-did _ _ _ _ _ (and-shape (now (args .masks)) (part (now (args .permits)) (now (args .places))) (args .level) (now (args .q)) (now (args .z)) (if1 .left) (sym (condition-record .ensures) ∙ enum-told3 .given .1)) (args .to .at) (args .to .next) (now (args .out)) _ _ (put2 .ensures) _ _ _ (c .before .before .conditions .ensures)
-
-condition-same-length-5 : (t : ℕ) → condition-lts.Need-same-length-5 (condition-claims t) (condition-at t) condition.Post
-condition-same-length-5 t c = search needs
 
 condition-returns-5 : (t : ℕ) → condition-lts.Need-returns-5 (condition-claims t) (condition-at t) condition.Post
 condition-returns-5 t c =
@@ -309,9 +249,6 @@ condition-returns-5 t c =
     let c₁₈ = c₁₁ .before .before .before .before .before .before .before in let args = c₁₈ .args in
     body-did _ _ _ _ _ (or-shape (now (args .masks)) (part (now (args .permits)) (now (args .places))) (args .level) (now (args .q)) (now (args .z)) (if1 .left) (sym (condition-record .ensures) ∙ enum-told4 .given .1)) (args .to .at) (args .to .next) (now (args .out)) _ _ (put3 .ensures) _ _ _ (c .before .before .conditions2 .ensures)
 
-condition-same-length-6 : (t : ℕ) → condition-lts.Need-same-length-6 (condition-claims t) (condition-at t) condition.Post
-condition-same-length-6 t c = search needs
-
 condition-returns-6 : (t : ℕ) → condition-lts.Need-returns-6 (condition-claims t) (condition-at t) condition.Post
 condition-returns-6 t c =
     let c₆ = c .before .before .before .before .before .before in let put-record = c₆ .put-record in
@@ -320,9 +257,6 @@ condition-returns-6 t c =
     let c₁₂ = c₁₁ .before in let if1 = c₁₂ .if1 in
     let c₁₉ = c₁₂ .before .before .before .before .before .before .before in let args = c₁₉ .args in
     body-did _ _ _ _ _ (compare-shape (now (args .masks)) (part (now (args .permits)) (now (args .places))) (args .level) (now (args .q)) (now (args .z)) (if1 .left) _ (sym (condition-record .ensures) ∙ o .given .1)) (args .to .at) (args .to .next) (now (args .out)) _ _ (put-record .ensures) _ _ _ (c .before .before .terms .ensures)
-
-condition-same-length-7 : (t : ℕ) → condition-lts.Need-same-length-7 (condition-claims t) (condition-at t) condition.Post
-condition-same-length-7 t c = search needs
 
 condition-returns-7 : (t : ℕ) → condition-lts.Need-returns-7 (condition-claims t) (condition-at t) condition.Post
 condition-returns-7 t c =
@@ -333,9 +267,6 @@ condition-returns-7 t c =
     let c₁₉ = c₁₂ .before .before .before .before .before .before .before in let args = c₁₉ .args in
     body-did _ _ _ _ _ (some-shape (now (args .masks)) (part (now (args .permits)) (now (args .places))) (args .level) (now (args .q)) (now (args .z)) (if1 .left) _ _ (sym (condition-record .ensures) ∙ v .given .1)) (args .to .at) (args .to .next) (now (args .out)) _ _ (put-record2 .ensures) _ _ _ (c .before .before .under .ensures)
 
-condition-same-length-8 : (t : ℕ) → condition-lts.Need-same-length-8 (condition-claims t) (condition-at t) condition.Post
-condition-same-length-8 t c = search needs
-
 condition-returns-8 : (t : ℕ) → condition-lts.Need-returns-8 (condition-claims t) (condition-at t) condition.Post
 condition-returns-8 t c =
     let c₄ = c .before .before .before .before in let match = c₄ .match in
@@ -344,30 +275,12 @@ condition-returns-8 t c =
     let c₁₃ = c₆ .before .before .before .before .before .before .before in let args = c₁₃ .args in
     leaf-did _ _ _ (rest-leaf (now (args .masks)) (part (now (args .permits)) (now (args .places))) (args .level) (now (args .q)) (now (args .z)) (if1 .left) (condition-record .result) (condition-record .ensures) (match .keys7)) (args .to .at) (args .to .next) (now (args .out)) _ _ _ (c .before .before .leaf3 .ensures)
 
-conditions-first-child-requires : (t : ℕ) → conditions-lts.Need-first-child-requires (conditions-claims t) (conditions-at t) conditions.Post
-conditions-first-child-requires t c κs = search needs
-
-conditions-second-child-requires : (t : ℕ) → conditions-lts.Need-second-child-requires (conditions-claims t) (conditions-at t) conditions.Post
-conditions-second-child-requires t c κs = search needs
-
-conditions-tail-requires : (t : ℕ) → conditions-lts.Need-tail-requires (conditions-claims t) (conditions-at t) conditions.Post
-conditions-tail-requires t c κs = search needs
-
-conditions-tail-sizes-requires : (t : ℕ) → conditions-lts.Need-tail-sizes-requires (conditions-claims t) (conditions-at t) conditions.Post
-conditions-tail-sizes-requires t c κs = search needs
-
 conditions-condition-requires : (t : ℕ) → conditions-lts.Need-condition-requires (conditions-claims t) (conditions-at t) conditions.Post
 conditions-condition-requires t c κs =
     let c₄ = c .before .before .before .before in let first-child = c₄ .first-child in
     let c₁₁ = c₄ .before .before .before .before .before .before .before in let args = c₁₁ .args in let pre = c₁₁ .pre in
     let masks = now (args .masks) in let permits = now (args .permits) in let places = now (args .places) in let level = args .level in
     (omega (arith, pre .0), both-first (λ x y i. conditionBytes masks (part permits places) level x y i) (λ x y. conditionNew masks (part permits places) level x y) (now (args .q)) (now (args .z)) (args .to .at) (args .to .next) _ (first-child .ensures .0) _ _ (c .before .before .tail .ensures) (c .before .tail-sizes .ensures) (pre .1))
-
-conditions-tail-requires-2 : (t : ℕ) → conditions-lts.Need-tail-requires-2 (conditions-claims t) (conditions-at t) conditions.Post
-conditions-tail-requires-2 t c κs = search needs
-
-conditions-tail-sizes-requires-2 : (t : ℕ) → conditions-lts.Need-tail-sizes-requires-2 (conditions-claims t) (conditions-at t) conditions.Post
-conditions-tail-sizes-requires-2 t c κs = search needs
 
 conditions-condition-requires-2 : (t : ℕ) → conditions-lts.Need-condition-requires-2 (conditions-claims t) (conditions-at t) conditions.Post
 conditions-condition-requires-2 t c κs =
@@ -379,9 +292,6 @@ conditions-condition-requires-2 t c κs =
     let c₁₇ = c₁₀ .before .before .before .before .before .before .before in let args = c₁₇ .args in let pre = c₁₇ .pre in
     let masks = now (args .masks) in let permits = now (args .permits) in let places = now (args .places) in let level = args .level in
     (omega (arith, pre .0), both-second (λ x y i. conditionBytes masks (part permits places) level x y i) (λ x y. conditionNew masks (part permits places) level x y) (now (args .q)) (now (args .z)) (args .to .at) (args .to .next) _ (first-child .ensures .0) _ _ (tail .ensures) (tail-sizes .ensures) (now (args .out)) _ _ _ (condition .ensures) _ (second-child .ensures) _ _ (c .before .before .tail2 .ensures) (c .before .tail-sizes2 .ensures) (pre .1))
-
-conditions-same-length : (t : ℕ) → conditions-lts.Need-same-length (conditions-claims t) (conditions-at t) conditions.Post
-conditions-same-length t c = search needs
 
 conditions-returns : (t : ℕ) → conditions-lts.Need-returns (conditions-claims t) (conditions-at t) conditions.Post
 conditions-returns t c =
@@ -401,20 +311,11 @@ term-leaf-requires t c κs =
     let c₈ = c .before .before .before .before .before .before .before .before in let args = c₈ .args in let pre = c₈ .pre in
     leaf-room _ _ _ (zero-leafT (now (args .masks)) (part (now (args .permits)) (now (args .places))) (args .level) (now (args .q)) (now (args .z)) (c .before .if1 .taken)) (args .to .at) (args .to .next) (pre .1)
 
-term-same-length : (t : ℕ) → term-lts.Need-same-length (term-claims t) (term-at t) term.Post
-term-same-length t c = search needs
-
 term-returns : (t : ℕ) → term-lts.Need-returns (term-claims t) (term-at t) term.Post
 term-returns t c =
     let c₄ = c .before .before .before .before in let if1 = c₄ .if1 in
     let c₁₁ = c₄ .before .before .before .before .before .before .before in let args = c₁₁ .args in
     leaf-did _ _ _ (zero-leafT (now (args .masks)) (part (now (args .permits)) (now (args .places))) (args .level) (now (args .q)) (now (args .z)) (if1 .taken)) (args .to .at) (args .to .next) (now (args .out)) _ _ _ (c .before .before .leaf .ensures)
-
-term-term-record-requires : (t : ℕ) → term-lts.Need-term-record-requires (term-claims t) (term-at t) term.Post
-term-term-record-requires t c κs = search needs
-
-term-enum-known-a : (t : ℕ) → term-lts.Need-enum-known-a (term-claims t) (term-at t) term.Post
-term-enum-known-a t c = search needs
 
 term-leaf-requires-2 : (t : ℕ) → term-lts.Need-leaf-requires-2 (term-claims t) (term-at t) term.Post
 term-leaf-requires-2 t c κs =
@@ -423,9 +324,6 @@ term-leaf-requires-2 t c κs =
     let c₁₂ = c₅ .before .before .before .before .before .before .before in let args = c₁₂ .args in let pre = c₁₂ .pre in
     leaf-room _ _ _ (constant-leaf (now (args .masks)) (part (now (args .permits)) (now (args .places))) (args .level) (now (args .q)) (now (args .z)) (if1 .left) _ _ _ _ (sym (term-record .ensures) ∙ c .before .before .a .given .1)) (args .to .at) (args .to .next) (pre .1)
 
-term-enum-known-v : (t : ℕ) → term-lts.Need-enum-known-v (term-claims t) (term-at t) term.Post
-term-enum-known-v t c = search needs
-
 term-leaf-requires-3 : (t : ℕ) → term-lts.Need-leaf-requires-3 (term-claims t) (term-at t) term.Post
 term-leaf-requires-3 t c κs =
     let c₄ = c .before .before .before .before in let term-record = c₄ .term-record in
@@ -433,18 +331,12 @@ term-leaf-requires-3 t c κs =
     let c₁₂ = c₅ .before .before .before .before .before .before .before in let args = c₁₂ .args in let pre = c₁₂ .pre in
     leaf-room _ _ _ (attribute-leaf (now (args .masks)) (part (now (args .permits)) (now (args .places))) (args .level) (now (args .q)) (now (args .z)) (if1 .left) _ _ (sym (term-record .ensures) ∙ c .before .before .v .given .1)) (args .to .at) (args .to .next) (pre .1)
 
-term-enum-known-f : (t : ℕ) → term-lts.Need-enum-known-f (term-claims t) (term-at t) term.Post
-term-enum-known-f t c = search needs
-
 term-put-record-requires : (t : ℕ) → term-lts.Need-put-record-requires (term-claims t) (term-at t) term.Post
 term-put-record-requires t c κs =
     let c₄ = c .before .before .before .before in let term-record = c₄ .term-record in
     let c₅ = c₄ .before in let if1 = c₅ .if1 in
     let c₁₂ = c₅ .before .before .before .before .before .before .before in let args = c₁₂ .args in let pre = c₁₂ .pre in
     head-room _ _ _ _ _ (aggregate-shape (now (args .masks)) (part (now (args .permits)) (now (args .places))) (args .level) (now (args .q)) (now (args .z)) (if1 .left) _ _ _ _ (sym (term-record .ensures) ∙ c .before .before .f .given .1)) (args .to .at) (args .to .next) (pre .1)
-
-term-sub-under : (t : ℕ) → term-lts.Need-sub-under (term-claims t) (term-at t) term.Post
-term-sub-under t c = search needs
 
 term-under-requires : (t : ℕ) → term-lts.Need-under-requires (term-claims t) (term-at t) term.Post
 term-under-requires t c κs =
@@ -455,18 +347,12 @@ term-under-requires t c κs =
     let c₁₆ = c₉ .before .before .before .before .before .before .before in let args = c₁₆ .args in let pre = c₁₆ .pre in
     (omega (arith, pre .0, if1 .left), body-room _ _ _ _ _ (aggregate-shape (now (args .masks)) (part (now (args .permits)) (now (args .places))) (args .level) (now (args .q)) (now (args .z)) (if1 .left) _ _ _ _ (sym (term-record .ensures) ∙ f .given .1)) (args .to .at) (args .to .next) (now (args .out)) _ _ (put-record .ensures) (pre .1))
 
-term-enum-told : (t : ℕ) → term-lts.Need-enum-told (term-claims t) (term-at t) term.Post
-term-enum-told t c = search needs
-
 term-leaf-requires-4 : (t : ℕ) → term-lts.Need-leaf-requires-4 (term-claims t) (term-at t) term.Post
 term-leaf-requires-4 t c κs =
     let c₂ = c .before .before .before in let term-record = c₂ .term-record in
     let c₃ = c₂ .before in let if1 = c₃ .if1 in
     let c₁₀ = c₃ .before .before .before .before .before .before .before in let args = c₁₀ .args in let pre = c₁₀ .pre in
     leaf-room _ _ _ (rest-leafT (now (args .masks)) (part (now (args .permits)) (now (args .places))) (args .level) (now (args .q)) (now (args .z)) (if1 .left) (term-record .result) (term-record .ensures) (c .before .enum-told .given .1)) (args .to .at) (args .to .next) (pre .1)
-
-term-same-length-2 : (t : ℕ) → term-lts.Need-same-length-2 (term-claims t) (term-at t) term.Post
-term-same-length-2 t c = search needs
 
 term-returns-2 : (t : ℕ) → term-lts.Need-returns-2 (term-claims t) (term-at t) term.Post
 term-returns-2 t c =
@@ -476,9 +362,6 @@ term-returns-2 t c =
     let c₁₅ = c₈ .before .before .before .before .before .before .before in let args = c₁₅ .args in
     leaf-did _ _ _ (constant-leaf (now (args .masks)) (part (now (args .permits)) (now (args .places))) (args .level) (now (args .q)) (now (args .z)) (if1 .left) _ _ _ _ (sym (term-record .ensures) ∙ a .given .1)) (args .to .at) (args .to .next) (now (args .out)) _ _ _ (c .before .before .leaf2 .ensures)
 
-term-same-length-3 : (t : ℕ) → term-lts.Need-same-length-3 (term-claims t) (term-at t) term.Post
-term-same-length-3 t c = search needs
-
 term-returns-3 : (t : ℕ) → term-lts.Need-returns-3 (term-claims t) (term-at t) term.Post
 term-returns-3 t c =
     let c₅ = c .before .before .before .before .before in let v = c₅ .v in
@@ -486,9 +369,6 @@ term-returns-3 t c =
     let c₈ = c₇ .before in let if1 = c₈ .if1 in
     let c₁₅ = c₈ .before .before .before .before .before .before .before in let args = c₁₅ .args in
     leaf-did _ _ _ (attribute-leaf (now (args .masks)) (part (now (args .permits)) (now (args .places))) (args .level) (now (args .q)) (now (args .z)) (if1 .left) _ _ (sym (term-record .ensures) ∙ v .given .1)) (args .to .at) (args .to .next) (now (args .out)) _ _ _ (c .before .before .leaf3 .ensures)
-
-term-same-length-4 : (t : ℕ) → term-lts.Need-same-length-4 (term-claims t) (term-at t) term.Post
-term-same-length-4 t c = search needs
 
 term-returns-4 : (t : ℕ) → term-lts.Need-returns-4 (term-claims t) (term-at t) term.Post
 term-returns-4 t c =
@@ -499,9 +379,6 @@ term-returns-4 t c =
     let c₁₉ = c₁₂ .before .before .before .before .before .before .before in let args = c₁₉ .args in
     body-did _ _ _ _ _ (aggregate-shape (now (args .masks)) (part (now (args .permits)) (now (args .places))) (args .level) (now (args .q)) (now (args .z)) (if1 .left) _ _ _ _ (sym (term-record .ensures) ∙ f .given .1)) (args .to .at) (args .to .next) (now (args .out)) _ _ (put-record .ensures) _ _ _ (c .before .before .under .ensures)
 
-term-same-length-5 : (t : ℕ) → term-lts.Need-same-length-5 (term-claims t) (term-at t) term.Post
-term-same-length-5 t c = search needs
-
 term-returns-5 : (t : ℕ) → term-lts.Need-returns-5 (term-claims t) (term-at t) term.Post
 term-returns-5 t c =
     let c₄ = c .before .before .before .before in let enum-told = c₄ .enum-told in
@@ -510,30 +387,12 @@ term-returns-5 t c =
     let c₁₃ = c₆ .before .before .before .before .before .before .before in let args = c₁₃ .args in
     leaf-did _ _ _ (rest-leafT (now (args .masks)) (part (now (args .permits)) (now (args .places))) (args .level) (now (args .q)) (now (args .z)) (if1 .left) (term-record .result) (term-record .ensures) (enum-told .given .1)) (args .to .at) (args .to .next) (now (args .out)) _ _ _ (c .before .before .leaf4 .ensures)
 
-terms-first-child-requires : (t : ℕ) → terms-lts.Need-first-child-requires (terms-claims t) (terms-at t) terms.Post
-terms-first-child-requires t c κs = search needs
-
-terms-second-child-requires : (t : ℕ) → terms-lts.Need-second-child-requires (terms-claims t) (terms-at t) terms.Post
-terms-second-child-requires t c κs = search needs
-
-terms-tail-requires : (t : ℕ) → terms-lts.Need-tail-requires (terms-claims t) (terms-at t) terms.Post
-terms-tail-requires t c κs = search needs
-
-terms-tail-sizes-requires : (t : ℕ) → terms-lts.Need-tail-sizes-requires (terms-claims t) (terms-at t) terms.Post
-terms-tail-sizes-requires t c κs = search needs
-
 terms-term-requires : (t : ℕ) → terms-lts.Need-term-requires (terms-claims t) (terms-at t) terms.Post
 terms-term-requires t c κs =
     let c₄ = c .before .before .before .before in let first-child = c₄ .first-child in
     let c₁₁ = c₄ .before .before .before .before .before .before .before in let args = c₁₁ .args in let pre = c₁₁ .pre in
     let masks = now (args .masks) in let permits = now (args .permits) in let places = now (args .places) in let level = args .level in
     (omega (arith, pre .0), both-first (λ x y i. termBytes masks (part permits places) level x y i) (λ x y. termNew masks (part permits places) level x y) (now (args .q)) (now (args .z)) (args .to .at) (args .to .next) _ (first-child .ensures .0) _ _ (c .before .before .tail .ensures) (c .before .tail-sizes .ensures) (pre .1))
-
-terms-tail-requires-2 : (t : ℕ) → terms-lts.Need-tail-requires-2 (terms-claims t) (terms-at t) terms.Post
-terms-tail-requires-2 t c κs = search needs
-
-terms-tail-sizes-requires-2 : (t : ℕ) → terms-lts.Need-tail-sizes-requires-2 (terms-claims t) (terms-at t) terms.Post
-terms-tail-sizes-requires-2 t c κs = search needs
 
 terms-term-requires-2 : (t : ℕ) → terms-lts.Need-term-requires-2 (terms-claims t) (terms-at t) terms.Post
 terms-term-requires-2 t c κs =
@@ -545,9 +404,6 @@ terms-term-requires-2 t c κs =
     let c₁₇ = c₁₀ .before .before .before .before .before .before .before in let args = c₁₇ .args in let pre = c₁₇ .pre in
     let masks = now (args .masks) in let permits = now (args .permits) in let places = now (args .places) in let level = args .level in
     (omega (arith, pre .0), both-second (λ x y i. termBytes masks (part permits places) level x y i) (λ x y. termNew masks (part permits places) level x y) (now (args .q)) (now (args .z)) (args .to .at) (args .to .next) _ (first-child .ensures .0) _ _ (tail .ensures) (tail-sizes .ensures) (now (args .out)) _ _ _ (term .ensures) _ (second-child .ensures) _ _ (c .before .before .tail2 .ensures) (c .before .tail-sizes2 .ensures) (pre .1))
-
-terms-same-length : (t : ℕ) → terms-lts.Need-same-length (terms-claims t) (terms-at t) terms.Post
-terms-same-length t c = search needs
 
 terms-returns : (t : ℕ) → terms-lts.Need-returns (terms-claims t) (terms-at t) terms.Post
 terms-returns t c =
@@ -562,22 +418,10 @@ terms-returns t c =
     let masks = now (args .masks) in let permits = now (args .permits) in let places = now (args .places) in let level = args .level in
     both-did (λ x y i. termBytes masks (part permits places) level x y i) (λ x y. termNew masks (part permits places) level x y) (now (args .q)) (now (args .z)) (args .to .at) (args .to .next) _ (first-child .ensures .0) _ _ (tail .ensures) (tail-sizes .ensures) (now (args .out)) _ _ _ (term .ensures) _ (second-child .ensures) _ _ (tail2 .ensures) (tail-sizes2 .ensures) _ _ _ (c .before .before .term2 .ensures)
 
-under-mask-requires : (t : ℕ) → under-lts.Need-mask-requires (under-claims t) (under-at t) under.Post
-under-mask-requires t c κs = search needs
-
-under-first-child-requires : (t : ℕ) → under-lts.Need-first-child-requires (under-claims t) (under-at t) under.Post
-under-first-child-requires t c κs = search needs
-
 under-open-guard-requires : (t : ℕ) → under-lts.Need-open-guard-requires (under-claims t) (under-at t) under.Post
 under-open-guard-requires t c κs =
     let c₉ = c .before .before .before .before .before .before .before .before .before in let args = c₉ .args in let pre = c₉ .pre in
     under-open (now (args .masks)) (part (now (args .permits)) (now (args .places))) (args .level) (now (args .q)) (now (args .z)) (args .to .at) (args .to .next) (args .variable) _ (c .before .before .mask .ensures) (pre .1)
-
-under-tail-requires : (t : ℕ) → under-lts.Need-tail-requires (under-claims t) (under-at t) under.Post
-under-tail-requires t c κs = search needs
-
-under-tail-sizes-requires : (t : ℕ) → under-lts.Need-tail-sizes-requires (under-claims t) (under-at t) under.Post
-under-tail-sizes-requires t c κs = search needs
 
 under-condition-requires : (t : ℕ) → under-lts.Need-condition-requires (under-claims t) (under-at t) under.Post
 under-condition-requires t c κs =
@@ -598,9 +442,6 @@ under-write-guard-requires t c κs =
     let c₁₉ = c₁₂ .before .before .before .before .before .before .before in let args = c₁₉ .args in let pre = c₁₉ .pre in
     under-guard (now (args .masks)) (part (now (args .permits)) (now (args .places))) (args .level) (now (args .q)) (now (args .z)) (args .to .at) (args .to .next) (args .variable) _ (mask .ensures) (now (args .out)) _ _ (open-guard .ensures) _ (first-child .ensures .0) _ _ (tail .ensures) (tail-sizes .ensures) _ _ _ (condition .ensures) (pre .1)
 
-under-same-length : (t : ℕ) → under-lts.Need-same-length (under-claims t) (under-at t) under.Post
-under-same-length t c = search needs
-
 under-returns : (t : ℕ) → under-lts.Need-returns (under-claims t) (under-at t) under.Post
 under-returns t c =
     let c₆ = c .before .before .before .before .before .before in let condition = c₆ .condition in
@@ -618,109 +459,109 @@ pub +condition+conditions+term+terms+under-spec : {M : Type 1} → statement M
     (condition-at t)
     condition.Post
     (condition-leaf-requires t)
-    (condition-same-length t)
+    (λ c. search needs)
     (condition-returns t)
-    (condition-condition-record-requires t)
-    (condition-enum-told t)
+    (λ c κs. search needs)
+    (λ c. search needs)
     (condition-leaf-requires-2 t)
-    (condition-enum-told-2 t)
+    (λ c. search needs)
     (condition-put-requires t)
-    (condition-first-child-requires t)
-    (condition-tail-requires t)
-    (condition-tail-sizes-requires t)
-    (condition-sub-condition t)
+    (λ c κs. search needs)
+    (λ c κs. search needs)
+    (λ c κs. search needs)
+    (λ c. search needs)
     (condition-condition-requires t)
-    (condition-enum-told-3 t)
+    (λ c. search needs)
     (condition-put-requires-2 t)
-    (condition-sub-conditions t)
+    (λ c. search needs)
     (condition-conditions-requires t)
-    (condition-enum-told-4 t)
+    (λ c. search needs)
     (condition-put-requires-3 t)
-    (condition-sub-conditions-2 t)
+    (λ c. search needs)
     (condition-conditions-requires-2 t)
-    (condition-enum-known-o t)
+    (λ c. search needs)
     (condition-put-record-requires t)
-    (condition-sub-terms t)
+    (λ c. search needs)
     (condition-terms-requires t)
-    (condition-enum-known-v t)
+    (λ c. search needs)
     (condition-put-record-requires-2 t)
-    (condition-sub-under t)
+    (λ c. search needs)
     (condition-under-requires t)
     (condition-leaf-requires-3 t)
-    (condition-same-length-2 t)
+    (λ c. search needs)
     (condition-returns-2 t)
-    (condition-same-length-3 t)
+    (λ c. search needs)
     (condition-returns-3 t)
-    (condition-same-length-4 t)
+    (λ c. search needs)
     (condition-returns-4 t)
-    (condition-same-length-5 t)
+    (λ c. search needs)
     (condition-returns-5 t)
-    (condition-same-length-6 t)
+    (λ c. search needs)
     (condition-returns-6 t)
-    (condition-same-length-7 t)
+    (λ c. search needs)
     (condition-returns-7 t)
-    (condition-same-length-8 t)
+    (λ c. search needs)
     (condition-returns-8 t))
     (λ t. conditions-lts.spec (conditions-claims t)
     (conditions-at t)
     conditions.Post
-    (conditions-first-child-requires t)
-    (conditions-second-child-requires t)
-    (conditions-tail-requires t)
-    (conditions-tail-sizes-requires t)
+    (λ c κs. search needs)
+    (λ c κs. search needs)
+    (λ c κs. search needs)
+    (λ c κs. search needs)
     (conditions-condition-requires t)
-    (conditions-tail-requires-2 t)
-    (conditions-tail-sizes-requires-2 t)
+    (λ c κs. search needs)
+    (λ c κs. search needs)
     (conditions-condition-requires-2 t)
-    (conditions-same-length t)
+    (λ c. search needs)
     (conditions-returns t))
     (λ t. term-lts.spec (term-claims t)
     (term-at t)
     term.Post
     (term-leaf-requires t)
-    (term-same-length t)
+    (λ c. search needs)
     (term-returns t)
-    (term-term-record-requires t)
-    (term-enum-known-a t)
+    (λ c κs. search needs)
+    (λ c. search needs)
     (term-leaf-requires-2 t)
-    (term-enum-known-v t)
+    (λ c. search needs)
     (term-leaf-requires-3 t)
-    (term-enum-known-f t)
+    (λ c. search needs)
     (term-put-record-requires t)
-    (term-sub-under t)
+    (λ c. search needs)
     (term-under-requires t)
-    (term-enum-told t)
+    (λ c. search needs)
     (term-leaf-requires-4 t)
-    (term-same-length-2 t)
+    (λ c. search needs)
     (term-returns-2 t)
-    (term-same-length-3 t)
+    (λ c. search needs)
     (term-returns-3 t)
-    (term-same-length-4 t)
+    (λ c. search needs)
     (term-returns-4 t)
-    (term-same-length-5 t)
+    (λ c. search needs)
     (term-returns-5 t))
     (λ t. terms-lts.spec (terms-claims t)
     (terms-at t)
     terms.Post
-    (terms-first-child-requires t)
-    (terms-second-child-requires t)
-    (terms-tail-requires t)
-    (terms-tail-sizes-requires t)
+    (λ c κs. search needs)
+    (λ c κs. search needs)
+    (λ c κs. search needs)
+    (λ c κs. search needs)
     (terms-term-requires t)
-    (terms-tail-requires-2 t)
-    (terms-tail-sizes-requires-2 t)
+    (λ c κs. search needs)
+    (λ c κs. search needs)
     (terms-term-requires-2 t)
-    (terms-same-length t)
+    (λ c. search needs)
     (terms-returns t))
     λ t. under-lts.spec (under-claims t)
     (under-at t)
     under.Post
-    (under-mask-requires t)
-    (under-first-child-requires t)
+    (λ c κs. search needs)
+    (λ c κs. search needs)
     (under-open-guard-requires t)
-    (under-tail-requires t)
-    (under-tail-sizes-requires t)
+    (λ c κs. search needs)
+    (λ c κs. search needs)
     (under-condition-requires t)
     (under-write-guard-requires t)
-    (under-same-length t)
+    (λ c. search needs)
     (under-returns t)

@@ -42,24 +42,12 @@ guard-ranges-returns t c =
     let c₆ = c .before .before .before .before .before .before in let args = c₆ .args in
     no-guards (now (args .masks)) (part (now (args .permits)) (now (args .places))) _ (none-left (args .left) (now (args .q)) (c .if1 .taken)) (now (args .out)) (args .to .at) (args .to .next)
 
-guard-ranges-head-record-requires : (t : ℕ) → guard-ranges-lts.Need-head-record-requires (guard-ranges-claims t) (guard-ranges-at t) guard-ranges.Post
-guard-ranges-head-record-requires t c κs = search needs
-
-guard-ranges-enum-known-v : (t : ℕ) → guard-ranges-lts.Need-enum-known-v (guard-ranges-claims t) (guard-ranges-at t) guard-ranges.Post
-guard-ranges-enum-known-v t c = search needs
-
-guard-ranges-enum-told : (t : ℕ) → guard-ranges-lts.Need-enum-told (guard-ranges-claims t) (guard-ranges-at t) guard-ranges.Post
-guard-ranges-enum-told t c = search needs
-
 guard-ranges-returns-2 : (t : ℕ) → guard-ranges-lts.Need-returns-2 (guard-ranges-claims t) (guard-ranges-at t) guard-ranges.Post
 guard-ranges-returns-2 t c =
     let c₂ = c .before .before in let head-record = c₂ .head-record in
     let c₃ = c₂ .before in let if1 = c₃ .if1 in
     let c₉ = c₃ .before .before .before .before .before .before in let args = c₉ .args in
     no-guards (now (args .masks)) (part (now (args .permits)) (now (args .places))) _ (other-here (args .left) (now (args .q)) (if1 .left) (head-record .result) (head-record .ensures) (c .enum-told .given .1)) (now (args .out)) (args .to .at) (args .to .next)
-
-guard-ranges-mask-requires : (t : ℕ) → guard-ranges-lts.Need-mask-requires (guard-ranges-claims t) (guard-ranges-at t) guard-ranges.Post
-guard-ranges-mask-requires t c κs = search needs
 
 guard-ranges-write-guard-requires : (t : ℕ) → guard-ranges-lts.Need-write-guard-requires (guard-ranges-claims t) (guard-ranges-at t) guard-ranges.Post
 guard-ranges-write-guard-requires t c κs =
@@ -68,15 +56,6 @@ guard-ranges-write-guard-requires t c κs =
     let c₆ = c₅ .before in let if1 = c₆ .if1 in
     let c₁₂ = c₆ .before .before .before .before .before .before in let args = c₁₂ .args in let pre = c₁₂ .pre in
     pair-first _ _ _ _ _ _ _ (guard-first _ _ _ _ (range-here (args .left) (now (args .q)) (if1 .left) (head-record .result) (head-record .ensures) _ _ (v .given .1) _ _ refl refl) (now (args .masks)) (part (now (args .permits)) (now (args .places))) _ (args .to .next) (c .mask .ensures)) (args .to .at) (pre .1)
-
-guard-ranges-record-length-requires : (t : ℕ) → guard-ranges-lts.Need-record-length-requires (guard-ranges-claims t) (guard-ranges-at t) guard-ranges.Post
-guard-ranges-record-length-requires t c κs = search needs
-
-guard-ranges-tail-requires : (t : ℕ) → guard-ranges-lts.Need-tail-requires (guard-ranges-claims t) (guard-ranges-at t) guard-ranges.Post
-guard-ranges-tail-requires t c κs = search needs
-
-guard-ranges-sub-guard-ranges : (t : ℕ) → guard-ranges-lts.Need-sub-guard-ranges (guard-ranges-claims t) (guard-ranges-at t) guard-ranges.Post
-guard-ranges-sub-guard-ranges t c = search needs
 
 guard-ranges-guard-ranges-requires : (t : ℕ) → guard-ranges-lts.Need-guard-ranges-requires (guard-ranges-claims t) (guard-ranges-at t) guard-ranges.Post
 guard-ranges-guard-ranges-requires t c κs =
@@ -87,9 +66,6 @@ guard-ranges-guard-ranges-requires t c κs =
     let c₁₂ = c₁₁ .before in let if1 = c₁₂ .if1 in
     let c₁₈ = c₁₂ .before .before .before .before .before .before in let args = c₁₈ .args in let pre = c₁₈ .pre in
     (omega (arith, pre .0, if1 .left), pair-second _ _ _ _ _ _ _ (guard-first _ _ _ _ (range-here (args .left) (now (args .q)) (if1 .left) (head-record .result) (head-record .ensures) _ _ (v .given .1) _ _ (c .before .before .record-length .ensures .0) (c .before .tail .ensures)) (now (args .masks)) (part (now (args .permits)) (now (args .places))) _ (args .to .next) (mask .ensures)) (args .to .at) (now (args .out)) _ _ _ (write-guard .ensures) (pre .1))
-
-guard-ranges-same-length : (t : ℕ) → guard-ranges-lts.Need-same-length (guard-ranges-claims t) (guard-ranges-at t) guard-ranges.Post
-guard-ranges-same-length t c = search needs
 
 guard-ranges-returns-3 : (t : ℕ) → guard-ranges-lts.Need-returns-3 (guard-ranges-claims t) (guard-ranges-at t) guard-ranges.Post
 guard-ranges-returns-3 t c =
@@ -108,15 +84,15 @@ pub +guard-ranges-spec : {M : Type 1} → statement M
     (guard-ranges-at t)
     guard-ranges.Post
     (guard-ranges-returns t)
-    (guard-ranges-head-record-requires t)
-    (guard-ranges-enum-known-v t)
-    (guard-ranges-enum-told t)
+    (λ c κs. search needs)
+    (λ c. search needs)
+    (λ c. search needs)
     (guard-ranges-returns-2 t)
-    (guard-ranges-mask-requires t)
+    (λ c κs. search needs)
     (guard-ranges-write-guard-requires t)
-    (guard-ranges-record-length-requires t)
-    (guard-ranges-tail-requires t)
-    (guard-ranges-sub-guard-ranges t)
+    (λ c κs. search needs)
+    (λ c κs. search needs)
+    (λ c. search needs)
     (guard-ranges-guard-ranges-requires t)
-    (guard-ranges-same-length t)
+    (λ c. search needs)
     (guard-ranges-returns-3 t)

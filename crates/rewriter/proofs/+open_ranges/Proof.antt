@@ -40,30 +40,12 @@ open-ranges-returns t c =
     let c₄ = c .before .before .before .before in let args = c₄ .args in
     wrote-nothing (now (args .out)) (args .at) _ (no-openings (now (args .masks)) _ (none-left (args .left) (now (args .q)) (c .if1 .taken)))
 
-open-ranges-head-record-requires : (t : ℕ) → open-ranges-lts.Need-head-record-requires (open-ranges-claims t) (open-ranges-at t) open-ranges.Post
-open-ranges-head-record-requires t c κs = search needs
-
-open-ranges-enum-known-variable : (t : ℕ) → open-ranges-lts.Need-enum-known-variable (open-ranges-claims t) (open-ranges-at t) open-ranges.Post
-open-ranges-enum-known-variable t c = search needs
-
-open-ranges-enum-told : (t : ℕ) → open-ranges-lts.Need-enum-told (open-ranges-claims t) (open-ranges-at t) open-ranges.Post
-open-ranges-enum-told t c = search needs
-
 open-ranges-returns-2 : (t : ℕ) → open-ranges-lts.Need-returns-2 (open-ranges-claims t) (open-ranges-at t) open-ranges.Post
 open-ranges-returns-2 t c =
     let c₂ = c .before .before in let head-record = c₂ .head-record in
     let c₃ = c₂ .before in let if1 = c₃ .if1 in
     let c₇ = c₃ .before .before .before .before in let args = c₇ .args in
     wrote-nothing (now (args .out)) (args .at) _ (no-openings (now (args .masks)) _ (other-here (args .left) (now (args .q)) (if1 .left) (head-record .result) (head-record .ensures) (c .enum-told .given .1)))
-
-open-ranges-record-length-requires : (t : ℕ) → open-ranges-lts.Need-record-length-requires (open-ranges-claims t) (open-ranges-at t) open-ranges.Post
-open-ranges-record-length-requires t c κs = search needs
-
-open-ranges-tail-requires : (t : ℕ) → open-ranges-lts.Need-tail-requires (open-ranges-claims t) (open-ranges-at t) open-ranges.Post
-open-ranges-tail-requires t c κs = search needs
-
-open-ranges-sub-open-ranges : (t : ℕ) → open-ranges-lts.Need-sub-open-ranges (open-ranges-claims t) (open-ranges-at t) open-ranges.Post
-open-ranges-sub-open-ranges t c = search needs
 
 open-ranges-open-ranges-requires : (t : ℕ) → open-ranges-lts.Need-open-ranges-requires (open-ranges-claims t) (open-ranges-at t) open-ranges.Post
 open-ranges-open-ranges-requires t c κs =
@@ -72,9 +54,6 @@ open-ranges-open-ranges-requires t c κs =
     let c₇ = c₆ .before in let if1 = c₇ .if1 in
     let c₁₁ = c₇ .before .before .before .before in let args = c₁₁ .args in let pre = c₁₁ .pre in
     (omega (arith, pre .0, if1 .left), two-first _ _ _ (opening-last _ _ _ _ (range-here (args .left) (now (args .q)) (if1 .left) (head-record .result) (head-record .ensures) _ _ (variable .given .1) _ _ (c .before .before .record-length .ensures .0) (c .before .tail .ensures)) (now (args .masks)) _ refl) (args .at) (pre .1))
-
-open-ranges-mask-requires : (t : ℕ) → open-ranges-lts.Need-mask-requires (open-ranges-claims t) (open-ranges-at t) open-ranges.Post
-open-ranges-mask-requires t c κs = search needs
 
 open-ranges-open-guard-requires : (t : ℕ) → open-ranges-lts.Need-open-guard-requires (open-ranges-claims t) (open-ranges-at t) open-ranges.Post
 open-ranges-open-guard-requires t c κs =
@@ -86,9 +65,6 @@ open-ranges-open-guard-requires t c κs =
     let c₁₂ = c₁₁ .before in let if1 = c₁₂ .if1 in
     let c₁₆ = c₁₂ .before .before .before .before in let args = c₁₆ .args in let pre = c₁₆ .pre in
     two-second _ _ _ (opening-last _ _ _ _ (range-here (args .left) (now (args .q)) (if1 .left) (head-record .result) (head-record .ensures) _ _ (variable .given .1) _ _ (record-length .ensures .0) (tail .ensures)) (now (args .masks)) _ (c .mask .ensures)) (args .at) (pre .1) (now (args .out)) _ _ (open-ranges .ensures)
-
-open-ranges-same-length : (t : ℕ) → open-ranges-lts.Need-same-length (open-ranges-claims t) (open-ranges-at t) open-ranges.Post
-open-ranges-same-length t c = search needs
 
 open-ranges-returns-3 : (t : ℕ) → open-ranges-lts.Need-returns-3 (open-ranges-claims t) (open-ranges-at t) open-ranges.Post
 open-ranges-returns-3 t c =
@@ -107,15 +83,15 @@ pub +open-ranges-spec : {M : Type 1} → statement M
     (open-ranges-at t)
     open-ranges.Post
     (open-ranges-returns t)
-    (open-ranges-head-record-requires t)
-    (open-ranges-enum-known-variable t)
-    (open-ranges-enum-told t)
+    (λ c κs. search needs)
+    (λ c. search needs)
+    (λ c. search needs)
     (open-ranges-returns-2 t)
-    (open-ranges-record-length-requires t)
-    (open-ranges-tail-requires t)
-    (open-ranges-sub-open-ranges t)
+    (λ c κs. search needs)
+    (λ c κs. search needs)
+    (λ c. search needs)
     (open-ranges-open-ranges-requires t)
-    (open-ranges-mask-requires t)
+    (λ c κs. search needs)
     (open-ranges-open-guard-requires t)
-    (open-ranges-same-length t)
+    (λ c. search needs)
     (open-ranges-returns-3 t)

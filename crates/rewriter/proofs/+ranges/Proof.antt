@@ -34,15 +34,6 @@ ranges-claims t = (head-record-reads.Asked, head-record-reads.Learnt, put-record
 ranges-returns : (t : ℕ) → ranges-lts.Need-returns (ranges-claims t) (ranges-at t) ranges.Post
 ranges-returns t c = wrote-nothing (now (c .before .before .before .args .out)) (c .before .before .before .args .at) _ (no-ranges _ (none-left (c .before .before .before .args .left) (now (c .before .before .before .args .q)) (c .if1 .taken)))
 
-ranges-head-record-requires : (t : ℕ) → ranges-lts.Need-head-record-requires (ranges-claims t) (ranges-at t) ranges.Post
-ranges-head-record-requires t c κs = search needs
-
-ranges-enum-known-variable : (t : ℕ) → ranges-lts.Need-enum-known-variable (ranges-claims t) (ranges-at t) ranges.Post
-ranges-enum-known-variable t c = search needs
-
-ranges-enum-told : (t : ℕ) → ranges-lts.Need-enum-told (ranges-claims t) (ranges-at t) ranges.Post
-ranges-enum-told t c = search needs
-
 ranges-returns-2 : (t : ℕ) → ranges-lts.Need-returns-2 (ranges-claims t) (ranges-at t) ranges.Post
 ranges-returns-2 t c =
     let c₂ = c .before .before in let head-record = c₂ .head-record in
@@ -57,15 +48,6 @@ ranges-put-record-requires t c κs =
     let c₈ = c₅ .before .before .before in let args = c₈ .args in let pre = c₈ .pre in
     two-first _ _ _ (range-first _ _ _ _ (range-here (args .left) (now (args .q)) (if1 .left) (head-record .result) (head-record .ensures) _ _ (c .before .before .variable .given .1) _ _ refl refl)) (args .at) (pre .1)
 
-ranges-record-length-requires : (t : ℕ) → ranges-lts.Need-record-length-requires (ranges-claims t) (ranges-at t) ranges.Post
-ranges-record-length-requires t c κs = search needs
-
-ranges-tail-requires : (t : ℕ) → ranges-lts.Need-tail-requires (ranges-claims t) (ranges-at t) ranges.Post
-ranges-tail-requires t c κs = search needs
-
-ranges-sub-ranges : (t : ℕ) → ranges-lts.Need-sub-ranges (ranges-claims t) (ranges-at t) ranges.Post
-ranges-sub-ranges t c = search needs
-
 ranges-ranges-requires : (t : ℕ) → ranges-lts.Need-ranges-requires (ranges-claims t) (ranges-at t) ranges.Post
 ranges-ranges-requires t c κs =
     let c₅ = c .before .before .before .before .before in let put-record = c₅ .put-record in
@@ -74,9 +56,6 @@ ranges-ranges-requires t c κs =
     let c₁₁ = c₁₀ .before in let if1 = c₁₁ .if1 in
     let c₁₄ = c₁₁ .before .before .before in let args = c₁₄ .args in let pre = c₁₄ .pre in
     (omega (arith, pre .0, if1 .left), two-second _ _ _ (range-first _ _ _ _ (range-here (args .left) (now (args .q)) (if1 .left) (head-record .result) (head-record .ensures) _ _ (variable .given .1) _ _ (c .before .before .record-length .ensures .0) (c .before .tail .ensures))) (args .at) (pre .1) (now (args .out)) _ _ (put-record .ensures))
-
-ranges-same-length : (t : ℕ) → ranges-lts.Need-same-length (ranges-claims t) (ranges-at t) ranges.Post
-ranges-same-length t c = search needs
 
 ranges-returns-3 : (t : ℕ) → ranges-lts.Need-returns-3 (ranges-claims t) (ranges-at t) ranges.Post
 ranges-returns-3 t c =
@@ -94,14 +73,14 @@ pub +ranges-spec : {M : Type 1} → statement M
     (ranges-at t)
     ranges.Post
     (ranges-returns t)
-    (ranges-head-record-requires t)
-    (ranges-enum-known-variable t)
-    (ranges-enum-told t)
+    (λ c κs. search needs)
+    (λ c. search needs)
+    (λ c. search needs)
     (ranges-returns-2 t)
     (ranges-put-record-requires t)
-    (ranges-record-length-requires t)
-    (ranges-tail-requires t)
-    (ranges-sub-ranges t)
+    (λ c κs. search needs)
+    (λ c κs. search needs)
+    (λ c. search needs)
     (ranges-ranges-requires t)
-    (ranges-same-length t)
+    (λ c. search needs)
     (ranges-returns-3 t)

@@ -39,18 +39,6 @@ targets-term-requires t c κs =
     let c₈ = c .before .before .before .before .before .before .before .before in let args = c₈ .args in let pre = c₈ .pre in
     pair-first _ _ _ _ _ _ _ (target-first (now (args .masks)) (part (now (args .permits)) (now (args .places))) (args .left) (args .level) (now (args .q)) (now (args .z)) (c .before .if1 .left) _ refl _ _ refl refl (args .to .next)) (args .to .at) (pre .1)
 
-targets-size-at-requires : (t : ℕ) → targets-lts.Need-size-at-requires (targets-claims t) (targets-at t) targets.Post
-targets-size-at-requires t c κs = search needs
-
-targets-tail-requires : (t : ℕ) → targets-lts.Need-tail-requires (targets-claims t) (targets-at t) targets.Post
-targets-tail-requires t c κs = search needs
-
-targets-tail-sizes-requires : (t : ℕ) → targets-lts.Need-tail-sizes-requires (targets-claims t) (targets-at t) targets.Post
-targets-tail-sizes-requires t c κs = search needs
-
-targets-sub-targets : (t : ℕ) → targets-lts.Need-sub-targets (targets-claims t) (targets-at t) targets.Post
-targets-sub-targets t c = search needs
-
 targets-targets-requires : (t : ℕ) → targets-lts.Need-targets-requires (targets-claims t) (targets-at t) targets.Post
 targets-targets-requires t c κs =
     let c₃ = c .before .before .before in let size-at = c₃ .size-at in
@@ -58,9 +46,6 @@ targets-targets-requires t c κs =
     let c₈ = c₆ .before .before in let if1 = c₈ .if1 in
     let c₁₅ = c₈ .before .before .before .before .before .before .before in let args = c₁₅ .args in let pre = c₁₅ .pre in
     (omega (arith, pre .0, if1 .left), pair-second _ _ _ _ _ _ _ (target-first (now (args .masks)) (part (now (args .permits)) (now (args .places))) (args .left) (args .level) (now (args .q)) (now (args .z)) (if1 .left) _ (size-at .ensures .0) _ _ (c .before .before .tail .ensures) (c .before .tail-sizes .ensures) (args .to .next)) (args .to .at) (now (args .out)) _ _ _ (term .ensures) (pre .1))
-
-targets-same-length : (t : ℕ) → targets-lts.Need-same-length (targets-claims t) (targets-at t) targets.Post
-targets-same-length t c = search needs
 
 targets-returns-2 : (t : ℕ) → targets-lts.Need-returns-2 (targets-claims t) (targets-at t) targets.Post
 targets-returns-2 t c =
@@ -78,10 +63,10 @@ pub +targets-spec : {M : Type 1} → statement M
     targets.Post
     (targets-returns t)
     (targets-term-requires t)
-    (targets-size-at-requires t)
-    (targets-tail-requires t)
-    (targets-tail-sizes-requires t)
-    (targets-sub-targets t)
+    (λ c κs. search needs)
+    (λ c κs. search needs)
+    (λ c κs. search needs)
+    (λ c. search needs)
     (targets-targets-requires t)
-    (targets-same-length t)
+    (λ c. search needs)
     (targets-returns-2 t)

@@ -25,20 +25,11 @@ Inv-loop answer table rows row bucket first link₀ link = Passed row answer (le
 abbrev μ-loop : tie.MeasureT-loop
 μ-loop answer table rows row bucket first link₀ link = link
 
-heads-requires : tie.Need-heads-requires Inv-loop μ-loop
-heads-requires c κs = search needs
-
-size-at-requires : tie.Need-size-at-requires Inv-loop μ-loop
-size-at-requires c κs = search needs
-
 loop-holds : tie.Need-loop-holds Inv-loop μ-loop
 loop-holds c =
     let c₃ = c .before .before .before in let args = c₃ .args in let pre = c₃ .pre in
     let answer = now (args .answer) in let row = now (args .row) in let table = now (args .table) in
     passed-start row answer (length table) _ _ (subst (LastOf (λ (j : ℕ). bucketAt (length table) (length row) answer j ≡ bucketOf (length table) row) (min (args .rows) (nextsOf (length table)))) (sym (c .size-at .ensures .0 ∙ ap (λ (h : ℕ). getD table h 0) (pre .1))) (pre .0 .chained .first (bucketOf (length table) row) (bucket-low (length table) row)))
-
-sub-at : tie.Need-sub-at Inv-loop μ-loop
-sub-at c = search needs
 
 mul-at : tie.Need-mul-at Inv-loop μ-loop
 mul-at c =
@@ -58,20 +49,11 @@ mul-same c =
     let c₅ = c₁ .before .before .before .before in let args = c₅ .args in let pre = c₅ .pre in
     omega (arith, row-within (loop .link) (args .rows) (length (now (args .row))) (length (now (args .answer))) (c .loop-test .taken) (omega (arith, loop .inv .low)) (pre .0 .room))
 
-sub-same : tie.Need-sub-same Inv-loop μ-loop
-sub-same c = search needs
-
-part-same-start : tie.Need-part-same-start Inv-loop μ-loop
-part-same-start c = search needs
-
 part-same-end : tie.Need-part-same-end Inv-loop μ-loop
 part-same-end c =
     let c₁ = c .before in let loop = c₁ .loop in
     let c₅ = c₁ .before .before .before .before in let args = c₅ .args in let pre = c₅ .pre in
     omega (arith, row-within (loop .link) (args .rows) (length (now (args .row))) (length (now (args .answer))) (c .loop-test .taken) (omega (arith, loop .inv .low)) (pre .0 .room))
-
-same-requires : tie.Need-same-requires Inv-loop μ-loop
-same-requires c κs = search needs
 
 returns : tie.Need-returns Inv-loop μ-loop
 returns c =
@@ -82,18 +64,12 @@ returns c =
     let answer = now (args .answer) in let row = now (args .row) in
     sym (passed-hit row answer (length (now (args .table))) _ (loop .link) (loop-test .taken) (loop .inv .low) (λ i j a b. pre .0 .distinct i j a (omega arith)) (row-part answer ((loop .link - 1) * length row) (loop .link - 1) row (same .result) true refl (same .ensures) (c .if1 .taken)))
 
-sub-size-at : tie.Need-sub-size-at Inv-loop μ-loop
-sub-size-at c = search needs
-
 add-size-at : tie.Need-add-size-at Inv-loop μ-loop
 add-size-at c =
     let c₄ = c .before .before .before .before in let loop = c₄ .loop in
     let c₆ = c₄ .before .before in let heads = c₆ .heads in
     let c₈ = c₆ .before .before in let args = c₈ .args in let pre = c₈ .pre in
     omega (arith, heads .ensures, heads-most (length (now (args .table))), loop .inv .low, pre .0 .short)
-
-size-at-requires-2 : tie.Need-size-at-requires-2 Inv-loop μ-loop
-size-at-requires-2 c κs = search needs
 
 loop-less : tie.Need-loop-less Inv-loop μ-loop
 loop-less c =
@@ -113,12 +89,6 @@ loop-again c =
     let answer = now (args .answer) in let row = now (args .row) in let table = now (args .table) in
     passed-step row answer (length table) _ (loop .link - 1) (loop .link) _ (omega (arith, loop-test .taken)) (row-part answer ((loop .link - 1) * length row) (loop .link - 1) row (same .result) false refl (same .ensures) (c .before .if1 .left)) (loop .inv) (subst (LastOf (λ (j : ℕ). bucketAt (length table) (length row) answer j ≡ bucketAt (length table) (length row) answer (loop .link - 1)) (loop .link - 1)) (sym (c .size-at2 .ensures .0 ∙ ap (λ (h : ℕ). getD table (h + (loop .link - 1)) 0) (heads .ensures))) (pre .0 .chained .next (loop .link - 1) (omega (arith, loop .inv .low, loop-test .taken))))
 
-nexts-requires : tie.Need-nexts-requires Inv-loop μ-loop
-nexts-requires c κs = search needs
-
-least-requires : tie.Need-least-requires Inv-loop μ-loop
-least-requires c κs = search needs
-
 returns-2 : tie.Need-returns-2 Inv-loop μ-loop
 returns-2 c =
     let c₁ = c .before in let nexts = c₁ .nexts in
@@ -134,23 +104,23 @@ chained-spec =
     (tie.spec
     Inv-loop
     μ-loop
-    heads-requires
-    size-at-requires
+    (λ c κs. search needs)
+    (λ c κs. search needs)
     loop-holds
-    sub-at
+    (λ c. search needs)
     mul-at
     add-end
     mul-same
-    sub-same
-    part-same-start
+    (λ c. search needs)
+    (λ c. search needs)
     part-same-end
-    same-requires
+    (λ c κs. search needs)
     returns
-    sub-size-at
+    (λ c. search needs)
     add-size-at
-    size-at-requires-2
+    (λ c κs. search needs)
     loop-less
     loop-again
-    nexts-requires
-    least-requires
+    (λ c κs. search needs)
+    (λ c κs. search needs)
     returns-2)

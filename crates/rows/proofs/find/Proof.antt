@@ -20,36 +20,12 @@ abbrev μ-loop : tie.MeasureT-loop
 loop-holds : tie.Need-loop-holds Inv-loop μ-loop
 loop-holds c = (none-start (sameAt (now (c .args .row)) (now (c .args .answer))), omega arith, omega arith, omega arith)
 
-sub-if1 : tie.Need-sub-if1 Inv-loop μ-loop
-sub-if1 c = search needs
-
 returns : tie.Need-returns Inv-loop μ-loop
 returns c =
     let args = c .before .before .before .args in
     let the-loop = c .before .before .loop in
     let answer = now (args .answer) in let row = now (args .row) in
     sym (sought-none row (args .rows) answer (none-over (sameAt row answer) (the-loop .i) (args .rows) (the-loop .inv .0) (λ j a _. rows-short row answer (the-loop .at) (the-loop .i) j (the-loop .inv .3) (c .if1 .taken) a)))
-
-add-end : tie.Need-add-end Inv-loop μ-loop
-add-end c = search needs
-
-mul-same : tie.Need-mul-same Inv-loop μ-loop
-mul-same c = search needs
-
-sub-same : tie.Need-sub-same Inv-loop μ-loop
-sub-same c = search needs
-
-part-same-start : tie.Need-part-same-start Inv-loop μ-loop
-part-same-start c = search needs
-
-part-same-end : tie.Need-part-same-end Inv-loop μ-loop
-part-same-end c = search needs
-
-same-requires : tie.Need-same-requires Inv-loop μ-loop
-same-requires c κs = search needs
-
-add-tried : tie.Need-add-tried Inv-loop μ-loop
-add-tried c = search needs
 
 returns-2 : tie.Need-returns-2 Inv-loop μ-loop
 returns-2 c =
@@ -58,12 +34,6 @@ returns-2 c =
     let same = c .before .same in
     let answer = now (args .answer) in let row = now (args .row) in
     sym (sought-hit row (args .rows) (the-loop .i) answer (omega arith) (the-loop .inv .0) (row-part answer (the-loop .at) (the-loop .i) row (same .result) true (the-loop .inv .3) (same .ensures) (c .if2 .taken)))
-
-add-i : tie.Need-add-i Inv-loop μ-loop
-add-i c = search needs
-
-loop-less : tie.Need-loop-less Inv-loop μ-loop
-loop-less c = search needs
 
 loop-again : tie.Need-loop-again Inv-loop μ-loop
 loop-again c =
@@ -86,17 +56,17 @@ find-spec =
     Inv-loop
     μ-loop
     loop-holds
-    sub-if1
+    (λ c. search needs)
     returns
-    add-end
-    mul-same
-    sub-same
-    part-same-start
-    part-same-end
-    same-requires
-    add-tried
+    (λ c. search needs)
+    (λ c. search needs)
+    (λ c. search needs)
+    (λ c. search needs)
+    (λ c. search needs)
+    (λ c κs. search needs)
+    (λ c. search needs)
     returns-2
-    add-i
-    loop-less
+    (λ c. search needs)
+    (λ c. search needs)
     loop-again
     returns-3)

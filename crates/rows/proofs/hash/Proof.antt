@@ -21,24 +21,6 @@ Inv-loop row h₀ i₀ h i = (hashed 0 row ≡ hashed h (drop i row)) × (i ≤ 
 abbrev μ-loop : tie.MeasureT-loop
 μ-loop row h₀ i₀ h i = length row - i
 
-loop-holds : tie.Need-loop-holds Inv-loop μ-loop
-loop-holds c = search needs
-
-mul-x : tie.Need-mul-x Inv-loop μ-loop
-mul-x c = search needs
-
-shared-slice-copy-out-x : tie.Need-shared-slice-copy-out-x Inv-loop μ-loop
-shared-slice-copy-out-x c = search needs
-
-mix-requires : tie.Need-mix-requires Inv-loop μ-loop
-mix-requires c κs = search needs
-
-add-i : tie.Need-add-i Inv-loop μ-loop
-add-i c = search needs
-
-loop-less : tie.Need-loop-less Inv-loop μ-loop
-loop-less c = search needs
-
 loop-again : tie.Need-loop-again Inv-loop μ-loop
 loop-again c = (c .before .before .before .loop .inv .0 ∙ hash-next (now (c .before .before .before .before .args .row)) (c .before .before .before .loop .i) (c .before .before .before .loop .h) _ (omega arith) (record { sfits = c .before .x .given }) (c .mix .ensures .0), omega arith, c .mix .ensures .1)
 
@@ -51,11 +33,11 @@ hash-spec =
     (tie.spec
     Inv-loop
     μ-loop
-    loop-holds
-    mul-x
-    shared-slice-copy-out-x
-    mix-requires
-    add-i
-    loop-less
+    (λ c. search needs)
+    (λ c. search needs)
+    (λ c. search needs)
+    (λ c κs. search needs)
+    (λ c. search needs)
+    (λ c. search needs)
     loop-again
     returns)

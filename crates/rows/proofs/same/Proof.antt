@@ -23,24 +23,6 @@ abbrev μ-loop : tie.MeasureT-loop
 returns : tie.Need-returns Inv-loop μ-loop
 returns c = same-lengths (now (c .before .args .x)) (now (c .before .args .y)) (c .if1 .taken)
 
-loop-holds : tie.Need-loop-holds Inv-loop μ-loop
-loop-holds c = search needs
-
-mul-a : tie.Need-mul-a Inv-loop μ-loop
-mul-a c = search needs
-
-shared-slice-copy-out-a : tie.Need-shared-slice-copy-out-a Inv-loop μ-loop
-shared-slice-copy-out-a c = search needs
-
-mul-b : tie.Need-mul-b Inv-loop μ-loop
-mul-b c = search needs
-
-shared-slice-copy-out-b : tie.Need-shared-slice-copy-out-b Inv-loop μ-loop
-shared-slice-copy-out-b c = search needs
-
-equal-requires : tie.Need-equal-requires Inv-loop μ-loop
-equal-requires c κs = search needs
-
 returns-2 : tie.Need-returns-2 Inv-loop μ-loop
 returns-2 c =
     let args = c .before .before .before .before .before .before .before .args in
@@ -49,12 +31,6 @@ returns-2 c =
     let b = c .before .before .b in
     let equal = c .before .equal in
     sym (the-loop .inv .0 ∙ same-less (now (args .x)) (now (args .y)) (the-loop .i) (omega arith) (omega arith) (sym (test-is (λ (a b : ℤ). leZ a b && leZ b a) (getD (now (args .x)) (the-loop .i) (pos 0)) (getD (now (args .y)) (the-loop .i) (pos 0)) (record { sfits = a .given }) (record { sfits = b .given })) ∙ sym (equal .ensures) ∙ not-true _ (c .if2 .taken)))
-
-add-i : tie.Need-add-i Inv-loop μ-loop
-add-i c = search needs
-
-loop-less : tie.Need-loop-less Inv-loop μ-loop
-loop-less c = search needs
 
 loop-again : tie.Need-loop-again Inv-loop μ-loop
 loop-again c =
@@ -78,14 +54,14 @@ same-spec =
     Inv-loop
     μ-loop
     returns
-    loop-holds
-    mul-a
-    shared-slice-copy-out-a
-    mul-b
-    shared-slice-copy-out-b
-    equal-requires
+    (λ c. search needs)
+    (λ c. search needs)
+    (λ c. search needs)
+    (λ c. search needs)
+    (λ c. search needs)
+    (λ c κs. search needs)
     returns-2
-    add-i
-    loop-less
+    (λ c. search needs)
+    (λ c. search needs)
     loop-again
     returns-3)

@@ -23,15 +23,6 @@ abbrev μ-loop : tie.MeasureT-loop
 loop-holds : tie.Need-loop-holds Inv-loop μ-loop
 loop-holds c = (refl, c .before .before .pre, refl)
 
-binding-requires : tie.Need-binding-requires Inv-loop μ-loop
-binding-requires c κs = search needs
-
-mark-requires : tie.Need-mark-requires Inv-loop μ-loop
-mark-requires c κs = search needs
-
-same-length : tie.Need-same-length Inv-loop μ-loop
-same-length c = search needs
-
 returns : tie.Need-returns Inv-loop μ-loop
 returns c =
     let c₃ = c .before .before .before in let mark = c₃ .mark in
@@ -41,15 +32,6 @@ returns c =
     let c₁₀ = c₇ .before .before .before in let args = c₁₀ .args in
     fresh-stopped (now (args .q)) (loop .at) _ (loop-test .taken) refl (binding .result) (binding .ensures) (loop .seen) (mark .last .0) _ (mark .result) (loop .inv .0) (mark .ensures) (c .if1 .taken)
 
-step-requires : tie.Need-step-requires Inv-loop μ-loop
-step-requires c κs = search needs
-
-add-at : tie.Need-add-at Inv-loop μ-loop
-add-at c = search needs
-
-loop-less : tie.Need-loop-less Inv-loop μ-loop
-loop-less c = search needs
-
 loop-again : tie.Need-loop-again Inv-loop μ-loop
 loop-again c =
     let c₄ = c .before .before .before .before in let mark = c₄ .mark in
@@ -58,9 +40,6 @@ loop-again c =
     let c₈ = c₇ .before in let loop = c₈ .loop in
     let c₁₁ = c₈ .before .before .before in let args = c₁₁ .args in
     (fresh-went (now (args .q)) (loop .at) _ (loop-test .taken) (c .step .ensures .0) (binding .result) (binding .ensures) (loop .seen) (mark .last .0) _ (mark .result) (loop .inv .0) (mark .ensures) (c .before .if1 .left), search needs, search needs)
-
-same-length-2 : tie.Need-same-length-2 Inv-loop μ-loop
-same-length-2 c = search needs
 
 returns-2 : tie.Need-returns-2 Inv-loop μ-loop
 returns-2 c = fresh-end (now (c .before .before .before .before .args .q)) (c .before .loop .at) (c .loop-test .left) _ _ (c .before .loop .inv .0)
@@ -72,13 +51,13 @@ all-fresh-spec =
     Inv-loop
     μ-loop
     loop-holds
-    binding-requires
-    mark-requires
-    same-length
+    (λ c κs. search needs)
+    (λ c κs. search needs)
+    (λ c. search needs)
     returns
-    step-requires
-    add-at
-    loop-less
+    (λ c κs. search needs)
+    (λ c. search needs)
+    (λ c. search needs)
     loop-again
-    same-length-2
+    (λ c. search needs)
     returns-2)

@@ -22,12 +22,6 @@ returns c = (sym (too-long (now (c .before .before .before .before .before .befo
 loop-holds : tie.Need-loop-holds Inv-loop μ-loop
 loop-holds c = (held-start (now (c .before .before .before .before .before .before .args .text)) _ _ _ _, c .if1 .left, refl, refl, refl, refl)
 
-shared-slice-read-is-blank : tie.Need-shared-slice-read-is-blank Inv-loop μ-loop
-shared-slice-read-is-blank c = search needs
-
-is-blank-requires : tie.Need-is-blank-requires Inv-loop μ-loop
-is-blank-requires c κs = search needs
-
 add-at : tie.Need-add-at Inv-loop μ-loop
 add-at c = record { fits = omega (arith, c .before .before .before .loop-test .taken, c .before .before .before .before .loop .inv .1) }
 
@@ -40,27 +34,6 @@ loop-again c =
     let c₄ = c₃ .before in let loop = c₄ .loop in
     let c₁₁ = c₄ .before .before .before .before .before .before .before in let args = c₁₁ .args in
     (held-blank (now (args .text)) (loop .kinds) (loop .starts) (loop .lengths) (loop .numbers) (loop .at) (loop .n) (loop .inv .0) (loop .inv .1) (loop-test .taken) (sym (c .before .is-blank .ensures) ∙ c .if2 .taken), loop .inv .1, loop .inv .2, loop .inv .3, loop .inv .4, loop .inv .5)
-
-piece-at-requires : tie.Need-piece-at-requires Inv-loop μ-loop
-piece-at-requires c κs = search needs
-
-enum-known-kind : tie.Need-enum-known-kind Inv-loop μ-loop
-enum-known-kind c = search needs
-
-enum-told : tie.Need-enum-told Inv-loop μ-loop
-enum-told c = search needs
-
-same-length : tie.Need-same-length Inv-loop μ-loop
-same-length c = search needs
-
-same-length-2 : tie.Need-same-length-2 Inv-loop μ-loop
-same-length-2 c = search needs
-
-same-length-3 : tie.Need-same-length-3 Inv-loop μ-loop
-same-length-3 c = search needs
-
-same-length-4 : tie.Need-same-length-4 Inv-loop μ-loop
-same-length-4 c = search needs
 
 returns-2 : tie.Need-returns-2 Inv-loop μ-loop
 returns-2 c =
@@ -178,18 +151,6 @@ loop-again-2 c =
     let text = now (args .text) in
     (held-more text (loop .kinds) (loop .starts) (loop .lengths) (loop .numbers) (loop .at) (loop .n) (loop .inv .0) (loop .inv .1) (loop-test .taken) (sym (is-blank .ensures) ∙ if2 .left) (kind .given .0 .0) (kind .given .0 .1 .0) (kind .given .0 .1 .1 .0) (subst (λ (r : Piece). Leads r (drop (loop .at) text)) (kind .given .1) (piece-at .ensures)) (omega (arith, loop .inv .2, loop .inv .0 .behind, loop-test .taken, pre (loop .inv .1) .0)) (omega (arith, loop .inv .3, loop .inv .0 .behind, loop-test .taken, pre (loop .inv .1) .1)) (omega (arith, loop .inv .4, loop .inv .0 .behind, loop-test .taken, pre (loop .inv .1) .2)) (omega (arith, loop .inv .5, loop .inv .0 .behind, loop-test .taken, pre (loop .inv .1) .3)), loop .inv .1, length-set (loop .kinds) (loop .n) (kind .given .0 .0) ∙ loop .inv .2, length-set (loop .starts) (loop .n) (loop .at) ∙ loop .inv .3, length-set (loop .lengths) (loop .n) (kind .given .0 .1 .0) ∙ loop .inv .4, length-set (loop .numbers) (loop .n) (kind .given .0 .1 .1 .0) ∙ loop .inv .5)
 
-same-length-5 : tie.Need-same-length-5 Inv-loop μ-loop
-same-length-5 c = search needs
-
-same-length-6 : tie.Need-same-length-6 Inv-loop μ-loop
-same-length-6 c = search needs
-
-same-length-7 : tie.Need-same-length-7 Inv-loop μ-loop
-same-length-7 c = search needs
-
-same-length-8 : tie.Need-same-length-8 Inv-loop μ-loop
-same-length-8 c = search needs
-
 returns-3 : tie.Need-returns-3 Inv-loop μ-loop
 returns-3 c =
     let c₁ = c .before in let loop = c₁ .loop in
@@ -204,18 +165,18 @@ cut-spec =
     μ-loop
     returns
     loop-holds
-    shared-slice-read-is-blank
-    is-blank-requires
+    (λ c. search needs)
+    (λ c κs. search needs)
     add-at
     loop-less
     loop-again
-    piece-at-requires
-    enum-known-kind
-    enum-told
-    same-length
-    same-length-2
-    same-length-3
-    same-length-4
+    (λ c κs. search needs)
+    (λ c. search needs)
+    (λ c. search needs)
+    (λ c. search needs)
+    (λ c. search needs)
+    (λ c. search needs)
+    (λ c. search needs)
     returns-2
     slice-write-kinds
     cast-starts
@@ -230,8 +191,8 @@ cut-spec =
     add-at-2
     loop-less-2
     loop-again-2
-    same-length-5
-    same-length-6
-    same-length-7
-    same-length-8
+    (λ c. search needs)
+    (λ c. search needs)
+    (λ c. search needs)
+    (λ c. search needs)
     returns-3)

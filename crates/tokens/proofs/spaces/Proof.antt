@@ -20,28 +20,13 @@ abbrev μ-loop : tie.MeasureT-loop
 loop-holds : tie.Need-loop-holds Inv-loop μ-loop
 loop-holds c = λ l. words.spaces-first (now (c .args .word)) (λ b. eqb b 32) (c .args .n) 0 (omega arith)
 
-add-i : tie.Need-add-i Inv-loop μ-loop
-add-i c = search needs
-
-loop-less : tie.Need-loop-less Inv-loop μ-loop
-loop-less c = search needs
-
 loop-again : tie.Need-loop-again Inv-loop μ-loop
 loop-again c = λ l. words.spaces-first (now (c .before .before .before .args .word)) (λ b. eqb b 32) (c .before .before .before .args .n) (c .before .before .loop .i + 1) (omega (arith, l, c .if1 .taken))
-
-shared-slice-read-if2 : tie.Need-shared-slice-read-if2 Inv-loop μ-loop
-shared-slice-read-if2 c = search needs
 
 returns : tie.Need-returns Inv-loop μ-loop
 returns c =
     let loop-test = c .before .before .before .loop-test in let loop = c .before .before .before .before .loop in
     words.spaces-stop (now (c .before .before .before .before .before .args .word)) (λ b. eqb b 32) (loop .i) _ (loop-test .taken) (loop .inv (c .before .before .if1 .left)) (ne-eqb _ 32 (c .if2 .taken))
-
-add-i-2 : tie.Need-add-i-2 Inv-loop μ-loop
-add-i-2 c = search needs
-
-loop-less-2 : tie.Need-loop-less-2 Inv-loop μ-loop
-loop-less-2 c = search needs
 
 loop-again-2 : tie.Need-loop-again-2 Inv-loop μ-loop
 loop-again-2 c =
@@ -58,12 +43,12 @@ spaces-spec =
     Inv-loop
     μ-loop
     loop-holds
-    add-i
-    loop-less
+    (λ c. search needs)
+    (λ c. search needs)
     loop-again
-    shared-slice-read-if2
+    (λ c. search needs)
     returns
-    add-i-2
-    loop-less-2
+    (λ c. search needs)
+    (λ c. search needs)
     loop-again-2
     returns-2)

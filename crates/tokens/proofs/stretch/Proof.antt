@@ -19,9 +19,6 @@ abbrev μ-loop : tie.MeasureT-loop
 loop-holds : tie.Need-loop-holds Inv-loop μ-loop
 loop-holds c = record { ends = refl; spells = refl; small = omega arith; inside = omega arith }
 
-passes-requires : tie.Need-passes-requires Inv-loop μ-loop
-passes-requires c κs = search needs
-
 shared-slice-read-grown : tie.Need-shared-slice-read-grown Inv-loop μ-loop
 shared-slice-read-grown c =
     let c₃ = c .before .before .before in let loop = c₃ .loop in
@@ -74,7 +71,7 @@ stretch-spec =
     Inv-loop
     μ-loop
     loop-holds
-    passes-requires
+    (λ c κs. search needs)
     shared-slice-read-grown
     sub-grown
     grown-requires

@@ -24,47 +24,8 @@ Inv-loop values walks walk attribute chains₀ at nexts i₀ chains i = (i ≤ w
 abbrev μ-loop : tie.MeasureT-loop
 μ-loop values walks walk attribute chains₀ at nexts i₀ chains i = i
 
-add-nexts : tie.Need-add-nexts Inv-loop μ-loop
-add-nexts c = search needs
-
 loop-holds : tie.Need-loop-holds Inv-loop μ-loop
 loop-holds c = (omega arith, refl, linked-none _ _ _ _ (c .before .before .pre .2), λ j o. refl)
-
-sub-key : tie.Need-sub-key Inv-loop μ-loop
-sub-key c = search needs
-
-key-requires : tie.Need-key-requires Inv-loop μ-loop
-key-requires c κs = search needs
-
-bucket-requires : tie.Need-bucket-requires Inv-loop μ-loop
-bucket-requires c κs = search needs
-
-add-h : tie.Need-add-h Inv-loop μ-loop
-add-h c = search needs
-
-mul-link : tie.Need-mul-link Inv-loop μ-loop
-mul-link c = search needs
-
-slice-read-link : tie.Need-slice-read-link Inv-loop μ-loop
-slice-read-link c = search needs
-
-sub-chains : tie.Need-sub-chains Inv-loop μ-loop
-sub-chains c = search needs
-
-add-chains : tie.Need-add-chains Inv-loop μ-loop
-add-chains c = search needs
-
-mul-chains : tie.Need-mul-chains Inv-loop μ-loop
-mul-chains c = search needs
-
-slice-write-chains : tie.Need-slice-write-chains Inv-loop μ-loop
-slice-write-chains c = search needs
-
-narrow-requires : tie.Need-narrow-requires Inv-loop μ-loop
-narrow-requires c κs = search needs
-
-mul-chains-2 : tie.Need-mul-chains-2 Inv-loop μ-loop
-mul-chains-2 c = search needs
 
 slice-write-chains-2 : tie.Need-slice-write-chains-2 Inv-loop μ-loop
 slice-write-chains-2 c =
@@ -72,12 +33,6 @@ slice-write-chains-2 c =
     let c₅ = c₂ .before .before .before in let loop = c₅ .loop in
     let c₈ = c₅ .before .before .before in let args = c₈ .args in let pre = c₈ .pre in
     omega (arith, bucket .ensures .1, loop .inv .1, pre .1, loop .inv .0, length-set (loop .chains) ((args .at) + 1024 + (loop .i - 1)) (getD (loop .chains) ((args .at) + bucket .result) 0))
-
-sub-i : tie.Need-sub-i Inv-loop μ-loop
-sub-i c = search needs
-
-loop-less : tie.Need-loop-less Inv-loop μ-loop
-loop-less c = search needs
 
 loop-again : tie.Need-loop-again Inv-loop μ-loop
 loop-again c =
@@ -89,9 +44,6 @@ loop-again c =
     let values = now (args .values) in let walks = now (args .walks) in let attribute = args .attribute in let walk = args .walk in
     (omega arith, lengths ((args .at) + 1024 + (loop .i - 1)) ((args .at) + bucket .result) (getD (loop .chains) ((args .at) + bucket .result) 0) (c .narrow .result) _ (loop .chains) (loop .inv .1), linked-turn (C.bucketAt values walks walk attribute) (loop .i) _ (args .at) _ _ _ _ (loop-test .taken) (loop .inv .0) (ap (λ (m : ℕ). (args .at) + m) (bucket .ensures .0 ∙ ap C.bucketOf (toZ-ofZ {w = w64} (record { sfits = key .ok }) ∙ key .ensures))) (bucket-low (C.keyAt values walks walk attribute (loop .i - 1))) refl (c .narrow .ensures) (omega (arith, loop .inv .1, pre .1)) (loop .inv .2), λ j o. outside-turn (loop .i) _ (args .at) ((args .at) + bucket .result) (getD (loop .chains) ((args .at) + bucket .result) 0) (c .narrow .result) (loop .chains) (loop-test .taken) (loop .inv .0) (omega arith) (omega (arith, bucket .ensures .1)) j o ∙ loop .inv .3 j o)
 
-same-length : tie.Need-same-length Inv-loop μ-loop
-same-length c = search needs
-
 returns : tie.Need-returns Inv-loop μ-loop
 returns c = (linked-all _ _ _ _ _ (omega arith) (c .before .loop .inv .2), c .before .loop .inv .3)
 
@@ -101,23 +53,23 @@ build-spec =
     (tie.spec
     Inv-loop
     μ-loop
-    add-nexts
+    (λ c. search needs)
     loop-holds
-    sub-key
-    key-requires
-    bucket-requires
-    add-h
-    mul-link
-    slice-read-link
-    sub-chains
-    add-chains
-    mul-chains
-    slice-write-chains
-    narrow-requires
-    mul-chains-2
+    (λ c. search needs)
+    (λ c κs. search needs)
+    (λ c κs. search needs)
+    (λ c. search needs)
+    (λ c. search needs)
+    (λ c. search needs)
+    (λ c. search needs)
+    (λ c. search needs)
+    (λ c. search needs)
+    (λ c. search needs)
+    (λ c κs. search needs)
+    (λ c. search needs)
     slice-write-chains-2
-    sub-i
-    loop-less
+    (λ c. search needs)
+    (λ c. search needs)
     loop-again
-    same-length
+    (λ c. search needs)
     returns)

@@ -26,12 +26,6 @@ abbrev μ-loop : tie.MeasureT-loop
 loop-holds : tie.Need-loop-holds Inv-loop μ-loop
 loop-holds c = (omega arith, c .before .pre .1, λ i a b h. absurd (omega arith))
 
-key-requires : tie.Need-key-requires Inv-loop μ-loop
-key-requires c κs = search needs
-
-equal-requires : tie.Need-equal-requires Inv-loop μ-loop
-equal-requires c κs = search needs
-
 returns : tie.Need-returns Inv-loop μ-loop
 returns c =
     let c₂ = c .before .before in let key = c₂ .key in
@@ -39,12 +33,6 @@ returns c =
     let c₆ = c₄ .before .before in let args = c₆ .args in let fits = c₆ .fits in
     let values = now (args .values) in let walks = now (args .walks) in let attribute = args .attribute in let walk = args .walk in let x = args .x in
     ((loop .inv .0, loop .inv .1), (without (C.keyAt values walks walk attribute) x (toZ w64 (ofZ w64 x)) (toZ-ofZ {w = w64} (fits .x)) (args .from) _ (loop .inv .2), with-value (C.keyAt values walks walk attribute) x (toZ w64 (ofZ w64 x)) (toZ-ofZ {w = w64} (fits .x)) _ (args .to) (λ _. ap (λ (z : ℤ). C.same z (toZ w64 (ofZ w64 x))) (sym (toZ-ofZ {w = w64} (record { sfits = key .ok }) ∙ key .ensures)) ∙ sym (c .before .equal .ensures) ∙ c .if1 .taken)))
-
-add-j : tie.Need-add-j Inv-loop μ-loop
-add-j c = search needs
-
-loop-less : tie.Need-loop-less Inv-loop μ-loop
-loop-less c = search needs
 
 loop-again : tie.Need-loop-again Inv-loop μ-loop
 loop-again c =
@@ -68,10 +56,10 @@ look-spec =
     Inv-loop
     μ-loop
     loop-holds
-    key-requires
-    equal-requires
+    (λ c κs. search needs)
+    (λ c κs. search needs)
     returns
-    add-j
-    loop-less
+    (λ c. search needs)
+    (λ c. search needs)
     loop-again
     returns-2)

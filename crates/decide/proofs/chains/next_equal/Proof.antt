@@ -27,15 +27,6 @@ abbrev μ-loop : tie.MeasureT-loop
 loop-holds : tie.Need-loop-holds Inv-loop μ-loop
 loop-holds c = (c .before .before .pre .2, λ from f. passed-start (C.keyAt (now (c .before .before .args .values)) (now (c .before .before .args .walks)) (c .before .before .args .walk) (c .before .before .args .attribute)) (toZ w64 (ofZ w64 (c .before .before .args .x))) from _ _ f)
 
-sub-key : tie.Need-sub-key Inv-loop μ-loop
-sub-key c = search needs
-
-key-requires : tie.Need-key-requires Inv-loop μ-loop
-key-requires c κs = search needs
-
-equal-requires : tie.Need-equal-requires Inv-loop μ-loop
-equal-requires c κs = search needs
-
 returns : tie.Need-returns Inv-loop μ-loop
 returns c =
     let c₂ = c .before .before in let key = c₂ .key in
@@ -44,15 +35,6 @@ returns c =
     let c₇ = c₄ .before .before .before in let args = c₇ .args in let fits = c₇ .fits in
     let values = now (args .values) in let walks = now (args .walks) in let attribute = args .attribute in let walk = args .walk in let x = args .x in
     turned (C.keyAt values walks walk attribute) x (toZ w64 (ofZ w64 x)) (toZ-ofZ {w = w64} (fits .x)) _ _ _ (λ from f. passed-here (C.keyAt values walks walk attribute) (toZ w64 (ofZ w64 x)) from _ (loop .at) _ _ (loop .inv .1 from f) (loop-test .taken) (loop .inv .0) (toZ-ofZ {w = w64} (record { sfits = key .ok }) ∙ key .ensures) (c .before .equal .ensures) (c .if1 .taken))
-
-sub-size-at : tie.Need-sub-size-at Inv-loop μ-loop
-sub-size-at c = search needs
-
-add-size-at : tie.Need-add-size-at Inv-loop μ-loop
-add-size-at c = search needs
-
-size-at-requires : tie.Need-size-at-requires Inv-loop μ-loop
-size-at-requires c κs = search needs
 
 loop-less : tie.Need-loop-less Inv-loop μ-loop
 loop-less c =
@@ -83,13 +65,13 @@ next-equal-spec =
     Inv-loop
     μ-loop
     loop-holds
-    sub-key
-    key-requires
-    equal-requires
+    (λ c. search needs)
+    (λ c κs. search needs)
+    (λ c κs. search needs)
     returns
-    sub-size-at
-    add-size-at
-    size-at-requires
+    (λ c. search needs)
+    (λ c. search needs)
+    (λ c κs. search needs)
     loop-less
     loop-again
     returns-2)

@@ -26,9 +26,6 @@ Inv-loop values walks walk attribute x chains at from to nexts link₀ left₀ l
 abbrev μ-loop : tie.MeasureT-loop
 μ-loop values walks walk attribute x chains at from to nexts link₀ left₀ link left = left
 
-add-nexts : tie.Need-add-nexts Inv-loop μ-loop
-add-nexts c = search needs
-
 enter-requires : tie.Need-enter-requires Inv-loop μ-loop
 enter-requires c κs = (c .before .before .pre .0, c .before .before .pre .1, omega (arith, c .before .before .pre .2, c .before .before .pre .3), c .before .before .pre .4)
 
@@ -44,9 +41,6 @@ returns c =
 here-requires : tie.Need-here-requires Inv-loop μ-loop
 here-requires c κs = (c .before .before .before .before .before .before .pre .0, omega (arith, c .if1 .left), c .before .before .loop .inv .high)
 
-row-before-requires : tie.Need-row-before-requires Inv-loop μ-loop
-row-before-requires c κs = search needs
-
 returns-2 : tie.Need-returns-2 Inv-loop μ-loop
 returns-2 c =
     let c₁ = c .before in let if2 = c₁ .if2 in
@@ -56,21 +50,6 @@ returns-2 c =
     let c₉ = c₅ .before .before .before .before in let args = c₉ .args in let fits = c₉ .fits in let pre = c₉ .pre in
     let values = now (args .values) in let walks = now (args .walks) in let attribute = args .attribute in let from = args .from in let to = args .to in let walk = args .walk in let x = args .x in
     let h = passing-here (C.keyAt values walks walk attribute) (toZ w64 (ofZ w64 x)) from _ to _ _ (loop .inv) (here .ensures .0 (if2 .taken) .0) (pre .2) (c .row-before .ensures) in (h .0, (without (C.keyAt values walks walk attribute) x (toZ w64 (ofZ w64 x)) (toZ-ofZ {w = w64} (fits .x)) from _ (h .1), with-value (C.keyAt values walks walk attribute) x (toZ w64 (ofZ w64 x)) (toZ-ofZ {w = w64} (fits .x)) _ to (passing-has (C.keyAt values walks walk attribute) (toZ w64 (ofZ w64 x)) to (loop .link) _ (omega (arith, if1 .left)) (here .ensures .0 (if2 .taken) .1) (c .row-before .ensures))))
-
-sub-size-at : tie.Need-sub-size-at Inv-loop μ-loop
-sub-size-at c = search needs
-
-add-size-at : tie.Need-add-size-at Inv-loop μ-loop
-add-size-at c = search needs
-
-size-at-requires : tie.Need-size-at-requires Inv-loop μ-loop
-size-at-requires c κs = search needs
-
-sub-left : tie.Need-sub-left Inv-loop μ-loop
-sub-left c = search needs
-
-loop-less : tie.Need-loop-less Inv-loop μ-loop
-loop-less c = search needs
 
 loop-again : tie.Need-loop-again Inv-loop μ-loop
 loop-again c = let f = c .before .before .before .before .before .before .before .before .before .pre .4 .next (c .before .before .before .before .before .loop .link - 1) (omega (arith, c .before .before .before .before .before .loop .inv .high, c .before .before .before .if1 .left)) in let e = c .size-at .ensures .0 in passing-step (C.keyAt (now (c .before .before .before .before .before .before .before .before .before .args .values)) (now (c .before .before .before .before .before .before .before .before .before .args .walks)) (c .before .before .before .before .before .before .before .before .before .args .walk) (c .before .before .before .before .before .before .before .before .before .args .attribute)) (toZ w64 (ofZ w64 (c .before .before .before .before .before .before .before .before .before .args .x))) (c .before .before .before .before .before .before .before .before .before .args .from) _ (c .before .before .before .before .before .loop .link - 1) (c .before .before .before .before .before .loop .link) _ (omega (arith, c .before .before .before .if1 .left)) (c .before .before .before .before .before .loop .inv) (λ l. c .before .before .here .ensures .1 (c .before .if2 .left) l) (rw e f)
@@ -92,18 +71,18 @@ reach-spec =
     (tie.spec
     Inv-loop
     μ-loop
-    add-nexts
+    (λ c. search needs)
     enter-requires
     loop-holds
     returns
     here-requires
-    row-before-requires
+    (λ c κs. search needs)
     returns-2
-    sub-size-at
-    add-size-at
-    size-at-requires
-    sub-left
-    loop-less
+    (λ c. search needs)
+    (λ c. search needs)
+    (λ c κs. search needs)
+    (λ c. search needs)
+    (λ c. search needs)
     loop-again
     look-requires
     returns-3)

@@ -20,9 +20,6 @@ abbrev μ-loop : tie.MeasureT-loop
 loop-holds : tie.Need-loop-holds Inv-loop μ-loop
 loop-holds c = (omega arith, λ q z ws vs m e h. h)
 
-key-at-requires : tie.Need-key-at-requires Inv-loop μ-loop
-key-at-requires c κs = search needs
-
 returns : tie.Need-returns Inv-loop μ-loop
 returns c =
     let c₂ = c .before .before in let key-at = c₂ .key-at in
@@ -32,38 +29,11 @@ returns c =
     let start = args .start in let variable = args .variable in
     ((λ h. (along-found (now (args .t)) start (loop .at) _ (loop-test .taken) (key-at .ensures .0 h .0) (loop .inv .1) variable _ _ _ (key-at .ensures .0 h .1), along-here (now (args .t)) start (loop .at) _ (loop-test .taken) (key-at .ensures .0 h .0) (loop .inv .1) variable _ _ _ (key-at .ensures .0 h .1) (key-at .ensures .0 h .2))), key-at .ensures .1)
 
-mul-size-at : tie.Need-mul-size-at Inv-loop μ-loop
-mul-size-at c = search needs
-
-add-size-at : tie.Need-add-size-at Inv-loop μ-loop
-add-size-at c = search needs
-
-size-at-requires : tie.Need-size-at-requires Inv-loop μ-loop
-size-at-requires c κs = search needs
-
-no-key-requires : tie.Need-no-key-requires Inv-loop μ-loop
-no-key-requires c κs = search needs
-
 returns-2 : tie.Need-returns-2 Inv-loop μ-loop
 returns-2 c = no-key _ (c .no-key .ensures)
 
-mul-size-at-2 : tie.Need-mul-size-at-2 Inv-loop μ-loop
-mul-size-at-2 c = search needs
-
-add-size-at-2 : tie.Need-add-size-at-2 Inv-loop μ-loop
-add-size-at-2 c = search needs
-
-size-at-requires-2 : tie.Need-size-at-requires-2 Inv-loop μ-loop
-size-at-requires-2 c κs = search needs
-
-no-key-requires-2 : tie.Need-no-key-requires-2 Inv-loop μ-loop
-no-key-requires-2 c κs = search needs
-
 returns-3 : tie.Need-returns-3 Inv-loop μ-loop
 returns-3 c = no-key _ (c .no-key2 .ensures)
-
-loop-less : tie.Need-loop-less Inv-loop μ-loop
-loop-less c = search needs
 
 loop-again : tie.Need-loop-again Inv-loop μ-loop
 loop-again c =
@@ -72,9 +42,6 @@ loop-again c =
     let c₈ = c₇ .before in let loop = c₈ .loop in
     let c₁₀ = c₈ .before .before in let args = c₁₀ .args in
     (omega arith, along-next (now (args .t)) (args .start) (loop .at) _ (loop-test .taken) (size-at .ensures .0) (loop .inv .1) (c .before .before .if2 .left) _ (c .before .size-at2 .ensures .0) (omega (arith, c .if3 .left)))
-
-no-key-requires-3 : tie.Need-no-key-requires-3 Inv-loop μ-loop
-no-key-requires-3 c κs = search needs
 
 returns-4 : tie.Need-returns-4 Inv-loop μ-loop
 returns-4 c = no-key _ (c .no-key3 .ensures)
@@ -86,19 +53,19 @@ key-of-spec =
     Inv-loop
     μ-loop
     loop-holds
-    key-at-requires
+    (λ c κs. search needs)
     returns
-    mul-size-at
-    add-size-at
-    size-at-requires
-    no-key-requires
+    (λ c. search needs)
+    (λ c. search needs)
+    (λ c κs. search needs)
+    (λ c κs. search needs)
     returns-2
-    mul-size-at-2
-    add-size-at-2
-    size-at-requires-2
-    no-key-requires-2
+    (λ c. search needs)
+    (λ c. search needs)
+    (λ c κs. search needs)
+    (λ c κs. search needs)
     returns-3
-    loop-less
+    (λ c. search needs)
     loop-again
-    no-key-requires-3
+    (λ c κs. search needs)
     returns-4)

@@ -33,9 +33,6 @@ loop-holds c = (omega arith, c .before .pre .1, λ i h k. absurd (omega arith))
 place-requires : tie.Need-place-requires Inv-loop μ-loop
 place-requires c κs = (c .before .before .before .pre .0, omega (arith, c .before .before .before .pre .0 .count, c .loop-test .taken))
 
-cell-requires : tie.Need-cell-requires Inv-loop μ-loop
-cell-requires c κs = search needs
-
 meets-requires : tie.Need-meets-requires Inv-loop μ-loop
 meets-requires c κs = c .before .before .before .before .before .pre .2
 
@@ -46,12 +43,6 @@ returns c =
     let c₅ = c₃ .before .before in let loop = c₅ .loop in
     let c₇ = c₅ .before .before in let args = c₇ .args in
     ((loop .inv .0, loop .inv .1), (loop .inv .2, λ h. sym (row-meets (args .test) (now (args .column)) (placeAt (now (args .walks)) (args .walk) (loop .j)) _ _ _ (place .ensures) (toZ-ofZ {w = w32} (record { sfits = cell .ok }) ∙ cell .ensures) (c .before .meets .ensures)) ∙ c .if1 .taken))
-
-add-j : tie.Need-add-j Inv-loop μ-loop
-add-j c = search needs
-
-loop-less : tie.Need-loop-less Inv-loop μ-loop
-loop-less c = search needs
 
 loop-again : tie.Need-loop-again Inv-loop μ-loop
 loop-again c =
@@ -74,10 +65,10 @@ passing-spec =
     μ-loop
     loop-holds
     place-requires
-    cell-requires
+    (λ c κs. search needs)
     meets-requires
     returns
-    add-j
-    loop-less
+    (λ c. search needs)
+    (λ c. search needs)
     loop-again
     returns-2)

@@ -19,29 +19,11 @@ Inv-loop kinds counts₀ i₀ counts i = From kinds counts i × (length counts �
 abbrev μ-loop : tie.MeasureT-loop
 μ-loop kinds counts₀ i₀ counts i = i
 
-mul-counts : tie.Need-mul-counts Inv-loop μ-loop
-mul-counts c = search needs
-
-slice-write-counts : tie.Need-slice-write-counts Inv-loop μ-loop
-slice-write-counts c = search needs
-
 loop-holds : tie.Need-loop-holds Inv-loop μ-loop
 loop-holds c = (from-end (now (c .before .before .args .kinds)) (now (c .before .before .args .counts)) (c .before .before .pre .0), refl, omega arith, lt-length-set (now (c .before .before .args .counts)) _ _ (c .before .before .pre .0))
 
-sub-i : tie.Need-sub-i Inv-loop μ-loop
-sub-i c = search needs
-
-add-next : tie.Need-add-next Inv-loop μ-loop
-add-next c = search needs
-
-mul-next : tie.Need-mul-next Inv-loop μ-loop
-mul-next c = search needs
-
 slice-read-next : tie.Need-slice-read-next Inv-loop μ-loop
 slice-read-next c = omega (arith, c .before .before .loop .inv .3)
-
-add-after : tie.Need-add-after Inv-loop μ-loop
-add-after c = search needs
 
 add-after-2 : tie.Need-add-after-2 Inv-loop μ-loop
 add-after-2 c =
@@ -64,9 +46,6 @@ slice-read-after c =
     let kinds = now (args .kinds) in
     let f = subst (λ (n : ℕ). From kinds (loop .counts) n) (back (omega arith)) (loop .inv .0) in let m = next-most kinds (loop .counts) (loop .i - 1) (omega arith) (omega (arith, loop .inv .3)) f in omega (arith, m .2, loop .inv .3)
 
-shared-slice-read-step : tie.Need-shared-slice-read-step Inv-loop μ-loop
-shared-slice-read-step c = search needs
-
 step-requires : tie.Need-step-requires Inv-loop μ-loop
 step-requires c κs =
     let c₄ = c .before .before .before .before in let loop = c₄ .loop in
@@ -74,14 +53,8 @@ step-requires c κs =
     let kinds = now (args .kinds) in
     let f = subst (λ (n : ℕ). From kinds (loop .counts) n) (back (omega arith)) (loop .inv .0) in let m = next-most kinds (loop .counts) (loop .i - 1) (omega arith) (omega (arith, loop .inv .3)) f in let a = after-most kinds (loop .counts) (loop .i - 1) (omega arith) (omega (arith, loop .inv .3)) f in (omega (arith, m .0), omega (arith, m .1), omega (arith, m .2), omega (arith, a))
 
-mul-counts-2 : tie.Need-mul-counts-2 Inv-loop μ-loop
-mul-counts-2 c = search needs
-
 slice-write-counts-2 : tie.Need-slice-write-counts-2 Inv-loop μ-loop
 slice-write-counts-2 c = omega (arith, c .before .before .before .before .before .loop .inv .3)
-
-loop-less : tie.Need-loop-less Inv-loop μ-loop
-loop-less c = search needs
 
 loop-again : tie.Need-loop-again Inv-loop μ-loop
 loop-again c =
@@ -102,22 +75,22 @@ count-spec =
     (tie.spec
     Inv-loop
     μ-loop
-    mul-counts
-    slice-write-counts
+    (λ c. search needs)
+    (λ c. search needs)
     loop-holds
-    sub-i
-    add-next
-    mul-next
+    (λ c. search needs)
+    (λ c. search needs)
+    (λ c. search needs)
     slice-read-next
-    add-after
+    (λ c. search needs)
     add-after-2
     mul-after
     slice-read-after
-    shared-slice-read-step
+    (λ c. search needs)
     step-requires
-    mul-counts-2
+    (λ c. search needs)
     slice-write-counts-2
-    loop-less
+    (λ c. search needs)
     loop-again
     same-length
     returns)

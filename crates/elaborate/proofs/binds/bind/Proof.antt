@@ -29,9 +29,6 @@ loop-holds c =
     let c₈ = c .before .before .before .before .before .before .before .before in let args = c₈ .args in let pre = c₈ .pre in
     (filling-none (now (args .kinds)) (now (args .ids)) (now (args .marks)) (now (args .numbers)) (entries (now (args .list))) (now (args .out)) (now (args .known)) (pre .3), refl, refl, omega arith, omega arith, omega arith)
 
-shared-slice-read-kind : tie.Need-shared-slice-read-kind Inv-loop μ-loop
-shared-slice-read-kind c = search needs
-
 same-length : tie.Need-same-length Inv-loop μ-loop
 same-length c = c .before .before .before .loop .inv .1
 
@@ -43,12 +40,6 @@ returns c = let loop = c .before .before .before .loop in (fills (now (c .before
 
 name-requires : tie.Need-name-requires Inv-loop μ-loop
 name-requires c κs = let loop = c .before .before .before .before .before .before .loop in let pre = c .before .before .before .before .before .before .before .before .before .before .before .before .before .before .before .pre in let l = c .before .before .before .before .before .loop-test .taken in (omega (arith, l, pre .0), omega (arith, loop .inv .3, l, pre .0), omega (arith, loop .inv .4, loop .inv .5, pre .0), omega (arith, pre .2 (loop .i), pre .1, loop .inv .1), pre .4)
-
-enum-known-t : tie.Need-enum-known-t Inv-loop μ-loop
-enum-known-t c = search needs
-
-enum-told : tie.Need-enum-told Inv-loop μ-loop
-enum-told c = search needs
 
 same-length-3 : tie.Need-same-length-3 Inv-loop μ-loop
 same-length-3 c =
@@ -71,23 +62,14 @@ add-i c =
     let c₂₃ = c₁₃ .before .before .before .before .before .before .before .before .before .before in let pre = c₂₃ .pre in
     record { fits = omega (arith, pre .0, loop-test .taken) }
 
-loop-less : tie.Need-loop-less Inv-loop μ-loop
-loop-less c = search needs
-
 loop-again : tie.Need-loop-again Inv-loop μ-loop
 loop-again c = let loop = c .before .before .before .before .before .before .before .before .before .before .before .before .before .before .loop in let name = c .before .before .before .before .before .before .before .name in let b = within (loop .s) _ _ (name .ensures .1) (c .before .t .given .1) in (filling-on (now (c .before .before .before .before .before .before .before .before .before .before .before .before .before .before .before .before .before .before .before .before .before .before .before .args .kinds)) (now (c .before .before .before .before .before .before .before .before .before .before .before .before .before .before .before .before .before .before .before .before .before .before .before .args .ids)) (now (c .before .before .before .before .before .before .before .before .before .before .before .before .before .before .before .before .before .before .before .before .before .before .before .args .marks)) (now (c .before .before .before .before .before .before .before .before .before .before .before .before .before .before .before .before .before .before .before .before .before .before .before .args .numbers)) (entries (now (c .before .before .before .before .before .before .before .before .before .before .before .before .before .before .before .before .before .before .before .before .before .before .before .args .list))) (now (c .before .before .before .before .before .before .before .before .before .before .before .before .before .before .before .before .before .before .before .before .before .before .before .args .out)) (loop .known) (loop .out) (loop .s) (loop .i) (c .before .before .before .before .before .before .before .before .before .before .before .before .before .loop-test .taken) (loop .inv .0) (name .result) (name .last .1 .1 .1 .1 .1 .0) (name .last .1 .1 .1 .1 .1 .1 .0) (name .ensures .0 (loop .inv .0 .symbols)) (c .before .before .before .before .before .before .before .before .before .before .if2 .taken) _ (c .before .t .given .1), name .kept .1 .1 .1 .1 .1 .0 ∙ loop .inv .1, name .kept .1 .1 .1 .1 .1 .1 .0 ∙ loop .inv .2, omega (arith, b .0, loop .inv .3), omega (arith, b .1, loop .inv .4), omega (arith, c .before .before .before .before .before .before .before .before .before .before .before .before .before .loop-test .taken))
-
-passed-requires : tie.Need-passed-requires Inv-loop μ-loop
-passed-requires c κs = search needs
 
 add-i-2 : tie.Need-add-i-2 Inv-loop μ-loop
 add-i-2 c =
     let c₄ = c .before .before .before .before in let loop-test = c₄ .loop-test in
     let c₁₄ = c₄ .before .before .before .before .before .before .before .before .before .before in let pre = c₁₄ .pre in
     record { fits = omega (arith, pre .0, loop-test .taken) }
-
-loop-less-2 : tie.Need-loop-less-2 Inv-loop μ-loop
-loop-less-2 c = search needs
 
 loop-again-2 : tie.Need-loop-again-2 Inv-loop μ-loop
 loop-again-2 c = let loop = c .before .before .before .before .before .loop in let passed = c .passed in let b = within-next (getD (now (c .before .before .before .before .before .before .before .before .before .before .before .before .before .before .args .kinds)) (loop .i) 0) (loop .s) _ (passed .ensures) in (filling-next (now (c .before .before .before .before .before .before .before .before .before .before .before .before .before .before .args .kinds)) (now (c .before .before .before .before .before .before .before .before .before .before .before .before .before .before .args .ids)) (now (c .before .before .before .before .before .before .before .before .before .before .before .before .before .before .args .marks)) (now (c .before .before .before .before .before .before .before .before .before .before .before .before .before .before .args .numbers)) (entries (now (c .before .before .before .before .before .before .before .before .before .before .before .before .before .before .args .list))) (now (c .before .before .before .before .before .before .before .before .before .before .before .before .before .before .args .out)) (loop .known) (loop .out) (loop .s) (loop .i) (c .before .before .before .before .loop-test .taken) (loop .inv .0) (c .before .if2 .left) (c .before .before .if1 .left) _ (passed .ensures), loop .inv .1, loop .inv .2, omega (arith, b .0, loop .inv .3), omega (arith, b .1, loop .inv .4), omega (arith, c .before .before .before .before .loop-test .taken))
@@ -108,22 +90,22 @@ bind-spec =
     Inv-loop
     μ-loop
     loop-holds
-    shared-slice-read-kind
+    (λ c. search needs)
     same-length
     same-length-2
     returns
     name-requires
-    enum-known-t
-    enum-told
+    (λ c. search needs)
+    (λ c. search needs)
     same-length-3
     same-length-4
     returns-2
     add-i
-    loop-less
+    (λ c. search needs)
     loop-again
-    passed-requires
+    (λ c κs. search needs)
     add-i-2
-    loop-less-2
+    (λ c. search needs)
     loop-again-2
     same-length-5
     same-length-6

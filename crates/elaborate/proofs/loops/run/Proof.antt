@@ -40,12 +40,6 @@ loop-holds c = let args = c .before .before .before .before .before .before .bef
 turn-requires : tie.Need-turn-requires Inv-loop μ-loop
 turn-requires c κs = let loop = c .before .before .before .before .before .loop in let pre = c .before .before .before .before .before .before .before .before .before .before .before .before .before .before .pre in let l = c .before .before .before .if1 .taken in ((l, pre .0 .0, omega (arith, loop .inv .1 ∙ length-set (now (c .before .before .before .before .before .before .before .before .before .before .before .before .before .before .args .counts)) 0 0, pre .0 .1), loop .inv .4, omega (arith, loop .inv .6, pre .0 .4, pre .0 .0, l), omega (arith, loop .inv .7, loop .inv .8, pre .0 .5), loop .inv .5 l .1), (loop .inv .5 l .0, loop .inv .9, pre .1 .0, λ x. omega (arith, pre .1 .1 x, loop .inv .3), loop .inv .10, pre .1 .3))
 
-enum-known-t : tie.Need-enum-known-t Inv-loop μ-loop
-enum-known-t c = search needs
-
-enum-told : tie.Need-enum-told Inv-loop μ-loop
-enum-told c = search needs
-
 same-length : tie.Need-same-length Inv-loop μ-loop
 same-length c =
     let c₈ = c .before .before .before .before .before .before .before .before in let turn = c₈ .turn in
@@ -99,8 +93,8 @@ run-spec =
     slice-write-counts
     loop-holds
     turn-requires
-    enum-known-t
-    enum-told
+    (λ c. search needs)
+    (λ c. search needs)
     same-length
     same-length-2
     same-length-3

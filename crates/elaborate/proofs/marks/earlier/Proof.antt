@@ -32,19 +32,10 @@ Inv-loop text kinds starts lengths numbers index ids i link₀ link = let w : �
 abbrev μ-loop : tie.MeasureT-loop
 μ-loop text kinds starts lengths numbers index ids i link₀ link = link
 
-mul-bucket : tie.Need-mul-bucket Inv-loop μ-loop
-mul-bucket c = search needs
-
 shared-slice-read-bucket : tie.Need-shared-slice-read-bucket Inv-loop μ-loop
 shared-slice-read-bucket c =
     let c₈ = c .before .before .before .before .before .before .before .before in let pre = c₈ .pre in
     omega (arith, pre .0, pre .1)
-
-bucket-requires : tie.Need-bucket-requires Inv-loop μ-loop
-bucket-requires c κs = search needs
-
-size-at-requires : tie.Need-size-at-requires Inv-loop μ-loop
-size-at-requires c κs = search needs
 
 loop-holds : tie.Need-loop-holds Inv-loop μ-loop
 loop-holds c =
@@ -53,18 +44,12 @@ loop-holds c =
     let index = now (args .index) in let kinds = now (args .kinds) in let lengths = now (args .lengths) in let starts = now (args .starts) in let text = now (args .text) in let i = args .i in
     λ f. walk-start (λ (x : ℕ). x) (drop 512 index) (λ (x : ℕ). sameWord (nameIn text kinds starts lengths x) (nameIn text kinds starts lengths i)) (λ (x : ℕ). (x < i) × (1 ≤ length (nameIn text kinds starts lengths x))) (f .places) (λ (x : ℕ). bucketOf (nameIn text kinds starts lengths x)) i (take 512 index) (bucket .result) _ (bucket .ensures .1) (c .size-at .ensures .0 ∙ sym (getD-take 512 index (bucket .result) 0 (bucket .ensures .1))) (λ y e. ap bucketOf (same-word _ _ e) ∙ sym (bucket .ensures .0 ∙ ap (λ (v : ℕ). v % 512) (named-code text (table kinds starts lengths (now (args .numbers))) (pre .3) i (pre .0) (pre .2)))) (f .held) (f .named)
 
-sub-at : tie.Need-sub-at Inv-loop μ-loop
-sub-at c = search needs
-
 same-names-requires : tie.Need-same-names-requires Inv-loop μ-loop
 same-names-requires c κs =
     let c₁ = c .before in let loop = c₁ .loop in
     let c₁₂ = c₁ .before .before .before .before .before .before .before .before .before .before .before in let args = c₁₂ .args in let pre = c₁₂ .pre in
     let kinds = now (args .kinds) in let lengths = now (args .lengths) in let numbers = now (args .numbers) in let starts = now (args .starts) in let text = now (args .text) in let i = args .i in
     let h = walk-low (λ (x : ℕ). x) (drop 512 (now (args .index))) (λ (x : ℕ). sameWord (nameIn text kinds starts lengths x) (nameIn text kinds starts lengths i)) (λ (x : ℕ). (x < i) × (1 ≤ length (nameIn text kinds starts lengths x))) (pre .4 .places) (loop .link) (loop .link - 1) (omega (arith, c .loop-test .taken)) (loop .inv (pre .4)) .0 in let s = spelt-at text (table kinds starts lengths numbers) (pre .3) (loop .link - 1) (h .1) in (omega (arith, s .0, pre .1), omega (arith, pre .0, pre .1), s .1, named-spelt text (table kinds starts lengths numbers) (pre .3) i (pre .0) (pre .2))
-
-size-at-requires-2 : tie.Need-size-at-requires-2 Inv-loop μ-loop
-size-at-requires-2 c κs = search needs
 
 returns : tie.Need-returns Inv-loop μ-loop
 returns c =
@@ -80,9 +65,6 @@ add-size-at c =
     let c₁₄ = c₃ .before .before .before .before .before .before .before .before .before .before .before in let args = c₁₄ .args in let pre = c₁₄ .pre in
     let kinds = now (args .kinds) in let lengths = now (args .lengths) in let starts = now (args .starts) in let text = now (args .text) in let i = args .i in
     let h = walk-low (λ (x : ℕ). x) (drop 512 (now (args .index))) (λ (x : ℕ). sameWord (nameIn text kinds starts lengths x) (nameIn text kinds starts lengths i)) (λ (x : ℕ). (x < i) × (1 ≤ length (nameIn text kinds starts lengths x))) (pre .4 .places) (loop .link) (loop .link - 1) (omega (arith, c .before .before .loop-test .taken)) (loop .inv (pre .4)) .0 .0 in omega (arith, h, pre .0)
-
-size-at-requires-3 : tie.Need-size-at-requires-3 Inv-loop μ-loop
-size-at-requires-3 c κs = search needs
 
 loop-less : tie.Need-loop-less Inv-loop μ-loop
 loop-less c =
@@ -113,17 +95,17 @@ earlier-spec =
     (tie.spec
     Inv-loop
     μ-loop
-    mul-bucket
+    (λ c. search needs)
     shared-slice-read-bucket
-    bucket-requires
-    size-at-requires
+    (λ c κs. search needs)
+    (λ c κs. search needs)
     loop-holds
-    sub-at
+    (λ c. search needs)
     same-names-requires
-    size-at-requires-2
+    (λ c κs. search needs)
     returns
     add-size-at
-    size-at-requires-3
+    (λ c κs. search needs)
     loop-less
     loop-again
     returns-2)

@@ -27,20 +27,8 @@ abbrev μ-loop : tie.MeasureT-loop
 loop-holds : tie.Need-loop-holds Inv-loop μ-loop
 loop-holds c = (λ text ss ls ns. refl, omega arith)
 
-shared-slice-read-if1 : tie.Need-shared-slice-read-if1 Inv-loop μ-loop
-shared-slice-read-if1 c = search needs
-
-add-result : tie.Need-add-result Inv-loop μ-loop
-add-result c = search needs
-
 returns : tie.Need-returns Inv-loop μ-loop
 returns c = (λ text ss ls ns. sym (c .before .before .before .loop .inv .0 text ss ls ns ∙ main-turn text (table (now (c .before .before .before .before .args .kinds)) ss ls ns) (c .before .before .before .loop .i) (c .before .before .loop-test .taken) ∙ rw (c .if1 .taken)), (omega arith, λ h. omega arith))
-
-add-i : tie.Need-add-i Inv-loop μ-loop
-add-i c = search needs
-
-loop-less : tie.Need-loop-less Inv-loop μ-loop
-loop-less c = search needs
 
 loop-again : tie.Need-loop-again Inv-loop μ-loop
 loop-again c = (λ text ss ls ns. c .before .before .before .loop .inv .0 text ss ls ns ∙ main-turn text (table (now (c .before .before .before .before .args .kinds)) ss ls ns) (c .before .before .before .loop .i) (c .before .before .loop-test .taken) ∙ rw (ne-eqb _ _ (c .if1 .left)), omega arith)
@@ -55,10 +43,10 @@ main-place-spec =
     Inv-loop
     μ-loop
     loop-holds
-    shared-slice-read-if1
-    add-result
+    (λ c. search needs)
+    (λ c. search needs)
     returns
-    add-i
-    loop-less
+    (λ c. search needs)
+    (λ c. search needs)
     loop-again
     returns-2)

@@ -36,24 +36,12 @@ enter-requires c κs =
     let c₁₁ = c₃ .before .before .before .before .before .before .before .before in let pre = c₁₁ .pre in
     ((loop-test .taken, pre .0 .0, pre .0 .1, pre .0 .2), (omega (arith, loop .inv .2, pre .1 .0, loop-test .taken), omega (arith, loop .inv .3, pre .1 .1, loop-test .taken), loop .inv .0))
 
-add-i : tie.Need-add-i Inv-loop μ-loop
-add-i c = search needs
-
-loop-less : tie.Need-loop-less Inv-loop μ-loop
-loop-less c = search needs
-
 loop-again : tie.Need-loop-again Inv-loop μ-loop
 loop-again c =
     let c₄ = c .before .before .before .before in let enter = c₄ .enter in
     let c₇ = c₄ .before .before .before in let loop-test = c₇ .loop-test in
     let c₈ = c₇ .before in let loop = c₈ .loop in
     (enter .ensures, omega (arith, loop-test .taken), enter .kept .1 .1 .1 .1 .1 .0 ∙ loop .inv .2, enter .kept .1 .1 .1 .1 .1 .1 .0 ∙ loop .inv .3)
-
-same-length : tie.Need-same-length Inv-loop μ-loop
-same-length c = search needs
-
-same-length-2 : tie.Need-same-length-2 Inv-loop μ-loop
-same-length-2 c = search needs
 
 returns : tie.Need-returns Inv-loop μ-loop
 returns c =
@@ -70,9 +58,9 @@ number-spec =
     μ-loop
     loop-holds
     enter-requires
-    add-i
-    loop-less
+    (λ c. search needs)
+    (λ c. search needs)
     loop-again
-    same-length
-    same-length-2
+    (λ c. search needs)
+    (λ c. search needs)
     returns)

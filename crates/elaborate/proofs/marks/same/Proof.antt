@@ -25,12 +25,6 @@ returns c = sym (sameWord-length (now (c .before .args .a)) (now (c .before .arg
 loop-holds : tie.Need-loop-holds Inv-loop μ-loop
 loop-holds c = (refl, omega arith)
 
-shared-slice-read-if2 : tie.Need-shared-slice-read-if2 Inv-loop μ-loop
-shared-slice-read-if2 c = search needs
-
-shared-slice-read-if2-2 : tie.Need-shared-slice-read-if2-2 Inv-loop μ-loop
-shared-slice-read-if2-2 c = search needs
-
 returns-2 : tie.Need-returns-2 Inv-loop μ-loop
 returns-2 c =
     let c₃ = c .before .before .before in let loop-test = c₃ .loop-test in
@@ -38,12 +32,6 @@ returns-2 c =
     let c₅ = c₄ .before in let if1 = c₅ .if1 in
     let c₆ = c₅ .before in let args = c₆ .args in
     sym (loop .inv .0 ∙ same-drop (now (args .a)) (now (args .b)) (loop .i) (if1 .left) (loop-test .taken) ∙ rw (ne-eqb _ _ (c .if2 .taken)))
-
-add-i : tie.Need-add-i Inv-loop μ-loop
-add-i c = search needs
-
-loop-less : tie.Need-loop-less Inv-loop μ-loop
-loop-less c = search needs
 
 loop-again : tie.Need-loop-again Inv-loop μ-loop
 loop-again c =
@@ -64,10 +52,10 @@ same-spec =
     μ-loop
     returns
     loop-holds
-    shared-slice-read-if2
-    shared-slice-read-if2-2
+    (λ c. search needs)
+    (λ c. search needs)
     returns-2
-    add-i
-    loop-less
+    (λ c. search needs)
+    (λ c. search needs)
     loop-again
     returns-3)

@@ -31,9 +31,6 @@ once-requires c κs =
     let c₆ = c₁ .before .before .before .before .before in let pre = c₆ .pre in
     (loop-test .taken, omega (arith, loop-test .taken, pre .0), λ x. omega (arith, pre .2 x, pre .1, c .before .before .loop .inv .2))
 
-same-length : tie.Need-same-length Inv-loop μ-loop
-same-length c = search needs
-
 returns : tie.Need-returns Inv-loop μ-loop
 returns c =
     let c₃ = c .before .before .before in let once = c₃ .once in
@@ -43,18 +40,6 @@ returns c =
     let kinds = now (args .kinds) in
     λ text ss ls ns g. left-twice text kinds ss ls ns (now (args .ids)) (loop .p) (loop .i) _ _ (once .result) (loop-test .taken) (loop .inv .0 text ss ls ns g) g (omega (arith, pre .2 (boundPlace kinds (loop .i)), pre .1, loop .inv .2)) (once .ensures) (not-true (once .result) (c .if1 .taken))
 
-shared-slice-read-part : tie.Need-shared-slice-read-part Inv-loop μ-loop
-shared-slice-read-part c = search needs
-
-part-requires : tie.Need-part-requires Inv-loop μ-loop
-part-requires c κs = search needs
-
-add-i : tie.Need-add-i Inv-loop μ-loop
-add-i c = search needs
-
-loop-less : tie.Need-loop-less Inv-loop μ-loop
-loop-less c = search needs
-
 loop-again : tie.Need-loop-again Inv-loop μ-loop
 loop-again c =
     let c₅ = c .before .before .before .before .before in let once = c₅ .once in
@@ -63,9 +48,6 @@ loop-again c =
     let c₁₂ = c₈ .before .before .before .before in let args = c₁₂ .args in let pre = c₁₂ .pre in
     let kinds = now (args .kinds) in
     (λ text ss ls ns g. left-next text kinds ss ls ns (now (args .ids)) (loop .p) (loop .i) _ _ (once .result) (loop-test .taken) (loop .inv .0 text ss ls ns g) g (omega (arith, pre .2 (boundPlace kinds (loop .i)), pre .1, loop .inv .2)) (once .ensures) (not-false (once .result) (c .before .before .if1 .left)) _ (c .part .ensures .0), c .part .ensures .1, once .kept .1 .1 .0 ∙ loop .inv .2)
-
-same-length-2 : tie.Need-same-length-2 Inv-loop μ-loop
-same-length-2 c = search needs
 
 returns-2 : tie.Need-returns-2 Inv-loop μ-loop
 returns-2 c = λ text ss ls ns g. left-end text (now (c .before .before .before .before .before .args .kinds)) ss ls ns (now (c .before .before .before .before .before .args .ids)) (c .before .loop .p) (c .before .loop .i) _ (c .loop-test .left) (c .before .loop .inv .0 text ss ls ns g)
@@ -78,12 +60,12 @@ unique-with-spec =
     μ-loop
     loop-holds
     once-requires
-    same-length
+    (λ c. search needs)
     returns
-    shared-slice-read-part
-    part-requires
-    add-i
-    loop-less
+    (λ c. search needs)
+    (λ c κs. search needs)
+    (λ c. search needs)
+    (λ c. search needs)
     loop-again
-    same-length-2
+    (λ c. search needs)
     returns-2)

@@ -25,18 +25,9 @@ loop-holds : tie.Need-loop-holds Inv-loop μ-loop
 loop-holds c =
     let args = c .before .before .before .args in let pre = c .before .before .before .pre in (λ text ss ls ns g. left-start text (table (now (args .kinds)) ss ls ns) (now (args .ids)) (args .from) (now (args .used)) (pre .3), omega arith, refl)
 
-shared-slice-read-kind : tie.Need-shared-slice-read-kind Inv-loop μ-loop
-shared-slice-read-kind c = search needs
-
 note-requires : tie.Need-note-requires Inv-loop μ-loop
 note-requires c κs =
     let loop = c .before .before .before .before .loop in let pre = c .before .before .before .before .before .before .before .before .pre in (omega (arith, c .before .before .before .loop-test .taken, pre .0), omega (arith, pre .2 (loop .i), pre .1, loop .inv .2))
-
-add-i : tie.Need-add-i Inv-loop μ-loop
-add-i c = search needs
-
-loop-less : tie.Need-loop-less Inv-loop μ-loop
-loop-less c = search needs
 
 loop-again : tie.Need-loop-again Inv-loop μ-loop
 loop-again c =
@@ -46,18 +37,9 @@ depth-requires : tie.Need-depth-requires Inv-loop μ-loop
 depth-requires c κs =
     let loop = c .before .before .before .loop in let pre = c .before .before .before .before .before .before .before .pre in omega (arith, loop .inv .1, c .before .before .loop-test .taken, pre .0)
 
-add-i-2 : tie.Need-add-i-2 Inv-loop μ-loop
-add-i-2 c = search needs
-
-loop-less-2 : tie.Need-loop-less-2 Inv-loop μ-loop
-loop-less-2 c = search needs
-
 loop-again-2 : tie.Need-loop-again-2 Inv-loop μ-loop
 loop-again-2 c =
     let loop = c .before .before .before .before .loop in let args = c .before .before .before .before .before .before .before .before .args in let pre = c .before .before .before .before .before .before .before .before .pre in (λ text ss ls ns g. left-next text (table (now (args .kinds)) ss ls ns) (now (args .ids)) (args .from) (loop .d) (loop .i) _ _ (c .before .before .before .loop-test .taken) (loop .inv .0 text ss ls ns g) g (omega (arith, pre .2 (loop .i), pre .1, loop .inv .2)) (not-noted (now (args .kinds)) (now (args .ids)) (loop .used) (loop .d) (loop .i) (c .before .if1 .left)) _ (c .depth .ensures .0), omega (arith, loop .inv .1, c .depth .ensures .1), loop .inv .2)
-
-same-length : tie.Need-same-length Inv-loop μ-loop
-same-length c = search needs
 
 returns : tie.Need-returns Inv-loop μ-loop
 returns c =
@@ -72,14 +54,14 @@ uses-spec =
     Inv-loop
     μ-loop
     loop-holds
-    shared-slice-read-kind
+    (λ c. search needs)
     note-requires
-    add-i
-    loop-less
+    (λ c. search needs)
+    (λ c. search needs)
     loop-again
     depth-requires
-    add-i-2
-    loop-less-2
+    (λ c. search needs)
+    (λ c. search needs)
     loop-again-2
-    same-length
+    (λ c. search needs)
     returns)

@@ -23,27 +23,12 @@ abbrev μ-loop : tie.MeasureT-loop
 loop-holds : tie.Need-loop-holds Inv-loop μ-loop
 loop-holds c = (often-start (now (c .before .args .out)) (c .before .args .at) (c .before .args .b), refl, omega arith)
 
-add-put : tie.Need-add-put Inv-loop μ-loop
-add-put c = search needs
-
-put-requires : tie.Need-put-requires Inv-loop μ-loop
-put-requires c κs = search needs
-
-add-i : tie.Need-add-i Inv-loop μ-loop
-add-i c = search needs
-
-loop-less : tie.Need-loop-less Inv-loop μ-loop
-loop-less c = search needs
-
 loop-again : tie.Need-loop-again Inv-loop μ-loop
 loop-again c =
     let c₂ = c .before .before in let put = c₂ .put in
     let c₅ = c₂ .before .before .before in let loop = c₅ .loop in
     let c₇ = c₅ .before .before in let args = c₇ .args in
     (often-turn (now (args .out)) (loop .out) _ (args .at) (loop .i) (args .b) (loop .inv .0) (put .ensures .1), put .kept .0 ∙ loop .inv .1, omega arith)
-
-add-result : tie.Need-add-result Inv-loop μ-loop
-add-result c = search needs
 
 same-length : tie.Need-same-length Inv-loop μ-loop
 same-length c = c .before .loop .inv .1
@@ -61,11 +46,11 @@ many-spec =
     Inv-loop
     μ-loop
     loop-holds
-    add-put
-    put-requires
-    add-i
-    loop-less
+    (λ c. search needs)
+    (λ c κs. search needs)
+    (λ c. search needs)
+    (λ c. search needs)
     loop-again
-    add-result
+    (λ c. search needs)
     same-length
     returns)

@@ -25,23 +25,8 @@ abbrev μ-loop : tie.MeasureT-loop
 loop-holds : tie.Need-loop-holds Inv-loop μ-loop
 loop-holds c = (λ x l. absurd (omega arith), refl)
 
-mul-known : tie.Need-mul-known Inv-loop μ-loop
-mul-known c = search needs
-
-slice-write-known : tie.Need-slice-write-known Inv-loop μ-loop
-slice-write-known c = search needs
-
-add-i : tie.Need-add-i Inv-loop μ-loop
-add-i c = search needs
-
-loop-less : tie.Need-loop-less Inv-loop μ-loop
-loop-less c = search needs
-
 loop-again : tie.Need-loop-again Inv-loop μ-loop
 loop-again c = (clear-more (c .before .loop .known) (c .before .loop .i) (c .before .loop .inv .0) (c .loop-test .taken), length-set (c .before .loop .known) (c .before .loop .i) 0 ∙ c .before .loop .inv .1)
-
-same-length : tie.Need-same-length Inv-loop μ-loop
-same-length c = search needs
 
 returns : tie.Need-returns Inv-loop μ-loop
 returns c = clear-all (c .before .loop .known) (c .before .loop .i) (c .before .loop .inv .0) (c .loop-test .left)
@@ -53,10 +38,10 @@ forget-spec =
     Inv-loop
     μ-loop
     loop-holds
-    mul-known
-    slice-write-known
-    add-i
-    loop-less
+    (λ c. search needs)
+    (λ c. search needs)
+    (λ c. search needs)
+    (λ c. search needs)
     loop-again
-    same-length
+    (λ c. search needs)
     returns)

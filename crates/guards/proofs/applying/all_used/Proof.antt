@@ -26,9 +26,6 @@ loop-holds : tie.Need-loop-holds Inv-loop μ-loop
 unfolding all below
 loop-holds c = (refl, omega arith)
 
-as-wanted-requires : tie.Need-as-wanted-requires Inv-loop μ-loop
-as-wanted-requires c κs = search needs
-
 returns : tie.Need-returns Inv-loop μ-loop
 unfolding spec.allUsed
 returns c =
@@ -36,12 +33,6 @@ returns c =
     let c₃ = c₁ .before .before in let loop = c₃ .loop in
     let c₄ = c₃ .before in let args = c₄ .args in
     loops.below-stopped (λ (x : ℕ). not (bit (args .used) x) || spec.agree (args .wanted) (bit (args .mask) x)) (loop .a) 16 (as-wanted .result) (c .before .before .loop-test .taken) (as-wanted .ensures) (c .if1 .taken)
-
-add-a : tie.Need-add-a Inv-loop μ-loop
-add-a c = search needs
-
-loop-less : tie.Need-loop-less Inv-loop μ-loop
-loop-less c = search needs
 
 loop-again : tie.Need-loop-again Inv-loop μ-loop
 loop-again c =
@@ -61,9 +52,9 @@ all-used-spec =
     Inv-loop
     μ-loop
     loop-holds
-    as-wanted-requires
+    (λ c κs. search needs)
     returns
-    add-a
-    loop-less
+    (λ c. search needs)
+    (λ c. search needs)
     loop-again
     returns-2)

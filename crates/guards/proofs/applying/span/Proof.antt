@@ -23,24 +23,12 @@ abbrev μ-loop : tie.MeasureT-loop
 loop-holds : tie.Need-loop-holds Inv-loop μ-loop
 loop-holds c = (zero-add _, omega arith)
 
-byte-requires : tie.Need-byte-requires Inv-loop μ-loop
-byte-requires c κs = search needs
-
 returns : tie.Need-returns Inv-loop μ-loop
 returns c =
     let c₁ = c .before in let byte = c₁ .byte in
     let c₃ = c₁ .before .before in let loop = c₃ .loop in
     let c₅ = c₃ .before .before in let args = c₅ .args in
     (span-found (now (args .q)) (loop .at) (byte .result) (c .before .before .loop-test .taken) (byte .ensures) _ (c .if1 .taken) (loop .inv .0), loop .inv .1)
-
-step-requires : tie.Need-step-requires Inv-loop μ-loop
-step-requires c κs = search needs
-
-add-at : tie.Need-add-at Inv-loop μ-loop
-add-at c = search needs
-
-loop-less : tie.Need-loop-less Inv-loop μ-loop
-loop-less c = search needs
 
 loop-again : tie.Need-loop-again Inv-loop μ-loop
 loop-again c =
@@ -60,10 +48,10 @@ span-spec =
     Inv-loop
     μ-loop
     loop-holds
-    byte-requires
+    (λ c κs. search needs)
     returns
-    step-requires
-    add-at
-    loop-less
+    (λ c κs. search needs)
+    (λ c. search needs)
+    (λ c. search needs)
     loop-again
     returns-2)

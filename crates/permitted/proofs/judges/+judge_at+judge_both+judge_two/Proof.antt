@@ -74,47 +74,17 @@ judge-at-judge-leaf-requires t c κs =
     let c₆ = c .before .before .before .before .before .before in let pre = c₆ .pre in
     (pre .1 .0, pre .1 .1, pre .1 .3, pre .1 .4)
 
-judge-at-same-length : (t : ℕ) → judge-at-lts.Need-same-length (judge-at-claims t) (judge-at-at t) judge-at.Post
-judge-at-same-length t c = search needs
-
 judge-at-returns : (t : ℕ) → judge-at-lts.Need-returns (judge-at-claims t) (judge-at-at t) judge-at.Post
 judge-at-returns t c = c .before .before .judge-leaf .ensures
 
-judge-at-sub-l : (t : ℕ) → judge-at-lts.Need-sub-l (judge-at-claims t) (judge-at-at t) judge-at.Post
-judge-at-sub-l t c = search needs
-
-judge-at-condition-record-requires : (t : ℕ) → judge-at-lts.Need-condition-record-requires (judge-at-claims t) (judge-at-at t) judge-at.Post
-judge-at-condition-record-requires t c κs = search needs
-
-judge-at-enum-told : (t : ℕ) → judge-at-lts.Need-enum-told (judge-at-claims t) (judge-at-at t) judge-at.Post
-judge-at-enum-told t c = search needs
-
 judge-at-mark-if-requires : (t : ℕ) → judge-at-lts.Need-mark-if-requires (judge-at-claims t) (judge-at-at t) judge-at.Post
 judge-at-mark-if-requires t c κs = c .before .before .before .before .before .before .before .before .before .pre .1 .3
-
-judge-at-enum-told-2 : (t : ℕ) → judge-at-lts.Need-enum-told-2 (judge-at-claims t) (judge-at-at t) judge-at.Post
-judge-at-enum-told-2 t c = search needs
-
-judge-at-byte-requires : (t : ℕ) → judge-at-lts.Need-byte-requires (judge-at-claims t) (judge-at-at t) judge-at.Post
-judge-at-byte-requires t c κs = search needs
-
-judge-at-record-length-requires : (t : ℕ) → judge-at-lts.Need-record-length-requires (judge-at-claims t) (judge-at-at t) judge-at.Post
-judge-at-record-length-requires t c κs = search needs
-
-judge-at-tail-requires : (t : ℕ) → judge-at-lts.Need-tail-requires (judge-at-claims t) (judge-at-at t) judge-at.Post
-judge-at-tail-requires t c κs = search needs
-
-judge-at-tail-sizes-requires : (t : ℕ) → judge-at-lts.Need-tail-sizes-requires (judge-at-claims t) (judge-at-at t) judge-at.Post
-judge-at-tail-sizes-requires t c κs = search needs
 
 judge-at-judge-at-requires : (t : ℕ) → judge-at-lts.Need-judge-at-requires (judge-at-claims t) (judge-at-at t) judge-at.Post
 judge-at-judge-at-requires t c κs =
     let c₈ = c .before .before .before .before .before .before .before .before in let if1 = c₈ .if1 in
     let c₁₃ = c₈ .before .before .before .before .before in let pre = c₁₃ .pre in
     (omega (arith, pre .0, if1 .left), (omega (arith, pre .1 .0), pre .1 .1, pre .1 .2, pre .1 .3, pre .1 .4))
-
-judge-at-enum-told-3 : (t : ℕ) → judge-at-lts.Need-enum-told-3 (judge-at-claims t) (judge-at-at t) judge-at.Post
-judge-at-enum-told-3 t c = search needs
 
 judge-at-judge-both-requires : (t : ℕ) → judge-at-lts.Need-judge-both-requires (judge-at-claims t) (judge-at-at t) judge-at.Post
 judge-at-judge-both-requires t c κs =
@@ -127,9 +97,6 @@ judge-at-judge-two-requires t c κs =
     let c₅ = c .before .before .before .before .before in let if1 = c₅ .if1 in
     let c₁₀ = c₅ .before .before .before .before .before in let pre = c₁₀ .pre in
     (omega (arith, pre .0, if1 .left), (omega (arith, pre .1 .0), pre .1 .1, pre .1 .2, pre .1 .3, pre .1 .4))
-
-judge-at-enum-told-4 : (t : ℕ) → judge-at-lts.Need-enum-told-4 (judge-at-claims t) (judge-at-at t) judge-at.Post
-judge-at-enum-told-4 t c = search needs
 
 judge-at-judge-two-requires-2 : (t : ℕ) → judge-at-lts.Need-judge-two-requires-2 (judge-at-claims t) (judge-at-at t) judge-at.Post
 judge-at-judge-two-requires-2 t c κs =
@@ -148,9 +115,6 @@ judge-at-judge-leaf-requires-2 t c κs =
     let c₈ = c .before .before .before .before .before .before .before .before in let pre = c₈ .pre in
     (pre .1 .0, pre .1 .1, pre .1 .3, pre .1 .4)
 
-judge-at-same-length-2 : (t : ℕ) → judge-at-lts.Need-same-length-2 (judge-at-claims t) (judge-at-at t) judge-at.Post
-judge-at-same-length-2 t c = search needs
-
 judge-at-returns-2 : (t : ℕ) → judge-at-lts.Need-returns-2 (judge-at-claims t) (judge-at-at t) judge-at.Post
 judge-at-returns-2 t c =
     let c₄ = c .before .before .before .before in let enum-told = c₄ .enum-told in
@@ -158,9 +122,6 @@ judge-at-returns-2 t c =
     let c₇ = c₆ .before in let if1 = c₇ .if1 in
     let c₁₂ = c₇ .before .before .before .before .before in let args = c₁₂ .args in
     marked-same (c .before .before .mark-if .ensures) refl (λ i h. true-is (now (args .q)) (now (args .z)) (now (args .walks)) (now (args .values)) (now (args .memo)) (args .walk) (args .level) _ (if1 .left) (condition-record .ensures) (enum-told .given .1) (args .wanted) i)
-
-judge-at-same-length-3 : (t : ℕ) → judge-at-lts.Need-same-length-3 (judge-at-claims t) (judge-at-at t) judge-at.Post
-judge-at-same-length-3 t c = search needs
 
 judge-at-returns-3 : (t : ℕ) → judge-at-lts.Need-returns-3 (judge-at-claims t) (judge-at-at t) judge-at.Post
 judge-at-returns-3 t c =
@@ -175,9 +136,6 @@ judge-at-returns-3 t c =
     let memo = now (args .memo) in let q = now (args .q) in let vs = now (args .values) in let walks = now (args .walks) in let z = now (args .z) in let walk = args .walk in
     marked-same (c .before .before .judge-at .ensures) refl (λ i h. under-first q z walks vs memo walk _ _ _ _ _ _ _ (byte .ensures) (record-length .ensures .0) (tail .ensures) (tail-sizes .ensures) ∙ not-is q z walks vs memo walk (args .level) _ (if1 .left) (condition-record .ensures) (enum-told2 .given .1) (args .wanted) i)
 
-judge-at-same-length-4 : (t : ℕ) → judge-at-lts.Need-same-length-4 (judge-at-claims t) (judge-at-at t) judge-at.Post
-judge-at-same-length-4 t c = search needs
-
 judge-at-returns-4 : (t : ℕ) → judge-at-lts.Need-returns-4 (judge-at-claims t) (judge-at-at t) judge-at.Post
 judge-at-returns-4 t c =
     let c₄ = c .before .before .before .before in let if2 = c₄ .if2 in
@@ -186,9 +144,6 @@ judge-at-returns-4 t c =
     let c₈ = c₇ .before in let if1 = c₈ .if1 in
     let c₁₃ = c₈ .before .before .before .before .before in let args = c₁₃ .args in
     marked-same (c .before .before .judge-both .ensures) refl (λ i h. and-is (now (args .q)) (now (args .z)) (now (args .walks)) (now (args .values)) (now (args .memo)) (args .walk) (args .level) _ (if1 .left) (condition-record .ensures) (enum-told3 .given .1) (args .wanted) (if2 .taken) i)
-
-judge-at-same-length-5 : (t : ℕ) → judge-at-lts.Need-same-length-5 (judge-at-claims t) (judge-at-at t) judge-at.Post
-judge-at-same-length-5 t c = search needs
 
 judge-at-returns-5 : (t : ℕ) → judge-at-lts.Need-returns-5 (judge-at-claims t) (judge-at-at t) judge-at.Post
 judge-at-returns-5 t c =
@@ -199,9 +154,6 @@ judge-at-returns-5 t c =
     let c₁₃ = c₈ .before .before .before .before .before in let args = c₁₃ .args in
     marked-same (c .before .before .judge-two .ensures) refl (λ i h. and-not (now (args .q)) (now (args .z)) (now (args .walks)) (now (args .values)) (now (args .memo)) (args .walk) (args .level) _ (if1 .left) (condition-record .ensures) (enum-told3 .given .1) (args .wanted) (if2 .left) i)
 
-judge-at-same-length-6 : (t : ℕ) → judge-at-lts.Need-same-length-6 (judge-at-claims t) (judge-at-at t) judge-at.Post
-judge-at-same-length-6 t c = search needs
-
 judge-at-returns-6 : (t : ℕ) → judge-at-lts.Need-returns-6 (judge-at-claims t) (judge-at-at t) judge-at.Post
 judge-at-returns-6 t c =
     let c₄ = c .before .before .before .before in let if3 = c₄ .if3 in
@@ -210,9 +162,6 @@ judge-at-returns-6 t c =
     let c₈ = c₇ .before in let if1 = c₈ .if1 in
     let c₁₃ = c₈ .before .before .before .before .before in let args = c₁₃ .args in
     marked-same (c .before .before .judge-two2 .ensures) refl (λ i h. or-is (now (args .q)) (now (args .z)) (now (args .walks)) (now (args .values)) (now (args .memo)) (args .walk) (args .level) _ (if1 .left) (condition-record .ensures) (enum-told4 .given .1) (args .wanted) (if3 .taken) i)
-
-judge-at-same-length-7 : (t : ℕ) → judge-at-lts.Need-same-length-7 (judge-at-claims t) (judge-at-at t) judge-at.Post
-judge-at-same-length-7 t c = search needs
 
 judge-at-returns-7 : (t : ℕ) → judge-at-lts.Need-returns-7 (judge-at-claims t) (judge-at-at t) judge-at.Post
 judge-at-returns-7 t c =
@@ -223,22 +172,13 @@ judge-at-returns-7 t c =
     let c₁₃ = c₈ .before .before .before .before .before in let args = c₁₃ .args in
     marked-same (c .before .before .judge-both2 .ensures) refl (λ i h. or-not (now (args .q)) (now (args .z)) (now (args .walks)) (now (args .values)) (now (args .memo)) (args .walk) (args .level) _ (if1 .left) (condition-record .ensures) (enum-told4 .given .1) (args .wanted) (if3 .left) i)
 
-judge-at-same-length-8 : (t : ℕ) → judge-at-lts.Need-same-length-8 (judge-at-claims t) (judge-at-at t) judge-at.Post
-judge-at-same-length-8 t c = search needs
-
 judge-at-returns-8 : (t : ℕ) → judge-at-lts.Need-returns-8 (judge-at-claims t) (judge-at-at t) judge-at.Post
 judge-at-returns-8 t c = c .before .before .judge-leaf2 .ensures
-
-judge-both-slice-aggregate-judge-two : (t : ℕ) → judge-both-lts.Need-slice-aggregate-judge-two (judge-both-claims t) (judge-both-at t) judge-both.Post
-judge-both-slice-aggregate-judge-two t c = search needs
 
 judge-both-judge-two-requires : (t : ℕ) → judge-both-lts.Need-judge-two-requires (judge-both-claims t) (judge-both-at t) judge-both.Post
 judge-both-judge-two-requires t c κs =
     let c₅ = c .before .before .before .before .before in let pre = c₅ .pre in
     (omega (arith, pre .0), (pre .1 .0, pre .1 .1, pre .1 .2, omega (arith, pre .1 .2, length-replicate {A = ℕ} 1024 0), blank-bits 1024))
-
-judge-both-slice-aggregate-mark-others : (t : ℕ) → judge-both-lts.Need-slice-aggregate-mark-others (judge-both-claims t) (judge-both-at t) judge-both.Post
-judge-both-slice-aggregate-mark-others t c = search needs
 
 judge-both-mark-others-requires : (t : ℕ) → judge-both-lts.Need-mark-others-requires (judge-both-claims t) (judge-both-at t) judge-both.Post
 judge-both-mark-others-requires t c κs =
@@ -246,41 +186,11 @@ judge-both-mark-others-requires t c κs =
     let c₉ = c₃ .before .before .before .before .before .before in let pre = c₉ .pre in
     (omega (arith, pre .1 .2, length-replicate {A = ℕ} 1024 0, judge-two .ensures .size), pre .1 .3, pre .1 .4)
 
-judge-both-same-length : (t : ℕ) → judge-both-lts.Need-same-length (judge-both-claims t) (judge-both-at t) judge-both.Post
-judge-both-same-length t c = search needs
-
 judge-both-returns : (t : ℕ) → judge-both-lts.Need-returns (judge-both-claims t) (judge-both-at t) judge-both.Post
 judge-both-returns t c =
     let c₆ = c .before .before .before .before .before .before in let judge-two = c₆ .judge-two in
     let c₁₂ = c₆ .before .before .before .before .before .before in let args = c₁₂ .args in
     both-marked (now (args .q)) (now (args .z)) (now (args .walks)) (now (args .values)) (now (args .memo)) (args .walk) (args .level) (args .wanted) _ 1024 _ (now (args .marks)) _ (judge-two .ensures) (c .before .before .mark-others .ensures)
-
-judge-two-byte-requires : (t : ℕ) → judge-two-lts.Need-byte-requires (judge-two-claims t) (judge-two-at t) judge-two.Post
-judge-two-byte-requires t c κs = search needs
-
-judge-two-record-length-requires : (t : ℕ) → judge-two-lts.Need-record-length-requires (judge-two-claims t) (judge-two-at t) judge-two.Post
-judge-two-record-length-requires t c κs = search needs
-
-judge-two-size-at-requires : (t : ℕ) → judge-two-lts.Need-size-at-requires (judge-two-claims t) (judge-two-at t) judge-two.Post
-judge-two-size-at-requires t c κs = search needs
-
-judge-two-add-b : (t : ℕ) → judge-two-lts.Need-add-b (judge-two-claims t) (judge-two-at t) judge-two.Post
-judge-two-add-b t c = search needs
-
-judge-two-tail-requires : (t : ℕ) → judge-two-lts.Need-tail-requires (judge-two-claims t) (judge-two-at t) judge-two.Post
-judge-two-tail-requires t c κs = search needs
-
-judge-two-tail-sizes-requires : (t : ℕ) → judge-two-lts.Need-tail-sizes-requires (judge-two-claims t) (judge-two-at t) judge-two.Post
-judge-two-tail-sizes-requires t c κs = search needs
-
-judge-two-tail-requires-2 : (t : ℕ) → judge-two-lts.Need-tail-requires-2 (judge-two-claims t) (judge-two-at t) judge-two.Post
-judge-two-tail-requires-2 t c κs = search needs
-
-judge-two-tail-sizes-requires-2 : (t : ℕ) → judge-two-lts.Need-tail-sizes-requires-2 (judge-two-claims t) (judge-two-at t) judge-two.Post
-judge-two-tail-sizes-requires-2 t c κs = search needs
-
-judge-two-byte-requires-2 : (t : ℕ) → judge-two-lts.Need-byte-requires-2 (judge-two-claims t) (judge-two-at t) judge-two.Post
-judge-two-byte-requires-2 t c κs = search needs
 
 judge-two-judge-at-requires : (t : ℕ) → judge-two-lts.Need-judge-at-requires (judge-two-claims t) (judge-two-at t) judge-two.Post
 judge-two-judge-at-requires t c κs =
@@ -292,9 +202,6 @@ judge-two-judge-at-requires-2 t c κs =
     let c₃ = c .before .before .before in let judge-at = c₃ .judge-at in
     let c₁₈ = c₃ .before .before .before .before .before .before .before .before .before .before .before .before .before .before .before in let pre = c₁₈ .pre in
     (omega (arith, pre .0), (omega (arith, pre .1 .0), pre .1 .1, pre .1 .2, omega (arith, pre .1 .3, judge-at .ensures .size), bits-on (pre .1 .4) (judge-at .ensures)))
-
-judge-two-same-length : (t : ℕ) → judge-two-lts.Need-same-length (judge-two-claims t) (judge-two-at t) judge-two.Post
-judge-two-same-length t c = search needs
 
 judge-two-returns : (t : ℕ) → judge-two-lts.Need-returns (judge-two-claims t) (judge-two-at t) judge-two.Post
 judge-two-returns t c =
@@ -320,9 +227,6 @@ judge-two-judge-at-requires-4 t c κs =
     let c₁₈ = c₃ .before .before .before .before .before .before .before .before .before .before .before .before .before .before .before in let pre = c₁₈ .pre in
     (omega (arith, pre .0), (omega (arith, pre .1 .0), pre .1 .1, pre .1 .2, omega (arith, pre .1 .3, judge-at3 .ensures .size), bits-on (pre .1 .4) (judge-at3 .ensures)))
 
-judge-two-same-length-2 : (t : ℕ) → judge-two-lts.Need-same-length-2 (judge-two-claims t) (judge-two-at t) judge-two.Post
-judge-two-same-length-2 t c = search needs
-
 judge-two-returns-2 : (t : ℕ) → judge-two-lts.Need-returns-2 (judge-two-claims t) (judge-two-at t) judge-two.Post
 judge-two-returns-2 t c =
     let c₆ = c .before .before .before .before .before .before in let judge-at3 = c₆ .judge-at3 in
@@ -342,65 +246,65 @@ pub +judge-at+judge-both+judge-two-spec : {M : Type 1} → statement M
     (judge-at-at t)
     judge-at.Post
     (judge-at-judge-leaf-requires t)
-    (judge-at-same-length t)
+    (λ c. search needs)
     (judge-at-returns t)
-    (judge-at-sub-l t)
-    (judge-at-condition-record-requires t)
-    (judge-at-enum-told t)
+    (λ c. search needs)
+    (λ c κs. search needs)
+    (λ c. search needs)
     (judge-at-mark-if-requires t)
-    (judge-at-enum-told-2 t)
-    (judge-at-byte-requires t)
-    (judge-at-record-length-requires t)
-    (judge-at-tail-requires t)
-    (judge-at-tail-sizes-requires t)
+    (λ c. search needs)
+    (λ c κs. search needs)
+    (λ c κs. search needs)
+    (λ c κs. search needs)
+    (λ c κs. search needs)
     (judge-at-judge-at-requires t)
-    (judge-at-enum-told-3 t)
+    (λ c. search needs)
     (judge-at-judge-both-requires t)
     (judge-at-judge-two-requires t)
-    (judge-at-enum-told-4 t)
+    (λ c. search needs)
     (judge-at-judge-two-requires-2 t)
     (judge-at-judge-both-requires-2 t)
     (judge-at-judge-leaf-requires-2 t)
-    (judge-at-same-length-2 t)
+    (λ c. search needs)
     (judge-at-returns-2 t)
-    (judge-at-same-length-3 t)
+    (λ c. search needs)
     (judge-at-returns-3 t)
-    (judge-at-same-length-4 t)
+    (λ c. search needs)
     (judge-at-returns-4 t)
-    (judge-at-same-length-5 t)
+    (λ c. search needs)
     (judge-at-returns-5 t)
-    (judge-at-same-length-6 t)
+    (λ c. search needs)
     (judge-at-returns-6 t)
-    (judge-at-same-length-7 t)
+    (λ c. search needs)
     (judge-at-returns-7 t)
-    (judge-at-same-length-8 t)
+    (λ c. search needs)
     (judge-at-returns-8 t))
     (λ t. judge-both-lts.spec (judge-both-claims t)
     (judge-both-at t)
     judge-both.Post
-    (judge-both-slice-aggregate-judge-two t)
+    (λ c. search needs)
     (judge-both-judge-two-requires t)
-    (judge-both-slice-aggregate-mark-others t)
+    (λ c. search needs)
     (judge-both-mark-others-requires t)
-    (judge-both-same-length t)
+    (λ c. search needs)
     (judge-both-returns t))
     λ t. judge-two-lts.spec (judge-two-claims t)
     (judge-two-at t)
     judge-two.Post
-    (judge-two-byte-requires t)
-    (judge-two-record-length-requires t)
-    (judge-two-size-at-requires t)
-    (judge-two-add-b t)
-    (judge-two-tail-requires t)
-    (judge-two-tail-sizes-requires t)
-    (judge-two-tail-requires-2 t)
-    (judge-two-tail-sizes-requires-2 t)
-    (judge-two-byte-requires-2 t)
+    (λ c κs. search needs)
+    (λ c κs. search needs)
+    (λ c κs. search needs)
+    (λ c. search needs)
+    (λ c κs. search needs)
+    (λ c κs. search needs)
+    (λ c κs. search needs)
+    (λ c κs. search needs)
+    (λ c κs. search needs)
     (judge-two-judge-at-requires t)
     (judge-two-judge-at-requires-2 t)
-    (judge-two-same-length t)
+    (λ c. search needs)
     (judge-two-returns t)
     (judge-two-judge-at-requires-3 t)
     (judge-two-judge-at-requires-4 t)
-    (judge-two-same-length-2 t)
+    (λ c. search needs)
     (judge-two-returns-2 t)

@@ -23,32 +23,14 @@ abbrev μ-loop : tie.MeasureT-loop
 loop-holds : tie.Need-loop-holds Inv-loop μ-loop
 loop-holds c = (omega arith, marked-none _ (now (c .before .before .args .marks)))
 
-slice-read-joined : tie.Need-slice-read-joined Inv-loop μ-loop
-slice-read-joined c = search needs
-
-shared-slice-read-joined : tie.Need-shared-slice-read-joined Inv-loop μ-loop
-shared-slice-read-joined c = search needs
-
 joined-requires : tie.Need-joined-requires Inv-loop μ-loop
 joined-requires c κs = let c₃ = c .before .before .before in bits-on (c₃ .before .before .before .pre .2) (c₃ .loop .inv .1) (c₃ .loop .i)
-
-slice-write-marks : tie.Need-slice-write-marks Inv-loop μ-loop
-slice-write-marks c = search needs
-
-add-i : tie.Need-add-i Inv-loop μ-loop
-add-i c = search needs
-
-loop-less : tie.Need-loop-less Inv-loop μ-loop
-loop-less c = search needs
 
 loop-again : tie.Need-loop-again Inv-loop μ-loop
 loop-again c =
     let c₃ = c .before .before .before in let c₄ = c₃ .before in let loop = c₄ .loop in
     let c₇ = c₄ .before .before .before in let args = c₇ .args in let pre = c₇ .pre in
     (omega (arith, c₃ .loop-test .taken), marked-next _ (loop .i) (now (args .marks)) (loop .marks) _ (omega (arith, c₃ .loop-test .taken, pre .1)) (loop .inv .1) (c .joined .ensures))
-
-same-length : tie.Need-same-length Inv-loop μ-loop
-same-length c = search needs
 
 returns : tie.Need-returns Inv-loop μ-loop
 returns c = let loop = c .before .loop in marked-same (loop .inv .1) (omega (arith, loop .inv .0, c .loop-test .left)) (λ i h. refl)
@@ -60,12 +42,12 @@ mark-others-spec =
     Inv-loop
     μ-loop
     loop-holds
-    slice-read-joined
-    shared-slice-read-joined
+    (λ c. search needs)
+    (λ c. search needs)
     joined-requires
-    slice-write-marks
-    add-i
-    loop-less
+    (λ c. search needs)
+    (λ c. search needs)
+    (λ c. search needs)
     loop-again
-    same-length
+    (λ c. search needs)
     returns)

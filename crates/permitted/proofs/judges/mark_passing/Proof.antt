@@ -40,35 +40,17 @@ shared-slice-copy-out-scaled c =
     let loop = c .before .loop in
     omega (arith, loop .inv .0, pre .1 (loop .i) (c .loop-test .taken))
 
-scaled-requires : tie.Need-scaled-requires Inv-loop μ-loop
-scaled-requires c κs = search needs
-
-slice-read-joined : tie.Need-slice-read-joined Inv-loop μ-loop
-slice-read-joined c = search needs
-
-between-requires : tie.Need-between-requires Inv-loop μ-loop
-between-requires c κs = search needs
-
 joined-requires : tie.Need-joined-requires Inv-loop μ-loop
 joined-requires c κs =
     let c₅ = c .before .before .before .before .before in let loop = c₅ .loop in
     let c₉ = c₅ .before .before .before .before in let args = c₉ .args in let pre = c₉ .pre in
     bits-on (pre .7) (loop .inv .2) (loop .i)
 
-slice-write-marks : tie.Need-slice-write-marks Inv-loop μ-loop
-slice-write-marks c = search needs
-
 add-at : tie.Need-add-at Inv-loop μ-loop
 add-at c =
     let c₆ = c .before .before .before .before .before .before in let loop = c₆ .loop in
     let c₁₀ = c₆ .before .before .before .before in let args = c₁₀ .args in let pre = c₁₀ .pre in
     omega (arith, loop .inv .0, pre .1 (loop .i) (c .before .before .before .before .before .loop-test .taken), pre .2, pre .3)
-
-add-i : tie.Need-add-i Inv-loop μ-loop
-add-i c = search needs
-
-loop-less : tie.Need-loop-less Inv-loop μ-loop
-loop-less c = search needs
 
 loop-again : tie.Need-loop-again Inv-loop μ-loop
 loop-again c =
@@ -79,9 +61,6 @@ loop-again c =
     let test = args .test in
     let scale = toZ w64 (ofZ w64 (test .scale)) in
     (step (args .from) (args .width) (loop .i) (loop .at) (loop .inv .0), omega (arith, c₅ .loop-test .taken), marked-next _ (loop .i) (now (args .marks)) (loop .marks) _ (omega (arith, c₅ .loop-test .taken, pre .0)) (loop .inv .2) (row-joined (now (args .values)) (args .from) (args .width) (loop .i) (loop .at) _ _ (test .above) (test .below) (test .wanted) (c .before .between .result) (toZ w64 (ofZ w64 (test .number))) scale _ _ (c .joined .ensures) (c .before .between .ensures) (toZ-ofZ {w = w64} (record { sfits = c₃ .scaled .ok }) ∙ c₃ .scaled .ensures) (toZ-ofZ {w = w32} (record { sfits = c₃ .before .scaled-arg .given })) (loop .inv .0)))
-
-same-length : tie.Need-same-length Inv-loop μ-loop
-same-length c = search needs
 
 returns : tie.Need-returns Inv-loop μ-loop
 returns c =
@@ -99,14 +78,14 @@ mark-passing-spec =
     loop-holds
     mul-scaled
     shared-slice-copy-out-scaled
-    scaled-requires
-    slice-read-joined
-    between-requires
+    (λ c κs. search needs)
+    (λ c. search needs)
+    (λ c κs. search needs)
     joined-requires
-    slice-write-marks
+    (λ c. search needs)
     add-at
-    add-i
-    loop-less
+    (λ c. search needs)
+    (λ c. search needs)
     loop-again
-    same-length
+    (λ c. search needs)
     returns)

@@ -35,12 +35,6 @@ place-of-requires : tie.Need-place-of-requires Inv-loop μ-loop
 place-of-requires c κs = let pre = c .before .before .before .before .before .before .before .before .before .before .before .pre in
     (pre .1, omega (arith, pre .1 .count, c .loop-test .taken))
 
-array-write-env : tie.Need-array-write-env Inv-loop μ-loop
-array-write-env c = search needs
-
-slice-aggregate-leads : tie.Need-slice-aggregate-leads Inv-loop μ-loop
-slice-aggregate-leads c = search needs
-
 leads-requires : tie.Need-leads-requires Inv-loop μ-loop
 leads-requires c κs = let place-of = c .before .place-of in
     let loop = c .before .before .before .loop in
@@ -88,9 +82,6 @@ loop-again c = let joined = c .before .before .joined in
     let vs = now (args .values) in
     (c .unmarked2 .ensures .0 .1, ap (λ (u : List ℕ). set u 0 (length vs)) (leads .ensures .1) ∙ set-set (loop .env) 0 (place-of .result) (length vs) ∙ loop .inv .1, ap length (leads .ensures .1) ∙ length-set (loop .env) 0 (place-of .result) ∙ loop .inv .2, marked-over (pre .3) (row-marked (now (args .t)) (args .trial .start) (now (args .q)) (now (args .z)) (now (args .walks)) vs (now (args .memo)) (loop .env) _ (args .trial .walk) (now (args .marks)) (loop .marks) (loop .i) (place-of .result) (joined .result) (leads .result) (omega (arith, loop .inv .2)) (omega (arith, pre .2, loop-test .taken)) (loop .inv .1) (place-of .ensures) refl (leads .ensures .0) (joined .ensures) (loop .inv .3)) (c .unmarked2 .ensures .0 .0) (c .unmarked2 .ensures .1))
 
-same-length : tie.Need-same-length Inv-loop μ-loop
-same-length c = search needs
-
 returns : tie.Need-returns Inv-loop μ-loop
 returns c = marked-same (c .before .loop .inv .3) (omega (arith, c .before .loop .inv .0, c .loop-test .left)) (λ i h. refl)
 
@@ -103,8 +94,8 @@ mark-rows-spec =
     unmarked-requires
     loop-holds
     place-of-requires
-    array-write-env
-    slice-aggregate-leads
+    (λ c. search needs)
+    (λ c. search needs)
     leads-requires
     slice-read-joined
     joined-requires
@@ -113,5 +104,5 @@ mark-rows-spec =
     unmarked-requires-2
     loop-less
     loop-again
-    same-length
+    (λ c. search needs)
     returns)

@@ -26,17 +26,11 @@ digits-below t = and 1 digits-kinds.ps (falls 1 digits-kinds.ps _<_ μ-digits t)
 abbrev digits-claims : ℕ → digits-lts.Claims
 digits-claims t = (digit-reads.Asked, digit-reads.Learnt, put-reads.Asked, put-reads.Learnt, digits-below t, digits.Post)
 
-digits-digit-requires : (t : ℕ) → digits-lts.Need-digit-requires (digits-claims t) (digits-at t) digits.Post
-digits-digit-requires t c κs = search needs
-
 digits-put-requires : (t : ℕ) → digits-lts.Need-put-requires (digits-claims t) (digits-at t) digits.Post
 digits-put-requires t c κs =
     let c₄ = c .before .before .before .before in let args = c₄ .args in let pre = c₄ .pre in
     let k = args .k in let n = args .n in
     one-room (T.digits k n) _ 0 (last k n (c .before .before .if1 .taken)) (args .at) (pre .1)
-
-digits-same-length : (t : ℕ) → digits-lts.Need-same-length (digits-claims t) (digits-at t) digits.Post
-digits-same-length t c = search needs
 
 digits-returns : (t : ℕ) → digits-lts.Need-returns (digits-claims t) (digits-at t) digits.Post
 digits-returns t c =
@@ -46,17 +40,11 @@ digits-returns t c =
     let k = args .k in let n = args .n in
     one-wrote (T.digits k n) _ _ (last k n (if1 .taken)) (now (args .out)) (args .at) _ _ (digit .ensures) (c .before .before .put .ensures)
 
-digits-digit-requires-2 : (t : ℕ) → digits-lts.Need-digit-requires-2 (digits-claims t) (digits-at t) digits.Post
-digits-digit-requires-2 t c κs = search needs
-
 digits-put-requires-2 : (t : ℕ) → digits-lts.Need-put-requires-2 (digits-claims t) (digits-at t) digits.Post
 digits-put-requires-2 t c κs =
     let c₅ = c .before .before .before .before .before in let args = c₅ .args in let pre = c₅ .pre in
     let k = args .k in let n = args .n in
     one-room (T.digits k n) _ 0 (small k n (c .before .before .if2 .taken)) (args .at) (pre .1)
-
-digits-same-length-2 : (t : ℕ) → digits-lts.Need-same-length-2 (digits-claims t) (digits-at t) digits.Post
-digits-same-length-2 t c = search needs
 
 digits-returns-2 : (t : ℕ) → digits-lts.Need-returns-2 (digits-claims t) (digits-at t) digits.Post
 digits-returns-2 t c =
@@ -66,17 +54,11 @@ digits-returns-2 t c =
     let k = args .k in let n = args .n in
     one-wrote (T.digits k n) _ _ (small k n (if2 .taken)) (now (args .out)) (args .at) _ _ (digit2 .ensures) (c .before .before .put2 .ensures)
 
-digits-sub-digits : (t : ℕ) → digits-lts.Need-sub-digits (digits-claims t) (digits-at t) digits.Post
-digits-sub-digits t c = search needs
-
 digits-digits-requires : (t : ℕ) → digits-lts.Need-digits-requires (digits-claims t) (digits-at t) digits.Post
 digits-digits-requires t c κs =
     let c₄ = c .before .before .before .before in let args = c₄ .args in let pre = c₄ .pre in
     let k = args .k in let n = args .n in
     (omega arith, front-room (T.digits k n) (T.digits (k - 1) (n / 10)) _ (more k n (c .before .before .if1 .left) (c .before .if2 .left)) (args .at) (pre .1))
-
-digits-digit-requires-3 : (t : ℕ) → digits-lts.Need-digit-requires-3 (digits-claims t) (digits-at t) digits.Post
-digits-digit-requires-3 t c κs = search needs
 
 digits-put-requires-3 : (t : ℕ) → digits-lts.Need-put-requires-3 (digits-claims t) (digits-at t) digits.Post
 digits-put-requires-3 t c κs =
@@ -86,9 +68,6 @@ digits-put-requires-3 t c κs =
     let c₉ = c₇ .before .before in let args = c₉ .args in let pre = c₉ .pre in
     let k = args .k in let n = args .n in
     end-room (T.digits k n) (T.digits (k - 1) (n / 10)) _ (more k n (if1 .left) (if2 .left)) (args .at) _ (pre .1) (digits .ensures .0)
-
-digits-same-length-3 : (t : ℕ) → digits-lts.Need-same-length-3 (digits-claims t) (digits-at t) digits.Post
-digits-same-length-3 t c = search needs
 
 digits-returns-3 : (t : ℕ) → digits-lts.Need-returns-3 (digits-claims t) (digits-at t) digits.Post
 digits-returns-3 t c =
@@ -104,17 +83,17 @@ pub +digits-spec : {M : Type 1} → statement M
 +digits-spec = close μ-digits λ t. digits-lts.spec (digits-claims t)
     (digits-at t)
     digits.Post
-    (digits-digit-requires t)
+    (λ c κs. search needs)
     (digits-put-requires t)
-    (digits-same-length t)
+    (λ c. search needs)
     (digits-returns t)
-    (digits-digit-requires-2 t)
+    (λ c κs. search needs)
     (digits-put-requires-2 t)
-    (digits-same-length-2 t)
+    (λ c. search needs)
     (digits-returns-2 t)
-    (digits-sub-digits t)
+    (λ c. search needs)
     (digits-digits-requires t)
-    (digits-digit-requires-3 t)
+    (λ c κs. search needs)
     (digits-put-requires-3 t)
-    (digits-same-length-3 t)
+    (λ c. search needs)
     (digits-returns-3 t)

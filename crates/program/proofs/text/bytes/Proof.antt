@@ -16,15 +16,6 @@ Inv-loop items out₀ at to₀ i₀ out to i =
 abbrev μ-loop : tie.MeasureT-loop
 μ-loop items out₀ at to₀ i₀ out to i = length items - i
 
-loop-holds : tie.Need-loop-holds Inv-loop μ-loop
-loop-holds c = search needs
-
-shared-slice-read-wide : tie.Need-shared-slice-read-wide Inv-loop μ-loop
-shared-slice-read-wide c = search needs
-
-wide-requires : tie.Need-wide-requires Inv-loop μ-loop
-wide-requires c κs = search needs
-
 decimal-requires : tie.Need-decimal-requires Inv-loop μ-loop
 decimal-requires c κs =
     let c₁ = c .before in let wide = c₁ .wide in
@@ -33,15 +24,6 @@ decimal-requires c κs =
     let c₇ = c₄ .before .before .before in let args = c₇ .args in let pre = c₇ .pre in
     let items = now (args .items) in
     item-room T.decimal items (loop .i) 0 (loop-test .taken) (T.decimal (wide .result)) (ap T.decimal (wide .ensures)) (now (args .out)) (T.line T.decimal items) (loop .out) (args .at) (loop .to) (loop .inv .0) (pre)
-
-add-i : tie.Need-add-i Inv-loop μ-loop
-add-i c = search needs
-
-sub-gap : tie.Need-sub-gap Inv-loop μ-loop
-sub-gap c = search needs
-
-gap-requires : tie.Need-gap-requires Inv-loop μ-loop
-gap-requires c κs = search needs
 
 put-requires : tie.Need-put-requires Inv-loop μ-loop
 put-requires c κs =
@@ -52,9 +34,6 @@ put-requires c κs =
     let c₁₂ = c₉ .before .before .before in let args = c₁₂ .args in let pre = c₁₂ .pre in
     let items = now (args .items) in
     gap-room T.decimal items (loop .i) 0 (loop-test .taken) (T.decimal (wide .result)) (ap T.decimal (wide .ensures)) (now (args .out)) (T.line T.decimal items) (loop .out) (args .at) (loop .to) (loop .inv .0) (pre) _ _ (decimal .ensures)
-
-loop-less : tie.Need-loop-less Inv-loop μ-loop
-loop-less c = search needs
 
 loop-again : tie.Need-loop-again Inv-loop μ-loop
 loop-again c =
@@ -67,9 +46,6 @@ loop-again c =
     let c₁₅ = c₁₂ .before .before .before in let args = c₁₅ .args in
     let items = now (args .items) in
     (item-left T.decimal items (loop .i) 0 (loop-test .taken) (T.decimal (wide .result)) (ap T.decimal (wide .ensures)) (now (args .out)) (T.line T.decimal items) (loop .out) (args .at) (loop .to) (loop .inv .0) _ _ _ _ _ (decimal .ensures) (gap .ensures) (put .ensures .0, put .ensures .1), put .kept .0 ∙ decimal .kept .1 .0 ∙ loop .inv .1)
-
-same-length : tie.Need-same-length Inv-loop μ-loop
-same-length c = search needs
 
 returns : tie.Need-returns Inv-loop μ-loop
 returns c =
@@ -84,15 +60,15 @@ bytes-spec =
     (tie.spec
     Inv-loop
     μ-loop
-    loop-holds
-    shared-slice-read-wide
-    wide-requires
+    (λ c. search needs)
+    (λ c. search needs)
+    (λ c κs. search needs)
     decimal-requires
-    add-i
-    sub-gap
-    gap-requires
+    (λ c. search needs)
+    (λ c. search needs)
+    (λ c κs. search needs)
     put-requires
-    loop-less
+    (λ c. search needs)
     loop-again
-    same-length
+    (λ c. search needs)
     returns)

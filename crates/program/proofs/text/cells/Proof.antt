@@ -19,30 +19,12 @@ Inv-loop items out₀ at to₀ i₀ out to i =
 abbrev μ-loop : tie.MeasureT-loop
 μ-loop items out₀ at to₀ i₀ out to i = length items - i
 
-loop-holds : tie.Need-loop-holds Inv-loop μ-loop
-loop-holds c = search needs
-
-mul-item : tie.Need-mul-item Inv-loop μ-loop
-mul-item c = search needs
-
-shared-slice-copy-out-item : tie.Need-shared-slice-copy-out-item Inv-loop μ-loop
-shared-slice-copy-out-item c = search needs
-
 signed-requires : tie.Need-signed-requires Inv-loop μ-loop
 signed-requires c κs =
     let c₃ = c .before .before .before in let loop = c₃ .loop in
     let c₅ = c₃ .before .before in let args = c₅ .args in let pre = c₅ .pre in
     let items = now (args .items) in
     item-room T.signed items (loop .i) (pos 0) (c .before .before .loop-test .taken) _ (ap T.signed (toZ-ofZ {w = w64} (record { sfits = c .before .item .given }))) (now (args .out)) (T.line T.signed items) (loop .out) (args .at) (loop .to) (loop .inv .0) (pre)
-
-add-i : tie.Need-add-i Inv-loop μ-loop
-add-i c = search needs
-
-sub-gap : tie.Need-sub-gap Inv-loop μ-loop
-sub-gap c = search needs
-
-gap-requires : tie.Need-gap-requires Inv-loop μ-loop
-gap-requires c κs = search needs
 
 put-requires : tie.Need-put-requires Inv-loop μ-loop
 put-requires c κs =
@@ -53,9 +35,6 @@ put-requires c κs =
     let c₁₀ = c₈ .before .before in let args = c₁₀ .args in let pre = c₁₀ .pre in
     let items = now (args .items) in
     gap-room T.signed items (loop .i) (pos 0) (loop-test .taken) _ (ap T.signed (toZ-ofZ {w = w64} (record { sfits = item .given }))) (now (args .out)) (T.line T.signed items) (loop .out) (args .at) (loop .to) (loop .inv .0) (pre) _ _ (signed .ensures)
-
-loop-less : tie.Need-loop-less Inv-loop μ-loop
-loop-less c = search needs
 
 loop-again : tie.Need-loop-again Inv-loop μ-loop
 loop-again c =
@@ -68,9 +47,6 @@ loop-again c =
     let c₁₃ = c₁₁ .before .before in let args = c₁₃ .args in
     let items = now (args .items) in
     (item-left T.signed items (loop .i) (pos 0) (loop-test .taken) _ (ap T.signed (toZ-ofZ {w = w64} (record { sfits = item .given }))) (now (args .out)) (T.line T.signed items) (loop .out) (args .at) (loop .to) (loop .inv .0) _ _ _ _ _ (signed .ensures) (gap .ensures) (put .ensures .0, put .ensures .1), put .kept .0 ∙ signed .kept .1 .0 ∙ loop .inv .1)
-
-same-length : tie.Need-same-length Inv-loop μ-loop
-same-length c = search needs
 
 returns : tie.Need-returns Inv-loop μ-loop
 returns c =
@@ -85,15 +61,15 @@ cells-spec =
     (tie.spec
     Inv-loop
     μ-loop
-    loop-holds
-    mul-item
-    shared-slice-copy-out-item
+    (λ c. search needs)
+    (λ c. search needs)
+    (λ c. search needs)
     signed-requires
-    add-i
-    sub-gap
-    gap-requires
+    (λ c. search needs)
+    (λ c. search needs)
+    (λ c κs. search needs)
     put-requires
-    loop-less
+    (λ c. search needs)
     loop-again
-    same-length
+    (λ c. search needs)
     returns)

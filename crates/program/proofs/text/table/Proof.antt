@@ -17,20 +17,8 @@ Inv-loop rows columns answer out₀ at to₀ from₀ left₀ out to from left =
 abbrev μ-loop : tie.MeasureT-loop
 μ-loop rows columns answer out₀ at to₀ from₀ left₀ out to from left = left
 
-loop-holds : tie.Need-loop-holds Inv-loop μ-loop
-loop-holds c = search needs
-
 add-end : tie.Need-add-end Inv-loop μ-loop
 add-end c = omega (arith, (row-room (c .before .loop .from) (c .before .loop .left) (c .before .before .before .args .columns) (length (now (c .before .before .before .args .answer))) (c .loop-test .taken) (c .before .loop .inv .1)))
-
-mul-cells : tie.Need-mul-cells Inv-loop μ-loop
-mul-cells c = search needs
-
-sub-cells : tie.Need-sub-cells Inv-loop μ-loop
-sub-cells c = search needs
-
-part-cells-start : tie.Need-part-cells-start Inv-loop μ-loop
-part-cells-start c = search needs
 
 part-cells-end : tie.Need-part-cells-end Inv-loop μ-loop
 part-cells-end c = (row-room (c .before .loop .from) (c .before .loop .left) (c .before .before .before .args .columns) (length (now (c .before .before .before .args .answer))) (c .loop-test .taken) (c .before .loop .inv .1))
@@ -42,12 +30,6 @@ cells-requires c κs =
     let answer = now (args .answer) in let columns = args .columns in
     left-room (now (args .out)) (args .at) (T.table (args .rows) columns answer) (loop .out) (loop .to) _ (T.line T.signed (take (loop .from + columns - loop .from) (drop (loop .from) answer))) (T.table (loop .left - 1) columns (drop (loop .from + columns) answer)) (table-step (loop .left) columns (loop .from) answer (c .before .before .loop-test .taken)) (loop .inv .0) (pre .1)
 
-sub-left : tie.Need-sub-left Inv-loop μ-loop
-sub-left c = search needs
-
-loop-less : tie.Need-loop-less Inv-loop μ-loop
-loop-less c = search needs
-
 loop-again : tie.Need-loop-again Inv-loop μ-loop
 loop-again c =
     let c₂ = c .before .before in let cells = c₂ .cells in
@@ -56,9 +38,6 @@ loop-again c =
     let c₈ = c₆ .before .before in let args = c₈ .args in
     let answer = now (args .answer) in let columns = args .columns in
     (left-then (now (args .out)) (args .at) (T.table (args .rows) columns answer) (loop .out) (loop .to) _ (T.line T.signed (take (loop .from + columns - loop .from) (drop (loop .from) answer))) (T.table (loop .left - 1) columns (drop (loop .from + columns) answer)) _ _ (table-step (loop .left) columns (loop .from) answer (loop-test .taken)) (loop .inv .0) (cells .ensures), rows-room (loop .from) (loop .left) columns (length answer) (loop-test .taken) (loop .inv .1), cells .kept .1 .0 ∙ loop .inv .2)
-
-same-length : tie.Need-same-length Inv-loop μ-loop
-same-length c = search needs
 
 returns : tie.Need-returns Inv-loop μ-loop
 returns c =
@@ -73,15 +52,15 @@ table-spec =
     (tie.spec
     Inv-loop
     μ-loop
-    loop-holds
+    (λ c. search needs)
     add-end
-    mul-cells
-    sub-cells
-    part-cells-start
+    (λ c. search needs)
+    (λ c. search needs)
+    (λ c. search needs)
     part-cells-end
     cells-requires
-    sub-left
-    loop-less
+    (λ c. search needs)
+    (λ c. search needs)
     loop-again
-    same-length
+    (λ c. search needs)
     returns)

@@ -20,9 +20,6 @@ loop-holds c = (ran-start (now (c .before .before .args .kinds)) (c .before .bef
 shared-slice-read-next : tie.Need-shared-slice-read-next Inv-loop μ-loop
 shared-slice-read-next c = omega (arith, c .before .loop-test .taken, c .before .before .before .before .before .pre .0 .0)
 
-next-requires : tie.Need-next-requires Inv-loop μ-loop
-next-requires c κs = search needs
-
 add-i : tie.Need-add-i Inv-loop μ-loop
 add-i c =
     let c₃ = c .before .before .before in let loop = c₃ .loop in
@@ -79,12 +76,6 @@ loop-again-2 c =
     let c₉ = c₆ .before .before .before in let args = c₉ .args in let pre = c₉ .pre in
     (ran-more (now (args .kinds)) (args .n) (loop .stack) (loop .mode) (loop .depth) (loop .i) (loop .inv .0) (loop-test .taken) (next .result) (next .ensures) (omega (arith, loop .inv .1, pre .1 .0)) (c .moved .result .mode) (c .moved .result .depth) (c .moved .ensures .0) (c .moved .ensures .1), length-set (loop .stack) _ _ ∙ loop .inv .1)
 
-ends-requires : tie.Need-ends-requires Inv-loop μ-loop
-ends-requires c κs = search needs
-
-same-length : tie.Need-same-length Inv-loop μ-loop
-same-length c = search needs
-
 returns : tie.Need-returns Inv-loop μ-loop
 returns c =
     let c₂ = c .before .before in let loop = c₂ .loop in
@@ -99,7 +90,7 @@ run-spec =
     μ-loop
     loop-holds
     shared-slice-read-next
-    next-requires
+    (λ c κs. search needs)
     add-i
     loop-less
     loop-again
@@ -109,6 +100,6 @@ run-spec =
     moved-requires
     loop-less-2
     loop-again-2
-    ends-requires
-    same-length
+    (λ c κs. search needs)
+    (λ c. search needs)
     returns)

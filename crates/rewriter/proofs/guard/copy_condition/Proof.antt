@@ -27,15 +27,6 @@ abbrev μ-loop : tie.MeasureT-loop
 loop-holds : tie.Need-loop-holds Inv-loop μ-loop
 loop-holds c = (copy-start (now (c .before .before .args .out)) (now (c .before .before .args .condition)) (c .before .before .args .variable) (c .before .before .args .next) (c .before .before .args .at), refl)
 
-tail-requires : tie.Need-tail-requires Inv-loop μ-loop
-tail-requires c κs = search needs
-
-read-requires : tie.Need-read-requires Inv-loop μ-loop
-read-requires c κs = search needs
-
-renamed-requires : tie.Need-renamed-requires Inv-loop μ-loop
-renamed-requires c κs = search needs
-
 put-record-requires : tie.Need-put-record-requires Inv-loop μ-loop
 put-record-requires c κs =
     let c₃ = c .before .before .before in let tail = c₃ .tail in
@@ -43,15 +34,6 @@ put-record-requires c κs =
     let c₅ = c₄ .before in let loop = c₅ .loop in
     let c₈ = c₅ .before .before .before in let args = c₈ .args in let pre = c₈ .pre in
     copy-room (now (args .condition)) (args .variable) (args .next) (loop .i) _ (loop-test .taken) refl _ (tail .ensures) _ (c .renamed .result) (c .before .before .read .ensures) (c .renamed .ensures) (now (args .out)) (args .at) (loop .out) (loop .to) (loop .inv .0) (pre .0)
-
-step-requires : tie.Need-step-requires Inv-loop μ-loop
-step-requires c κs = search needs
-
-add-i : tie.Need-add-i Inv-loop μ-loop
-add-i c = search needs
-
-loop-less : tie.Need-loop-less Inv-loop μ-loop
-loop-less c = search needs
 
 loop-again : tie.Need-loop-again Inv-loop μ-loop
 loop-again c =
@@ -81,13 +63,13 @@ copy-condition-spec =
     Inv-loop
     μ-loop
     loop-holds
-    tail-requires
-    read-requires
-    renamed-requires
+    (λ c κs. search needs)
+    (λ c κs. search needs)
+    (λ c κs. search needs)
     put-record-requires
-    step-requires
-    add-i
-    loop-less
+    (λ c κs. search needs)
+    (λ c. search needs)
+    (λ c. search needs)
     loop-again
     same-length
     returns)

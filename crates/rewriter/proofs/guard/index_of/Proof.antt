@@ -26,12 +26,6 @@ abbrev μ-loop : tie.MeasureT-loop
 loop-holds : tie.Need-loop-holds Inv-loop μ-loop
 loop-holds c = (omega arith, omega arith)
 
-binding-requires : tie.Need-binding-requires Inv-loop μ-loop
-binding-requires c κs = search needs
-
-binds-requires : tie.Need-binds-requires Inv-loop μ-loop
-binds-requires c κs = search needs
-
 returns : tie.Need-returns Inv-loop μ-loop
 returns c =
     let c₂ = c .before .before in let binding = c₂ .binding in
@@ -39,24 +33,6 @@ returns c =
     let c₄ = c₃ .before in let loop = c₄ .loop in
     let c₆ = c₄ .before .before in let args = c₆ .args in
     index-found (now (args .q)) (loop .at) (loop-test .taken) (binding .result) (binding .ensures) (args .w) _ (c .if1 .taken) (c .before .binds .ensures) _ _ (loop .inv .0)
-
-binding-requires-2 : tie.Need-binding-requires-2 Inv-loop μ-loop
-binding-requires-2 c κs = search needs
-
-one-requires : tie.Need-one-requires Inv-loop μ-loop
-one-requires c κs = search needs
-
-add-i : tie.Need-add-i Inv-loop μ-loop
-add-i c = search needs
-
-step-requires : tie.Need-step-requires Inv-loop μ-loop
-step-requires c κs = search needs
-
-add-at : tie.Need-add-at Inv-loop μ-loop
-add-at c = search needs
-
-loop-less : tie.Need-loop-less Inv-loop μ-loop
-loop-less c = search needs
 
 loop-again : tie.Need-loop-again Inv-loop μ-loop
 loop-again c =
@@ -79,14 +55,14 @@ index-of-spec =
     Inv-loop
     μ-loop
     loop-holds
-    binding-requires
-    binds-requires
+    (λ c κs. search needs)
+    (λ c κs. search needs)
     returns
-    binding-requires-2
-    one-requires
-    add-i
-    step-requires
-    add-at
-    loop-less
+    (λ c κs. search needs)
+    (λ c κs. search needs)
+    (λ c. search needs)
+    (λ c κs. search needs)
+    (λ c. search needs)
+    (λ c. search needs)
     loop-again
     returns-2)

@@ -24,9 +24,6 @@ loop-holds c =
     let c₃ = c .before .before .before in let args = c₃ .args in
     (state-start (now (args .out)) (args .at) (args .mask) (part (now (args .permits)) (now (args .places))) (args .variable) (args .next), refl)
 
-condition-of-requires : tie.Need-condition-of-requires Inv-loop μ-loop
-condition-of-requires c κs = search needs
-
 write-turn-requires : tie.Need-write-turn-requires Inv-loop μ-loop
 write-turn-requires c κs =
     let c₃ = c .before .before .before in let loop = c₃ .loop in
@@ -64,7 +61,7 @@ write-guard-spec =
     Inv-loop
     μ-loop
     loop-holds
-    condition-of-requires
+    (λ c κs. search needs)
     write-turn-requires
     add-k
     loop-less

@@ -15,23 +15,8 @@ Inv-loop display₀ i₀ display i = (display ≡ replicate i 32 ++ drop i displ
 abbrev μ-loop : tie.MeasureT-loop
 μ-loop display₀ i₀ display i = length display₀ - i
 
-loop-holds : tie.Need-loop-holds Inv-loop μ-loop
-loop-holds c = search needs
-
-slice-write-display : tie.Need-slice-write-display Inv-loop μ-loop
-slice-write-display c = search needs
-
-add-i : tie.Need-add-i Inv-loop μ-loop
-add-i c = search needs
-
-loop-less : tie.Need-loop-less Inv-loop μ-loop
-loop-less c = search needs
-
 loop-again : tie.Need-loop-again Inv-loop μ-loop
 loop-again c = (blank-turn 32 (now (c .before .before .args .display)) (c .before .loop .i) (c .before .loop .display) (c .before .loop .inv .0) (omega arith), omega arith, length-set (c .before .loop .display) (c .before .loop .i) 32 ∙ c .before .loop .inv .2)
-
-same-length : tie.Need-same-length Inv-loop μ-loop
-same-length c = search needs
 
 returns : tie.Need-returns Inv-loop μ-loop
 returns c = blank-done 32 (now (c .before .before .args .display)) (c .before .loop .i) (c .before .loop .display) (c .before .loop .inv .0) (omega arith)
@@ -42,10 +27,10 @@ blank-display-spec =
     (tie.spec
     Inv-loop
     μ-loop
-    loop-holds
-    slice-write-display
-    add-i
-    loop-less
+    (λ c. search needs)
+    (λ c. search needs)
+    (λ c. search needs)
+    (λ c. search needs)
     loop-again
-    same-length
+    (λ c. search needs)
     returns)

@@ -16,26 +16,8 @@ Inv-loop offers₀ i₀ offers i = (offers ≡ replicate i (negsuc 0) ++ drop i 
 abbrev μ-loop : tie.MeasureT-loop
 μ-loop offers₀ i₀ offers i = length offers₀ - i
 
-loop-holds : tie.Need-loop-holds Inv-loop μ-loop
-loop-holds c = search needs
-
-mul-offers : tie.Need-mul-offers Inv-loop μ-loop
-mul-offers c = search needs
-
-slice-set-of-offers : tie.Need-slice-set-of-offers Inv-loop μ-loop
-slice-set-of-offers c = search needs
-
-add-i : tie.Need-add-i Inv-loop μ-loop
-add-i c = search needs
-
-loop-less : tie.Need-loop-less Inv-loop μ-loop
-loop-less c = search needs
-
 loop-again : tie.Need-loop-again Inv-loop μ-loop
 loop-again c = (blank-turn (negsuc 0) (now (c .before .before .args .offers)) (c .before .loop .i) (c .before .loop .offers) (c .before .loop .inv .0) (omega arith), omega arith, length-set (c .before .loop .offers) (c .before .loop .i) (negsuc 0) ∙ c .before .loop .inv .2)
-
-same-length : tie.Need-same-length Inv-loop μ-loop
-same-length c = search needs
 
 returns : tie.Need-returns Inv-loop μ-loop
 returns c = blank-done (negsuc 0) (now (c .before .before .args .offers)) (c .before .loop .i) (c .before .loop .offers) (c .before .loop .inv .0) (omega arith)
@@ -46,11 +28,11 @@ blank-offers-spec =
     (tie.spec
     Inv-loop
     μ-loop
-    loop-holds
-    mul-offers
-    slice-set-of-offers
-    add-i
-    loop-less
+    (λ c. search needs)
+    (λ c. search needs)
+    (λ c. search needs)
+    (λ c. search needs)
+    (λ c. search needs)
     loop-again
-    same-length
+    (λ c. search needs)
     returns)

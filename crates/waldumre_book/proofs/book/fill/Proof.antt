@@ -22,41 +22,8 @@ abbrev μ-loop : tie.MeasureT-loop
 loop-holds : tie.Need-loop-holds Inv-loop μ-loop
 loop-holds c = (from-end (now (c .before .args .cells)) (now (c .before .args .offers)) (now (c .before .args .display)) (3 * (length (now (c .before .args .cells)) / 3 - 0)) (omega arith) (c .before .pre .1), omega arith, refl, refl)
 
-add-i : tie.Need-add-i Inv-loop μ-loop
-add-i c = search needs
-
-sub-at : tie.Need-sub-at Inv-loop μ-loop
-sub-at c = search needs
-
-mul-at : tie.Need-mul-at Inv-loop μ-loop
-mul-at c = search needs
-
-mul-label : tie.Need-mul-label Inv-loop μ-loop
-mul-label c = search needs
-
-shared-slice-copy-out-label : tie.Need-shared-slice-copy-out-label Inv-loop μ-loop
-shared-slice-copy-out-label c = search needs
-
 cast-label : tie.Need-cast-label Inv-loop μ-loop
 cast-label c = label-cast (now (c .before .before .before .before .args .cells)) (c .before .before .before .before .pre .0) (length (now (c .before .before .before .before .args .cells)) / 3 - (c .before .before .loop .i + 1)) (omega arith)
-
-add-offer : tie.Need-add-offer Inv-loop μ-loop
-add-offer c = search needs
-
-mul-offer : tie.Need-mul-offer Inv-loop μ-loop
-mul-offer c = search needs
-
-shared-slice-copy-out-offer : tie.Need-shared-slice-copy-out-offer Inv-loop μ-loop
-shared-slice-copy-out-offer c = search needs
-
-add-price : tie.Need-add-price Inv-loop μ-loop
-add-price c = search needs
-
-mul-price : tie.Need-mul-price Inv-loop μ-loop
-mul-price c = search needs
-
-shared-slice-copy-out-price : tie.Need-shared-slice-copy-out-price Inv-loop μ-loop
-shared-slice-copy-out-price c = search needs
 
 cast-price : tie.Need-cast-price Inv-loop μ-loop
 cast-price c =
@@ -93,9 +60,6 @@ put-price-requires c κs =
     let cells = now (args .cells) in
     omega (arith, label-most cells (pre .0) (length cells / 3 - (loop .i + 1)) (omega arith))
 
-loop-less : tie.Need-loop-less Inv-loop μ-loop
-loop-less c = search needs
-
 loop-again : tie.Need-loop-again Inv-loop μ-loop
 loop-again c =
     let c₂ = c .before .before in let put-price = c₂ .put-price in
@@ -104,12 +68,6 @@ loop-again c =
     let c₁₀ = c₈ .before .before in let args = c₁₀ .args in let pre = c₁₀ .pre in
     let cells = now (args .cells) in
     (from-next cells (pre .0) (length cells / 3 - (loop .i + 1)) (omega arith) (loop .offers) (loop .display) (3 * (length cells / 3 - loop .i)) (omega arith) (loop .inv .0) _ _ (toZ-ofZ {w = w64} (record { sfits = offer .given })) (put-price .ensures), omega arith, length-set (loop .offers) _ _ ∙ loop .inv .2, put-price .kept .0 ∙ loop .inv .3)
-
-same-length : tie.Need-same-length Inv-loop μ-loop
-same-length c = search needs
-
-same-length-2 : tie.Need-same-length-2 Inv-loop μ-loop
-same-length-2 c = search needs
 
 returns : tie.Need-returns Inv-loop μ-loop
 returns c = from-start (now (c .before .before .before .args .cells)) (c .before .loop .offers) (c .before .loop .display) (3 * (length (now (c .before .before .before .args .cells)) / 3 - c .before .loop .i)) (omega arith) (c .before .loop .inv .0)
@@ -121,25 +79,25 @@ fill-spec =
     Inv-loop
     μ-loop
     loop-holds
-    add-i
-    sub-at
-    mul-at
-    mul-label
-    shared-slice-copy-out-label
+    (λ c. search needs)
+    (λ c. search needs)
+    (λ c. search needs)
+    (λ c. search needs)
+    (λ c. search needs)
     cast-label
-    add-offer
-    mul-offer
-    shared-slice-copy-out-offer
-    add-price
-    mul-price
-    shared-slice-copy-out-price
+    (λ c. search needs)
+    (λ c. search needs)
+    (λ c. search needs)
+    (λ c. search needs)
+    (λ c. search needs)
+    (λ c. search needs)
     cast-price
     mul-offer-2
     slice-set-from-offer
     mul-put-price
     put-price-requires
-    loop-less
+    (λ c. search needs)
     loop-again
-    same-length
-    same-length-2
+    (λ c. search needs)
+    (λ c. search needs)
     returns)

@@ -18,39 +18,6 @@ Inv-loop cells at₀ at = (all inRange (rowsIn cells) ≡ all inRange (rowsIn (d
 abbrev μ-loop : tie.MeasureT-loop
 μ-loop cells at₀ at = length cells - at
 
-loop-holds : tie.Need-loop-holds Inv-loop μ-loop
-loop-holds c = search needs
-
-sub-loop : tie.Need-sub-loop Inv-loop μ-loop
-sub-loop c = search needs
-
-mul-label : tie.Need-mul-label Inv-loop μ-loop
-mul-label c = search needs
-
-shared-slice-copy-out-label : tie.Need-shared-slice-copy-out-label Inv-loop μ-loop
-shared-slice-copy-out-label c = search needs
-
-add-offer : tie.Need-add-offer Inv-loop μ-loop
-add-offer c = search needs
-
-mul-offer : tie.Need-mul-offer Inv-loop μ-loop
-mul-offer c = search needs
-
-shared-slice-copy-out-offer : tie.Need-shared-slice-copy-out-offer Inv-loop μ-loop
-shared-slice-copy-out-offer c = search needs
-
-add-price : tie.Need-add-price Inv-loop μ-loop
-add-price c = search needs
-
-mul-price : tie.Need-mul-price Inv-loop μ-loop
-mul-price c = search needs
-
-shared-slice-copy-out-price : tie.Need-shared-slice-copy-out-price Inv-loop μ-loop
-shared-slice-copy-out-price c = search needs
-
-in-range-requires : tie.Need-in-range-requires Inv-loop μ-loop
-in-range-requires c κs = search needs
-
 returns : tie.Need-returns Inv-loop μ-loop
 returns c =
     let c₃ = c .before .before .before in let offer = c₃ .offer in
@@ -58,12 +25,6 @@ returns c =
     let c₆ = c₄ .before .before in let loop = c₆ .loop in
     let c₇ = c₆ .before in let args = c₇ .args in
     sym (loop .inv .0 ∙ all-less (now (args .cells)) (loop .at) (omega arith) (sym (row-bits _ _ _ (record { sfits = label .given }) (record { sfits = offer .given }) (record { sfits = c .before .before .price .given })) ∙ sym (c .before .in-range .ensures) ∙ not-true _ (c .if1 .taken)))
-
-add-at : tie.Need-add-at Inv-loop μ-loop
-add-at c = search needs
-
-loop-less : tie.Need-loop-less Inv-loop μ-loop
-loop-less c = search needs
 
 loop-again : tie.Need-loop-again Inv-loop μ-loop
 loop-again c =
@@ -82,19 +43,19 @@ all-in-range-spec =
     (tie.spec
     Inv-loop
     μ-loop
-    loop-holds
-    sub-loop
-    mul-label
-    shared-slice-copy-out-label
-    add-offer
-    mul-offer
-    shared-slice-copy-out-offer
-    add-price
-    mul-price
-    shared-slice-copy-out-price
-    in-range-requires
+    (λ c. search needs)
+    (λ c. search needs)
+    (λ c. search needs)
+    (λ c. search needs)
+    (λ c. search needs)
+    (λ c. search needs)
+    (λ c. search needs)
+    (λ c. search needs)
+    (λ c. search needs)
+    (λ c. search needs)
+    (λ c κs. search needs)
     returns
-    add-at
-    loop-less
+    (λ c. search needs)
+    (λ c. search needs)
     loop-again
     returns-2)
