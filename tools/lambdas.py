@@ -7,21 +7,26 @@ import re, sys
 ANSWER = re.compile(r'^(\S+) : (?:\(t : ℕ\) → )?(\S+\.Need-\S+)[^\n]*\n\1( t)?((?: [^\s=]+)+) = search needs\n\n?', re.M)
 
 
+def alone(name):
+    return r'(?<![\w\-.·+])' + re.escape(name) + r'(?![\w\-.·])'
+
+
 def shorten(text):
     text = re.sub(r'^-- src/\S+:\d+:\d+\n', '', text, flags=re.M)
+    # a name that stands in another answer too keeps its own
+    rest = ANSWER.sub('', text)
+    once = {m.group(1) for m in ANSWER.finditer(text) if len(re.findall(alone(m.group(1)), rest)) == 1}
     answers = {}
 
     def take(match):
+        if match.group(1) not in once:
+            return match.group(0)
         answers[match.group(1)] = (bool(match.group(3)), match.group(4).strip())
         return ''
 
     rest = ANSWER.sub(take, text)
     for name, (numbered, words) in answers.items():
-        use = rf'\({re.escape(name)} t\)' if numbered else r'(?<![\w\-.·+])' + re.escape(name) + r'(?![\w\-.·])'
-        # it stands once, as an argument; else all keep their names
-        if len(re.findall(use, rest)) != 1 or len(re.findall(r'(?<![\w\-.·+])' + re.escape(name) + r'(?![\w\-.·])', rest)) != 1:
-            return text
-        rest = re.sub(use, f'(λ {words}. search needs)', rest)
+        rest = re.sub(rf'\({re.escape(name)} t\)' if numbered else alone(name), f'(λ {words}. search needs)', rest)
     return rest
 
 

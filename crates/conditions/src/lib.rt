@@ -10,7 +10,8 @@ ghost use Prim.Native.Nat.{_+_, _≤_, _<_};
 ghost use lib.ListN.{length, drop};
 ghost use Rattle.sizes.specs.Measured.{store, leaves, conditionTable, termTable};
 ghost use Rattle.conditions.specs.Reach.{scopeOf, shapeIn};
-ghost use Rattle.conditions.specs.Answers.{held, grown, bytesOf, kept, conditionReading, termReading, someReading, aggregateReading, conditionsReading, termsReading, sizeOf, twoMeasured};
+ghost use Rattle.conditions.specs.Answers.{held, grown, bytesOf, kept, conditionReading, termReading};
+ghost use Rattle.conditions.specs.Answers.{someReading, aggregateReading, conditionsReading, termsReading, sizeOf, twoMeasured};
 
 pub enum Reading {
     // its bytes, and whether it is in scope

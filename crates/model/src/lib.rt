@@ -10,7 +10,8 @@ pub struct QueryLimits {
     pub targets: usize,
 }
 
-// Of the catalogue; of the permit list; of one permit, whose variables are numbered below a fourth limit; of a query that is asked, or put to the plain evaluator.
+// Of the catalogue; of the permit list; of one permit, whose variables are numbered below a fourth limit; of a query that is asked, or put to the
+// plain evaluator.
 pub struct AllLimits {
     pub relations: usize,
     pub attributes: usize,

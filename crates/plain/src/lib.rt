@@ -447,8 +447,8 @@ fn few(h: usize, rows: usize) -> bool {
     rows <= 16
 }
 
-// A query that passed its checks, over the rows of its walks. A memo that knows nothing can be trusted for any query: without aggregates no large one is cleared.
-// For few rows no table is.
+// A query that passed its checks, over the rows of its walks. A memo that knows nothing can be trusted for any query: without aggregates no large one
+// is cleared. For few rows no table is.
 pub fn answer_query(
     q: &[u8],
     z: &[u16],

@@ -19,7 +19,8 @@ ghost use Rattle.model.specs.Encoding.{encodeRanges};
 ghost use Rattle.sizes.specs.Parts.{targetsAt};
 ghost use Rattle.queries.specs.Found.{headRanges};
 ghost use Rattle.rewriter.specs.Parts.{queryRead, targetsBytes, targetsNew, openings, rangeGuards, queryBytes, queryNew};
-ghost use Rattle.rewriter.specs.Rewritten.{maskOf, newOf, conditionBytes, conditionNew, termBytes, termNew, bothBytes, bothNew, underBytes, underNew, Room, After};
+ghost use Rattle.rewriter.specs.Rewritten.{maskOf, newOf, conditionBytes, conditionNew, termBytes, termNew};
+ghost use Rattle.rewriter.specs.Rewritten.{bothBytes, bothNew, underBytes, underNew, Room, After};
 
 // The place of the first child.
 fn first_child(q: &[u8]) -> usize

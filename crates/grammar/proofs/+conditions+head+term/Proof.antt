@@ -61,108 +61,28 @@ term-at t = and 1 term-kinds.ps (is 1 term-kinds.ps μ-term t) term.Pre
 abbrev term-below : ℕ → In 1 term-kinds.ps
 term-below t = and 1 term-kinds.ps (falls 1 term-kinds.ps _<_ μ-term t) term.Pre
 
+abbrev conditions-claims : ℕ → conditions-lts.Claims
+conditions-claims t = (wide-reads.Asked, wide-reads.Learnt, tail-reads.Asked, tail-reads.Learnt, head-below t, head.Post, byte-reads.Asked, byte-reads.Learnt, children-reads.Asked, children-reads.Learnt)
+
+abbrev head-claims : ℕ → head-lts.Claims
+head-claims t = (condition-record-reads.Asked, condition-record-reads.Learnt, is-condition-reads.Asked, is-condition-reads.Learnt, byte-reads.Asked, byte-reads.Learnt, record-length-reads.Asked, record-length-reads.Learnt, child-counts-reads.Asked, child-counts-reads.Learnt, tail-reads.Asked, tail-reads.Learnt, term-below t, term.Post)
+
+abbrev term-claims : ℕ → term-lts.Claims
+term-claims t = (term-record-reads.Asked, term-record-reads.Learnt, is-term-reads.Asked, is-term-reads.Learnt, byte-reads.Asked, byte-reads.Learnt, record-length-reads.Asked, record-length-reads.Learnt, tail-reads.Asked, tail-reads.Learnt, child-counts-reads.Asked, child-counts-reads.Learnt, conditions-below t, conditions.Post)
+
 abbrev conditions-Inv-loop : conditions-lts.InvT-loop
 conditions-Inv-loop q n at₀ pending₀ at pending = (after at (many conditionSize pending (drop at q)) ≡ many conditionSize n q) × (at ≤ length q) × (pending ≤ 255 + at)
 
 abbrev conditions-μ-loop : conditions-lts.MeasureT-loop
 conditions-μ-loop q n at₀ pending₀ at pending = length q - at
 
-conditions-wide-requires : (t : ℕ) → conditions-lts.Need-wide-requires (
-  wide-reads.Asked,
-  wide-reads.Learnt,
-  tail-reads.Asked,
-  tail-reads.Learnt,
-  head-below t,
-  head.Post,
-  byte-reads.Asked,
-  byte-reads.Learnt,
-  children-reads.Asked,
-  children-reads.Learnt,
-) (conditions-at t) conditions.Post conditions-Inv-loop conditions-μ-loop
-conditions-wide-requires t c κs = search needs
-
-conditions-loop-holds : (t : ℕ) → conditions-lts.Need-loop-holds (
-  wide-reads.Asked,
-  wide-reads.Learnt,
-  tail-reads.Asked,
-  tail-reads.Learnt,
-  head-below t,
-  head.Post,
-  byte-reads.Asked,
-  byte-reads.Learnt,
-  children-reads.Asked,
-  children-reads.Learnt,
-) (conditions-at t) conditions.Post conditions-Inv-loop conditions-μ-loop
+conditions-loop-holds : (t : ℕ) → conditions-lts.Need-loop-holds (conditions-claims t) (conditions-at t) conditions.Post conditions-Inv-loop conditions-μ-loop
 conditions-loop-holds t c = (start conditionSize (now (c .before .before .args .q)) (c .before .before .args .n) (c .wide .result) (c .wide .ensures .0), omega arith, c .wide .ensures .1)
 
-conditions-tail-requires : (t : ℕ) → conditions-lts.Need-tail-requires (
-  wide-reads.Asked,
-  wide-reads.Learnt,
-  tail-reads.Asked,
-  tail-reads.Learnt,
-  head-below t,
-  head.Post,
-  byte-reads.Asked,
-  byte-reads.Learnt,
-  children-reads.Asked,
-  children-reads.Learnt,
-) (conditions-at t) conditions.Post conditions-Inv-loop conditions-μ-loop
-conditions-tail-requires t c κs = search needs
-
-conditions-head-requires : (t : ℕ) → conditions-lts.Need-head-requires (
-  wide-reads.Asked,
-  wide-reads.Learnt,
-  tail-reads.Asked,
-  tail-reads.Learnt,
-  head-below t,
-  head.Post,
-  byte-reads.Asked,
-  byte-reads.Learnt,
-  children-reads.Asked,
-  children-reads.Learnt,
-) (conditions-at t) conditions.Post conditions-Inv-loop conditions-μ-loop
+conditions-head-requires : (t : ℕ) → conditions-lts.Need-head-requires (conditions-claims t) (conditions-at t) conditions.Post conditions-Inv-loop conditions-μ-loop
 conditions-head-requires t c κs = (omega (arith, ap length (c .tail .ensures), length-drop (c .before .before .loop .at) (now (c .before .before .before .before .before .args .q))), tt)
 
-conditions-enum-known-m : (t : ℕ) → conditions-lts.Need-enum-known-m (
-  wide-reads.Asked,
-  wide-reads.Learnt,
-  tail-reads.Asked,
-  tail-reads.Learnt,
-  head-below t,
-  head.Post,
-  byte-reads.Asked,
-  byte-reads.Learnt,
-  children-reads.Asked,
-  children-reads.Learnt,
-) (conditions-at t) conditions.Post conditions-Inv-loop conditions-μ-loop
-conditions-enum-known-m t c = search needs
-
-conditions-enum-told : (t : ℕ) → conditions-lts.Need-enum-told (
-  wide-reads.Asked,
-  wide-reads.Learnt,
-  tail-reads.Asked,
-  tail-reads.Learnt,
-  head-below t,
-  head.Post,
-  byte-reads.Asked,
-  byte-reads.Learnt,
-  children-reads.Asked,
-  children-reads.Learnt,
-) (conditions-at t) conditions.Post conditions-Inv-loop conditions-μ-loop
-conditions-enum-told t c = search needs
-
-conditions-returns : (t : ℕ) → conditions-lts.Need-returns (
-  wide-reads.Asked,
-  wide-reads.Learnt,
-  tail-reads.Asked,
-  tail-reads.Learnt,
-  head-below t,
-  head.Post,
-  byte-reads.Asked,
-  byte-reads.Learnt,
-  children-reads.Asked,
-  children-reads.Learnt,
-) (conditions-at t) conditions.Post conditions-Inv-loop conditions-μ-loop
+conditions-returns : (t : ℕ) → conditions-lts.Need-returns (conditions-claims t) (conditions-at t) conditions.Post conditions-Inv-loop conditions-μ-loop
 conditions-returns t c =
     let c₂ = c .before .before in let head = c₂ .head in
     let c₃ = c₂ .before in let tail = c₃ .tail in
@@ -172,74 +92,7 @@ conditions-returns t c =
     let q = now (args .q) in
     halt q (now (tail .result)) (loop .at) (loop .pending) (head .result) (many conditionSize (args .n) q) (tail .ensures) (c .enum-told .given .1) (loop .inv .0) (loop-test .taken) (head .ensures)
 
-conditions-sub-pending : (t : ℕ) → conditions-lts.Need-sub-pending (
-  wide-reads.Asked,
-  wide-reads.Learnt,
-  tail-reads.Asked,
-  tail-reads.Learnt,
-  head-below t,
-  head.Post,
-  byte-reads.Asked,
-  byte-reads.Learnt,
-  children-reads.Asked,
-  children-reads.Learnt,
-) (conditions-at t) conditions.Post conditions-Inv-loop conditions-μ-loop
-conditions-sub-pending t c = search needs
-
-conditions-byte-requires : (t : ℕ) → conditions-lts.Need-byte-requires (
-  wide-reads.Asked,
-  wide-reads.Learnt,
-  tail-reads.Asked,
-  tail-reads.Learnt,
-  head-below t,
-  head.Post,
-  byte-reads.Asked,
-  byte-reads.Learnt,
-  children-reads.Asked,
-  children-reads.Learnt,
-) (conditions-at t) conditions.Post conditions-Inv-loop conditions-μ-loop
-conditions-byte-requires t c κs = search needs
-
-conditions-children-requires : (t : ℕ) → conditions-lts.Need-children-requires (
-  wide-reads.Asked,
-  wide-reads.Learnt,
-  tail-reads.Asked,
-  tail-reads.Learnt,
-  head-below t,
-  head.Post,
-  byte-reads.Asked,
-  byte-reads.Learnt,
-  children-reads.Asked,
-  children-reads.Learnt,
-) (conditions-at t) conditions.Post conditions-Inv-loop conditions-μ-loop
-conditions-children-requires t c κs = search needs
-
-conditions-add-pending : (t : ℕ) → conditions-lts.Need-add-pending (
-  wide-reads.Asked,
-  wide-reads.Learnt,
-  tail-reads.Asked,
-  tail-reads.Learnt,
-  head-below t,
-  head.Post,
-  byte-reads.Asked,
-  byte-reads.Learnt,
-  children-reads.Asked,
-  children-reads.Learnt,
-) (conditions-at t) conditions.Post conditions-Inv-loop conditions-μ-loop
-conditions-add-pending t c = search needs
-
-conditions-add-at : (t : ℕ) → conditions-lts.Need-add-at (
-  wide-reads.Asked,
-  wide-reads.Learnt,
-  tail-reads.Asked,
-  tail-reads.Learnt,
-  head-below t,
-  head.Post,
-  byte-reads.Asked,
-  byte-reads.Learnt,
-  children-reads.Asked,
-  children-reads.Learnt,
-) (conditions-at t) conditions.Post conditions-Inv-loop conditions-μ-loop
+conditions-add-at : (t : ℕ) → conditions-lts.Need-add-at (conditions-claims t) (conditions-at t) conditions.Post conditions-Inv-loop conditions-μ-loop
 conditions-add-at t c =
     let c₃ = c .before .before .before in let m = c₃ .m in
     let c₅ = c₃ .before .before in let head = c₅ .head in
@@ -248,18 +101,7 @@ conditions-add-at t c =
     let c₁₁ = c₈ .before .before .before in let args = c₁₁ .args in
     let h = part-takes headSize (now (args .q)) (now (tail .result)) (loop .at) (m .given .0 .0) (head .result) (tail .ensures) (head .ensures) (m .given .1) head-takes in omega (arith, loop .inv .1)
 
-conditions-loop-less : (t : ℕ) → conditions-lts.Need-loop-less (
-  wide-reads.Asked,
-  wide-reads.Learnt,
-  tail-reads.Asked,
-  tail-reads.Learnt,
-  head-below t,
-  head.Post,
-  byte-reads.Asked,
-  byte-reads.Learnt,
-  children-reads.Asked,
-  children-reads.Learnt,
-) (conditions-at t) conditions.Post conditions-Inv-loop conditions-μ-loop
+conditions-loop-less : (t : ℕ) → conditions-lts.Need-loop-less (conditions-claims t) (conditions-at t) conditions.Post conditions-Inv-loop conditions-μ-loop
 conditions-loop-less t c =
     let c₃ = c .before .before .before in let m = c₃ .m in
     let c₅ = c₃ .before .before in let head = c₅ .head in
@@ -268,18 +110,7 @@ conditions-loop-less t c =
     let c₁₁ = c₈ .before .before .before in let args = c₁₁ .args in
     let h = part-takes headSize (now (args .q)) (now (tail .result)) (loop .at) (m .given .0 .0) (head .result) (tail .ensures) (head .ensures) (m .given .1) head-takes in omega (arith, loop .inv .1)
 
-conditions-loop-again : (t : ℕ) → conditions-lts.Need-loop-again (
-  wide-reads.Asked,
-  wide-reads.Learnt,
-  tail-reads.Asked,
-  tail-reads.Learnt,
-  head-below t,
-  head.Post,
-  byte-reads.Asked,
-  byte-reads.Learnt,
-  children-reads.Asked,
-  children-reads.Learnt,
-) (conditions-at t) conditions.Post conditions-Inv-loop conditions-μ-loop
+conditions-loop-again : (t : ℕ) → conditions-lts.Need-loop-again (conditions-claims t) (conditions-at t) conditions.Post conditions-Inv-loop conditions-μ-loop
 conditions-loop-again t c =
     let c₁ = c .before in let byte = c₁ .byte in
     let c₃ = c₁ .before .before in let m = c₃ .m in
@@ -291,18 +122,7 @@ conditions-loop-again t c =
     let q = now (args .q) in
     let h = part-takes headSize q (now (tail .result)) (loop .at) (m .given .0 .0) (head .result) (tail .ensures) (head .ensures) (m .given .1) head-takes in (turn q (now (tail .result)) (loop .at) (loop .pending) (m .given .0 .0) (head .result) (many conditionSize (args .n) q) (tail .ensures) (m .given .1) (byte .result) (c .children .result) (loop .inv .0) (loop-test .taken) (head .ensures) (byte .ensures) (c .children .ensures .0), omega (arith, loop .inv .1), omega (arith, loop .inv .2))
 
-conditions-returns-2 : (t : ℕ) → conditions-lts.Need-returns-2 (
-  wide-reads.Asked,
-  wide-reads.Learnt,
-  tail-reads.Asked,
-  tail-reads.Learnt,
-  head-below t,
-  head.Post,
-  byte-reads.Asked,
-  byte-reads.Learnt,
-  children-reads.Asked,
-  children-reads.Learnt,
-) (conditions-at t) conditions.Post conditions-Inv-loop conditions-μ-loop
+conditions-returns-2 : (t : ℕ) → conditions-lts.Need-returns-2 (conditions-claims t) (conditions-at t) conditions.Post conditions-Inv-loop conditions-μ-loop
 conditions-returns-2 t c =
     let c₁ = c .before in let loop = c₁ .loop in
     let c₄ = c₁ .before .before .before in let args = c₄ .args in
@@ -315,130 +135,10 @@ head-Inv-loop q k at₀ left₀ at left = (after at (many termSize left (drop at
 abbrev head-μ-loop : head-lts.MeasureT-loop
 head-μ-loop q k at₀ left₀ at left = left
 
-head-condition-record-requires : (t : ℕ) → head-lts.Need-condition-record-requires (
-  condition-record-reads.Asked,
-  condition-record-reads.Learnt,
-  is-condition-reads.Asked,
-  is-condition-reads.Learnt,
-  byte-reads.Asked,
-  byte-reads.Learnt,
-  record-length-reads.Asked,
-  record-length-reads.Learnt,
-  child-counts-reads.Asked,
-  child-counts-reads.Learnt,
-  tail-reads.Asked,
-  tail-reads.Learnt,
-  term-below t,
-  term.Post,
-) (head-at t) head.Post head-Inv-loop head-μ-loop
-head-condition-record-requires t c κs = search needs
-
-head-is-condition-requires : (t : ℕ) → head-lts.Need-is-condition-requires (
-  condition-record-reads.Asked,
-  condition-record-reads.Learnt,
-  is-condition-reads.Asked,
-  is-condition-reads.Learnt,
-  byte-reads.Asked,
-  byte-reads.Learnt,
-  record-length-reads.Asked,
-  record-length-reads.Learnt,
-  child-counts-reads.Asked,
-  child-counts-reads.Learnt,
-  tail-reads.Asked,
-  tail-reads.Learnt,
-  term-below t,
-  term.Post,
-) (head-at t) head.Post head-Inv-loop head-μ-loop
-head-is-condition-requires t c κs = search needs
-
-head-returns : (t : ℕ) → head-lts.Need-returns (
-  condition-record-reads.Asked,
-  condition-record-reads.Learnt,
-  is-condition-reads.Asked,
-  is-condition-reads.Learnt,
-  byte-reads.Asked,
-  byte-reads.Learnt,
-  record-length-reads.Asked,
-  record-length-reads.Learnt,
-  child-counts-reads.Asked,
-  child-counts-reads.Learnt,
-  tail-reads.Asked,
-  tail-reads.Learnt,
-  term-below t,
-  term.Post,
-) (head-at t) head.Post head-Inv-loop head-μ-loop
+head-returns : (t : ℕ) → head-lts.Need-returns (head-claims t) (head-at t) head.Post head-Inv-loop head-μ-loop
 head-returns t c = no-head (now (c .before .before .before .before .args .q)) (c .before .is-condition .result) (c .before .is-condition .ensures ∙ ap isCondition (c .before .before .condition-record .ensures)) (c .if1 .taken)
 
-head-byte-requires : (t : ℕ) → head-lts.Need-byte-requires (
-  condition-record-reads.Asked,
-  condition-record-reads.Learnt,
-  is-condition-reads.Asked,
-  is-condition-reads.Learnt,
-  byte-reads.Asked,
-  byte-reads.Learnt,
-  record-length-reads.Asked,
-  record-length-reads.Learnt,
-  child-counts-reads.Asked,
-  child-counts-reads.Learnt,
-  tail-reads.Asked,
-  tail-reads.Learnt,
-  term-below t,
-  term.Post,
-) (head-at t) head.Post head-Inv-loop head-μ-loop
-head-byte-requires t c κs = search needs
-
-head-record-length-requires : (t : ℕ) → head-lts.Need-record-length-requires (
-  condition-record-reads.Asked,
-  condition-record-reads.Learnt,
-  is-condition-reads.Asked,
-  is-condition-reads.Learnt,
-  byte-reads.Asked,
-  byte-reads.Learnt,
-  record-length-reads.Asked,
-  record-length-reads.Learnt,
-  child-counts-reads.Asked,
-  child-counts-reads.Learnt,
-  tail-reads.Asked,
-  tail-reads.Learnt,
-  term-below t,
-  term.Post,
-) (head-at t) head.Post head-Inv-loop head-μ-loop
-head-record-length-requires t c κs = search needs
-
-head-child-counts-requires : (t : ℕ) → head-lts.Need-child-counts-requires (
-  condition-record-reads.Asked,
-  condition-record-reads.Learnt,
-  is-condition-reads.Asked,
-  is-condition-reads.Learnt,
-  byte-reads.Asked,
-  byte-reads.Learnt,
-  record-length-reads.Asked,
-  record-length-reads.Learnt,
-  child-counts-reads.Asked,
-  child-counts-reads.Learnt,
-  tail-reads.Asked,
-  tail-reads.Learnt,
-  term-below t,
-  term.Post,
-) (head-at t) head.Post head-Inv-loop head-μ-loop
-head-child-counts-requires t c κs = search needs
-
-head-loop-holds : (t : ℕ) → head-lts.Need-loop-holds (
-  condition-record-reads.Asked,
-  condition-record-reads.Learnt,
-  is-condition-reads.Asked,
-  is-condition-reads.Learnt,
-  byte-reads.Asked,
-  byte-reads.Learnt,
-  record-length-reads.Asked,
-  record-length-reads.Learnt,
-  child-counts-reads.Asked,
-  child-counts-reads.Learnt,
-  tail-reads.Asked,
-  tail-reads.Learnt,
-  term-below t,
-  term.Post,
-) (head-at t) head.Post head-Inv-loop head-μ-loop
+head-loop-holds : (t : ℕ) → head-lts.Need-loop-holds (head-claims t) (head-at t) head.Post head-Inv-loop head-μ-loop
 head-loop-holds t c =
     let c₁ = c .before in let record-length = c₁ .record-length in
     let c₂ = c₁ .before in let byte = c₂ .byte in
@@ -449,97 +149,13 @@ head-loop-holds t c =
     let q = now (args .q) in
     let h = head-whole q (is-condition .result) (byte .result) (record-length .result) (byte .ensures) (record-length .ensures .0) (if1 .left) (is-condition .ensures ∙ ap isCondition (condition-record .ensures)) in (head-is q (is-condition .result) (byte .result) (record-length .result) (byte .ensures) (record-length .ensures .0) (if1 .left) (is-condition .ensures ∙ ap isCondition (condition-record .ensures)) (c .child-counts .result .terms) (c .child-counts .ensures .1), h .1, h .0)
 
-head-tail-requires : (t : ℕ) → head-lts.Need-tail-requires (
-  condition-record-reads.Asked,
-  condition-record-reads.Learnt,
-  is-condition-reads.Asked,
-  is-condition-reads.Learnt,
-  byte-reads.Asked,
-  byte-reads.Learnt,
-  record-length-reads.Asked,
-  record-length-reads.Learnt,
-  child-counts-reads.Asked,
-  child-counts-reads.Learnt,
-  tail-reads.Asked,
-  tail-reads.Learnt,
-  term-below t,
-  term.Post,
-) (head-at t) head.Post head-Inv-loop head-μ-loop
-head-tail-requires t c κs = search needs
-
-head-term-requires : (t : ℕ) → head-lts.Need-term-requires (
-  condition-record-reads.Asked,
-  condition-record-reads.Learnt,
-  is-condition-reads.Asked,
-  is-condition-reads.Learnt,
-  byte-reads.Asked,
-  byte-reads.Learnt,
-  record-length-reads.Asked,
-  record-length-reads.Learnt,
-  child-counts-reads.Asked,
-  child-counts-reads.Learnt,
-  tail-reads.Asked,
-  tail-reads.Learnt,
-  term-below t,
-  term.Post,
-) (head-at t) head.Post head-Inv-loop head-μ-loop
+head-term-requires : (t : ℕ) → head-lts.Need-term-requires (head-claims t) (head-at t) head.Post head-Inv-loop head-μ-loop
 head-term-requires t c κs =
     let c₂ = c .before .before in let loop = c₂ .loop in
     let c₁₀ = c₂ .before .before .before .before .before .before .before .before in let args = c₁₀ .args in
     (omega (arith, ap length (c .tail .ensures), length-drop (loop .at) (now (args .q)), loop .inv .1, loop .inv .2), tt)
 
-head-enum-known-n : (t : ℕ) → head-lts.Need-enum-known-n (
-  condition-record-reads.Asked,
-  condition-record-reads.Learnt,
-  is-condition-reads.Asked,
-  is-condition-reads.Learnt,
-  byte-reads.Asked,
-  byte-reads.Learnt,
-  record-length-reads.Asked,
-  record-length-reads.Learnt,
-  child-counts-reads.Asked,
-  child-counts-reads.Learnt,
-  tail-reads.Asked,
-  tail-reads.Learnt,
-  term-below t,
-  term.Post,
-) (head-at t) head.Post head-Inv-loop head-μ-loop
-head-enum-known-n t c = search needs
-
-head-enum-told : (t : ℕ) → head-lts.Need-enum-told (
-  condition-record-reads.Asked,
-  condition-record-reads.Learnt,
-  is-condition-reads.Asked,
-  is-condition-reads.Learnt,
-  byte-reads.Asked,
-  byte-reads.Learnt,
-  record-length-reads.Asked,
-  record-length-reads.Learnt,
-  child-counts-reads.Asked,
-  child-counts-reads.Learnt,
-  tail-reads.Asked,
-  tail-reads.Learnt,
-  term-below t,
-  term.Post,
-) (head-at t) head.Post head-Inv-loop head-μ-loop
-head-enum-told t c = search needs
-
-head-returns-2 : (t : ℕ) → head-lts.Need-returns-2 (
-  condition-record-reads.Asked,
-  condition-record-reads.Learnt,
-  is-condition-reads.Asked,
-  is-condition-reads.Learnt,
-  byte-reads.Asked,
-  byte-reads.Learnt,
-  record-length-reads.Asked,
-  record-length-reads.Learnt,
-  child-counts-reads.Asked,
-  child-counts-reads.Learnt,
-  tail-reads.Asked,
-  tail-reads.Learnt,
-  term-below t,
-  term.Post,
-) (head-at t) head.Post head-Inv-loop head-μ-loop
+head-returns-2 : (t : ℕ) → head-lts.Need-returns-2 (head-claims t) (head-at t) head.Post head-Inv-loop head-μ-loop
 head-returns-2 t c =
     let c₂ = c .before .before in let term = c₂ .term in
     let c₃ = c₂ .before in let tail = c₃ .tail in
@@ -549,22 +165,7 @@ head-returns-2 t c =
     let q = now (args .q) in
     stop q (now (tail .result)) (loop .at) (loop .left) (term .result) (headSize q) (tail .ensures) (c .enum-told .given .1) termSize (loop .inv .0) (loop-test .taken) (term .ensures)
 
-head-add-at : (t : ℕ) → head-lts.Need-add-at (
-  condition-record-reads.Asked,
-  condition-record-reads.Learnt,
-  is-condition-reads.Asked,
-  is-condition-reads.Learnt,
-  byte-reads.Asked,
-  byte-reads.Learnt,
-  record-length-reads.Asked,
-  record-length-reads.Learnt,
-  child-counts-reads.Asked,
-  child-counts-reads.Learnt,
-  tail-reads.Asked,
-  tail-reads.Learnt,
-  term-below t,
-  term.Post,
-) (head-at t) head.Post head-Inv-loop head-μ-loop
+head-add-at : (t : ℕ) → head-lts.Need-add-at (head-claims t) (head-at t) head.Post head-Inv-loop head-μ-loop
 head-add-at t c =
     let c₁ = c .before in let n = c₁ .n in
     let c₃ = c₁ .before .before in let term = c₃ .term in
@@ -573,58 +174,7 @@ head-add-at t c =
     let c₁₄ = c₆ .before .before .before .before .before .before .before .before in let args = c₁₄ .args in
     let h = part-takes termSize (now (args .q)) (now (tail .result)) (loop .at) (n .given .0 .0) (term .result) (tail .ensures) (term .ensures) (n .given .1) term-takes in omega (arith, loop .inv .1)
 
-head-sub-left : (t : ℕ) → head-lts.Need-sub-left (
-  condition-record-reads.Asked,
-  condition-record-reads.Learnt,
-  is-condition-reads.Asked,
-  is-condition-reads.Learnt,
-  byte-reads.Asked,
-  byte-reads.Learnt,
-  record-length-reads.Asked,
-  record-length-reads.Learnt,
-  child-counts-reads.Asked,
-  child-counts-reads.Learnt,
-  tail-reads.Asked,
-  tail-reads.Learnt,
-  term-below t,
-  term.Post,
-) (head-at t) head.Post head-Inv-loop head-μ-loop
-head-sub-left t c = search needs
-
-head-loop-less : (t : ℕ) → head-lts.Need-loop-less (
-  condition-record-reads.Asked,
-  condition-record-reads.Learnt,
-  is-condition-reads.Asked,
-  is-condition-reads.Learnt,
-  byte-reads.Asked,
-  byte-reads.Learnt,
-  record-length-reads.Asked,
-  record-length-reads.Learnt,
-  child-counts-reads.Asked,
-  child-counts-reads.Learnt,
-  tail-reads.Asked,
-  tail-reads.Learnt,
-  term-below t,
-  term.Post,
-) (head-at t) head.Post head-Inv-loop head-μ-loop
-head-loop-less t c = search needs
-
-head-loop-again : (t : ℕ) → head-lts.Need-loop-again (
-  condition-record-reads.Asked,
-  condition-record-reads.Learnt,
-  is-condition-reads.Asked,
-  is-condition-reads.Learnt,
-  byte-reads.Asked,
-  byte-reads.Learnt,
-  record-length-reads.Asked,
-  record-length-reads.Learnt,
-  child-counts-reads.Asked,
-  child-counts-reads.Learnt,
-  tail-reads.Asked,
-  tail-reads.Learnt,
-  term-below t,
-  term.Post,
-) (head-at t) head.Post head-Inv-loop head-μ-loop
+head-loop-again : (t : ℕ) → head-lts.Need-loop-again (head-claims t) (head-at t) head.Post head-Inv-loop head-μ-loop
 head-loop-again t c =
     let c₁ = c .before in let n = c₁ .n in
     let c₃ = c₁ .before .before in let term = c₃ .term in
@@ -635,170 +185,17 @@ head-loop-again t c =
     let q = now (args .q) in
     let h = part-takes termSize q (now (tail .result)) (loop .at) (n .given .0 .0) (term .result) (tail .ensures) (term .ensures) (n .given .1) term-takes in (next q (now (tail .result)) (loop .at) (loop .left) (n .given .0 .0) (term .result) (headSize q) (tail .ensures) (n .given .1) termSize (loop .inv .0) (loop-test .taken) (term .ensures), omega (arith, loop .inv .1), omega (arith, loop .inv .2))
 
-head-returns-3 : (t : ℕ) → head-lts.Need-returns-3 (
-  condition-record-reads.Asked,
-  condition-record-reads.Learnt,
-  is-condition-reads.Asked,
-  is-condition-reads.Learnt,
-  byte-reads.Asked,
-  byte-reads.Learnt,
-  record-length-reads.Asked,
-  record-length-reads.Learnt,
-  child-counts-reads.Asked,
-  child-counts-reads.Learnt,
-  tail-reads.Asked,
-  tail-reads.Learnt,
-  term-below t,
-  term.Post,
-) (head-at t) head.Post head-Inv-loop head-μ-loop
+head-returns-3 : (t : ℕ) → head-lts.Need-returns-3 (head-claims t) (head-at t) head.Post head-Inv-loop head-μ-loop
 head-returns-3 t c =
     let c₁ = c .before in let loop = c₁ .loop in
     let c₉ = c₁ .before .before .before .before .before .before .before .before in let args = c₉ .args in
     let q = now (args .q) in
     end termSize q (loop .at) (loop .left) (headSize q) (loop .inv .0) (c .loop-test .left)
 
-term-term-record-requires : (t : ℕ) → term-lts.Need-term-record-requires (
-  term-record-reads.Asked,
-  term-record-reads.Learnt,
-  is-term-reads.Asked,
-  is-term-reads.Learnt,
-  byte-reads.Asked,
-  byte-reads.Learnt,
-  record-length-reads.Asked,
-  record-length-reads.Learnt,
-  tail-reads.Asked,
-  tail-reads.Learnt,
-  child-counts-reads.Asked,
-  child-counts-reads.Learnt,
-  conditions-below t,
-  conditions.Post,
-) (term-at t) term.Post
-term-term-record-requires t c κs = search needs
-
-term-is-term-requires : (t : ℕ) → term-lts.Need-is-term-requires (
-  term-record-reads.Asked,
-  term-record-reads.Learnt,
-  is-term-reads.Asked,
-  is-term-reads.Learnt,
-  byte-reads.Asked,
-  byte-reads.Learnt,
-  record-length-reads.Asked,
-  record-length-reads.Learnt,
-  tail-reads.Asked,
-  tail-reads.Learnt,
-  child-counts-reads.Asked,
-  child-counts-reads.Learnt,
-  conditions-below t,
-  conditions.Post,
-) (term-at t) term.Post
-term-is-term-requires t c κs = search needs
-
-term-returns : (t : ℕ) → term-lts.Need-returns (
-  term-record-reads.Asked,
-  term-record-reads.Learnt,
-  is-term-reads.Asked,
-  is-term-reads.Learnt,
-  byte-reads.Asked,
-  byte-reads.Learnt,
-  record-length-reads.Asked,
-  record-length-reads.Learnt,
-  tail-reads.Asked,
-  tail-reads.Learnt,
-  child-counts-reads.Asked,
-  child-counts-reads.Learnt,
-  conditions-below t,
-  conditions.Post,
-) (term-at t) term.Post
+term-returns : (t : ℕ) → term-lts.Need-returns (term-claims t) (term-at t) term.Post
 term-returns t c = no-leaf (now (c .before .before .before .before .args .q)) (c .before .is-term .result) (c .before .is-term .ensures ∙ ap isTerm (c .before .before .term-record .ensures)) (c .if1 .taken)
 
-term-byte-requires : (t : ℕ) → term-lts.Need-byte-requires (
-  term-record-reads.Asked,
-  term-record-reads.Learnt,
-  is-term-reads.Asked,
-  is-term-reads.Learnt,
-  byte-reads.Asked,
-  byte-reads.Learnt,
-  record-length-reads.Asked,
-  record-length-reads.Learnt,
-  tail-reads.Asked,
-  tail-reads.Learnt,
-  child-counts-reads.Asked,
-  child-counts-reads.Learnt,
-  conditions-below t,
-  conditions.Post,
-) (term-at t) term.Post
-term-byte-requires t c κs = search needs
-
-term-record-length-requires : (t : ℕ) → term-lts.Need-record-length-requires (
-  term-record-reads.Asked,
-  term-record-reads.Learnt,
-  is-term-reads.Asked,
-  is-term-reads.Learnt,
-  byte-reads.Asked,
-  byte-reads.Learnt,
-  record-length-reads.Asked,
-  record-length-reads.Learnt,
-  tail-reads.Asked,
-  tail-reads.Learnt,
-  child-counts-reads.Asked,
-  child-counts-reads.Learnt,
-  conditions-below t,
-  conditions.Post,
-) (term-at t) term.Post
-term-record-length-requires t c κs = search needs
-
-term-tail-requires : (t : ℕ) → term-lts.Need-tail-requires (
-  term-record-reads.Asked,
-  term-record-reads.Learnt,
-  is-term-reads.Asked,
-  is-term-reads.Learnt,
-  byte-reads.Asked,
-  byte-reads.Learnt,
-  record-length-reads.Asked,
-  record-length-reads.Learnt,
-  tail-reads.Asked,
-  tail-reads.Learnt,
-  child-counts-reads.Asked,
-  child-counts-reads.Learnt,
-  conditions-below t,
-  conditions.Post,
-) (term-at t) term.Post
-term-tail-requires t c κs = search needs
-
-term-child-counts-requires : (t : ℕ) → term-lts.Need-child-counts-requires (
-  term-record-reads.Asked,
-  term-record-reads.Learnt,
-  is-term-reads.Asked,
-  is-term-reads.Learnt,
-  byte-reads.Asked,
-  byte-reads.Learnt,
-  record-length-reads.Asked,
-  record-length-reads.Learnt,
-  tail-reads.Asked,
-  tail-reads.Learnt,
-  child-counts-reads.Asked,
-  child-counts-reads.Learnt,
-  conditions-below t,
-  conditions.Post,
-) (term-at t) term.Post
-term-child-counts-requires t c κs = search needs
-
-term-conditions-requires : (t : ℕ) → term-lts.Need-conditions-requires (
-  term-record-reads.Asked,
-  term-record-reads.Learnt,
-  is-term-reads.Asked,
-  is-term-reads.Learnt,
-  byte-reads.Asked,
-  byte-reads.Learnt,
-  record-length-reads.Asked,
-  record-length-reads.Learnt,
-  tail-reads.Asked,
-  tail-reads.Learnt,
-  child-counts-reads.Asked,
-  child-counts-reads.Learnt,
-  conditions-below t,
-  conditions.Post,
-) (term-at t) term.Post
+term-conditions-requires : (t : ℕ) → term-lts.Need-conditions-requires (term-claims t) (term-at t) term.Post
 term-conditions-requires t c κs =
     let c₂ = c .before .before in let record-length = c₂ .record-length in
     let c₃ = c₂ .before in let byte = c₃ .byte in
@@ -809,58 +206,7 @@ term-conditions-requires t c κs =
     let q = now (args .q) in
     let h = leaf-whole q (is-term .result) (byte .result) (record-length .result) (byte .ensures) (record-length .ensures .0) (if1 .left) (is-term .ensures ∙ ap isTerm (term-record .ensures)) in (omega (arith, ap length (c .before .tail .ensures), length-drop (record-length .result) q), tt)
 
-term-enum-known-n : (t : ℕ) → term-lts.Need-enum-known-n (
-  term-record-reads.Asked,
-  term-record-reads.Learnt,
-  is-term-reads.Asked,
-  is-term-reads.Learnt,
-  byte-reads.Asked,
-  byte-reads.Learnt,
-  record-length-reads.Asked,
-  record-length-reads.Learnt,
-  tail-reads.Asked,
-  tail-reads.Learnt,
-  child-counts-reads.Asked,
-  child-counts-reads.Learnt,
-  conditions-below t,
-  conditions.Post,
-) (term-at t) term.Post
-term-enum-known-n t c = search needs
-
-term-enum-told : (t : ℕ) → term-lts.Need-enum-told (
-  term-record-reads.Asked,
-  term-record-reads.Learnt,
-  is-term-reads.Asked,
-  is-term-reads.Learnt,
-  byte-reads.Asked,
-  byte-reads.Learnt,
-  record-length-reads.Asked,
-  record-length-reads.Learnt,
-  tail-reads.Asked,
-  tail-reads.Learnt,
-  child-counts-reads.Asked,
-  child-counts-reads.Learnt,
-  conditions-below t,
-  conditions.Post,
-) (term-at t) term.Post
-term-enum-told t c = search needs
-
-term-returns-2 : (t : ℕ) → term-lts.Need-returns-2 (
-  term-record-reads.Asked,
-  term-record-reads.Learnt,
-  is-term-reads.Asked,
-  is-term-reads.Learnt,
-  byte-reads.Asked,
-  byte-reads.Learnt,
-  record-length-reads.Asked,
-  record-length-reads.Learnt,
-  tail-reads.Asked,
-  tail-reads.Learnt,
-  child-counts-reads.Asked,
-  child-counts-reads.Learnt,
-  conditions-below t,
-  conditions.Post,
-) (term-at t) term.Post
+term-returns-2 : (t : ℕ) → term-lts.Need-returns-2 (term-claims t) (term-at t) term.Post
 term-returns-2 t c =
     let c₂ = c .before .before in let conditions = c₂ .conditions in
     let c₃ = c₂ .before in let child-counts = c₃ .child-counts in
@@ -873,22 +219,7 @@ term-returns-2 t c =
     let c₁₁ = c₉ .before .before in let args = c₁₁ .args in
     ap (after (record-length .result)) (sym (c .enum-told .given .1)) ∙ leaf-is (now (args .q)) (is-term .result) (byte .result) (record-length .result) (byte .ensures) (record-length .ensures .0) (if1 .left) (is-term .ensures ∙ ap isTerm (term-record .ensures)) (child-counts .result .conditions) (now (tail .result)) (conditions .result) (child-counts .ensures .0) (tail .ensures) (conditions .ensures)
 
-term-add-t11 : (t : ℕ) → term-lts.Need-add-t11 (
-  term-record-reads.Asked,
-  term-record-reads.Learnt,
-  is-term-reads.Asked,
-  is-term-reads.Learnt,
-  byte-reads.Asked,
-  byte-reads.Learnt,
-  record-length-reads.Asked,
-  record-length-reads.Learnt,
-  tail-reads.Asked,
-  tail-reads.Learnt,
-  child-counts-reads.Asked,
-  child-counts-reads.Learnt,
-  conditions-below t,
-  conditions.Post,
-) (term-at t) term.Post
+term-add-t11 : (t : ℕ) → term-lts.Need-add-t11 (term-claims t) (term-at t) term.Post
 term-add-t11 t c =
     let c₁ = c .before in let n = c₁ .n in
     let c₃ = c₁ .before .before in let conditions = c₃ .conditions in
@@ -902,22 +233,7 @@ term-add-t11 t c =
     let c₁₂ = c₁₀ .before .before in let args = c₁₂ .args in
     let h = leaf-whole (now (args .q)) (is-term .result) (byte .result) (record-length .result) (byte .ensures) (record-length .ensures .0) (if1 .left) (is-term .ensures ∙ ap isTerm (term-record .ensures)) in omega (arith, part-within (λ q. many conditionSize (child-counts .result .conditions) q) (now (args .q)) (now (tail .result)) (record-length .result) (n .given .0 .0) (conditions .result) (tail .ensures) (conditions .ensures) (n .given .1) (many-within conditionSize condition-within (child-counts .result .conditions)))
 
-term-returns-3 : (t : ℕ) → term-lts.Need-returns-3 (
-  term-record-reads.Asked,
-  term-record-reads.Learnt,
-  is-term-reads.Asked,
-  is-term-reads.Learnt,
-  byte-reads.Asked,
-  byte-reads.Learnt,
-  record-length-reads.Asked,
-  record-length-reads.Learnt,
-  tail-reads.Asked,
-  tail-reads.Learnt,
-  child-counts-reads.Asked,
-  child-counts-reads.Learnt,
-  conditions-below t,
-  conditions.Post,
-) (term-at t) term.Post
+term-returns-3 : (t : ℕ) → term-lts.Need-returns-3 (term-claims t) (term-at t) term.Post
 term-returns-3 t c =
     let c₃ = c .before .before .before in let conditions = c₃ .conditions in
     let c₄ = c₃ .before in let child-counts = c₄ .child-counts in
@@ -931,102 +247,61 @@ term-returns-3 t c =
     ap (after (record-length .result)) (sym (c .before .n .given .1)) ∙ leaf-is (now (args .q)) (is-term .result) (byte .result) (record-length .result) (byte .ensures) (record-length .ensures .0) (if1 .left) (is-term .ensures ∙ ap isTerm (term-record .ensures)) (child-counts .result .conditions) (now (tail .result)) (conditions .result) (child-counts .ensures .0) (tail .ensures) (conditions .ensures)
 
 pub +conditions+head+term-spec : {M : Type 1} → statement M
-+conditions+head+term-spec = close μ-conditions μ-head μ-term (λ t. conditions-lts.spec (
-  wide-reads.Asked,
-  wide-reads.Learnt,
-  tail-reads.Asked,
-  tail-reads.Learnt,
-  head-below t,
-  head.Post,
-  byte-reads.Asked,
-  byte-reads.Learnt,
-  children-reads.Asked,
-  children-reads.Learnt,
-)
++conditions+head+term-spec = close μ-conditions μ-head μ-term (λ t. conditions-lts.spec (conditions-claims t)
     (conditions-at t)
     conditions.Post
     conditions-Inv-loop
     conditions-μ-loop
-    (conditions-wide-requires t)
+    (λ c κs. search needs)
     (conditions-loop-holds t)
-    (conditions-tail-requires t)
+    (λ c κs. search needs)
     (conditions-head-requires t)
-    (conditions-enum-known-m t)
-    (conditions-enum-told t)
+    (λ c. search needs)
+    (λ c. search needs)
     (conditions-returns t)
-    (conditions-sub-pending t)
-    (conditions-byte-requires t)
-    (conditions-children-requires t)
-    (conditions-add-pending t)
+    (λ c. search needs)
+    (λ c κs. search needs)
+    (λ c κs. search needs)
+    (λ c. search needs)
     (conditions-add-at t)
     (conditions-loop-less t)
     (conditions-loop-again t)
     (conditions-returns-2 t))
-    (λ t. head-lts.spec (
-      condition-record-reads.Asked,
-      condition-record-reads.Learnt,
-      is-condition-reads.Asked,
-      is-condition-reads.Learnt,
-      byte-reads.Asked,
-      byte-reads.Learnt,
-      record-length-reads.Asked,
-      record-length-reads.Learnt,
-      child-counts-reads.Asked,
-      child-counts-reads.Learnt,
-      tail-reads.Asked,
-      tail-reads.Learnt,
-      term-below t,
-      term.Post,
-    )
+    (λ t. head-lts.spec (head-claims t)
     (head-at t)
     head.Post
     head-Inv-loop
     head-μ-loop
-    (head-condition-record-requires t)
-    (head-is-condition-requires t)
+    (λ c κs. search needs)
+    (λ c κs. search needs)
     (head-returns t)
-    (head-byte-requires t)
-    (head-record-length-requires t)
-    (head-child-counts-requires t)
+    (λ c κs. search needs)
+    (λ c κs. search needs)
+    (λ c κs. search needs)
     (head-loop-holds t)
-    (head-tail-requires t)
+    (λ c κs. search needs)
     (head-term-requires t)
-    (head-enum-known-n t)
-    (head-enum-told t)
+    (λ c. search needs)
+    (λ c. search needs)
     (head-returns-2 t)
     (head-add-at t)
-    (head-sub-left t)
-    (head-loop-less t)
+    (λ c. search needs)
+    (λ c. search needs)
     (head-loop-again t)
     (head-returns-3 t))
-    λ t. term-lts.spec (
-      term-record-reads.Asked,
-      term-record-reads.Learnt,
-      is-term-reads.Asked,
-      is-term-reads.Learnt,
-      byte-reads.Asked,
-      byte-reads.Learnt,
-      record-length-reads.Asked,
-      record-length-reads.Learnt,
-      tail-reads.Asked,
-      tail-reads.Learnt,
-      child-counts-reads.Asked,
-      child-counts-reads.Learnt,
-      conditions-below t,
-      conditions.Post,
-    )
+    λ t. term-lts.spec (term-claims t)
     (term-at t)
     term.Post
-    (term-term-record-requires t)
-    (term-is-term-requires t)
+    (λ c κs. search needs)
+    (λ c κs. search needs)
     (term-returns t)
-    (term-byte-requires t)
-    (term-record-length-requires t)
-    (term-tail-requires t)
-    (term-child-counts-requires t)
+    (λ c κs. search needs)
+    (λ c κs. search needs)
+    (λ c κs. search needs)
+    (λ c κs. search needs)
     (term-conditions-requires t)
-    (term-enum-known-n t)
-    (term-enum-told t)
+    (λ c. search needs)
+    (λ c. search needs)
     (term-returns-2 t)
     (term-add-t11 t)
     (term-returns-3 t)

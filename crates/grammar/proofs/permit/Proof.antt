@@ -11,26 +11,8 @@ use Rattle.grammar.proofs.Bounds.{condition-within, part-within}
 enum-told : tie.Need-enum-told
 enum-told c = search needs
 
-enum-told-2 : tie.Need-enum-told-2
-enum-told-2 c = search needs
-
 returns : tie.Need-returns
 returns c = no-permit (now (c .before .before .before .before .args .q)) (sym (c .before .before .permit-record .ensures) ∙ c .enum-told2 .given .1)
-
-byte-requires : tie.Need-byte-requires
-byte-requires c κs = search needs
-
-record-length-requires : tie.Need-record-length-requires
-record-length-requires c κs = search needs
-
-tail-requires : tie.Need-tail-requires
-tail-requires c κs = search needs
-
-condition-requires : tie.Need-condition-requires
-condition-requires c κs = search needs
-
-enum-known-n : tie.Need-enum-known-n
-enum-known-n c = search needs
 
 returns-2 : tie.Need-returns-2
 returns-2 c = let condition = c .before .before .condition in
@@ -66,13 +48,13 @@ permit-spec =
     (tie.spec
     (λ c κs. search needs)
     enum-told
-    enum-told-2
+    (λ c. search needs)
     returns
-    byte-requires
-    record-length-requires
-    tail-requires
-    condition-requires
-    enum-known-n
+    (λ c κs. search needs)
+    (λ c κs. search needs)
+    (λ c κs. search needs)
+    (λ c κs. search needs)
+    (λ c. search needs)
     (λ c. search needs)
     returns-2
     add-t8

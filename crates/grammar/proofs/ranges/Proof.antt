@@ -18,12 +18,6 @@ abbrev μ-loop : tie.MeasureT-loop
 loop-holds : tie.Need-loop-holds Inv-loop μ-loop
 loop-holds c = (begins rangesPart (now (c .before .args .q)), omega arith, omega arith)
 
-byte-requires : tie.Need-byte-requires Inv-loop μ-loop
-byte-requires c κs = search needs
-
-tail-requires : tie.Need-tail-requires Inv-loop μ-loop
-tail-requires c κs = search needs
-
 enum-told : tie.Need-enum-told Inv-loop μ-loop
 enum-told c = search needs
 
@@ -36,15 +30,6 @@ returns c = let head-record = c .before .before .head-record in
     let args = c .before .before .before .before .before .before .before .before .args in
     let q = now (args .q) in
     range-cut q (loop .at) (loop .n) (rangesPart q) (byte .result) (byte .ensures) (loop .inv .0) (if1 .taken) (now (tail .result)) (head-record .result) (tail .ensures) (head-record .ensures) (c .enum-told2 .given .1)
-
-record-length-requires : tie.Need-record-length-requires Inv-loop μ-loop
-record-length-requires c κs = search needs
-
-add-at : tie.Need-add-at Inv-loop μ-loop
-add-at c = search needs
-
-add-n : tie.Need-add-n Inv-loop μ-loop
-add-n c = search needs
 
 loop-less : tie.Need-loop-less Inv-loop μ-loop
 loop-less c = let enum-told = c .before .enum-told in
@@ -82,15 +67,15 @@ ranges-spec =
     Inv-loop
     μ-loop
     loop-holds
-    byte-requires
-    tail-requires
+    (λ c κs. search needs)
+    (λ c κs. search needs)
     (λ c κs. search needs)
     enum-told
     (λ c. search needs)
     returns
-    record-length-requires
-    add-at
-    add-n
+    (λ c κs. search needs)
+    (λ c. search needs)
+    (λ c. search needs)
     loop-less
     loop-again
     returns-2)

@@ -24,72 +24,56 @@ use Rattle.reader.proofs.refused.Reads as refused-reads
 use Rattle.reader.proofs.syntax.accepted.Reads as accepted-reads
 use Rattle.tokens.proofs.cut.Reads as cut-reads
 
--- src/lib.rt:45:30
 cut-requires : tie.Need-cut-requires
 cut-requires c κs = search needs
 
--- src/lib.rt:45:25
 enum-known-n : tie.Need-enum-known-n
 enum-known-n c = search needs
 
--- src/lib.rt:46:9
 enum-told : tie.Need-enum-told
 enum-told c = search needs
 
--- src/lib.rt:46:9
 refused-requires : tie.Need-refused-requires
 refused-requires c κs = search needs
 
--- src/lib.rt:46:9
 same-length : tie.Need-same-length
 same-length c = search needs
 
--- src/lib.rt:46:9
 same-length-2 : tie.Need-same-length-2
 same-length-2 c = search needs
 
--- src/lib.rt:46:9
 same-length-3 : tie.Need-same-length-3
 same-length-3 c = search needs
 
--- src/lib.rt:46:9
 same-length-4 : tie.Need-same-length-4
 same-length-4 c = search needs
 
--- src/lib.rt:46:9
 returns : tie.Need-returns
 returns c = let cut = c .before .before .before .before .before .before .before .before .before .before .before .cut in
     let args = c .before .before .before .before .before .before .before .before .before .before .before .before .before .before .before .before .before .before .before .before .before .before .before .before .args in
     no-tokens (now (args .list)) (now (args .text)) (now (args .out)) (table (cut .last .1 .0) (cut .last .1 .1 .0) (cut .last .1 .1 .1 .0) (cut .last .1 .1 .1 .1 .0)) (cut .result) (cut .ensures .0) (c .before .enum-told .given .1) _ (c .refused .ensures)
 
--- src/lib.rt:48:9
 accepted-requires : tie.Need-accepted-requires
 accepted-requires c κs = let n = c .before .before .n in
     let cut = c .before .before .before .before .before .before .before .before .before .before .before .before .cut in
     let args = c .before .before .before .before .before .before .before .before .before .before .before .before .before .before .before .before .before .before .before .before .before .before .before .before .before .args in let pre = c .before .before .before .before .before .before .before .before .before .before .before .before .before .before .before .before .before .before .before .before .before .before .before .before .before .pre in
     let m = (cut-most (cut .result) (n .given .0 .0) (now (args .text)) (table (cut .last .1 .0) (cut .last .1 .1 .0) (cut .last .1 .1 .1 .0) (cut .last .1 .1 .1 .1 .0)) (cut .ensures .1 .1) (cut .ensures .0) (n .given .1)) in (omega (arith, m .1, cut .kept .1 .0, pre .0 (m .2) .0), m .0)
 
--- src/lib.rt:49:9
 refused-requires-2 : tie.Need-refused-requires-2
 refused-requires-2 c κs = search needs
 
--- src/lib.rt:49:9
 same-length-5 : tie.Need-same-length-5
 same-length-5 c = search needs
 
--- src/lib.rt:49:9
 same-length-6 : tie.Need-same-length-6
 same-length-6 c = search needs
 
--- src/lib.rt:49:9
 same-length-7 : tie.Need-same-length-7
 same-length-7 c = search needs
 
--- src/lib.rt:49:9
 same-length-8 : tie.Need-same-length-8
 same-length-8 c = search needs
 
--- src/lib.rt:49:9
 returns-2 : tie.Need-returns-2
 returns-2 c = let accepted = c .before .before .accepted in
     let n = c .before .before .before .before .before .n in
@@ -98,35 +82,27 @@ returns-2 c = let accepted = c .before .before .accepted in
     let text = now (args .text) in
     no-text (now (args .list)) text (now (args .out)) (table (cut .last .1 .0) (cut .last .1 .1 .0) (cut .last .1 .1 .1 .0) (cut .last .1 .1 .1 .1 .0)) (cut .result) (cut .ensures .0) _ (n .given .1) (accepted .result) (accepted .ensures text (table (cut .last .1 .0) (cut .last .1 .1 .0) (cut .last .1 .1 .1 .0) (cut .last .1 .1 .1 .1 .0)) refl) (c .before .if1 .taken) _ (c .refused2 .ensures)
 
--- src/lib.rt:51:9
 listed-requires : tie.Need-listed-requires
 listed-requires c κs = search needs
 
--- src/lib.rt:52:9
 refused-requires-3 : tie.Need-refused-requires-3
 refused-requires-3 c κs = search needs
 
--- src/lib.rt:52:9
 same-length-9 : tie.Need-same-length-9
 same-length-9 c = search needs
 
--- src/lib.rt:52:9
 same-length-10 : tie.Need-same-length-10
 same-length-10 c = search needs
 
--- src/lib.rt:52:9
 same-length-11 : tie.Need-same-length-11
 same-length-11 c = search needs
 
--- src/lib.rt:52:9
 same-length-12 : tie.Need-same-length-12
 same-length-12 c = search needs
 
--- src/lib.rt:52:9
 same-length-13 : tie.Need-same-length-13
 same-length-13 c = search needs
 
--- src/lib.rt:52:9
 returns-3 : tie.Need-returns-3
 returns-3 c = let listed = c .before .before .before .before .listed in
     let if1 = c .before .before .before .before .before .before .if1 in
@@ -137,21 +113,18 @@ returns-3 c = let listed = c .before .before .before .before .listed in
     let text = now (args .text) in
     bad-names (now (args .list)) text (now (args .out)) (table (cut .last .1 .0) (cut .last .1 .1 .0) (cut .last .1 .1 .1 .0) (cut .last .1 .1 .1 .1 .0)) (cut .result) (cut .ensures .0) _ (n .given .1) (accepted .result) (accepted .ensures text (table (cut .last .1 .0) (cut .last .1 .1 .0) (cut .last .1 .1 .1 .0) (cut .last .1 .1 .1 .1 .0)) refl) (if1 .left) (listed .result) (listed .ensures .0) (c .before .if2 .taken) _ (c .refused3 .ensures)
 
--- src/lib.rt:56:9
 slice-reshare-prefix-elaborate : tie.Need-slice-reshare-prefix-elaborate
 slice-reshare-prefix-elaborate c = let n = c .before .before .before .before .before .before .before .before .before .n in
     let cut = c .before .before .before .before .before .before .before .before .before .before .before .before .before .before .before .before .before .before .before .cut in
     let args = c .before .before .before .before .before .before .before .before .before .before .before .before .before .before .before .before .before .before .before .before .before .before .before .before .before .before .before .before .before .before .before .before .args in let pre = c .before .before .before .before .before .before .before .before .before .before .before .before .before .before .before .before .before .before .before .before .before .before .before .before .before .before .before .before .before .before .before .before .pre in
     (let m = (cut-most (cut .result) (n .given .0 .0) (now (args .text)) (table (cut .last .1 .0) (cut .last .1 .1 .0) (cut .last .1 .1 .1 .0) (cut .last .1 .1 .1 .1 .0)) (cut .ensures .1 .1) (cut .ensures .0) (n .given .1)) in omega (arith, m .1, cut .kept .1 .0, pre .0 (m .2) .0))
 
--- src/lib.rt:56:9
 slice-aggregate-elaborate : tie.Need-slice-aggregate-elaborate
 slice-aggregate-elaborate c = let n = c .before .before .before .before .before .before .before .before .before .before .n in
     let cut = c .before .before .before .before .before .before .before .before .before .before .before .before .before .before .before .before .before .before .before .before .cut in
     let args = c .before .before .before .before .before .before .before .before .before .before .before .before .before .before .before .before .before .before .before .before .before .before .before .before .before .before .before .before .before .before .before .before .before .args in let pre = c .before .before .before .before .before .before .before .before .before .before .before .before .before .before .before .before .before .before .before .before .before .before .before .before .before .before .before .before .before .before .before .before .before .pre in
     sym (length-take-le (n .given .0 .0) (cut .last .1 .0) (let m = (cut-most (cut .result) (n .given .0 .0) (now (args .text)) (table (cut .last .1 .0) (cut .last .1 .1 .0) (cut .last .1 .1 .1 .0) (cut .last .1 .1 .1 .1 .0)) (cut .ensures .1 .1) (cut .ensures .0) (n .given .1)) in omega (arith, m .1, cut .kept .1 .0, pre .0 (m .2) .0)))
 
--- src/lib.rt:54:9
 elaborate-requires : tie.Need-elaborate-requires
 elaborate-requires c κs =
     let cut = c .before .before .before .before .before .before .before .before .before .before .before .before .before .before .before .before .before .before .before .before .before .before .before .before .before .cut in let n = c .before .before .before .before .before .before .before .before .before .before .before .before .before .before .before .n in let pre = c .before .before .before .before .before .before .before .before .before .before .before .before .before .before .before .before .before .before .before .before .before .before .before .before .before .before .before .before .before .before .before .before .before .before .before .before .before .before .pre in let text = now (c .before .before .before .before .before .before .before .before .before .before .before .before .before .before .before .before .before .before .before .before .before .before .before .before .before .before .before .before .before .before .before .before .before .before .before .before .before .before .args .text) in
@@ -161,31 +134,24 @@ elaborate-requires c κs =
     let l = length-take-le (n .given .0 .0) (cut .last .1 .0) h in
     (omega (arith, l, m .0), omega (arith, l, m .1, cut .kept .1 .1 .1 .1 .0, pre .0 (m .2) .3), coded-first text (cut .last .1 .0) (cut .last .1 .1 .0) (cut .last .1 .1 .1 .0) (cut .last .1 .1 .1 .1 .0) (n .given .0 .0) h (subst (λ (o : Outcome). Coded text t (counted o)) (n .given .1) (cut .ensures .1 .0)), c .before .before .before .before .before .before .before .before .before .listed .ensures .1 (not-false (c .before .before .before .before .before .before .before .before .before .listed .result) (c .before .before .before .before .before .before .if2 .left)))
 
--- src/lib.rt:30:1
 same-length-14 : tie.Need-same-length-14
 same-length-14 c = search needs
 
--- src/lib.rt:30:1
 same-length-15 : tie.Need-same-length-15
 same-length-15 c = search needs
 
--- src/lib.rt:30:1
 same-length-16 : tie.Need-same-length-16
 same-length-16 c = search needs
 
--- src/lib.rt:30:1
 same-length-17 : tie.Need-same-length-17
 same-length-17 c = search needs
 
--- src/lib.rt:30:1
 same-length-18 : tie.Need-same-length-18
 same-length-18 c = search needs
 
--- src/lib.rt:30:1
 same-length-19 : tie.Need-same-length-19
 same-length-19 c = search needs
 
--- src/lib.rt:30:1
 returns-4 : tie.Need-returns-4
 returns-4 c = let elaborate = c .before .before .elaborate in
     let if2 = c .before .before .before .before .before .before .before .before .before .if2 in
