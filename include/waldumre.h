@@ -63,10 +63,10 @@ extern "C" {
 /*
  * Stack that a call may take, with margin. All memory beside the caller's buffers is there. Measured:
  * waldumre_ask takes at most 234,000 bytes, and waldumre_evaluate 239,000 for an accepted query, each
- * a sum: the deepest query as measured (123,000 and 163,000), and the tables for large relations
+ * a sum: the deepest query as measured (122,000 and 164,000), and the tables for large relations
  * (43,000 for equal rows of an answer, 33,000 for equal rows of a range; for waldumre_ask 17,000 for
  * the permitted rows and as much for marks); to refuse 17,216 bytes of aggregates nested without end
- * waldumre_evaluate takes 552,000. waldumre_read_query takes at most 87,000, and waldumre_ask_text no
+ * waldumre_evaluate takes 592,000. waldumre_read_query takes at most 87,000, and waldumre_ask_text no
  * more than the larger of reader and ask.
  */
 #define WALDUMRE_STACK_BYTES 1048576
