@@ -32,7 +32,7 @@ enum { COUNT = sizeof TEXTS / sizeof *TEXTS, NAME = 12 };
 static uint8_t list[1024];
 static size_t list_length;
 
-/* One record of the name list; value is the attribute of kind 81, the low byte of kind 82's number comes first. */
+/* One record of the name list: its kind, the first two bytes of its body (those after them are 0) and the name. */
 static void name(uint8_t kind, uint8_t first, uint8_t second, const char *word)
 {
     size_t body = kind == 80 ? 1 : kind == 81 ? 2 : 4;

@@ -161,7 +161,7 @@ fn gather(
     ensures { λ r. ⌜ r .count ≤ 65535 ⌝ }
     ensures { λ _. ⌜ now (env .exit) ≡ now (env .entry) ⌝ }
 {
-    let mut t = [0u16; 768];
+    let mut t = [0u16; branches::ENTRIES];
     conjuncts::plan(q, z, 0, 0, level, memo, &mut t);
     if asks(&t) {
         return take_linked(&t, q, z, walks, values, memo, env, column);

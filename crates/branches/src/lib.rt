@@ -18,6 +18,14 @@ ghost use Rattle.walks.specs.Assigned.{assigned};
 ghost use Rattle.branches.specs.Branches as B;
 ghost use Rattle.branches.specs.Compiled as C;
 
+// How many entries a table has: 64 branches of eight, then the halves of their numbers.
+pub const ENTRIES: usize = 768;
+
+// Where the low halves begin, and the high ones.
+const NUMBERS: usize = 512;
+
+const HIGH: usize = NUMBERS + 1;
+
 // A number from its two halves.
 fn joined(low: usize, high: usize) -> i32
     requires { ⌜ (low ≤ 65535) × (high ≤ 65535) ⌝ }
@@ -36,8 +44,8 @@ fn number(t: &[u16], j: usize) -> i32
     requires { ⌜ j ≤ 1048576 ⌝ }
     ensures { λ r. ⌜ r ≡ B.number (now (t .entry)) j ⌝ }
 {
-    let low = kinds::size_at(t, 512 + 2 * j);
-    let high = kinds::size_at(t, 513 + 2 * j);
+    let low = kinds::size_at(t, NUMBERS + 2 * j);
+    let high = kinds::size_at(t, HIGH + 2 * j);
     joined(low, high)
 }
 
@@ -252,7 +260,7 @@ fn write_numbers(t: &mut [u16], k: usize, a: u16, b: u16, c: u16, d: u16)
     requires { ⌜ (768 ≤ length (now t)) × (k < 64) ⌝ }
     ensures { λ _. ⌜ now (t .exit) ≡ sets (now (t .entry)) (512 + 4 * k) (a ∷ b ∷ c ∷ d ∷ []) ⌝ }
 {
-    let i = 512 + 4 * k;
+    let i = NUMBERS + 4 * k;
     t[i] = a;
     t[i + 1] = b;
     t[i + 2] = c;

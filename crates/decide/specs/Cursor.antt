@@ -12,7 +12,7 @@ use Rattle.model.specs.Meaning.{Tuple}
 use Rattle.walks.specs.declared.Walk.{Walk}
 use Rattle.walks.specs.Walks.{walkOf}
 use Rattle.walks.specs.Assigned.{assigned}
-use Rattle.branches.specs.Branches.{number, runs}
+use Rattle.branches.specs.Branches.{runs}
 use Rattle.decide.specs.Chains.{same, Entered}
 use Rattle.decide.specs.declared.chains.Entry.{Entry}
 use Rattle.decide.specs.declared.seeks.Test.{Test}

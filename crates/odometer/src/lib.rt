@@ -25,7 +25,7 @@ ghost use Rattle.odometer.specs.Plan.{Bounds, cellsBy, cellsIn, Listed, 
 ghost use Rattle.odometer.specs.Plan.{codeIn, chainsIn, listIn, tableIn, frontOf};
 
 // How many entries of the lent table `work` are branches; behind them stand the chains, the list of targets, and the table of the answer's rows.
-pub const BRANCHES: usize = 768;
+pub const BRANCHES: usize = branches::ENTRIES;
 
 // How many the list has, two for each target.
 const LIST: usize = 2 * model::TARGETS;

@@ -405,7 +405,7 @@ fn judge_each(
     ensures { λ _. ⌜ J.Marked (J.judgedOn level (now (q .entry)) (now (z .entry)) (now (walks .entry)) (now (values .entry)) (now (memo .entry)) walk
         wanted) (walk .count) (now (marks .entry)) (now (marks .exit)) ⌝ }
 {
-    let mut t = [0u16; 768];
+    let mut t = [0u16; branches::ENTRIES];
     let met = end_of(wanted);
     let unmet = end_of(!wanted);
     let room = Room { next: 2, end: 64 };
