@@ -41,12 +41,13 @@ blocks, answers = [], {}
 for block in re.split(r'\n\n+', text.rstrip('\n')):
     m = re.match(r'(\S+) : (?:\(t : ℕ\) → \S+-lts|tie)\.Need-\S+([^\n]*)\n', block)
     if m:
-        answers[m.group(1)] = (m.group(2), re.search(r'\A\S+ (?:t )?c(?: κs)? =\s*(.*)\Z', block[m.end():], flags=re.S).group(1))
+        a = re.search(r'\A(unfolding [^\n]*\n)?\S+ (?:t )?c(?: κs)? =\s*(.*)\Z', block[m.end():], flags=re.S)
+        answers[m.group(1)] = (m.group(2), a.group(2), a.group(1) or '')
     else:
         blocks.append(block)
 done, known, spec = [], set(), blocks.pop()
 requires = re.compile(r'.*-requires(-\d+)?')
-if folder.startswith('+'):
+if os.path.basename(folder).startswith('+'):
     for file in sorted(f[:-5] for f in os.listdir(p.dir) if f.startswith('Lts-')):
         member, short = file[4:], file[4:].replace('_', '-')
         tail = next(a[0] for n, a in answers.items() if n.startswith(short + '-'))
@@ -57,14 +58,14 @@ if folder.startswith('+'):
             done.append(f'{name} : (t : ℕ) → {short}-lts.Need-{need}{tail}\n{name} t c{" κs" if requires.fullmatch(need) else ""} = {answer}')
             names_here.append(f'({name} t)')
             known.add(name)
-        first = rf'({short}-lts\.spec \({short}-claims t\)\s+\({short}-at t\)\s+{short}\.Post(?:\s+[A-Za-zμ][\w-]*)*)(?:\s+\({short}-[\w-]+ t\))+'
+        first = rf'({short}-lts\.spec \({short}-claims t\)\s+\({short}-at t\)\s+{short}\.Post(?:\s+[A-Za-zμ][\w-]*)*)(?:\s+\((?:{short}-[\w-]+ t|λ c(?: κs)?\. search needs)\))+'
         spec = re.sub(first, lambda m: m.group(1) + '\n    ' + '\n    '.join(names_here), spec)
 else:
     tail = next((a[0] for a in answers.values()), '')
     lines = ['Inv-loop', 'μ-loop'] if 'Inv-loop' in tail else []
     for need in needs_of('Lts'):
         if need in answers:
-            done.append(f'{need} : tie.Need-{need}{tail}\n{need} c{" κs" if requires.fullmatch(need) else ""} = {anew(need, None, answers[need][1])}')
+            done.append(f'{need} : tie.Need-{need}{tail}\n{answers[need][2]}{need} c{" κs" if requires.fullmatch(need) else ""} = {anew(need, None, answers[need][1])}')
             lines.append(need)
             known.add(need)
         else:

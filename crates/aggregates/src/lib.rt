@@ -19,10 +19,11 @@ ghost use Rattle.decide.specs.Keys.{Faithful};
 ghost use Rattle.aggregates.specs.Taken.{bothFrom, takenBy};
 ghost use Rattle.aggregates.specs.Filled.{filledC, filledT, filledTs};
 
-// The column that an aggregate takes: an attribute of its variable.
+// What an aggregate takes: an attribute of its variable, of the rows that meet a condition, which is read down to a level.
 struct Column {
     variable: u8,
     attribute: usize,
+    level: usize,
 }
 
 // Whether a level can stand in a table of branches.
@@ -148,19 +149,19 @@ fn asks(t: &[u16]) -> bool {
 fn gather(
     q: &[u8],
     z: &[u16],
-    level: usize,
     walks: &[u16],
     values: &[i32],
     memo: &[i64],
     env: &mut [usize],
     column: Column,
 ) -> Accumulator
-    requires { ⌜ (256 ≤ length (now env)) × (level ≤ 65535) × (column .variable < 256) ⌝ }
-    ensures { λ r. ⌜ Accumulates r (valuesOn level (now (q .entry)) (now (z .entry)) (now (walks .entry)) (now (values .entry)) (now (memo .entry))
+    requires { ⌜ (256 ≤ length (now env)) × (column .level ≤ 65535) × (column .variable < 256) ⌝ }
+    ensures { λ r. ⌜ Accumulates r (valuesOn (column .level) (now (q .entry)) (now (z .entry)) (now (walks .entry)) (now (values .entry)) (now (memo .entry))
         (now (env .entry)) (column .variable) (column .attribute)) ⌝ }
     ensures { λ r. ⌜ r .count ≤ 65535 ⌝ }
     ensures { λ _. ⌜ now (env .exit) ≡ now (env .entry) ⌝ }
 {
+    let level = column.level;
     let mut t = [0u16; branches::ENTRIES];
     conjuncts::plan(q, z, 0, 0, level, memo, &mut t);
     if asks(&t) {
@@ -202,8 +203,9 @@ fn value(
     let column = Column {
         variable,
         attribute: attribute as usize,
+        level: l,
     };
-    let taken = gather(x, y, l, walks, values, memo, env, column);
+    let taken = gather(x, y, walks, values, memo, env, column);
     numbers::finish(function, taken)
 }
 
@@ -362,32 +364,42 @@ fn target_term(
     remember(memo, variable, x);
 }
 
+// How many targets are left, and the level down to which each is read.
+pub struct Left {
+    pub targets: usize,
+    pub level: usize,
+}
+
 // The aggregates of so many targets.
 pub fn targets(
     q: &[u8],
     z: &[u16],
-    left: usize,
-    level: usize,
+    left: Left,
     walks: &[u16],
     values: &[i32],
     env: &mut [usize],
     memo: &mut [i64],
 )
     requires { ⌜ 256 ≤ length (now env) ⌝ }
-    ensures { λ _. ⌜ now (memo .exit) ≡ filledTs (targetsAt left level (now (q .entry)) (now (z .entry)))
+    ensures { λ _. ⌜ now (memo .exit) ≡ filledTs (targetsAt (left .targets) (left .level) (now (q .entry)) (now (z .entry)))
         (rowsBy (now (walks .entry)) (now (values .entry))) (assigned (now (values .entry)) (now (env .entry))) (now (memo .entry)) ⌝ }
     ensures { λ _. ⌜ now (env .exit) ≡ now (env .entry) ⌝ }
 {
-    if left == 0 {
+    let n = left.targets;
+    let level = left.level;
+    if n == 0 {
         return;
     }
     target_term(q, z, level, walks, values, env, memo);
-    let n = kinds::size_at(z, 0);
-    targets(
-        kinds::tail(q, n),
-        kinds::tail_sizes(z, n),
-        left - 1,
+    let size = kinds::size_at(z, 0);
+    let rest = Left {
+        targets: n - 1,
         level,
+    };
+    targets(
+        kinds::tail(q, size),
+        kinds::tail_sizes(z, size),
+        rest,
         walks,
         values,
         env,

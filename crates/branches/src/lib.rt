@@ -229,29 +229,37 @@ fn narrow(x: usize) -> u16
     x as u16
 }
 
+// Where a condition leads that holds, and one that does not.
+pub struct Ways {
+    pub met: usize,
+    pub unmet: usize,
+}
+
+// Two numbers of a branch: an operand's variable and attribute, a condition's place and level, or a row's variable and what is asked of it.
+struct Pair {
+    first: u16,
+    second: u16,
+}
+
+const NO_PAIR: Pair = Pair {
+    first: 0,
+    second: 0,
+};
+
 // Writes eight numbers for branch k.
-fn write(
-    t: &mut [u16],
-    k: usize,
-    operator: u16,
-    a: u16,
-    b: u16,
-    c: u16,
-    d: u16,
-    met: usize,
-    unmet: usize,
-)
-    requires { ⌜ (768 ≤ length (now t)) × (k < 64) × (met ≤ 65535) × (unmet ≤ 65535) ⌝ }
-    ensures { λ _. ⌜ now (t .exit) ≡ sets (now (t .entry)) (8 * k) (operator ∷ a ∷ b ∷ c ∷ d ∷ met ∷ unmet ∷ 0 ∷ []) ⌝ }
+fn write(t: &mut [u16], k: usize, operator: u16, left: Pair, right: Pair, ways: Ways)
+    requires { ⌜ (768 ≤ length (now t)) × (k < 64) × (ways .met ≤ 65535) × (ways .unmet ≤ 65535) ⌝ }
+    ensures { λ _. ⌜ now (t .exit) ≡ sets (now (t .entry)) (8 * k) (operator ∷ left .first ∷ left .second ∷ right .first ∷ right .second ∷ ways .met
+        ∷ ways .unmet ∷ 0 ∷ []) ⌝ }
 {
     let i = 8 * k;
     t[i] = operator;
-    t[i + 1] = a;
-    t[i + 2] = b;
-    t[i + 3] = c;
-    t[i + 4] = d;
-    t[i + 5] = narrow(met);
-    t[i + 6] = narrow(unmet);
+    t[i + 1] = left.first;
+    t[i + 2] = left.second;
+    t[i + 3] = right.first;
+    t[i + 4] = right.second;
+    t[i + 5] = narrow(ways.met);
+    t[i + 6] = narrow(ways.unmet);
     t[i + 7] = 0;
 }
 
@@ -267,57 +275,49 @@ fn write_numbers(t: &mut [u16], k: usize, a: u16, b: u16, c: u16, d: u16)
     t[i + 3] = d;
 }
 
-// Where a condition leads that holds, and one that does not.
-pub struct Ways {
-    pub met: usize,
-    pub unmet: usize,
-}
-
 // The branches that are free: from one on, and below an end.
 pub struct Room {
     pub next: usize,
     pub end: usize,
 }
 
+// Where a condition stands, and down to which level it is read.
+pub struct Spot {
+    pub place: usize,
+    pub level: usize,
+}
+
 // Branch k for the condition at a place: a comparison where it is one.
-fn single(
-    q: &[u8],
-    z: &[u16],
-    place: usize,
-    level: usize,
-    memo: &[i64],
-    t: &mut [u16],
-    k: usize,
-    ways: Ways,
-)
-    requires { ⌜ (768 ≤ length (now t)) × (2 ≤ k) × (k < 64) × (ways .met < k) × (ways .unmet < k) × (place ≤ 65535)
-        × (level ≤ 65535) ⌝ }
+fn single(q: &[u8], z: &[u16], spot: Spot, memo: &[i64], t: &mut [u16], k: usize, ways: Ways)
+    requires { ⌜ (768 ≤ length (now t)) × (2 ≤ k) × (k < 64) × (ways .met < k) × (ways .unmet < k) × (spot .place ≤ 65535)
+        × (spot .level ≤ 65535) ⌝ }
     ensures { λ _. ⌜ C.Compiled k k (ways .met) (ways .unmet) (now (t .entry)) (now (t .exit))
-        (now (q .entry)) (now (z .entry)) (now (memo .entry)) (decode level (drop place (now (q .entry))) (drop place (now (z .entry)))) ⌝ }
+        (now (q .entry)) (now (z .entry)) (now (memo .entry)) (decode (spot .level) (drop (spot .place) (now (q .entry)))
+        (drop (spot .place) (now (z .entry)))) ⌝ }
 {
-    let met = ways.met;
-    let unmet = ways.unmet;
+    let place = spot.place;
+    let level = spot.level;
     let c = kinds::tail(q, place);
     let sizes = kinds::tail_sizes(z, place);
     let x = comparison_at(c, sizes, level, memo);
     let operator = x.operator;
     if operator == 0 {
-        write(t, k, 0, narrow(place), narrow(level), 0, 0, met, unmet);
+        let first = narrow(place);
+        let second = narrow(level);
+        write(t, k, 0, Pair { first, second }, NO_PAIR, ways);
         return;
     }
     let a = x.left;
     let b = x.right;
-    write(
-        t,
-        k,
-        from_byte(operator),
-        a.variable,
-        a.attribute,
-        b.variable,
-        b.attribute,
-        met,
-        unmet,
-    );
+    let left = Pair {
+        first: a.variable,
+        second: a.attribute,
+    };
+    let right = Pair {
+        first: b.variable,
+        second: b.attribute,
+    };
+    write(t, k, from_byte(operator), left, right, ways);
     write_numbers(t, k, a.low, a.high, b.low, b.high);
 }
 
@@ -420,55 +420,60 @@ fn search_at(q: &[u8], place: usize, level: usize, room: usize) -> Search
 pub fn compile(
     q: &[u8],
     z: &[u16],
-    place: usize,
-    level: usize,
+    spot: Spot,
     memo: &[i64],
     t: &mut [u16],
     room: Room,
     ways: Ways,
 ) -> usize
     requires { ⌜ (768 ≤ length (now t)) × (2 ≤ room .next) × (room .next < room .end)
-        × (room .end ≤ 64) × (ways .met < room .next) × (ways .unmet < room .next) × (place ≤ 65535) × (level ≤ 65535) ⌝ }
+        × (room .end ≤ 64) × (ways .met < room .next) × (ways .unmet < room .next) × (spot .place ≤ 65535) × (spot .level ≤ 65535) ⌝ }
     ensures { λ r. ⌜ (room .next ≤ r) × (r < room .end) ⌝ }
     ensures { λ r. ⌜ C.Compiled (room .next) r (ways .met) (ways .unmet) (now (t .entry)) (now (t .exit))
-        (now (q .entry)) (now (z .entry)) (now (memo .entry)) (decode level (drop place (now (q .entry))) (drop place (now (z .entry)))) ⌝ }
+        (now (q .entry)) (now (z .entry)) (now (memo .entry)) (decode (spot .level) (drop (spot .place) (now (q .entry)))
+        (drop (spot .place) (now (z .entry)))) ⌝ }
 {
     let k = room.next;
     let end = room.end;
     let m = ways.met;
     let u = ways.unmet;
-    let x = parts_at(q, z, place, level, end - k);
+    let x = parts_at(q, z, spot.place, spot.level, end - k);
     let kind = x.kind;
     if kind == 0 {
-        let s = search_at(q, place, level, end - k);
-        let inner = s.place;
-        if inner == 0 {
-            single(q, z, place, level, memo, t, k, ways);
+        let s = search_at(q, spot.place, spot.level, end - k);
+        let place = s.place;
+        if place == 0 {
+            single(q, z, spot, memo, t, k, ways);
             return k;
         }
+        let level = spot.level - 1;
         let last = end - 1;
         let inside = Room { next: k, end: last };
         let ends = Ways { met: 0, unmet: 1 };
-        let r = compile(q, z, inner, level - 1, memo, t, inside, ends);
-        write(t, r + 1, 256, s.variable, narrow(r), 0, 0, m, u);
+        let r = compile(q, z, Spot { place, level }, memo, t, inside, ends);
+        let first = s.variable;
+        let second = narrow(r);
+        write(t, r + 1, 256, Pair { first, second }, NO_PAIR, ways);
         return r + 1;
     }
-    let first = x.first;
-    let second = x.second;
-    let l = level - 1;
+    let level = spot.level - 1;
+    let place = x.first;
+    let first = Spot { place, level };
     if kind == 1 {
         let turned = Ways { met: u, unmet: m };
-        return compile(q, z, first, l, memo, t, room, turned);
+        return compile(q, z, first, memo, t, room, turned);
     }
+    let place = x.second;
+    let second = Spot { place, level };
     let last = end - 1;
     let left = Room { next: k, end: last };
-    let r = compile(q, z, second, l, memo, t, left, ways);
+    let r = compile(q, z, second, memo, t, left, ways);
     let next = r + 1;
     let rest = Room { next, end };
     if kind == 2 {
         let both = Ways { met: r, unmet: u };
-        return compile(q, z, first, l, memo, t, rest, both);
+        return compile(q, z, first, memo, t, rest, both);
     }
     let either = Ways { met: m, unmet: r };
-    compile(q, z, first, l, memo, t, rest, either)
+    compile(q, z, first, memo, t, rest, either)
 }

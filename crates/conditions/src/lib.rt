@@ -113,7 +113,12 @@ pub fn condition(
         }
         ConditionRecord::Some(v, r) => {
             let a = kinds::record_length(22);
-            let inner = some(q, z, at + a, l, catalogue, limit, reach, v, r);
+            let under = Under {
+                at: at + a,
+                level: l,
+                variable: v,
+            };
+            let inner = some(q, z, under, catalogue, limit, reach, r);
             parent(z, at, a, inner)
         }
         ConditionRecord::Other => Reading::Refused,
@@ -167,53 +172,62 @@ fn terms(
     also(Reading::Whole(n + m, second), first)
 }
 
+// The condition under a SOME or an aggregate: where it stands, the level down to which it is read, and the variable that is bound.
+struct Under {
+    at: usize,
+    level: usize,
+    variable: u8,
+}
+
 // The condition under SOME: its variable is in reach there, and as it was afterwards.
 fn some(
     q: &[u8],
     z: &mut [u16],
-    at: usize,
-    level: usize,
+    under: Under,
     catalogue: &[u8],
     limit: u8,
     reach: &mut [u16],
-    variable: u8,
     relation: u8,
 ) -> Reading
-    requires { ⌜ (at ≤ length (now q)) × (limit ≤ length (now reach)) ⌝ }
-    ensures { λ r. ⌜ r ≡ someReading (shapeIn (now (catalogue .entry))) limit level (record { variable = variable; relation = relation })
-        (scopeOf (now (reach .entry))) (drop at (now (q .entry))) ⌝ }
-    ensures { λ _. ⌜ now (z .exit) ≡ conditionTable level (now (q .entry)) at (now (z .entry)) ⌝ }
+    requires { ⌜ (under .at ≤ length (now q)) × (limit ≤ length (now reach)) ⌝ }
+    ensures { λ r. ⌜ r ≡ someReading (shapeIn (now (catalogue .entry))) limit (under .level) (record { variable = under .variable; relation = relation })
+        (scopeOf (now (reach .entry))) (drop (under .at) (now (q .entry))) ⌝ }
+    ensures { λ _. ⌜ now (z .exit) ≡ conditionTable (under .level) (now (q .entry)) (under .at) (now (z .entry)) ⌝ }
     ensures { λ _. ⌜ now (reach .exit) ≡ now (reach .entry) ⌝ }
 {
-    let old = scope::entry(reach, variable);
-    scope::bind(reach, variable, relation);
-    let inner = condition(q, z, at, level, catalogue, limit, reach);
-    scope::put(reach, variable, old);
-    also(inner, scope::known(catalogue, limit, variable, relation))
+    let old = scope::entry(reach, under.variable);
+    scope::bind(reach, under.variable, relation);
+    let inner = condition(q, z, under.at, under.level, catalogue, limit, reach);
+    scope::put(reach, under.variable, old);
+    also(
+        inner,
+        scope::known(catalogue, limit, under.variable, relation),
+    )
 }
 
 // The condition under an aggregate: of the variables in reach only its own reaches it.
 fn aggregate(
     q: &[u8],
     z: &mut [u16],
-    at: usize,
-    level: usize,
+    under: Under,
     catalogue: &[u8],
     limit: u8,
-    variable: u8,
     relation: u8,
     attribute: u8,
 ) -> Reading
-    requires { ⌜ at ≤ length (now q) ⌝ }
-    ensures { λ r. ⌜ r ≡ aggregateReading (shapeIn (now (catalogue .entry))) limit level (record { variable = variable; relation = relation })
-        attribute (drop at (now (q .entry))) ⌝ }
-    ensures { λ _. ⌜ now (z .exit) ≡ conditionTable level (now (q .entry)) at (now (z .entry)) ⌝ }
+    requires { ⌜ (under .at ≤ length (now q)) × (under .variable < 256) ⌝ }
+    ensures { λ r. ⌜ r ≡ aggregateReading (shapeIn (now (catalogue .entry))) limit (under .level) (record { variable = under .variable; relation = relation })
+        attribute (drop (under .at) (now (q .entry))) ⌝ }
+    ensures { λ _. ⌜ now (z .exit) ≡ conditionTable (under .level) (now (q .entry)) (under .at) (now (z .entry)) ⌝ }
 {
     let mut inner = [0u16; 256];
-    scope::bind(&mut inner, variable, relation);
-    let r = condition(q, z, at, level, catalogue, limit, &mut inner);
+    scope::bind(&mut inner, under.variable, relation);
+    let r = condition(q, z, under.at, under.level, catalogue, limit, &mut inner);
     let known = also(r, scope::has(catalogue, relation as usize, attribute));
-    also(known, scope::known(catalogue, limit, variable, relation))
+    also(
+        known,
+        scope::known(catalogue, limit, under.variable, relation),
+    )
 }
 
 // The term at a place.
@@ -244,7 +258,12 @@ pub fn term(
                 return Reading::Refused;
             }
             let k = kinds::record_length(34);
-            let inner = aggregate(q, z, at + k, level - 1, catalogue, limit, v, r, a);
+            let under = Under {
+                at: at + k,
+                level: level - 1,
+                variable: v,
+            };
+            let inner = aggregate(q, z, under, catalogue, limit, r, a);
             parent(z, at, k, inner)
         }
         TermRecord::Other => Reading::Refused,

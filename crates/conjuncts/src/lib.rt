@@ -1,6 +1,7 @@
 // The condition of a query, split at its ANDs into conjuncts. Each is compiled into branches before those of its stage, so that it is tried as
 // soon as the range variables it uses are bound (specs/Stages).
 use branches::Room;
+use branches::Spot;
 use branches::Ways;
 ghost use mathlib.Core.Path.{_≡_};
 ghost use Prim.Native.Nat.{ℕ, _+_, _*_, _≤_, _<_};
@@ -129,18 +130,20 @@ fn join(
     q: &[u8],
     z: &[u16],
     ranges: usize,
-    place: usize,
-    level: usize,
+    spot: Spot,
     memo: &[i64],
     t: &mut [u16],
     room: Room,
 ) -> usize
     requires { ⌜ (768 ≤ length (now t)) × (2 ≤ room .next) × (room .next < room .end)
-        × (room .end ≤ 64) × (ranges ≤ 7) × (place ≤ 65535) × (level ≤ 65535) × F.Begun (room .next) (now t) ⌝ }
+        × (room .end ≤ 64) × (ranges ≤ 7) × (spot .place ≤ 65535) × (spot .level ≤ 65535) × F.Begun (room .next) (now t) ⌝ }
     ensures { λ r. ⌜ (room .next ≤ r) × (r ≤ room .end) ⌝ }
     ensures { λ r. ⌜ F.Joined r (now (t .entry)) (now (t .exit)) (now (q .entry)) (now (z .entry))
-        (now (memo .entry)) (decode level (drop place (now (q .entry))) (drop place (now (z .entry)))) (rangesAt ranges (now (q .entry))) ⌝ }
+        (now (memo .entry)) (decode (spot .level) (drop (spot .place) (now (q .entry)))
+        (drop (spot .place) (now (z .entry)))) (rangesAt ranges (now (q .entry))) ⌝ }
 {
+    let place = spot.place;
+    let level = spot.level;
     let k = room.next;
     if always(q, place, level) {
         return k;
@@ -152,7 +155,7 @@ fn join(
         met: after,
         unmet: 1,
     };
-    let r = branches::compile(q, z, place, level, memo, t, room, ways);
+    let r = branches::compile(q, z, spot, memo, t, room, ways);
     t[s] = narrow(r);
     r + 1
 }
@@ -162,32 +165,34 @@ fn split(
     q: &[u8],
     z: &[u16],
     ranges: usize,
-    place: usize,
-    level: usize,
+    spot: Spot,
     memo: &[i64],
     t: &mut [u16],
     room: Room,
 ) -> usize
     requires { ⌜ (768 ≤ length (now t)) × (2 ≤ room .next) × (room .next < room .end)
-        × (room .end ≤ 64) × (ranges ≤ 7) × (place ≤ 65535) × (level ≤ 65535) × F.Begun (room .next) (now t) ⌝ }
+        × (room .end ≤ 64) × (ranges ≤ 7) × (spot .place ≤ 65535) × (spot .level ≤ 65535) × F.Begun (room .next) (now t) ⌝ }
     ensures { λ r. ⌜ (room .next ≤ r) × (r ≤ room .end) ⌝ }
     ensures { λ r. ⌜ F.Joined r (now (t .entry)) (now (t .exit)) (now (q .entry)) (now (z .entry))
-        (now (memo .entry)) (decode level (drop place (now (q .entry))) (drop place (now (z .entry)))) (rangesAt ranges (now (q .entry))) ⌝ }
+        (now (memo .entry)) (decode (spot .level) (drop (spot .place) (now (q .entry)))
+        (drop (spot .place) (now (z .entry)))) (rangesAt ranges (now (q .entry))) ⌝ }
 {
     let k = room.next;
     let end = room.end;
-    let x = branches::parts_at(q, z, place, level, end - k);
-    let first = x.first;
-    let second = x.second;
+    let x = branches::parts_at(q, z, spot.place, spot.level, end - k);
     if x.kind != 2 {
-        return join(q, z, ranges, place, level, memo, t, room);
+        return join(q, z, ranges, spot, memo, t, room);
     }
-    let l = level - 1;
+    let level = spot.level - 1;
+    let place = x.first;
+    let first = Spot { place, level };
+    let place = x.second;
+    let second = Spot { place, level };
     let last = end - 1;
     let left = Room { next: k, end: last };
-    let next = split(q, z, ranges, second, l, memo, t, left);
+    let next = split(q, z, ranges, second, memo, t, left);
     let rest = Room { next, end };
-    split(q, z, ranges, first, l, memo, t, rest)
+    split(q, z, ranges, first, memo, t, rest)
 }
 
 // The condition at a place of a query with so many RANGE records, in a cleared table of at most 62 branches.
@@ -205,5 +210,9 @@ pub fn plan(
         (now (memo .entry)) (decode level (drop condition (now (q .entry))) (drop condition (now (z .entry)))) (rangesAt ranges (now (q .entry)))) ⌝ }
 {
     let room = Room { next: 2, end: 64 };
-    split(q, z, ranges, condition, level, memo, t, room);
+    let spot = Spot {
+        place: condition,
+        level,
+    };
+    split(q, z, ranges, spot, memo, t, room);
 }

@@ -60,29 +60,33 @@ pub(crate) fn build(
     }
 }
 
+// What a chain is followed by: where it stands, the attribute, and the value that is looked for.
+pub struct Entry {
+    pub at: usize,
+    pub attribute: usize,
+    pub value: i64,
+}
+
 // From a link on, the first of the bucket's rows with the value itself, as a link.
 fn next_equal(
     values: &[i32],
     walks: &[u16],
     walk: Walk,
-    attribute: usize,
-    x: i64,
+    x: Entry,
     chains: &[u16],
-    nexts: usize,
     link: usize,
 ) -> usize
-    requires { ⌜ Fits walk × (nexts ≤ 131072) × (link ≤ walk .count) × C.Nexts (C.bucketAt (now values) (now walks) walk attribute) (walk .count)
-        nexts (now chains) ⌝ }
-    ensures { λ r. ⌜ ((from : ℕ) → C.First (λ (j : ℕ). C.bucketAt (now (values .entry)) (now (walks .entry)) walk attribute j ≡ C.bucketOf x) from
-        (walk .count) link → C.First (λ (j : ℕ). C.same (C.keyAt (now (values .entry)) (now (walks .entry)) walk attribute j) x ≡ true) from
-        (walk .count) r) ⌝ }
+    requires { ⌜ Fits walk × (link ≤ walk .count) × C.Entered x (now values) (now walks) walk (now chains) ⌝ }
+    ensures { λ r. ⌜ ((from : ℕ) → C.First (λ (j : ℕ). C.bucketAt (now (values .entry)) (now (walks .entry)) walk (x .attribute) j ≡ C.bucketOf (x .value))
+        from (walk .count) link → C.First (λ (j : ℕ). C.same (C.keyAt (now (values .entry)) (now (walks .entry)) walk (x .attribute) j) (x .value) ≡ true)
+        from (walk .count) r) ⌝ }
 {
     let mut at = link;
     while 0 < at {
-        if equal(key(values, walks, walk, attribute, at - 1), x) {
+        if equal(key(values, walks, walk, x.attribute, at - 1), x.value) {
             return at;
         }
-        at = kinds::size_at(chains, nexts + (at - 1));
+        at = kinds::size_at(chains, x.at + 1024 + (at - 1));
     }
     0
 }
@@ -93,13 +97,6 @@ fn row_of(link: usize, rows: usize) -> usize
     ensures { λ r. ⌜ (r ≤ rows) × ((link ≡ 0 → r ≡ rows) × (0 < link → r + 1 ≡ link)) ⌝ }
 {
     if link == 0 { rows } else { link - 1 }
-}
-
-// What a chain is followed by: where it stands, the attribute, and the value that is looked for.
-pub struct Entry {
-    pub at: usize,
-    pub attribute: usize,
-    pub value: i64,
 }
 
 // Where the link stands with which a chain is entered: at its head, or behind a row with the value.
@@ -129,20 +126,9 @@ pub(crate) fn follow(
     ensures { λ r. ⌜ ((j : ℕ) → from ≤ j → j < r → C.same (C.keyAt (now (values .entry)) (now (walks .entry)) walk (x .attribute) j) (x .value) ≡ true → ⊥) ⌝ }
     ensures { λ r. ⌜ (r < walk .count → C.same (C.keyAt (now (values .entry)) (now (walks .entry)) walk (x .attribute) r) (x .value) ≡ true) ⌝ }
 {
-    let attribute = x.attribute;
     let value = x.value;
-    let at = x.at;
-    let link = kinds::size_at(chains, link_place(value, at, from));
-    let r = next_equal(
-        values,
-        walks,
-        walk,
-        attribute,
-        value,
-        chains,
-        at + 1024,
-        link,
-    );
+    let link = kinds::size_at(chains, link_place(value, x.at, from));
+    let r = next_equal(values, walks, walk, x, chains, link);
     row_of(r, walk.count)
 }
 
@@ -182,28 +168,19 @@ fn row_before(link: usize, to: usize) -> usize
 }
 
 // The chain entered behind the row before `from`, where that has the value, else at its head.
-fn enter(
-    values: &[i32],
-    walks: &[u16],
-    walk: Walk,
-    attribute: usize,
-    x: i64,
-    chains: &[u16],
-    at: usize,
-    from: usize,
-) -> usize
-    requires { ⌜ Fits walk × (at ≤ 65539) × (from ≤ walk .count) × C.Built (C.bucketAt (now values) (now walks) walk attribute) (walk .count) at
-        (now chains) ⌝ }
-    ensures { λ r. ⌜ C.Passing (C.keyAt (now (values .entry)) (now (walks .entry)) walk attribute) x from (walk .count) r ⌝ }
+fn enter(values: &[i32], walks: &[u16], walk: Walk, x: Entry, chains: &[u16], from: usize) -> usize
+    requires { ⌜ Fits walk × (from ≤ walk .count) × C.Entered x (now values) (now walks) walk (now chains) ⌝ }
+    ensures { λ r. ⌜ C.Passing (C.keyAt (now (values .entry)) (now (walks .entry)) walk (x .attribute)) (x .value) from (walk .count) r ⌝ }
 {
-    let link = kinds::size_at(chains, at + bucket(x));
+    let value = x.value;
+    let link = kinds::size_at(chains, x.at + bucket(value));
     if from == 0 {
         return link;
     }
-    if !equal(key(values, walks, walk, attribute, from - 1), x) {
+    if !equal(key(values, walks, walk, x.attribute, from - 1), value) {
         return link;
     }
-    kinds::size_at(chains, at + 1024 + (from - 1))
+    kinds::size_at(chains, x.at + 1024 + (from - 1))
 }
 
 // Whether a link is to a row from `from` on with the value x.
@@ -231,33 +208,29 @@ fn reach(
     values: &[i32],
     walks: &[u16],
     walk: Walk,
-    attribute: usize,
-    x: i64,
+    x: Entry,
     chains: &[u16],
-    at: usize,
     from: usize,
     to: usize,
 ) -> usize
-    requires { ⌜ Fits walk × (at ≤ 65539) × (from ≤ to) × (to ≤ walk .count)
-        × C.Built (C.bucketAt (now values) (now walks) walk attribute) (walk .count) at (now chains) ⌝ }
+    requires { ⌜ Fits walk × (from ≤ to) × (to ≤ walk .count) × C.Entered x (now values) (now walks) walk (now chains) ⌝ }
     ensures { λ r. ⌜ (from ≤ r) × (r ≤ to) ⌝ }
-    ensures { λ r. ⌜ ((j : ℕ) → from ≤ j → j < r → C.same (C.keyAt (now (values .entry)) (now (walks .entry)) walk attribute j) x ≡ true → ⊥) ⌝ }
-    ensures { λ r. ⌜ (r < to → C.same (C.keyAt (now (values .entry)) (now (walks .entry)) walk attribute r) x ≡ true) ⌝ }
+    ensures { λ r. ⌜ ((j : ℕ) → from ≤ j → j < r → C.same (C.keyAt (now (values .entry)) (now (walks .entry)) walk (x .attribute) j) (x .value) ≡ true → ⊥) ⌝ }
+    ensures { λ r. ⌜ (r < to → C.same (C.keyAt (now (values .entry)) (now (walks .entry)) walk (x .attribute) r) (x .value) ≡ true) ⌝ }
 {
-    let nexts = at + 1024;
-    let mut link = enter(values, walks, walk, attribute, x, chains, at, from);
+    let mut link = enter(values, walks, walk, x, chains, from);
     let mut left: usize = 8;
     while 0 < left {
         if link == 0 {
             return to;
         }
-        if here(values, walks, walk, attribute, x, from, link) {
+        if here(values, walks, walk, x.attribute, x.value, from, link) {
             return row_before(link, to);
         }
-        link = kinds::size_at(chains, nexts + (link - 1));
+        link = kinds::size_at(chains, x.at + 1024 + (link - 1));
         left -= 1;
     }
-    look(values, walks, walk, attribute, x, from, to)
+    look(values, walks, walk, x.attribute, x.value, from, to)
 }
 
 // The first row from `from` on that one of two chains has; where there is none, the count of rows. That with the row before `from` comes first, the
@@ -281,19 +254,13 @@ pub(crate) fn either(
     ensures { λ r. ⌜ (r < walk .count → C.same (C.keyAt (now (values .entry)) (now (walks .entry)) walk (one .attribute) r) (one .value) || C.same
         (C.keyAt (now (values .entry)) (now (walks .entry)) walk (two .attribute) r) (two .value) ≡ true) ⌝ }
 {
-    let a = one.attribute;
-    let x = one.value;
-    let p = one.at;
-    let b = two.attribute;
-    let y = two.value;
-    let r = two.at;
     let n = walk.count;
-    if after(values, walks, walk, a, x, from) {
-        let to = reach(values, walks, walk, a, x, chains, p, from, n);
-        return reach(values, walks, walk, b, y, chains, r, from, to);
+    if after(values, walks, walk, one.attribute, one.value, from) {
+        let to = reach(values, walks, walk, one, chains, from, n);
+        return reach(values, walks, walk, two, chains, from, to);
     }
-    let end = reach(values, walks, walk, b, y, chains, r, from, n);
-    reach(values, walks, walk, a, x, chains, p, from, end)
+    let end = reach(values, walks, walk, two, chains, from, n);
+    reach(values, walks, walk, one, chains, from, end)
 }
 
 // Whether the row before `from` has the value x. It promises nothing: it only tells which of two chains is followed first.

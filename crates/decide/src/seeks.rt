@@ -432,21 +432,28 @@ fn head(chains: &mut [u16], at: usize, variable: u8, number: usize, key: Key)
     chains[at + 3] = narrow(key.attribute);
 }
 
-// A chain from place `free` on for the rows of a variable by the equality that leads from branch `start`, where there is one and a row that fails it
-// may lead on from branch `other`; the next free place.
+// The branch that a row leads from, and the one that it may lead on from where it fails the equality; 1: none.
+struct Fork {
+    start: usize,
+    other: usize,
+}
+
+// A chain from place `free` on for the rows of a variable by the equality that leads from a fork's start, where there is one and a row that fails it
+// may lead on from the other; the next free place.
 fn add_key(
     t: &[u16],
-    start: usize,
+    fork: Fork,
     variable: u8,
-    other: usize,
     walks: &[u16],
     values: &[i32],
     chains: &mut [u16],
     free: usize,
 ) -> usize
-    requires { ⌜ (start < 64) × (1 ≤ other) × (other < 64) × K.Filling free (now t) (now walks) (now values) (now chains) ⌝ }
+    requires { ⌜ (fork .start < 64) × (1 ≤ fork .other) × (fork .other < 64) × K.Filling free (now t) (now walks) (now values) (now chains) ⌝ }
     ensures { λ r. ⌜ K.Filling r (now (t .entry)) (now (walks .entry)) (now (values .entry)) (now (chains .exit)) ⌝ }
 {
+    let start = fork.start;
+    let other = fork.other;
     let key = key_of(t, start, variable);
     let attribute = key.attribute;
     let walk = walks::walk_of(walks, variable);
@@ -483,7 +490,8 @@ fn add(
     if 64 <= start {
         return free;
     }
-    let next = add_key(t, start, variable, 1, walks, values, chains, free);
+    let alone = Fork { start, other: 1 };
+    let next = add_key(t, alone, variable, walks, values, chains, free);
     if next != free {
         return next;
     }
@@ -495,11 +503,23 @@ fn add(
     if 64 <= other {
         return next;
     }
-    let behind = add_key(t, other, variable, 1, walks, values, chains, next);
+    let last = Fork {
+        start: other,
+        other: 1,
+    };
+    let behind = add_key(t, last, variable, walks, values, chains, next);
     if behind == next {
         return behind;
     }
-    add_key(t, start, variable, other, walks, values, chains, behind)
+    add_key(
+        t,
+        Fork { start, other },
+        variable,
+        walks,
+        values,
+        chains,
+        behind,
+    )
 }
 
 fn byte_of(x: usize) -> u8
@@ -594,13 +614,12 @@ fn is_one(d: i64) -> bool
     if d <= 1 { 1 <= d } else { false }
 }
 
-// How the chain for a variable by branch `start` is entered, where a row that fails its equality may lead on from branch `other`; place 0 where there
+// How the chain for a variable by a fork's start is entered, where a row that fails its equality may lead on from the other; place 0 where there
 // is none such, or the value that it is entered with is not whole.
 fn enter(
     t: &[u16],
-    start: usize,
+    fork: Fork,
     variable: u8,
-    other: usize,
     chains: &[u16],
     values: &[i32],
     memo: &[i64],
@@ -608,15 +627,15 @@ fn enter(
 ) -> Entry
     requires { ⌜ 256 ≤ length (now env) ⌝ }
     ensures { λ r. ⌜ ((ws : List ℕ) → K.Faithful (now (t .entry)) ws (now (values .entry)) (now (chains .entry)) → (r .at ≡ 0 → ⊥)
-        → K.Enters r (now (t .entry)) start other variable ws (now (values .entry)) (now (memo .entry)) (now (env .entry))
+        → K.Enters r (now (t .entry)) (fork .start) (fork .other) variable ws (now (values .entry)) (now (memo .entry)) (now (env .entry))
         (now (chains .entry))) ⌝ }
 {
-    let at = chain_of(chains, start, variable);
+    let at = chain_of(chains, fork.start, variable);
     if at == 0 {
         return nowhere();
     }
     let mark = kinds::size_at(chains, at + 2);
-    if onward(mark) != other {
+    if onward(mark) != fork.other {
         return nowhere();
     }
     let place = kinds::size_at(chains, at + 1);
@@ -663,24 +682,28 @@ fn chained(way: usize, next: usize, one: Entry, two: Entry) -> Cursor
     }
 }
 
-// The rows of the chains by branch `start` and by branch `other`, of which a row must have one; by the first comparison where they do not serve.
+// The rows of the chains by a fork's two branches, of which a row must have one; by the first comparison where they do not serve.
 fn either(
     t: &[u16],
-    start: usize,
-    other: usize,
+    fork: Fork,
     variable: u8,
     chains: &[u16],
     values: &[i32],
     memo: &[i64],
     env: &[usize],
 ) -> Cursor
-    requires { ⌜ (256 ≤ length (now env)) × (start ≤ 65535) ⌝ }
+    requires { ⌜ (256 ≤ length (now env)) × (fork .start ≤ 65535) ⌝ }
     ensures { λ r. ⌜ ((ws : List ℕ) → K.Faithful (now (t .entry)) ws (now (values .entry)) (now (chains .entry))
-        → C.Prepared r (now (t .entry)) start variable ws (now (values .entry)) (now (memo .entry)) (now (env .entry))
+        → C.Prepared r (now (t .entry)) (fork .start) variable ws (now (values .entry)) (now (memo .entry)) (now (env .entry))
         (now (chains .entry))) ⌝ }
 {
-    let one = enter(t, start, variable, other, chains, values, memo, env);
-    let two = enter(t, other, variable, 1, chains, values, memo, env);
+    let start = fork.start;
+    let last = Fork {
+        start: fork.other,
+        other: 1,
+    };
+    let one = enter(t, fork, variable, chains, values, memo, env);
+    let two = enter(t, last, variable, chains, values, memo, env);
     if one.at == 0 {
         return compared(t, start, variable, values, memo, env);
     }
@@ -711,7 +734,11 @@ pub fn prepare(
     }
     let mark = kinds::size_at(chains, at + 2);
     if 255 < mark {
-        return either(t, start, mark / 256, variable, chains, values, memo, env);
+        let fork = Fork {
+            start,
+            other: mark / 256,
+        };
+        return either(t, fork, variable, chains, values, memo, env);
     }
     let place = kinds::size_at(chains, at + 1);
     let x = branches::side(t, place, mark % 256, values, memo, env);

@@ -9,7 +9,7 @@ use lib.Dec.{eqb}
 use lib.ListN.{length, getD}
 use native.Mathlib.Omega.{arith}
 use lib.Seq.{sets}
-use Rattle.quel.specs.Results.{Read, fail, ok, then, need, Word, sameWord, hasWord, uniqueWords}
+use Rattle.quel.specs.Results.{Read, fail, ok, then, need, Word, sameWord, uniqueWords}
 use Rattle.quel.specs.Tokens.{Token}
 use Rattle.quel.specs.Names.{Entry}
 use Rattle.quel.specs.Elaboration.{Symbol, rangesOf}
@@ -18,8 +18,7 @@ use Rattle.quel.specs.Writing.{Written, before, loop}
 use Rattle.model.specs.Encoding.{encodeRanges}
 use Rattle.tokens.specs.Table.{Table}
 use Rattle.flat.specs.Flat.{uses, binders, mainOf, lastOf, bound, flatText}
-use Rattle.elaborate.specs.Places.{tokensFrom, nameIn}
-use Rattle.elaborate.specs.Numbers.{Used}
+use Rattle.elaborate.specs.Places.{tokensFrom}
 use Rattle.elaborate.specs.Reach.{Bound, rangeSymbol}
 use Rattle.elaborate.specs.Tables.{Same, Holds}
 use Rattle.model.proofs.Tests.{and-true}
@@ -99,7 +98,3 @@ some-names ids x y = and-true (eqb (getD ids x 0) (getD ids y 0))
 
 pub small : (w : ℕ → Word) (ids known : List ℕ) (ρ : List Symbol) → Holds w ids known 0 0 ρ → (y : ℕ) → getD known y 0 < 68719476736
 small w ids known ρ h y = omega (arith, h .low y)
-
--- marks by where the targets begin
-pub used-from : (text : List ℕ) (t : Table) (ids marks : List ℕ) (m main : ℕ) → tokensFrom text t m ≡ mainOf (tokensFrom text t 0) → tokensFrom text t main ≡ mainOf (tokensFrom text t 0) → Used text t ids m marks → Used text t ids main marks
-used-from text t ids marks m main e f u = record { at = λ x. u .at x ∙ ap (λ (s : List Token). hasWord (nameIn text (t .kinds) (t .starts) (t .lengths) x) (uses 0 s)) (e ∙ sym f) }

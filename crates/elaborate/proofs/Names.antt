@@ -27,7 +27,7 @@ module _ (text : List ℕ) (t : Table) (ids : List ℕ) (f : Numbered (here text
   past = length ids + length (t .kinds)
 
   no-name : here text t past ≡ []
-  no-name = sym (name-past text (t .kinds) (t .starts) (t .lengths) past (omega arith))
+  no-name = sym (name-past text (t .kinds) (t .starts) past (omega arith))
 
   blank : (x : ℕ) → sameWord (here text t x) [] ≡ eqb (getD ids x 0) 0
   blank x = ap (sameWord (here text t x)) (sym no-name) ∙ f .same x past ∙ ap (eqb (getD ids x 0)) (List·getD-eq-default ids 0 {n = past} (omega arith))

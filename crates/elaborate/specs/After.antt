@@ -44,7 +44,7 @@ module _ (text : List ℕ) (t : Table) (es : List Entry) (ids : List ℕ) where
   -- the reaches after a turn, which changes nothing of how the loop ends
   pub record Going (g : List ℕ → Written) (i : ℕ) (s : State) (fs known out : List ℕ) : Type 0 where
     pub reaches : Reaches
-    pub stack : Stack (nameIn text (t .kinds) (t .starts) (t .lengths)) ids fs (s .depth) (s .crossing) known reaches
+    pub stack : Stack (nameIn text (t .kinds) (t .starts)) ids fs (s .depth) (s .crossing) known reaches
     pub ends : (z : List ℕ) → g z ≡ ended out (s .at) (left z i s reaches)
 
   abbrev pub GoesOn : (List ℕ → Written) → ℕ → Next → List ℕ → List ℕ → List ℕ → Type 0

@@ -1,4 +1,4 @@
--- What stands ahead of each token, one number a place: the V's of its level, the ^'s before the next V, the sign, and how many tokens end the level.
+-- What stands ahead of each token, one number a place: the V's of its level, the ^'s before the next V, the sign, how many tokens end the level; and its kind.
 use Prim.Native.Nat.{ℕ, suc, _/_, _%_, _≤_}
 use mathlib.Core.List.{List, [], _∷_, map}
 use mathlib.Core.Path.{_≡_}
@@ -9,17 +9,20 @@ use Rattle.quel.specs.Ahead.{ahead, outer, orsAt, andsAt, operatorAt}
 use Rattle.tokens.specs.Table.{tokenOf}
 
 abbrev pub orsIn : ℕ → ℕ
-orsIn c = c % 4096
+orsIn c = c / 2097152 % 4096
 
 abbrev pub andsIn : ℕ → ℕ
-andsIn c = c / 4096 % 4096
+andsIn c = c / 8589934592 % 4096
 
 -- one less than the operator's number, so that 0 stands for nothing ahead
 abbrev pub signIn : ℕ → ℕ
-signIn c = c / 16777216 % 8
+signIn c = c / 35184372088832 % 8
 
 abbrev pub skipIn : ℕ → ℕ
-skipIn c = c / 134217728
+skipIn c = c / 256 % 8192
+
+abbrev pub kindIn : ℕ → ℕ
+kindIn c = c % 256
 
 -- tokens by their kinds alone: words and numbers do not count
 unfoldable pub plain : List ℕ → List Token
@@ -38,7 +41,9 @@ pub record Place (c : ℕ) (ts : List Token) : Type 0 where
 -- one token more, before those of `next`; `after` is the place at which their level has ended
 pub record Stepped (kind next after r : ℕ) : Type 0 where
   pub place : (ts : List Token) → Place next ts → Place after (drop (skipIn next) ts) → Place r (tokenOf kind [] 0 ∷ ts)
+  pub kind-is : kindIn r ≡ kind
 
 -- every place of the kinds from the nth on, and the one after the last
 pub record Counted (kinds counts : List ℕ) (n : ℕ) : Type 0 where
   pub at : (i : ℕ) → n ≤ i → i ≤ length kinds → Place (getD counts i 0) (plain (drop i kinds))
+  pub kind : (i : ℕ) → n ≤ i → i ≤ length kinds → kindIn (getD counts i 0) ≡ getD kinds i 0

@@ -5,6 +5,7 @@ pub mod After
 pub mod Ends
 pub mod Tallies
 pub mod Frames
+pub mod Lookup
 pub mod Places
 pub mod Numbers
 pub mod Actions

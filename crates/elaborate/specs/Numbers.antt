@@ -45,13 +45,13 @@ Met w ids i xs r = ((r ≡ 0) × (any (λ (x : ℕ). sameWord (w x) (w i)) xs �
 abbrev pub marked : List ℕ → List ℕ → ℕ → Bool
 marked ids marks x = not (eqb (getD marks (getD ids x 0) 0) 0)
 
--- the name at i is marked, if b
+-- the name at i is marked, if b, in the table of what names stand for
 pub record Noted (ids marks : List ℕ) (i : ℕ) (b : Bool) (after : List ℕ) : Type 0 where
-  pub is : after ≡ cond b (set marks (getD ids i 0) 1) marks
+  pub is : after ≡ cond b (set marks (getD ids i 0) 4) marks
 
 -- marks say which names tokens from a place on use
 pub record Used (text : List ℕ) (t : Table) (ids : List ℕ) (from : ℕ) (marks : List ℕ) : Type 0 where
-  pub at : (x : ℕ) → marked ids marks x ≡ hasWord (nameIn text (t .kinds) (t .starts) (t .lengths) x) (uses 0 (tokensFrom text t from))
+  pub at : (x : ℕ) → marked ids marks x ≡ hasWord (nameIn text (t .kinds) (t .starts) x) (uses 0 (tokensFrom text t from))
 
 -- marks say which names the tokens xs bind
 pub record Seen (w : ℕ → Word) (ks ids marks xs : List ℕ) : Type 0 where

@@ -3,21 +3,21 @@ use Prim.Native.Nat.{ℕ, zero, suc, _+_, _-_}
 use mathlib.Core.Bool.{Bool, true, false, cond, _&&_}
 use mathlib.Core.List.{List, []}
 use lib.Dec.{eqb, leb, ltb}
-use lib.ListN.{length, getD, take, drop}
+use lib.ListN.{length, getD, drop}
 use Rattle.quel.specs.Results.{Word}
-use Rattle.quel.specs.Tokens.{Token}
+use Rattle.quel.specs.Tokens.{Token, isLetter, run}
 use Rattle.tokens.specs.Table.{Table, tokensAt}
 use Rattle.flat.specs.Flat.{outside, enter, deeper, shallower, binding, opened, closed}
 
-abbrev pub table : List ℕ → List ℕ → List ℕ → List ℕ → Table
-table ks ss ls ns = record { kinds = ks; starts = ss; lengths = ls; numbers = ns }
+abbrev pub table : List ℕ → List ℕ → List ℕ → Table
+table ks ss ns = record { kinds = ks; starts = ss; numbers = ns }
 
 unfoldable pub tokensFrom : List ℕ → Table → ℕ → List Token
 tokensFrom text t i = tokensAt text t i (length (t .kinds) - i)
 
 -- the name at a place, no letters where there is none
-unfoldable pub nameIn : List ℕ → List ℕ → List ℕ → List ℕ → ℕ → Word
-nameIn text ks ss ls i = cond (ltb i (length ks) && eqb (getD ks i 0) 0) (take (getD ls i 0) (drop (getD ss i 0) text)) []
+unfoldable pub nameIn : List ℕ → List ℕ → List ℕ → ℕ → Word
+nameIn text ks ss i = cond (ltb i (length ks) && eqb (getD ks i 0) 0) (run isLetter (drop (getD ss i 0) text)) []
 
 unfoldable pub pointIn : List ℕ → ℕ → Bool
 pointIn ks i = ltb i (length ks) && leb 25 (getD ks i 0)

@@ -1,6 +1,6 @@
 -- What a name stands for, as a number: a mode, a relation, a variable and a place, packed.
 use Prim.Native.Nat.{ℕ, _/_, _%_}
-use mathlib.Core.Bool.{Bool, true, false, cond, _&&_}
+use mathlib.Core.Bool.{Bool, true, false, not, cond, _&&_}
 use mathlib.Core.Option.{Option, none, some}
 use lib.Dec.{eqb, leb}
 use Rattle.quel.specs.Results.{Word}
@@ -19,6 +19,10 @@ variableIn c = c / 1024 % 256
 
 abbrev pub placeIn : ℕ → ℕ
 placeIn c = c / 262144
+
+-- whether a name is used: one that stands for nothing yet is marked, by 4; one of the RANGE list is a variable then
+abbrev pub usedIn : ℕ → Bool
+usedIn c = cond (eqb (modeIn c) 0) (not (eqb c 0)) (eqb (modeIn c) 1)
 
 -- a symbol of the RANGE list: where its name stands, its relation, and its variable, if it is used
 pub record Bound : Type 0 where

@@ -8,7 +8,7 @@ use lib.ListN.{getD}
 use Rattle.quel.specs.Results.{Word, sameWord}
 use Rattle.quel.specs.Elaboration.{Symbol, symbolIn}
 use Rattle.tokens.specs.Codes.{Spelt}
-use Rattle.elaborate.specs.Reach.{knownOf, placeIn, standing}
+use Rattle.elaborate.specs.Reach.{modeIn, placeIn, knownOf, standing}
 
 -- two places have one number where they have one name
 abbrev pub Same : (ℕ → Word) → List ℕ → Type 0
@@ -22,6 +22,10 @@ codeAt ids numbers x = cond (eqb (getD ids x 0) 0) 1 (getD numbers x 0)
 pub record Named (w : ℕ → Word) (ids numbers : List ℕ) : Type 0 where
   pub same : Same w ids
   pub spelt : (x : ℕ) → Spelt (w x) (codeAt ids numbers x)
+
+-- no name stands for anything; some may be marked
+abbrev pub Clear : List ℕ → Type 0
+Clear known = (x : ℕ) → (modeIn (getD known x 0) ≡ 0) × (placeIn (getD known x 0) ≡ 0)
 
 -- a table by the names' numbers says what each name stands for in a reach, in so many frames
 pub record Holds (w : ℕ → Word) (ids known : List ℕ) (depth crossing : ℕ) (ρ : List Symbol) : Type 0 where

@@ -1,9 +1,10 @@
 -- What a token of the RANGE list leaves: its symbols so far, and a buffer and a place at which the rest is still to be written.
 use Prim.Native.Nat.{ℕ, _+_, _*_, _≤_, _<_}
-use mathlib.Core.Bool.{Bool, cond}
+use mathlib.Core.Bool.{Bool, not, cond}
 use mathlib.Core.List.{List, [], _∷_, _++_, map}
 use mathlib.Core.Option.{Option, none, some}
 use mathlib.Core.Path.{_≡_}
+use lib.Dec.{eqb}
 use lib.ListN.{length, getD}
 use Rattle.model.specs.Encoding.{encodeRanges}
 use Rattle.quel.specs.Results.{Read, fail, ok, then, Word}
@@ -14,7 +15,7 @@ use Rattle.tokens.specs.Table.{Table}
 use Rattle.flat.specs.Flat.{uses, bound}
 use Rattle.elaborate.specs.Places.{table, tokensFrom, nameIn}
 use Rattle.elaborate.specs.Numbers.{Used}
-use Rattle.elaborate.specs.Reach.{Bound, rangeSymbol}
+use Rattle.elaborate.specs.Reach.{usedIn, Bound, rangeSymbol}
 use Rattle.elaborate.specs.Tables.{Same, Named, Holds}
 use Rattle.elaborate.specs.After.{ended}
 use Rattle.elaborate.specs.declared.binds.Tally.{Tally}
@@ -30,7 +31,7 @@ openRelation s = cond (s .inside) (some (s .relation)) none
 
 module _ (text : List ℕ) (t : Table) (es : List Entry) (main : ℕ) where
   abbrev pub symbolsIn : List Bound → List Symbol
-  symbolsIn cs = map (rangeSymbol (nameIn text (t .kinds) (t .starts) (t .lengths))) cs
+  symbolsIn cs = map (rangeSymbol (nameIn text (t .kinds) (t .starts))) cs
 
   abbrev pub boundFrom : Option ℕ → ℕ → ℕ → Read ℕ (List Symbol)
   boundFrom o n i = bound es (uses 0 (tokensFrom text t main)) o n (tokensFrom text t i)
@@ -67,15 +68,20 @@ abbrev pub Most : ℕ → Ranges → Type 0
 Most k R.Refused = Unit
 Most k (R.Listed r) = (r .n ≤ k) × (r .at ≤ 3 * k)
 
+-- what was marked before the first symbol was entered can still be told
+abbrev pub Tells : List ℕ → List ℕ → Type 0
+Tells marks known = (x : ℕ) → usedIn (getD known x 0) ≡ not (eqb (getD marks x 0) 0)
+
 -- a name at i, with the symbols cs before it: there are symbols after it, and what is left is still to be done with these
 pub record Adds (ids marks codes : List ℕ) (es : List Entry) (i : ℕ) (s : Tally) (cs : List Bound) (known out : List ℕ) (r : Ranges) (after to : List ℕ) : Type 0 where
   pub symbols : List Bound
-  pub binds : (text ks ss ls ns : List ℕ) (main : ℕ) → i < length ks → getD ks i 0 ≡ 0 → Named (nameIn text ks ss ls) ids codes → Used text (table ks ss ls ns) ids main marks
-      → Binds text (table ks ss ls ns) es main i s cs out r symbols to
+  pub binds : (text ks ss ns : List ℕ) (main : ℕ) → i < length ks → getD ks i 0 ≡ 0 → Named (nameIn text ks ss) ids codes → Used text (table ks ss ns) ids main marks
+      → Tells marks known → Binds text (table ks ss ns) es main i s cs out r symbols to
   pub stands : (w : ℕ → Word) → Same w ids → Holds w ids known 0 0 (map (rangeSymbol w) cs) → Stands w ids r symbols after
+  pub tells : Tells marks known → Tells marks after
 
 -- the whole RANGE list
 pub record Fills (ks ids marks codes : List ℕ) (es : List Entry) (out : List ℕ) (r : Ranges) (known to : List ℕ) : Type 0 where
   pub symbols : List Bound
-  pub whole : (text ss ls ns : List ℕ) (main : ℕ) → Named (nameIn text ks ss ls) ids codes → Used text (table ks ss ls ns) ids main marks → Whole text (table ks ss ls ns) es main out r symbols to
+  pub whole : (text ss ns : List ℕ) (main : ℕ) → Named (nameIn text ks ss) ids codes → Used text (table ks ss ns) ids main marks → Whole text (table ks ss ns) es main out r symbols to
   pub stands : (w : ℕ → Word) → Same w ids → Stands w ids r symbols known

@@ -1,6 +1,8 @@
 // The RANGE list: its symbols, with relations looked up, and a record for each symbol that is used.
+use crate::ahead;
 use crate::frames;
 use crate::items;
+use crate::lookups;
 use names::Found;
 use names::Sort;
 ghost use mathlib.Core.Path.{_≡_};
@@ -12,7 +14,9 @@ ghost use lib.ListN.{length, getD, set};
 ghost use Rattle.quel.specs.Names.{Entry};
 ghost use Rattle.names.specs.Entries.{entries};
 ghost use Rattle.names.specs.Search.{Indexed};
-ghost use Rattle.elaborate.specs.Reach.{modeIn, Bound};
+ghost use Rattle.elaborate.specs.Lookup.{chainsIn, idsIn};
+ghost use Rattle.elaborate.specs.Reach.{modeIn, usedIn, Bound};
+ghost use Rattle.elaborate.specs.Tables.{Clear};
 ghost use Rattle.elaborate.specs.Tallies.{Adds, Fills, Counts, Most};
 
 // Whether a relation's parentheses are open, its number, the next variable's number, and where to write.
@@ -37,6 +41,17 @@ fn entered(used: bool) -> u8
     if used { 1 } else { 2 }
 }
 
+// Whether the name x is used: marked, or entered as a variable.
+fn is_used(known: &[u64], x: usize) -> bool
+    ensures { λ r. ⌜ r ≡ usedIn (getD (now (known .entry)) x 0) ⌝ }
+{
+    let c = ahead::entry(known, x);
+    if c % 4 == 0 {
+        return c != 0;
+    }
+    c % 4 == 1
+}
+
 // What the name x stands for, if it does not stand for anything yet.
 fn settle(known: &mut [u64], x: usize, e: u64)
     requires { ⌜ x < length (now known) ⌝ }
@@ -48,21 +63,14 @@ fn settle(known: &mut [u64], x: usize, e: u64)
 }
 
 // A symbol, at token i.
-fn symbol(
-    ids: &[u16],
-    marks: &[u8],
-    known: &mut [u64],
-    out: &mut [u8],
-    s: Tally,
-    i: usize,
-) -> Ranges
-    requires { ⌜ (i < 4000) × (s .n < 4000) × (s .at < 4611686018427387904) × (s .inside ≡ true) × (getD (now ids) i 0 < length (now known)) ⌝ }
-    ensures { λ r. ⌜ ((codes : List ℕ) (es : List Entry) (cs : List Bound) → Adds (now (ids .entry)) (now (marks .entry)) codes es i s cs
+fn symbol(lookup: &[u16], known: &mut [u64], out: &mut [u8], s: Tally, i: usize) -> Ranges
+    requires { ⌜ (i < 4000) × (s .n < 4000) × (s .at < 4611686018427387904) × (s .inside ≡ true) × (getD (idsIn (now lookup)) i 0 < length (now known)) ⌝ }
+    ensures { λ r. ⌜ ((marks codes : List ℕ) (es : List Entry) (cs : List Bound) → Adds (idsIn (now (lookup .entry))) marks codes es i s cs
         (now (known .entry)) (now (out .entry)) r (now (known .exit)) (now (out .exit))) ⌝ }
     ensures { λ r. ⌜ Counts s r ⌝ }
 {
-    let x = kinds::size_at(ids, i);
-    let used = kinds::byte(marks, x) != 0;
+    let x = lookups::id_at(lookup, i);
+    let used = is_used(known, x);
     let v = (s.n % 256) as u8;
     settle(known, x, frames::pack(entered(used), s.relation, v, 0));
     if !used {
@@ -79,26 +87,26 @@ fn symbol(
 
 // A name: a relation's, or a symbol in its parentheses.
 fn name(
-    ids: &[u16],
+    lookup: &[u16],
     numbers: &[u64],
     list: &[u8],
-    index: &[u16],
-    marks: &[u8],
     known: &mut [u64],
     out: &mut [u8],
     s: Tally,
     i: usize,
 ) -> Ranges
-    requires { ⌜ (i < 4000) × (s .n < 4000) × (s .at < 4611686018427387904) × (getD (now ids) i 0 < length (now known)) × Indexed (now list) (now index) ⌝ }
-    ensures { λ r. ⌜ ((cs : List Bound) → Adds (now (ids .entry)) (now (marks .entry)) (now (numbers .entry)) (entries (now (list .entry))) i s cs
+    requires { ⌜ (i < 4000) × (s .n < 4000) × (s .at < 4611686018427387904) × (getD (idsIn (now lookup)) i 0 < length (now known))
+        × Indexed (now list) (chainsIn (now lookup)) ⌝ }
+    ensures { λ r. ⌜ ((marks : List ℕ) (cs : List Bound) → Adds (idsIn (now (lookup .entry))) marks (now (numbers .entry)) (entries (now (list .entry))) i s cs
         (now (known .entry)) (now (out .entry)) r (now (known .exit)) (now (out .exit))) ⌝ }
     ensures { λ r. ⌜ Counts s r ⌝ }
 {
     if s.inside {
-        return symbol(ids, marks, known, out, s, i);
+        return symbol(lookup, known, out, s, i);
     }
-    let code = items::code(ids, numbers, i);
-    let Found::Of(r, _, _, _) = names::meaning(list, index, Sort::Relation, code) else {
+    let code = items::code(lookup, numbers, i);
+    let Found::Of(r, _, _, _) = names::meaning(list, lookups::chains(lookup), Sort::Relation, code)
+    else {
         return Ranges::Refused;
     };
     Ranges::Listed(Tally {
@@ -124,20 +132,18 @@ fn passed(kind: u8, s: Tally) -> Tally
     s
 }
 
-// Enters the symbols of the RANGE list, and writes its records; marks say which names are used.
+// Enters the symbols of the RANGE list, and writes its records; names that are used are marked.
 pub(crate) fn bind(
     kinds: &[u8],
-    ids: &[u16],
+    lookup: &[u16],
     numbers: &[u64],
     list: &[u8],
-    index: &[u16],
-    marks: &[u8],
     known: &mut [u64],
     out: &mut [u8],
 ) -> Ranges
     requires { ⌜ (length (now kinds) < 4000) × (length (now kinds) < length (now known))
-        × ((x : ℕ) → getD (now ids) x 0 ≤ length (now kinds)) × ((x : ℕ) → getD (now known) x 0 ≡ 0) × Indexed (now list) (now index) ⌝ }
-    ensures { λ r. ⌜ Fills (now (kinds .entry)) (now (ids .entry)) (now (marks .entry)) (now (numbers .entry)) (entries (now (list .entry)))
+        × ((x : ℕ) → getD (idsIn (now lookup)) x 0 ≤ length (now kinds)) × Clear (now known) × Indexed (now list) (chainsIn (now lookup)) ⌝ }
+    ensures { λ r. ⌜ Fills (now (kinds .entry)) (idsIn (now (lookup .entry))) (now (known .entry)) (now (numbers .entry)) (entries (now (list .entry)))
         (now (out .entry)) r (now (known .exit)) (now (out .exit)) ⌝ }
     ensures { λ r. ⌜ Most (length (now (kinds .entry))) r ⌝ }
 {
@@ -154,7 +160,7 @@ pub(crate) fn bind(
             return Ranges::Listed(s);
         }
         if kind == 0 {
-            let Ranges::Listed(t) = name(ids, numbers, list, index, marks, known, out, s, i) else {
+            let Ranges::Listed(t) = name(lookup, numbers, list, known, out, s, i) else {
                 return Ranges::Refused;
             };
             s = t;

@@ -3,6 +3,7 @@ mod ahead;
 mod binds;
 mod frames;
 mod items;
+mod lookups;
 mod loops;
 mod marks;
 mod modes;
@@ -16,18 +17,19 @@ use loops::Start;
 ghost use mathlib.Core.Path.{_≡_};
 ghost use mathlib.Core.Bool.{true};
 ghost use mathlib.Core.List.{List};
-ghost use Prim.Native.Nat.{ℕ, _≤_, _<_};
+ghost use Prim.Native.Nat.{ℕ, _+_, _≤_, _<_};
 ghost use lib.ListN.{length, getD};
 ghost use Rattle.flat.specs.Flat.{flatText};
 ghost use Rattle.names.specs.Entries.{entries};
 ghost use Rattle.names.specs.Search.{Indexed};
 ghost use Rattle.tokens.specs.Codes.{Coded};
+ghost use Rattle.elaborate.specs.Lookup.{roomOf, chainsIn, idsIn};
 ghost use Rattle.elaborate.specs.Places.{table, tokensFrom, nameIn};
 ghost use Rattle.elaborate.specs.Numbers.{Numbered};
 ghost use Rattle.elaborate.specs.Tables.{Named};
 ghost use Rattle.elaborate.specs.Answers.{recordsOf, answered, writing};
 ghost use Rattle.elaborate.specs.After.{ended};
-ghost use Rattle.elaborate.specs.Whole.{Prepared, Ready, outcome};
+ghost use Rattle.elaborate.specs.Whole.{Ready, outcome};
 
 // A name that is unknown, out of reach or bound twice; records longer than the buffer.
 const NAMES: u8 = 51;
@@ -52,50 +54,36 @@ pub enum End {
     Refused,
 }
 
-// Marks the names that are used, before records are written. Whether no symbol is bound twice.
-fn prepare(kinds: &[u8], ids: &[u16], marks: &mut [u8]) -> bool
-    requires { ⌜ (length (now kinds) < 4000) × (length (now kinds) < length (now marks))
-        × ((x : ℕ) → getD (now ids) x 0 ≤ length (now kinds)) × ((x : ℕ) → getD (now marks) x 0 ≡ 0) ⌝ }
-    ensures { λ r. ⌜ ((text ss ls ns : List ℕ) → Numbered (nameIn text (now (kinds .entry)) ss ls) (length (now (kinds .entry))) (now (ids .entry))
-        → Prepared text (table (now (kinds .entry)) ss ls ns) (now (ids .entry)) r (now (marks .exit))) ⌝ }
-{
-    if !marks::unique(kinds, ids) {
-        return false;
-    }
-    marks::uses(kinds, ids, marks::main_place(kinds), marks);
-    true
-}
-
 // Writes the records of all tokens, with tables for what stands ahead of them and for what names stand for.
 fn records_with(
     kinds: &[u8],
-    ids: &[u16],
+    lookup: &[u16],
     numbers: &[u64],
     list: &[u8],
-    index: &[u16],
-    marks: &[u8],
     counts: &mut [u64],
     known: &mut [u64],
     out: &mut [u8],
 ) -> End
     requires { ⌜ (length (now kinds) < 4000) × (length (now kinds) < length (now counts)) × (length (now kinds) < length (now known))
-        × ((x : ℕ) → getD (now ids) x 0 ≤ length (now kinds)) × ((x : ℕ) → getD (now known) x 0 ≡ 0) × Indexed (now list) (now index) ⌝ }
-    ensures { λ r. ⌜ ((text ss ls : List ℕ) → Ready text (table (now (kinds .entry)) ss ls (now (numbers .entry))) (now (ids .entry))
-        (now (marks .entry)) → ended (now (out .entry)) 0 (flatText (entries (now (list .entry)))
-        (tokensFrom text (table (now (kinds .entry)) ss ls (now (numbers .entry))) 0)) ≡ outcome r (now (out .exit))) ⌝ }
+        × ((x : ℕ) → getD (idsIn (now lookup)) x 0 ≤ length (now kinds)) × ((x : ℕ) → getD (now known) x 0 ≡ 0)
+        × Indexed (now list) (chainsIn (now lookup)) ⌝ }
+    ensures { λ r. ⌜ ((text ss : List ℕ) → Ready text (table (now (kinds .entry)) ss (now (numbers .entry))) (idsIn (now (lookup .entry)))
+        → ended (now (out .entry)) 0 (flatText (entries (now (list .entry)))
+        (tokensFrom text (table (now (kinds .entry)) ss (now (numbers .entry))) 0)) ≡ outcome r (now (out .exit))) ⌝ }
 {
     let first = marks::main_place(kinds);
-    let Ranges::Listed(s) = binds::bind(kinds, ids, numbers, list, index, marks, known, out) else {
+    marks::uses(kinds, lookup, first, known);
+    let Ranges::Listed(s) = binds::bind(kinds, lookup, numbers, list, known, out) else {
         return End::Refused;
     };
     ahead::count(kinds, counts);
     let start = Start {
         first: first,
+        end: kinds.len(),
         at: s.at,
         n: s.n,
     };
-    let End::Place(at) = loops::run(kinds, ids, numbers, list, index, counts, known, out, start)
-    else {
+    let End::Place(at) = loops::run(lookup, numbers, list, counts, known, out, start) else {
         return End::Refused;
     };
     if marks::qualified(kinds, first) {
@@ -105,105 +93,59 @@ fn records_with(
 }
 
 // Few tokens: the tables are small, none over 2,048 bytes, and soon cleared.
-fn records_short(
-    kinds: &[u8],
-    ids: &[u16],
-    numbers: &[u64],
-    list: &[u8],
-    index: &[u16],
-    marks: &[u8],
-    out: &mut [u8],
-) -> End
-    requires { ⌜ (length (now kinds) ≤ 255) × ((x : ℕ) → getD (now ids) x 0 ≤ length (now kinds)) × Indexed (now list) (now index) ⌝ }
-    ensures { λ r. ⌜ ((text ss ls : List ℕ) → Ready text (table (now (kinds .entry)) ss ls (now (numbers .entry))) (now (ids .entry))
-        (now (marks .entry)) → ended (now (out .entry)) 0 (flatText (entries (now (list .entry)))
-        (tokensFrom text (table (now (kinds .entry)) ss ls (now (numbers .entry))) 0)) ≡ outcome r (now (out .exit))) ⌝ }
+fn records_short(kinds: &[u8], lookup: &[u16], numbers: &[u64], list: &[u8], out: &mut [u8]) -> End
+    requires { ⌜ (length (now kinds) ≤ 255) × ((x : ℕ) → getD (idsIn (now lookup)) x 0 ≤ length (now kinds)) × Indexed (now list) (chainsIn (now lookup)) ⌝ }
+    ensures { λ r. ⌜ ((text ss : List ℕ) → Ready text (table (now (kinds .entry)) ss (now (numbers .entry))) (idsIn (now (lookup .entry)))
+        → ended (now (out .entry)) 0 (flatText (entries (now (list .entry)))
+        (tokensFrom text (table (now (kinds .entry)) ss (now (numbers .entry))) 0)) ≡ outcome r (now (out .exit))) ⌝ }
 {
     let mut counts = [0u64; 256];
     let mut known = [0u64; 256];
-    records_with(
-        kinds,
-        ids,
-        numbers,
-        list,
-        index,
-        marks,
-        &mut counts,
-        &mut known,
-        out,
-    )
+    records_with(kinds, lookup, numbers, list, &mut counts, &mut known, out)
 }
 
 // As many tokens as a text can have.
-fn records_long(
-    kinds: &[u8],
-    ids: &[u16],
-    numbers: &[u64],
-    list: &[u8],
-    index: &[u16],
-    marks: &[u8],
-    out: &mut [u8],
-) -> End
-    requires { ⌜ (length (now kinds) ≤ 2000) × ((x : ℕ) → getD (now ids) x 0 ≤ length (now kinds)) × Indexed (now list) (now index) ⌝ }
-    ensures { λ r. ⌜ ((text ss ls : List ℕ) → Ready text (table (now (kinds .entry)) ss ls (now (numbers .entry))) (now (ids .entry))
-        (now (marks .entry)) → ended (now (out .entry)) 0 (flatText (entries (now (list .entry)))
-        (tokensFrom text (table (now (kinds .entry)) ss ls (now (numbers .entry))) 0)) ≡ outcome r (now (out .exit))) ⌝ }
+fn records_long(kinds: &[u8], lookup: &[u16], numbers: &[u64], list: &[u8], out: &mut [u8]) -> End
+    requires { ⌜ (length (now kinds) ≤ 2000) × ((x : ℕ) → getD (idsIn (now lookup)) x 0 ≤ length (now kinds)) × Indexed (now list) (chainsIn (now lookup)) ⌝ }
+    ensures { λ r. ⌜ ((text ss : List ℕ) → Ready text (table (now (kinds .entry)) ss (now (numbers .entry))) (idsIn (now (lookup .entry)))
+        → ended (now (out .entry)) 0 (flatText (entries (now (list .entry)))
+        (tokensFrom text (table (now (kinds .entry)) ss (now (numbers .entry))) 0)) ≡ outcome r (now (out .exit))) ⌝ }
 {
     let mut counts = [0u64; 2001];
     let mut known = [0u64; 2001];
-    records_with(
-        kinds,
-        ids,
-        numbers,
-        list,
-        index,
-        marks,
-        &mut counts,
-        &mut known,
-        out,
-    )
+    records_with(kinds, lookup, numbers, list, &mut counts, &mut known, out)
 }
 
 // Writes the records of all tokens, and says where they end, or refuses a name. What does not fit the buffer is not written.
-fn records(
-    kinds: &[u8],
-    ids: &[u16],
-    numbers: &[u64],
-    list: &[u8],
-    index: &[u16],
-    marks: &[u8],
-    out: &mut [u8],
-) -> End
-    requires { ⌜ (length (now kinds) ≤ 2000) × ((x : ℕ) → getD (now ids) x 0 ≤ length (now kinds)) × Indexed (now list) (now index) ⌝ }
-    ensures { λ r. ⌜ ((text ss ls : List ℕ) → Ready text (table (now (kinds .entry)) ss ls (now (numbers .entry))) (now (ids .entry))
-        (now (marks .entry)) → ended (now (out .entry)) 0 (flatText (entries (now (list .entry)))
-        (tokensFrom text (table (now (kinds .entry)) ss ls (now (numbers .entry))) 0)) ≡ outcome r (now (out .exit))) ⌝ }
+fn records(kinds: &[u8], lookup: &[u16], numbers: &[u64], list: &[u8], out: &mut [u8]) -> End
+    requires { ⌜ (length (now kinds) ≤ 2000) × ((x : ℕ) → getD (idsIn (now lookup)) x 0 ≤ length (now kinds)) × Indexed (now list) (chainsIn (now lookup)) ⌝ }
+    ensures { λ r. ⌜ ((text ss : List ℕ) → Ready text (table (now (kinds .entry)) ss (now (numbers .entry))) (idsIn (now (lookup .entry)))
+        → ended (now (out .entry)) 0 (flatText (entries (now (list .entry)))
+        (tokensFrom text (table (now (kinds .entry)) ss (now (numbers .entry))) 0)) ≡ outcome r (now (out .exit))) ⌝ }
 {
     if kinds.len() <= 255 {
-        return records_short(kinds, ids, numbers, list, index, marks, out);
+        return records_short(kinds, lookup, numbers, list, out);
     }
-    records_long(kinds, ids, numbers, list, index, marks, out)
+    records_long(kinds, lookup, numbers, list, out)
 }
 
 // The records of all tokens, or 51 for a name and 52 for their length. They are written into a draft first, so that a buffer that is too short is not
 // touched; where they are longer than that they are made twice.
 fn write(
     kinds: &[u8],
-    ids: &[u16],
+    lookup: &[u16],
     numbers: &[u64],
     list: &[u8],
-    index: &[u16],
-    marks: &[u8],
     draft: &mut [u8],
     out: &mut [u8],
 ) -> Answer
-    requires { ⌜ (length (now kinds) ≤ 2000) × (length (now draft) ≤ 2048) × ((x : ℕ) → getD (now ids) x 0 ≤ length (now kinds))
-        × Indexed (now list) (now index) ⌝ }
-    ensures { λ r. ⌜ ((text ss ls : List ℕ) → Ready text (table (now (kinds .entry)) ss ls (now (numbers .entry))) (now (ids .entry))
-        (now (marks .entry)) → answered r (now (out .exit)) ≡ writing
-        (recordsOf text (table (now (kinds .entry)) ss ls (now (numbers .entry))) (now (list .entry))) (now (out .entry))) ⌝ }
+    requires { ⌜ (length (now kinds) ≤ 2000) × (length (now draft) ≤ 2048) × ((x : ℕ) → getD (idsIn (now lookup)) x 0 ≤ length (now kinds))
+        × Indexed (now list) (chainsIn (now lookup)) ⌝ }
+    ensures { λ r. ⌜ ((text ss : List ℕ) → Ready text (table (now (kinds .entry)) ss (now (numbers .entry))) (idsIn (now (lookup .entry)))
+        → answered r (now (out .exit)) ≡ writing
+        (recordsOf text (table (now (kinds .entry)) ss (now (numbers .entry))) (now (list .entry))) (now (out .entry))) ⌝ }
 {
-    let End::Place(length) = records(kinds, ids, numbers, list, index, marks, draft) else {
+    let End::Place(length) = records(kinds, lookup, numbers, list, draft) else {
         return refused(NAMES);
     };
     if out.len() < length {
@@ -213,32 +155,50 @@ fn write(
         copier::copy(out, 0, &draft[..length]);
         return Answer { number: 0, length };
     }
-    records(kinds, ids, numbers, list, index, marks, out);
+    records(kinds, lookup, numbers, list, out);
     Answer { number: 0, length }
 }
 
 // A text whose names are numbered: bound once, and its records.
 fn resolve(
     kinds: &[u8],
-    ids: &[u16],
+    lookup: &[u16],
     numbers: &[u64],
     list: &[u8],
-    index: &[u16],
-    marks: &mut [u8],
     draft: &mut [u8],
     out: &mut [u8],
 ) -> Answer
-    requires { ⌜ (length (now kinds) ≤ 2000) × (length (now draft) ≤ 2048) × (length (now kinds) < length (now marks))
-        × ((x : ℕ) → getD (now ids) x 0 ≤ length (now kinds)) × ((x : ℕ) → getD (now marks) x 0 ≡ 0)
-        × Indexed (now list) (now index) ⌝ }
-    ensures { λ r. ⌜ ((text ss ls : List ℕ) → Numbered (nameIn text (now (kinds .entry)) ss ls) (length (now (kinds .entry))) (now (ids .entry))
-        → Named (nameIn text (now (kinds .entry)) ss ls) (now (ids .entry)) (now (numbers .entry)) → answered r (now (out .exit))
-        ≡ writing (recordsOf text (table (now (kinds .entry)) ss ls (now (numbers .entry))) (now (list .entry))) (now (out .entry))) ⌝ }
+    requires { ⌜ (length (now kinds) ≤ 2000) × (length (now draft) ≤ 2048) × ((x : ℕ) → getD (idsIn (now lookup)) x 0 ≤ length (now kinds))
+        × Indexed (now list) (chainsIn (now lookup)) ⌝ }
+    ensures { λ r. ⌜ ((text ss : List ℕ) → Numbered (nameIn text (now (kinds .entry)) ss) (length (now (kinds .entry))) (idsIn (now (lookup .entry)))
+        → Named (nameIn text (now (kinds .entry)) ss) (idsIn (now (lookup .entry))) (now (numbers .entry)) → answered r (now (out .exit))
+        ≡ writing (recordsOf text (table (now (kinds .entry)) ss (now (numbers .entry))) (now (list .entry))) (now (out .entry))) ⌝ }
 {
-    if !prepare(kinds, ids, marks) {
+    if !marks::unique(kinds, lookup) {
         return refused(NAMES);
     }
-    write(kinds, ids, numbers, list, index, marks, draft, out)
+    write(kinds, lookup, numbers, list, draft, out)
+}
+
+// Numbers the names, behind the chains; these stay.
+fn number_names(
+    text: &[u8],
+    kinds: &[u8],
+    starts: &[u16],
+    numbers: &[u64],
+    lookup: &mut [u16],
+    links: &mut [u16],
+)
+    requires { ⌜ (length (now kinds) < 4000) × (length (now kinds) ≤ length (now numbers))
+        × Coded (now text) (table (now kinds) (now starts) (now numbers)) (length (now kinds)) ⌝ }
+    requires { ⌜ (512 + length (now kinds) ≤ length (now links)) × ((x : ℕ) → getD (now links) x 0 ≡ 0)
+        × (roomOf (length (now lookup)) + length (now kinds) ≤ length (now lookup)) × ((x : ℕ) → getD (idsIn (now lookup)) x 0 ≡ 0) ⌝ }
+    ensures { λ _. ⌜ Numbered (nameIn (now (text .entry)) (now (kinds .entry)) (now (starts .entry))) (length (now (kinds .entry)))
+        (idsIn (now (lookup .exit))) ⌝ }
+    ensures { λ _. ⌜ chainsIn (now (lookup .exit)) ≡ chainsIn (now (lookup .entry)) ⌝ }
+{
+    let k = lookups::room(lookup.len());
+    marks::number(text, kinds, starts, numbers, links, &mut lookup[k..]);
 }
 
 // Few tokens: the tables are small, none over 2,048 bytes, and soon cleared.
@@ -246,33 +206,22 @@ fn elaborate_short(
     text: &[u8],
     kinds: &[u8],
     starts: &[u16],
-    lengths: &[u16],
     numbers: &[u64],
     list: &[u8],
-    index: &[u16],
+    lookup: &mut [u16],
     out: &mut [u8],
 ) -> Answer
     requires { ⌜ (length (now kinds) ≤ 255) × (length (now kinds) ≤ length (now numbers))
-        × Coded (now text) (table (now kinds) (now starts) (now lengths) (now numbers)) (length (now kinds)) × Indexed (now list) (now index) ⌝ }
+        × Coded (now text) (table (now kinds) (now starts) (now numbers)) (length (now kinds)) × Indexed (now list) (chainsIn (now lookup)) ⌝ }
+    requires { ⌜ (roomOf (length (now lookup)) + length (now kinds) ≤ length (now lookup)) × ((x : ℕ) → getD (idsIn (now lookup)) x 0 ≡ 0) ⌝ }
     ensures { λ r. ⌜ answered r (now (out .exit)) ≡ writing (recordsOf (now (text .entry))
-        (table (now (kinds .entry)) (now (starts .entry)) (now (lengths .entry)) (now (numbers .entry))) (now (list .entry)))
+        (table (now (kinds .entry)) (now (starts .entry)) (now (numbers .entry))) (now (list .entry)))
         (now (out .entry)) ⌝ }
 {
-    let mut ids = [0u16; 255];
     let mut links = [0u16; 768];
-    marks::number(text, kinds, starts, lengths, numbers, &mut links, &mut ids);
-    let mut marks = [0u8; 256];
+    number_names(text, kinds, starts, numbers, lookup, &mut links);
     let mut draft = [0u8; 512];
-    resolve(
-        kinds,
-        &ids,
-        numbers,
-        list,
-        index,
-        &mut marks,
-        &mut draft,
-        out,
-    )
+    resolve(kinds, lookup, numbers, list, &mut draft, out)
 }
 
 // As many tokens as a text can have.
@@ -280,33 +229,22 @@ fn elaborate_long(
     text: &[u8],
     kinds: &[u8],
     starts: &[u16],
-    lengths: &[u16],
     numbers: &[u64],
     list: &[u8],
-    index: &[u16],
+    lookup: &mut [u16],
     out: &mut [u8],
 ) -> Answer
     requires { ⌜ (length (now kinds) ≤ 2000) × (length (now kinds) ≤ length (now numbers))
-        × Coded (now text) (table (now kinds) (now starts) (now lengths) (now numbers)) (length (now kinds)) × Indexed (now list) (now index) ⌝ }
+        × Coded (now text) (table (now kinds) (now starts) (now numbers)) (length (now kinds)) × Indexed (now list) (chainsIn (now lookup)) ⌝ }
+    requires { ⌜ (roomOf (length (now lookup)) + length (now kinds) ≤ length (now lookup)) × ((x : ℕ) → getD (idsIn (now lookup)) x 0 ≡ 0) ⌝ }
     ensures { λ r. ⌜ answered r (now (out .exit)) ≡ writing (recordsOf (now (text .entry))
-        (table (now (kinds .entry)) (now (starts .entry)) (now (lengths .entry)) (now (numbers .entry))) (now (list .entry)))
+        (table (now (kinds .entry)) (now (starts .entry)) (now (numbers .entry))) (now (list .entry)))
         (now (out .entry)) ⌝ }
 {
-    let mut ids = [0u16; 2000];
     let mut links = [0u16; 2513];
-    marks::number(text, kinds, starts, lengths, numbers, &mut links, &mut ids);
-    let mut marks = [0u8; 2001];
+    number_names(text, kinds, starts, numbers, lookup, &mut links);
     let mut draft = [0u8; 2048];
-    resolve(
-        kinds,
-        &ids,
-        numbers,
-        list,
-        index,
-        &mut marks,
-        &mut draft,
-        out,
-    )
+    resolve(kinds, lookup, numbers, list, &mut draft, out)
 }
 
 // The records of a text that the grammar has, or 51 for a name and 52 for their length; a refusal leaves the buffer as it was.
@@ -314,20 +252,20 @@ pub fn elaborate(
     text: &[u8],
     kinds: &[u8],
     starts: &[u16],
-    lengths: &[u16],
     numbers: &[u64],
     list: &[u8],
-    index: &[u16],
+    lookup: &mut [u16],
     out: &mut [u8],
 ) -> Answer
     requires { ⌜ (length (now kinds) ≤ 2000) × (length (now kinds) ≤ length (now numbers))
-        × Coded (now text) (table (now kinds) (now starts) (now lengths) (now numbers)) (length (now kinds)) × Indexed (now list) (now index) ⌝ }
+        × Coded (now text) (table (now kinds) (now starts) (now numbers)) (length (now kinds)) × Indexed (now list) (chainsIn (now lookup)) ⌝ }
+    requires { ⌜ (roomOf (length (now lookup)) + length (now kinds) ≤ length (now lookup)) × ((x : ℕ) → getD (idsIn (now lookup)) x 0 ≡ 0) ⌝ }
     ensures { λ r. ⌜ answered r (now (out .exit)) ≡ writing (recordsOf (now (text .entry))
-        (table (now (kinds .entry)) (now (starts .entry)) (now (lengths .entry)) (now (numbers .entry))) (now (list .entry)))
+        (table (now (kinds .entry)) (now (starts .entry)) (now (numbers .entry))) (now (list .entry)))
         (now (out .entry)) ⌝ }
 {
     if kinds.len() <= 255 {
-        return elaborate_short(text, kinds, starts, lengths, numbers, list, index, out);
+        return elaborate_short(text, kinds, starts, numbers, list, lookup, out);
     }
-    elaborate_long(text, kinds, starts, lengths, numbers, list, index, out)
+    elaborate_long(text, kinds, starts, numbers, list, lookup, out)
 }

@@ -1,4 +1,5 @@
 // A text's tokens by their places: a number for each name, which symbols are used and bound, where the targets begin.
+use crate::lookups;
 ghost use mathlib.Core.Path.{_≡_};
 ghost use mathlib.Core.Bool.{cond, _&&_};
 ghost use mathlib.Core.List.{List, [], _∷_};
@@ -6,25 +7,47 @@ ghost use Prim.Native.Nat.{ℕ, _+_, _<_, _≤_};
 ghost use lib.Dec.{leb};
 ghost use lib.ListN.{length, getD, take, drop};
 ghost use Rattle.quel.specs.Results.{Word, sameWord, uniqueWords};
+ghost use Rattle.quel.specs.Tokens.{isLetter, run};
+ghost use Rattle.quel.specs.Lexical.{first};
 ghost use Rattle.tokens.specs.Codes.{Spelt, Coded};
 ghost use Rattle.flat.specs.Flat.{binders, mainOf, lastOf};
 ghost use Rattle.flat.specs.Flat as F;
+ghost use Rattle.elaborate.specs.Lookup.{idsIn};
 ghost use Rattle.elaborate.specs.Places.{table, tokensFrom, nameIn, pointIn, useIn, depthKind, partKind, boundPlace, bindsKind};
 ghost use Rattle.elaborate.specs.Numbers.{Numbered, Numbering, Met, Seen, Told, Noted, Used};
+ghost use Rattle.elaborate.specs.Tables.{Clear};
 
 // The code of every word of more than twelve letters.
 const LONG: u64 = 288_230_376_151_711_744;
 
-// The first n bytes, or all.
-fn head(q: &[u8], n: usize) -> &[u8]
-    ensures { λ r. ⌜ now r ≡ take n (now (q .entry)) ⌝ }
+// Whether a letter stands there.
+fn is_letter(q: &[u8], i: usize) -> bool
+    ensures { λ r. ⌜ r ≡ first isLetter (drop i (now (q .entry))) ⌝ }
 {
-    if n <= q.len() { &q[..n] } else { &q[0..] }
+    if q.len() <= i {
+        return false;
+    }
+    let b = q[i];
+    if b < 65 {
+        return false;
+    }
+    b <= 90
+}
+
+// The letters in front.
+fn letters(q: &[u8]) -> &[u8]
+    ensures { λ r. ⌜ now r ≡ run isLetter (now (q .entry)) ⌝ }
+{
+    let mut i = 0;
+    while is_letter(q, i) {
+        i += 1;
+    }
+    &q[..i]
 }
 
 // The name at a place; no letters where there is none.
-fn word<'a>(text: &'a [u8], kinds: &[u8], starts: &[u16], lengths: &[u16], i: usize) -> &'a [u8]
-    ensures { λ r. ⌜ now r ≡ nameIn (now (text .entry)) (now (kinds .entry)) (now (starts .entry)) (now (lengths .entry)) i ⌝ }
+fn word<'a>(text: &'a [u8], kinds: &[u8], starts: &[u16], i: usize) -> &'a [u8]
+    ensures { λ r. ⌜ now r ≡ nameIn (now (text .entry)) (now (kinds .entry)) (now (starts .entry)) i ⌝ }
 {
     if kinds.len() <= i {
         return &text[..0];
@@ -32,10 +55,7 @@ fn word<'a>(text: &'a [u8], kinds: &[u8], starts: &[u16], lengths: &[u16], i: us
     if kinds[i] != 0 {
         return &text[..0];
     }
-    head(
-        kinds::tail(text, kinds::size_at(starts, i)),
-        kinds::size_at(lengths, i),
-    )
+    letters(kinds::tail(text, kinds::size_at(starts, i)))
 }
 
 fn same(a: &[u8], b: &[u8]) -> bool
@@ -59,16 +79,15 @@ fn same_names(
     text: &[u8],
     kinds: &[u8],
     starts: &[u16],
-    lengths: &[u16],
     numbers: &[u64],
     i: usize,
     j: usize,
 ) -> bool
     requires { ⌜ (i < length (now numbers)) × (j < length (now numbers))
-        × Spelt (nameIn (now text) (now kinds) (now starts) (now lengths) i) (getD (now numbers) i 0)
-        × Spelt (nameIn (now text) (now kinds) (now starts) (now lengths) j) (getD (now numbers) j 0) ⌝ }
-    ensures { λ r. ⌜ r ≡ sameWord (nameIn (now (text .entry)) (now (kinds .entry)) (now (starts .entry)) (now (lengths .entry)) i)
-        (nameIn (now (text .entry)) (now (kinds .entry)) (now (starts .entry)) (now (lengths .entry)) j) ⌝ }
+        × Spelt (nameIn (now text) (now kinds) (now starts) i) (getD (now numbers) i 0)
+        × Spelt (nameIn (now text) (now kinds) (now starts) j) (getD (now numbers) j 0) ⌝ }
+    ensures { λ r. ⌜ r ≡ sameWord (nameIn (now (text .entry)) (now (kinds .entry)) (now (starts .entry)) i)
+        (nameIn (now (text .entry)) (now (kinds .entry)) (now (starts .entry)) j) ⌝ }
 {
     let code = numbers[i];
     if numbers[j] != code {
@@ -77,10 +96,7 @@ fn same_names(
     if code < LONG {
         return true;
     }
-    same(
-        word(text, kinds, starts, lengths, i),
-        word(text, kinds, starts, lengths, j),
-    )
+    same(word(text, kinds, starts, i), word(text, kinds, starts, j))
 }
 
 // The number of an earlier place with the name at i, 0 where there is none.
@@ -88,23 +104,22 @@ fn earlier(
     text: &[u8],
     kinds: &[u8],
     starts: &[u16],
-    lengths: &[u16],
     numbers: &[u64],
     index: &[u16],
     ids: &[u16],
     i: usize,
 ) -> usize
     requires { ⌜ (i < length (now kinds)) × (length (now kinds) ≤ length (now numbers)) × (getD (now kinds) i 0 ≡ 0)
-        × Coded (now text) (table (now kinds) (now starts) (now lengths) (now numbers)) (length (now kinds))
-        × Numbering (nameIn (now text) (now kinds) (now starts) (now lengths)) i (take 512 (now index)) (drop 512 (now index)) (now ids) ⌝ }
-    ensures { λ r. ⌜ ((f : Numbering (nameIn (now (text .entry)) (now (kinds .entry)) (now (starts .entry)) (now (lengths .entry))) i
+        × Coded (now text) (table (now kinds) (now starts) (now numbers)) (length (now kinds))
+        × Numbering (nameIn (now text) (now kinds) (now starts)) i (take 512 (now index)) (drop 512 (now index)) (now ids) ⌝ }
+    ensures { λ r. ⌜ ((f : Numbering (nameIn (now (text .entry)) (now (kinds .entry)) (now (starts .entry))) i
         (take 512 (now (index .entry))) (drop 512 (now (index .entry))) (now (ids .entry)))
-        → Met (nameIn (now (text .entry)) (now (kinds .entry)) (now (starts .entry)) (now (lengths .entry))) (now (ids .entry)) i (f .places) r) ⌝ }
+        → Met (nameIn (now (text .entry)) (now (kinds .entry)) (now (starts .entry))) (now (ids .entry)) i (f .places) r) ⌝ }
 {
     let mut link = kinds::size_at(index, buckets::bucket(numbers[i]));
     while 0 < link {
         let at = link - 1;
-        if same_names(text, kinds, starts, lengths, numbers, at, i) {
+        if same_names(text, kinds, starts, numbers, at, i) {
             return kinds::size_at(ids, at);
         }
         link = kinds::size_at(index, 512 + at);
@@ -117,23 +132,22 @@ fn enter(
     text: &[u8],
     kinds: &[u8],
     starts: &[u16],
-    lengths: &[u16],
     numbers: &[u64],
     index: &mut [u16],
     ids: &mut [u16],
     i: usize,
 )
     requires { ⌜ (i < length (now kinds)) × (length (now kinds) < 4000) × (length (now kinds) ≤ length (now numbers))
-        × Coded (now text) (table (now kinds) (now starts) (now lengths) (now numbers)) (length (now kinds)) ⌝ }
+        × Coded (now text) (table (now kinds) (now starts) (now numbers)) (length (now kinds)) ⌝ }
     requires { ⌜ (512 + i < length (now index)) × (i < length (now ids))
-        × Numbering (nameIn (now text) (now kinds) (now starts) (now lengths)) i (take 512 (now index)) (drop 512 (now index)) (now ids) ⌝ }
-    ensures { λ _. ⌜ Numbering (nameIn (now (text .entry)) (now (kinds .entry)) (now (starts .entry)) (now (lengths .entry))) (i + 1)
+        × Numbering (nameIn (now text) (now kinds) (now starts)) i (take 512 (now index)) (drop 512 (now index)) (now ids) ⌝ }
+    ensures { λ _. ⌜ Numbering (nameIn (now (text .entry)) (now (kinds .entry)) (now (starts .entry))) (i + 1)
         (take 512 (now (index .exit))) (drop 512 (now (index .exit))) (now (ids .exit)) ⌝ }
 {
     if kinds[i] != 0 {
         return;
     }
-    let id = earlier(text, kinds, starts, lengths, numbers, index, ids, i);
+    let id = earlier(text, kinds, starts, numbers, index, ids, i);
     if id != 0 {
         ids[i] = id as u16;
         return;
@@ -147,21 +161,20 @@ pub(crate) fn number(
     text: &[u8],
     kinds: &[u8],
     starts: &[u16],
-    lengths: &[u16],
     numbers: &[u64],
     index: &mut [u16],
     ids: &mut [u16],
 )
     requires { ⌜ (length (now kinds) < 4000) × (length (now kinds) ≤ length (now numbers))
-        × Coded (now text) (table (now kinds) (now starts) (now lengths) (now numbers)) (length (now kinds)) ⌝ }
+        × Coded (now text) (table (now kinds) (now starts) (now numbers)) (length (now kinds)) ⌝ }
     requires { ⌜ (512 + length (now kinds) ≤ length (now index)) × (length (now kinds) ≤ length (now ids))
         × ((h : ℕ) → getD (now index) h 0 ≡ 0) × ((h : ℕ) → getD (now ids) h 0 ≡ 0) ⌝ }
-    ensures { λ _. ⌜ Numbered (nameIn (now (text .entry)) (now (kinds .entry)) (now (starts .entry)) (now (lengths .entry)))
+    ensures { λ _. ⌜ Numbered (nameIn (now (text .entry)) (now (kinds .entry)) (now (starts .entry)))
         (length (now (kinds .entry))) (now (ids .exit)) ⌝ }
 {
     let mut i = 0;
     while i < kinds.len() {
-        enter(text, kinds, starts, lengths, numbers, index, ids, i);
+        enter(text, kinds, starts, numbers, index, ids, i);
         i += 1;
     }
 }
@@ -234,30 +247,31 @@ fn is_use(kinds: &[u8], d: usize, i: usize) -> bool
 }
 
 // Marks the name at i, if it is used there.
-fn note(kinds: &[u8], ids: &[u16], used: &mut [u8], d: usize, i: usize)
-    requires { ⌜ (i < 4000) × (getD (now ids) i 0 < length (now used)) ⌝ }
-    ensures { λ _. ⌜ Noted (now (ids .entry)) (now (used .entry)) i (useIn (now (kinds .entry)) d i) (now (used .exit)) ⌝ }
+fn note(kinds: &[u8], lookup: &[u16], used: &mut [u64], d: usize, i: usize)
+    requires { ⌜ (i < 4000) × (getD (idsIn (now lookup)) i 0 < length (now used)) ⌝ }
+    ensures { λ _. ⌜ Noted (idsIn (now (lookup .entry))) (now (used .entry)) i (useIn (now (kinds .entry)) d i) (now (used .exit)) ⌝ }
 {
     if !is_use(kinds, d, i) {
         return;
     }
-    let x = kinds::size_at(ids, i);
-    used[x] = 1;
+    let x = lookups::id_at(lookup, i);
+    used[x] = 4;
 }
 
-// Marks, by their numbers, the names that tokens from a place on use outside all aggregates.
-pub(crate) fn uses(kinds: &[u8], ids: &[u16], from: usize, used: &mut [u8])
-    requires { ⌜ (length (now kinds) < 4000) × (length (now kinds) < length (now used)) × ((x : ℕ) → getD (now ids) x 0 ≤ length (now kinds))
+// Marks, by their numbers, the names that tokens from a place on use outside all aggregates, in the table of what they stand for: nothing yet.
+pub(crate) fn uses(kinds: &[u8], lookup: &[u16], from: usize, used: &mut [u64])
+    requires { ⌜ (length (now kinds) < 4000) × (length (now kinds) < length (now used)) × ((x : ℕ) → getD (idsIn (now lookup)) x 0 ≤ length (now kinds))
         × ((x : ℕ) → getD (now used) x 0 ≡ 0) ⌝ }
-    ensures { λ _. ⌜ ((text ss ls ns : List ℕ) → Numbered (nameIn text (now (kinds .entry)) ss ls) (length (now (kinds .entry))) (now (ids .entry))
-        → Used text (table (now (kinds .entry)) ss ls ns) (now (ids .entry)) from (now (used .exit))) ⌝ }
+    ensures { λ _. ⌜ ((text ss ns : List ℕ) → Numbered (nameIn text (now (kinds .entry)) ss) (length (now (kinds .entry))) (idsIn (now (lookup .entry)))
+        → Used text (table (now (kinds .entry)) ss ns) (idsIn (now (lookup .entry))) from (now (used .exit))) ⌝ }
+    ensures { λ _. ⌜ Clear (now (used .exit)) ⌝ }
 {
     let mut i = from;
     let mut d = 0;
     while i < kinds.len() {
         let kind = kinds[i];
         if kind == 0 {
-            note(kinds, ids, used, d, i);
+            note(kinds, lookup, used, d, i);
             i += 1;
             continue;
         }
@@ -306,14 +320,15 @@ fn binds(kind: u8, p: u8) -> bool
 }
 
 // Whether the token at i binds no name, or one that is not marked; it is marked then.
-fn once(kinds: &[u8], ids: &[u16], seen: &mut [u8], p: u8, i: usize) -> bool
-    requires { ⌜ (i < length (now kinds)) × (i < 4000) × ((x : ℕ) → getD (now ids) x 0 < length (now seen)) ⌝ }
-    ensures { λ r. ⌜ Told (now (kinds .entry)) (now (ids .entry)) (now (seen .entry)) i (bindsKind (getD (now (kinds .entry)) i 0) p) (now (seen .exit)) r ⌝ }
+fn once(kinds: &[u8], lookup: &[u16], seen: &mut [u8], p: u8, i: usize) -> bool
+    requires { ⌜ (i < length (now kinds)) × (i < 4000) × ((x : ℕ) → getD (idsIn (now lookup)) x 0 < length (now seen)) ⌝ }
+    ensures { λ r. ⌜ Told (now (kinds .entry)) (idsIn (now (lookup .entry))) (now (seen .entry)) i
+        (bindsKind (getD (now (kinds .entry)) i 0) p) (now (seen .exit)) r ⌝ }
 {
     if !binds(kinds[i], p) {
         return true;
     }
-    let x = kinds::size_at(ids, bound_place(kinds, i));
+    let x = lookups::id_at(lookup, bound_place(kinds, i));
     if seen[x] != 0 {
         return false;
     }
@@ -322,16 +337,16 @@ fn once(kinds: &[u8], ids: &[u16], seen: &mut [u8], p: u8, i: usize) -> bool
 }
 
 // Whether no symbol is bound twice, with a table for the marks.
-fn unique_with(kinds: &[u8], ids: &[u16], seen: &mut [u8]) -> bool
-    requires { ⌜ (length (now kinds) < 4000) × (length (now kinds) < length (now seen)) × ((x : ℕ) → getD (now ids) x 0 ≤ length (now kinds))
+fn unique_with(kinds: &[u8], lookup: &[u16], seen: &mut [u8]) -> bool
+    requires { ⌜ (length (now kinds) < 4000) × (length (now kinds) < length (now seen)) × ((x : ℕ) → getD (idsIn (now lookup)) x 0 ≤ length (now kinds))
         × ((x : ℕ) → getD (now seen) x 0 ≡ 0) ⌝ }
-    ensures { λ r. ⌜ ((text ss ls ns : List ℕ) → Numbered (nameIn text (now (kinds .entry)) ss ls) (length (now (kinds .entry))) (now (ids .entry))
-        → r ≡ uniqueWords (binders 0 (tokensFrom text (table (now (kinds .entry)) ss ls ns) 0))) ⌝ }
+    ensures { λ r. ⌜ ((text ss ns : List ℕ) → Numbered (nameIn text (now (kinds .entry)) ss) (length (now (kinds .entry))) (idsIn (now (lookup .entry)))
+        → r ≡ uniqueWords (binders 0 (tokensFrom text (table (now (kinds .entry)) ss ns) 0))) ⌝ }
 {
     let mut i = 0;
     let mut p = 0;
     while i < kinds.len() {
-        if !once(kinds, ids, seen, p, i) {
+        if !once(kinds, lookup, seen, p, i) {
             return false;
         }
         p = part(kinds[i], p);
@@ -340,41 +355,41 @@ fn unique_with(kinds: &[u8], ids: &[u16], seen: &mut [u8]) -> bool
     true
 }
 
-fn unique_short(kinds: &[u8], ids: &[u16]) -> bool
-    requires { ⌜ (length (now kinds) ≤ 256) × ((x : ℕ) → getD (now ids) x 0 ≤ length (now kinds)) ⌝ }
-    ensures { λ r. ⌜ ((text ss ls ns : List ℕ) → Numbered (nameIn text (now (kinds .entry)) ss ls) (length (now (kinds .entry))) (now (ids .entry))
-        → r ≡ uniqueWords (binders 0 (tokensFrom text (table (now (kinds .entry)) ss ls ns) 0))) ⌝ }
+fn unique_short(kinds: &[u8], lookup: &[u16]) -> bool
+    requires { ⌜ (length (now kinds) ≤ 256) × ((x : ℕ) → getD (idsIn (now lookup)) x 0 ≤ length (now kinds)) ⌝ }
+    ensures { λ r. ⌜ ((text ss ns : List ℕ) → Numbered (nameIn text (now (kinds .entry)) ss) (length (now (kinds .entry))) (idsIn (now (lookup .entry)))
+        → r ≡ uniqueWords (binders 0 (tokensFrom text (table (now (kinds .entry)) ss ns) 0))) ⌝ }
 {
     let mut seen = [0u8; 257];
-    unique_with(kinds, ids, &mut seen)
+    unique_with(kinds, lookup, &mut seen)
 }
 
-fn unique_long(kinds: &[u8], ids: &[u16]) -> bool
-    requires { ⌜ (length (now kinds) < 4000) × ((x : ℕ) → getD (now ids) x 0 ≤ length (now kinds)) ⌝ }
-    ensures { λ r. ⌜ ((text ss ls ns : List ℕ) → Numbered (nameIn text (now (kinds .entry)) ss ls) (length (now (kinds .entry))) (now (ids .entry))
-        → r ≡ uniqueWords (binders 0 (tokensFrom text (table (now (kinds .entry)) ss ls ns) 0))) ⌝ }
+fn unique_long(kinds: &[u8], lookup: &[u16]) -> bool
+    requires { ⌜ (length (now kinds) < 4000) × ((x : ℕ) → getD (idsIn (now lookup)) x 0 ≤ length (now kinds)) ⌝ }
+    ensures { λ r. ⌜ ((text ss ns : List ℕ) → Numbered (nameIn text (now (kinds .entry)) ss) (length (now (kinds .entry))) (idsIn (now (lookup .entry)))
+        → r ≡ uniqueWords (binders 0 (tokensFrom text (table (now (kinds .entry)) ss ns) 0))) ⌝ }
 {
     let mut seen = [0u8; 4000];
-    unique_with(kinds, ids, &mut seen)
+    unique_with(kinds, lookup, &mut seen)
 }
 
 // Whether no symbol is bound twice.
-pub(crate) fn unique(kinds: &[u8], ids: &[u16]) -> bool
-    requires { ⌜ (length (now kinds) < 4000) × ((x : ℕ) → getD (now ids) x 0 ≤ length (now kinds)) ⌝ }
-    ensures { λ r. ⌜ ((text ss ls ns : List ℕ) → Numbered (nameIn text (now (kinds .entry)) ss ls) (length (now (kinds .entry))) (now (ids .entry))
-        → r ≡ uniqueWords (binders 0 (tokensFrom text (table (now (kinds .entry)) ss ls ns) 0))) ⌝ }
+pub(crate) fn unique(kinds: &[u8], lookup: &[u16]) -> bool
+    requires { ⌜ (length (now kinds) < 4000) × ((x : ℕ) → getD (idsIn (now lookup)) x 0 ≤ length (now kinds)) ⌝ }
+    ensures { λ r. ⌜ ((text ss ns : List ℕ) → Numbered (nameIn text (now (kinds .entry)) ss) (length (now (kinds .entry))) (idsIn (now (lookup .entry)))
+        → r ≡ uniqueWords (binders 0 (tokensFrom text (table (now (kinds .entry)) ss ns) 0))) ⌝ }
 {
     if kinds.len() <= 256 {
-        return unique_short(kinds, ids);
+        return unique_short(kinds, lookup);
     }
-    unique_long(kinds, ids)
+    unique_long(kinds, lookup)
 }
 
 // Where the targets begin: after RETRIEVE, the workspace's name and a colon.
 pub(crate) fn main_place(kinds: &[u8]) -> usize
     requires { ⌜ length (now kinds) < 4000 ⌝ }
-    ensures { λ r. ⌜ ((text ss ls ns : List ℕ) → tokensFrom text (table (now (kinds .entry)) ss ls ns) r
-        ≡ mainOf (tokensFrom text (table (now (kinds .entry)) ss ls ns) 0)) ⌝ }
+    ensures { λ r. ⌜ ((text ss ns : List ℕ) → tokensFrom text (table (now (kinds .entry)) ss ns) r
+        ≡ mainOf (tokensFrom text (table (now (kinds .entry)) ss ns) 0)) ⌝ }
     ensures { λ r. ⌜ (r < 4003) × (0 < length (now (kinds .entry)) → 1 ≤ r) ⌝ }
 {
     let mut i = 0;
@@ -389,7 +404,7 @@ pub(crate) fn main_place(kinds: &[u8]) -> usize
 
 // Whether a colon, and so a qualification, stands among the tokens from a place on.
 pub(crate) fn qualified(kinds: &[u8], from: usize) -> bool
-    ensures { λ r. ⌜ ((text ss ls ns : List ℕ) → lastOf (tokensFrom text (table (now (kinds .entry)) ss ls ns) from) ≡ cond r [] (16 ∷ [])) ⌝ }
+    ensures { λ r. ⌜ ((text ss ns : List ℕ) → lastOf (tokensFrom text (table (now (kinds .entry)) ss ns) from) ≡ cond r [] (16 ∷ [])) ⌝ }
 {
     let mut i = from;
     while i < kinds.len() {

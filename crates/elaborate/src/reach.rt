@@ -1,10 +1,12 @@
 // Which symbol a name stands for, where it stands.
 use crate::ahead;
+use crate::lookups;
 ghost use mathlib.Core.Path.{_≡_};
 ghost use mathlib.Core.List.{List};
 ghost use Prim.Native.Nat.{ℕ};
 ghost use Rattle.quel.specs.Results.{Word};
 ghost use Rattle.quel.specs.Elaboration.{Symbol, symbolIn};
+ghost use Rattle.elaborate.specs.Lookup.{idsIn};
 ghost use Rattle.elaborate.specs.Reach.{relationIn, variableIn, knownOf, standing};
 ghost use Rattle.elaborate.specs.Tables.{Holds};
 
@@ -44,9 +46,9 @@ fn decoded(c: u64, crossing: usize) -> Known
 }
 
 // What the name at x stands for.
-pub(crate) fn seek(ids: &[u16], known: &[u64], crossing: usize, x: usize) -> Known
-    ensures { λ r. ⌜ ((w : ℕ → Word) (ρ : List Symbol) (d : ℕ) → Holds w (now (ids .entry)) (now (known .entry)) d crossing ρ → r
+pub(crate) fn seek(lookup: &[u16], known: &[u64], crossing: usize, x: usize) -> Known
+    ensures { λ r. ⌜ ((w : ℕ → Word) (ρ : List Symbol) (d : ℕ) → Holds w (idsIn (now (lookup .entry))) (now (known .entry)) d crossing ρ → r
         ≡ knownOf (symbolIn (w x) ρ)) ⌝ }
 {
-    decoded(ahead::entry(known, kinds::size_at(ids, x)), crossing)
+    decoded(ahead::entry(known, lookups::id_at(lookup, x)), crossing)
 }

@@ -1,6 +1,7 @@
 // Parentheses opened and closed: what a name stands for is put into the table where it is bound, and what it stood for put back where that ends.
 use crate::ahead;
 use crate::frames;
+use crate::lookups;
 use kinds::Record;
 ghost use mathlib.Core.Path.{_≡_};
 ghost use mathlib.Core.Bool.{_||_};
@@ -10,6 +11,7 @@ ghost use lib.Dec.{eqb};
 ghost use lib.ListN.{length, getD, set};
 ghost use Rattle.quel.specs.Results.{Word};
 ghost use Rattle.quel.specs.Writing.{Reaches, around};
+ghost use Rattle.elaborate.specs.Lookup.{idsIn};
 ghost use Rattle.elaborate.specs.Tables.{Same};
 ghost use Rattle.elaborate.specs.Puts.{reachAfter};
 ghost use Rattle.elaborate.specs.Frames.{Stack, Opened, framedReach};
@@ -41,7 +43,7 @@ fn push(known: &mut [u64], frames: &mut [u64], r: Reach, x: usize, e: u64)
 
 // The frame of a record at token i: SOME binds the name after it, an aggregate that two tokens on, ( none.
 fn enter(
-    ids: &[u16],
+    lookup: &[u16],
     known: &mut [u64],
     frames: &mut [u64],
     r: Reach,
@@ -49,18 +51,19 @@ fn enter(
     i: usize,
 ) -> Reach
     requires { ⌜ (r .depth < length (now frames)) × (r .depth < 8191) × (r .crossing < 8192) × (i < 4000)
-        × ((x : ℕ) → getD (now ids) x 0 < 8192) × ((x : ℕ) → getD (now ids) x 0 < length (now known))
+        × ((x : ℕ) → getD (idsIn (now lookup)) x 0 < 8192) × ((x : ℕ) → getD (idsIn (now lookup)) x 0 < length (now known))
         × ((y : ℕ) → getD (now known) y 0 < 68719476736) ⌝ }
-    ensures { λ t. ⌜ ((w : ℕ → Word) (σ : Reaches) → Same w (now (ids .entry))
-        → Stack w (now (ids .entry)) (now (frames .entry)) (r .depth) (r .crossing) (now (known .entry)) σ
-        → Stack w (now (ids .entry)) (now (frames .exit)) (t .depth) (t .crossing) (now (known .exit)) (framedReach (w (i + 1)) (w (i + 2)) item σ)) ⌝ }
+    ensures { λ t. ⌜ ((w : ℕ → Word) (σ : Reaches) → Same w (idsIn (now (lookup .entry)))
+        → Stack w (idsIn (now (lookup .entry))) (now (frames .entry)) (r .depth) (r .crossing) (now (known .entry)) σ
+        → Stack w (idsIn (now (lookup .entry))) (now (frames .exit)) (t .depth) (t .crossing) (now (known .exit))
+        (framedReach (w (i + 1)) (w (i + 2)) item σ)) ⌝ }
     ensures { λ t. ⌜ (t .depth ≡ r .depth + 1) × (t .crossing < 8192) × ((y : ℕ) → getD (now (known .exit)) y 0 < 68719476736)
         × ((j : ℕ) → r .depth < j → getD (now (frames .exit)) j 0 ≡ getD (now (frames .entry)) j 0) ⌝ }
 {
     let depth = r.depth;
     match item {
         Record::Some(v, q) => {
-            let x = kinds::size_at(ids, i + 1);
+            let x = lookups::id_at(lookup, i + 1);
             push(known, frames, r, x, frames::pack(1, q, v, depth + 1));
             Reach {
                 depth: depth + 1,
@@ -68,7 +71,7 @@ fn enter(
             }
         }
         Record::Aggregate(_, v, q, _) => {
-            let x = kinds::size_at(ids, i + 2);
+            let x = lookups::id_at(lookup, i + 2);
             push(known, frames, r, x, frames::pack(1, q, v, depth + 1));
             Reach {
                 depth: depth + 1,
@@ -143,7 +146,7 @@ fn closing(a: u8) -> bool
 
 // The reaches after an action with this record at token i.
 pub(crate) fn shift(
-    ids: &[u16],
+    lookup: &[u16],
     known: &mut [u64],
     frames: &mut [u64],
     r: Reach,
@@ -152,16 +155,17 @@ pub(crate) fn shift(
     i: usize,
 ) -> Reach
     requires { ⌜ (r .depth < length (now frames)) × (r .depth < 8191) × (r .crossing < 8192) × (i < 4000)
-        × ((x : ℕ) → getD (now ids) x 0 < 8192) × ((x : ℕ) → getD (now ids) x 0 < length (now known))
+        × ((x : ℕ) → getD (idsIn (now lookup)) x 0 < 8192) × ((x : ℕ) → getD (idsIn (now lookup)) x 0 < length (now known))
         × ((y : ℕ) → getD (now known) y 0 < 68719476736) ⌝ }
-    ensures { λ t. ⌜ (Fits a item → (w : ℕ → Word) (σ : Reaches) → Same w (now (ids .entry))
-        → Stack w (now (ids .entry)) (now (frames .entry)) (r .depth) (r .crossing) (now (known .entry)) σ
-        → Stack w (now (ids .entry)) (now (frames .exit)) (t .depth) (t .crossing) (now (known .exit)) (reachAfter a (w (i + 1)) (w (i + 2)) item σ)) ⌝ }
+    ensures { λ t. ⌜ (Fits a item → (w : ℕ → Word) (σ : Reaches) → Same w (idsIn (now (lookup .entry)))
+        → Stack w (idsIn (now (lookup .entry))) (now (frames .entry)) (r .depth) (r .crossing) (now (known .entry)) σ
+        → Stack w (idsIn (now (lookup .entry))) (now (frames .exit)) (t .depth) (t .crossing) (now (known .exit))
+        (reachAfter a (w (i + 1)) (w (i + 2)) item σ)) ⌝ }
     ensures { λ t. ⌜ (t .depth ≤ r .depth + 1) × (t .crossing < 8192) × ((y : ℕ) → getD (now (known .exit)) y 0 < 68719476736)
         × ((j : ℕ) → r .depth < j → getD (now (frames .exit)) j 0 ≡ getD (now (frames .entry)) j 0) ⌝ }
 {
     if opening(a) {
-        return enter(ids, known, frames, r, item, i);
+        return enter(lookup, known, frames, r, item, i);
     }
     if closing(a) {
         return leave(known, frames, r);

@@ -3,7 +3,6 @@ use crate::ahead;
 use crate::items;
 use crate::items::Item;
 use crate::items::Scope;
-use crate::marks;
 use crate::modes;
 use crate::opens;
 use crate::reaches;
@@ -19,6 +18,7 @@ ghost use lib.Seq.{sets};
 ghost use Rattle.quel.specs.Writing.{Reaches};
 ghost use Rattle.names.specs.Entries.{entries};
 ghost use Rattle.names.specs.Search.{Indexed};
+ghost use Rattle.elaborate.specs.Lookup.{chainsIn, idsIn};
 ghost use Rattle.elaborate.specs.Places.{table, nameIn};
 ghost use Rattle.copier.specs.Copied.{recordBytes};
 ghost use Rattle.elaborate.specs.Tables.{Named};
@@ -54,7 +54,7 @@ fn write(
     i: usize,
     item: Record,
 ) -> usize
-    requires { ⌜ (at + 8197 < 9223372036854775808) × (i < 4000) ⌝ }
+    requires { ⌜ (at + 8197 < 9223372036854775808) × (i < 4000) × (i + 1 < length (now counts)) ⌝ }
     ensures { λ r. ⌜ r ≡ at + length (openBytes mode kind (orsIn (getD (now (counts .entry)) i 0)) (andsIn (getD (now (counts .entry)) i 0))
         (1 + signIn (getD (now (counts .entry)) (i + 1) 0)) ++ recordBytes item) ⌝ }
     ensures { λ _. ⌜ now (out .exit) ≡ sets (now (out .entry)) at (openBytes mode kind (orsIn (getD (now (counts .entry)) i 0))
@@ -66,9 +66,9 @@ fn write(
         at,
         mode,
         kind,
-        ahead::ors(counts, i),
-        ahead::ands(counts, i),
-        ahead::operator(counts, i + 1),
+        ahead::ors(counts[i]),
+        ahead::ands(counts[i]),
+        ahead::operator(counts[i + 1]),
     );
     copier::put_record(out, p, item)
 }
@@ -97,30 +97,30 @@ fn quiet(mode: u8, a: u8) -> bool
 
 // A turn. What was counted for the tokens behind is asked for no more: open frames are kept there.
 pub(crate) fn turn(
-    kinds: &[u8],
-    ids: &[u16],
+    lookup: &[u16],
     numbers: &[u64],
     list: &[u8],
-    index: &[u16],
     counts: &mut [u64],
     known: &mut [u64],
     out: &mut [u8],
     s: State,
 ) -> Next
-    requires { ⌜ (s .i < length (now kinds)) × (length (now kinds) < 4000) × (length (now kinds) < length (now counts)) × (s .mode ≤ 6) × (s .n < 8000)
-        × (s .at + 8197 < 9223372036854775808) × Counted (now kinds) (now counts) (s .i) ⌝ }
-    requires { ⌜ (s .depth ≤ s .i) × (s .crossing < 8192) × ((x : ℕ) → getD (now ids) x 0 < 8192) × ((x : ℕ) → getD (now ids) x 0 < length (now known))
-        × ((y : ℕ) → getD (now known) y 0 < 68719476736) × Indexed (now list) (now index) ⌝ }
-    ensures { λ r. ⌜ ((text ss ls : List ℕ) (σ : Reaches) → Named (nameIn text (now (kinds .entry)) ss ls) (now (ids .entry)) (now (numbers .entry))
-        → Stack (nameIn text (now (kinds .entry)) ss ls) (now (ids .entry)) (now (counts .entry)) (s .depth) (s .crossing) (now (known .entry)) σ
-        → Goes text (table (now (kinds .entry)) ss ls (now (numbers .entry))) (entries (now (list .entry))) (now (ids .entry)) (s .i) s σ
+    requires { ⌜ (s .i < 4000) × (s .i + 1 < length (now counts)) × (s .mode ≤ 6) × (s .n < 8000) × (s .at + 8197 < 9223372036854775808) ⌝ }
+    requires { ⌜ (s .depth ≤ s .i) × (s .crossing < 8192) × ((x : ℕ) → getD (idsIn (now lookup)) x 0 < 8192)
+        × ((x : ℕ) → getD (idsIn (now lookup)) x 0 < length (now known)) × ((y : ℕ) → getD (now known) y 0 < 68719476736)
+        × Indexed (now list) (chainsIn (now lookup)) ⌝ }
+    ensures { λ r. ⌜ ((text ks ss : List ℕ) (σ : Reaches) → s .i < length ks → Counted ks (now (counts .entry)) (s .i)
+        → Named (nameIn text ks ss) (idsIn (now (lookup .entry))) (now (numbers .entry))
+        → Stack (nameIn text ks ss) (idsIn (now (lookup .entry))) (now (counts .entry)) (s .depth) (s .crossing) (now (known .entry)) σ
+        → Goes text (table ks ss (now (numbers .entry))) (entries (now (list .entry))) (idsIn (now (lookup .entry))) (s .i) s σ
         (now (out .entry)) r (now (counts .exit)) (now (known .exit)) (now (out .exit))) ⌝ }
     ensures { λ r. ⌜ Within s r ⌝ }
-    ensures { λ _. ⌜ ((y : ℕ) → getD (now (known .exit)) y 0 < 68719476736) × Counted (now (kinds .entry)) (now (counts .exit)) (s .i + 1) ⌝ }
+    ensures { λ _. ⌜ ((y : ℕ) → getD (now (known .exit)) y 0 < 68719476736)
+        × ((ks : List ℕ) → Counted ks (now (counts .entry)) (s .i) → Counted ks (now (counts .exit)) (s .i + 1)) ⌝ }
 {
     let i = s.i;
-    let kind = kinds[i];
-    let point = marks::is_point(kinds, i + 1);
+    let kind = ahead::kind(counts[i]);
+    let point = 25 <= ahead::kind(counts[i + 1]);
     let a = modes::action(s.mode, kind, point);
     let mode = modes::next_mode(s.mode, kind, point);
     if quiet(s.mode, a) {
@@ -134,10 +134,13 @@ pub(crate) fn turn(
         });
     }
     let scope = Scope {
+        i: i,
+        kind: kind,
+        action: a,
         crossing: s.crossing,
         n: s.n,
     };
-    let Item::Put(r) = items::item_at(kind, ids, numbers, list, index, known, scope, i, a) else {
+    let Item::Put(r) = items::item_at(lookup, numbers, list, known, scope) else {
         return Next::Refused;
     };
     let at = write(out, s.at, s.mode, kind, counts, i, r);
@@ -145,7 +148,7 @@ pub(crate) fn turn(
         depth: s.depth,
         crossing: s.crossing,
     };
-    let reach = reaches::shift(ids, known, counts, held, a, r, i);
+    let reach = reaches::shift(lookup, known, counts, held, a, r, i);
     let n = number(a, s.n);
     Next::Go(State {
         i: i + 1,

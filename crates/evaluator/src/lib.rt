@@ -86,16 +86,10 @@ pub fn condition(
             let right = term(u, v, l, walks, values, memo, env);
             numbers::compared(operator as usize, left, right)
         }
-        ConditionRecord::Some(variable, _) => some_row(
-            x,
-            y,
-            l,
-            walks,
-            values,
-            memo,
-            env,
-            variable,
-        ).found,
+        ConditionRecord::Some(variable, _) => {
+            let asked = Asked { level: l, variable };
+            some_row(x, y, asked, walks, values, memo, env).found
+        }
         ConditionRecord::False => false,
         ConditionRecord::Other => false,
     }
@@ -134,81 +128,97 @@ pub fn term(
             }
             let x = kinds::tail(q, at);
             let y = kinds::tail_sizes(z, at);
-            let taken = gather(x, y, l, walks, values, memo, env, variable, attribute);
+            let column = Column {
+                level: l,
+                variable,
+                attribute: attribute as usize,
+            };
+            let taken = gather(x, y, column, walks, values, memo, env);
             numbers::finish(function, taken)
         }
         TermRecord::Other => numbers::whole(0),
     }
 }
 
+// What is asked of each row of a variable: the level down to which the condition is read, and the variable.
+struct Asked {
+    level: usize,
+    variable: u8,
+}
+
 // The search for a row of the variable that meets the condition; it ends at the first.
 fn some_row(
     q: &[u8],
     z: &[u16],
-    level: usize,
+    asked: Asked,
     walks: &[u16],
     values: &[i32],
     memo: &[i64],
     env: &mut [usize],
-    variable: u8,
 ) -> Search
     requires { ⌜ 256 ≤ length (now env) ⌝ }
     ensures { λ r. ⌜ record { found = r .found; tried = r .tried } ≡ search
-        (holdsOn level (now (q .entry)) (now (z .entry)) (now (walks .entry)) (now (values .entry)) (now (memo .entry)) (now (env .entry)) variable)
-        (walked (now (walks .entry)) (now (values .entry)) variable) ⌝ }
+        (holdsOn (asked .level) (now (q .entry)) (now (z .entry)) (now (walks .entry)) (now (values .entry)) (now (memo .entry)) (now (env .entry))
+        (asked .variable))
+        (walked (now (walks .entry)) (now (values .entry)) (asked .variable)) ⌝ }
     ensures { λ _. ⌜ now (env .exit) ≡ now (env .entry) ⌝ }
 {
-    let walk = walks::walk_of(walks, variable);
+    let walk = walks::walk_of(walks, asked.variable);
     let n = walk.count;
-    let old = place(env, variable);
+    let old = place(env, asked.variable);
     let mut i = 0;
     while i < n {
-        set_place(env, variable, walks::place(walks, walk, i));
-        if condition(q, z, level, walks, values, memo, env) {
-            set_place(env, variable, old);
+        set_place(env, asked.variable, walks::place(walks, walk, i));
+        if condition(q, z, asked.level, walks, values, memo, env) {
+            set_place(env, asked.variable, old);
             let tried = i + 1;
             return Search { found: true, tried };
         }
         i += 1;
     }
-    set_place(env, variable, old);
+    set_place(env, asked.variable, old);
     Search {
         found: false,
         tried: n,
     }
 }
 
+// The same, and the attribute that is gathered of the rows that meet it.
+struct Column {
+    level: usize,
+    variable: u8,
+    attribute: usize,
+}
+
 // The attribute of each row of the variable that meets the condition.
 fn gather(
     q: &[u8],
     z: &[u16],
-    level: usize,
+    column: Column,
     walks: &[u16],
     values: &[i32],
     memo: &[i64],
     env: &mut [usize],
-    variable: u8,
-    attribute: u8,
 ) -> Accumulator
     requires { ⌜ 256 ≤ length (now env) ⌝ }
-    ensures { λ r. ⌜ Accumulates r (valuesOn level (now (q .entry)) (now (z .entry)) (now (walks .entry)) (now (values .entry)) (now (memo .entry))
-        (now (env .entry)) variable attribute) ⌝ }
+    ensures { λ r. ⌜ Accumulates r (valuesOn (column .level) (now (q .entry)) (now (z .entry)) (now (walks .entry)) (now (values .entry)) (now (memo .entry))
+        (now (env .entry)) (column .variable) (column .attribute)) ⌝ }
     ensures { λ r. ⌜ r .count ≤ 65535 ⌝ }
     ensures { λ _. ⌜ now (env .exit) ≡ now (env .entry) ⌝ }
 {
-    let walk = walks::walk_of(walks, variable);
+    let walk = walks::walk_of(walks, column.variable);
     let n = walk.count;
-    let old = place(env, variable);
+    let old = place(env, column.variable);
     let mut taken = numbers::EMPTY;
     let mut i = 0;
     while i < n {
         let row = walks::place(walks, walk, i);
-        set_place(env, variable, row);
-        if condition(q, z, level, walks, values, memo, env) {
-            taken = numbers::add(taken, catalogue::value(values, row, attribute as usize));
+        set_place(env, column.variable, row);
+        if condition(q, z, column.level, walks, values, memo, env) {
+            taken = numbers::add(taken, catalogue::value(values, row, column.attribute));
         }
         i += 1;
     }
-    set_place(env, variable, old);
+    set_place(env, column.variable, old);
     taken
 }

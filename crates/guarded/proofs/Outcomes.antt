@@ -6,8 +6,8 @@ use Prim.Native.Nat.{ℕ, _+_, _*_, _≤_, _<_}
 use native.Mathlib.Omega.{arith}
 use borrow.Author.Tests.{leb-true}
 use lib.IntN.{ℤ}
-use lib.ListN.{length, getD, drop}
-use lib.Seq.{sets, sets-eq}
+use lib.ListN.{length, getD, drop, replicate}
+use lib.Seq.{sets, sets-eq, getD-drop}
 use Rattle.model.specs.Lists.{any, all, unique, Every, concatMap}
 use Rattle.model.specs.Syntax.{Query, Binding, Permit, TRUE, variables, bindings, bindingsT, bindingsQ}
 use Rattle.model.specs.Encoding.{queryOf, permitsOf, encodeQuery}
@@ -21,7 +21,7 @@ use Rattle.model.specs.Calls.{give, ask}
 use Rattle.model.specs.Demands.{Passes, guardsIn, rewrittenOf, rowsOf, columnsOf}
 use Rattle.model.proofs.Demands.{demand-2}
 use Rattle.model.proofs.Grounds.{refusal-passes}
-use Rattle.model.proofs.Lists.{every-join, every-map, every-both}
+use Rattle.model.proofs.Lists.{getD-same, every-join, every-map, every-both}
 use Rattle.model.proofs.NonInterference.{Agree}
 use Rattle.model.proofs.Sizes.{size-query}
 use Rattle.model.proofs.Permitted as P
@@ -38,14 +38,15 @@ use Rattle.queries.specs.Parts.{queryAt, Laid}
 use Rattle.queries.proofs.Numbers.{condition-room}
 use Rattle.queries.proofs.Targeting.{own-ranges}
 use Rattle.copier.specs.Guard.{part, bitsOf}
-use Rattle.rewriter.specs.Rewritten.{StandsFor, Stands, Room}
+use Rattle.rewriter.specs.Rewritten.{masksIn, StandsFor, Stands, Room}
 use Rattle.rewriter.specs.Parts.{queryRead, queryBytes, queryNew}
 use Rattle.rewriter.proofs.Agrees.{numbers-agree, query-agrees}
 use Rattle.guards.specs.Filled.{placedFrom, maskFor, masked}
+use Rattle.guards.proofs.Parts.{masked-bytes}
 use Rattle.guards.proofs.Stands.{stands, masks-of, mask-is, few-permits}
 use Rattle.walks.specs.Walks.{walked, rowsBy}
 use Rattle.allrows.proofs.All.{answers-agree}
-use Rattle.permitted.specs.Given.{Low, tiny}
+use Rattle.permitted.specs.Given.{Low, Bytes, tiny}
 use Rattle.permitted.proofs.Marks.{Enough, enough-itself, enough-bits}
 use Rattle.permitted.proofs.Rows.{permitted-rows}
 use Rattle.plain.specs.declared.Reply as plain
@@ -60,13 +61,13 @@ pub record Writable (y : Layout) (cb pb qb z : List ℕ) (room : ℕ) : Type 0 w
   pub ready : queryAt y 32 qb z ≡ queryOf qb
 
 -- a query in scope has variables below 8
-pub few-variables : (sh : Shape) (q : Query) → Scoped sh 8 q → (n : ℕ) → 256 ≤ n → Every (λ (b : Binding). b .variable < n) (bindingsQ q)
+pub few-variables : (sh : Shape) (q : Query) → Scoped sh 8 q → (n : ℕ) → 8 ≤ n → Every (λ (b : Binding). b .variable < n) (bindingsQ q)
 unfolding bindingsQ
 few-variables sh q c n h =
     let s = sound sh q c in
     every-map P.Low (λ (b : Binding). b .variable < n) (λ b l. omega (arith, l, h)) (bindingsQ q) (every-join P.Low (q .ranges) _ (s .low-ranges) (every-join P.Low (concatMap bindingsT (q .targets)) (bindings (q .condition)) (s .low-targets) (s .low-condition)))
 
-module _ (y : Layout) (cb pb qb z : List ℕ) (room : ℕ) (w : Writable y cb pb qb z room) (places₀ masks₀ : List ℕ) (enough : 16 ≤ length places₀) (wide : 256 ≤ length masks₀) where
+module _ (y : Layout) (cb pb qb z : List ℕ) (room : ℕ) (w : Writable y cb pb qb z room) (places₀ masks₀ : List ℕ) (enough : 16 ≤ length places₀) (wide : 8 ≤ length masks₀) where
   abbrev sh : Shape
   sh = shapeOf (catalogueOf cb)
 
@@ -164,6 +165,10 @@ module _ (y : Layout) (cb pb qb z : List ℕ) (room : ℕ) (w : Writable y cb pb
       (every-map (λ (b : Binding). StandsFor (G (b .variable) (b .relation)) (getD M (b .variable) 0) F × Enough 8 (getD M (b .variable) 0)) (Agree (givenRows cb vs pb places masks) (permitted D G))
       (λ b h. ap₂ (λ (p m : List ℕ). givenRows cb vs pb p m (b .variable) (b .relation)) ep em ∙ permitted-rows cb (w .catalogue) vs (b .relation) F (getD M (b .variable) 0) (G (b .variable) (b .relation)) (h .1) (h .0) (good-guards sh (permitsOf pb) q (permits-read pb (pass .p20)) (pass .p21) (b .variable) (b .relation)) (sane-guards sh (permitsOf pb) q (pass .p22) (b .variable) (b .relation)))
       bs both)
+
+-- masks that were filled from a cleared table are bytes
+pub bytes-filled : (qb pb cb masks : List ℕ) (n : ℕ) → masks ≡ masked qb pb cb (flatBindings qb) (masksIn (replicate {A = ℕ} n 0)) → Bytes masks
+bytes-filled qb pb cb masks n e = subst Bytes (sym e) (masked-bytes qb pb cb (flatBindings qb) (masksIn (replicate {A = ℕ} n 0)) (λ v. omega (arith, getD-drop 16 (replicate {A = ℕ} n 0) v 0, getD-same {A = ℕ} n 0 (16 + v))))
 
 -- over a table with the rows that are given
 pub table-answers : (cb : List ℕ) (vs : List ℤ) (pb places masks qb ws : List ℕ) → flatBindings qb ≡ bindingsQ (queryOf qb) → Every (λ (b : Binding). walked ws vs (b .variable) ≡ givenRows cb vs pb places masks (b .variable) (b .relation)) (flatBindings qb) → answers (queryOf qb) (rowsBy ws vs) ≡ answers (queryOf qb) (givenRows cb vs pb places masks)

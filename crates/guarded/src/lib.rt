@@ -15,7 +15,8 @@ ghost use Rattle.model.specs.Calls.{give, ask};
 ghost use Rattle.model.specs.Lists.{all};
 ghost use Rattle.scans.specs.Flat.{boundBy, flatBindings};
 ghost use Rattle.plain.specs.Reply.{answerOf, Answerable};
-ghost use Rattle.permitted.specs.Given.{tiny};
+ghost use Rattle.permitted.specs.Given.{tiny, Bytes};
+ghost use Rattle.rewriter.specs.Rewritten.{placesIn, masksIn};
 ghost use Rattle.guarded.specs.Outcome.{outcomeOf, givenRows, Bound, Checks32};
 
 const LEVELS: usize = model::ASKED_LEVELS;
@@ -26,6 +27,9 @@ const VARIABLES: usize = model::ASKED_VARIABLES as usize;
 const WALKS: usize = VARIABLES * (8 + model::ROWS);
 
 const FEW_WALKS: usize = VARIABLES * (8 + 16);
+
+// Where the permits' conditions stand, and which permits apply to each variable.
+const TABLE: usize = rewriter::PLACES + VARIABLES;
 
 // The number of a refusal, 0 where there is none, and the counts of rows, columns and rewritten bytes.
 pub struct Reply {
@@ -63,17 +67,17 @@ fn answer_many(
     catalogue: &[u8],
     values: &[i32],
     permits: &[u8],
-    places: &[usize],
-    masks: &[u8],
+    table: &[u16],
     answer: &mut [i64],
 ) -> plain::Reply
-    requires { ⌜ Answerable layout 32 (now query) (now z) (now catalogue) × Bound (now catalogue) (now query) ⌝ }
+    requires { ⌜ Answerable layout 32 (now query) (now z) (now catalogue) × Bound (now catalogue) (now query)
+        × Bytes (masksIn (now table)) ⌝ }
     ensures { λ r. ⌜ answerOf r (now (answer .exit)) ≡ give (length (queryOf (now (query .entry)) .targets))
         (answers (queryOf (now (query .entry))) (givenRows (now (catalogue .entry)) (now (values .entry)) (now (permits .entry))
-        (now (places .entry)) (now (masks .entry)))) (now (answer .entry)) ⌝ }
+        (placesIn (now (table .entry))) (masksIn (now (table .entry))))) (now (answer .entry)) ⌝ }
 {
     let mut walks = [0u16; WALKS];
-    permitted::fill(query, permits, places, masks, catalogue, values, &mut walks);
+    permitted::fill(query, permits, table, catalogue, values, &mut walks);
     plain::answer_query(query, z, layout, LEVELS, &walks, values, answer)
 }
 
@@ -85,18 +89,17 @@ fn answer_few(
     catalogue: &[u8],
     values: &[i32],
     permits: &[u8],
-    places: &[usize],
-    masks: &[u8],
+    table: &[u16],
     answer: &mut [i64],
 ) -> plain::Reply
     requires { ⌜ Answerable layout 32 (now query) (now z) (now catalogue) × Bound (now catalogue) (now query)
-        × (all (tiny (now catalogue)) (flatBindings (now query)) ≡ true) ⌝ }
+        × (all (tiny (now catalogue)) (flatBindings (now query)) ≡ true) × Bytes (masksIn (now table)) ⌝ }
     ensures { λ r. ⌜ answerOf r (now (answer .exit)) ≡ give (length (queryOf (now (query .entry)) .targets))
         (answers (queryOf (now (query .entry))) (givenRows (now (catalogue .entry)) (now (values .entry)) (now (permits .entry))
-        (now (places .entry)) (now (masks .entry)))) (now (answer .entry)) ⌝ }
+        (placesIn (now (table .entry))) (masksIn (now (table .entry))))) (now (answer .entry)) ⌝ }
 {
     let mut walks = [0u16; FEW_WALKS];
-    permitted::fill(query, permits, places, masks, catalogue, values, &mut walks);
+    permitted::fill(query, permits, table, catalogue, values, &mut walks);
     plain::answer_query(query, z, layout, LEVELS, &walks, values, answer)
 }
 
@@ -131,39 +134,19 @@ fn answer_permitted(
     catalogue: &[u8],
     values: &[i32],
     permits: &[u8],
-    places: &[usize],
-    masks: &[u8],
+    table: &[u16],
     answer: &mut [i64],
 ) -> plain::Reply
-    requires { ⌜ Answerable layout 32 (now query) (now z) (now catalogue) × Bound (now catalogue) (now query) ⌝ }
+    requires { ⌜ Answerable layout 32 (now query) (now z) (now catalogue) × Bound (now catalogue) (now query)
+        × Bytes (masksIn (now table)) ⌝ }
     ensures { λ r. ⌜ answerOf r (now (answer .exit)) ≡ give (length (queryOf (now (query .entry)) .targets))
         (answers (queryOf (now (query .entry))) (givenRows (now (catalogue .entry)) (now (values .entry)) (now (permits .entry))
-        (now (places .entry)) (now (masks .entry)))) (now (answer .entry)) ⌝ }
+        (placesIn (now (table .entry))) (masksIn (now (table .entry))))) (now (answer .entry)) ⌝ }
 {
     if few(query, catalogue) {
-        return answer_few(
-            query,
-            z,
-            layout,
-            catalogue,
-            values,
-            permits,
-            places,
-            masks,
-            answer,
-        );
+        return answer_few(query, z, layout, catalogue, values, permits, table, answer);
     }
-    answer_many(
-        query,
-        z,
-        layout,
-        catalogue,
-        values,
-        permits,
-        places,
-        masks,
-        answer,
-    )
+    answer_many(query, z, layout, catalogue, values, permits, table, answer)
 }
 
 // 33 and 40, then the rewritten query, byte by byte, and the answer: the query over the permitted rows gives what the rewritten one gives (demand 2).
@@ -182,35 +165,15 @@ fn answer_query(
     ensures { λ r. ⌜ outcomeOf r (now (answer .exit)) (now (rewritten .exit))
         ≡ ask (now (catalogue .entry)) (now (values .entry)) (now (permits .entry)) (now (query .entry)) (now (rewritten .entry)) (now (answer .entry)) ⌝ }
 {
-    let mut places = [0usize; 2 * model::PERMITS];
-    let mut masks = [0u8; 256];
-    let Check33::Passed(n) = guards::fill(query, permits, catalogue, &mut places, &mut masks) else {
+    let mut table = [0u16; TABLE];
+    let Check33::Passed(n) = guards::fill(query, permits, catalogue, &mut table) else {
         return refused(33);
     };
     if rewritten.len() < n {
         return refused(40);
     }
-    rewriter::rewrite_query(
-        query,
-        z,
-        layout,
-        LEVELS,
-        permits,
-        &places,
-        &masks,
-        rewritten,
-    );
-    let r = answer_permitted(
-        query,
-        z,
-        layout,
-        catalogue,
-        values,
-        permits,
-        &places,
-        &masks,
-        answer,
-    );
+    rewriter::rewrite_query(query, z, layout, LEVELS, permits, &table, rewritten);
+    let r = answer_permitted(query, z, layout, catalogue, values, permits, &table, answer);
     Reply {
         number: r.number,
         rows: r.rows,

@@ -2,7 +2,7 @@
 use mathlib.Core.Path.{_≡_, refl, sym, ap, ap₂, _∙_}
 use mathlib.Core.Bool.{Bool, true, false, not, cond, _&&_, _||_}
 use mathlib.Core.List.{List, [], _∷_, map}
-use Prim.Native.Nat.{ℕ, zero, suc, _+_, _*_, _-_, _/_, _%_, _≤_}
+use Prim.Native.Nat.{ℕ, zero, suc, _+_, _*_, _-_, _/_, _%_, _≤_, _<_}
 use native.Mathlib.Nat.{add-zero}
 use native.Mathlib.Omega.{arith}
 use lib.Dec.{eqb, ltb}
@@ -150,13 +150,17 @@ module _ (cb pb : List ℕ) (hc : fails10 cb ≡ false) (hp : fails20 pb ≡ fal
       (total-where (λ (b : Binding). served sh ps q b ≡ true) g (λ (b : Binding). guardBytes (guardsOf sh ps q (b .variable) (b .relation))) (length-same P (lengths-of pb places hp h21 room)) (bindingsQ q) (all-every (served sh ps q) (bindingsQ q) (not-no (all (served sh ps q) (bindingsQ q)) h)))
       ∙ sym (rewritten-size (guardsOf sh ps q) q)
 
+-- numbers below a bound stay below it
+pub set-below : (n : ℕ) (l : List ℕ) (i x j : ℕ) → getD l j 0 < n → x < n → getD (set l i x) j 0 < n
+set-below n [] i x j h k = h
+set-below n (a ∷ l) zero x zero h k = k
+set-below n (a ∷ l) zero x (suc j) h k = h
+set-below n (a ∷ l) (suc i) x zero h k = h
+set-below n (a ∷ l) (suc i) x (suc j) h k = set-below n l i x j h k
+
 -- places and lengths stay within the list, or just past its end
 set-short : (l : List ℕ) (i x j : ℕ) → getD l j 0 ≤ 4096 → x ≤ 4096 → getD (set l i x) j 0 ≤ 4096
-set-short [] i x j h k = h
-set-short (a ∷ l) zero x zero h k = k
-set-short (a ∷ l) zero x (suc j) h k = h
-set-short (a ∷ l) (suc i) x zero h k = h
-set-short (a ∷ l) (suc i) x (suc j) h k = set-short l i x j h k
+set-short l i x j h k = omega (arith, set-below 4097 l i x j (omega (arith, h)) (omega (arith, k)))
 
 places-short : (list : List ℕ) → length list ≤ 2048 → (n at k : ℕ) (places : List ℕ) (j : ℕ) → getD places j 0 ≤ 4096 → getD (placedFrom n list at k places) j 0 ≤ 4096
 unfolding placedFrom

@@ -1,4 +1,4 @@
-// The table of bound variables: for each a mask of its applying permits, beside it where each permit's condition stands.
+// The table of applying permits: where each permit's condition stands, then for each variable a mask of those that apply to it.
 // The rewriter is lent it. One walk over the bindings makes it, and with it check 33 and the length of the rewritten query.
 mod applying;
 mod uses;
@@ -13,6 +13,7 @@ ghost use Rattle.model.specs.Permits.{bit};
 ghost use Rattle.catalogue.specs.Layout.{storedOf};
 ghost use Rattle.scans.specs.Flat.{boundBy, flatBindings};
 ghost use Rattle.permits.specs.Entries.{entries};
+ghost use Rattle.rewriter.specs.Rewritten.{placesIn, masksIn};
 ghost use Rattle.guards.specs.Filled.{placedFrom, verdictOf, maskFor, masked, bitOf};
 ghost use Rattle.guards.specs.Counted.{Short, turnLength, lengthFrom, tallyOf, tallyAll, check33};
 
@@ -36,18 +37,19 @@ pub enum Check33 {
     Refused,
 }
 
-fn put_place(places: &mut [usize], i: usize, x: usize)
-    ensures { λ _. ⌜ now (places .exit) ≡ set (now (places .entry)) i x ⌝ }
+fn put(table: &mut [u16], i: usize, x: usize)
+    requires { ⌜ x ≤ 65535 ⌝ }
+    ensures { λ _. ⌜ now (table .exit) ≡ set (now (table .entry)) i x ⌝ }
 {
-    if i < places.len() {
-        places[i] = x;
+    if i < table.len() {
+        table[i] = x as u16;
     }
 }
 
 // The permits from `at` on, at most so many, permit k first.
-fn fill_places(permits: &[u8], at: usize, k: usize, left: usize, places: &mut [usize])
+fn fill_places(permits: &[u8], at: usize, k: usize, left: usize, table: &mut [u16])
     requires { ⌜ (at ≤ 65536) × (k + left ≤ 8) × (length (now permits) ≤ 2048) ⌝ }
-    ensures { λ _. ⌜ now (places .exit) ≡ placedFrom left (now (permits .entry)) at k (now (places .entry)) ⌝ }
+    ensures { λ _. ⌜ now (table .exit) ≡ placedFrom left (now (permits .entry)) at k (now (table .entry)) ⌝ }
 {
     if left == 0 {
         return;
@@ -57,10 +59,10 @@ fn fill_places(permits: &[u8], at: usize, k: usize, left: usize, places: &mut [u
     }
     let own = applying::header();
     let rest = kinds::tail(permits, at);
-    put_place(places, 2 * k, at + own);
+    put(table, 2 * k, at + own);
     let n = applying::size(rest);
-    put_place(places, 2 * k + 1, n - own);
-    fill_places(permits, at + n, k + 1, left - 1, places);
+    put(table, 2 * k + 1, n - own);
+    fill_places(permits, at + n, k + 1, left - 1, table);
 }
 
 fn one_if(b: bool) -> u8
@@ -107,13 +109,10 @@ fn standing(permits: &[u8], left: u8, relation: u8, used: u16) -> Verdict
     }
 }
 
-fn put_mask(masks: &mut [u8], variable: u8, x: u8)
-    ensures { λ _. ⌜ now (masks .exit) ≡ set (now (masks .entry)) variable x ⌝ }
+fn wide(x: u8) -> usize
+    ensures { λ r. ⌜ (r ≡ x) × (r < 256) ⌝ }
 {
-    let i = variable as usize;
-    if i < masks.len() {
-        masks[i] = x;
-    }
+    x as usize
 }
 
 // The mask of a variable over a relation; 0 over a workspace, and where the variable is barred: 33 is then due.
@@ -132,35 +131,34 @@ fn mask_for(query: &[u8], permits: &[u8], catalogue: &[u8], variable: u8, relati
 }
 
 // The length of permit k's condition.
-fn length_at(places: &[usize], k: usize) -> usize
+fn length_at(table: &[u16], k: usize) -> usize
     requires { ⌜ k < 8 ⌝ }
-    ensures { λ r. ⌜ r ≡ getD (now (places .entry)) (2 * k + 1) 0 ⌝ }
+    ensures { λ r. ⌜ r ≡ getD (placesIn (now (table .entry))) (2 * k + 1) 0 ⌝ }
 {
-    let i = 2 * k + 1;
-    if i < places.len() { places[i] } else { 0 }
+    kinds::size_at(table, 2 * k + 1)
 }
 
 // What permit k adds to a guard if its bit, the mask's lowest, is set: its condition, with one byte more.
-fn turn_length(places: &[usize], mask: u8, k: usize) -> usize
-    requires { ⌜ (k < 8) × Short (now places) ⌝ }
-    ensures { λ r. ⌜ (r ≡ turnLength (now (places .entry)) mask k) × (r ≤ 4097) ⌝ }
+fn turn_length(table: &[u16], mask: u8, k: usize) -> usize
+    requires { ⌜ (k < 8) × Short (placesIn (now table)) ⌝ }
+    ensures { λ r. ⌜ (r ≡ turnLength (placesIn (now (table .entry))) mask k) × (r ≤ 4097) ⌝ }
 {
     if mask % 2 != 1 {
         return 0;
     }
-    1 + length_at(places, k)
+    1 + length_at(table, k)
 }
 
 // How many bytes the guard of a mask takes: its permits' conditions, the AND before them, and an OR between two.
-fn guard_length(places: &[usize], mask: u8) -> usize
-    requires { ⌜ Short (now places) ⌝ }
-    ensures { λ r. ⌜ (r ≡ lengthFrom (now (places .entry)) 8 mask 0) × (r ≤ 32776) ⌝ }
+fn guard_length(table: &[u16], mask: u8) -> usize
+    requires { ⌜ Short (placesIn (now table)) ⌝ }
+    ensures { λ r. ⌜ (r ≡ lengthFrom (placesIn (now (table .entry))) 8 mask 0) × (r ≤ 32776) ⌝ }
 {
     let mut n: usize = 0;
     let mut m = mask;
     let mut k: usize = 0;
     while k < model::PERMITS {
-        n += turn_length(places, m, k);
+        n += turn_length(table, m, k);
         m = m / 2;
         k += 1;
     }
@@ -185,18 +183,12 @@ fn served(catalogue: &[u8], relation: u8, mask: u8) -> bool
 }
 
 // Enters what a record binds into the table.
-fn enter(
-    query: &[u8],
-    permits: &[u8],
-    catalogue: &[u8],
-    b: Bound,
-    places: &[usize],
-    masks: &mut [u8],
-) -> Tally
-    requires { ⌜ Short (now places) ⌝ }
-    ensures { λ r. ⌜ r ≡ tallyOf (now (query .entry)) (now (permits .entry)) (now (catalogue .entry)) (now (places .entry)) (boundBy b) ⌝ }
+fn enter(query: &[u8], permits: &[u8], catalogue: &[u8], b: Bound, table: &mut [u16]) -> Tally
+    requires { ⌜ Short (placesIn (now table)) ⌝ }
+    ensures { λ r. ⌜ r ≡ tallyOf (now (query .entry)) (now (permits .entry)) (now (catalogue .entry)) (placesIn (now (table .entry))) (boundBy b) ⌝ }
     ensures { λ r. ⌜ r .length ≤ 32776 ⌝ }
-    ensures { λ _. ⌜ now (masks .exit) ≡ masked (now (query .entry)) (now (permits .entry)) (now (catalogue .entry)) (boundBy b) (now (masks .entry)) ⌝ }
+    ensures { λ _. ⌜ (masksIn (now (table .exit)) ≡ masked (now (query .entry)) (now (permits .entry)) (now (catalogue .entry)) (boundBy b)
+        (masksIn (now (table .entry)))) × (placesIn (now (table .exit)) ≡ placesIn (now (table .entry))) ⌝ }
 {
     let Bound::To(variable, relation) = b else {
         return Tally {
@@ -205,38 +197,25 @@ fn enter(
         };
     };
     let mask = mask_for(query, permits, catalogue, variable, relation);
-    put_mask(masks, variable, mask);
+    put(table, rewriter::PLACES + wide(variable), wide(mask));
     Tally {
         served: served(catalogue, relation, mask),
-        length: guard_length(places, mask),
+        length: guard_length(table, mask),
     }
 }
 
 // Enters all variables that the query binds; to the bytes of their guards the query's own are added.
-fn enter_all(
-    query: &[u8],
-    permits: &[u8],
-    catalogue: &[u8],
-    places: &[usize],
-    masks: &mut [u8],
-) -> Tally
-    requires { ⌜ (length (now query) ≤ 1024) × Short (now places) ⌝ }
-    ensures { λ r. ⌜ r ≡ tallyAll (now (query .entry)) (now (permits .entry)) (now (catalogue .entry)) (now (places .entry)) ⌝ }
-    ensures { λ _. ⌜ now (masks .exit) ≡ masked (now (query .entry)) (now (permits .entry)) (now (catalogue .entry)) (flatBindings (now (query .entry)))
-        (now (masks .entry)) ⌝ }
+fn enter_all(query: &[u8], permits: &[u8], catalogue: &[u8], table: &mut [u16]) -> Tally
+    requires { ⌜ (length (now query) ≤ 1024) × Short (placesIn (now table)) ⌝ }
+    ensures { λ r. ⌜ r ≡ tallyAll (now (query .entry)) (now (permits .entry)) (now (catalogue .entry)) (placesIn (now (table .entry))) ⌝ }
+    ensures { λ _. ⌜ (masksIn (now (table .exit)) ≡ masked (now (query .entry)) (now (permits .entry)) (now (catalogue .entry))
+        (flatBindings (now (query .entry))) (masksIn (now (table .entry)))) × (placesIn (now (table .exit)) ≡ placesIn (now (table .entry))) ⌝ }
 {
     let mut passed = true;
     let mut n = query.len();
     let mut at = 0;
     while at < query.len() {
-        let t = enter(
-            query,
-            permits,
-            catalogue,
-            scans::binding(query, at),
-            places,
-            masks,
-        );
+        let t = enter(query, permits, catalogue, scans::binding(query, at), table);
         passed = both(passed, t.served);
         n += t.length;
         at += scans::step(query, at);
@@ -247,22 +226,16 @@ fn enter_all(
     }
 }
 
-// Fills both tables. A variable without a permit does not end the walk: a refusal too is said after all of them.
-pub fn fill(
-    query: &[u8],
-    permits: &[u8],
-    catalogue: &[u8],
-    places: &mut [usize],
-    masks: &mut [u8],
-) -> Check33
-    requires { ⌜ (length (now query) ≤ 1024) × (length (now permits) ≤ 2048) × Short (now places) ⌝ }
-    ensures { λ r. ⌜ r ≡ check33 (now (query .entry)) (now (permits .entry)) (now (catalogue .entry)) (now (places .exit)) ⌝ }
-    ensures { λ _. ⌜ now (places .exit) ≡ placedFrom 8 (now (permits .entry)) 0 0 (now (places .entry)) ⌝ }
-    ensures { λ _. ⌜ now (masks .exit) ≡ masked (now (query .entry)) (now (permits .entry)) (now (catalogue .entry)) (flatBindings (now (query .entry)))
-        (now (masks .entry)) ⌝ }
+// Fills the table. A variable without a permit does not end the walk: a refusal too is said after all of them.
+pub fn fill(query: &[u8], permits: &[u8], catalogue: &[u8], table: &mut [u16]) -> Check33
+    requires { ⌜ (length (now query) ≤ 1024) × (length (now permits) ≤ 2048) × Short (placesIn (now table)) ⌝ }
+    ensures { λ r. ⌜ r ≡ check33 (now (query .entry)) (now (permits .entry)) (now (catalogue .entry)) (placesIn (now (table .exit))) ⌝ }
+    ensures { λ _. ⌜ placesIn (now (table .exit)) ≡ placedFrom 8 (now (permits .entry)) 0 0 (placesIn (now (table .entry))) ⌝ }
+    ensures { λ _. ⌜ masksIn (now (table .exit)) ≡ masked (now (query .entry)) (now (permits .entry)) (now (catalogue .entry))
+        (flatBindings (now (query .entry))) (masksIn (now (table .entry))) ⌝ }
 {
-    fill_places(permits, 0, 0, model::PERMITS, places);
-    let t = enter_all(query, permits, catalogue, places, masks);
+    fill_places(permits, 0, 0, model::PERMITS, table);
+    let t = enter_all(query, permits, catalogue, table);
     if !t.served {
         return Check33::Refused;
     }

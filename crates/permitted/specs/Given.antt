@@ -73,6 +73,10 @@ pub record Stepped (cb : List ℕ) (vs : List ℤ) (f : ℕ → List ℕ) (v : �
   pub size : length ws′ ≡ length ws
   pub high : next′ ≤ next + most
 
+-- each mask is a byte
+abbrev pub Bytes : List ℕ → Type 0
+Bytes masks = (v : ℕ) → getD masks v 0 < 256
+
 -- room for eight lists
 abbrev pub mostIn : List ℕ → ℕ
 mostIn ws = (length ws - 64) / 8

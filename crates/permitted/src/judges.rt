@@ -2,13 +2,14 @@
 // marks upon marks, a comparison with something known is one short loop that takes the same way for every row; only what is left, as SOME, is asked row by row,
 // the rows that it may find chained before the first.
 use branches::Room;
+use branches::Spot;
 use branches::Ways;
 use kinds::ConditionRecord;
 use kinds::TermRecord;
 use numbers::Ratio;
 use walks::Walk;
 ghost use mathlib.Core.Path.{_≡_};
-ghost use mathlib.Core.Bool.{true, false, cond, _&&_, _||_};
+ghost use mathlib.Core.Bool.{true, false, not, cond, _&&_, _||_};
 ghost use mathlib.Core.List.{List};
 ghost use mathlib.Core.Option.{some};
 ghost use Prim.Native.Nat.{ℕ, _+_, _*_, _≤_, _<_};
@@ -252,23 +253,36 @@ fn known_at(q: &[u8], level: usize, memo: &[i64]) -> Known
     }
 }
 
+// What is asked of a condition: at which level it is read, on which rows, and the end that it is to lead to, 0 where it is to hold. A number, since a
+// flag that is read from a struct costs an instruction for each row.
+struct Task {
+    level: usize,
+    walk: Walk,
+    end: usize,
+}
+
+// The other end.
+fn other(end: usize) -> usize
+    ensures { λ r. ⌜ eqb r 0 ≡ not (eqb end 0) ⌝ }
+{
+    if end == 0 { 1 } else { 0 }
+}
+
 // Marks by the condition that q starts with, where it is a comparison of an attribute of variable 0 with a known term; whether it is.
 fn mark_compared(
     q: &[u8],
     z: &[u16],
-    level: usize,
-    memo: &[i64],
-    walk: Walk,
     values: &[i32],
-    wanted: bool,
+    memo: &[i64],
     marks: &mut [u8],
+    task: Task,
 ) -> bool
-    requires { ⌜ (walk .count ≤ length (now marks)) × Fits walk × J.Bits (now marks) ⌝ }
-    ensures { λ r. ⌜ (r ≡ true → (ws : List ℕ) → J.Marked (J.judgedOn level (now (q .entry)) (now (z .entry)) ws (now (values .entry))
-        (now (memo .entry)) walk wanted) (walk .count) (now (marks .entry)) (now (marks .exit))) ⌝ }
+    requires { ⌜ (task .walk .count ≤ length (now marks)) × Fits (task .walk) × J.Bits (now marks) ⌝ }
+    ensures { λ r. ⌜ (r ≡ true → (ws : List ℕ) → J.Marked (J.judgedOn (task .level) (now (q .entry)) (now (z .entry)) ws (now (values .entry))
+        (now (memo .entry)) (task .walk) (eqb (task .end) 0)) (task .walk .count) (now (marks .entry)) (now (marks .exit))) ⌝ }
     ensures { λ r. ⌜ (r ≡ false → now (marks .exit) ≡ now (marks .entry)) ⌝ }
 {
-    if level < 2 {
+    if task.level < 2 {
         return false;
     }
     let ConditionRecord::Compare(operator) = kinds::condition_record(q) else {
@@ -282,13 +296,14 @@ fn mark_compared(
         return false;
     }
     let b = a + kinds::size_at(z, a);
-    let k = known_at(kinds::tail(q, b), level - 1, memo);
+    let k = known_at(kinds::tail(q, b), task.level - 1, memo);
     let known = k.known;
     if !known {
         return false;
     }
     let x = k.value;
-    mark_against(operator, attribute, x, walk, values, wanted, marks)
+    let wanted = task.end == 0;
+    mark_against(operator, attribute, x, task.walk, values, wanted, marks)
 }
 
 // Marks the rows that other marks leave out.
@@ -393,24 +408,26 @@ fn end_of(wanted: bool) -> usize
 fn judge_each(
     q: &[u8],
     z: &[u16],
-    level: usize,
     walks: &[u16],
-    walk: Walk,
     values: &[i32],
     memo: &[i64],
-    wanted: bool,
     marks: &mut [u8],
+    task: Task,
 )
-    requires { ⌜ (level ≤ 65535) × Fits walk × (walk .count ≤ length (now marks)) × J.Bits (now marks) ⌝ }
-    ensures { λ _. ⌜ J.Marked (J.judgedOn level (now (q .entry)) (now (z .entry)) (now (walks .entry)) (now (values .entry)) (now (memo .entry)) walk
-        wanted) (walk .count) (now (marks .entry)) (now (marks .exit)) ⌝ }
+    requires { ⌜ (task .level ≤ 65535) × Fits (task .walk) × (task .walk .count ≤ length (now marks)) × J.Bits (now marks) ⌝ }
+    ensures { λ _. ⌜ J.Marked (J.judgedOn (task .level) (now (q .entry)) (now (z .entry)) (now (walks .entry)) (now (values .entry)) (now (memo .entry))
+        (task .walk) (eqb (task .end) 0)) (task .walk .count) (now (marks .entry)) (now (marks .exit)) ⌝ }
 {
+    let wanted = task.end == 0;
     let mut t = [0u16; branches::ENTRIES];
     let met = end_of(wanted);
     let unmet = end_of(!wanted);
     let room = Room { next: 2, end: 64 };
     let ways = Ways { met, unmet };
-    let start = branches::compile(q, z, 0, level, memo, &mut t, room, ways);
+    let level = task.level;
+    let spot = Spot { place: 0, level };
+    let start = branches::compile(q, z, spot, memo, &mut t, room, ways);
+    let walk = task.walk;
     let trial = Trial { walk, start };
     if kinds::byte(q, 0) == 22 {
         mark_linked(&t, trial, q, z, walks, values, memo, marks);
@@ -424,66 +441,62 @@ fn judge_each(
 fn judge_leaf(
     q: &[u8],
     z: &[u16],
-    level: usize,
     walks: &[u16],
-    walk: Walk,
     values: &[i32],
     memo: &[i64],
-    wanted: bool,
     marks: &mut [u8],
+    task: Task,
 )
-    requires { ⌜ (level ≤ 65535) × Fits walk × (walk .count ≤ length (now marks)) × J.Bits (now marks) ⌝ }
-    ensures { λ _. ⌜ J.Marked (J.judgedOn level (now (q .entry)) (now (z .entry)) (now (walks .entry)) (now (values .entry)) (now (memo .entry)) walk
-        wanted) (walk .count) (now (marks .entry)) (now (marks .exit)) ⌝ }
+    requires { ⌜ (task .level ≤ 65535) × Fits (task .walk) × (task .walk .count ≤ length (now marks)) × J.Bits (now marks) ⌝ }
+    ensures { λ _. ⌜ J.Marked (J.judgedOn (task .level) (now (q .entry)) (now (z .entry)) (now (walks .entry)) (now (values .entry)) (now (memo .entry))
+        (task .walk) (eqb (task .end) 0)) (task .walk .count) (now (marks .entry)) (now (marks .exit)) ⌝ }
 {
-    if mark_compared(q, z, level, memo, walk, values, wanted, marks) {
+    if mark_compared(q, z, values, memo, marks, task) {
         return;
     }
-    judge_each(q, z, level, walks, walk, values, memo, wanted, marks);
+    judge_each(q, z, walks, values, memo, marks, task);
 }
 
 // Where two conditions are both as wanted: what either leaves out is marked apart, and the others are marked.
 fn judge_both(
     q: &[u8],
     z: &[u16],
-    level: usize,
     walks: &[u16],
-    walk: Walk,
     values: &[i32],
     memo: &[i64],
-    wanted: bool,
     marks: &mut [u8],
+    task: Task,
 )
-    requires { ⌜ (level ≤ 65534) × Fits walk × (walk .count ≤ 1024) × (walk .count ≤ length (now marks)) × J.Bits (now marks) ⌝ }
-    ensures { λ _. ⌜ J.Marked (λ i. J.judgedOn level (drop (first (now (q .entry))) (now (q .entry)))
-        (drop (first (now (q .entry))) (now (z .entry))) (now (walks .entry)) (now (values .entry)) (now (memo .entry)) walk wanted i && J.judgedOn
-        level (drop (second (now (q .entry)) (now (z .entry))) (now (q .entry)))
-        (drop (second (now (q .entry)) (now (z .entry))) (now (z .entry))) (now (walks .entry)) (now (values .entry)) (now (memo .entry)) walk wanted
-        i) (walk .count) (now (marks .entry)) (now (marks .exit)) ⌝ }
+    requires { ⌜ (task .level ≤ 65534) × Fits (task .walk) × (task .walk .count ≤ 1024) × (task .walk .count ≤ length (now marks)) × J.Bits (now marks) ⌝ }
+    ensures { λ _. ⌜ J.Marked (λ i. J.judgedOn (task .level) (drop (first (now (q .entry))) (now (q .entry)))
+        (drop (first (now (q .entry))) (now (z .entry))) (now (walks .entry)) (now (values .entry)) (now (memo .entry)) (task .walk) (eqb (task .end) 0) i
+        && J.judgedOn (task .level) (drop (second (now (q .entry)) (now (z .entry))) (now (q .entry)))
+        (drop (second (now (q .entry)) (now (z .entry))) (now (z .entry))) (now (walks .entry)) (now (values .entry)) (now (memo .entry))
+        (task .walk) (eqb (task .end) 0) i) (task .walk .count) (now (marks .entry)) (now (marks .exit)) ⌝ }
 {
     let mut others = [0u8; model::ROWS];
-    judge_two(q, z, level, walks, walk, values, memo, !wanted, &mut others);
-    mark_others(&others, walk.count, marks);
+    let mut left_out = task;
+    left_out.end = other(task.end);
+    judge_two(q, z, walks, values, memo, &mut others, left_out);
+    mark_others(&others, task.walk.count, marks);
 }
 
 // Where one of two conditions is as wanted: comparisons first, since a row that is marked is not tried again.
 fn judge_two(
     q: &[u8],
     z: &[u16],
-    level: usize,
     walks: &[u16],
-    walk: Walk,
     values: &[i32],
     memo: &[i64],
-    wanted: bool,
     marks: &mut [u8],
+    task: Task,
 )
-    requires { ⌜ (level ≤ 65534) × Fits walk × (walk .count ≤ 1024) × (walk .count ≤ length (now marks)) × J.Bits (now marks) ⌝ }
-    ensures { λ _. ⌜ J.Marked (λ i. J.judgedOn level (drop (first (now (q .entry))) (now (q .entry)))
-        (drop (first (now (q .entry))) (now (z .entry))) (now (walks .entry)) (now (values .entry)) (now (memo .entry)) walk wanted i || J.judgedOn
-        level (drop (second (now (q .entry)) (now (z .entry))) (now (q .entry)))
-        (drop (second (now (q .entry)) (now (z .entry))) (now (z .entry))) (now (walks .entry)) (now (values .entry)) (now (memo .entry)) walk wanted
-        i) (walk .count) (now (marks .entry)) (now (marks .exit)) ⌝ }
+    requires { ⌜ (task .level ≤ 65534) × Fits (task .walk) × (task .walk .count ≤ 1024) × (task .walk .count ≤ length (now marks)) × J.Bits (now marks) ⌝ }
+    ensures { λ _. ⌜ J.Marked (λ i. J.judgedOn (task .level) (drop (first (now (q .entry))) (now (q .entry)))
+        (drop (first (now (q .entry))) (now (z .entry))) (now (walks .entry)) (now (values .entry)) (now (memo .entry)) (task .walk) (eqb (task .end) 0) i
+        || J.judgedOn (task .level) (drop (second (now (q .entry)) (now (z .entry))) (now (q .entry)))
+        (drop (second (now (q .entry)) (now (z .entry))) (now (z .entry))) (now (walks .entry)) (now (values .entry)) (now (memo .entry))
+        (task .walk) (eqb (task .end) 0) i) (task .walk .count) (now (marks .entry)) (now (marks .exit)) ⌝ }
 {
     let a = kinds::record_length(kinds::byte(q, 0));
     let b = a + kinds::size_at(z, a);
@@ -492,71 +505,61 @@ fn judge_two(
     let u = kinds::tail(q, b);
     let v = kinds::tail_sizes(z, b);
     if kinds::byte(q, b) == 21 {
-        judge_at(u, v, level, walks, walk, values, memo, wanted, marks);
-        judge_at(x, y, level, walks, walk, values, memo, wanted, marks);
+        judge_at(u, v, walks, values, memo, marks, task);
+        judge_at(x, y, walks, values, memo, marks, task);
         return;
     }
-    judge_at(x, y, level, walks, walk, values, memo, wanted, marks);
-    judge_at(u, v, level, walks, walk, values, memo, wanted, marks);
+    judge_at(x, y, walks, values, memo, marks, task);
+    judge_at(u, v, walks, values, memo, marks, task);
 }
 
 // Marks the rows with which the condition that q starts with is as wanted.
 fn judge_at(
     q: &[u8],
     z: &[u16],
-    level: usize,
     walks: &[u16],
-    walk: Walk,
     values: &[i32],
     memo: &[i64],
-    wanted: bool,
     marks: &mut [u8],
+    task: Task,
 )
-    requires { ⌜ (level ≤ 65535) × Fits walk × (walk .count ≤ 1024) × (walk .count ≤ length (now marks)) × J.Bits (now marks) ⌝ }
-    ensures { λ _. ⌜ J.Marked (J.judgedOn level (now (q .entry)) (now (z .entry)) (now (walks .entry)) (now (values .entry)) (now (memo .entry)) walk
-        wanted) (walk .count) (now (marks .entry)) (now (marks .exit)) ⌝ }
+    requires { ⌜ (task .level ≤ 65535) × Fits (task .walk) × (task .walk .count ≤ 1024) × (task .walk .count ≤ length (now marks)) × J.Bits (now marks) ⌝ }
+    ensures { λ _. ⌜ J.Marked (J.judgedOn (task .level) (now (q .entry)) (now (z .entry)) (now (walks .entry)) (now (values .entry)) (now (memo .entry))
+        (task .walk) (eqb (task .end) 0)) (task .walk .count) (now (marks .entry)) (now (marks .exit)) ⌝ }
 {
-    if level == 0 {
-        judge_leaf(q, z, level, walks, walk, values, memo, wanted, marks);
+    if task.level == 0 {
+        judge_leaf(q, z, walks, values, memo, marks, task);
         return;
     }
-    let l = level - 1;
+    let mut under = task;
+    under.level = task.level - 1;
     match kinds::condition_record(q) {
-        ConditionRecord::True => mark_if(wanted, walk.count, marks),
+        ConditionRecord::True => mark_if(task.end == 0, task.walk.count, marks),
         ConditionRecord::Not => {
             let a = kinds::record_length(kinds::byte(q, 0));
             let x = kinds::tail(q, a);
             let y = kinds::tail_sizes(z, a);
-            judge_at(x, y, l, walks, walk, values, memo, !wanted, marks);
+            under.end = other(task.end);
+            judge_at(x, y, walks, values, memo, marks, under);
         }
         ConditionRecord::And => {
-            if wanted {
-                judge_both(q, z, l, walks, walk, values, memo, true, marks);
+            if task.end == 0 {
+                judge_both(q, z, walks, values, memo, marks, under);
             } else {
-                judge_two(q, z, l, walks, walk, values, memo, false, marks);
+                judge_two(q, z, walks, values, memo, marks, under);
             }
         }
         ConditionRecord::Or => {
-            if wanted {
-                judge_two(q, z, l, walks, walk, values, memo, true, marks);
+            if task.end == 0 {
+                judge_two(q, z, walks, values, memo, marks, under);
             } else {
-                judge_both(q, z, l, walks, walk, values, memo, false, marks);
+                judge_both(q, z, walks, values, memo, marks, under);
             }
         }
         ConditionRecord::False
         | ConditionRecord::Compare(_)
         | ConditionRecord::Some(_, _)
-        | ConditionRecord::Other => judge_leaf(
-            q,
-            z,
-            level,
-            walks,
-            walk,
-            values,
-            memo,
-            wanted,
-            marks,
-        ),
+        | ConditionRecord::Other => judge_leaf(q, z, walks, values, memo, marks, task),
     }
 }
 
@@ -616,7 +619,12 @@ fn judge_long(q: &[u8], catalogue: &[u8], values: &[i32], walk: Walk, marks: &mu
     let mut env = [values.len(); 256];
     let mut memo = [0i64; 2 * VARIABLES];
     aggregates::condition(q, &z, LEVELS, &walks, values, &mut env, &mut memo);
-    judge_at(q, &z, LEVELS, &walks, walk, values, &memo, true, marks);
+    let task = Task {
+        level: LEVELS,
+        walk,
+        end: 0,
+    };
+    judge_at(q, &z, &walks, values, &memo, marks, task);
 }
 
 // Marks the rows of a relation that meet the condition of a permit.

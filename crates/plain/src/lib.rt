@@ -1,4 +1,5 @@
 // A query answered over the rows of its walks; the plain evaluator takes all rows, with no permits.
+use aggregates::Left;
 use grammar::Layout;
 use odometer::Plan;
 use queries::Checked;
@@ -69,38 +70,42 @@ fn filled(state: Filled, columns: usize) -> Reply
     }
 }
 
+// The parts of a query, how many levels it may have, and where in its table the targets stand.
+struct Task {
+    layout: Layout,
+    level: usize,
+    front: usize,
+}
+
 // Each aggregate of the query, once.
 fn remember(
     q: &[u8],
     z: &[u16],
-    layout: Layout,
-    level: usize,
+    task: Task,
     walks: &[u16],
     values: &[i32],
     env: &mut [usize],
     memo: &mut [i64],
 )
     requires { ⌜ 256 ≤ length (now env) ⌝ }
-    ensures { λ _. ⌜ now (memo .exit) ≡ memoOf (queryAt layout level (now (q .entry)) (now (z .entry)))
+    ensures { λ _. ⌜ now (memo .exit) ≡ memoOf (queryAt (task .layout) (task .level) (now (q .entry)) (now (z .entry)))
         (rowsBy (now (walks .entry)) (now (values .entry))) (assigned (now (values .entry)) (now (env .entry))) (now (memo .entry)) ⌝ }
     ensures { λ _. ⌜ now (env .exit) ≡ now (env .entry) ⌝ }
 {
+    let layout = task.layout;
+    let level = task.level;
     let t = layout.first;
-    let n = layout.targets;
+    let left = Left {
+        targets: layout.targets,
+        level,
+    };
     let x = kinds::tail(q, t);
     let y = kinds::tail_sizes(z, t);
-    aggregates::targets(x, y, n, level, walks, values, env, memo);
+    aggregates::targets(x, y, left, walks, values, env, memo);
     let c = layout.condition;
     let u = kinds::tail(q, c);
     let v = kinds::tail_sizes(z, c);
     aggregates::condition(u, v, level, walks, values, env, memo);
-}
-
-// The parts of a query, how many levels it may have, and where in its table the targets stand.
-struct Task {
-    layout: Layout,
-    level: usize,
-    front: usize,
 }
 
 // All ranges are left to bind, no target is listed yet, and no row stored.
@@ -419,9 +424,7 @@ fn answer_filled(
 {
     let mut memo = [0i64; 512];
     let mut env = [values.len(); 256];
-    let layout = task.layout;
-    let level = task.level;
-    remember(q, z, layout, level, walks, values, &mut env, &mut memo);
+    remember(q, z, task, walks, values, &mut env, &mut memo);
     answer_by(q, z, task, walks, values, &memo, answer)
 }
 

@@ -84,23 +84,30 @@ enum Run {
     Refused,
 }
 
+// Where the next target stands, and the level down to which it is read.
+struct Next {
+    at: usize,
+    level: usize,
+}
+
 // The targets from a place on, at most so many.
 fn targets(
     q: &[u8],
     z: &mut [u16],
-    at: usize,
+    next: Next,
     left: usize,
-    level: usize,
     catalogue: &[u8],
     limit: u8,
     reach: &[u16],
 ) -> Run
-    requires { ⌜ at ≤ length (now q) ⌝ }
-    ensures { λ r. ⌜ TargetsFound r (shapeIn (now (catalogue .entry))) limit level (scopeOf (now (reach .entry))) (now (q .entry)) at left
+    requires { ⌜ next .at ≤ length (now q) ⌝ }
+    ensures { λ r. ⌜ TargetsFound r (shapeIn (now (catalogue .entry))) limit (next .level) (scopeOf (now (reach .entry))) (now (q .entry)) (next .at) left
         (now (z .entry)) (now (z .exit)) ⌝ }
-    ensures { λ r. ⌜ Leads r level (now (q .entry)) at left ⌝ }
+    ensures { λ r. ⌜ Leads r (next .level) (now (q .entry)) (next .at) left ⌝ }
     ensures { λ _. ⌜ drop (length (now (q .entry))) (now (z .exit)) ≡ drop (length (now (q .entry))) (now (z .entry)) ⌝ }
 {
+    let at = next.at;
+    let level = next.level;
     if kinds::byte(q, at) < 33 {
         return Run::Whole(0, at, true);
     }
@@ -111,16 +118,9 @@ fn targets(
     else {
         return Run::Refused;
     };
-    let Run::Whole(count, end, others) = targets(
-        q,
-        z,
-        at + n,
-        left - 1,
-        level,
-        catalogue,
-        limit,
-        reach,
-    ) else {
+    let behind = Next { at: at + n, level };
+    let Run::Whole(count, end, others) = targets(q, z, behind, left - 1, catalogue, limit, reach)
+    else {
         return Run::Refused;
     };
     if !inside {
@@ -155,12 +155,12 @@ fn rest(
     if q.len() < first {
         return Found::Refused;
     }
+    let next = Next { at: first, level };
     let Run::Whole(targets, condition, inside) = targets(
         q,
         z,
-        first,
+        next,
         model::TARGETS,
-        level,
         catalogue,
         limit,
         reach,

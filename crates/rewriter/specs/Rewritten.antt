@@ -2,14 +2,25 @@
 use Prim.Native.Nat.{ℕ, _+_, _<_}
 use mathlib.Core.List.{List, [], _∷_, _++_, map}
 use mathlib.Core.Path.{_≡_}
-use lib.ListN.{length, getD, drop}
+use lib.ListN.{length, getD, take, drop}
 use lib.Seq.{sets}
 use Rattle.model.specs.Lists.{total, Every}
 use Rattle.model.specs.Permits.{Guard, free, only, Guards}
 use Rattle.model.specs.Encoding.{encode}
 use Rattle.model.specs.Syntax.{Condition, Term, TRUE, FALSE, NOT, AND, OR, COMPARE, SOME, CONSTANT, ATTRIBUTE, AGGREGATE, Binding, bindings, bindingsT}
 use Rattle.sizes.specs.Decode.{first, second, decode, decodeT}
-use Rattle.copier.specs.Guard.{picked, opening, guardBytes, guardNew}
+use Rattle.copier.specs.Guard.{part, picked, opening, guardBytes, guardNew}
+
+-- a table of applying permits: where each permit's condition stands, then for each variable a mask of its permits
+abbrev pub placesIn : List ℕ → List ℕ
+placesIn t = take 16 t
+
+abbrev pub masksIn : List ℕ → List ℕ
+masksIn t = drop 16 t
+
+-- the bytes of each permit's condition, by the table
+abbrev pub partIn : List ℕ → List ℕ → ℕ → List ℕ
+partIn permits t = part permits (placesIn t)
 
 -- by variable a mask of permits, 0 for none; the bytes of each permit's condition
 module _ (masks : List ℕ) (f : ℕ → List ℕ) where

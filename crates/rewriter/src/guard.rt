@@ -11,7 +11,8 @@ ghost use Rattle.model.specs.Syntax.{variables};
 ghost use Rattle.kinds.specs.Record.{recordAt};
 ghost use Rattle.scans.specs.Flat.{flatBindings, boundBy};
 ghost use Rattle.copier.specs.Copied.{recordBytes, renamedRecord, numberIn, copiedRecord, copiedBytes};
-ghost use Rattle.copier.specs.Guard.{part, orNothing, opening, turnBytes, turnNew, guardBytes, guardNew};
+ghost use Rattle.rewriter.specs.Rewritten.{placesIn, partIn};
+ghost use Rattle.copier.specs.Guard.{orNothing, opening, turnBytes, turnNew, guardBytes, guardNew};
 
 // The place after what was written, and the next number for a new variable.
 pub struct Written {
@@ -96,17 +97,15 @@ fn copy_condition(out: &mut [u8], at: usize, condition: &[u8], variable: u8, nex
     to
 }
 
-fn wide(x: u8) -> usize
-    ensures { λ r. ⌜ r ≡ x ⌝ }
-    ensures { λ r. ⌜ r < 256 ⌝ }
+// One of the numbers that say where the permits' conditions stand.
+fn place(table: &[u16], i: usize) -> usize
+    ensures { λ r. ⌜ r ≡ getD (placesIn (now (table .entry))) i 0 ⌝ }
 {
-    x as usize
-}
-
-fn place(places: &[usize], i: usize) -> usize
-    ensures { λ r. ⌜ r ≡ getD (now (places .entry)) i 0 ⌝ }
-{
-    if i < places.len() { places[i] } else { 0 }
+    if i < crate::PLACES {
+        kinds::size_at(table, i)
+    } else {
+        0
+    }
 }
 
 // The first n bytes, or all.
@@ -117,15 +116,16 @@ fn head(q: &[u8], n: usize) -> &[u8]
 }
 
 // The bytes of a permit's condition.
-fn condition_of<'a>(permits: &'a [u8], places: &[usize], k: u8) -> &'a [u8]
-    ensures { λ r. ⌜ now r ≡ part (now (permits .entry)) (now (places .entry)) k ⌝ }
+fn condition_of<'a>(permits: &'a [u8], table: &[u16], k: usize) -> &'a [u8]
+    requires { ⌜ k ≤ 65535 ⌝ }
+    ensures { λ r. ⌜ now r ≡ partIn (now (permits .entry)) (now (table .entry)) k ⌝ }
 {
-    let i = 2 * wide(k);
-    head(kinds::tail(permits, place(places, i)), place(places, i + 1))
+    let i = 2 * k;
+    head(kinds::tail(permits, place(table, i)), place(table, i + 1))
 }
 
 // Writes a byte, unless the mask is 0.
-fn put_unless(out: &mut [u8], at: usize, mask: u8, b: u8) -> usize
+fn put_unless(out: &mut [u8], at: usize, mask: usize, b: u8) -> usize
     requires { ⌜ at + length (orNothing mask (b ∷ [])) < 9223372036854775808 ⌝ }
     ensures { λ r. ⌜ r ≡ at + length (orNothing mask (b ∷ [])) ⌝ }
     ensures { λ _. ⌜ now (out .exit) ≡ sets (now (out .entry)) at (orNothing mask (b ∷ [])) ⌝ }
@@ -137,7 +137,7 @@ fn put_unless(out: &mut [u8], at: usize, mask: u8, b: u8) -> usize
 }
 
 // Writes the AND before a condition that gets a guard.
-pub(crate) fn open_guard(out: &mut [u8], at: usize, mask: u8) -> usize
+pub(crate) fn open_guard(out: &mut [u8], at: usize, mask: usize) -> usize
     requires { ⌜ at + length (opening mask) < 9223372036854775808 ⌝ }
     ensures { λ r. ⌜ r ≡ at + length (opening mask) ⌝ }
     ensures { λ _. ⌜ now (out .exit) ≡ sets (now (out .entry)) at (opening mask) ⌝ }
@@ -150,7 +150,7 @@ fn write_turn(
     out: &mut [u8],
     at: usize,
     condition: &[u8],
-    mask: u8,
+    mask: usize,
     variable: u8,
     next: usize,
 ) -> Written
@@ -176,23 +176,23 @@ pub(crate) fn write_guard(
     out: &mut [u8],
     at: usize,
     permits: &[u8],
-    places: &[usize],
-    mask: u8,
+    table: &[u16],
+    mask: usize,
     variable: u8,
     next: usize,
 ) -> Written
-    requires { ⌜ (at + length (guardBytes mask (part (now permits) (now places)) variable next) < 9223372036854775808)
-        × (next + guardNew mask (part (now permits) (now places)) < 256) ⌝ }
-    ensures { λ r. ⌜ (r .at ≡ at + length (guardBytes mask (part (now (permits .entry)) (now (places .entry))) variable next))
-        × (r .next ≡ next + guardNew mask (part (now (permits .entry)) (now (places .entry)))) ⌝ }
-    ensures { λ _. ⌜ now (out .exit) ≡ sets (now (out .entry)) at (guardBytes mask (part (now (permits .entry)) (now (places .entry))) variable next) ⌝ }
+    requires { ⌜ (at + length (guardBytes mask (partIn (now permits) (now table)) variable next) < 9223372036854775808)
+        × (next + guardNew mask (partIn (now permits) (now table)) < 256) × (mask ≤ 65535) ⌝ }
+    ensures { λ r. ⌜ (r .at ≡ at + length (guardBytes mask (partIn (now (permits .entry)) (now (table .entry))) variable next))
+        × (r .next ≡ next + guardNew mask (partIn (now (permits .entry)) (now (table .entry)))) ⌝ }
+    ensures { λ _. ⌜ now (out .exit) ≡ sets (now (out .entry)) at (guardBytes mask (partIn (now (permits .entry)) (now (table .entry))) variable next) ⌝ }
 {
     let mut m = mask;
-    let mut k: u8 = 0;
+    let mut k: usize = 0;
     let mut to = at;
     let mut n = next;
     while m != 0 {
-        let w = write_turn(out, to, condition_of(permits, places, k), m, variable, n);
+        let w = write_turn(out, to, condition_of(permits, table, k), m, variable, n);
         to = w.at;
         n = w.next;
         m = m / 2;

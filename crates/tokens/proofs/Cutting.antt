@@ -6,12 +6,12 @@ use mathlib.Core.Path.{_≡_, refl, sym, _∙_, ap, ap₂, subst}
 use native.Mathlib.Omega.{arith}
 use native.Mathlib.Numerals.{add-one}
 use lib.Dec.{leb}
-use lib.ListN.{length, getD, take, drop, set, length-drop, drop-of-length-le}
+use lib.ListN.{length, getD, drop, set, length-drop, drop-of-length-le}
 use lib.Seq.{getD-set-same, getD-set-other, drop-drop}
 use borrow.Author.Tests.{leb-true, leb-false, le-leb, lt-leb}
 use Rattle.model.proofs.Tests.{clash}
 use Rattle.quel.specs.Results.{Read, fail, ok, then, need}
-use Rattle.quel.specs.Tokens.{Token, isBlank, token, tokensFrom, tokens}
+use Rattle.quel.specs.Tokens.{Token, isBlank, isLetter, run, token, tokensFrom, tokens}
 use Rattle.quel.specs.Lexical.{first, Spelled}
 use Rattle.quel.proofs.Results.{never}
 use Rattle.quel.proofs.Lexical.{spelled-cut, cut-spelled}
@@ -62,12 +62,12 @@ unfolding tokensFrom
 lex-end = refl
 
 -- arrays with one token more
-module _ (text K S L N : List ℕ) (n k a m v : ℕ) where
+module _ (text K S N : List ℕ) (n k a v : ℕ) where
   abbrev old : Table
-  old = record { kinds = K; starts = S; lengths = L; numbers = N }
+  old = record { kinds = K; starts = S; numbers = N }
 
   abbrev pub new : Table
-  new = record { kinds = set K n k; starts = set S n a; lengths = set L n m; numbers = set N n v }
+  new = record { kinds = set K n k; starts = set S n a; numbers = set N n v }
 
   kept : (i : ℕ) → i < n → tokenAt text new i ≡ tokenAt text old i
   unfolding tokenAt wordIn
@@ -75,18 +75,17 @@ module _ (text K S L N : List ℕ) (n k a m v : ℕ) where
       rw (
         getD-set-other K n i k 0 (λ e. omega arith),
         getD-set-other S n i a 0 (λ e. omega arith),
-        getD-set-other L n i m 0 (λ e. omega arith),
         getD-set-other N n i v 0 (λ e. omega arith),
       )
 
-  added : n < length K → n < length S → n < length L → n < length N → tokenAt text new n ≡ tokenOf k (take m (drop a text)) v
+  added : n < length K → n < length S → n < length N → tokenAt text new n ≡ tokenOf k (run isLetter (drop a text)) v
   unfolding tokenAt wordIn
-  added h₁ h₂ h₃ h₄ = rw (getD-set-same K n k 0 h₁, getD-set-same S n a 0 h₂, getD-set-same L n m 0 h₃, getD-set-same N n v 0 h₄)
+  added h₁ h₂ h₃ = rw (getD-set-same K n k 0 h₁, getD-set-same S n a 0 h₂, getD-set-same N n v 0 h₃)
 
-  module _ (h₁ : n < length K) (h₂ : n < length S) (h₃ : n < length L) (h₄ : n < length N) (c : Coded text old n) (p : k ≡ 0 → Spelt (take m (drop a text)) v × (1 ≤ length (take m (drop a text)))) where
+  module _ (h₁ : n < length K) (h₂ : n < length S) (h₃ : n < length N) (c : Coded text old n) (p : k ≡ 0 → Spelt (run isLetter (drop a text)) v × (1 ≤ length (run isLetter (drop a text)))) where
     last-coded : k ≡ 0 → Spelt (wordIn text new n) (getD (set N n v) n 0) × (1 ≤ length (wordIn text new n))
     unfolding wordIn
-    last-coded z = rw (getD-set-same S n a 0 h₂, getD-set-same L n m 0 h₃, getD-set-same N n v 0 h₄) (p z)
+    last-coded z = rw (getD-set-same S n a 0 h₂, getD-set-same N n v 0 h₃) (p z)
 
     coded-at : (i : ℕ) → i < n + 1 → (x : Bool) → leb n i ≡ x → getD (set K n k) i 0 ≡ 0 → Spelt (wordIn text new i) (getD (set N n v) i 0) × (1 ≤ length (wordIn text new i))
     unfolding wordIn
@@ -97,7 +96,6 @@ module _ (text K S L N : List ℕ) (n k a m v : ℕ) where
         let q = leb-false n i e in
         rw (
           getD-set-other S n i a 0 (λ e. omega arith),
-          getD-set-other L n i m 0 (λ e. omega arith),
           getD-set-other N n i v 0 (λ e. omega arith),
         ) (c .spelt i q (sym (getD-set-other K n i k 0 (λ e. omega arith)) ∙ z))
 
@@ -122,46 +120,46 @@ ahead-more : (ts : List Token) (t : Token) (x : Tokens) → ahead (ts ++ (t ∷ 
 ahead-more ts t fail = refl
 ahead-more ts t (ok us r) = rw append-assoc
 
-pub record Held (text K S L N : List ℕ) (at n : ℕ) : Type 0 where
-  pub reads : ahead (tokensAt text (record { kinds = K; starts = S; lengths = L; numbers = N }) 0 n) (lex (drop at text)) ≡ lex text
+pub record Held (text K S N : List ℕ) (at n : ℕ) : Type 0 where
+  pub reads : ahead (tokensAt text (record { kinds = K; starts = S; numbers = N }) 0 n) (lex (drop at text)) ≡ lex text
   pub behind : n ≤ at
   pub inside : at ≤ length text
-  pub coded : Coded text (record { kinds = K; starts = S; lengths = L; numbers = N }) n
+  pub coded : Coded text (record { kinds = K; starts = S; numbers = N }) n
 
 pub none-coded : (text : List ℕ) (t : Table) → Coded text t 0
 none-coded text t = record { spelt = λ i l z. absurd (omega arith) }
 
-pub held-start : (text K S L N : List ℕ) → Held text K S L N 0 0
+pub held-start : (text K S N : List ℕ) → Held text K S N 0 0
 unfolding tokensAt
-held-start text K S L N = record {
+held-start text K S N = record {
   reads = ahead-none (lex text);
   behind = omega arith;
   inside = omega arith;
-  coded = none-coded text (record { kinds = K; starts = S; lengths = L; numbers = N });
+  coded = none-coded text (record { kinds = K; starts = S; numbers = N });
 }
 
 pub too-long : (text : List ℕ) → 2000 < length text → tokens text ≡ fail
 unfolding tokens
 too-long text h = rw (lt-leb (length text) 2000 h)
 
-module _ (text K S L N : List ℕ) (at n : ℕ) (h : Held text K S L N at n) (short : length text ≤ 2000) where
+module _ (text K S N : List ℕ) (at n : ℕ) (h : Held text K S N at n) (short : length text ≤ 2000) where
   whole : tokens text ≡ lex text
   unfolding tokens
   whole = rw (le-leb (length text) 2000 short)
 
-  pub held-end : length text ≤ at → ok (tokensAt text (record { kinds = K; starts = S; lengths = L; numbers = N }) 0 n) [] ≡ tokens text
+  pub held-end : length text ≤ at → ok (tokensAt text (record { kinds = K; starts = S; numbers = N }) 0 n) [] ≡ tokens text
   held-end l =
-      let t : Table = record { kinds = K; starts = S; lengths = L; numbers = N } in
+      let t : Table = record { kinds = K; starts = S; numbers = N } in
       sym (ap (ahead (tokensAt text t 0 n)) (ap lex (drop-of-length-le text l) ∙ lex-end) ∙ nil (tokensAt text t 0 n)) ∙ (h .reads ∙ sym whole)
     where
       nil : (ts : List Token) → ahead ts (ok [] []) ≡ ok ts []
       nil ts = ap (λ (us : List Token). ok us []) (append-nil ts)
 
   module _ (l : at < length text) where
-    pub held-blank : isBlank (getD text at 0) ≡ true → Held text K S L N (at + 1) n
+    pub held-blank : isBlank (getD text at 0) ≡ true → Held text K S N (at + 1) n
     held-blank e = record {
       reads =
-          ap (ahead (tokensAt text (record { kinds = K; starts = S; lengths = L; numbers = N }) 0 n)) (sym (ap lex (split text at l) ∙ lex-blank (getD text at 0) (drop (at + 1) text) e))
+          ap (ahead (tokensAt text (record { kinds = K; starts = S; numbers = N }) 0 n)) (sym (ap lex (split text at l) ∙ lex-blank (getD text at 0) (drop (at + 1) text) e))
           ∙ h .reads;
       behind = omega (arith, h .behind);
       inside = omega arith;
@@ -174,25 +172,25 @@ module _ (text K S L N : List ℕ) (at n : ℕ) (h : Held text K S L N at n) (sh
 
       pub held-refused : Leads P.Refused (drop at text) → fail ≡ tokens text
       held-refused p =
-          ap (ahead (tokensAt text (record { kinds = K; starts = S; lengths = L; numbers = N }) 0 n)) (sym (lex-refused (drop at text) (omega (arith, length-drop at text)) word (sym (p .says))))
+          ap (ahead (tokensAt text (record { kinds = K; starts = S; numbers = N }) 0 n)) (sym (lex-refused (drop at text) (omega (arith, length-drop at text)) word (sym (p .says))))
           ∙ (h .reads ∙ sym whole)
 
       module _ (k m v : ℕ) (p : Leads (P.Found k m v) (drop at text)) where
         pub held-room : (1 ≤ m) × (at + m ≤ length text)
         held-room = (p .fits .0, omega (arith, p .fits .1, length-drop at text))
 
-        pub held-more : n < length K → n < length S → n < length L → n < length N → Held text (set K n k) (set S n at) (set L n m) (set N n v) (at + m) (n + 1)
-        held-more h₁ h₂ h₃ h₄ = record {
+        pub held-more : n < length K → n < length S → n < length N → Held text (set K n k) (set S n at) (set N n v) (at + m) (n + 1)
+        held-more h₁ h₂ h₃ = record {
           reads =
-              ap (λ (ts : List Token). ahead ts (lex (drop (at + m) text))) (ap (tokensAt text (new text K S L N n k at m v) 0) (add-one n) ∙ (more text K S L N n k at m v 0 n (omega arith) ∙ ap (λ (t : Token). tokensAt text (old text K S L N n k at m v) 0 n ++ (t ∷ [])) (added text K S L N n k at m v h₁ h₂ h₃ h₄)))
-              ∙ (ahead-more (tokensAt text (old text K S L N n k at m v) 0 n) (tokenOf k (take m (drop at text)) v) (lex (drop (at + m) text))
-              ∙ (ap (ahead (tokensAt text (old text K S L N n k at m v) 0 n)) turned ∙ h .reads));
+              ap (λ (ts : List Token). ahead ts (lex (drop (at + m) text))) (ap (tokensAt text (new text K S N n k at v) 0) (add-one n) ∙ (more text K S N n k at v 0 n (omega arith) ∙ ap (λ (t : Token). tokensAt text (old text K S N n k at v) 0 n ++ (t ∷ [])) (added text K S N n k at v h₁ h₂ h₃)))
+              ∙ (ahead-more (tokensAt text (old text K S N n k at v) 0 n) (tokenOf k (run isLetter (drop at text)) v) (lex (drop (at + m) text))
+              ∙ (ap (ahead (tokensAt text (old text K S N n k at v) 0 n)) turned ∙ h .reads));
           behind = omega (arith, h .behind, p .fits .0);
           inside = held-room .1;
-          coded = coded-more text K S L N n k at m v h₁ h₂ h₃ h₄ (h .coded) (p .names);
+          coded = coded-more text K S N n k at v h₁ h₂ h₃ (h .coded) (p .names);
         }
           where
-            turned : before (tokenOf k (take m (drop at text)) v) (lex (drop (at + m) text)) ≡ lex (drop at text)
+            turned : before (tokenOf k (run isLetter (drop at text)) v) (lex (drop (at + m) text)) ≡ lex (drop at text)
             turned =
-                ap (λ (s : List ℕ). before (tokenOf k (take m (drop at text)) v) (lex s)) (sym (drop-drop m at text))
-                ∙ sym (lex-token (drop at text) (tokenOf k (take m (drop at text)) v) m word (sym (p .says)) (p .fits .0) (p .fits .1))
+                ap (λ (s : List ℕ). before (tokenOf k (run isLetter (drop at text)) v) (lex s)) (sym (drop-drop m at text))
+                ∙ sym (lex-token (drop at text) (tokenOf k (run isLetter (drop at text)) v) m word (sym (p .says)) (p .fits .0) (p .fits .1))

@@ -5,20 +5,19 @@ use mathlib.Core.List.{List, [], _∷_, _++_}
 use mathlib.Core.Path.{_≡_, refl, sym, _∙_, ap, subst}
 use native.Mathlib.Omega.{arith}
 use lib.Dec.{eqb, leb}
-use lib.ListN.{length, getD, take, drop, length-drop}
+use lib.ListN.{length, getD, drop, length-drop}
 use borrow.Author.Tests.{leb-true, le-leb, lt-leb, eqb-true, eq-eqb, ne-eqb}
 use Rattle.model.proofs.Tests.{clash}
 use Rattle.quel.specs.Results.{Read, fail, ok, found}
 use Rattle.quel.specs.Tokens.{Token, wordIn, reserved, signIn, signs, isLetter, isDigit, run, past, decimal, plain, negative, withEqual, token}
 use Rattle.quel.specs.Lexical.{first}
 use Rattle.tokens.specs.Spans.{within, positional, capped}
-use Rattle.tokens.specs.Codes.{Spelt}
 use Rattle.tokens.specs.Table.{tokenOf}
 use Rattle.tokens.specs.Kinds.{codeOf, kindSpelled, signKind}
 use Rattle.tokens.specs.Pieces.{leading, stands, Leads, Opens, Single, afterFirst}
 use Rattle.tokens.specs.declared.Piece.{Piece}
 use Rattle.tokens.specs.declared.Piece.the-variants as P
-use Rattle.tokens.proofs.Places.{split, first-lt, passed, run-goes, run-length, take-run, drop-run, run-all, within-bounds, only}
+use Rattle.tokens.proofs.Places.{split, first-lt, passed, run-goes, run-length, drop-run, run-all, within-bounds, only}
 use Rattle.tokens.proofs.Values.{capped-le, capped-exact, decimals}
 use Rattle.tokens.proofs.Words.{word-token, sign-token}
 
@@ -34,9 +33,9 @@ letter-leads (b ∷ r) h = rw h
 
 pub word-reads : (s : List ℕ) (v k n : ℕ) → first isLetter s ≡ true → v ≡ capped (codeOf (run isLetter s)) → k ≡ kindSpelled reserved v → n ≡ length (run isLetter s) → Leads (P.Found k n v) s
 word-reads s v k n h e₀ e₁ e₂ = record {
-  says = rw (e₁, e₀, e₂, take-run isLetter s, drop-run isLetter s, word-token (run isLetter s) (capped (codeOf (run isLetter s))) (run-all isLetter s)) (sym (letter-leads s h));
+  says = rw (e₁, e₀, e₂, drop-run isLetter s, word-token (run isLetter s) (capped (codeOf (run isLetter s))) (run-all isLetter s)) (sym (letter-leads s h));
   fits = (omega (arith, some-run isLetter s h), omega (arith, run-length isLetter s));
-  names = λ z. subst (λ (w : List ℕ). Spelt w v × (1 ≤ length w)) (sym (ap (λ (m : ℕ). take m s) e₂ ∙ take-run isLetter s)) (record { letters = run-all isLetter s; code = e₀ }, some-run isLetter s h);
+  names = λ z. (record { letters = run-all isLetter s; code = e₀ }, some-run isLetter s h);
 }
 
 -- with the first letter counted in
@@ -120,12 +119,12 @@ opens-more b r h = let e = eqb-true b 62 (sym (only 62 b) ∙ h) in record { som
 pub equal-reads : (k b : ℕ) (r : List ℕ) → Opens k (b ∷ r) → first (within 61 61) r ≡ true → Leads (P.Found (k + 1) 2 0) (b ∷ r)
 unfolding withEqual
 equal-reads k b [] o h = clash h
-equal-reads k b (c ∷ r) o h = record { says = sym (o .reads [] (b ∷ c ∷ []) 0 0 ∙ rw (sym (only 61 c) ∙ h)); fits = (omega arith, omega arith); names = λ z. absurd (omega arith) }
+equal-reads k b (c ∷ r) o h = record { says = sym (o .reads [] (run isLetter (b ∷ c ∷ r)) 0 0 ∙ rw (sym (only 61 c) ∙ h)); fits = (omega arith, omega arith); names = λ z. absurd (omega arith) }
 
 pub alone-reads : (k b : ℕ) (r : List ℕ) → Opens k (b ∷ r) → first (within 61 61) r ≡ false → Leads (P.Found k 1 0) (b ∷ r)
 unfolding withEqual
-alone-reads k b [] o h = record { says = sym (o .reads (b ∷ []) [] 0 0); fits = (omega arith, omega arith); names = λ z. absurd (omega (arith, o .some-kind)) }
-alone-reads k b (c ∷ r) o h = record { says = sym (o .reads (b ∷ []) [] 0 0 ∙ rw (sym (only 61 c) ∙ h)); fits = (omega arith, omega arith); names = λ z. absurd (omega (arith, o .some-kind)) }
+alone-reads k b [] o h = record { says = sym (o .reads (run isLetter (b ∷ [])) [] 0 0); fits = (omega arith, omega arith); names = λ z. absurd (omega (arith, o .some-kind)) }
+alone-reads k b (c ∷ r) o h = record { says = sym (o .reads (run isLetter (b ∷ c ∷ r)) [] 0 0 ∙ rw (sym (only 61 c) ∙ h)); fits = (omega arith, omega arith); names = λ z. absurd (omega (arith, o .some-kind)) }
 
 -- a sign of one byte
 module _ (b : ℕ) (r : List ℕ) (s : Single (b ∷ r)) where
@@ -137,7 +136,7 @@ module _ (b : ℕ) (r : List ℕ) (s : Single (b ∷ r)) where
   single-refused k e z = record { says = sym (single-leads ∙ (sym (sign-token b [] 0 r) ∙ rw (sym e ∙ z))); fits = tt; names = tt }
 
   pub single-reads : (k : ℕ) → k ≡ signKind signs b → (k ≡ 0 → ⊥) → Leads (P.Found k 1 0) (b ∷ r)
-  single-reads k e z = record { says = sym (single-leads ∙ (sym (sign-token b (b ∷ []) 0 r) ∙ rw (sym e, ne-eqb k 0 z))); fits = (omega arith, omega arith); names = λ y. absurd (z y) }
+  single-reads k e z = record { says = sym (single-leads ∙ (sym (sign-token b (run isLetter (b ∷ r)) 0 r) ∙ rw (sym e, ne-eqb k 0 z))); fits = (omega arith, omega arith); names = λ y. absurd (z y) }
 
 -- at a place of a text
 module _ (text : List ℕ) (at : ℕ) where

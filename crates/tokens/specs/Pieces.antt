@@ -3,9 +3,9 @@ use Prim.Native.Nat.{ℕ, _+_, _≤_}
 use mathlib.Core.Bool.{Bool, true, false}
 use mathlib.Core.List.{List, [], _∷_}
 use mathlib.Core.Path.{_≡_}
-use lib.ListN.{length, take, drop}
+use lib.ListN.{length, drop}
 use Rattle.quel.specs.Results.{Read, fail, ok}
-use Rattle.quel.specs.Tokens.{less, atMost, more, atLeast, Token, sign, isLetter, isDigit, token, withEqual}
+use Rattle.quel.specs.Tokens.{less, atMost, more, atLeast, Token, sign, isLetter, isDigit, run, token, withEqual}
 use Rattle.quel.specs.Lexical.{first}
 use Rattle.tokens.specs.Spans.{within}
 use Rattle.tokens.specs.Codes.{Spelt}
@@ -22,7 +22,7 @@ leading (b ∷ bs) = token b bs
 
 -- the token that a piece stands for, and the bytes after it
 abbrev pub stands : Piece → List ℕ → Read (List ℕ) Token
-stands (P.Found k n v) s = ok (tokenOf k (take n s) v) (drop n s)
+stands (P.Found k n v) s = ok (tokenOf k (run isLetter s) v) (drop n s)
 stands P.Refused s = fail
 
 -- it takes some of the bytes
@@ -32,7 +32,7 @@ Fits P.Refused s = Unit {0}
 
 -- a name with its code
 abbrev pub Names : Piece → List ℕ → Type 0
-Names (P.Found k n v) s = k ≡ 0 → Spelt (take n s) v × (1 ≤ length (take n s))
+Names (P.Found k n v) s = k ≡ 0 → Spelt (run isLetter s) v × (1 ≤ length (run isLetter s))
 Names P.Refused s = Unit {0}
 
 pub record Leads (p : Piece) (s : List ℕ) : Type 0 where

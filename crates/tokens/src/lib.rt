@@ -266,26 +266,18 @@ pub enum Outcome {
     Refused,
 }
 
-// The tokens of a text of at most 2,000 bytes, into arrays: kinds, where words start, how long they are, and numbers; that of a name is its code.
-pub fn cut(
-    text: &[u8],
-    kinds: &mut [u8],
-    starts: &mut [u16],
-    lengths: &mut [u16],
-    numbers: &mut [u64],
-) -> Outcome
+// The tokens of a text of at most 2,000 bytes, into arrays: kinds, where words start, and numbers; that of a name is its code.
+pub fn cut(text: &[u8], kinds: &mut [u8], starts: &mut [u16], numbers: &mut [u64]) -> Outcome
     requires { ⌜ (length (now text) ≤ 2000 → (length (now text) ≤ length (now kinds)) × (length (now text) ≤ length (now starts))
-        × (length (now text) ≤ length (now lengths)) × (length (now text) ≤ length (now numbers))) ⌝ }
+        × (length (now text) ≤ length (now numbers))) ⌝ }
     ensures { λ r. ⌜ readOf r (now (text .entry)) (record {
       kinds = now (kinds .exit);
       starts = now (starts .exit);
-      lengths = now (lengths .exit);
       numbers = now (numbers .exit);
     }) ≡ tokens (now (text .entry)) ⌝ }
     ensures { λ r. ⌜ Coded (now (text .entry)) (record {
       kinds = now (kinds .exit);
       starts = now (starts .exit);
-      lengths = now (lengths .exit);
       numbers = now (numbers .exit);
     }) (counted r) ⌝ }
     ensures { λ r. ⌜ (counted r ≤ 2000) × (counted r ≤ length (now (text .entry))) ⌝ }
@@ -305,7 +297,6 @@ pub fn cut(
         };
         kinds[n] = kind;
         starts[n] = at as u16;
-        lengths[n] = size as u16;
         numbers[n] = value;
         n += 1;
         at += size;

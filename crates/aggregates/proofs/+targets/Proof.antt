@@ -20,7 +20,7 @@ use Rattle.aggregates.proofs.+targets.{statement}
 use Rattle.aggregates.proofs.+targets.Tie.{close}
 
 abbrev μ-targets : Measures 6 targets-kinds.ps ℕ
-μ-targets κs a = a .1 .1 .0
+μ-targets κs a = a .1 .1 .0 .targets
 
 abbrev targets-at : ℕ → In 6 targets-kinds.ps
 targets-at t = and 6 targets-kinds.ps (is 6 targets-kinds.ps μ-targets t) targets.Pre
@@ -34,7 +34,7 @@ targets-claims t = (target-term-reads.Asked, target-term-reads.Learnt, size-at-r
 targets-returns : (t : ℕ) → targets-lts.Need-returns (targets-claims t) (targets-at t) targets.Post
 targets-returns t c = let args = c .before .before .before .before .before .args in
     let vs = now (args .values) in
-    (targets-none (rowsBy (now (args .walks)) vs) (assigned vs (now (args .env))) (now (args .q)) (now (args .z)) (now (args .memo)) (args .left) (args .level) (c .if1 .taken), search needs)
+    (targets-none (rowsBy (now (args .walks)) vs) (assigned vs (now (args .env))) (now (args .q)) (now (args .z)) (now (args .memo)) (args .left .targets) (args .left .level) (c .if1 .taken), search needs)
 
 targets-returns-2 : (t : ℕ) → targets-lts.Need-returns-2 (targets-claims t) (targets-at t) targets.Post
 targets-returns-2 t c = let targets = c .before .before .before .targets in
@@ -45,7 +45,7 @@ targets-returns-2 t c = let targets = c .before .before .before .targets in
     let if1 = c .before .before .before .before .before .before .before .before .before .before .before .before .before .before .before .if1 in
     let args = c .before .before .before .before .before .before .before .before .before .before .before .before .before .before .before .before .before .before .before .before .args in
     let vs = now (args .values) in
-    (targets-more (rowsBy (now (args .walks)) vs) (assigned vs (now (args .env))) (now (args .q)) (now (args .z)) (now (args .memo)) (args .left) (args .level) _ _ _ _ _ _ (if1 .left) (target .ensures .0) (size-at .ensures .0) (tail .ensures) (tail-sizes .ensures) (ap (assigned vs) (target .ensures .1)) (targets .ensures .0), targets .ensures .1 ∙ target .ensures .1)
+    (targets-more (rowsBy (now (args .walks)) vs) (assigned vs (now (args .env))) (now (args .q)) (now (args .z)) (now (args .memo)) (args .left .targets) (args .left .level) _ _ _ _ _ _ (if1 .left) (target .ensures .0) (size-at .ensures .0) (tail .ensures) (tail-sizes .ensures) (ap (assigned vs) (target .ensures .1)) (targets .ensures .0), targets .ensures .1 ∙ target .ensures .1)
 
 pub +targets-spec : {M : Type 1} → statement M
 +targets-spec = close μ-targets λ t. targets-lts.spec (targets-claims t)
@@ -54,9 +54,9 @@ pub +targets-spec : {M : Type 1} → statement M
     (targets-returns t)
     (λ c κs. search needs)
     (λ c κs. search needs)
-    (λ c κs. search needs)
-    (λ c κs. search needs)
     (λ c. search needs)
+    (λ c κs. search needs)
+    (λ c κs. search needs)
     (λ c κs. search needs)
     (λ c. search needs)
     (λ c. search needs)

@@ -21,7 +21,7 @@ plan-requires c κs = (omega (arith, length-replicate {A = ℕ} 768 0), omega ar
 
 returns : tie.Need-returns
 returns c = let take = c .before .before .take-linked in let plan = c .before .before .before .before .before .before .before .before .before .plan in let args = c .before .before .before .before .before .before .before .before .before .before .before .before .before .before .before .args in let vs = now (args .values) in
-    (taken-planned _ (now (args .q)) (now (args .z)) (now (args .walks)) vs (now (args .memo)) (args .level) (now (args .env)) (args .column .variable) (args .column .attribute) _ (plan .ensures (now (args .walks)) vs) (take .ensures .0), (take .ensures .1 .0, take .ensures .1 .1))
+    (taken-planned _ (now (args .q)) (now (args .z)) (now (args .walks)) vs (now (args .memo)) (args .column .level) (now (args .env)) (args .column .variable) (args .column .attribute) _ (plan .ensures (now (args .walks)) vs) (take .ensures .0), (take .ensures .1 .0, take .ensures .1 .1))
 
 take-requires : tie.Need-take-requires
 take-requires c κs = let pre = c .before .before .before .before .before .before .before .before .before .before .before .before .before .pre in
@@ -29,7 +29,7 @@ take-requires c κs = let pre = c .before .before .before .before .before .befor
 
 returns-2 : tie.Need-returns-2
 returns-2 c = let take = c .before .before .take in let plan = c .before .before .before .before .before .before .before .before .before .before .plan in let args = c .before .before .before .before .before .before .before .before .before .before .before .before .before .before .before .before .args in let vs = now (args .values) in
-    (taken-planned _ (now (args .q)) (now (args .z)) (now (args .walks)) vs (now (args .memo)) (args .level) (now (args .env)) (args .column .variable) (args .column .attribute) _ (plan .ensures (now (args .walks)) vs) (take .ensures .0), (take .ensures .1 .0, take .ensures .1 .1))
+    (taken-planned _ (now (args .q)) (now (args .z)) (now (args .walks)) vs (now (args .memo)) (args .column .level) (now (args .env)) (args .column .variable) (args .column .attribute) _ (plan .ensures (now (args .walks)) vs) (take .ensures .0), (take .ensures .1 .0, take .ensures .1 .1))
 
 pub gather-spec : {M : Type 1} → statement M
 gather-spec =

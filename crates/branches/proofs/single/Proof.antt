@@ -10,10 +10,10 @@ use Rattle.branches.proofs.single.Tie as tie
 returns : tie.Need-returns
 returns c = let args = c .before .before .before .before .before .before .before .before .before .before .before .before .before .args in
     let pre = c .before .before .before .before .before .before .before .before .before .before .before .before .before .pre in
-    let narrow = c .before .before .before .before .narrow in
-    let narrow2 = c .before .before .before .narrow2 in
+    let narrow = c .before .before .before .before .before .narrow in
+    let narrow2 = c .before .before .before .before .narrow2 in
     let write = c .before .before .write in
-    placed (args .k) (args .ways .met) (args .ways .unmet) (now (args .t)) (write .last .0) (now (args .q)) (now (args .z)) (now (args .memo)) (args .place) (args .level) _ _ (narrow .ensures) (narrow2 .ensures) (write .ensures) (pre .0) (pre .2) (pre .1) (pre .3) (pre .4)
+    placed (args .k) (args .ways .met) (args .ways .unmet) (now (args .t)) (write .last .0) (now (args .q)) (now (args .z)) (now (args .memo)) (args .spot .place) (args .spot .level) _ _ (narrow .ensures) (narrow2 .ensures) (write .ensures) (pre .0) (pre .2) (pre .1) (pre .3) (pre .4)
 
 returns-2 : tie.Need-returns-2
 returns-2 c = let args = c .before .before .before .before .before .before .before .before .before .before .before .before .before .before .before .before .before .before .args in
@@ -25,7 +25,7 @@ returns-2 c = let args = c .before .before .before .before .before .before .befo
     let from-byte = c .before .before .before .before .before .before .before .from-byte in
     let write2 = c .before .before .before .before .before .before .write2 in
     let write-numbers = c .before .before .write-numbers in
-    compared (args .k) (args .ways .met) (args .ways .unmet) (now (args .t)) (write2 .last .0) (write-numbers .last .0) (now (args .q)) (now (args .z)) _ _ (now (args .memo)) (args .place) (args .level) _ (comparison-at .result) (from-byte .ensures .0) (write2 .ensures) (pre .0) (omega (arith, write2 .kept, pre .0)) (pre .2) (write-numbers .ensures) (tail .ensures) (tail-sizes .ensures) (comparison-at .ensures) (if1 .left) (λ e. omega (arith, e, from-byte .ensures)) (pre .1) (pre .3) (pre .4)
+    compared (args .k) (args .ways .met) (args .ways .unmet) (now (args .t)) (write2 .last .0) (write-numbers .last .0) (now (args .q)) (now (args .z)) _ _ (now (args .memo)) (args .spot .place) (args .spot .level) _ (comparison-at .result) (from-byte .ensures .0) (write2 .ensures) (pre .0) (omega (arith, write2 .kept, pre .0)) (pre .2) (write-numbers .ensures) (tail .ensures) (tail-sizes .ensures) (comparison-at .ensures) (if1 .left) (λ e. omega (arith, e, from-byte .ensures)) (pre .1) (pre .3) (pre .4)
 
 pub single-spec : {M : Type 1} → statement M
 single-spec =

@@ -29,11 +29,10 @@ slice-write-t-8 : tie.Need-slice-write-t-8
 slice-write-t-8 c = simp length-set (omega arith)
 
 returns : tie.Need-returns
-returns c =
-    let args = c .before .before .before .args in
+returns c = let args = c .before .before .before .args in
     let narrow = c .before .narrow in
     let narrow2 = c .narrow2 in
-    written (now (args .t)) (8 * args .k) (args .operator) (args .a) (args .b) (args .c) (args .d) (args .met) (narrow .result) (args .unmet) (narrow2 .result) (narrow .ensures) (narrow2 .ensures)
+    written (now (args .t)) (8 * args .k) (args .operator) (args .left .first) (args .left .second) (args .right .first) (args .right .second) (args .ways .met) (narrow .result) (args .ways .unmet) (narrow2 .result) (narrow .ensures) (narrow2 .ensures)
 
 pub write-spec : {M : Type 1} → statement M
 write-spec =

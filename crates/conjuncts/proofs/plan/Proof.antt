@@ -19,7 +19,7 @@ returns : tie.Need-returns
 returns c = let split = c .before .before .split in
     let args = c .before .before .before .before .before .before .before .args in let pre = c .before .before .before .before .before .before .before .pre in
     let q = now (args .q) in let z = now (args .z) in let condition = args .condition in
-    λ ws vs. planned (now (args .t)) (pre .4) q z ws vs (now (args .memo)) (split .result) (split .last .1 .1 .1 .1 .1 .1 .0) (decode (args .level) (drop condition q) (drop condition z)) (rangesAt (args .ranges) q) (split .ensures .1)
+    λ ws vs. planned (now (args .t)) (pre .4) q z ws vs (now (args .memo)) (split .result) (split .last .1 .1 .1 .1 .1 .0) (decode (args .level) (drop condition q) (drop condition z)) (rangesAt (args .ranges) q) (split .ensures .1)
 
 pub plan-spec : {M : Type 1} → statement M
 plan-spec =

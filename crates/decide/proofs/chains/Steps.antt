@@ -1,5 +1,5 @@
 -- One row more in front of a chain, and one link further along it.
-use mathlib.Core.Path.{_≡_, refl, sym, ap, _∙_, transport}
+use mathlib.Core.Path.{_≡_, refl, sym, ap, _∙_, transport, subst}
 use mathlib.Core.Bool.{Bool, true, false, _&&_, _||_}
 use mathlib.Core.List.{List}
 use Prim.Native.Nat.{ℕ, zero, suc, _+_, _-_, _/_, _%_, _≤_, _<_}
@@ -102,22 +102,22 @@ module _ (k : ℕ → ℤ) (x : ℤ) where
   turned y e n link r = transport (ap (λ (z : ℤ). (from : ℕ) → First (λ (j : ℕ). bucketOf (k j) ≡ bucketOf z) from n link → First (λ (j : ℕ). same (k j) z ≡ true) from n r) e)
 
   -- the row that a link gives
-  pub found : (y : ℤ) → y ≡ x → (from n link r i : ℕ) → First (λ (j : ℕ). bucketOf (k j) ≡ bucketOf y) from n link → ((g : ℕ) → First (λ (j : ℕ). bucketOf (k j) ≡ bucketOf y) g n link → First (λ (j : ℕ). same (k j) y ≡ true) g n r)
+  pub found : (from n link r i : ℕ) → First (λ (j : ℕ). bucketOf (k j) ≡ bucketOf x) from n link → ((g : ℕ) → First (λ (j : ℕ). bucketOf (k j) ≡ bucketOf x) g n link → First (λ (j : ℕ). same (k j) x ≡ true) g n r)
       → from ≤ n → (i ≤ n) × ((r ≡ 0 → i ≡ n) × (0 < r → i + 1 ≡ r)) → ((from ≤ i) × (i ≤ n)) × ((j : ℕ) → from ≤ j → j < i → same (k j) x ≡ true → ⊥)
-  found y e from n link r i f g h w = ((low r (g from f) (w .1 .0) (w .1 .1), w .0), λ j a b p. go r (g from f) (w .1 .0) (w .1 .1) j a b (ap (λ (z : ℤ). same (k j) z) e ∙ p))
+  found from n link r i f g h w = ((low r (g from f) (w .1 .0) (w .1 .1), w .0), λ j a b p. go r (g from f) (w .1 .0) (w .1 .1) j a b p)
     where
-      low : (r : ℕ) → First (λ (j : ℕ). same (k j) y ≡ true) from n r → (r ≡ 0 → i ≡ n) → (0 < r → i + 1 ≡ r) → from ≤ i
+      low : (r : ℕ) → First (λ (j : ℕ). same (k j) x ≡ true) from n r → (r ≡ 0 → i ≡ n) → (0 < r → i + 1 ≡ r) → from ≤ i
       low zero f a b = omega (arith, a refl)
       low (suc r) f a b = omega (arith, b (omega arith), f .low (omega arith))
 
-      go : (r : ℕ) → First (λ (j : ℕ). same (k j) y ≡ true) from n r → (r ≡ 0 → i ≡ n) → (0 < r → i + 1 ≡ r) → (j : ℕ) → from ≤ j → j < i → same (k j) y ≡ true → ⊥
+      go : (r : ℕ) → First (λ (j : ℕ). same (k j) x ≡ true) from n r → (r ≡ 0 → i ≡ n) → (0 < r → i + 1 ≡ r) → (j : ℕ) → from ≤ j → j < i → same (k j) x ≡ true → ⊥
       go zero f a b j h l = f .none refl j h (omega (arith, a refl))
       go (suc r) f a b j h l = f .least j h (omega (arith, b (omega arith)))
 
   -- which has the value
-  pub found-has : (y : ℤ) → y ≡ x → (from n r i : ℕ) → First (λ (j : ℕ). same (k j) y ≡ true) from n r → (i ≤ n) × ((r ≡ 0 → i ≡ n) × (0 < r → i + 1 ≡ r)) → i < n → same (k i) x ≡ true
-  found-has y e from n zero i f w h = absurd (omega (arith, w .1 .0 refl))
-  found-has y e from n (suc r) i f w h = ap (λ (z : ℤ). same (k i) z) (sym e) ∙ f .here i (sym (w .1 .1 (omega arith)))
+  pub found-has : (from n r i : ℕ) → First (λ (j : ℕ). same (k j) x ≡ true) from n r → (i ≤ n) × ((r ≡ 0 → i ≡ n) × (0 < r → i + 1 ≡ r)) → i < n → same (k i) x ≡ true
+  found-has from n zero i f w h = absurd (omega (arith, w .1 .0 refl))
+  found-has from n (suc r) i f w h = f .here i (sym (w .1 .1 (omega arith)))
 
 -- a link leads further, or nowhere
 pub left-less : (n at to : ℕ) → 0 < at → at ≤ n → to ≤ n → (0 < to → at < to) → left n to < left n at
@@ -203,8 +203,8 @@ module _ (k : ℕ → ℤ) (n at : ℕ) (table : List ℕ) (built : Built (λ (j
       (transport (ap (λ (g : ℕ). First (λ (j : ℕ). bucketOf (k j) ≡ bucketOf (k (from - 1))) g n link) m) (transport (ap (λ (g : ℕ). First (λ (j : ℕ). bucketOf (k j) ≡ bucketOf (k (from - 1))) (from - 1 + 1) n g) (sym el)) (built .next (from - 1) (omega arith))))
 
   -- by the place of the link
-  pub enters : (x y : ℤ) (p link from : ℕ) → y ≡ x → from ≤ n → (from ≡ 0 → p ≡ at + bucketOf y) × (0 < from → p ≡ at + 1024 + (from - 1)) → (0 < from → same (k (from - 1)) x ≡ true) → link ≡ getD table p 0 → First (λ (j : ℕ). bucketOf (k j) ≡ bucketOf y) from n link
-  enters x y p link from ey l w has el = go (eqb from 0) refl
+  pub enters : (x y : ℤ) (p link from : ℕ) → y ≡ x → from ≤ n → (from ≡ 0 → p ≡ at + bucketOf y) × (0 < from → p ≡ at + 1024 + (from - 1)) → (0 < from → same (k (from - 1)) x ≡ true) → link ≡ getD table p 0 → First (λ (j : ℕ). bucketOf (k j) ≡ bucketOf x) from n link
+  enters x y p link from ey l w has el = subst (λ (z : ℤ). First (λ (j : ℕ). bucketOf (k j) ≡ bucketOf z) from n link) ey (go (eqb from 0) refl)
     where
       go : (b : Bool) → eqb from 0 ≡ b → First (λ (j : ℕ). bucketOf (k j) ≡ bucketOf y) from n link
       go true q = at-head y (bucketOf y) link from refl (bucket-low y) (el ∙ ap (λ (i : ℕ). getD table i 0) (w .0 (eqb-true from 0 q))) (eqb-true from 0 q)

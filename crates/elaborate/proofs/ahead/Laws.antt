@@ -16,7 +16,7 @@ use Rattle.quel.specs.Elaboration.{operatorOf}
 use Rattle.quel.specs.Ahead.{Count, ahead, top, outer, count, oneSign, oneOr, oneAnd, fresh, orsAt, andsAt, operatorAt}
 use Rattle.model.proofs.Tests.{and-inv}
 use Rattle.tokens.specs.Table.{Table, fixed, tokenOf, tokenAt, tokensAt}
-use Rattle.elaborate.specs.Counts.{orsIn, andsIn, signIn, skipIn, plain, Place, Stepped, Counted}
+use Rattle.elaborate.specs.Counts.{orsIn, andsIn, signIn, skipIn, kindIn, plain, Place, Stepped, Counted}
 
 -- the kinds of signs are 7 to 12
 abbrev pub signOf : ℕ → Sign
@@ -105,7 +105,7 @@ one-on : (t : Token) (ts : List Token) (n d : ℕ) → d ≡ n + 1 → ahead (dr
 one-on t ts n d e = ap (λ (m : ℕ). ahead (drop m (t ∷ ts))) (sym (e ∙ add-one n))
 
 module _ (k next after r : ℕ) where
-  pub step-sign : (leb 7 k && leb k 12) ≡ true → (s : ℕ) → s ≡ k - 7 → (orsIn r ≡ orsIn next) × (andsIn r ≡ andsIn next) × (signIn r ≡ s) × (skipIn r ≡ skipIn next + 1) → Stepped k next after r
+  pub step-sign : (leb 7 k && leb k 12) ≡ true → (s : ℕ) → s ≡ k - 7 → (orsIn r ≡ orsIn next) × (andsIn r ≡ andsIn next) × (signIn r ≡ s) × (skipIn r ≡ skipIn next + 1) × (kindIn r ≡ k) → Stepped k next after r
   unfolding orsAt andsAt operatorAt
   step-sign i s es p =
       let j = and-inv (leb 7 k) (leb k 12) i in
@@ -116,31 +116,34 @@ module _ (k next after r : ℕ) where
             (ap suc (p .2) ∙ ap suc es ∙ sign-number (k - 7) (omega arith) ∙ ap (λ (m : ℕ). operatorOf (signOf m)) (seven (omega arith)))
             (n .level ∙ one-on (tokenOf k [] 0) ts (skipIn next) (skipIn r) (p .3))
             (omega (arith, p .0, n .ors-most)) (omega (arith, p .1, n .ands-most)) (omega (arith, p .3, n .skip-most));
+        kind-is = p .4;
       }
     where
       seven : 7 ≤ k → 7 + (k - 7) ≡ k
       seven h = omega arith
 
-  pub step-or : k ≡ 18 → (orsIn r ≡ orsIn next + 1) × (andsIn r ≡ 0) × (signIn r ≡ signIn next) × (skipIn r ≡ skipIn next + 1) → Stepped k next after r
+  pub step-or : k ≡ 18 → (orsIn r ≡ orsIn next + 1) × (andsIn r ≡ 0) × (signIn r ≡ signIn next) × (skipIn r ≡ skipIn next + 1) × (kindIn r ≡ k) → Stepped k next after r
   unfolding orsAt andsAt operatorAt
   step-or i p = record {
     place = λ ts n a. stands k r ts (oneOr (top (ahead ts)) ∷ outer (ahead ts)) (rw i)
         (p .0 ∙ add-one (orsIn next) ∙ ap suc (n .ors)) (p .1) (ap suc (p .2) ∙ n .operator)
         (n .level ∙ one-on (tokenOf k [] 0) ts (skipIn next) (skipIn r) (p .3))
         (omega (arith, p .0, n .ors-most)) (omega (arith, p .1)) (omega (arith, p .3, n .skip-most));
+    kind-is = p .4;
   }
 
-  pub step-and : k ≡ 19 → (orsIn r ≡ orsIn next) × (andsIn r ≡ andsIn next + 1) × (signIn r ≡ signIn next) × (skipIn r ≡ skipIn next + 1) → Stepped k next after r
+  pub step-and : k ≡ 19 → (orsIn r ≡ orsIn next) × (andsIn r ≡ andsIn next + 1) × (signIn r ≡ signIn next) × (skipIn r ≡ skipIn next + 1) × (kindIn r ≡ k) → Stepped k next after r
   unfolding orsAt andsAt operatorAt
   step-and i p = record {
     place = λ ts n a. stands k r ts (oneAnd (top (ahead ts)) ∷ outer (ahead ts)) (rw i)
         (p .0 ∙ n .ors) (p .1 ∙ add-one (andsIn next) ∙ ap suc (n .ands)) (ap suc (p .2) ∙ n .operator)
         (n .level ∙ one-on (tokenOf k [] 0) ts (skipIn next) (skipIn r) (p .3))
         (omega (arith, p .0, n .ors-most)) (omega (arith, p .1, n .ands-most)) (omega (arith, p .3, n .skip-most));
+    kind-is = p .4;
   }
 
   -- ( goes back to the level around: that of the place after its )
-  pub step-left : k ≡ 20 → (orsIn r ≡ orsIn after) × (andsIn r ≡ andsIn after) × (signIn r ≡ signIn after) × (skipIn r ≡ skipIn next + 1 + skipIn after) → Stepped k next after r
+  pub step-left : k ≡ 20 → (orsIn r ≡ orsIn after) × (andsIn r ≡ andsIn after) × (signIn r ≡ signIn after) × (skipIn r ≡ skipIn next + 1 + skipIn after) × (kindIn r ≡ k) → Stepped k next after r
   unfolding orsAt andsAt operatorAt
   step-left i p = record {
     place = λ ts n a.
@@ -149,23 +152,26 @@ module _ (k next after r : ℕ) where
         (p .0 ∙ a .ors) (p .1 ∙ a .ands) (ap suc (p .2) ∙ a .operator)
         (a .level ∙ ap ahead (drop-drop (skipIn after) (skipIn next) ts) ∙ one-on (tokenOf k [] 0) ts (skipIn next + skipIn after) (skipIn r) (omega (arith, p .3)))
         (omega (arith, p .0, a .ors-most, l)) (omega (arith, p .1, a .ands-most, l)) (omega (arith, p .3, a .skip-most, n .skip-most, l));
+    kind-is = p .4;
   }
 
-  pub step-right : k ≡ 21 → (orsIn r ≡ 0) × (andsIn r ≡ 0) × (signIn r ≡ 0) × (skipIn r ≡ 1) → Stepped k next after r
+  pub step-right : k ≡ 21 → (orsIn r ≡ 0) × (andsIn r ≡ 0) × (signIn r ≡ 0) × (skipIn r ≡ 1) × (kindIn r ≡ k) → Stepped k next after r
   step-right i p = record {
     place = λ ts n a. stands k r ts (fresh ∷ ahead ts) (rw i)
         (p .0) (p .1) (ap suc (p .2)) (ap (λ (m : ℕ). ahead (drop m (tokenOf k [] 0 ∷ ts))) (sym (p .3)))
         (omega (arith, p .0)) (omega (arith, p .1)) (omega (arith, p .3));
+    kind-is = p .4;
   }
 
   pub step-rest : (leb 7 k && leb k 12) ≡ false → (k ≡ 18 → ⊥) → (k ≡ 19 → ⊥) → (k ≡ 20 → ⊥) → (k ≡ 21 → ⊥)
-      → (orsIn r ≡ orsIn next) × (andsIn r ≡ andsIn next) × (signIn r ≡ signIn next) × (skipIn r ≡ skipIn next + 1) → Stepped k next after r
+      → (orsIn r ≡ orsIn next) × (andsIn r ≡ andsIn next) × (signIn r ≡ signIn next) × (skipIn r ≡ skipIn next + 1) × (kindIn r ≡ k) → Stepped k next after r
   unfolding orsAt andsAt operatorAt
   step-rest i a b c d p = record {
     place = λ ts n _. stands k r ts (ahead ts) (rw (i, ne-eqb k 18 a, ne-eqb k 19 b, ne-eqb k 20 c, ne-eqb k 21 d))
         (p .0 ∙ n .ors) (p .1 ∙ n .ands) (ap suc (p .2) ∙ n .operator)
         (n .level ∙ one-on (tokenOf k [] 0) ts (skipIn next) (skipIn r) (p .3))
         (omega (arith, p .0, n .ors-most)) (omega (arith, p .1, n .ands-most)) (omega (arith, p .3, n .skip-most));
+    kind-is = p .4;
   }
 
 pub and-low : (k : ℕ) → (leb 7 k && leb k 12) ≡ true → (7 ≤ k) × (k ≤ 12)
@@ -191,19 +197,21 @@ unfolding plain
 plain-cons ks i h = rw (add-one, drop-cons ks i 0)
 
 abbrev pub From : List ℕ → List ℕ → ℕ → Type 0
-From ks cs i = (j : ℕ) → i ≤ j → j ≤ length ks → Place (getD cs j 0) (plain (drop j ks))
+From ks cs i = (j : ℕ) → i ≤ j → j ≤ length ks → Place (getD cs j 0) (plain (drop j ks)) × (kindIn (getD cs j 0) ≡ getD ks j 0)
 
 pub from-end : (ks cs : List ℕ) → length ks < length cs → From ks (set cs (length ks) 0) (length ks)
 unfolding orsAt andsAt operatorAt ahead plain
 from-end ks cs h j a b =
     let e : j ≡ length ks = omega arith in
-    subst (λ (i : ℕ). Place (getD (set cs (length ks) 0) i 0) (plain (drop i ks))) (sym e)
-    (rw (getD-set-same cs (length ks) 0 0 h, drop-length ks) (record { ors = refl; ands = refl; operator = refl; level = refl; ors-most = omega arith; ands-most = omega arith; skip-most = omega arith }))
+    subst (λ (i : ℕ). Place (getD (set cs (length ks) 0) i 0) (plain (drop i ks)) × (kindIn (getD (set cs (length ks) 0) i 0) ≡ getD ks i 0)) (sym e) (
+      rw (getD-set-same cs (length ks) 0 0 h, drop-length ks) (record { ors = refl; ands = refl; operator = refl; level = refl; ors-most = omega arith; ands-most = omega arith; skip-most = omega arith }),
+      ap kindIn (getD-set-same cs (length ks) 0 0 h) ∙ sym (List·getD-eq-default ks 0 (omega arith)),
+    )
 
 module _ (ks cs : List ℕ) (i : ℕ) (h : i < length ks) (k : length ks < length cs) (f : From ks cs (i + 1)) where
   pub next-most : (orsIn (getD cs (i + 1) 0) ≤ length ks) × (andsIn (getD cs (i + 1) 0) ≤ length ks) × (i + 1 + skipIn (getD cs (i + 1) 0) ≤ length ks)
   next-most =
-      let p = f (i + 1) (omega arith) (omega arith) in
+      let p = f (i + 1) (omega arith) (omega arith) .0 in
       let l = plain-length (drop (i + 1) ks) ∙ length-drop (i + 1) ks in
       (omega (arith, p .ors-most, l), omega (arith, p .ands-most, l), omega (arith, p .skip-most, l))
 
@@ -213,10 +221,10 @@ module _ (ks cs : List ℕ) (i : ℕ) (h : i < length ks) (k : length ks < lengt
   the-after : Place after (drop (skipIn (getD cs (i + 1) 0)) (plain (drop (i + 1) ks)))
   the-after =
       subst (λ (ts : List Token). Place after ts) (ap plain (sym (drop-drop (skipIn (getD cs (i + 1) 0)) (i + 1) ks)) ∙ plain-drop (skipIn (getD cs (i + 1) 0)) (drop (i + 1) ks))
-      (f (i + 1 + skipIn (getD cs (i + 1) 0)) (omega arith) (next-most .2))
+      (f (i + 1 + skipIn (getD cs (i + 1) 0)) (omega arith) (next-most .2) .0)
 
   pub after-most : skipIn after ≤ length ks
-  after-most = omega (arith, f (i + 1 + skipIn (getD cs (i + 1) 0)) (omega arith) (next-most .2) .skip-most, plain-length (drop (i + 1 + skipIn (getD cs (i + 1) 0)) ks) ∙ length-drop (i + 1 + skipIn (getD cs (i + 1) 0)) ks)
+  after-most = omega (arith, f (i + 1 + skipIn (getD cs (i + 1) 0)) (omega arith) (next-most .2) .0 .skip-most, plain-length (drop (i + 1 + skipIn (getD cs (i + 1) 0)) ks) ∙ length-drop (i + 1 + skipIn (getD cs (i + 1) 0)) ks)
 
   pub from-next : (r : ℕ) → Stepped (getD ks i 0) (getD cs (i + 1) 0) after r → From ks (set cs i r) i
   from-next r s j a b = at-place (eqb j i) refl
@@ -224,10 +232,10 @@ module _ (ks cs : List ℕ) (i : ℕ) (h : i < length ks) (k : length ks < lengt
       other : (j ≡ i → ⊥) → i + 1 ≤ j
       other n = omega arith
 
-      at-place : (t : Bool) → eqb j i ≡ t → Place (getD (set cs i r) j 0) (plain (drop j ks))
+      at-place : (t : Bool) → eqb j i ≡ t → Place (getD (set cs i r) j 0) (plain (drop j ks)) × (kindIn (getD (set cs i r) j 0) ≡ getD ks j 0)
       at-place true e =
-          subst (λ (n : ℕ). Place (getD (set cs i r) n 0) (plain (drop n ks))) (sym (eqb-true j i e))
-          (rw (getD-set-same cs i r 0 (omega arith), plain-cons ks i h) (s .place (plain (drop (i + 1) ks)) (f (i + 1) (omega arith) (omega arith)) the-after))
+          subst (λ (n : ℕ). Place (getD (set cs i r) n 0) (plain (drop n ks)) × (kindIn (getD (set cs i r) n 0) ≡ getD ks n 0)) (sym (eqb-true j i e))
+          (rw (getD-set-same cs i r 0 (omega arith), plain-cons ks i h) (s .place (plain (drop (i + 1) ks)) (f (i + 1) (omega arith) (omega arith) .0) the-after), ap kindIn (getD-set-same cs i r 0 (omega arith)) ∙ s .kind-is)
       at-place false e = rw (getD-set-other cs i j r 0 (eqb-false j i e)) (f j (omega (arith, other (eqb-false j i e))) b)
 
 -- with the words and numbers of a table

@@ -8,7 +8,7 @@ use native.Mathlib.Omega.{arith}
 use native.Mathlib.Numerals.{add-one}
 use lib.Dec.{eqb, leb}
 use lib.ListN.{length, getD, set}
-use lib.Seq.{sets}
+use lib.Seq.{sets, getD-set-same, getD-set-other}
 use borrow.Author.Tests.{ne-eqb, eqb-true, eqb-false}
 use Rattle.model.specs.Lists.{concatMap}
 use Rattle.model.specs.Encoding.{encodeRanges}
@@ -23,8 +23,8 @@ use Rattle.elaborate.specs.Places.{table, tokensFrom, nameIn}
 use Rattle.elaborate.specs.Numbers.{Used}
 use Rattle.elaborate.proofs.marks.Walks.{from-cons, from-end, here, here-is}
 use Rattle.elaborate.specs.declared.reach.Known.the-variants as K
-use Rattle.elaborate.specs.Reach.{modeIn, relationIn, variableIn, placeIn, Bound, rangeSymbol, knownBy, knownOf, standing}
-use Rattle.elaborate.specs.Tables.{Same, Named, Holds}
+use Rattle.elaborate.specs.Reach.{modeIn, relationIn, variableIn, placeIn, usedIn, Bound, rangeSymbol, knownBy, knownOf, standing}
+use Rattle.elaborate.specs.Tables.{Same, Named, Clear, Holds}
 use Rattle.elaborate.proofs.reach.Holds.{holds-none, holds-more}
 use Rattle.elaborate.proofs.items.Ranges.{bound-kind}
 use Rattle.elaborate.specs.After.{ended}
@@ -32,7 +32,7 @@ use Rattle.elaborate.proofs.turns.Laws.{ended-before}
 use Rattle.elaborate.specs.declared.binds.Tally.{Tally}
 use Rattle.elaborate.specs.declared.binds.Ranges.{Ranges}
 use Rattle.elaborate.specs.declared.binds.Ranges.the-variants as R
-use Rattle.elaborate.specs.Tallies.{listing, openRelation, symbolsIn, boundFrom, toDo, afterToken, Binds, afterAll, Counts, Stands, Adds, Fills}
+use Rattle.elaborate.specs.Tallies.{listing, openRelation, symbolsIn, boundFrom, toDo, afterToken, Binds, afterAll, Counts, Stands, Tells, Adds, Fills}
 
 -- one symbol more
 module _ (es : List Entry) (d : List ℕ) (at : ℕ) (done : List Symbol) (F : List Symbol → ℕ → Written) (x : Word) (q : ℕ) where
@@ -206,17 +206,38 @@ module _ (w : ℕ → Word) (ids known : List ℕ) (cs : List Bound) (f : Same w
       rw (ea, map-append (rangeSymbol w) cs (entered ∷ []))
       (holds-more w ids known (map (rangeSymbol w) cs) g f i e (rangeSymbol w entered) room refl says pe)
 
+-- what is marked, before the first symbol and after one more
+pub tells-first : (known : List ℕ) → Clear known → Tells known known
+tells-first known z x = ap (λ (m : ℕ). cond (eqb m 0) (not (eqb (getD known x 0) 0)) (eqb m 1)) (z x .0)
+
+pub tells-more : (marks known : List ℕ) (x e : ℕ) (b : Bool) → b ≡ usedIn (getD known x 0) → modeIn e ≡ cond b 1 2 → x < length known
+    → (after : List ℕ) → after ≡ cond (eqb (modeIn (getD known x 0)) 0) (set known x e) known → Tells marks known → Tells marks after
+tells-more marks known x e b eb me room after ea t = subst (Tells marks) (sym ea) (go (eqb (modeIn (getD known x 0)) 0))
+  where
+    entry : (b : Bool) → modeIn e ≡ cond b 1 2 → usedIn e ≡ b
+    entry true m = ap (λ (m : ℕ). cond (eqb m 0) (not (eqb e 0)) (eqb m 1)) m
+    entry false m = ap (λ (m : ℕ). cond (eqb m 0) (not (eqb e 0)) (eqb m 1)) m
+
+    at : (y : ℕ) (f : Bool) → eqb y x ≡ f → usedIn (getD (set known x e) y 0) ≡ not (eqb (getD marks y 0) 0)
+    at y true f = subst (λ (z : ℕ). usedIn (getD (set known x e) z 0) ≡ not (eqb (getD marks z 0) 0)) (sym (eqb-true y x f)) (ap usedIn (getD-set-same known x e 0 room) ∙ entry b me ∙ eb ∙ t x)
+    at y false f = ap usedIn (getD-set-other known x y e 0 (eqb-false y x f)) ∙ t y
+
+    go : (f : Bool) → Tells marks (cond f (set known x e) known)
+    go true y = at y (eqb y x) refl
+    go false y = t y
+
 -- the RANGE list so far
 pub record Filling (ks ids marks codes : List ℕ) (es : List Entry) (from known out : List ℕ) (s : Tally) (i : ℕ) : Type 0 where
   pub symbols : List Bound
-  pub ends : (text ss ls ns : List ℕ) (main : ℕ) → Named (nameIn text ks ss ls) ids codes → Used text (table ks ss ls ns) ids main marks → (F : List Symbol → ℕ → Written)
-      → ended from 0 (listing es [] F (boundFrom text (table ks ss ls ns) es main none 0 0)) ≡ ended out (s .at) (toDo text (table ks ss ls ns) es main F i s symbols)
+  pub ends : (text ss ns : List ℕ) (main : ℕ) → Named (nameIn text ks ss) ids codes → Used text (table ks ss ns) ids main marks → (F : List Symbol → ℕ → Written)
+      → ended from 0 (listing es [] F (boundFrom text (table ks ss ns) es main none 0 0)) ≡ ended out (s .at) (toDo text (table ks ss ns) es main F i s symbols)
   pub stands : (w : ℕ → Word) → Same w ids → Holds w ids known 0 0 (map (rangeSymbol w) symbols)
+  pub tells : Tells marks known
 
 module _ (ks ids marks codes : List ℕ) (es : List Entry) (start : List ℕ) where
   -- no name stands for anything yet
-  pub filling-none : (known : List ℕ) → ((x : ℕ) → getD known x 0 ≡ 0) → Filling ks ids marks codes es start known start (record { inside = false; relation = 0; n = 0; at = 0 }) 0
-  filling-none known z = record { symbols = []; ends = λ text ss ls ns main nm u F. refl; stands = λ w f. holds-none w ids known 0 z }
+  pub filling-none : (known : List ℕ) → Clear known → Tells marks known → Filling ks ids marks codes es start known start (record { inside = false; relation = 0; n = 0; at = 0 }) 0
+  filling-none known z t = record { symbols = []; ends = λ text ss ns main nm u F. refl; stands = λ w f. holds-none w ids known 0 z; tells = t }
 
   module _ (known out : List ℕ) (s : Tally) (i : ℕ) (h : i < length ks) (g : Filling ks ids marks codes es start known out s i) where
     -- a name
@@ -224,14 +245,15 @@ module _ (ks ids marks codes : List ℕ) (es : List Entry) (start : List ℕ) wh
       pub filling-on : (u : Tally) → r ≡ R.Listed u → Filling ks ids marks codes es start after to u (i + 1)
       filling-on u eu = record {
         symbols = a .symbols;
-        ends = λ text ss ls ns main nm us F. on text (table ks ss ls ns) es main i s (g .symbols) out (a .symbols) to r (a .binds text ks ss ls ns main h e nm us) u eu F _ (g .ends text ss ls ns main nm us F);
+        ends = λ text ss ns main nm us F. on text (table ks ss ns) es main i s (g .symbols) out (a .symbols) to r (a .binds text ks ss ns main h e nm us (g .tells)) u eu F _ (g .ends text ss ns main nm us F);
         stands = λ w f. subst (λ (x : Ranges). Stands w ids x (a .symbols) after) eu (a .stands w f (g .stands w f));
+        tells = a .tells (g .tells);
       }
 
       pub fills-off : r ≡ R.Refused → (known′ : List ℕ) → Fills ks ids marks codes es start R.Refused known′ to
       fills-off eu known′ = record {
         symbols = [];
-        whole = λ text ss ls ns main nm us. record { ends = λ F. off text (table ks ss ls ns) es main i s (g .symbols) out (a .symbols) to r (a .binds text ks ss ls ns main h e nm us) eu F _ (g .ends text ss ls ns main nm us F) };
+        whole = λ text ss ns main nm us. record { ends = λ F. off text (table ks ss ns) es main i s (g .symbols) out (a .symbols) to r (a .binds text ks ss ns main h e nm us (g .tells)) eu F _ (g .ends text ss ns main nm us F) };
         stands = λ w f. tt;
       }
 
@@ -239,16 +261,17 @@ module _ (ks ids marks codes : List ℕ) (es : List Entry) (start : List ℕ) wh
     pub filling-next : (getD ks i 0 ≡ 0 → ⊥) → (getD ks i 0 ≡ 14 → ⊥) → (u : Tally) → u ≡ cond (eqb (getD ks i 0) 21) (record { inside = false; relation = 0; n = s .n; at = s .at }) s → Filling ks ids marks codes es start known out u (i + 1)
     filling-next a b u eu = record {
       symbols = g .symbols;
-      ends = λ text ss ls ns main nm us F. on text (table ks ss ls ns) es main i s (g .symbols) out (g .symbols) out (R.Listed u) (next text (table ks ss ls ns) es main i h s (g .symbols) out a b u eu) u refl F _ (g .ends text ss ls ns main nm us F);
+      ends = λ text ss ns main nm us F. on text (table ks ss ns) es main i s (g .symbols) out (g .symbols) out (R.Listed u) (next text (table ks ss ns) es main i h s (g .symbols) out a b u eu) u refl F _ (g .ends text ss ns main nm us F);
       stands = g .stands;
+      tells = g .tells;
     }
 
   -- at RETRIEVE, or after the last token
   pub fills : (known out : List ℕ) (s : Tally) (i : ℕ) → Filling ks ids marks codes es start known out s i
-      → ((text ss ls ns : List ℕ) (main : ℕ) → boundFrom text (table ks ss ls ns) es main (openRelation s) (s .n) i ≡ ok [] (s .n)) → Fills ks ids marks codes es start (R.Listed s) known out
+      → ((text ss ns : List ℕ) (main : ℕ) → boundFrom text (table ks ss ns) es main (openRelation s) (s .n) i ≡ ok [] (s .n)) → Fills ks ids marks codes es start (R.Listed s) known out
   fills known out s i g l = record {
     symbols = g .symbols;
-    whole = λ text ss ls ns main nm us. record { ends = λ F. g .ends text ss ls ns main nm us F ∙ finish es out (s .at) (symbolsIn text (table ks ss ls ns) es main (g .symbols)) F (s .n) (boundFrom text (table ks ss ls ns) es main (openRelation s) (s .n) i) (l text ss ls ns main) };
+    whole = λ text ss ns main nm us. record { ends = λ F. g .ends text ss ns main nm us F ∙ finish es out (s .at) (symbolsIn text (table ks ss ns) es main (g .symbols)) F (s .n) (boundFrom text (table ks ss ns) es main (openRelation s) (s .n) i) (l text ss ns main) };
     stands = g .stands;
   }
 

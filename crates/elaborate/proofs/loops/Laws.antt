@@ -18,7 +18,7 @@ use Rattle.elaborate.proofs.reach.Holds.{holds-open}
 use Rattle.elaborate.specs.declared.turns.State.{State}
 use Rattle.elaborate.specs.declared.turns.Next.{Next}
 use Rattle.elaborate.specs.declared.turns.Next.the-variants as N
-use Rattle.elaborate.specs.Counts.{plain, Place, Counted}
+use Rattle.elaborate.specs.Counts.{kindIn, plain, Place, Counted}
 use Rattle.elaborate.specs.Frames.{Under, Stack}
 use Rattle.elaborate.specs.After.{ended, modeOf, left, Going, GoesOn, Within}
 
@@ -53,7 +53,7 @@ within s u r w e = subst (Within s) e w
 
 -- the RANGE list's frame stands in place of what was counted for the first token
 pub counted-first : (ks cs : List ℕ) (n : ℕ) → 1 ≤ n → Counted ks cs 0 → Counted ks (set cs 0 0) n
-counted-first ks cs n h c = record { at = λ i l m. subst (λ (x : ℕ). Place x (plain (drop i ks))) (sym (getD-set-other cs 0 i 0 0 (λ z. omega (arith, z)))) (c .at i (omega arith) m) }
+counted-first ks cs n h c = record { at = λ i l m. subst (λ (x : ℕ). Place x (plain (drop i ks))) (sym (getD-set-other cs 0 i 0 0 (λ z. omega (arith, z)))) (c .at i (omega arith) m); kind = λ i l m. ap kindIn (getD-set-other cs 0 i 0 0 (λ z. omega (arith, z))) ∙ c .kind i (omega arith) m }
 
 pub counted-at : (ks cs : List ℕ) (n m : ℕ) → m ≡ n → Counted ks cs n → Counted ks cs m
 counted-at ks cs n m e c = subst (Counted ks cs) (sym e) c

@@ -93,9 +93,9 @@ module _ (text : List ℕ) (t : Table) (p i : ℕ) (h : i < length (t .kinds)) w
           ∙ shuffle (hasWord (said i) later) (uniqueWords later) (any (λ (x : ℕ). sameWord (said x) (said i)) xs) (all (λ (x : ℕ). not (hasWord (said x) later)) xs)
       go false = refl
 
-module _ (text ks ss ls ns ids : List ℕ) where
+module _ (text ks ss ns ids : List ℕ) where
   abbrev t : Table
-  t = table ks ss ls ns
+  t = table ks ss ns
 
   abbrev onceFrom : ℕ → ℕ → List ℕ → Bool
   onceFrom p i xs = let ws = binders p (tokensFrom text t i) in uniqueWords ws && all (λ (x : ℕ). not (hasWord (here text t (boundPlace ks x)) ws)) xs
@@ -129,7 +129,7 @@ module _ (text ks ss ls ns ids : List ℕ) where
     }
       where
         go : (x : ℕ) (b : Bool) → marked ids (cond b (set seen (getD ids (boundPlace ks i) 0) 1) seen) x ≡ any (λ (y : ℕ). sameWord (here text t (boundPlace ks y)) (here text t x)) (cond b (i ∷ f .places) (f .places))
-        go x true = mark-bound (here text t) (length ks) ids g seen (boundPlace ks i) room x ∙ ap (λ (b : Bool). sameWord (here text t (boundPlace ks i)) (here text t x) || b) (f .marks .at x)
+        go x true = mark-bound (here text t) (length ks) ids g seen (boundPlace ks i) 1 (omega arith) room x ∙ ap (λ (b : Bool). sameWord (here text t (boundPlace ks i)) (here text t x) || b) (f .marks .at x)
         go x false = f .marks .at x
 
     pub left-twice : r ≡ false → false ≡ uniqueWords (binders 0 (tokensFrom text t 0))

@@ -41,12 +41,12 @@ pub spelt-at : (text : List ℕ) (t : Table) → Coded text t (length (t .kinds)
 spelt-at text t c x s = go (leb (length (t .kinds)) x) (eqb (getD (t .kinds) x 0) 0) refl refl
   where
     go : (a b : Bool) → leb (length (t .kinds)) x ≡ a → eqb (getD (t .kinds) x 0) 0 ≡ b → (x < length (t .kinds)) × Spelt (here text t x) (getD (t .numbers) x 0)
-    go true b e g = absurd (omega (arith, ap length (name-past text (t .kinds) (t .starts) (t .lengths) x (leb-true (length (t .kinds)) x e)), s))
+    go true b e g = absurd (omega (arith, ap length (name-past text (t .kinds) (t .starts) x (leb-true (length (t .kinds)) x e)), s))
     go false true e g =
         let l = leb-false (length (t .kinds)) x e in
         let z = eqb-true (getD (t .kinds) x 0) 0 g in
         (l, subst (λ (v : Word). Spelt v (getD (t .numbers) x 0)) (sym (here-is text t x l z)) (c .spelt x l z .0))
-    go false false e g = absurd (omega (arith, ap length (name-other text (t .kinds) (t .starts) (t .lengths) x (eqb-false (getD (t .kinds) x 0) 0 g)), s))
+    go false false e g = absurd (omega (arith, ap length (name-other text (t .kinds) (t .starts) x (eqb-false (getD (t .kinds) x 0) 0 g)), s))
 
 -- the name at a token of kind 0
 module _ (text : List ℕ) (t : Table) (c : Coded text t (length (t .kinds))) (i : ℕ) (l : i < length (t .kinds)) (z : getD (t .kinds) i 0 ≡ 0) where
@@ -255,13 +255,13 @@ module _ (w : ℕ → Word) where
           ap₂ sameWord (no-letters (w x) z) (no-letters (w y) o) ∙ sym (eq-eqb (getD ids x 0) (getD ids y 0) (f .none x z ∙ sym (f .none y o)))
 
 -- one mark more
-module _ (w : ℕ → Word) (n : ℕ) (ids : List ℕ) (f : Numbered w n ids) (marks : List ℕ) (i : ℕ) (room : getD ids i 0 < length marks) (x : ℕ) where
+module _ (w : ℕ → Word) (n : ℕ) (ids : List ℕ) (f : Numbered w n ids) (marks : List ℕ) (i v : ℕ) (set-v : 0 < v) (room : getD ids i 0 < length marks) (x : ℕ) where
   abbrev more : List ℕ
-  more = set marks (getD ids i 0) 1
+  more = set marks (getD ids i 0) v
 
   mark : (t : Bool) → (t ≡ true → getD ids i 0 ≡ getD ids x 0) → (t ≡ false → getD ids x 0 ≡ getD ids i 0 → ⊥) → marked ids more x ≡ (t || marked ids marks x)
-  mark true h k = ap (λ (j : ℕ). not (eqb (getD more j 0) 0)) (sym (h refl)) ∙ ap (λ (v : ℕ). not (eqb v 0)) (getD-set-same marks (getD ids i 0) 1 0 room)
-  mark false h k = ap (λ (v : ℕ). not (eqb v 0)) (getD-set-other marks (getD ids i 0) (getD ids x 0) 1 0 (k refl))
+  mark true h k = ap (λ (j : ℕ). not (eqb (getD more j 0) 0)) (sym (h refl)) ∙ ap (λ (v : ℕ). not (eqb v 0)) (getD-set-same marks (getD ids i 0) v 0 room) ∙ ap not (ne-eqb v 0 (λ e. omega (arith, e)))
+  mark false h k = ap (λ (v : ℕ). not (eqb v 0)) (getD-set-other marks (getD ids i 0) (getD ids x 0) v 0 (k refl))
 
   pub mark-use : marked ids more x ≡ (sameWord (w x) (w i) || marked ids marks x)
   mark-use = mark (sameWord (w x) (w i)) (λ e. sym (eqb-true (getD ids x 0) (getD ids i 0) (sym (f .same x i) ∙ e))) (λ e. eqb-false (getD ids x 0) (getD ids i 0) (sym (f .same x i) ∙ e))

@@ -7,12 +7,12 @@ use native.Mathlib.Omega.{arith}
 use native.Mathlib.Nat.{add-zero, add-suc}
 use native.Mathlib.Numerals.{add-one}
 use lib.Dec.{eqb, leb, ltb}
-use lib.ListN.{length, getD, take, drop, drop-of-length-le}
+use lib.ListN.{length, getD, drop, drop-of-length-le}
 use lib.Seq.{drop-cons}
 use borrow.Author.Tests.{ne-eqb, lt-ltb, le-ltb, eqb-true, eqb-false, ltb-true, ltb-false, leb-true, leb-false}
 use Rattle.model.specs.Lists.{any}
 use Rattle.quel.specs.Results.{Word, sameWord, hasWord, uniqueWords}
-use Rattle.quel.specs.Tokens.{Token, point}
+use Rattle.quel.specs.Tokens.{Token, point, isLetter, run}
 use Rattle.quel.specs.Reader.{starts}
 use Rattle.quel.specs.Ahead.{wordAt, wordOf}
 use Rattle.tokens.specs.Table.{Table, tokenOf, wordIn, tokenAt, tokensAt}
@@ -43,7 +43,7 @@ module _ (text : List ℕ) (t : Table) where
       go r false e = ap (drop (suc j)) (from-end i (ltb-false i (length (t .kinds)) e)) ∙ sym (from-end (i + suc j) (omega (arith, ltb-false i (length (t .kinds)) e)))
 
   abbrev pub here : ℕ → Word
-  here i = nameIn text (t .kinds) (t .starts) (t .lengths) i
+  here i = nameIn text (t .kinds) (t .starts) i
 
   -- the name at a token of kind 0
   pub here-is : (i : ℕ) → i < length (t .kinds) → getD (t .kinds) i 0 ≡ 0 → here i ≡ wordIn text t i
@@ -266,18 +266,18 @@ module _ (k p : ℕ) where
   unfolding partKind
   part-rest a g h = rw (ne-eqb k 14 a, ne-eqb k 20 g, ne-eqb k 21 h)
 
-module _ (text ks ss ls : List ℕ) (i : ℕ) where
-  pub name-past : length ks ≤ i → [] ≡ nameIn text ks ss ls i
+module _ (text ks ss : List ℕ) (i : ℕ) where
+  pub name-past : length ks ≤ i → [] ≡ nameIn text ks ss i
   unfolding nameIn
   name-past h = rw (le-ltb i (length ks) h)
 
-  pub name-other : (getD ks i 0 ≡ 0 → ⊥) → [] ≡ nameIn text ks ss ls i
+  pub name-other : (getD ks i 0 ≡ 0 → ⊥) → [] ≡ nameIn text ks ss i
   unfolding nameIn
-  name-other h = rw (ne-eqb (getD ks i 0) 0 h) (sym (ap (λ (b : Bool). cond b (take (getD ls i 0) (drop (getD ss i 0) text)) []) (and-false (ltb i (length ks)))))
+  name-other h = rw (ne-eqb (getD ks i 0) 0 h) (sym (ap (λ (b : Bool). cond b (run isLetter (drop (getD ss i 0) text)) []) (and-false (ltb i (length ks)))))
 
-  pub name-there : i < length ks → getD ks i 0 ≡ 0 → (x y : List ℕ) → x ≡ drop (getD ss i 0) text → y ≡ take (getD ls i 0) x → y ≡ nameIn text ks ss ls i
+  pub name-there : i < length ks → getD ks i 0 ≡ 0 → (x y : List ℕ) → x ≡ drop (getD ss i 0) text → y ≡ run isLetter x → y ≡ nameIn text ks ss i
   unfolding nameIn
-  name-there h e x y ex ey = rw (lt-ltb i (length ks) h, e) (ey ∙ ap (take (getD ls i 0)) ex)
+  name-there h e x y ex ey = rw (lt-ltb i (length ks) h, e) (ey ∙ ap (run isLetter) ex)
 
   pub point-there : i < length ks → leb 25 (getD ks i 0) ≡ pointIn ks i
   unfolding pointIn

@@ -15,7 +15,7 @@ use Rattle.quel.specs.Elaboration.{Symbol, symbolIn, headOnly}
 use Rattle.elaborate.specs.declared.reach.Known.{Known}
 use Rattle.elaborate.specs.declared.reach.Known.the-variants as K
 use Rattle.elaborate.specs.Reach.{modeIn, relationIn, variableIn, placeIn, knownBy, knownOf, hide, standing}
-use Rattle.elaborate.specs.Tables.{Same, Holds}
+use Rattle.elaborate.specs.Tables.{Same, Clear, Holds}
 
 -- past an aggregate's head
 known-hidden : (x : Word) (ρ : List Symbol) → knownOf (symbolIn x (map headOnly ρ)) ≡ hide true (knownOf (symbolIn x ρ))
@@ -51,9 +51,12 @@ symbol-first x s ρ = go (sameWord (s .word) x)
     go false = refl
 
 -- a table of nothing
-pub holds-none : (w : ℕ → Word) (ids known : List ℕ) (d : ℕ) → ((x : ℕ) → getD known x 0 ≡ 0) → Holds w ids known d 0 []
+pub holds-none : (w : ℕ → Word) (ids known : List ℕ) (d : ℕ) → Clear known → Holds w ids known d 0 []
 unfolding symbolIn
-holds-none w ids known d z = record { says = λ x. sym (ap (standing 0) (z (getD ids x 0))); low = λ x. omega (arith, ap placeIn (z x)); crossed = omega arith }
+holds-none w ids known d z = record { says = λ x. sym (rw (z (getD ids x 0) .0)); low = λ x. omega (arith, z x .1); crossed = omega arith }
+
+pub clear-zero : (known : List ℕ) → ((x : ℕ) → getD known x 0 ≡ 0) → Clear known
+clear-zero known z x = (ap modeIn (z x), ap placeIn (z x))
 
 module _ (w : ℕ → Word) (ids known : List ℕ) (d crossing : ℕ) (ρ : List Symbol) (h : Holds w ids known d crossing ρ) where
   -- (

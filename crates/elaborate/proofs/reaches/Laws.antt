@@ -22,7 +22,7 @@ use Rattle.kinds.proofs.Record.{enum}
 use Rattle.elaborate.specs.Reach.{modeIn, relationIn, variableIn, placeIn}
 use Rattle.elaborate.specs.Tables.{Same, Holds}
 use Rattle.elaborate.specs.Puts.{frameMode, reachAfter}
-use Rattle.elaborate.proofs.reach.Holds.{holds-none, holds-open, holds-some, holds-head}
+use Rattle.elaborate.proofs.reach.Holds.{holds-none, clear-zero, holds-open, holds-some, holds-head}
 use Rattle.elaborate.specs.Frames.{idIn, crossIn, oldIn, Under, Stack, framedReach, Opened}
 use Rattle.elaborate.specs.After.{Fits}
 
@@ -119,7 +119,7 @@ module _ (w : ℕ → Word) (ids fs : List ℕ) where
   leave-last (suc p) crossing known [] c n ec m after z s = absurd s
   leave-last (suc p) crossing known (ρ ∷ σ) c n ec m after z s =
       let g = s .1 .0 (ap modeIn (sym (ec ∙ ap (λ (j : ℕ). getD fs j 0) (less p))) ∙ m) in
-      subst (λ (j : ℕ). Stack w ids fs j 0 after σ) (sym (less p ∙ g .0)) (subst (λ (τ : Reaches). Stack w ids fs 0 0 after τ) (sym (g .1)) (holds-none w ids after 0 z))
+      subst (λ (j : ℕ). Stack w ids fs j 0 after σ) (sym (less p ∙ g .0)) (subst (λ (τ : Reaches). Stack w ids fs 0 0 after τ) (sym (g .1)) (holds-none w ids after 0 (clear-zero after z)))
 
   pub leave-frame : (p crossing : ℕ) (known : List ℕ) (σ : Reaches) (c : ℕ) → (p ≡ 0 → ⊥) → c ≡ getD fs (p - 1) 0 → (modeIn c ≡ 0 → ⊥) → (after : List ℕ) → after ≡ set known (idIn c) (oldIn c)
       → Stack w ids fs p crossing known σ → Stack w ids fs (p - 1) (crossIn c) after (around σ)

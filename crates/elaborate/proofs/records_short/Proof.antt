@@ -16,7 +16,7 @@ use Rattle.elaborate.proofs.records_short.Lts as lts
 use Rattle.elaborate.proofs.records_with.Reads as records-with-reads
 
 records-with-requires : tie.Need-records-with-requires
-records-with-requires c κs = let pre = c .before .before .before .before .before .before .before .before .before .before .pre in (omega (arith, pre .0), omega (arith, pre .0), omega (arith, pre .0), pre .1, getD-same 256 0, pre .2)
+records-with-requires c κs = let pre = c .before .before .before .before .before .before .before .before .pre in (omega (arith, pre .0), omega (arith, pre .0), omega (arith, pre .0), pre .1, getD-same 256 0, pre .2)
 
 pub records-short-spec : {M : Type 1} → statement M
 records-short-spec =

@@ -6,10 +6,10 @@ use mathlib.Core.Option.{Option, none, some}
 use mathlib.Core.Path.{_≡_, refl, sym, ap, ap₂, _∙_, subst}
 use native.Mathlib.Omega.{arith}
 use native.Mathlib.Numerals.{add-one}
-use lib.Dec.{eqb, leb}
-use lib.ListN.{length, drop, getD, set, length-append}
+use lib.Dec.{eqb, leb, ltb}
+use lib.ListN.{length, drop, getD, set, List·getD-eq-default, length-append}
 use lib.Seq.{sets}
-use borrow.Author.Tests.{eqb-true, ne-eqb, leb-true, lt-leb}
+use borrow.Author.Tests.{eqb-true, ne-eqb, leb-true, lt-leb, ltb-false}
 use native.Mathlib.Nat.{add-zero}
 use Rattle.model.proofs.Tests.{and-inv}
 use Rattle.quel.specs.Results.{Read, fail, ok, Word}
@@ -22,7 +22,7 @@ use Rattle.quel.specs.Writing.{Written, before, often, Reaches, inner, around, 
 use Rattle.kinds.specs.declared.Record.{Record}
 use Rattle.kinds.specs.declared.Record.the-variants as R
 use Rattle.tokens.specs.Table.{Table, tokenOf, tokenAt}
-use Rattle.elaborate.specs.Counts.{orsIn, andsIn, signIn, plain, Place, Counted}
+use Rattle.elaborate.specs.Counts.{orsIn, andsIn, signIn, kindIn, plain, Place, Counted}
 use Rattle.elaborate.proofs.ahead.Laws.{counted, countKind, tokens-ahead}
 use Rattle.elaborate.specs.Places.{tokensFrom, nameIn, pointIn}
 use Rattle.elaborate.proofs.marks.Walks.{from-cons, here, point-from}
@@ -223,12 +223,12 @@ module _ (text : List ℕ) (t : Table) (cs : List ℕ) (i : ℕ) (cd : Counted (
 
     -- the state after it
     module _ (d to : List ℕ) (at p : ℕ) (it : Record) (x : Item) (a k : ℕ) (b : Bool) (ek : k ≡ kind) (eb : b ≡ pointIn (t .kinds) (i + 1)) (ea : a ≡ actionOf m k b)
-        (ex : x ≡ itemOf es a (kind - 1) (T.numberHere text t i h) (here text t i) (here text t (i + 2)) (here text t (i + 3)) (here text t (i + 4)) (inner σ) n) where
+        (ex : x ≡ itemOf es a (k - 1) (T.numberHere text t i h) (here text t i) (here text t (i + 2)) (here text t (i + 3)) (here text t (i + 4)) (inner σ) n) where
       act-is : a ≡ act m
       act-is = ea ∙ ap₂ (λ (y : ℕ) (c : Bool). actionOf m y c) ek eb
 
       item-is : x ≡ itemHere m
-      item-is = ex ∙ ap (λ (y : ℕ). itemOf es y (kind - 1) (T.numberHere text t i h) (here text t i) (here text t (i + 2)) (here text t (i + 3)) (here text t (i + 4)) (inner σ) n) act-is
+      item-is = ex ∙ ap₂ (λ (y g : ℕ). itemOf es y (g - 1) (T.numberHere text t i h) (here text t i) (here text t (i + 2)) (here text t (i + 3)) (here text t (i + 4)) (inner σ) n) act-is ek
 
       pub ends-refused : x ≡ I.Refused → ended d at (loop es z (tokensFrom text t i) (modeOf m) σ n) ≡ fail
       ends-refused e =
@@ -244,7 +244,20 @@ module _ (text : List ℕ) (t : Table) (cs : List ℕ) (i : ℕ) (cd : Counted (
 
 -- frames up to the pth in place of what was counted for tokens behind
 pub counted-on : (ks cs gs : List ℕ) (i p : ℕ) → Counted ks cs i → p ≤ i → ((j : ℕ) → p < j → getD gs j 0 ≡ getD cs j 0) → Counted ks gs (i + 1)
-counted-on ks cs gs i p cd h same = record { at = λ j l m. subst (λ (c : ℕ). Place c (plain (drop j ks))) (sym (same j (omega arith))) (cd .at j (omega arith) m) }
+counted-on ks cs gs i p cd h same = record { at = λ j l m. subst (λ (c : ℕ). Place c (plain (drop j ks))) (sym (same j (omega arith))) (cd .at j (omega arith) m); kind = λ j l m. ap kindIn (same j (omega arith)) ∙ cd .kind j (omega arith) m }
+
+-- the kind of the token at i, and whether a point follows it
+module _ (ks cs : List ℕ) (i : ℕ) (cd : Counted ks cs i) (l : i < length ks) where
+  pub kind-counted : kindIn (getD cs i 0) ≡ getD ks i 0
+  kind-counted = cd .kind i (omega arith) (omega arith)
+
+  pub point-counted : leb 25 (kindIn (getD cs (i + 1) 0)) ≡ pointIn ks (i + 1)
+  unfolding pointIn
+  point-counted = ap (leb 25) (cd .kind (i + 1) (omega arith) (omega arith)) ∙ go (ltb (i + 1) (length ks)) refl
+    where
+      go : (b : Bool) → ltb (i + 1) (length ks) ≡ b → leb 25 (getD ks (i + 1) 0) ≡ (b && leb 25 (getD ks (i + 1) 0))
+      go true e = refl
+      go false e = ap (leb 25) (List·getD-eq-default ks 0 (ltb-false (i + 1) (length ks) e))
 
 -- a token that writes nothing
 pub quiet-parts : (m a : ℕ) → (leb 3 m && eqb a 0) ≡ true → (3 ≤ m) × (a ≡ 0)

@@ -61,10 +61,10 @@ abbrev μ-condition : Measures 6 condition-kinds.ps ℕ
 μ-condition κs a = 2 * (a .1 .1 .0)
 
 abbrev μ-gather : Measures 6 gather-kinds.ps ℕ
-μ-gather κs a = 2 * (a .1 .1 .0) + 1
+μ-gather κs a = 2 * (a .1 .1 .0 .level) + 1
 
 abbrev μ-some-row : Measures 6 some-row-kinds.ps ℕ
-μ-some-row κs a = 2 * (a .1 .1 .0) + 1
+μ-some-row κs a = 2 * (a .1 .1 .0 .level) + 1
 
 abbrev μ-term : Measures 6 term-kinds.ps ℕ
 μ-term κs a = 2 * (a .1 .1 .0)
@@ -107,309 +107,283 @@ some-row-claims t = (walk-of-reads.Asked, walk-of-reads.Learnt, place-reads.Aske
 abbrev term-claims : ℕ → term-lts.Claims
 term-claims t = (whole-reads.Asked, whole-reads.Learnt, byte-reads.Asked, byte-reads.Learnt, record-length-reads.Asked, record-length-reads.Learnt, term-record-reads.Asked, term-record-reads.Learnt, constant-reads.Asked, constant-reads.Learnt, place-reads.Asked, place-reads.Learnt, value-reads.Asked, value-reads.Learnt, knows-reads.Asked, knows-reads.Learnt, recall-reads.Asked, recall-reads.Learnt, tail-reads.Asked, tail-reads.Learnt, tail-sizes-reads.Asked, tail-sizes-reads.Learnt, gather-below t, gather.Post, finish-reads.Asked, finish-reads.Learnt)
 
-condition-returns : (t : ℕ) → condition-lts.Need-returns (condition-claims t) (condition-at t) condition.Post
-condition-returns t c =
-    let c₅ = c .before .before .before .before .before in let args = c₅ .args in
-    (holds-zero (now (args .walks)) (now (args .values)) (now (args .memo)) (now (args .env)) (now (args .q)) (now (args .z)) (args .level) (c .if1 .taken), search needs)
-
-condition-returns-2 : (t : ℕ) → condition-lts.Need-returns-2 (condition-claims t) (condition-at t) condition.Post
-condition-returns-2 t c =
-    let c₃ = c .before .before .before in let condition2 = c₃ .condition2 in
-    let c₅ = c₃ .before .before in let enum-told3 = c₅ .enum-told3 in
-    let c₇ = c₅ .before .before in let condition-record = c₇ .condition-record in
-    let c₈ = c₇ .before in let tail-sizes = c₈ .tail-sizes in
-    let c₉ = c₈ .before in let tail = c₉ .tail in
-    let c₁₀ = c₉ .before in let record-length = c₁₀ .record-length in
-    let c₁₁ = c₁₀ .before in let byte = c₁₁ .byte in
-    let c₁₂ = c₁₁ .before in let if1 = c₁₂ .if1 in
-    let c₁₇ = c₁₂ .before .before .before .before .before in let args = c₁₇ .args in
-    (and-no (now (args .walks)) (now (args .values)) (now (args .memo)) (now (args .env)) (now (args .q)) (now (args .z)) (args .level) _ _ _ (if1 .left) (byte .ensures) (record-length .ensures .0) (condition-record .ensures) _ _ (tail .ensures) (tail-sizes .ensures) _ (enum-told3 .given .1) (condition2 .ensures .0) (c .if2 .taken), condition2 .ensures .1)
-
-condition-returns-3 : (t : ℕ) → condition-lts.Need-returns-3 (condition-claims t) (condition-at t) condition.Post
-condition-returns-3 t c =
-    let c₃ = c .before .before .before in let condition4 = c₃ .condition4 in
-    let c₅ = c₃ .before .before in let enum-told4 = c₅ .enum-told4 in
-    let c₇ = c₅ .before .before in let condition-record = c₇ .condition-record in
-    let c₈ = c₇ .before in let tail-sizes = c₈ .tail-sizes in
-    let c₉ = c₈ .before in let tail = c₉ .tail in
-    let c₁₀ = c₉ .before in let record-length = c₁₀ .record-length in
-    let c₁₁ = c₁₀ .before in let byte = c₁₁ .byte in
-    let c₁₂ = c₁₁ .before in let if1 = c₁₂ .if1 in
-    let c₁₇ = c₁₂ .before .before .before .before .before in let args = c₁₇ .args in
-    (or-yes (now (args .walks)) (now (args .values)) (now (args .memo)) (now (args .env)) (now (args .q)) (now (args .z)) (args .level) _ _ _ (if1 .left) (byte .ensures) (record-length .ensures .0) (condition-record .ensures) _ _ (tail .ensures) (tail-sizes .ensures) _ (enum-told4 .given .1) (condition4 .ensures .0) (c .if3 .taken), condition4 .ensures .1)
-
-condition-term-requires-2 : (t : ℕ) → condition-lts.Need-term-requires-2 (condition-claims t) (condition-at t) condition.Post
-condition-term-requires-2 t c κs =
-    let c₆ = c .before .before .before .before .before .before in let term = c₆ .term in
-    let c₁₆ = c₆ .before .before .before .before .before .before .before .before .before .before in let if1 = c₁₆ .if1 in
-    let c₂₁ = c₁₆ .before .before .before .before .before in let pre = c₂₁ .pre in
-    (omega (arith, pre .0, if1 .left), omega (arith, pre .1, ap length (term .ensures .1 .1)))
-
-condition-returns-4 : (t : ℕ) → condition-lts.Need-returns-4 (condition-claims t) (condition-at t) condition.Post
-condition-returns-4 t c =
-    let c₅ = c .before .before .before .before .before in let record-length = c₅ .record-length in
-    let c₆ = c₅ .before in let byte = c₆ .byte in
-    let c₇ = c₆ .before in let if1 = c₇ .if1 in
-    let c₁₂ = c₇ .before .before .before .before .before in let args = c₁₂ .args in
-    (true-is (now (args .walks)) (now (args .values)) (now (args .memo)) (now (args .env)) (now (args .q)) (now (args .z)) (args .level) _ _ _ (if1 .left) (byte .ensures) (record-length .ensures .0) (c .before .before .condition-record .ensures) (c .enum-told .given .1), search needs)
-
-condition-returns-5 : (t : ℕ) → condition-lts.Need-returns-5 (condition-claims t) (condition-at t) condition.Post
-condition-returns-5 t c =
-    let c₂ = c .before .before in let condition = c₂ .condition in
-    let c₄ = c₂ .before .before in let enum-told2 = c₄ .enum-told2 in
-    let c₆ = c₄ .before .before in let condition-record = c₆ .condition-record in
-    let c₇ = c₆ .before in let tail-sizes = c₇ .tail-sizes in
-    let c₈ = c₇ .before in let tail = c₈ .tail in
-    let c₉ = c₈ .before in let record-length = c₉ .record-length in
-    let c₁₀ = c₉ .before in let byte = c₁₀ .byte in
-    let c₁₁ = c₁₀ .before in let if1 = c₁₁ .if1 in
-    let c₁₆ = c₁₁ .before .before .before .before .before in let args = c₁₆ .args in
-    (not-is (now (args .walks)) (now (args .values)) (now (args .memo)) (now (args .env)) (now (args .q)) (now (args .z)) (args .level) _ _ _ (if1 .left) (byte .ensures) (record-length .ensures .0) (condition-record .ensures) _ _ (tail .ensures) (tail-sizes .ensures) _ (enum-told2 .given .1) (condition .ensures .0), condition .ensures .1)
-
-condition-returns-6 : (t : ℕ) → condition-lts.Need-returns-6 (condition-claims t) (condition-at t) condition.Post
-condition-returns-6 t c =
-    let c₂ = c .before .before in let condition3 = c₂ .condition3 in
-    let c₄ = c₂ .before .before in let tail-sizes2 = c₄ .tail-sizes2 in
-    let c₅ = c₄ .before in let tail2 = c₅ .tail2 in
-    let c₆ = c₅ .before in let size-at = c₆ .size-at in
-    let c₇ = c₆ .before in let if2 = c₇ .if2 in
-    let c₁₀ = c₇ .before .before .before in let condition2 = c₁₀ .condition2 in
-    let c₁₂ = c₁₀ .before .before in let enum-told3 = c₁₂ .enum-told3 in
-    let c₁₄ = c₁₂ .before .before in let condition-record = c₁₄ .condition-record in
-    let c₁₅ = c₁₄ .before in let tail-sizes = c₁₅ .tail-sizes in
-    let c₁₆ = c₁₅ .before in let tail = c₁₆ .tail in
-    let c₁₇ = c₁₆ .before in let record-length = c₁₇ .record-length in
-    let c₁₈ = c₁₇ .before in let byte = c₁₈ .byte in
-    let c₁₉ = c₁₈ .before in let if1 = c₁₉ .if1 in
-    let c₂₄ = c₁₉ .before .before .before .before .before in let args = c₂₄ .args in
-    (and-yes (now (args .walks)) (now (args .values)) (now (args .memo)) (now (args .env)) (now (args .q)) (now (args .z)) (args .level) _ _ _ (if1 .left) (byte .ensures) (record-length .ensures .0) (condition-record .ensures) _ _ (tail .ensures) (tail-sizes .ensures) _ _ _ _ (size-at .ensures .0) refl (tail2 .ensures) (tail-sizes2 .ensures) _ _ _ (enum-told3 .given .1) (condition2 .ensures .0) (if2 .left) (condition2 .ensures .1) (condition3 .ensures .0), condition3 .ensures .1 ∙ condition2 .ensures .1)
-
-condition-returns-7 : (t : ℕ) → condition-lts.Need-returns-7 (condition-claims t) (condition-at t) condition.Post
-condition-returns-7 t c =
-    let c₂ = c .before .before in let condition5 = c₂ .condition5 in
-    let c₄ = c₂ .before .before in let tail-sizes3 = c₄ .tail-sizes3 in
-    let c₅ = c₄ .before in let tail3 = c₅ .tail3 in
-    let c₆ = c₅ .before in let size-at2 = c₆ .size-at2 in
-    let c₇ = c₆ .before in let if3 = c₇ .if3 in
-    let c₁₀ = c₇ .before .before .before in let condition4 = c₁₀ .condition4 in
-    let c₁₂ = c₁₀ .before .before in let enum-told4 = c₁₂ .enum-told4 in
-    let c₁₄ = c₁₂ .before .before in let condition-record = c₁₄ .condition-record in
-    let c₁₅ = c₁₄ .before in let tail-sizes = c₁₅ .tail-sizes in
-    let c₁₆ = c₁₅ .before in let tail = c₁₆ .tail in
-    let c₁₇ = c₁₆ .before in let record-length = c₁₇ .record-length in
-    let c₁₈ = c₁₇ .before in let byte = c₁₈ .byte in
-    let c₁₉ = c₁₈ .before in let if1 = c₁₉ .if1 in
-    let c₂₄ = c₁₉ .before .before .before .before .before in let args = c₂₄ .args in
-    (or-no (now (args .walks)) (now (args .values)) (now (args .memo)) (now (args .env)) (now (args .q)) (now (args .z)) (args .level) _ _ _ (if1 .left) (byte .ensures) (record-length .ensures .0) (condition-record .ensures) _ _ (tail .ensures) (tail-sizes .ensures) _ _ _ _ (size-at2 .ensures .0) refl (tail3 .ensures) (tail-sizes3 .ensures) _ _ _ (enum-told4 .given .1) (condition4 .ensures .0) (if3 .left) (condition4 .ensures .1) (condition5 .ensures .0), condition5 .ensures .1 ∙ condition4 .ensures .1)
-
-condition-returns-8 : (t : ℕ) → condition-lts.Need-returns-8 (condition-claims t) (condition-at t) condition.Post
-condition-returns-8 t c =
-    let c₃ = c .before .before .before in let term2 = c₃ .term2 in
-    let c₅ = c₃ .before .before in let tail-sizes4 = c₅ .tail-sizes4 in
-    let c₆ = c₅ .before in let tail4 = c₆ .tail4 in
-    let c₇ = c₆ .before in let size-at3 = c₇ .size-at3 in
-    let c₁₀ = c₇ .before .before .before in let term = c₁₀ .term in
-    let c₁₃ = c₁₀ .before .before .before in let operator = c₁₃ .operator in
-    let c₁₅ = c₁₃ .before .before in let condition-record = c₁₅ .condition-record in
-    let c₁₆ = c₁₅ .before in let tail-sizes = c₁₆ .tail-sizes in
-    let c₁₇ = c₁₆ .before in let tail = c₁₇ .tail in
-    let c₁₈ = c₁₇ .before in let record-length = c₁₈ .record-length in
-    let c₁₉ = c₁₈ .before in let byte = c₁₉ .byte in
-    let c₂₀ = c₁₉ .before in let if1 = c₂₀ .if1 in
-    let c₂₅ = c₂₀ .before .before .before .before .before in let args = c₂₅ .args in
-    (compare-is (now (args .walks)) (now (args .values)) (now (args .memo)) (now (args .env)) (now (args .q)) (now (args .z)) (args .level) _ _ _ (if1 .left) (byte .ensures) (record-length .ensures .0) (condition-record .ensures) _ _ (tail .ensures) (tail-sizes .ensures) _ _ _ _ (size-at3 .ensures .0) refl (tail4 .ensures) (tail-sizes4 .ensures) _ _ _ _ _ (operator .given .1) (term .ensures .0) (term .ensures .1 .1) (term2 .ensures .0) (c .compared .ensures), term2 .ensures .1 .1 ∙ term .ensures .1 .1)
-
-condition-returns-9 : (t : ℕ) → condition-lts.Need-returns-9 (condition-claims t) (condition-at t) condition.Post
-condition-returns-9 t c =
-    let c₂ = c .before .before in let some-row = c₂ .some-row in
-    let c₅ = c₂ .before .before .before in let variable = c₅ .variable in
-    let c₇ = c₅ .before .before in let condition-record = c₇ .condition-record in
-    let c₈ = c₇ .before in let tail-sizes = c₈ .tail-sizes in
-    let c₉ = c₈ .before in let tail = c₉ .tail in
-    let c₁₀ = c₉ .before in let record-length = c₁₀ .record-length in
-    let c₁₁ = c₁₀ .before in let byte = c₁₁ .byte in
-    let c₁₂ = c₁₁ .before in let if1 = c₁₂ .if1 in
-    let c₁₇ = c₁₂ .before .before .before .before .before in let args = c₁₇ .args in
-    (some-is (now (args .walks)) (now (args .values)) (now (args .memo)) (now (args .env)) (now (args .q)) (now (args .z)) (args .level) _ _ _ (if1 .left) (byte .ensures) (record-length .ensures .0) (condition-record .ensures) _ _ (tail .ensures) (tail-sizes .ensures) _ _ _ _ (variable .given .1) (some-row .ensures .0), some-row .ensures .1)
-
-condition-returns-10 : (t : ℕ) → condition-lts.Need-returns-10 (condition-claims t) (condition-at t) condition.Post
-condition-returns-10 t c =
-    let c₅ = c .before .before .before .before .before in let record-length = c₅ .record-length in
-    let c₆ = c₅ .before in let byte = c₆ .byte in
-    let c₇ = c₆ .before in let if1 = c₇ .if1 in
-    let c₁₂ = c₇ .before .before .before .before .before in let args = c₁₂ .args in
-    (false-is (now (args .walks)) (now (args .values)) (now (args .memo)) (now (args .env)) (now (args .q)) (now (args .z)) (args .level) _ _ _ (if1 .left) (byte .ensures) (record-length .ensures .0) (c .before .before .condition-record .ensures) (c .enum-told5 .given .1), search needs)
-
-condition-returns-11 : (t : ℕ) → condition-lts.Need-returns-11 (condition-claims t) (condition-at t) condition.Post
-condition-returns-11 t c =
-    let c₅ = c .before .before .before .before .before in let record-length = c₅ .record-length in
-    let c₆ = c₅ .before in let byte = c₆ .byte in
-    let c₇ = c₆ .before in let if1 = c₇ .if1 in
-    let c₁₂ = c₇ .before .before .before .before .before in let args = c₁₂ .args in
-    (no-condition (now (args .walks)) (now (args .values)) (now (args .memo)) (now (args .env)) (now (args .q)) (now (args .z)) (args .level) _ _ _ (if1 .left) (byte .ensures) (record-length .ensures .0) (c .before .before .condition-record .ensures) (c .enum-told6 .given .1), search needs)
-
 abbrev gather-Inv-loop : gather-lts.InvT-loop
-gather-Inv-loop q z level ws vs memo env₀ variable attribute walk n old taken₀ i₀ env taken i =
-    (set env variable old ≡ env₀)
-    × Accumulates taken (kept vs (holdsOn level q z ws vs memo env₀ variable) attribute (placeAt ws walk) i)
+gather-Inv-loop q z column ws vs memo env₀ walk n old taken₀ i₀ env taken i =
+    (set env (column .variable) old ≡ env₀)
+    × Accumulates taken (kept vs (holdsOn (column .level) q z ws vs memo env₀ (column .variable)) (column .attribute) (placeAt ws walk) i)
     × (i ≤ n) × (length env ≡ length env₀)
 
 abbrev gather-μ-loop : gather-lts.MeasureT-loop
-gather-μ-loop q z level ws vs memo env₀ variable attribute walk n old taken₀ i₀ env taken i = n - i
+gather-μ-loop q z column ws vs memo env₀ walk n old taken₀ i₀ env taken i = n - i
+
+abbrev some-row-Inv-loop : some-row-lts.InvT-loop
+some-row-Inv-loop q z asked ws vs memo env₀ walk n old i₀ env i =
+    (set env (asked .variable) old ≡ env₀)
+    × Failed (placeAt ws walk) vs (holdsOn (asked .level) q z ws vs memo env₀ (asked .variable)) i
+    × (i ≤ n) × (length env ≡ length env₀)
+
+abbrev some-row-μ-loop : some-row-lts.MeasureT-loop
+some-row-μ-loop q z asked ws vs memo env₀ walk n old i₀ env i = n - i
+
+condition-returns : (t : ℕ) → condition-lts.Need-returns (condition-claims t) (condition-at t) condition.Post
+condition-returns t c = let args = c .before .before .before .before .before .args in
+    (holds-zero (now (args .walks)) (now (args .values)) (now (args .memo)) (now (args .env)) (now (args .q)) (now (args .z)) (args .level) (c .if1 .taken), search needs)
+
+condition-returns-2 : (t : ℕ) → condition-lts.Need-returns-2 (condition-claims t) (condition-at t) condition.Post
+condition-returns-2 t c = let condition2 = c .before .before .before .condition2 in
+    let enum-told3 = c .before .before .before .before .before .enum-told3 in
+    let condition-record = c .before .before .before .before .before .before .before .condition-record in
+    let tail-sizes = c .before .before .before .before .before .before .before .before .tail-sizes in
+    let tail = c .before .before .before .before .before .before .before .before .before .tail in
+    let record-length = c .before .before .before .before .before .before .before .before .before .before .record-length in
+    let byte = c .before .before .before .before .before .before .before .before .before .before .before .byte in
+    let if1 = c .before .before .before .before .before .before .before .before .before .before .before .before .if1 in
+    let args = c .before .before .before .before .before .before .before .before .before .before .before .before .before .before .before .before .before .args in
+    (and-no (now (args .walks)) (now (args .values)) (now (args .memo)) (now (args .env)) (now (args .q)) (now (args .z)) (args .level) _ _ _ (if1 .left) (byte .ensures) (record-length .ensures .0) (condition-record .ensures) _ _ (tail .ensures) (tail-sizes .ensures) _ (enum-told3 .given .1) (condition2 .ensures .0) (c .if2 .taken), condition2 .ensures .1)
+
+condition-returns-3 : (t : ℕ) → condition-lts.Need-returns-3 (condition-claims t) (condition-at t) condition.Post
+condition-returns-3 t c = let condition4 = c .before .before .before .condition4 in
+    let enum-told4 = c .before .before .before .before .before .enum-told4 in
+    let condition-record = c .before .before .before .before .before .before .before .condition-record in
+    let tail-sizes = c .before .before .before .before .before .before .before .before .tail-sizes in
+    let tail = c .before .before .before .before .before .before .before .before .before .tail in
+    let record-length = c .before .before .before .before .before .before .before .before .before .before .record-length in
+    let byte = c .before .before .before .before .before .before .before .before .before .before .before .byte in
+    let if1 = c .before .before .before .before .before .before .before .before .before .before .before .before .if1 in
+    let args = c .before .before .before .before .before .before .before .before .before .before .before .before .before .before .before .before .before .args in
+    (or-yes (now (args .walks)) (now (args .values)) (now (args .memo)) (now (args .env)) (now (args .q)) (now (args .z)) (args .level) _ _ _ (if1 .left) (byte .ensures) (record-length .ensures .0) (condition-record .ensures) _ _ (tail .ensures) (tail-sizes .ensures) _ (enum-told4 .given .1) (condition4 .ensures .0) (c .if3 .taken), condition4 .ensures .1)
+
+condition-term-requires-2 : (t : ℕ) → condition-lts.Need-term-requires-2 (condition-claims t) (condition-at t) condition.Post
+condition-term-requires-2 t c κs = let term = c .before .before .before .before .before .before .term in
+    let if1 = c .before .before .before .before .before .before .before .before .before .before .before .before .before .before .before .before .if1 in
+    let pre = c .before .before .before .before .before .before .before .before .before .before .before .before .before .before .before .before .before .before .before .before .before .pre in
+    (omega (arith, pre .0, if1 .left), omega (arith, pre .1, ap length (term .ensures .1 .1)))
+
+condition-returns-4 : (t : ℕ) → condition-lts.Need-returns-4 (condition-claims t) (condition-at t) condition.Post
+condition-returns-4 t c = let record-length = c .before .before .before .before .before .record-length in
+    let byte = c .before .before .before .before .before .before .byte in
+    let if1 = c .before .before .before .before .before .before .before .if1 in
+    let args = c .before .before .before .before .before .before .before .before .before .before .before .before .args in
+    (true-is (now (args .walks)) (now (args .values)) (now (args .memo)) (now (args .env)) (now (args .q)) (now (args .z)) (args .level) _ _ _ (if1 .left) (byte .ensures) (record-length .ensures .0) (c .before .before .condition-record .ensures) (c .enum-told .given .1), search needs)
+
+condition-returns-5 : (t : ℕ) → condition-lts.Need-returns-5 (condition-claims t) (condition-at t) condition.Post
+condition-returns-5 t c = let condition = c .before .before .condition in
+    let enum-told2 = c .before .before .before .before .enum-told2 in
+    let condition-record = c .before .before .before .before .before .before .condition-record in
+    let tail-sizes = c .before .before .before .before .before .before .before .tail-sizes in
+    let tail = c .before .before .before .before .before .before .before .before .tail in
+    let record-length = c .before .before .before .before .before .before .before .before .before .record-length in
+    let byte = c .before .before .before .before .before .before .before .before .before .before .byte in
+    let if1 = c .before .before .before .before .before .before .before .before .before .before .before .if1 in
+    let args = c .before .before .before .before .before .before .before .before .before .before .before .before .before .before .before .before .args in
+    (not-is (now (args .walks)) (now (args .values)) (now (args .memo)) (now (args .env)) (now (args .q)) (now (args .z)) (args .level) _ _ _ (if1 .left) (byte .ensures) (record-length .ensures .0) (condition-record .ensures) _ _ (tail .ensures) (tail-sizes .ensures) _ (enum-told2 .given .1) (condition .ensures .0), condition .ensures .1)
+
+condition-returns-6 : (t : ℕ) → condition-lts.Need-returns-6 (condition-claims t) (condition-at t) condition.Post
+condition-returns-6 t c = let condition3 = c .before .before .condition3 in
+    let tail-sizes2 = c .before .before .before .before .tail-sizes2 in
+    let tail2 = c .before .before .before .before .before .tail2 in
+    let size-at = c .before .before .before .before .before .before .size-at in
+    let if2 = c .before .before .before .before .before .before .before .if2 in
+    let condition2 = c .before .before .before .before .before .before .before .before .before .before .condition2 in
+    let enum-told3 = c .before .before .before .before .before .before .before .before .before .before .before .before .enum-told3 in
+    let condition-record = c .before .before .before .before .before .before .before .before .before .before .before .before .before .before .condition-record in
+    let tail-sizes = c .before .before .before .before .before .before .before .before .before .before .before .before .before .before .before .tail-sizes in
+    let tail = c .before .before .before .before .before .before .before .before .before .before .before .before .before .before .before .before .tail in
+    let record-length = c .before .before .before .before .before .before .before .before .before .before .before .before .before .before .before .before .before .record-length in
+    let byte = c .before .before .before .before .before .before .before .before .before .before .before .before .before .before .before .before .before .before .byte in
+    let if1 = c .before .before .before .before .before .before .before .before .before .before .before .before .before .before .before .before .before .before .before .if1 in
+    let args = c .before .before .before .before .before .before .before .before .before .before .before .before .before .before .before .before .before .before .before .before .before .before .before .before .args in
+    (and-yes (now (args .walks)) (now (args .values)) (now (args .memo)) (now (args .env)) (now (args .q)) (now (args .z)) (args .level) _ _ _ (if1 .left) (byte .ensures) (record-length .ensures .0) (condition-record .ensures) _ _ (tail .ensures) (tail-sizes .ensures) _ _ _ _ (size-at .ensures .0) refl (tail2 .ensures) (tail-sizes2 .ensures) _ _ _ (enum-told3 .given .1) (condition2 .ensures .0) (if2 .left) (condition2 .ensures .1) (condition3 .ensures .0), condition3 .ensures .1 ∙ condition2 .ensures .1)
+
+condition-returns-7 : (t : ℕ) → condition-lts.Need-returns-7 (condition-claims t) (condition-at t) condition.Post
+condition-returns-7 t c = let condition5 = c .before .before .condition5 in
+    let tail-sizes3 = c .before .before .before .before .tail-sizes3 in
+    let tail3 = c .before .before .before .before .before .tail3 in
+    let size-at2 = c .before .before .before .before .before .before .size-at2 in
+    let if3 = c .before .before .before .before .before .before .before .if3 in
+    let condition4 = c .before .before .before .before .before .before .before .before .before .before .condition4 in
+    let enum-told4 = c .before .before .before .before .before .before .before .before .before .before .before .before .enum-told4 in
+    let condition-record = c .before .before .before .before .before .before .before .before .before .before .before .before .before .before .condition-record in
+    let tail-sizes = c .before .before .before .before .before .before .before .before .before .before .before .before .before .before .before .tail-sizes in
+    let tail = c .before .before .before .before .before .before .before .before .before .before .before .before .before .before .before .before .tail in
+    let record-length = c .before .before .before .before .before .before .before .before .before .before .before .before .before .before .before .before .before .record-length in
+    let byte = c .before .before .before .before .before .before .before .before .before .before .before .before .before .before .before .before .before .before .byte in
+    let if1 = c .before .before .before .before .before .before .before .before .before .before .before .before .before .before .before .before .before .before .before .if1 in
+    let args = c .before .before .before .before .before .before .before .before .before .before .before .before .before .before .before .before .before .before .before .before .before .before .before .before .args in
+    (or-no (now (args .walks)) (now (args .values)) (now (args .memo)) (now (args .env)) (now (args .q)) (now (args .z)) (args .level) _ _ _ (if1 .left) (byte .ensures) (record-length .ensures .0) (condition-record .ensures) _ _ (tail .ensures) (tail-sizes .ensures) _ _ _ _ (size-at2 .ensures .0) refl (tail3 .ensures) (tail-sizes3 .ensures) _ _ _ (enum-told4 .given .1) (condition4 .ensures .0) (if3 .left) (condition4 .ensures .1) (condition5 .ensures .0), condition5 .ensures .1 ∙ condition4 .ensures .1)
+
+condition-returns-8 : (t : ℕ) → condition-lts.Need-returns-8 (condition-claims t) (condition-at t) condition.Post
+condition-returns-8 t c = let term2 = c .before .before .before .term2 in
+    let tail-sizes4 = c .before .before .before .before .before .tail-sizes4 in
+    let tail4 = c .before .before .before .before .before .before .tail4 in
+    let size-at3 = c .before .before .before .before .before .before .before .size-at3 in
+    let term = c .before .before .before .before .before .before .before .before .before .before .term in
+    let operator = c .before .before .before .before .before .before .before .before .before .before .before .before .before .operator in
+    let condition-record = c .before .before .before .before .before .before .before .before .before .before .before .before .before .before .before .condition-record in
+    let tail-sizes = c .before .before .before .before .before .before .before .before .before .before .before .before .before .before .before .before .tail-sizes in
+    let tail = c .before .before .before .before .before .before .before .before .before .before .before .before .before .before .before .before .before .tail in
+    let record-length = c .before .before .before .before .before .before .before .before .before .before .before .before .before .before .before .before .before .before .record-length in
+    let byte = c .before .before .before .before .before .before .before .before .before .before .before .before .before .before .before .before .before .before .before .byte in
+    let if1 = c .before .before .before .before .before .before .before .before .before .before .before .before .before .before .before .before .before .before .before .before .if1 in
+    let args = c .before .before .before .before .before .before .before .before .before .before .before .before .before .before .before .before .before .before .before .before .before .before .before .before .before .args in
+    (compare-is (now (args .walks)) (now (args .values)) (now (args .memo)) (now (args .env)) (now (args .q)) (now (args .z)) (args .level) _ _ _ (if1 .left) (byte .ensures) (record-length .ensures .0) (condition-record .ensures) _ _ (tail .ensures) (tail-sizes .ensures) _ _ _ _ (size-at3 .ensures .0) refl (tail4 .ensures) (tail-sizes4 .ensures) _ _ _ _ _ (operator .given .1) (term .ensures .0) (term .ensures .1 .1) (term2 .ensures .0) (c .compared .ensures), term2 .ensures .1 .1 ∙ term .ensures .1 .1)
+
+condition-returns-9 : (t : ℕ) → condition-lts.Need-returns-9 (condition-claims t) (condition-at t) condition.Post
+condition-returns-9 t c = let some-row = c .before .before .some-row in
+    let variable = c .before .before .before .before .before .variable in
+    let condition-record = c .before .before .before .before .before .before .before .condition-record in
+    let tail-sizes = c .before .before .before .before .before .before .before .before .tail-sizes in
+    let tail = c .before .before .before .before .before .before .before .before .before .tail in
+    let record-length = c .before .before .before .before .before .before .before .before .before .before .record-length in
+    let byte = c .before .before .before .before .before .before .before .before .before .before .before .byte in
+    let if1 = c .before .before .before .before .before .before .before .before .before .before .before .before .if1 in
+    let args = c .before .before .before .before .before .before .before .before .before .before .before .before .before .before .before .before .before .args in
+    (some-is (now (args .walks)) (now (args .values)) (now (args .memo)) (now (args .env)) (now (args .q)) (now (args .z)) (args .level) _ _ _ (if1 .left) (byte .ensures) (record-length .ensures .0) (condition-record .ensures) _ _ (tail .ensures) (tail-sizes .ensures) _ _ _ _ (variable .given .1) (some-row .ensures .0), some-row .ensures .1)
+
+condition-returns-10 : (t : ℕ) → condition-lts.Need-returns-10 (condition-claims t) (condition-at t) condition.Post
+condition-returns-10 t c = let record-length = c .before .before .before .before .before .record-length in
+    let byte = c .before .before .before .before .before .before .byte in
+    let if1 = c .before .before .before .before .before .before .before .if1 in
+    let args = c .before .before .before .before .before .before .before .before .before .before .before .before .args in
+    (false-is (now (args .walks)) (now (args .values)) (now (args .memo)) (now (args .env)) (now (args .q)) (now (args .z)) (args .level) _ _ _ (if1 .left) (byte .ensures) (record-length .ensures .0) (c .before .before .condition-record .ensures) (c .enum-told5 .given .1), search needs)
+
+condition-returns-11 : (t : ℕ) → condition-lts.Need-returns-11 (condition-claims t) (condition-at t) condition.Post
+condition-returns-11 t c = let record-length = c .before .before .before .before .before .record-length in
+    let byte = c .before .before .before .before .before .before .byte in
+    let if1 = c .before .before .before .before .before .before .before .if1 in
+    let args = c .before .before .before .before .before .before .before .before .before .before .before .before .args in
+    (no-condition (now (args .walks)) (now (args .values)) (now (args .memo)) (now (args .env)) (now (args .q)) (now (args .z)) (args .level) _ _ _ (if1 .left) (byte .ensures) (record-length .ensures .0) (c .before .before .condition-record .ensures) (c .enum-told6 .given .1), search needs)
 
 gather-loop-holds : (t : ℕ) → gather-lts.Need-loop-holds (gather-claims t) (gather-at t) gather.Post gather-Inv-loop gather-μ-loop
-gather-loop-holds t c =
-    let place = c .place in
-    let c₂ = c .before .before in let walk-of = c₂ .walk-of in
-    let c₇ = c₂ .before .before .before .before .before in let args = c₇ .args in
-    let env = now (args .env) in let vs = now (args .values) in let walks = now (args .walks) in let variable = args .variable in
-    (places-start env variable (place .result) (place .ensures), taken-start (placeAt walks (walk-of .result)) vs (holdsOn (args .level) (now (args .q)) (now (args .z)) walks vs (now (args .memo)) env variable) (args .attribute) _ nothing-taken, omega arith, refl)
+gather-loop-holds t c = let place = c .place in
+    let walk-of = c .before .before .walk-of in
+    let args = c .before .before .before .before .before .before .before .args in
+    let env = now (args .env) in let vs = now (args .values) in let walks = now (args .walks) in let variable = args .column .variable in
+    (places-start env variable (place .result) (place .ensures), taken-start (placeAt walks (walk-of .result)) vs (holdsOn (args .column .level) (now (args .q)) (now (args .z)) walks vs (now (args .memo)) env variable) (args .column .attribute) _ nothing-taken, omega arith, refl)
 
 gather-place-requires-2 : (t : ℕ) → gather-lts.Need-place-requires-2 (gather-claims t) (gather-at t) gather.Post gather-Inv-loop gather-μ-loop
 gather-place-requires-2 t c κs = (c .before .before .before .before .walk-of .ensures .1, omega (arith, c .before .before .before .before .walk-of .ensures .1 .count, c .loop-test .taken))
 
 gather-add-requires : (t : ℕ) → gather-lts.Need-add-requires (gather-claims t) (gather-at t) gather.Post gather-Inv-loop gather-μ-loop
-gather-add-requires t c κs =
-    let c₁₁ = c .before .before .before .before .before .before .before .before .before .before .before in let loop-test = c₁₁ .loop-test in
-    let c₁₂ = c₁₁ .before in let loop = c₁₂ .loop in
-    let c₁₅ = c₁₂ .before .before .before in let walk-of = c₁₅ .walk-of in
-    let c₂₀ = c₁₅ .before .before .before .before .before in let args = c₂₀ .args in
+gather-add-requires t c κs = let loop-test = c .before .before .before .before .before .before .before .before .before .before .before .loop-test in
+    let loop = c .before .before .before .before .before .before .before .before .before .before .before .before .loop in
+    let walk-of = c .before .before .before .before .before .before .before .before .before .before .before .before .before .before .before .walk-of in
+    let args = c .before .before .before .before .before .before .before .before .before .before .before .before .before .before .before .before .before .before .before .before .args in
     let vs = now (args .values) in let walks = now (args .walks) in
-    (loop .inv .1 .bounded, omega (arith, taken-few (placeAt walks (walk-of .result)) vs (holdsOn (args .level) (now (args .q)) (now (args .z)) walks vs (now (args .memo)) (now (args .env)) (args .variable)) (args .attribute) (loop .i) (loop .taken) (loop .inv .1) (loop .i) (omega arith), loop-test .taken, walk-of .ensures .1 .count))
+    (loop .inv .1 .bounded, omega (arith, taken-few (placeAt walks (walk-of .result)) vs (holdsOn (args .column .level) (now (args .q)) (now (args .z)) walks vs (now (args .memo)) (now (args .env)) (args .column .variable)) (args .column .attribute) (loop .i) (loop .taken) (loop .inv .1) (loop .i) (omega arith), loop-test .taken, walk-of .ensures .1 .count))
 
 gather-loop-again : (t : ℕ) → gather-lts.Need-loop-again (gather-claims t) (gather-at t) gather.Post gather-Inv-loop gather-μ-loop
-gather-loop-again t c =
-    let c₃ = c .before .before .before in let condition = c₃ .condition in
-    let c₇ = c₃ .before .before .before .before in let set-place = c₇ .set-place in
-    let c₉ = c₇ .before .before in let place2 = c₉ .place2 in
-    let c₁₀ = c₉ .before in let loop-test = c₁₀ .loop-test in
-    let c₁₁ = c₁₀ .before in let loop = c₁₁ .loop in
-    let c₁₂ = c₁₁ .before in let place = c₁₂ .place in
-    let c₁₄ = c₁₂ .before .before in let walk-of = c₁₄ .walk-of in
-    let c₁₉ = c₁₄ .before .before .before .before .before in let args = c₁₉ .args in let good = c₁₉ .good in let pre = c₁₉ .pre in
-    let env = now (args .env) in let memo = now (args .memo) in let q = now (args .q) in let vs = now (args .values) in let walks = now (args .walks) in let z = now (args .z) in let attribute = args .attribute in let level = args .level in let variable = args .variable in
+gather-loop-again t c = let condition = c .before .before .before .condition in
+    let set-place = c .before .before .before .before .before .before .before .set-place in
+    let place2 = c .before .before .before .before .before .before .before .before .before .place2 in
+    let loop-test = c .before .before .before .before .before .before .before .before .before .before .loop-test in
+    let loop = c .before .before .before .before .before .before .before .before .before .before .before .loop in
+    let place = c .before .before .before .before .before .before .before .before .before .before .before .before .place in
+    let walk-of = c .before .before .before .before .before .before .before .before .before .before .before .before .before .before .walk-of in
+    let args = c .before .before .before .before .before .before .before .before .before .before .before .before .before .before .before .before .before .before .before .args in let good = c .before .before .before .before .before .before .before .before .before .before .before .before .before .before .before .before .before .before .before .good in let pre = c .before .before .before .before .before .before .before .before .before .before .before .before .before .before .before .before .before .before .before .pre in
+    let env = now (args .env) in let memo = now (args .memo) in let q = now (args .q) in let vs = now (args .values) in let walks = now (args .walks) in let z = now (args .z) in let attribute = args .column .attribute in let level = args .column .level in let variable = args .column .variable in
     (places-back (loop .env) env _ variable (place .result) (place2 .result) (loop .inv .0) (set-place .ensures) _ (condition .ensures .1), ⊎-elim (λ h. subst (λ (u : Accumulator). Accumulates u (kept vs (holdsOn level q z walks vs memo env variable) attribute (placeAt walks (walk-of .result)) (loop .i + 1))) (sym (h .3)) (taken-hit (placeAt walks (walk-of .result)) vs (holdsOn level q z walks vs memo env variable) attribute (loop .i) (loop .taken) (loop .inv .1) _ _ ((ap (λ (p : ℕ). (holdsOn level q z walks vs memo env variable) (tupleAt vs p)) (sym (place2 .ensures)) ∙ on-row (loop .env) env _ variable (place .result) (place2 .result) (loop .inv .0) (set-place .ensures) level q z walks vs memo _ (omega (arith, pre, good)) (condition .ensures .0)) ∙ h .0 .taken) (toZ-ofZ {w = w32} (record { sfits = h .1 .ok }) ∙ h .1 .ensures ∙ ap (λ (k : ℕ). getD vs (k + attribute) (pos 0)) (place2 .ensures)) (h .2 .ensures .0) (h .2 .ensures .1))) (λ h. taken-miss (placeAt walks (walk-of .result)) vs (holdsOn level q z walks vs memo env variable) attribute (loop .i) (loop .taken) (loop .inv .1) _ ((ap (λ (p : ℕ). (holdsOn level q z walks vs memo env variable) (tupleAt vs p)) (sym (place2 .ensures)) ∙ on-row (loop .env) env _ variable (place .result) (place2 .result) (loop .inv .0) (set-place .ensures) level q z walks vs memo _ (omega (arith, pre, good)) (condition .ensures .0)) ∙ h .0 .left) (h .1)) (c .if1 .came), omega (arith, loop-test .taken), places-length (loop .env) env _ variable (place .result) (place2 .result) (loop .inv .0) (set-place .ensures) _ (condition .ensures .1) (loop .inv .3))
 
 gather-returns : (t : ℕ) → gather-lts.Need-returns (gather-claims t) (gather-at t) gather.Post gather-Inv-loop gather-μ-loop
-gather-returns t c =
-    let c₄ = c .before .before .before .before in let loop-test = c₄ .loop-test in
-    let c₅ = c₄ .before in let loop = c₅ .loop in
-    let c₈ = c₅ .before .before .before in let walk-of = c₈ .walk-of in
-    let c₁₃ = c₈ .before .before .before .before .before in let args = c₁₃ .args in
-    let env = now (args .env) in let memo = now (args .memo) in let q = now (args .q) in let vs = now (args .values) in let walks = now (args .walks) in let z = now (args .z) in let attribute = args .attribute in let level = args .level in let variable = args .variable in
+gather-returns t c = let loop-test = c .before .before .before .before .loop-test in
+    let loop = c .before .before .before .before .before .loop in
+    let walk-of = c .before .before .before .before .before .before .before .before .walk-of in
+    let args = c .before .before .before .before .before .before .before .before .before .before .before .before .before .args in
+    let env = now (args .env) in let memo = now (args .memo) in let q = now (args .q) in let vs = now (args .values) in let walks = now (args .walks) in let z = now (args .z) in let attribute = args .column .attribute in let level = args .column .level in let variable = args .column .variable in
     (subst (Accumulates (loop .taken)) (taken-all level q z walks vs memo env variable attribute (loop .i) (walk-of .result) (walk-of .ensures .0) (omega (arith, loop-test .left, loop .inv .2))) (loop .inv .1), (omega (arith, taken-few (placeAt walks (walk-of .result)) vs (holdsOn level q z walks vs memo env variable) attribute (loop .i) (loop .taken) (loop .inv .1) (loop .i) (omega arith), loop .inv .2, walk-of .ensures .1 .count), c .before .before .set-place2 .ensures ∙ loop .inv .0))
 
-abbrev some-row-Inv-loop : some-row-lts.InvT-loop
-some-row-Inv-loop q z level ws vs memo env₀ variable walk n old i₀ env i =
-    (set env variable old ≡ env₀)
-    × Failed (placeAt ws walk) vs (holdsOn level q z ws vs memo env₀ variable) i
-    × (i ≤ n) × (length env ≡ length env₀)
-
-abbrev some-row-μ-loop : some-row-lts.MeasureT-loop
-some-row-μ-loop q z level ws vs memo env₀ variable walk n old i₀ env i = n - i
-
 some-row-loop-holds : (t : ℕ) → some-row-lts.Need-loop-holds (some-row-claims t) (some-row-at t) some-row.Post some-row-Inv-loop some-row-μ-loop
-some-row-loop-holds t c =
-    let c₂ = c .before .before in let walk-of = c₂ .walk-of in
-    let c₇ = c₂ .before .before .before .before .before in let args = c₇ .args in
-    let env = now (args .env) in let vs = now (args .values) in let walks = now (args .walks) in let variable = args .variable in
-    (places-start env variable (c .place .result) (c .place .ensures), none-start (λ j. holdsOn (args .level) (now (args .q)) (now (args .z)) walks vs (now (args .memo)) env variable (tupleAt vs (placeAt walks (walk-of .result) j))), omega arith, refl)
+some-row-loop-holds t c = let walk-of = c .before .before .walk-of in
+    let args = c .before .before .before .before .before .before .before .args in
+    let env = now (args .env) in let vs = now (args .values) in let walks = now (args .walks) in let variable = args .asked .variable in
+    (places-start env variable (c .place .result) (c .place .ensures), none-start (λ j. holdsOn (args .asked .level) (now (args .q)) (now (args .z)) walks vs (now (args .memo)) env variable (tupleAt vs (placeAt walks (walk-of .result) j))), omega arith, refl)
 
 some-row-place-requires-2 : (t : ℕ) → some-row-lts.Need-place-requires-2 (some-row-claims t) (some-row-at t) some-row.Post some-row-Inv-loop some-row-μ-loop
 some-row-place-requires-2 t c κs = (c .before .before .before .before .before .walk-of .ensures .1, omega (arith, c .before .before .before .before .before .walk-of .ensures .1 .count, c .before .loop-test .taken))
 
 some-row-returns : (t : ℕ) → some-row-lts.Need-returns (some-row-claims t) (some-row-at t) some-row.Post some-row-Inv-loop some-row-μ-loop
-some-row-returns t c =
-    let c₄ = c .before .before .before .before in let if1 = c₄ .if1 in
-    let c₇ = c₄ .before .before .before in let condition = c₇ .condition in
-    let c₁₁ = c₇ .before .before .before .before in let set-place = c₁₁ .set-place in
-    let c₁₂ = c₁₁ .before in let place2 = c₁₂ .place2 in
-    let c₁₄ = c₁₂ .before .before in let loop-test = c₁₄ .loop-test in
-    let c₁₅ = c₁₄ .before in let loop = c₁₅ .loop in
-    let c₁₆ = c₁₅ .before in let place = c₁₆ .place in
-    let c₁₈ = c₁₆ .before .before in let walk-of = c₁₈ .walk-of in
-    let c₂₃ = c₁₈ .before .before .before .before .before in let args = c₂₃ .args in let good = c₂₃ .good in let pre = c₂₃ .pre in
-    let env = now (args .env) in let memo = now (args .memo) in let q = now (args .q) in let vs = now (args .values) in let walks = now (args .walks) in let z = now (args .z) in let level = args .level in let variable = args .variable in
+some-row-returns t c = let if1 = c .before .before .before .before .if1 in
+    let condition = c .before .before .before .before .before .before .before .condition in
+    let set-place = c .before .before .before .before .before .before .before .before .before .before .before .set-place in
+    let place2 = c .before .before .before .before .before .before .before .before .before .before .before .before .place2 in
+    let loop-test = c .before .before .before .before .before .before .before .before .before .before .before .before .before .before .loop-test in
+    let loop = c .before .before .before .before .before .before .before .before .before .before .before .before .before .before .before .loop in
+    let place = c .before .before .before .before .before .before .before .before .before .before .before .before .before .before .before .before .place in
+    let walk-of = c .before .before .before .before .before .before .before .before .before .before .before .before .before .before .before .before .before .before .walk-of in
+    let args = c .before .before .before .before .before .before .before .before .before .before .before .before .before .before .before .before .before .before .before .before .before .before .before .args in let good = c .before .before .before .before .before .before .before .before .before .before .before .before .before .before .before .before .before .before .before .before .before .before .before .good in let pre = c .before .before .before .before .before .before .before .before .before .before .before .before .before .before .before .before .before .before .before .before .before .before .before .pre in
+    let env = now (args .env) in let memo = now (args .memo) in let q = now (args .q) in let vs = now (args .values) in let walks = now (args .walks) in let z = now (args .z) in let level = args .asked .level in let variable = args .asked .variable in
     (sym (walked-hit (holdsOn level q z walks vs memo env variable) walks vs variable (walk-of .result) (walk-of .ensures .0) (loop .i) (loop-test .taken) (loop .inv .1) ((ap (λ (p : ℕ). (holdsOn level q z walks vs memo env variable) (tupleAt vs p)) (sym (place2 .ensures)) ∙ on-row (loop .env) env _ variable (place .result) (place2 .result) (loop .inv .0) (set-place .ensures) level q z walks vs memo _ (omega (arith, pre, good)) (condition .ensures .0)) ∙ if1 .taken)), c .before .before .set-place2 .ensures ∙ places-back (loop .env) env _ variable (place .result) (place2 .result) (loop .inv .0) (set-place .ensures) _ (condition .ensures .1))
 
 some-row-loop-again : (t : ℕ) → some-row-lts.Need-loop-again (some-row-claims t) (some-row-at t) some-row.Post some-row-Inv-loop some-row-μ-loop
-some-row-loop-again t c =
-    let c₃ = c .before .before .before in let condition = c₃ .condition in
-    let c₇ = c₃ .before .before .before .before in let set-place = c₇ .set-place in
-    let c₈ = c₇ .before in let place2 = c₈ .place2 in
-    let c₁₀ = c₈ .before .before in let loop-test = c₁₀ .loop-test in
-    let c₁₁ = c₁₀ .before in let loop = c₁₁ .loop in
-    let c₁₂ = c₁₁ .before in let place = c₁₂ .place in
-    let c₁₄ = c₁₂ .before .before in let walk-of = c₁₄ .walk-of in
-    let c₁₉ = c₁₄ .before .before .before .before .before in let args = c₁₉ .args in let good = c₁₉ .good in let pre = c₁₉ .pre in
-    let env = now (args .env) in let memo = now (args .memo) in let q = now (args .q) in let vs = now (args .values) in let walks = now (args .walks) in let z = now (args .z) in let level = args .level in let variable = args .variable in
+some-row-loop-again t c = let condition = c .before .before .before .condition in
+    let set-place = c .before .before .before .before .before .before .before .set-place in
+    let place2 = c .before .before .before .before .before .before .before .before .place2 in
+    let loop-test = c .before .before .before .before .before .before .before .before .before .before .loop-test in
+    let loop = c .before .before .before .before .before .before .before .before .before .before .before .loop in
+    let place = c .before .before .before .before .before .before .before .before .before .before .before .before .place in
+    let walk-of = c .before .before .before .before .before .before .before .before .before .before .before .before .before .before .walk-of in
+    let args = c .before .before .before .before .before .before .before .before .before .before .before .before .before .before .before .before .before .before .before .args in let good = c .before .before .before .before .before .before .before .before .before .before .before .before .before .before .before .before .before .before .before .good in let pre = c .before .before .before .before .before .before .before .before .before .before .before .before .before .before .before .before .before .before .before .pre in
+    let env = now (args .env) in let memo = now (args .memo) in let q = now (args .q) in let vs = now (args .values) in let walks = now (args .walks) in let z = now (args .z) in let level = args .asked .level in let variable = args .asked .variable in
     (places-back (loop .env) env _ variable (place .result) (place2 .result) (loop .inv .0) (set-place .ensures) _ (condition .ensures .1), none-next (λ j. holdsOn level q z walks vs memo env variable (tupleAt vs (placeAt walks (walk-of .result) j))) (loop .i) (loop .inv .1) ((ap (λ (p : ℕ). (holdsOn level q z walks vs memo env variable) (tupleAt vs p)) (sym (place2 .ensures)) ∙ on-row (loop .env) env _ variable (place .result) (place2 .result) (loop .inv .0) (set-place .ensures) level q z walks vs memo _ (omega (arith, pre, good)) (condition .ensures .0)) ∙ c .if1 .left), omega (arith, loop-test .taken), places-length (loop .env) env _ variable (place .result) (place2 .result) (loop .inv .0) (set-place .ensures) _ (condition .ensures .1) (loop .inv .3))
 
 some-row-returns-2 : (t : ℕ) → some-row-lts.Need-returns-2 (some-row-claims t) (some-row-at t) some-row.Post some-row-Inv-loop some-row-μ-loop
-some-row-returns-2 t c =
-    let c₄ = c .before .before .before .before in let loop-test = c₄ .loop-test in
-    let c₅ = c₄ .before in let loop = c₅ .loop in
-    let c₈ = c₅ .before .before .before in let walk-of = c₈ .walk-of in
-    let c₁₃ = c₈ .before .before .before .before .before in let args = c₁₃ .args in
-    let vs = now (args .values) in let walks = now (args .walks) in let variable = args .variable in
-    (sym (walked-none (holdsOn (args .level) (now (args .q)) (now (args .z)) walks vs (now (args .memo)) (now (args .env)) variable) walks vs variable (walk-of .result) (walk-of .ensures .0) (λ j k. loop .inv .1 j (omega (arith, loop-test .left)))), c .before .before .set-place3 .ensures ∙ loop .inv .0)
+some-row-returns-2 t c = let loop-test = c .before .before .before .before .loop-test in
+    let loop = c .before .before .before .before .before .loop in
+    let walk-of = c .before .before .before .before .before .before .before .before .walk-of in
+    let args = c .before .before .before .before .before .before .before .before .before .before .before .before .before .args in
+    let vs = now (args .values) in let walks = now (args .walks) in let variable = args .asked .variable in
+    (sym (walked-none (holdsOn (args .asked .level) (now (args .q)) (now (args .z)) walks vs (now (args .memo)) (now (args .env)) variable) walks vs variable (walk-of .result) (walk-of .ensures .0) (λ j k. loop .inv .1 j (omega (arith, loop-test .left)))), c .before .before .set-place3 .ensures ∙ loop .inv .0)
 
 term-returns : (t : ℕ) → term-lts.Need-returns (term-claims t) (term-at t) term.Post
-term-returns t c =
-    let c₆ = c .before .before .before .before .before .before in let args = c₆ .args in
+term-returns t c = let args = c .before .before .before .before .before .before .args in
     ((c .whole .ensures .0) ∙ (value-zero (now (args .walks)) (now (args .values)) (now (args .memo)) (now (args .env)) (now (args .q)) (now (args .z)) (args .level) (c .before .if1 .taken)), (c .whole .ensures .1, search needs))
 
 term-recall-requires : (t : ℕ) → term-lts.Need-recall-requires (term-claims t) (term-at t) term.Post
 term-recall-requires t c κs = sym (c .before .knows .ensures) ∙ c .if2 .taken
 
 term-returns-2 : (t : ℕ) → term-lts.Need-returns-2 (term-claims t) (term-at t) term.Post
-term-returns-2 t c =
-    let c₄ = c .before .before .before .before in let function = c₄ .function in
-    let c₆ = c₄ .before .before in let term-record = c₆ .term-record in
-    let c₇ = c₆ .before in let record-length = c₇ .record-length in
-    let c₈ = c₇ .before in let byte = c₈ .byte in
-    let c₉ = c₈ .before in let if1 = c₉ .if1 in
-    let c₁₄ = c₉ .before .before .before .before .before in let args = c₁₄ .args in
+term-returns-2 t c = let function = c .before .before .before .before .function in
+    let term-record = c .before .before .before .before .before .before .term-record in
+    let record-length = c .before .before .before .before .before .before .before .record-length in
+    let byte = c .before .before .before .before .before .before .before .before .byte in
+    let if1 = c .before .before .before .before .before .before .before .before .before .if1 in
+    let args = c .before .before .before .before .before .before .before .before .before .before .before .before .before .before .args in
     (c .recall .ensures .0 ∙ (known-is (now (args .walks)) (now (args .values)) (now (args .memo)) (now (args .env)) (now (args .q)) (now (args .z)) (args .level) _ _ _ (if1 .left) (byte .ensures) (record-length .ensures .0) (term-record .ensures) _ _ _ _ _ _ (function .given .1) (c .before .before .knows .ensures) (c .before .if2 .taken) refl), (c .recall .ensures .1, search needs))
 
 term-returns-3 : (t : ℕ) → term-lts.Need-returns-3 (term-claims t) (term-at t) term.Post
-term-returns-3 t c =
-    let c₁ = c .before in let constant = c₁ .constant in
-    let c₃ = c₁ .before .before in let a = c₃ .a in
-    let c₅ = c₃ .before .before in let term-record = c₅ .term-record in
-    let c₈ = c₅ .before .before .before in let if1 = c₈ .if1 in
-    let c₁₃ = c₈ .before .before .before .before .before in let args = c₁₃ .args in
+term-returns-3 t c = let constant = c .before .constant in
+    let a = c .before .before .before .a in
+    let term-record = c .before .before .before .before .before .term-record in
+    let if1 = c .before .before .before .before .before .before .before .before .if1 in
+    let args = c .before .before .before .before .before .before .before .before .before .before .before .before .before .args in
     ((c .whole2 .ensures .0) ∙ (constant-is (now (args .walks)) (now (args .values)) (now (args .memo)) (now (args .env)) (now (args .q)) (now (args .z)) (args .level) _ _ _ _ _ _ (if1 .left) (term-record .ensures) (a .given .1) (toZ-ofZ {w = w32} (record { sfits = constant .ok }) ∙ constant .ensures .0)), (c .whole2 .ensures .1, search needs))
 
 term-returns-4 : (t : ℕ) → term-lts.Need-returns-4 (term-claims t) (term-at t) term.Post
-term-returns-4 t c =
-    let c₁ = c .before in let cell = c₁ .value in
-    let c₄ = c₁ .before .before .before in let known-told2 = c₄ .known-told2 in
-    let c₅ = c₄ .before in let variable = c₅ .variable in
-    let c₇ = c₅ .before .before in let term-record = c₇ .term-record in
-    let c₁₀ = c₇ .before .before .before in let if1 = c₁₀ .if1 in
-    let c₁₅ = c₁₀ .before .before .before .before .before in let args = c₁₅ .args in let pre = c₁₅ .pre in
+term-returns-4 t c = let cell = c .before .value in
+    let known-told2 = c .before .before .before .before .known-told2 in
+    let variable = c .before .before .before .before .before .variable in
+    let term-record = c .before .before .before .before .before .before .before .term-record in
+    let if1 = c .before .before .before .before .before .before .before .before .before .before .if1 in
+    let args = c .before .before .before .before .before .before .before .before .before .before .before .before .before .before .before .args in let pre = c .before .before .before .before .before .before .before .before .before .before .before .before .before .before .before .pre in
     ((c .whole3 .ensures .0) ∙ (attribute-is (now (args .walks)) (now (args .values)) (now (args .memo)) (now (args .env)) (now (args .q)) (now (args .z)) (args .level) _ _ _ _ _ (if1 .left) (term-record .ensures) (variable .given .1) (omega (arith, pre .1, known-told2 .given)) (c .before .before .place .ensures) (toZ-ofZ {w = w32} (record { sfits = cell .ok }) ∙ cell .ensures)), (c .whole3 .ensures .1, search needs))
 
 term-returns-5 : (t : ℕ) → term-lts.Need-returns-5 (term-claims t) (term-at t) term.Post
-term-returns-5 t c =
-    let c₃ = c .before .before .before in let gather = c₃ .gather in
-    let c₅ = c₃ .before .before in let tail-sizes = c₅ .tail-sizes in
-    let c₆ = c₅ .before in let tail = c₆ .tail in
-    let c₇ = c₆ .before in let if2 = c₇ .if2 in
-    let c₈ = c₇ .before in let knows = c₈ .knows in
-    let c₁₀ = c₈ .before .before in let function = c₁₀ .function in
-    let c₁₂ = c₁₀ .before .before in let term-record = c₁₂ .term-record in
-    let c₁₃ = c₁₂ .before in let record-length = c₁₃ .record-length in
-    let c₁₄ = c₁₃ .before in let byte = c₁₄ .byte in
-    let c₁₅ = c₁₄ .before in let if1 = c₁₅ .if1 in
-    let c₂₀ = c₁₅ .before .before .before .before .before in let args = c₂₀ .args in
+term-returns-5 t c = let gather = c .before .before .before .gather in
+    let tail-sizes = c .before .before .before .before .before .tail-sizes in
+    let tail = c .before .before .before .before .before .before .tail in
+    let if2 = c .before .before .before .before .before .before .before .if2 in
+    let knows = c .before .before .before .before .before .before .before .before .knows in
+    let function = c .before .before .before .before .before .before .before .before .before .before .function in
+    let term-record = c .before .before .before .before .before .before .before .before .before .before .before .before .term-record in
+    let record-length = c .before .before .before .before .before .before .before .before .before .before .before .before .before .record-length in
+    let byte = c .before .before .before .before .before .before .before .before .before .before .before .before .before .before .byte in
+    let if1 = c .before .before .before .before .before .before .before .before .before .before .before .before .before .before .before .if1 in
+    let args = c .before .before .before .before .before .before .before .before .before .before .before .before .before .before .before .before .before .before .before .before .args in
     (ends _ _ (c .finish .result) _ (gather .ensures .0) (c .finish .ensures .0) ∙ (aggregate-is (now (args .walks)) (now (args .values)) (now (args .memo)) (now (args .env)) (now (args .q)) (now (args .z)) (args .level) _ _ _ (if1 .left) (byte .ensures) (record-length .ensures .0) (term-record .ensures) _ _ (tail .ensures) (tail-sizes .ensures) _ _ _ _ _ _ (function .given .1) (knows .ensures) (if2 .left) refl), (c .finish .ensures .1, gather .ensures .1 .1))
 
 term-returns-6 : (t : ℕ) → term-lts.Need-returns-6 (term-claims t) (term-at t) term.Post
-term-returns-6 t c =
-    let c₅ = c .before .before .before .before .before .before in let if1 = c₅ .if1 in
-    let c₁₀ = c₅ .before .before .before .before .before in let args = c₁₀ .args in
+term-returns-6 t c = let if1 = c .before .before .before .before .before .before .if1 in
+    let args = c .before .before .before .before .before .before .before .before .before .before .before .args in
     ((c .whole4 .ensures .0) ∙ (no-term (now (args .walks)) (now (args .values)) (now (args .memo)) (now (args .env)) (now (args .q)) (now (args .z)) (args .level) _ (if1 .left) (c .before .before .before .term-record .ensures) (c .before .enum-told .given .1)), (c .whole4 .ensures .1, search needs))
 
 pub +condition+gather+some-row+term-spec : {M : Type 1} → statement M
@@ -534,6 +508,7 @@ pub +condition+gather+some-row+term-spec : {M : Type 1} → statement M
     (term-returns-2 t)
     (λ c κs. search needs)
     (λ c κs. search needs)
+    (λ c. search needs)
     (λ c κs. search needs)
     (λ c κs. search needs)
     (λ c. search needs)

@@ -10,8 +10,8 @@ use Rattle.guarded.proofs.few.Reads as few-reads
 
 answer-few-requires : tie.Need-answer-few-requires
 answer-few-requires c κs =
-    let c₉ = c .before .before .before .before .before .before .before .before .before in let pre = c₉ .pre in
-    (pre .0, pre .1, sym (c .before .before .few .ensures) ∙ c .before .if1 .taken)
+    let c₈ = c .before .before .before .before .before .before .before .before in let pre = c₈ .pre in
+    (pre .0, pre .1, sym (c .before .before .few .ensures) ∙ c .before .if1 .taken, pre .2)
 
 pub answer-permitted-spec : {M : Type 1} → statement M
 answer-permitted-spec =

@@ -1,15 +1,23 @@
-use mathlib.Core.Path.{sym}
+use native.Mathlib.Omega.{arith}
+use Prim.Native.Nat.{_+_, _*_}
+use mathlib.Core.Path.{sym, _∙_}
 use denote.Ref.{now}
-use lib.ListN.{List·getD-eq-default}
+use lib.Seq.{getD-take}
 use borrow.Author.Needs.{needs}
 use Rattle.guards.proofs.length_at.Statement.{statement}
 use Rattle.guards.proofs.length_at.Tie as tie
 use Rattle.guards.proofs.length_at.Reads as reads
 use Rattle.guards.proofs.length_at.Lts as lts
+use Rattle.kinds.proofs.size_at.Reads as size-at-reads
 
-returns-2 : tie.Need-returns-2
-returns-2 c = sym (List·getD-eq-default (now (c .before .args .places)) 0 (c .if1 .left))
+returns : tie.Need-returns
+returns c = c .size-at .ensures .0 ∙ sym (getD-take 16 (now (c .before .before .args .table)) (2 * c .before .before .args .k + 1) 0 (omega (arith, c .before .before .pre)))
 
 pub length-at-spec : {M : Type 1} → statement M
 length-at-spec =
-    tie.close (tie.spec (λ c. search needs) (λ c. search needs) (λ c. search needs) (λ c. search needs) (λ c. search needs) returns-2)
+    tie.close
+    (tie.spec
+    (λ c. search needs)
+    (λ c. search needs)
+    (λ c κs. search needs)
+    returns)

@@ -6,7 +6,7 @@ use mathlib.Core.List.{List}
 use mathlib.Core.Path.{_≡_, refl, _∙_, subst}
 use lib.ListN.{length, drop}
 use Rattle.model.specs.Syntax.{Binding}
-use Rattle.copier.specs.Guard.{part}
+use Rattle.rewriter.specs.Rewritten.{masksIn, partIn}
 use Rattle.scans.specs.Flat.{bindingOf, flatBindings}
 use Rattle.scans.proofs.Walk.{flat-end}
 use Rattle.scans.proofs.Loops.{bindings-on}
@@ -21,24 +21,24 @@ use Rattle.scans.proofs.binding.Reads as binding-reads
 use Rattle.scans.proofs.step.Reads as step-reads
 
 abbrev Inv-loop : tie.InvT-loop
-Inv-loop query list places masks catalogue values walks₀ next₀ at₀ walks next at = (length walks ≡ length walks₀) × Filling catalogue values (part list places) masks (mostIn walks₀) (flatBindings query) (flatBindings (drop at query)) next walks
+Inv-loop query list table catalogue values walks₀ next₀ at₀ walks next at = (length walks ≡ length walks₀) × Filling catalogue values (partIn list table) (masksIn table) (mostIn walks₀) (flatBindings query) (flatBindings (drop at query)) next walks
 
 abbrev μ-loop : tie.MeasureT-loop
-μ-loop query list places masks catalogue values walks₀ next₀ at₀ walks next at = length query - at
+μ-loop query list table catalogue values walks₀ next₀ at₀ walks next at = length query - at
 
 loop-holds : tie.Need-loop-holds Inv-loop μ-loop
 loop-holds c =
-    let c₆ = c .before .before .before .before .before .before in let args = c₆ .args in let pre = c₆ .pre in
+    let c₅ = c .before .before .before .before .before in let args = c₅ .args in let pre = c₅ .pre in
     let query = now (args .query) in let walks = now (args .walks) in
-    (refl, filling-start (now (args .catalogue)) (now (args .values)) (part (now (args .permits)) (now (args .places))) (now (args .masks)) (mostIn walks) (flatBindings query) walks (pre .4) (room-enough (length walks) (length (flatBindings query)) (pre .2) (pre .3 .0)))
+    (refl, filling-start (now (args .catalogue)) (now (args .values)) (partIn (now (args .permits)) (now (args .table))) (masksIn (now (args .table))) (mostIn walks) (flatBindings query) walks (pre .4) (room-enough (length walks) (length (flatBindings query)) (pre .2) (pre .3 .0)))
 
 fill-one-requires : tie.Need-fill-one-requires Inv-loop μ-loop
 fill-one-requires c κs =
     let c₁ = c .before in let binding = c₁ .binding in
     let c₃ = c₁ .before .before in let loop = c₃ .loop in
-    let c₁₀ = c₃ .before .before .before .before .before .before .before in let args = c₁₀ .args in let pre = c₁₀ .pre in
+    let c₉ = c₃ .before .before .before .before .before .before in let args = c₉ .args in let pre = c₉ .pre in
     let query = now (args .query) in let walks = now (args .walks) in
-    λ v r e. let a = asked (now (args .catalogue)) (now (args .values)) (part (now (args .permits)) (now (args .places))) (now (args .masks)) (mostIn walks) (flatBindings query) _ _ (binding .result) v r (loop .next) (loop .walks) (pre .1) e (bindings-on query (loop .at) _ (c .before .before .loop-test .taken) refl (binding .result) (binding .ensures)) (loop .inv .1) in ((a .0 .0, most-low _ (length walks) (a .0 .1) (pre .3 .1)), (omega (arith, a .1 .0, a .0 .1), omega (arith, loop .inv .0, pre .3 .1)), a .1 .1)
+    λ v r e. let a = asked (now (args .catalogue)) (now (args .values)) (partIn (now (args .permits)) (now (args .table))) (masksIn (now (args .table))) (mostIn walks) (flatBindings query) _ _ (binding .result) v r (loop .next) (loop .walks) (pre .1) e (bindings-on query (loop .at) _ (c .before .before .loop-test .taken) refl (binding .result) (binding .ensures)) (loop .inv .1) in ((a .0 .0, most-low _ (length walks) (a .0 .1) (pre .3 .1), pre .5 v), (omega (arith, a .1 .0, a .0 .1), omega (arith, loop .inv .0, pre .3 .1)), a .1 .1)
 
 loop-again : tie.Need-loop-again Inv-loop μ-loop
 loop-again c =
@@ -46,16 +46,16 @@ loop-again c =
     let c₅ = c₃ .before .before in let binding = c₅ .binding in
     let c₆ = c₅ .before in let loop-test = c₆ .loop-test in
     let c₇ = c₆ .before in let loop = c₇ .loop in
-    let c₁₄ = c₇ .before .before .before .before .before .before .before in let args = c₁₄ .args in let pre = c₁₄ .pre in
+    let c₁₃ = c₇ .before .before .before .before .before .before in let args = c₁₃ .args in let pre = c₁₃ .pre in
     let query = now (args .query) in
-    (fill-one .kept .1 .1 .1 .1 .1 .1 .1 .0 ∙ loop .inv .0, filling-step (now (args .catalogue)) (now (args .values)) (part (now (args .permits)) (now (args .places))) (now (args .masks)) (mostIn (now (args .walks))) (flatBindings query) _ _ (binding .result) (loop .next) (fill-one .result) (loop .walks) _ (pre .0) (pre .1) (bindings-on query (loop .at) _ (loop-test .taken) (c .step .ensures .0) (binding .result) (binding .ensures)) (fill-one .ensures .0) (fill-one .ensures .1) (loop .inv .1))
+    (fill-one .kept .1 .1 .1 .1 .1 .1 .0 ∙ loop .inv .0, filling-step (now (args .catalogue)) (now (args .values)) (partIn (now (args .permits)) (now (args .table))) (masksIn (now (args .table))) (mostIn (now (args .walks))) (flatBindings query) _ _ (binding .result) (loop .next) (fill-one .result) (loop .walks) _ (pre .0) (pre .1) (bindings-on query (loop .at) _ (loop-test .taken) (c .step .ensures .0) (binding .result) (binding .ensures)) (fill-one .ensures .0) (fill-one .ensures .1) (loop .inv .1))
 
 returns : tie.Need-returns Inv-loop μ-loop
 returns c =
     let c₁ = c .before in let loop = c₁ .loop in
-    let c₈ = c₁ .before .before .before .before .before .before .before in let args = c₈ .args in
-    let catalogue = now (args .catalogue) in let list = now (args .permits) in let masks = now (args .masks) in let places = now (args .places) in let query = now (args .query) in let values = now (args .values) in let walks = now (args .walks) in
-    filling-end catalogue values (part list places) masks (mostIn walks) (flatBindings query) (loop .next) (loop .walks) (subst (λ (l : List Binding). Filling catalogue values (part list places) masks (mostIn walks) (flatBindings query) l (loop .next) (loop .walks)) (flat-end bindingOf query (loop .at) (c .loop-test .left)) (loop .inv .1))
+    let c₇ = c₁ .before .before .before .before .before .before in let args = c₇ .args in
+    let catalogue = now (args .catalogue) in let list = now (args .permits) in let masks = masksIn (now (args .table)) in let table = now (args .table) in let query = now (args .query) in let values = now (args .values) in let walks = now (args .walks) in
+    filling-end catalogue values (partIn list table) masks (mostIn walks) (flatBindings query) (loop .next) (loop .walks) (subst (λ (l : List Binding). Filling catalogue values (partIn list table) masks (mostIn walks) (flatBindings query) l (loop .next) (loop .walks)) (flat-end bindingOf query (loop .at) (c .loop-test .left)) (loop .inv .1))
 
 pub fill-spec : {M : Type 1} → statement M
 fill-spec =

@@ -1,7 +1,7 @@
 use denote.Ref.{now}
 use native.Mathlib.Omega.{arith}
 use borrow.Author.Needs.{needs}
-use Rattle.copier.specs.Guard.{part}
+use Rattle.rewriter.specs.Rewritten.{partIn}
 use Rattle.permitted.proofs.Table.{given-whole}
 use Rattle.permitted.proofs.give.Statement.{statement}
 use Rattle.permitted.proofs.give.Tie as tie
@@ -15,8 +15,8 @@ returns : tie.Need-returns
 returns c =
     let c₃ = c .before .before .before in let whole = c₃ .whole in
     let c₅ = c₃ .before .before in let if1 = c₅ .if1 in
-    let c₁₀ = c₅ .before .before .before .before .before in let args = c₁₀ .args in let pre = c₁₀ .pre in
-    given-whole (now (args .catalogue)) (now (args .values)) (part (now (args .permits)) (now (args .places))) (args .relation) (args .mask) (args .variable) (args .next) (now (args .walks)) _ (whole .result) (pre .0 .0) (if1 .taken) (pre .2) (omega (arith, pre .1 .0, pre .2 .least)) (whole .ensures .0) (c .before .before .enter .ensures)
+    let c₁₁ = c₅ .before .before .before .before .before .before in let args = c₁₁ .args in let pre = c₁₁ .pre in
+    given-whole (now (args .catalogue)) (now (args .values)) (partIn (now (args .permits)) (now (args .table))) (args .grant .relation) (args .grant .mask) (args .grant .variable) (args .grant .next) (now (args .walks)) _ (whole .result) (pre .0 .0) (if1 .taken) (pre .2) (omega (arith, pre .1 .0, pre .2 .least)) (whole .ensures .0) (c .before .before .enter .ensures)
 
 pub give-spec : {M : Type 1} → statement M
 give-spec =

@@ -115,24 +115,24 @@ module _ (q z ws : List ℕ) (vs m : List ℤ) (x : Walk) where
     unfolding holdsWith judgedOn
     not-is h w i = turned-turned w _ ∙ sym (opened w i C.Not h)
 
-    pub and-is : r ≡ C.And → (w : Bool) → w ≡ true → (i : ℕ) → one (l - 1) true i && two (l - 1) true i ≡ judgedOn l q z ws vs m x w i
+    pub and-is : r ≡ C.And → (w : Bool) → w ≡ true → (i : ℕ) → one (l - 1) w i && two (l - 1) w i ≡ judgedOn l q z ws vs m x w i
     unfolding holdsWith judgedOn
-    and-is h w ew i = sym (ap (λ b. judgedOn l q z ws vs m x b i) ew ∙ opened true i C.And h)
+    and-is h w ew i = subst (λ b. one (l - 1) b i && two (l - 1) b i ≡ judgedOn l q z ws vs m x b i) (sym ew) (sym (opened true i C.And h))
 
-    pub and-not : r ≡ C.And → (w : Bool) → w ≡ false → (i : ℕ) → one (l - 1) false i || two (l - 1) false i ≡ judgedOn l q z ws vs m x w i
+    pub and-not : r ≡ C.And → (w : Bool) → w ≡ false → (i : ℕ) → one (l - 1) w i || two (l - 1) w i ≡ judgedOn l q z ws vs m x w i
     unfolding holdsWith judgedOn
-    and-not h w ew i = sym (ap (λ b. judgedOn l q z ws vs m x b i) ew ∙ opened false i C.And h ∙ neither (fst i) (snd i))
+    and-not h w ew i = subst (λ b. one (l - 1) b i || two (l - 1) b i ≡ judgedOn l q z ws vs m x b i) (sym ew) (sym (opened false i C.And h ∙ neither (fst i) (snd i)))
 
-    pub or-is : r ≡ C.Or → (w : Bool) → w ≡ true → (i : ℕ) → one (l - 1) true i || two (l - 1) true i ≡ judgedOn l q z ws vs m x w i
+    pub or-is : r ≡ C.Or → (w : Bool) → w ≡ true → (i : ℕ) → one (l - 1) w i || two (l - 1) w i ≡ judgedOn l q z ws vs m x w i
     unfolding holdsWith judgedOn
-    or-is h w ew i = sym (ap (λ b. judgedOn l q z ws vs m x b i) ew ∙ opened true i C.Or h)
+    or-is h w ew i = subst (λ b. one (l - 1) b i || two (l - 1) b i ≡ judgedOn l q z ws vs m x b i) (sym ew) (sym (opened true i C.Or h))
 
-    pub or-not : r ≡ C.Or → (w : Bool) → w ≡ false → (i : ℕ) → one (l - 1) false i && two (l - 1) false i ≡ judgedOn l q z ws vs m x w i
+    pub or-not : r ≡ C.Or → (w : Bool) → w ≡ false → (i : ℕ) → one (l - 1) w i && two (l - 1) w i ≡ judgedOn l q z ws vs m x w i
     unfolding holdsWith judgedOn
-    or-not h w ew i = sym (ap (λ b. judgedOn l q z ws vs m x b i) ew ∙ opened false i C.Or h ∙ neither-or (fst i) (snd i))
+    or-not h w ew i = subst (λ b. one (l - 1) b i && two (l - 1) b i ≡ judgedOn l q z ws vs m x b i) (sym ew) (sym (opened false i C.Or h ∙ neither-or (fst i) (snd i)))
 
-  pub under-first : (l : ℕ) (w : Bool) (i k a : ℕ) (x₁ y₁ : List ℕ) → k ≡ getD q 0 0 → a ≡ recordLength k → x₁ ≡ drop a q → y₁ ≡ drop a z → judgedOn l x₁ y₁ ws vs m x w i ≡ one l w i
-  under-first l w i k a x₁ y₁ ek ea e₁ e₂ = let f = ea ∙ ap recordLength ek in ap₂ (λ (u v : List ℕ). judgedOn l u v ws vs m x w i) (e₁ ∙ ap (λ n. drop n q) f) (e₂ ∙ ap (λ n. drop n z) f)
+  pub under-first : (l : ℕ) (u w : Bool) (i k a : ℕ) (x₁ y₁ : List ℕ) → u ≡ w → k ≡ getD q 0 0 → a ≡ recordLength k → x₁ ≡ drop a q → y₁ ≡ drop a z → judgedOn l x₁ y₁ ws vs m x u i ≡ one l w i
+  under-first l u w i k a x₁ y₁ eu ek ea e₁ e₂ = let f = ea ∙ ap recordLength ek in ap (λ b. judgedOn l x₁ y₁ ws vs m x b i) eu ∙ ap₂ (λ (u v : List ℕ). judgedOn l u v ws vs m x w i) (e₁ ∙ ap (λ n. drop n q) f) (e₂ ∙ ap (λ n. drop n z) f)
 
   -- what two calls mark, in either order
   module _ (l : ℕ) (w : Bool) (n k a s : ℕ) (x₁ y₁ x₂ y₂ : List ℕ) (ek : k ≡ getD q 0 0) (ea : a ≡ recordLength k) (es : s ≡ getD z a 0) (e₁ : x₁ ≡ drop a q) (e₂ : y₁ ≡ drop a z) (e₃ : x₂ ≡ drop (a + s) q) (e₄ : y₂ ≡ drop (a + s) z) where
@@ -155,8 +155,9 @@ module _ (q z ws : List ℕ) (vs m : List ℤ) (x : Walk) where
     swapped ms y t h k = marked-same (marked-then h k) refl (λ i g. ap₂ _||_ (is-two i) (is-one i) ∙ or-swap (two l w i) (one l w i))
 
   -- what neither leaves out
-  pub both-marked : (l : ℕ) (w : Bool) (n k : ℕ) (others ms y : List ℕ) → Marked (λ i. one l (not w) i || two l (not w) i) n (replicate k 0) others → Marked (λ i. eqb (getD others i 0) 0) n ms y → Marked (λ i. one l w i && two l w i) n ms y
+  pub both-marked : (l : ℕ) (u w : Bool) (n k : ℕ) (others ms y : List ℕ) → u ≡ not w → Marked (λ i. one l u i || two l u i) n (replicate k 0) others → Marked (λ i. eqb (getD others i 0) 0) n ms y → Marked (λ i. one l w i && two l w i) n ms y
   unfolding judgedOn
-  both-marked l w n k others ms y h g =
+  both-marked l u w n k others ms y eu g₀ g =
+      let h = subst (λ b. Marked (λ i. one l b i || two l b i) n (replicate k 0) others) eu g₀ in
       marked-same g refl (λ i j. left-out (one l w i) (two l w i) (getD others i 0)
       (h .row i j ∙ ap₂ (λ (b : Bool) (o : ℕ). cond b 1 o) (ap₂ _||_ (turned-away w _) (turned-away w _)) (getD-same {A = ℕ} k 0 i)))

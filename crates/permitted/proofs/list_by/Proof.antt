@@ -1,7 +1,7 @@
 use denote.Ref.{now}
 use native.Mathlib.Omega.{arith}
 use borrow.Author.Needs.{needs}
-use Rattle.copier.specs.Guard.{part}
+use Rattle.rewriter.specs.Rewritten.{partIn}
 use Rattle.permitted.proofs.judges.Steps.{bits-on}
 use Rattle.permitted.proofs.Lists.{blank-bits, rows-listed}
 use Rattle.permitted.proofs.list_by.Statement.{statement}
@@ -31,7 +31,7 @@ returns c =
     let c₅ = c₂ .before .before .before in let entry = c₅ .entry in
     let c₈ = c₅ .before .before .before in let judge-all = c₈ .judge-all in
     let c₁₅ = c₈ .before .before .before .before .before .before .before in let args = c₁₅ .args in let pre = c₁₅ .pre in
-    (rows-listed (now (args .catalogue)) (now (args .values)) (part (now (args .permits)) (now (args .places))) (args .relation) (args .mask) _ (args .start) _ _ (now (args .marks)) _ (now (args .walks)) _ (pre .2) (judge-all .ensures) (ap (λ (x : Relation). x .rows) (entry .ensures .0)) (ap (λ (x : Relation). x .latest) (entry .ensures .0)) (collect .ensures .0), (collect .ensures .1 .0, omega (arith, collect .ensures .1 .1, (ap (λ (x : Relation). x .rows) (entry .ensures .0)))))
+    (rows-listed (now (args .catalogue)) (now (args .values)) (partIn (now (args .permits)) (now (args .table))) (args .grant .relation) (args .grant .mask) _ (args .grant .next) _ _ (now (args .marks)) _ (now (args .walks)) _ (pre .2) (judge-all .ensures) (ap (λ (x : Relation). x .rows) (entry .ensures .0)) (ap (λ (x : Relation). x .latest) (entry .ensures .0)) (collect .ensures .0), (collect .ensures .1 .0, omega (arith, collect .ensures .1 .1, (ap (λ (x : Relation). x .rows) (entry .ensures .0)))))
 
 pub list-by-spec : {M : Type 1} → statement M
 list-by-spec =

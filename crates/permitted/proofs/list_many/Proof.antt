@@ -16,4 +16,10 @@ list-by-requires c κs =
     (omega (arith, pre .0), omega (arith, pre .0, length-replicate {A = ℕ} 1024 0), getD-same {A = ℕ} 1024 0, pre .1, pre .2)
 
 pub list-many-spec : {M : Type 1} → statement M
-list-many-spec = tie.close (tie.spec (λ c. search needs) list-by-requires (λ c. search needs) (λ c. search needs))
+list-many-spec =
+    tie.close
+    (tie.spec
+    (λ c. search needs)
+    list-by-requires
+    (λ c. search needs)
+    (λ c. search needs))

@@ -11,11 +11,11 @@ use denote.Ref.{now}
 use Rattle.plain.proofs.Memo.{filled-trusted}
 
 remember-requires : tie.Need-remember-requires
-remember-requires c κs = omega (arith, length-replicate 256 (length (now (c .before .before .before .before .before .before .args .values))))
+remember-requires c κs = omega (arith, length-replicate 256 (length (now (c .before .before .before .before .before .args .values))))
 
 answer-by-requires : tie.Need-answer-by-requires
 answer-by-requires c κs = let remember = c .before .before .before .before .remember in
-    let args = c .before .before .before .before .before .before .before .before .before .before .before .args in let pre = c .before .before .before .before .before .before .before .before .before .before .before .pre in
+    let args = c .before .before .before .before .before .before .before .before .before .before .args in let pre = c .before .before .before .before .before .before .before .before .before .before .pre in
     let values = now (args .values) in
     (pre, filled-trusted (args .task .layout) (args .task .level) (now (args .q)) (now (args .z)) (pre .by) (now (args .walks)) values _ (replicate 256 (length values)) (pre .answerable) (remember .ensures .0))
 

@@ -5,6 +5,7 @@ use Prim.Native.Nat.{ℕ, _+_, _-_, _≤_, _<_}
 use mathlib.Core.List.{List, []}
 use lib.ListN.{length, getD}
 use lib.Seq.{length-take-le}
+use Rattle.elaborate.specs.Lookup.{roomOf}
 use Rattle.elaborate.specs.Places.{table}
 use Rattle.tokens.specs.Codes.{Coded}
 use Rattle.tokens.specs.Pieces.{counted}
@@ -19,13 +20,13 @@ use Rattle.reader.proofs.read_with.Tie as tie
 use Rattle.reader.proofs.read_with.Reads as reads
 use Rattle.reader.proofs.read_with.Lts as lts
 use Rattle.elaborate.proofs.elaborate.Reads as elaborate-reads
-use Rattle.names.proofs.listed.Reads as listed-reads
+use Rattle.reader.proofs.chained.Reads as chained-reads
 use Rattle.reader.proofs.refused.Reads as refused-reads
 use Rattle.reader.proofs.syntax.accepted.Reads as accepted-reads
 use Rattle.tokens.proofs.cut.Reads as cut-reads
 
 cut-requires : tie.Need-cut-requires
-cut-requires c κs = search needs
+cut-requires c κs = λ l. let p = c .before .before .before .before .before .before .before .before .before .before .pre .0 l in (p .0, p .1, p .2)
 
 enum-known-n : tie.Need-enum-known-n
 enum-known-n c = search needs
@@ -45,22 +46,22 @@ same-length-2 c = search needs
 same-length-3 : tie.Need-same-length-3
 same-length-3 c = search needs
 
-same-length-4 : tie.Need-same-length-4
-same-length-4 c = search needs
-
 returns : tie.Need-returns
-returns c = let cut = c .before .before .before .before .before .before .before .before .before .before .before .cut in
-    let args = c .before .before .before .before .before .before .before .before .before .before .before .before .before .before .before .before .before .before .before .before .before .before .before .before .args in
-    no-tokens (now (args .list)) (now (args .text)) (now (args .out)) (table (cut .last .1 .0) (cut .last .1 .1 .0) (cut .last .1 .1 .1 .0) (cut .last .1 .1 .1 .1 .0)) (cut .result) (cut .ensures .0) (c .before .enum-told .given .1) _ (c .refused .ensures)
+returns c = let cut = c .before .before .before .before .before .before .before .before .before .cut in
+    let args = c .before .before .before .before .before .before .before .before .before .before .before .before .before .before .before .before .before .before .before .before .args in
+    no-tokens (now (args .list)) (now (args .text)) (now (args .out)) (table (cut .last .1 .0) (cut .last .1 .1 .0) (cut .last .1 .1 .1 .0)) (cut .result) (cut .ensures .0) (c .before .enum-told .given .1) _ (c .refused .ensures)
 
 accepted-requires : tie.Need-accepted-requires
 accepted-requires c κs = let n = c .before .before .n in
-    let cut = c .before .before .before .before .before .before .before .before .before .before .before .before .cut in
-    let args = c .before .before .before .before .before .before .before .before .before .before .before .before .before .before .before .before .before .before .before .before .before .before .before .before .before .args in let pre = c .before .before .before .before .before .before .before .before .before .before .before .before .before .before .before .before .before .before .before .before .before .before .before .before .before .pre in
-    let m = (cut-most (cut .result) (n .given .0 .0) (now (args .text)) (table (cut .last .1 .0) (cut .last .1 .1 .0) (cut .last .1 .1 .1 .0) (cut .last .1 .1 .1 .1 .0)) (cut .ensures .1 .1) (cut .ensures .0) (n .given .1)) in (omega (arith, m .1, cut .kept .1 .0, pre .0 (m .2) .0), m .0)
+    let cut = c .before .before .before .before .before .before .before .before .before .before .cut in
+    let args = c .before .before .before .before .before .before .before .before .before .before .before .before .before .before .before .before .before .before .before .before .before .args in let pre = c .before .before .before .before .before .before .before .before .before .before .before .before .before .before .before .before .before .before .before .before .before .pre in
+    let m = (cut-most (cut .result) (n .given .0 .0) (now (args .text)) (table (cut .last .1 .0) (cut .last .1 .1 .0) (cut .last .1 .1 .1 .0)) (cut .ensures .1 .1) (cut .ensures .0) (n .given .1)) in (omega (arith, m .1, cut .kept .1 .0, pre .0 (m .2) .0), m .0)
 
 refused-requires-2 : tie.Need-refused-requires-2
 refused-requires-2 c κs = search needs
+
+same-length-4 : tie.Need-same-length-4
+same-length-4 c = search needs
 
 same-length-5 : tie.Need-same-length-5
 same-length-5 c = search needs
@@ -68,31 +69,63 @@ same-length-5 c = search needs
 same-length-6 : tie.Need-same-length-6
 same-length-6 c = search needs
 
+returns-2 : tie.Need-returns-2
+returns-2 c = let accepted = c .before .before .accepted in
+    let n = c .before .before .before .before .before .n in
+    let cut = c .before .before .before .before .before .before .before .before .before .before .before .before .before .cut in
+    let args = c .before .before .before .before .before .before .before .before .before .before .before .before .before .before .before .before .before .before .before .before .before .before .before .before .args in
+    let text = now (args .text) in
+    no-text (now (args .list)) text (now (args .out)) (table (cut .last .1 .0) (cut .last .1 .1 .0) (cut .last .1 .1 .1 .0)) (cut .result) (cut .ensures .0) _ (n .given .1) (accepted .result) (accepted .ensures text (table (cut .last .1 .0) (cut .last .1 .1 .0) (cut .last .1 .1 .1 .0)) refl) (c .before .if1 .taken) _ (c .refused2 .ensures)
+
+chained-requires : tie.Need-chained-requires
+chained-requires c κs = let cut = c .before .before .before .before .before .before .before .before .before .before .before .before .before .cut in let n = c .before .before .before .before .before .n in let args = c .before .before .before .before .before .before .before .before .before .before .before .before .before .before .before .before .before .before .before .before .before .before .before .before .args in let pre = c .before .before .before .before .before .before .before .before .before .before .before .before .before .before .before .before .before .before .before .before .before .before .before .before .pre in
+    let m = cut-most (cut .result) (n .given .0 .0) (now (args .text)) (table (cut .last .1 .0) (cut .last .1 .1 .0) (cut .last .1 .1 .1 .0)) (cut .ensures .1 .1) (cut .ensures .0) (n .given .1) in
+    (omega (arith, pre .0 (m .2) .3), pre .1)
+
+refused-requires-3 : tie.Need-refused-requires-3
+refused-requires-3 c κs = search needs
+
 same-length-7 : tie.Need-same-length-7
 same-length-7 c = search needs
 
 same-length-8 : tie.Need-same-length-8
 same-length-8 c = search needs
 
-returns-2 : tie.Need-returns-2
-returns-2 c = let accepted = c .before .before .accepted in
-    let n = c .before .before .before .before .before .n in
-    let cut = c .before .before .before .before .before .before .before .before .before .before .before .before .before .before .before .cut in
-    let args = c .before .before .before .before .before .before .before .before .before .before .before .before .before .before .before .before .before .before .before .before .before .before .before .before .before .before .before .before .args in
-    let text = now (args .text) in
-    no-text (now (args .list)) text (now (args .out)) (table (cut .last .1 .0) (cut .last .1 .1 .0) (cut .last .1 .1 .1 .0) (cut .last .1 .1 .1 .1 .0)) (cut .result) (cut .ensures .0) _ (n .given .1) (accepted .result) (accepted .ensures text (table (cut .last .1 .0) (cut .last .1 .1 .0) (cut .last .1 .1 .1 .0) (cut .last .1 .1 .1 .1 .0)) refl) (c .before .if1 .taken) _ (c .refused2 .ensures)
-
-listed-requires : tie.Need-listed-requires
-listed-requires c κs = search needs
-
-refused-requires-3 : tie.Need-refused-requires-3
-refused-requires-3 c κs = search needs
-
 same-length-9 : tie.Need-same-length-9
 same-length-9 c = search needs
 
 same-length-10 : tie.Need-same-length-10
 same-length-10 c = search needs
+
+returns-3 : tie.Need-returns-3
+returns-3 c = let chained = c .before .before .before .before .chained in
+    let if1 = c .before .before .before .before .before .before .if1 in
+    let accepted = c .before .before .before .before .before .before .before .accepted in
+    let n = c .before .before .before .before .before .before .before .before .before .before .n in
+    let cut = c .before .before .before .before .before .before .before .before .before .before .before .before .before .before .before .before .before .before .cut in
+    let args = c .before .before .before .before .before .before .before .before .before .before .before .before .before .before .before .before .before .before .before .before .before .before .before .before .before .before .before .before .before .args in
+    let text = now (args .text) in
+    bad-names (now (args .list)) text (now (args .out)) (table (cut .last .1 .0) (cut .last .1 .1 .0) (cut .last .1 .1 .1 .0)) (cut .result) (cut .ensures .0) _ (n .given .1) (accepted .result) (accepted .ensures text (table (cut .last .1 .0) (cut .last .1 .1 .0) (cut .last .1 .1 .1 .0)) refl) (if1 .left) (chained .result) (chained .ensures .0) (c .before .if2 .taken) _ (c .refused3 .ensures)
+
+slice-reshare-prefix-elaborate : tie.Need-slice-reshare-prefix-elaborate
+slice-reshare-prefix-elaborate c = let n = c .before .before .before .before .before .before .before .before .before .n in
+    let cut = c .before .before .before .before .before .before .before .before .before .before .before .before .before .before .before .before .before .cut in
+    let args = c .before .before .before .before .before .before .before .before .before .before .before .before .before .before .before .before .before .before .before .before .before .before .before .before .before .before .before .before .args in let pre = c .before .before .before .before .before .before .before .before .before .before .before .before .before .before .before .before .before .before .before .before .before .before .before .before .before .before .before .before .pre in
+    (let m = (cut-most (cut .result) (n .given .0 .0) (now (args .text)) (table (cut .last .1 .0) (cut .last .1 .1 .0) (cut .last .1 .1 .1 .0)) (cut .ensures .1 .1) (cut .ensures .0) (n .given .1)) in omega (arith, m .1, cut .kept .1 .0, pre .0 (m .2) .0))
+
+slice-aggregate-elaborate : tie.Need-slice-aggregate-elaborate
+slice-aggregate-elaborate c = let n = c .before .before .before .before .before .before .before .before .before .before .n in
+    let cut = c .before .before .before .before .before .before .before .before .before .before .before .before .before .before .before .before .before .before .cut in
+    let args = c .before .before .before .before .before .before .before .before .before .before .before .before .before .before .before .before .before .before .before .before .before .before .before .before .before .before .before .before .before .args in let pre = c .before .before .before .before .before .before .before .before .before .before .before .before .before .before .before .before .before .before .before .before .before .before .before .before .before .before .before .before .before .pre in
+    sym (length-take-le (n .given .0 .0) (cut .last .1 .0) (let m = (cut-most (cut .result) (n .given .0 .0) (now (args .text)) (table (cut .last .1 .0) (cut .last .1 .1 .0) (cut .last .1 .1 .1 .0)) (cut .ensures .1 .1) (cut .ensures .0) (n .given .1)) in omega (arith, m .1, cut .kept .1 .0, pre .0 (m .2) .0)))
+
+elaborate-requires : tie.Need-elaborate-requires
+elaborate-requires c κs = let chained = c .before .before .before .before .before .before .before .before .chained in let cut = c .before .before .before .before .before .before .before .before .before .before .before .before .before .before .before .before .before .before .before .before .before .before .cut in let n = c .before .before .before .before .before .before .before .before .before .before .before .before .before .before .n in let pre = c .before .before .before .before .before .before .before .before .before .before .before .before .before .before .before .before .before .before .before .before .before .before .before .before .before .before .before .before .before .before .before .before .before .pre in let text = now (c .before .before .before .before .before .before .before .before .before .before .before .before .before .before .before .before .before .before .before .before .before .before .before .before .before .before .before .before .before .before .before .before .before .args .text) in
+    let t = table (cut .last .1 .0) (cut .last .1 .1 .0) (cut .last .1 .1 .1 .0) in
+    let m = cut-most (cut .result) (n .given .0 .0) text t (cut .ensures .1 .1) (cut .ensures .0) (n .given .1) in
+    let h : n .given .0 .0 ≤ length (cut .last .1 .0) = omega (arith, m .1, cut .kept .1 .0, pre .0 (m .2) .0) in
+    let l = length-take-le (n .given .0 .0) (cut .last .1 .0) h in
+    ((omega (arith, l, m .0), omega (arith, l, m .1, cut .kept .1 .1 .1 .0, pre .0 (m .2) .2), coded-first text (cut .last .1 .0) (cut .last .1 .1 .0) (cut .last .1 .1 .1 .0) (n .given .0 .0) h (subst (λ (o : Outcome). Coded text t (counted o)) (n .given .1) (cut .ensures .1 .0)), c .before .before .before .before .before .before .before .before .chained .ensures .1 .0 (not-false (c .before .before .before .before .before .before .before .before .chained .result) (c .before .before .before .before .before .if2 .left))), (omega (arith, l, m .1, chained .kept .1 .0, ap roomOf (chained .kept .1 .0), pre .0 (m .2) .3), chained .ensures .1 .1))
 
 same-length-11 : tie.Need-same-length-11
 same-length-11 c = search needs
@@ -103,66 +136,23 @@ same-length-12 c = search needs
 same-length-13 : tie.Need-same-length-13
 same-length-13 c = search needs
 
-returns-3 : tie.Need-returns-3
-returns-3 c = let listed = c .before .before .before .before .listed in
-    let if1 = c .before .before .before .before .before .before .if1 in
-    let accepted = c .before .before .before .before .before .before .before .accepted in
-    let n = c .before .before .before .before .before .before .before .before .before .before .n in
-    let cut = c .before .before .before .before .before .before .before .before .before .before .before .before .before .before .before .before .before .before .before .before .cut in
-    let args = c .before .before .before .before .before .before .before .before .before .before .before .before .before .before .before .before .before .before .before .before .before .before .before .before .before .before .before .before .before .before .before .before .before .args in
-    let text = now (args .text) in
-    bad-names (now (args .list)) text (now (args .out)) (table (cut .last .1 .0) (cut .last .1 .1 .0) (cut .last .1 .1 .1 .0) (cut .last .1 .1 .1 .1 .0)) (cut .result) (cut .ensures .0) _ (n .given .1) (accepted .result) (accepted .ensures text (table (cut .last .1 .0) (cut .last .1 .1 .0) (cut .last .1 .1 .1 .0) (cut .last .1 .1 .1 .1 .0)) refl) (if1 .left) (listed .result) (listed .ensures .0) (c .before .if2 .taken) _ (c .refused3 .ensures)
-
-slice-reshare-prefix-elaborate : tie.Need-slice-reshare-prefix-elaborate
-slice-reshare-prefix-elaborate c = let n = c .before .before .before .before .before .before .before .before .before .n in
-    let cut = c .before .before .before .before .before .before .before .before .before .before .before .before .before .before .before .before .before .before .before .cut in
-    let args = c .before .before .before .before .before .before .before .before .before .before .before .before .before .before .before .before .before .before .before .before .before .before .before .before .before .before .before .before .before .before .before .before .args in let pre = c .before .before .before .before .before .before .before .before .before .before .before .before .before .before .before .before .before .before .before .before .before .before .before .before .before .before .before .before .before .before .before .before .pre in
-    (let m = (cut-most (cut .result) (n .given .0 .0) (now (args .text)) (table (cut .last .1 .0) (cut .last .1 .1 .0) (cut .last .1 .1 .1 .0) (cut .last .1 .1 .1 .1 .0)) (cut .ensures .1 .1) (cut .ensures .0) (n .given .1)) in omega (arith, m .1, cut .kept .1 .0, pre .0 (m .2) .0))
-
-slice-aggregate-elaborate : tie.Need-slice-aggregate-elaborate
-slice-aggregate-elaborate c = let n = c .before .before .before .before .before .before .before .before .before .before .n in
-    let cut = c .before .before .before .before .before .before .before .before .before .before .before .before .before .before .before .before .before .before .before .before .cut in
-    let args = c .before .before .before .before .before .before .before .before .before .before .before .before .before .before .before .before .before .before .before .before .before .before .before .before .before .before .before .before .before .before .before .before .before .args in let pre = c .before .before .before .before .before .before .before .before .before .before .before .before .before .before .before .before .before .before .before .before .before .before .before .before .before .before .before .before .before .before .before .before .before .pre in
-    sym (length-take-le (n .given .0 .0) (cut .last .1 .0) (let m = (cut-most (cut .result) (n .given .0 .0) (now (args .text)) (table (cut .last .1 .0) (cut .last .1 .1 .0) (cut .last .1 .1 .1 .0) (cut .last .1 .1 .1 .1 .0)) (cut .ensures .1 .1) (cut .ensures .0) (n .given .1)) in omega (arith, m .1, cut .kept .1 .0, pre .0 (m .2) .0)))
-
-elaborate-requires : tie.Need-elaborate-requires
-elaborate-requires c κs =
-    let cut = c .before .before .before .before .before .before .before .before .before .before .before .before .before .before .before .before .before .before .before .before .before .before .before .before .before .cut in let n = c .before .before .before .before .before .before .before .before .before .before .before .before .before .before .before .n in let pre = c .before .before .before .before .before .before .before .before .before .before .before .before .before .before .before .before .before .before .before .before .before .before .before .before .before .before .before .before .before .before .before .before .before .before .before .before .before .before .pre in let text = now (c .before .before .before .before .before .before .before .before .before .before .before .before .before .before .before .before .before .before .before .before .before .before .before .before .before .before .before .before .before .before .before .before .before .before .before .before .before .before .args .text) in
-    let t = table (cut .last .1 .0) (cut .last .1 .1 .0) (cut .last .1 .1 .1 .0) (cut .last .1 .1 .1 .1 .0) in
-    let m = cut-most (cut .result) (n .given .0 .0) text t (cut .ensures .1 .1) (cut .ensures .0) (n .given .1) in
-    let h : n .given .0 .0 ≤ length (cut .last .1 .0) = omega (arith, m .1, cut .kept .1 .0, pre .0 (m .2) .0) in
-    let l = length-take-le (n .given .0 .0) (cut .last .1 .0) h in
-    (omega (arith, l, m .0), omega (arith, l, m .1, cut .kept .1 .1 .1 .1 .0, pre .0 (m .2) .3), coded-first text (cut .last .1 .0) (cut .last .1 .1 .0) (cut .last .1 .1 .1 .0) (cut .last .1 .1 .1 .1 .0) (n .given .0 .0) h (subst (λ (o : Outcome). Coded text t (counted o)) (n .given .1) (cut .ensures .1 .0)), c .before .before .before .before .before .before .before .before .before .listed .ensures .1 (not-false (c .before .before .before .before .before .before .before .before .before .listed .result) (c .before .before .before .before .before .before .if2 .left)))
-
 same-length-14 : tie.Need-same-length-14
 same-length-14 c = search needs
 
 same-length-15 : tie.Need-same-length-15
 same-length-15 c = search needs
 
-same-length-16 : tie.Need-same-length-16
-same-length-16 c = search needs
-
-same-length-17 : tie.Need-same-length-17
-same-length-17 c = search needs
-
-same-length-18 : tie.Need-same-length-18
-same-length-18 c = search needs
-
-same-length-19 : tie.Need-same-length-19
-same-length-19 c = search needs
-
 returns-4 : tie.Need-returns-4
-returns-4 c = let elaborate = c .before .before .elaborate in
-    let if2 = c .before .before .before .before .before .before .before .before .before .if2 in
-    let listed = c .before .before .before .before .before .before .before .before .before .before .before .before .listed in
-    let if1 = c .before .before .before .before .before .before .before .before .before .before .before .before .before .before .if1 in
-    let accepted = c .before .before .before .before .before .before .before .before .before .before .before .before .before .before .before .accepted in
-    let n = c .before .before .before .before .before .before .before .before .before .before .before .before .before .before .before .before .before .before .n in
-    let cut = c .before .before .before .before .before .before .before .before .before .before .before .before .before .before .before .before .before .before .before .before .before .before .before .before .before .before .before .before .cut in
-    let args = c .before .before .before .before .before .before .before .before .before .before .before .before .before .before .before .before .before .before .before .before .before .before .before .before .before .before .before .before .before .before .before .before .before .before .before .before .before .before .before .before .before .args in let pre = c .before .before .before .before .before .before .before .before .before .before .before .before .before .before .before .before .before .before .before .before .before .before .before .before .before .before .before .before .before .before .before .before .before .before .before .before .before .before .before .before .before .pre in
+returns-4 c = let elaborate = c .before .before .before .before .elaborate in
+    let if2 = c .before .before .before .before .before .before .before .before .before .before .if2 in
+    let chained = c .before .before .before .before .before .before .before .before .before .before .before .before .before .chained in
+    let if1 = c .before .before .before .before .before .before .before .before .before .before .before .before .before .before .before .if1 in
+    let accepted = c .before .before .before .before .before .before .before .before .before .before .before .before .before .before .before .before .accepted in
+    let n = c .before .before .before .before .before .before .before .before .before .before .before .before .before .before .before .before .before .before .before .n in
+    let cut = c .before .before .before .before .before .before .before .before .before .before .before .before .before .before .before .before .before .before .before .before .before .before .before .before .before .before .before .cut in
+    let args = c .before .before .before .before .before .before .before .before .before .before .before .before .before .before .before .before .before .before .before .before .before .before .before .before .before .before .before .before .before .before .before .before .before .before .before .before .before .before .args in let pre = c .before .before .before .before .before .before .before .before .before .before .before .before .before .before .before .before .before .before .before .before .before .before .before .before .before .before .before .before .before .before .before .before .before .before .before .before .before .before .pre in
     let text = now (args .text) in
-    read-names (now (args .list)) text (now (args .out)) (table (cut .last .1 .0) (cut .last .1 .1 .0) (cut .last .1 .1 .1 .0) (cut .last .1 .1 .1 .1 .0)) (cut .result) (cut .ensures .0) _ (n .given .1) (accepted .result) (accepted .ensures text (table (cut .last .1 .0) (cut .last .1 .1 .0) (cut .last .1 .1 .1 .0) (cut .last .1 .1 .1 .1 .0)) refl) (if1 .left) (listed .result) (listed .ensures .0) (if2 .left) _ (first-tokens text (cut .last .1 .0) (cut .last .1 .1 .0) (cut .last .1 .1 .1 .0) (cut .last .1 .1 .1 .1 .0) (n .given .0 .0) (let m = (cut-most (cut .result) (n .given .0 .0) text (table (cut .last .1 .0) (cut .last .1 .1 .0) (cut .last .1 .1 .1 .0) (cut .last .1 .1 .1 .1 .0)) (cut .ensures .1 .1) (cut .ensures .0) (n .given .1)) in omega (arith, m .1, cut .kept .1 .0, pre .0 (m .2) .0))) _ _ (elaborate .ensures)
+    read-names (now (args .list)) text (now (args .out)) (table (cut .last .1 .0) (cut .last .1 .1 .0) (cut .last .1 .1 .1 .0)) (cut .result) (cut .ensures .0) _ (n .given .1) (accepted .result) (accepted .ensures text (table (cut .last .1 .0) (cut .last .1 .1 .0) (cut .last .1 .1 .1 .0)) refl) (if1 .left) (chained .result) (chained .ensures .0) (if2 .left) _ (first-tokens text (cut .last .1 .0) (cut .last .1 .1 .0) (cut .last .1 .1 .1 .0) (n .given .0 .0) (let m = (cut-most (cut .result) (n .given .0 .0) text (table (cut .last .1 .0) (cut .last .1 .1 .0) (cut .last .1 .1 .1 .0)) (cut .ensures .1 .1) (cut .ensures .0) (n .given .1)) in omega (arith, m .1, cut .kept .1 .0, pre .0 (m .2) .0))) _ _ (elaborate .ensures)
 
 pub read-with-spec : {M : Type 1} → statement M
 read-with-spec =
@@ -175,30 +165,26 @@ read-with-spec =
     same-length
     same-length-2
     same-length-3
-    same-length-4
     returns
     accepted-requires
     refused-requires-2
+    same-length-4
     same-length-5
     same-length-6
+    returns-2
+    chained-requires
+    refused-requires-3
     same-length-7
     same-length-8
-    returns-2
-    listed-requires
-    refused-requires-3
     same-length-9
     same-length-10
-    same-length-11
-    same-length-12
-    same-length-13
     returns-3
     slice-reshare-prefix-elaborate
     slice-aggregate-elaborate
     elaborate-requires
+    same-length-11
+    same-length-12
+    same-length-13
     same-length-14
     same-length-15
-    same-length-16
-    same-length-17
-    same-length-18
-    same-length-19
     returns-4)

@@ -2,7 +2,7 @@ use borrow.Author.Needs.{needs}
 use native.Mathlib.Omega.{arith}
 use mathlib.Core.Path.{_≡_, refl, sym, ap, _∙_}
 use denote.Ref.{now}
-use Rattle.copier.specs.Guard.{part}
+use Rattle.rewriter.specs.Rewritten.{masksIn, partIn}
 use Rattle.queries.proofs.Steps.{none-left, other-here, range-here}
 use Rattle.rewriter.proofs.Sequences.{pair-first, pair-second, pair-did, no-guards, guard-first}
 use Prim.Native.Nat.{ℕ, _<_, _+_, _-_}
@@ -19,43 +19,39 @@ use Rattle.rewriter.proofs.mask.Reads as mask-reads
 use Rattle.rewriter.proofs.+guard_ranges.{statement}
 use Rattle.rewriter.proofs.+guard_ranges.Tie.{close}
 
-abbrev μ-guard-ranges : Measures 5 guard-ranges-kinds.ps ℕ
+abbrev μ-guard-ranges : Measures 4 guard-ranges-kinds.ps ℕ
 μ-guard-ranges κs a = a .1 .0
 
-abbrev guard-ranges-at : ℕ → In 5 guard-ranges-kinds.ps
+abbrev guard-ranges-at : ℕ → In 4 guard-ranges-kinds.ps
 guard-ranges-at t =
-    and 5 guard-ranges-kinds.ps (is 5 guard-ranges-kinds.ps μ-guard-ranges t) guard-ranges.Pre
+    and 4 guard-ranges-kinds.ps (is 4 guard-ranges-kinds.ps μ-guard-ranges t) guard-ranges.Pre
 
-abbrev guard-ranges-below : ℕ → In 5 guard-ranges-kinds.ps
+abbrev guard-ranges-below : ℕ → In 4 guard-ranges-kinds.ps
 guard-ranges-below t =
-    and
-    5
-    guard-ranges-kinds.ps
-    (falls 5 guard-ranges-kinds.ps _<_ μ-guard-ranges t)
-    guard-ranges.Pre
+    and 4 guard-ranges-kinds.ps (falls 4 guard-ranges-kinds.ps _<_ μ-guard-ranges t) guard-ranges.Pre
 
 abbrev guard-ranges-claims : ℕ → guard-ranges-lts.Claims
 guard-ranges-claims t = (head-record-reads.Asked, head-record-reads.Learnt, mask-reads.Asked, mask-reads.Learnt, write-guard-reads.Asked, write-guard-reads.Learnt, record-length-reads.Asked, record-length-reads.Learnt, tail-reads.Asked, tail-reads.Learnt, guard-ranges-below t, guard-ranges.Post)
 
 guard-ranges-returns : (t : ℕ) → guard-ranges-lts.Need-returns (guard-ranges-claims t) (guard-ranges-at t) guard-ranges.Post
 guard-ranges-returns t c =
-    let c₆ = c .before .before .before .before .before .before in let args = c₆ .args in
-    no-guards (now (args .masks)) (part (now (args .permits)) (now (args .places))) _ (none-left (args .left) (now (args .q)) (c .if1 .taken)) (now (args .out)) (args .to .at) (args .to .next)
+    let c₅ = c .before .before .before .before .before in let args = c₅ .args in
+    no-guards (masksIn (now (args .table))) (partIn (now (args .permits)) (now (args .table))) _ (none-left (args .left) (now (args .q)) (c .if1 .taken)) (now (args .out)) (args .to .at) (args .to .next)
 
 guard-ranges-returns-2 : (t : ℕ) → guard-ranges-lts.Need-returns-2 (guard-ranges-claims t) (guard-ranges-at t) guard-ranges.Post
 guard-ranges-returns-2 t c =
     let c₂ = c .before .before in let head-record = c₂ .head-record in
     let c₃ = c₂ .before in let if1 = c₃ .if1 in
-    let c₉ = c₃ .before .before .before .before .before .before in let args = c₉ .args in
-    no-guards (now (args .masks)) (part (now (args .permits)) (now (args .places))) _ (other-here (args .left) (now (args .q)) (if1 .left) (head-record .result) (head-record .ensures) (c .enum-told .given .1)) (now (args .out)) (args .to .at) (args .to .next)
+    let c₈ = c₃ .before .before .before .before .before in let args = c₈ .args in
+    no-guards (masksIn (now (args .table))) (partIn (now (args .permits)) (now (args .table))) _ (other-here (args .left) (now (args .q)) (if1 .left) (head-record .result) (head-record .ensures) (c .enum-told .given .1)) (now (args .out)) (args .to .at) (args .to .next)
 
 guard-ranges-write-guard-requires : (t : ℕ) → guard-ranges-lts.Need-write-guard-requires (guard-ranges-claims t) (guard-ranges-at t) guard-ranges.Post
 guard-ranges-write-guard-requires t c κs =
     let c₃ = c .before .before .before in let v = c₃ .v in
     let c₅ = c₃ .before .before in let head-record = c₅ .head-record in
     let c₆ = c₅ .before in let if1 = c₆ .if1 in
-    let c₁₂ = c₆ .before .before .before .before .before .before in let args = c₁₂ .args in let pre = c₁₂ .pre in
-    pair-first _ _ _ _ _ _ _ (guard-first _ _ _ _ (range-here (args .left) (now (args .q)) (if1 .left) (head-record .result) (head-record .ensures) _ _ (v .given .1) _ _ refl refl) (now (args .masks)) (part (now (args .permits)) (now (args .places))) _ (args .to .next) (c .mask .ensures)) (args .to .at) (pre .1)
+    let c₁₁ = c₆ .before .before .before .before .before in let args = c₁₁ .args in let pre = c₁₁ .pre in
+    let g = pair-first _ _ _ _ _ _ _ (guard-first _ _ _ _ (range-here (args .left) (now (args .q)) (if1 .left) (head-record .result) (head-record .ensures) _ _ (v .given .1) _ _ refl refl) (masksIn (now (args .table))) (partIn (now (args .permits)) (now (args .table))) _ (args .to .next) (c .mask .ensures .0)) (args .to .at) (pre .1) in (g .0, g .1, c .mask .ensures .1)
 
 guard-ranges-guard-ranges-requires : (t : ℕ) → guard-ranges-lts.Need-guard-ranges-requires (guard-ranges-claims t) (guard-ranges-at t) guard-ranges.Post
 guard-ranges-guard-ranges-requires t c κs =
@@ -64,8 +60,8 @@ guard-ranges-guard-ranges-requires t c κs =
     let c₉ = c₆ .before .before .before in let v = c₉ .v in
     let c₁₁ = c₉ .before .before in let head-record = c₁₁ .head-record in
     let c₁₂ = c₁₁ .before in let if1 = c₁₂ .if1 in
-    let c₁₈ = c₁₂ .before .before .before .before .before .before in let args = c₁₈ .args in let pre = c₁₈ .pre in
-    (omega (arith, pre .0, if1 .left), pair-second _ _ _ _ _ _ _ (guard-first _ _ _ _ (range-here (args .left) (now (args .q)) (if1 .left) (head-record .result) (head-record .ensures) _ _ (v .given .1) _ _ (c .before .before .record-length .ensures .0) (c .before .tail .ensures)) (now (args .masks)) (part (now (args .permits)) (now (args .places))) _ (args .to .next) (mask .ensures)) (args .to .at) (now (args .out)) _ _ _ (write-guard .ensures) (pre .1))
+    let c₁₇ = c₁₂ .before .before .before .before .before in let args = c₁₇ .args in let pre = c₁₇ .pre in
+    (omega (arith, pre .0, if1 .left), pair-second _ _ _ _ _ _ _ (guard-first _ _ _ _ (range-here (args .left) (now (args .q)) (if1 .left) (head-record .result) (head-record .ensures) _ _ (v .given .1) _ _ (c .before .before .record-length .ensures .0) (c .before .tail .ensures)) (masksIn (now (args .table))) (partIn (now (args .permits)) (now (args .table))) _ (args .to .next) (mask .ensures .0)) (args .to .at) (now (args .out)) _ _ _ (write-guard .ensures) (pre .1))
 
 guard-ranges-returns-3 : (t : ℕ) → guard-ranges-lts.Need-returns-3 (guard-ranges-claims t) (guard-ranges-at t) guard-ranges.Post
 guard-ranges-returns-3 t c =
@@ -76,8 +72,8 @@ guard-ranges-returns-3 t c =
     let c₁₂ = c₉ .before .before .before in let v = c₁₂ .v in
     let c₁₄ = c₁₂ .before .before in let head-record = c₁₄ .head-record in
     let c₁₅ = c₁₄ .before in let if1 = c₁₅ .if1 in
-    let c₂₁ = c₁₅ .before .before .before .before .before .before in let args = c₂₁ .args in
-    pair-did _ _ _ _ _ _ _ (guard-first _ _ _ _ (range-here (args .left) (now (args .q)) (if1 .left) (head-record .result) (head-record .ensures) _ _ (v .given .1) _ _ (record-length .ensures .0) (tail .ensures)) (now (args .masks)) (part (now (args .permits)) (now (args .places))) _ (args .to .next) (mask .ensures)) (args .to .at) (now (args .out)) _ _ _ (write-guard .ensures) _ _ _ (c .before .before .guard-ranges .ensures)
+    let c₂₀ = c₁₅ .before .before .before .before .before in let args = c₂₀ .args in
+    pair-did _ _ _ _ _ _ _ (guard-first _ _ _ _ (range-here (args .left) (now (args .q)) (if1 .left) (head-record .result) (head-record .ensures) _ _ (v .given .1) _ _ (record-length .ensures .0) (tail .ensures)) (masksIn (now (args .table))) (partIn (now (args .permits)) (now (args .table))) _ (args .to .next) (mask .ensures .0)) (args .to .at) (now (args .out)) _ _ _ (write-guard .ensures) _ _ _ (c .before .before .guard-ranges .ensures)
 
 pub +guard-ranges-spec : {M : Type 1} → statement M
 +guard-ranges-spec = close μ-guard-ranges λ t. guard-ranges-lts.spec (guard-ranges-claims t)

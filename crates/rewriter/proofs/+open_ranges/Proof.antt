@@ -3,6 +3,7 @@ use native.Mathlib.Omega.{arith}
 use mathlib.Core.Path.{_≡_, refl, sym, ap, _∙_}
 use denote.Ref.{now}
 use Rattle.copier.specs.Guard.{part}
+use Rattle.rewriter.specs.Rewritten.{placesIn, masksIn}
 use Rattle.queries.proofs.Steps.{none-left, other-here, range-here}
 use Rattle.rewriter.proofs.Sequences.{two-first, two-second, two-wrote, no-openings, opening-last}
 use Rattle.copier.proofs.Sets.{wrote-nothing}
@@ -38,14 +39,14 @@ open-ranges-claims t = (head-record-reads.Asked, head-record-reads.Learnt, recor
 open-ranges-returns : (t : ℕ) → open-ranges-lts.Need-returns (open-ranges-claims t) (open-ranges-at t) open-ranges.Post
 open-ranges-returns t c =
     let c₄ = c .before .before .before .before in let args = c₄ .args in
-    wrote-nothing (now (args .out)) (args .at) _ (no-openings (now (args .masks)) _ (none-left (args .left) (now (args .q)) (c .if1 .taken)))
+    wrote-nothing (now (args .out)) (args .at) _ (no-openings (masksIn (now (args .table))) _ (none-left (args .left) (now (args .q)) (c .if1 .taken)))
 
 open-ranges-returns-2 : (t : ℕ) → open-ranges-lts.Need-returns-2 (open-ranges-claims t) (open-ranges-at t) open-ranges.Post
 open-ranges-returns-2 t c =
     let c₂ = c .before .before in let head-record = c₂ .head-record in
     let c₃ = c₂ .before in let if1 = c₃ .if1 in
     let c₇ = c₃ .before .before .before .before in let args = c₇ .args in
-    wrote-nothing (now (args .out)) (args .at) _ (no-openings (now (args .masks)) _ (other-here (args .left) (now (args .q)) (if1 .left) (head-record .result) (head-record .ensures) (c .enum-told .given .1)))
+    wrote-nothing (now (args .out)) (args .at) _ (no-openings (masksIn (now (args .table))) _ (other-here (args .left) (now (args .q)) (if1 .left) (head-record .result) (head-record .ensures) (c .enum-told .given .1)))
 
 open-ranges-open-ranges-requires : (t : ℕ) → open-ranges-lts.Need-open-ranges-requires (open-ranges-claims t) (open-ranges-at t) open-ranges.Post
 open-ranges-open-ranges-requires t c κs =
@@ -53,7 +54,7 @@ open-ranges-open-ranges-requires t c κs =
     let c₆ = c₄ .before .before in let head-record = c₆ .head-record in
     let c₇ = c₆ .before in let if1 = c₇ .if1 in
     let c₁₁ = c₇ .before .before .before .before in let args = c₁₁ .args in let pre = c₁₁ .pre in
-    (omega (arith, pre .0, if1 .left), two-first _ _ _ (opening-last _ _ _ _ (range-here (args .left) (now (args .q)) (if1 .left) (head-record .result) (head-record .ensures) _ _ (variable .given .1) _ _ (c .before .before .record-length .ensures .0) (c .before .tail .ensures)) (now (args .masks)) _ refl) (args .at) (pre .1))
+    (omega (arith, pre .0, if1 .left), two-first _ _ _ (opening-last _ _ _ _ (range-here (args .left) (now (args .q)) (if1 .left) (head-record .result) (head-record .ensures) _ _ (variable .given .1) _ _ (c .before .before .record-length .ensures .0) (c .before .tail .ensures)) (masksIn (now (args .table))) _ refl) (args .at) (pre .1))
 
 open-ranges-open-guard-requires : (t : ℕ) → open-ranges-lts.Need-open-guard-requires (open-ranges-claims t) (open-ranges-at t) open-ranges.Post
 open-ranges-open-guard-requires t c κs =
@@ -64,7 +65,7 @@ open-ranges-open-guard-requires t c κs =
     let c₁₁ = c₉ .before .before in let head-record = c₁₁ .head-record in
     let c₁₂ = c₁₁ .before in let if1 = c₁₂ .if1 in
     let c₁₆ = c₁₂ .before .before .before .before in let args = c₁₆ .args in let pre = c₁₆ .pre in
-    two-second _ _ _ (opening-last _ _ _ _ (range-here (args .left) (now (args .q)) (if1 .left) (head-record .result) (head-record .ensures) _ _ (variable .given .1) _ _ (record-length .ensures .0) (tail .ensures)) (now (args .masks)) _ (c .mask .ensures)) (args .at) (pre .1) (now (args .out)) _ _ (open-ranges .ensures)
+    two-second _ _ _ (opening-last _ _ _ _ (range-here (args .left) (now (args .q)) (if1 .left) (head-record .result) (head-record .ensures) _ _ (variable .given .1) _ _ (record-length .ensures .0) (tail .ensures)) (masksIn (now (args .table))) _ (c .mask .ensures .0)) (args .at) (pre .1) (now (args .out)) _ _ (open-ranges .ensures)
 
 open-ranges-returns-3 : (t : ℕ) → open-ranges-lts.Need-returns-3 (open-ranges-claims t) (open-ranges-at t) open-ranges.Post
 open-ranges-returns-3 t c =
@@ -76,7 +77,7 @@ open-ranges-returns-3 t c =
     let c₁₄ = c₁₂ .before .before in let head-record = c₁₄ .head-record in
     let c₁₅ = c₁₄ .before in let if1 = c₁₅ .if1 in
     let c₁₉ = c₁₅ .before .before .before .before in let args = c₁₉ .args in
-    two-wrote _ _ _ (opening-last _ _ _ _ (range-here (args .left) (now (args .q)) (if1 .left) (head-record .result) (head-record .ensures) _ _ (variable .given .1) _ _ (record-length .ensures .0) (tail .ensures)) (now (args .masks)) _ (mask .ensures)) (now (args .out)) (args .at) _ _ (open-ranges .ensures) _ _ (c .before .before .open-guard .ensures)
+    two-wrote _ _ _ (opening-last _ _ _ _ (range-here (args .left) (now (args .q)) (if1 .left) (head-record .result) (head-record .ensures) _ _ (variable .given .1) _ _ (record-length .ensures .0) (tail .ensures)) (masksIn (now (args .table))) _ (mask .ensures .0)) (now (args .out)) (args .at) _ _ (open-ranges .ensures) _ _ (c .before .before .open-guard .ensures)
 
 pub +open-ranges-spec : {M : Type 1} → statement M
 +open-ranges-spec = close μ-open-ranges λ t. open-ranges-lts.spec (open-ranges-claims t)

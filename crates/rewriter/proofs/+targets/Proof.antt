@@ -2,7 +2,7 @@ use borrow.Author.Needs.{needs}
 use native.Mathlib.Omega.{arith}
 use mathlib.Core.Path.{_≡_, refl, sym, ap, _∙_}
 use denote.Ref.{now}
-use Rattle.copier.specs.Guard.{part}
+use Rattle.rewriter.specs.Rewritten.{masksIn, partIn}
 use Rattle.rewriter.proofs.Sequences.{pair-first, pair-second, pair-did, no-targets, target-first}
 use Prim.Native.Nat.{ℕ, _<_, _+_, _-_}
 use borrow.Fn.Kinds.{In}
@@ -17,35 +17,35 @@ use Rattle.rewriter.proofs.term.Reads as term-reads
 use Rattle.rewriter.proofs.+targets.{statement}
 use Rattle.rewriter.proofs.+targets.Tie.{close}
 
-abbrev μ-targets : Measures 6 targets-kinds.ps ℕ
+abbrev μ-targets : Measures 5 targets-kinds.ps ℕ
 μ-targets κs a = a .1 .1 .0
 
-abbrev targets-at : ℕ → In 6 targets-kinds.ps
-targets-at t = and 6 targets-kinds.ps (is 6 targets-kinds.ps μ-targets t) targets.Pre
+abbrev targets-at : ℕ → In 5 targets-kinds.ps
+targets-at t = and 5 targets-kinds.ps (is 5 targets-kinds.ps μ-targets t) targets.Pre
 
-abbrev targets-below : ℕ → In 6 targets-kinds.ps
-targets-below t = and 6 targets-kinds.ps (falls 6 targets-kinds.ps _<_ μ-targets t) targets.Pre
+abbrev targets-below : ℕ → In 5 targets-kinds.ps
+targets-below t = and 5 targets-kinds.ps (falls 5 targets-kinds.ps _<_ μ-targets t) targets.Pre
 
 abbrev targets-claims : ℕ → targets-lts.Claims
 targets-claims t = (term-reads.Asked, term-reads.Learnt, size-at-reads.Asked, size-at-reads.Learnt, tail-reads.Asked, tail-reads.Learnt, tail-sizes-reads.Asked, tail-sizes-reads.Learnt, targets-below t, targets.Post)
 
 targets-returns : (t : ℕ) → targets-lts.Need-returns (targets-claims t) (targets-at t) targets.Post
 targets-returns t c =
-    let c₇ = c .before .before .before .before .before .before .before in let args = c₇ .args in
-    no-targets (now (args .masks)) (part (now (args .permits)) (now (args .places))) (args .left) (args .level) (now (args .q)) (now (args .z)) (c .if1 .taken) (now (args .out)) (args .to .at) (args .to .next)
+    let c₆ = c .before .before .before .before .before .before in let args = c₆ .args in
+    no-targets (masksIn (now (args .table))) (partIn (now (args .permits)) (now (args .table))) (args .left) (args .to .level) (now (args .q)) (now (args .z)) (c .if1 .taken) (now (args .out)) (args .to .at) (args .to .next)
 
 targets-term-requires : (t : ℕ) → targets-lts.Need-term-requires (targets-claims t) (targets-at t) targets.Post
 targets-term-requires t c κs =
-    let c₈ = c .before .before .before .before .before .before .before .before in let args = c₈ .args in let pre = c₈ .pre in
-    pair-first _ _ _ _ _ _ _ (target-first (now (args .masks)) (part (now (args .permits)) (now (args .places))) (args .left) (args .level) (now (args .q)) (now (args .z)) (c .before .if1 .left) _ refl _ _ refl refl (args .to .next)) (args .to .at) (pre .1)
+    let c₇ = c .before .before .before .before .before .before .before in let args = c₇ .args in let pre = c₇ .pre in
+    pair-first _ _ _ _ _ _ _ (target-first (masksIn (now (args .table))) (partIn (now (args .permits)) (now (args .table))) (args .left) (args .to .level) (now (args .q)) (now (args .z)) (c .before .if1 .left) _ refl _ _ refl refl (args .to .next)) (args .to .at) (pre .1)
 
 targets-targets-requires : (t : ℕ) → targets-lts.Need-targets-requires (targets-claims t) (targets-at t) targets.Post
 targets-targets-requires t c κs =
     let c₃ = c .before .before .before in let size-at = c₃ .size-at in
     let c₆ = c₃ .before .before .before in let term = c₆ .term in
     let c₈ = c₆ .before .before in let if1 = c₈ .if1 in
-    let c₁₅ = c₈ .before .before .before .before .before .before .before in let args = c₁₅ .args in let pre = c₁₅ .pre in
-    (omega (arith, pre .0, if1 .left), pair-second _ _ _ _ _ _ _ (target-first (now (args .masks)) (part (now (args .permits)) (now (args .places))) (args .left) (args .level) (now (args .q)) (now (args .z)) (if1 .left) _ (size-at .ensures .0) _ _ (c .before .before .tail .ensures) (c .before .tail-sizes .ensures) (args .to .next)) (args .to .at) (now (args .out)) _ _ _ (term .ensures) (pre .1))
+    let c₁₄ = c₈ .before .before .before .before .before .before in let args = c₁₄ .args in let pre = c₁₄ .pre in
+    (omega (arith, pre .0, if1 .left), pair-second _ _ _ _ _ _ _ (target-first (masksIn (now (args .table))) (partIn (now (args .permits)) (now (args .table))) (args .left) (args .to .level) (now (args .q)) (now (args .z)) (if1 .left) _ (size-at .ensures .0) _ _ (c .before .before .tail .ensures) (c .before .tail-sizes .ensures) (args .to .next)) (args .to .at) (now (args .out)) _ _ _ (term .ensures) (pre .1))
 
 targets-returns-2 : (t : ℕ) → targets-lts.Need-returns-2 (targets-claims t) (targets-at t) targets.Post
 targets-returns-2 t c =
@@ -54,8 +54,8 @@ targets-returns-2 t c =
     let c₆ = c₅ .before in let size-at = c₆ .size-at in
     let c₉ = c₆ .before .before .before in let term = c₉ .term in
     let c₁₁ = c₉ .before .before in let if1 = c₁₁ .if1 in
-    let c₁₈ = c₁₁ .before .before .before .before .before .before .before in let args = c₁₈ .args in
-    pair-did _ _ _ _ _ _ _ (target-first (now (args .masks)) (part (now (args .permits)) (now (args .places))) (args .left) (args .level) (now (args .q)) (now (args .z)) (if1 .left) _ (size-at .ensures .0) _ _ (tail .ensures) (tail-sizes .ensures) (args .to .next)) (args .to .at) (now (args .out)) _ _ _ (term .ensures) _ _ _ (c .before .before .targets .ensures)
+    let c₁₇ = c₁₁ .before .before .before .before .before .before in let args = c₁₇ .args in
+    pair-did _ _ _ _ _ _ _ (target-first (masksIn (now (args .table))) (partIn (now (args .permits)) (now (args .table))) (args .left) (args .to .level) (now (args .q)) (now (args .z)) (if1 .left) _ (size-at .ensures .0) _ _ (tail .ensures) (tail-sizes .ensures) (args .to .next)) (args .to .at) (now (args .out)) _ _ _ (term .ensures) _ _ _ (c .before .before .targets .ensures)
 
 pub +targets-spec : {M : Type 1} → statement M
 +targets-spec = close μ-targets λ t. targets-lts.spec (targets-claims t)

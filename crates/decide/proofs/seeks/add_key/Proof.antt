@@ -38,10 +38,10 @@ slice-write-chains : tie.Need-slice-write-chains
 slice-write-chains c = omega (arith, (c .before .before .before .before .before .before .before .before .before .before .before .pays .ensures (not-no _ (c .before .before .before .before .before .before .before .before .before .before .if3 .left))) .0, c .before .before .before .before .before .before .before .head .kept .0, c .before .before .before .build .kept .1 .1 .1 .1 .0, c .before .before .before .before .before .before .before .before .before .before .before .before .before .before .before .before .before .before .before .before .before .before .pre .3 .low, c .before .before .before .before .before .before .before .before .before .before .before .before .before .before .before .before .before .before .before .before .before .before .pre .0)
 
 same-length : tie.Need-same-length
-same-length c = length-set (c .before .before .before .build .last .1 .1 .1 .1 .0) (c .before .before .before .before .before .before .before .before .before .before .before .before .before .before .before .before .before .before .before .before .before .before .args .start) (c .narrow .result) ∙ c .before .before .before .build .kept .1 .1 .1 .1 .0 ∙ c .before .before .before .before .before .before .before .head .kept .0
+same-length c = length-set (c .before .before .before .build .last .1 .1 .1 .1 .0) (c .before .before .before .before .before .before .before .before .before .before .before .before .before .before .before .before .before .before .before .before .before .before .args .fork .start) (c .narrow .result) ∙ c .before .before .before .build .kept .1 .1 .1 .1 .0 ∙ c .before .before .before .before .before .before .before .head .kept .0
 
 returns-4 : tie.Need-returns-4
-returns-4 c = one-more (c .before .before .before .before .before .before .before .before .before .before .before .before .before .before .before .before .before .before .before .before .before .before .args .free) _ (c .before .before .before .before .before .before .before .before .before .before .before .before .before .before .before .before .before .before .before .before .before .before .args .start) (c .narrow .result) (c .before .before .before .before .before .before .before .before .before .before .before .before .before .before .before .before .before .before .before .before .before .before .args .variable) (c .before .before .before .before .before .before .before .before .before .before .before .before .before .before .before .before .before .before .key-of .result .place) (c .before .before .before .before .before .before .before .before .before .before .before .before .before .before .before .before .before .before .key-of .result .number) (c .before .before .before .before .before .before .before .before .before .before .before .before .before .before .before .before .before .before .key-of .result .attribute) (c .before .before .before .before .before .before .before .before .before .before .before .before .before .before .before .before .before .before .key-of .result .other) (c .before .before .before .before .before .before .before .before .mark .result) (now (c .before .before .before .before .before .before .before .before .before .before .before .before .before .before .before .before .before .before .before .before .before .before .args .t)) (now (c .before .before .before .before .before .before .before .before .before .before .before .before .before .before .before .before .before .before .before .before .before .before .args .walks)) (now (c .before .before .before .before .before .before .before .before .before .before .before .before .before .before .before .before .before .before .before .before .before .before .args .values)) (now (c .before .before .before .before .before .before .before .before .before .before .before .before .before .before .before .before .before .before .before .before .before .before .args .chains)) (c .before .before .before .before .before .before .before .head .last .0) (c .before .before .before .build .last .1 .1 .1 .1 .0) (c .before .before .before .before .before .before .before .before .before .before .before .before .before .before .before .before .before .walk-of .result) (c .before .before .before .before .before .before .before .before .before .before .before .before .before .before .before .before .before .before .before .before .before .before .pre .3) (c .before .before .before .before .before .before .before .head .ensures) (omega (arith, (c .before .before .before .before .before .before .before .before .before .before .before .pays .ensures (not-no _ (c .before .before .before .before .before .before .before .before .before .before .if3 .left))) .0)) (c .before .before .before .before .before .before .before .before .before .before .before .before .before .before .before .before .before .walk-of .ensures .0) (c .before .before .before .build .ensures .0) (c .before .before .before .build .ensures .1) refl ((c .before .before .before .before .before .before .before .before .before .before .before .pays .ensures (not-no _ (c .before .before .before .before .before .before .before .before .before .before .if3 .left))) .1) (c .before .before .before .before .before .before .before .before .before .before .before .before .before .before .before .before .before .before .before .before .before .before .pre .0) (omega (arith, (c .before .before .before .before .before .before .before .before .before .before .before .pays .ensures (not-no _ (c .before .before .before .before .before .before .before .before .before .before .if3 .left))) .0, c .before .before .before .before .before .before .before .head .kept .0, c .before .before .before .build .kept .1 .1 .1 .1 .0, c .before .before .before .before .before .before .before .before .before .before .before .before .before .before .before .before .before .before .before .before .before .before .pre .3 .low, c .before .before .before .before .before .before .before .before .before .before .before .before .before .before .before .before .before .before .before .before .before .before .pre .0)) (c .narrow .ensures) (c .before .before .before .before .before .before .before .before .mark .ensures .0 ∙ sym (c .before .before .before .before .before .before .before .before .before .before .before .before .if2 .left)) (c .before .before .before .before .before .before .before .before .mark .ensures .1) (c .before .before .before .before .before .before .before .before .before .before .before .before .before .before .before .before .before .before .key-of .ensures .0 (c .before .before .before .before .before .before .before .before .before .before .before .before .before .before .if1 .left) .0) (c .before .before .before .before .before .before .before .before .before .before .before .before .before .before .before .before .before .before .key-of .ensures .0 (c .before .before .before .before .before .before .before .before .before .before .before .before .before .before .if1 .left) .1)
+returns-4 c = one-more (c .before .before .before .before .before .before .before .before .before .before .before .before .before .before .before .before .before .before .before .before .before .before .args .free) _ (c .before .before .before .before .before .before .before .before .before .before .before .before .before .before .before .before .before .before .before .before .before .before .args .fork .start) (c .narrow .result) (c .before .before .before .before .before .before .before .before .before .before .before .before .before .before .before .before .before .before .before .before .before .before .args .variable) (c .before .before .before .before .before .before .before .before .before .before .before .before .before .before .before .before .before .before .key-of .result .place) (c .before .before .before .before .before .before .before .before .before .before .before .before .before .before .before .before .before .before .key-of .result .number) (c .before .before .before .before .before .before .before .before .before .before .before .before .before .before .before .before .before .before .key-of .result .attribute) (c .before .before .before .before .before .before .before .before .before .before .before .before .before .before .before .before .before .before .key-of .result .other) (c .before .before .before .before .before .before .before .before .mark .result) (now (c .before .before .before .before .before .before .before .before .before .before .before .before .before .before .before .before .before .before .before .before .before .before .args .t)) (now (c .before .before .before .before .before .before .before .before .before .before .before .before .before .before .before .before .before .before .before .before .before .before .args .walks)) (now (c .before .before .before .before .before .before .before .before .before .before .before .before .before .before .before .before .before .before .before .before .before .before .args .values)) (now (c .before .before .before .before .before .before .before .before .before .before .before .before .before .before .before .before .before .before .before .before .before .before .args .chains)) (c .before .before .before .before .before .before .before .head .last .0) (c .before .before .before .build .last .1 .1 .1 .1 .0) (c .before .before .before .before .before .before .before .before .before .before .before .before .before .before .before .before .before .walk-of .result) (c .before .before .before .before .before .before .before .before .before .before .before .before .before .before .before .before .before .before .before .before .before .before .pre .3) (c .before .before .before .before .before .before .before .head .ensures) (omega (arith, (c .before .before .before .before .before .before .before .before .before .before .before .pays .ensures (not-no _ (c .before .before .before .before .before .before .before .before .before .before .if3 .left))) .0)) (c .before .before .before .before .before .before .before .before .before .before .before .before .before .before .before .before .before .walk-of .ensures .0) (c .before .before .before .build .ensures .0) (c .before .before .before .build .ensures .1) refl ((c .before .before .before .before .before .before .before .before .before .before .before .pays .ensures (not-no _ (c .before .before .before .before .before .before .before .before .before .before .if3 .left))) .1) (c .before .before .before .before .before .before .before .before .before .before .before .before .before .before .before .before .before .before .before .before .before .before .pre .0) (omega (arith, (c .before .before .before .before .before .before .before .before .before .before .before .pays .ensures (not-no _ (c .before .before .before .before .before .before .before .before .before .before .if3 .left))) .0, c .before .before .before .before .before .before .before .head .kept .0, c .before .before .before .build .kept .1 .1 .1 .1 .0, c .before .before .before .before .before .before .before .before .before .before .before .before .before .before .before .before .before .before .before .before .before .before .pre .3 .low, c .before .before .before .before .before .before .before .before .before .before .before .before .before .before .before .before .before .before .before .before .before .before .pre .0)) (c .narrow .ensures) (c .before .before .before .before .before .before .before .before .mark .ensures .0 ∙ sym (c .before .before .before .before .before .before .before .before .before .before .before .before .if2 .left)) (c .before .before .before .before .before .before .before .before .mark .ensures .1) (c .before .before .before .before .before .before .before .before .before .before .before .before .before .before .before .before .before .before .key-of .ensures .0 (c .before .before .before .before .before .before .before .before .before .before .before .before .before .before .if1 .left) .0) (c .before .before .before .before .before .before .before .before .before .before .before .before .before .before .before .before .before .before .key-of .ensures .0 (c .before .before .before .before .before .before .before .before .before .before .before .before .before .before .if1 .left) .1)
 
 pub add-key-spec : {M : Type 1} → statement M
 add-key-spec =

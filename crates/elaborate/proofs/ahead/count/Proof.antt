@@ -67,7 +67,7 @@ same-length : tie.Need-same-length Inv-loop μ-loop
 same-length c = c .before .loop .inv .1 ∙ length-set (now (c .before .before .before .before .args .counts)) _ _
 
 returns : tie.Need-returns Inv-loop μ-loop
-returns c = record { at = λ i l h. c .before .loop .inv .0 i (omega arith) h }
+returns c = record { at = λ i l h. c .before .loop .inv .0 i (omega arith) h .0; kind = λ i l h. c .before .loop .inv .0 i (omega arith) h .1 }
 
 pub count-spec : {M : Type 1} → statement M
 count-spec =

@@ -16,6 +16,7 @@ use Rattle.elaborate.proofs.ahead.step.Tie as tie
 use Rattle.elaborate.proofs.ahead.step.Reads as reads
 use Rattle.elaborate.proofs.ahead.step.Lts as lts
 use Rattle.elaborate.proofs.ahead.is_sign.Reads as is-sign-reads
+use Rattle.elaborate.proofs.ahead.further.Reads as further-reads
 use Rattle.elaborate.proofs.ahead.pack.Reads as pack-reads
 use Rattle.elaborate.proofs.ahead.wide.Reads as wide-reads
 
@@ -26,9 +27,8 @@ pack-requires : tie.Need-pack-requires
 pack-requires c κs = (omega arith, omega arith, omega (arith, and-low (c .before .before .before .args .kind) (sym (c .before .before .is-sign .ensures) ∙ c .before .if1 .taken) .1, c .wide .ensures), omega arith)
 
 returns : tie.Need-returns
-returns c =
-    let c₃ = c .before .before .before in let is-sign = c₃ .is-sign in
-    let c₄ = c₃ .before in let args = c₄ .args in
+returns c = let is-sign = c .before .before .before .is-sign in
+    let args = c .before .before .before .before .args in
     step-sign (args .kind) (args .next) (args .after) _ (sym (is-sign .ensures) ∙ c .before .before .if1 .taken) _ (ap (λ (n : ℕ). n - 7) (c .before .wide .ensures)) (c .pack .ensures)
 
 returns-2 : tie.Need-returns-2
@@ -44,10 +44,9 @@ returns-5 : tie.Need-returns-5
 returns-5 c = step-right (c .before .before .before .before .args .kind) (c .before .before .before .before .args .next) (c .before .before .before .before .args .after) _ (c .before .match .keys4) (c .pack5 .ensures)
 
 returns-6 : tie.Need-returns-6
-returns-6 c =
-    let c₃ = c .before .before .before in let is-sign = c₃ .is-sign in
-    let c₄ = c₃ .before in let args = c₄ .args in
-    step-rest (args .kind) (args .next) (args .after) _ (sym (is-sign .ensures) ∙ c .before .before .if1 .left) (λ e. omega arith) (λ e. omega arith) (λ e. omega arith) (λ e. omega arith) (c .pack6 .ensures)
+returns-6 c = let is-sign = c .before .before .before .is-sign in
+    let args = c .before .before .before .before .args in
+    step-rest (args .kind) (args .next) (args .after) _ (sym (is-sign .ensures) ∙ c .before .before .if1 .left) (λ e. omega arith) (λ e. omega arith) (λ e. omega arith) (λ e. omega arith) (c .further .ensures)
 
 pub step-spec : {M : Type 1} → statement M
 step-spec =
@@ -69,7 +68,6 @@ step-spec =
     (λ c. search needs)
     (λ c κs. search needs)
     (λ c κs. search needs)
-    (λ c. search needs)
     (λ c κs. search needs)
     returns-2
     returns-3

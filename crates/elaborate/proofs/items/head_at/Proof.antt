@@ -19,11 +19,10 @@ use Rattle.elaborate.proofs.items.less.Reads as less-reads
 use Rattle.elaborate.proofs.reach.seek.Reads as seek-reads
 
 returns : tie.Need-returns
-returns c =
-    let c₃ = c .before .before .before in let seek = c₃ .seek in
-    let c₉ = c₃ .before .before .before .before .before .before in let args = c₉ .args in
-    let i = args .i in
-    λ w ρ d t h. c .head-item .ensures (w (i + 4)) (subst (λ (v : ℕ). Spelt (w (i + 4)) v) (sym (c .before .code .ensures)) (t .spelt (i + 4))) ∙ head-same (entries (now (args .list))) (args .scope .n) (c .before .before .less .ensures) refl (seek .ensures w ρ d h)
+returns c = let seek = c .before .before .before .before .seek in
+    let args = c .before .before .before .before .before .before .before .before .before .before .args in
+    let i = args .scope .i in
+    λ w ρ d t h. c .head-item .ensures (w (i + 4)) (subst (λ (v : ℕ). Spelt (w (i + 4)) v) (sym (c .before .code .ensures)) (t .spelt (i + 4))) ∙ head-same (entries (now (args .list))) (args .scope .n) (c .before .before .before .less .ensures) refl (seek .ensures w ρ d h)
 
 pub head-at-spec : {M : Type 1} → statement M
 head-at-spec =

@@ -18,13 +18,11 @@ use Rattle.elaborate.proofs.items.head_item.Lts as lts
 use Rattle.elaborate.proofs.items.over_item.Reads as over-item-reads
 
 returns : tie.Need-returns
-returns c =
-    let c₆ = c .before .before .before .before .before .before in let args = c₆ .args in
+returns c = let args = c .before .before .before .before .before .before .args in
     λ z s. c .over-item .ensures z s ∙ sym (ap (headItem (entries (now (args .list))) (args .f) (args .n) z) (c .before .before .known .given .1))
 
 returns-2 : tie.Need-returns-2
-returns-2 c =
-    let c₆ = c .before .before .before .before .before .before in let args = c₆ .args in
+returns-2 c = let args = c .before .before .before .before .before .before .args in
     λ z s. c .over-item2 .ensures z s ∙ sym (ap (headItem (entries (now (args .list))) (args .f) (args .n) z) (c .before .before .known2 .given .1))
 
 returns-3 : tie.Need-returns-3

@@ -20,68 +20,61 @@ use Rattle.elaborate.proofs.items.use_at.Reads as use-at-reads
 use Rattle.elaborate.proofs.items.value_item.Reads as value-item-reads
 
 returns : tie.Need-returns
-returns c = λ w ρ d t h. rw (eq-eqb (c .before .before .before .before .before .before .before .args .a) 1 (c .before .if1 .taken)) (c .use-at .ensures w ρ d t h)
+returns c = λ w ρ d t h. rw (eq-eqb (c .before .before .before .before .before .before .before .args .scope .action) 1 (c .before .if1 .taken)) (c .use-at .ensures w ρ d t h)
 
 returns-2 : tie.Need-returns-2
-returns-2 c =
-    let c₃ = c .before .before .before in let if1 = c₃ .if1 in
-    let c₉ = c₃ .before .before .before .before .before .before in let args = c₉ .args in
-    let a = args .a in let i = args .i in
+returns-2 c = let if1 = c .before .before .before .before .if1 in
+    let args = c .before .before .before .before .before .before .before .before .before .before .args in
+    let a = args .scope .action in let i = args .scope .i in
     λ w ρ d t h. rw (ne-eqb a 1 (if1 .left), eq-eqb a 2 (c .before .before .if2 .taken)) (c .value-item .ensures (w i) (subst (λ (v : ℕ). Spelt (w (i)) v) (sym (c .before .code .ensures)) (t .spelt (i))))
 
 returns-3 : tie.Need-returns-3
-returns-3 c =
-    let c₃ = c .before .before .before in let if1 = c₃ .if1 in
-    let c₉ = c₃ .before .before .before .before .before .before in let args = c₉ .args in
-    let a = args .a in
-    λ w ρ d t h. rw (ne-eqb a 1 (if1 .left), ne-eqb a 2 (c .before .before .if2 .left), eq-eqb a 3 (c .before .if3 .taken)) (c .constant-item .ensures)
+returns-3 c = let if1 = c .before .before .before .before .before .if1 in
+    let args = c .before .before .before .before .before .before .before .before .before .before .before .args in
+    let a = args .scope .action in
+    λ w ρ d t h. rw (ne-eqb a 1 (if1 .left), ne-eqb a 2 (c .before .before .before .if2 .left), eq-eqb a 3 (c .before .if3 .taken)) (c .constant-item .ensures)
 
 returns-4 : tie.Need-returns-4
-returns-4 c =
-    let c₃ = c .before .before .before in let if2 = c₃ .if2 in
-    let c₄ = c₃ .before in let if1 = c₄ .if1 in
-    let c₁₀ = c₄ .before .before .before .before .before .before in let args = c₁₀ .args in
-    let a = args .a in
-    λ w ρ d t h. rw (ne-eqb a 1 (if1 .left), ne-eqb a 2 (if2 .left), ne-eqb a 3 (c .before .before .if3 .left), eq-eqb a 4 (c .before .if4 .taken)) (c .head-at .ensures w ρ d t h)
+returns-4 c = let if2 = c .before .before .before .before .before .if2 in
+    let if1 = c .before .before .before .before .before .before .before .if1 in
+    let args = c .before .before .before .before .before .before .before .before .before .before .before .before .before .args in
+    let a = args .scope .action in
+    λ w ρ d t h. rw (ne-eqb a 1 (if1 .left), ne-eqb a 2 (if2 .left), ne-eqb a 3 (c .before .before .before .if3 .left), eq-eqb a 4 (c .before .if4 .taken)) (c .head-at .ensures w ρ d t h)
 
 returns-5 : tie.Need-returns-5
-returns-5 c =
-    let c₃ = c .before .before .before in let if2 = c₃ .if2 in
-    let c₄ = c₃ .before in let if1 = c₄ .if1 in
-    let c₁₀ = c₄ .before .before .before .before .before .before in let args = c₁₀ .args in
-    let a = args .a in
-    λ w ρ d t h. rw (ne-eqb a 1 (if1 .left), ne-eqb a 2 (if2 .left), ne-eqb a 3 (c .before .before .if3 .left), ne-eqb a 4 (c .before .if4 .left), eq-eqb a 5 (c .if5 .taken))
+returns-5 c = let if2 = c .before .before .before .before .before .before .if2 in
+    let if1 = c .before .before .before .before .before .before .before .before .if1 in
+    let args = c .before .before .before .before .before .before .before .before .before .before .before .before .before .before .args in
+    let a = args .scope .action in
+    λ w ρ d t h. rw (ne-eqb a 1 (if1 .left), ne-eqb a 2 (if2 .left), ne-eqb a 3 (c .before .before .before .before .if3 .left), ne-eqb a 4 (c .before .before .if4 .left), eq-eqb a 5 (c .if5 .taken))
 
 returns-6 : tie.Need-returns-6
-returns-6 c =
-    let c₃ = c .before .before .before in let if5 = c₃ .if5 in
-    let c₄ = c₃ .before in let if4 = c₄ .if4 in
-    let c₅ = c₄ .before in let if3 = c₅ .if3 in
-    let c₆ = c₅ .before in let if2 = c₆ .if2 in
-    let c₇ = c₆ .before in let if1 = c₇ .if1 in
-    let c₁₃ = c₇ .before .before .before .before .before .before in let args = c₁₃ .args in
-    let a = args .a in let i = args .i in
-    λ w ρ d t h. rw (ne-eqb a 1 (if1 .left), ne-eqb a 2 (if2 .left), ne-eqb a 3 (if3 .left), ne-eqb a 4 (if4 .left), ne-eqb a 5 (if5 .left), eq-eqb a 6 (c .before .before .if6 .taken)) (c .some-item .ensures (w (i + 3)) (subst (λ (v : ℕ). Spelt (w (i + 3)) v) (sym (c .before .code2 .ensures)) (t .spelt (i + 3))))
+returns-6 c = let if5 = c .before .before .before .before .before .if5 in
+    let if4 = c .before .before .before .before .before .before .before .if4 in
+    let if3 = c .before .before .before .before .before .before .before .before .before .if3 in
+    let if2 = c .before .before .before .before .before .before .before .before .before .before .before .if2 in
+    let if1 = c .before .before .before .before .before .before .before .before .before .before .before .before .before .if1 in
+    let args = c .before .before .before .before .before .before .before .before .before .before .before .before .before .before .before .before .before .before .before .args in
+    let a = args .scope .action in let i = args .scope .i in
+    λ w ρ d t h. rw (ne-eqb a 1 (if1 .left), ne-eqb a 2 (if2 .left), ne-eqb a 3 (if3 .left), ne-eqb a 4 (if4 .left), ne-eqb a 5 (if5 .left), eq-eqb a 6 (c .before .before .before .if6 .taken)) (c .some-item .ensures (w (i + 3)) (subst (λ (v : ℕ). Spelt (w (i + 3)) v) (sym (c .before .code2 .ensures)) (t .spelt (i + 3))))
 
 returns-7 : tie.Need-returns-7
-returns-7 c =
-    let c₃ = c .before .before .before in let if4 = c₃ .if4 in
-    let c₄ = c₃ .before in let if3 = c₄ .if3 in
-    let c₅ = c₄ .before in let if2 = c₅ .if2 in
-    let c₆ = c₅ .before in let if1 = c₆ .if1 in
-    let c₁₂ = c₆ .before .before .before .before .before .before in let args = c₁₂ .args in
-    let a = args .a in
-    λ w ρ d t h. rw (ne-eqb a 1 (if1 .left), ne-eqb a 2 (if2 .left), ne-eqb a 3 (if3 .left), ne-eqb a 4 (if4 .left), ne-eqb a 5 (c .before .before .if5 .left), ne-eqb a 6 (c .before .if6 .left), eq-eqb a 9 (c .if7 .taken))
+returns-7 c = let if4 = c .before .before .before .before .before .before .if4 in
+    let if3 = c .before .before .before .before .before .before .before .before .if3 in
+    let if2 = c .before .before .before .before .before .before .before .before .before .before .if2 in
+    let if1 = c .before .before .before .before .before .before .before .before .before .before .before .before .if1 in
+    let args = c .before .before .before .before .before .before .before .before .before .before .before .before .before .before .before .before .before .before .args in
+    let a = args .scope .action in
+    λ w ρ d t h. rw (ne-eqb a 1 (if1 .left), ne-eqb a 2 (if2 .left), ne-eqb a 3 (if3 .left), ne-eqb a 4 (if4 .left), ne-eqb a 5 (c .before .before .before .before .if5 .left), ne-eqb a 6 (c .before .before .if6 .left), eq-eqb a 9 (c .if7 .taken))
 
 returns-8 : tie.Need-returns-8
-returns-8 c =
-    let c₃ = c .before .before .before in let if4 = c₃ .if4 in
-    let c₄ = c₃ .before in let if3 = c₄ .if3 in
-    let c₅ = c₄ .before in let if2 = c₅ .if2 in
-    let c₆ = c₅ .before in let if1 = c₆ .if1 in
-    let c₁₂ = c₆ .before .before .before .before .before .before in let args = c₁₂ .args in
-    let a = args .a in
-    λ w ρ d t h. rw (ne-eqb a 1 (if1 .left), ne-eqb a 2 (if2 .left), ne-eqb a 3 (if3 .left), ne-eqb a 4 (if4 .left), ne-eqb a 5 (c .before .before .if5 .left), ne-eqb a 6 (c .before .if6 .left), ne-eqb a 9 (c .if7 .left))
+returns-8 c = let if4 = c .before .before .before .before .before .before .if4 in
+    let if3 = c .before .before .before .before .before .before .before .before .if3 in
+    let if2 = c .before .before .before .before .before .before .before .before .before .before .if2 in
+    let if1 = c .before .before .before .before .before .before .before .before .before .before .before .before .if1 in
+    let args = c .before .before .before .before .before .before .before .before .before .before .before .before .before .before .before .before .before .before .args in
+    let a = args .scope .action in
+    λ w ρ d t h. rw (ne-eqb a 1 (if1 .left), ne-eqb a 2 (if2 .left), ne-eqb a 3 (if3 .left), ne-eqb a 4 (if4 .left), ne-eqb a 5 (c .before .before .before .before .if5 .left), ne-eqb a 6 (c .before .before .if6 .left), ne-eqb a 9 (c .if7 .left))
 
 pub item-at-spec : {M : Type 1} → statement M
 item-at-spec =

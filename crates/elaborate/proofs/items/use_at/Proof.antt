@@ -17,10 +17,16 @@ use Rattle.elaborate.proofs.reach.seek.Reads as seek-reads
 use Rattle.elaborate.proofs.items.use_item.Reads as use-item-reads
 
 returns : tie.Need-returns
-returns c =
-    let c₈ = c .before .before .before .before .before .before .before .before in let args = c₈ .args in
-    let i = args .i in
-    λ w ρ d t h. c .use-item .ensures (w (i + 2)) (subst (λ (v : ℕ). Spelt (w (i + 2)) v) (sym (c .before .code .ensures)) (t .spelt (i + 2))) ∙ ap (useItem (entries (now (args .list))) (w (i + 2))) (c .before .before .seek .ensures w ρ d h)
+returns c = let args = c .before .before .before .before .before .before .before .before .args in
+    let i = args .scope .i in
+    λ w ρ d t h. c .use-item .ensures (w (i + 2)) (subst (λ (v : ℕ). Spelt (w (i + 2)) v) (sym (c .before .code .ensures)) (t .spelt (i + 2))) ∙ ap (useItem (entries (now (args .list))) (w (i + 2))) (c .before .before .before .seek .ensures w ρ d h)
 
 pub use-at-spec : {M : Type 1} → statement M
-use-at-spec = tie.close (tie.spec (λ c κs. search needs) (λ c. search needs) (λ c κs. search needs) (λ c κs. search needs) returns)
+use-at-spec =
+    tie.close
+    (tie.spec
+    (λ c κs. search needs)
+    (λ c. search needs)
+    (λ c κs. search needs)
+    (λ c κs. search needs)
+    returns)

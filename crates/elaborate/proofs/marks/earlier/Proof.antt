@@ -27,67 +27,59 @@ use Rattle.kinds.proofs.size_at.Reads as size-at-reads
 use Rattle.elaborate.proofs.marks.same_names.Reads as same-names-reads
 
 abbrev Inv-loop : tie.InvT-loop
-Inv-loop text kinds starts lengths numbers index ids i link₀ link = let w : ℕ → Word = nameIn text kinds starts lengths in (f : Numbering w i (take 512 index) (drop 512 index) ids) → Walk (λ (x : ℕ). x) (drop 512 index) (λ (x : ℕ). sameWord (w x) (w i)) (λ (x : ℕ). (x < i) × (1 ≤ length (w x))) (f .places) link
+Inv-loop text kinds starts numbers index ids i link₀ link = let w : ℕ → Word = nameIn text kinds starts in (f : Numbering w i (take 512 index) (drop 512 index) ids) → Walk (λ (x : ℕ). x) (drop 512 index) (λ (x : ℕ). sameWord (w x) (w i)) (λ (x : ℕ). (x < i) × (1 ≤ length (w x))) (f .places) link
 
 abbrev μ-loop : tie.MeasureT-loop
-μ-loop text kinds starts lengths numbers index ids i link₀ link = link
+μ-loop text kinds starts numbers index ids i link₀ link = link
 
 shared-slice-read-bucket : tie.Need-shared-slice-read-bucket Inv-loop μ-loop
-shared-slice-read-bucket c =
-    let c₈ = c .before .before .before .before .before .before .before .before in let pre = c₈ .pre in
+shared-slice-read-bucket c = let pre = c .before .before .before .before .before .before .before .pre in
     omega (arith, pre .0, pre .1)
 
 loop-holds : tie.Need-loop-holds Inv-loop μ-loop
-loop-holds c =
-    let c₁ = c .before in let bucket = c₁ .bucket in
-    let c₁₀ = c₁ .before .before .before .before .before .before .before .before .before in let args = c₁₀ .args in let pre = c₁₀ .pre in
-    let index = now (args .index) in let kinds = now (args .kinds) in let lengths = now (args .lengths) in let starts = now (args .starts) in let text = now (args .text) in let i = args .i in
-    λ f. walk-start (λ (x : ℕ). x) (drop 512 index) (λ (x : ℕ). sameWord (nameIn text kinds starts lengths x) (nameIn text kinds starts lengths i)) (λ (x : ℕ). (x < i) × (1 ≤ length (nameIn text kinds starts lengths x))) (f .places) (λ (x : ℕ). bucketOf (nameIn text kinds starts lengths x)) i (take 512 index) (bucket .result) _ (bucket .ensures .1) (c .size-at .ensures .0 ∙ sym (getD-take 512 index (bucket .result) 0 (bucket .ensures .1))) (λ y e. ap bucketOf (same-word _ _ e) ∙ sym (bucket .ensures .0 ∙ ap (λ (v : ℕ). v % 512) (named-code text (table kinds starts lengths (now (args .numbers))) (pre .3) i (pre .0) (pre .2)))) (f .held) (f .named)
+loop-holds c = let bucket = c .before .bucket in
+    let args = c .before .before .before .before .before .before .before .before .before .args in let pre = c .before .before .before .before .before .before .before .before .before .pre in
+    let index = now (args .index) in let kinds = now (args .kinds) in let starts = now (args .starts) in let text = now (args .text) in let i = args .i in
+    λ f. walk-start (λ (x : ℕ). x) (drop 512 index) (λ (x : ℕ). sameWord (nameIn text kinds starts x) (nameIn text kinds starts i)) (λ (x : ℕ). (x < i) × (1 ≤ length (nameIn text kinds starts x))) (f .places) (λ (x : ℕ). bucketOf (nameIn text kinds starts x)) i (take 512 index) (bucket .result) _ (bucket .ensures .1) (c .size-at .ensures .0 ∙ sym (getD-take 512 index (bucket .result) 0 (bucket .ensures .1))) (λ y e. ap bucketOf (same-word _ _ e) ∙ sym (bucket .ensures .0 ∙ ap (λ (v : ℕ). v % 512) (named-code text (table kinds starts (now (args .numbers))) (pre .3) i (pre .0) (pre .2)))) (f .held) (f .named)
 
 same-names-requires : tie.Need-same-names-requires Inv-loop μ-loop
-same-names-requires c κs =
-    let c₁ = c .before in let loop = c₁ .loop in
-    let c₁₂ = c₁ .before .before .before .before .before .before .before .before .before .before .before in let args = c₁₂ .args in let pre = c₁₂ .pre in
-    let kinds = now (args .kinds) in let lengths = now (args .lengths) in let numbers = now (args .numbers) in let starts = now (args .starts) in let text = now (args .text) in let i = args .i in
-    let h = walk-low (λ (x : ℕ). x) (drop 512 (now (args .index))) (λ (x : ℕ). sameWord (nameIn text kinds starts lengths x) (nameIn text kinds starts lengths i)) (λ (x : ℕ). (x < i) × (1 ≤ length (nameIn text kinds starts lengths x))) (pre .4 .places) (loop .link) (loop .link - 1) (omega (arith, c .loop-test .taken)) (loop .inv (pre .4)) .0 in let s = spelt-at text (table kinds starts lengths numbers) (pre .3) (loop .link - 1) (h .1) in (omega (arith, s .0, pre .1), omega (arith, pre .0, pre .1), s .1, named-spelt text (table kinds starts lengths numbers) (pre .3) i (pre .0) (pre .2))
+same-names-requires c κs = let loop = c .before .loop in
+    let args = c .before .before .before .before .before .before .before .before .before .before .before .args in let pre = c .before .before .before .before .before .before .before .before .before .before .before .pre in
+    let kinds = now (args .kinds) in let numbers = now (args .numbers) in let starts = now (args .starts) in let text = now (args .text) in let i = args .i in
+    let h = walk-low (λ (x : ℕ). x) (drop 512 (now (args .index))) (λ (x : ℕ). sameWord (nameIn text kinds starts x) (nameIn text kinds starts i)) (λ (x : ℕ). (x < i) × (1 ≤ length (nameIn text kinds starts x))) (pre .4 .places) (loop .link) (loop .link - 1) (omega (arith, c .loop-test .taken)) (loop .inv (pre .4)) .0 in let s = spelt-at text (table kinds starts numbers) (pre .3) (loop .link - 1) (h .1) in (omega (arith, s .0, pre .1), omega (arith, pre .0, pre .1), s .1, named-spelt text (table kinds starts numbers) (pre .3) i (pre .0) (pre .2))
 
 returns : tie.Need-returns Inv-loop μ-loop
-returns c =
-    let c₃ = c .before .before .before in let loop-test = c₃ .loop-test in
-    let c₄ = c₃ .before in let loop = c₄ .loop in
-    let c₁₅ = c₄ .before .before .before .before .before .before .before .before .before .before .before in let args = c₁₅ .args in
-    let kinds = now (args .kinds) in let lengths = now (args .lengths) in let starts = now (args .starts) in let text = now (args .text) in let i = args .i in
-    λ f. let h = walk-low (λ (x : ℕ). x) (drop 512 (now (args .index))) (λ (x : ℕ). sameWord (nameIn text kinds starts lengths x) (nameIn text kinds starts lengths i)) (λ (x : ℕ). (x < i) × (1 ≤ length (nameIn text kinds starts lengths x))) (f .places) (loop .link) (loop .link - 1) (omega (arith, loop-test .taken)) (loop .inv f) .0 in inr (record { place = loop .link - 1; before = h .0; name = same-word _ _ (sym (c .before .before .same-names .ensures) ∙ c .before .if1 .taken); number = c .size-at2 .ensures .0 })
+returns c = let loop-test = c .before .before .before .loop-test in
+    let loop = c .before .before .before .before .loop in
+    let args = c .before .before .before .before .before .before .before .before .before .before .before .before .before .before .args in
+    let kinds = now (args .kinds) in let starts = now (args .starts) in let text = now (args .text) in let i = args .i in
+    λ f. let h = walk-low (λ (x : ℕ). x) (drop 512 (now (args .index))) (λ (x : ℕ). sameWord (nameIn text kinds starts x) (nameIn text kinds starts i)) (λ (x : ℕ). (x < i) × (1 ≤ length (nameIn text kinds starts x))) (f .places) (loop .link) (loop .link - 1) (omega (arith, loop-test .taken)) (loop .inv f) .0 in inr (record { place = loop .link - 1; before = h .0; name = same-word _ _ (sym (c .before .before .same-names .ensures) ∙ c .before .if1 .taken); number = c .size-at2 .ensures .0 })
 
 add-size-at : tie.Need-add-size-at Inv-loop μ-loop
-add-size-at c =
-    let c₃ = c .before .before .before in let loop = c₃ .loop in
-    let c₁₄ = c₃ .before .before .before .before .before .before .before .before .before .before .before in let args = c₁₄ .args in let pre = c₁₄ .pre in
-    let kinds = now (args .kinds) in let lengths = now (args .lengths) in let starts = now (args .starts) in let text = now (args .text) in let i = args .i in
-    let h = walk-low (λ (x : ℕ). x) (drop 512 (now (args .index))) (λ (x : ℕ). sameWord (nameIn text kinds starts lengths x) (nameIn text kinds starts lengths i)) (λ (x : ℕ). (x < i) × (1 ≤ length (nameIn text kinds starts lengths x))) (pre .4 .places) (loop .link) (loop .link - 1) (omega (arith, c .before .before .loop-test .taken)) (loop .inv (pre .4)) .0 .0 in omega (arith, h, pre .0)
+add-size-at c = let loop = c .before .before .before .loop in
+    let args = c .before .before .before .before .before .before .before .before .before .before .before .before .before .args in let pre = c .before .before .before .before .before .before .before .before .before .before .before .before .before .pre in
+    let kinds = now (args .kinds) in let starts = now (args .starts) in let text = now (args .text) in let i = args .i in
+    let h = walk-low (λ (x : ℕ). x) (drop 512 (now (args .index))) (λ (x : ℕ). sameWord (nameIn text kinds starts x) (nameIn text kinds starts i)) (λ (x : ℕ). (x < i) × (1 ≤ length (nameIn text kinds starts x))) (pre .4 .places) (loop .link) (loop .link - 1) (omega (arith, c .before .before .loop-test .taken)) (loop .inv (pre .4)) .0 .0 in omega (arith, h, pre .0)
 
 loop-less : tie.Need-loop-less Inv-loop μ-loop
-loop-less c =
-    let c₃ = c .before .before .before in let loop-test = c₃ .loop-test in
-    let c₄ = c₃ .before in let loop = c₄ .loop in
-    let c₁₅ = c₄ .before .before .before .before .before .before .before .before .before .before .before in let args = c₁₅ .args in let pre = c₁₅ .pre in
-    let index = now (args .index) in let kinds = now (args .kinds) in let lengths = now (args .lengths) in let starts = now (args .starts) in let text = now (args .text) in let i = args .i in
-    let h = walk-low (λ (x : ℕ). x) (drop 512 index) (λ (x : ℕ). sameWord (nameIn text kinds starts lengths x) (nameIn text kinds starts lengths i)) (λ (x : ℕ). (x < i) × (1 ≤ length (nameIn text kinds starts lengths x))) (pre .4 .places) (loop .link) (loop .link - 1) (omega (arith, loop-test .taken)) (loop .inv (pre .4)) .1 in omega (arith, h, (c .size-at3 .ensures .0 ∙ sym (getD-drop 512 index (loop .link - 1) 0)), loop-test .taken)
+loop-less c = let loop-test = c .before .before .before .loop-test in
+    let loop = c .before .before .before .before .loop in
+    let args = c .before .before .before .before .before .before .before .before .before .before .before .before .before .before .args in let pre = c .before .before .before .before .before .before .before .before .before .before .before .before .before .before .pre in
+    let index = now (args .index) in let kinds = now (args .kinds) in let starts = now (args .starts) in let text = now (args .text) in let i = args .i in
+    let h = walk-low (λ (x : ℕ). x) (drop 512 index) (λ (x : ℕ). sameWord (nameIn text kinds starts x) (nameIn text kinds starts i)) (λ (x : ℕ). (x < i) × (1 ≤ length (nameIn text kinds starts x))) (pre .4 .places) (loop .link) (loop .link - 1) (omega (arith, loop-test .taken)) (loop .inv (pre .4)) .1 in omega (arith, h, (c .size-at3 .ensures .0 ∙ sym (getD-drop 512 index (loop .link - 1) 0)), loop-test .taken)
 
 loop-again : tie.Need-loop-again Inv-loop μ-loop
-loop-again c =
-    let c₃ = c .before .before .before in let loop-test = c₃ .loop-test in
-    let c₄ = c₃ .before in let loop = c₄ .loop in
-    let c₁₅ = c₄ .before .before .before .before .before .before .before .before .before .before .before in let args = c₁₅ .args in
-    let index = now (args .index) in let kinds = now (args .kinds) in let lengths = now (args .lengths) in let starts = now (args .starts) in let text = now (args .text) in let i = args .i in
-    λ f. walk-on (λ (x : ℕ). x) (drop 512 index) (λ (x : ℕ). sameWord (nameIn text kinds starts lengths x) (nameIn text kinds starts lengths i)) (λ (x : ℕ). (x < i) × (1 ≤ length (nameIn text kinds starts lengths x))) (f .places) (loop .link) (loop .link - 1) (omega (arith, loop-test .taken)) (loop .inv f) _ (sym (c .before .before .same-names .ensures) ∙ c .before .if1 .left) ((c .size-at3 .ensures .0 ∙ sym (getD-drop 512 index (loop .link - 1) 0)))
+loop-again c = let loop-test = c .before .before .before .loop-test in
+    let loop = c .before .before .before .before .loop in
+    let args = c .before .before .before .before .before .before .before .before .before .before .before .before .before .before .args in
+    let index = now (args .index) in let kinds = now (args .kinds) in let starts = now (args .starts) in let text = now (args .text) in let i = args .i in
+    λ f. walk-on (λ (x : ℕ). x) (drop 512 index) (λ (x : ℕ). sameWord (nameIn text kinds starts x) (nameIn text kinds starts i)) (λ (x : ℕ). (x < i) × (1 ≤ length (nameIn text kinds starts x))) (f .places) (loop .link) (loop .link - 1) (omega (arith, loop-test .taken)) (loop .inv f) _ (sym (c .before .before .same-names .ensures) ∙ c .before .if1 .left) ((c .size-at3 .ensures .0 ∙ sym (getD-drop 512 index (loop .link - 1) 0)))
 
 returns-2 : tie.Need-returns-2 Inv-loop μ-loop
-returns-2 c =
-    let c₁ = c .before in let loop = c₁ .loop in
-    let c₁₂ = c₁ .before .before .before .before .before .before .before .before .before .before .before in let args = c₁₂ .args in
-    let kinds = now (args .kinds) in let lengths = now (args .lengths) in let starts = now (args .starts) in let text = now (args .text) in let i = args .i in
-    λ f. inl (refl, walk-none (λ (x : ℕ). x) (drop 512 (now (args .index))) (λ (x : ℕ). sameWord (nameIn text kinds starts lengths x) (nameIn text kinds starts lengths i)) (λ (x : ℕ). (x < i) × (1 ≤ length (nameIn text kinds starts lengths x))) (f .places) (loop .link) (omega (arith, c .loop-test .left)) (loop .inv f))
+returns-2 c = let loop = c .before .loop in
+    let args = c .before .before .before .before .before .before .before .before .before .before .before .args in
+    let kinds = now (args .kinds) in let starts = now (args .starts) in let text = now (args .text) in let i = args .i in
+    λ f. inl (refl, walk-none (λ (x : ℕ). x) (drop 512 (now (args .index))) (λ (x : ℕ). sameWord (nameIn text kinds starts x) (nameIn text kinds starts i)) (λ (x : ℕ). (x < i) × (1 ≤ length (nameIn text kinds starts x))) (f .places) (loop .link) (omega (arith, c .loop-test .left)) (loop .inv f))
 
 pub earlier-spec : {M : Type 1} → statement M
 earlier-spec =

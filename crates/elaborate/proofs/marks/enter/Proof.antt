@@ -20,37 +20,33 @@ use Rattle.buckets.proofs.put.Reads as put-reads
 use Rattle.elaborate.proofs.marks.earlier.Reads as earlier-reads
 
 returns : tie.Need-returns
-returns c =
-    let c₉ = c .before .before .before .before .before .before .before .before .before in let args = c₉ .args in let pre = c₉ .pre in
-    let index = now (args .index) in let kinds = now (args .kinds) in let lengths = now (args .lengths) in let starts = now (args .starts) in let text = now (args .text) in let i = args .i in
-    number-other (nameIn text kinds starts lengths) i (take 512 index) (drop 512 index) (now (args .ids)) (pre .1 .2) (sym (ap length (name-other text kinds starts lengths i (c .if1 .taken))))
+returns c = let args = c .before .before .before .before .before .before .before .before .args in let pre = c .before .before .before .before .before .before .before .before .pre in
+    let index = now (args .index) in let kinds = now (args .kinds) in let starts = now (args .starts) in let text = now (args .text) in let i = args .i in
+    number-other (nameIn text kinds starts) i (take 512 index) (drop 512 index) (now (args .ids)) (pre .1 .2) (sym (ap length (name-other text kinds starts i (c .if1 .taken))))
 
 cast-ids : tie.Need-cast-ids
-cast-ids c =
-    let c₁ = c .before in let earlier = c₁ .earlier in
-    let c₄ = c₁ .before .before .before in let if1 = c₄ .if1 in
-    let c₁₃ = c₄ .before .before .before .before .before .before .before .before .before in let args = c₁₃ .args in let pre = c₁₃ .pre in
-    let index = now (args .index) in let kinds = now (args .kinds) in let lengths = now (args .lengths) in let starts = now (args .starts) in let text = now (args .text) in let i = args .i in
-    record { fits = omega (arith, met-small (nameIn text kinds starts lengths) i (take 512 index) (drop 512 index) (now (args .ids)) (pre .1 .2) ((named-some text (table kinds starts lengths (now (args .numbers))) (pre .0 .3) i (pre .0 .0) (omega (arith, if1 .left)))) (pre .1 .1) (earlier .result) (earlier .ensures (pre .1 .2)), pre .0 .0, pre .0 .1) }
+cast-ids c = let earlier = c .before .earlier in
+    let if1 = c .before .before .before .before .if1 in
+    let args = c .before .before .before .before .before .before .before .before .before .before .before .before .args in let pre = c .before .before .before .before .before .before .before .before .before .before .before .before .pre in
+    let index = now (args .index) in let kinds = now (args .kinds) in let starts = now (args .starts) in let text = now (args .text) in let i = args .i in
+    record { fits = omega (arith, met-small (nameIn text kinds starts) i (take 512 index) (drop 512 index) (now (args .ids)) (pre .1 .2) ((named-some text (table kinds starts (now (args .numbers))) (pre .0 .3) i (pre .0 .0) (omega (arith, if1 .left)))) (pre .1 .1) (earlier .result) (earlier .ensures (pre .1 .2)), pre .0 .0, pre .0 .1) }
 
 returns-2 : tie.Need-returns-2
-returns-2 c =
-    let c₁ = c .before in let earlier = c₁ .earlier in
-    let c₄ = c₁ .before .before .before in let if1 = c₄ .if1 in
-    let c₁₃ = c₄ .before .before .before .before .before .before .before .before .before in let args = c₁₃ .args in let pre = c₁₃ .pre in
-    let index = now (args .index) in let kinds = now (args .kinds) in let lengths = now (args .lengths) in let starts = now (args .starts) in let text = now (args .text) in let i = args .i in
-    met-old (nameIn text kinds starts lengths) i (take 512 index) (drop 512 index) (now (args .ids)) (pre .1 .2) ((named-some text (table kinds starts lengths (now (args .numbers))) (pre .0 .3) i (pre .0 .0) (omega (arith, if1 .left)))) (pre .1 .1) (earlier .result) (earlier .ensures (pre .1 .2)) (c .if2 .taken)
+returns-2 c = let earlier = c .before .earlier in
+    let if1 = c .before .before .before .before .if1 in
+    let args = c .before .before .before .before .before .before .before .before .before .before .before .before .args in let pre = c .before .before .before .before .before .before .before .before .before .before .before .before .pre in
+    let index = now (args .index) in let kinds = now (args .kinds) in let starts = now (args .starts) in let text = now (args .text) in let i = args .i in
+    met-old (nameIn text kinds starts) i (take 512 index) (drop 512 index) (now (args .ids)) (pre .1 .2) ((named-some text (table kinds starts (now (args .numbers))) (pre .0 .3) i (pre .0 .0) (omega (arith, if1 .left)))) (pre .1 .1) (earlier .result) (earlier .ensures (pre .1 .2)) (c .if2 .taken)
 
 returns-3 : tie.Need-returns-3
-returns-3 c =
-    let c₂ = c .before .before in let put = c₂ .put in
-    let c₃ = c₂ .before in let bucket = c₃ .bucket in
-    let c₆ = c₃ .before .before .before in let if2 = c₆ .if2 in
-    let c₇ = c₆ .before in let earlier = c₇ .earlier in
-    let c₁₀ = c₇ .before .before .before in let if1 = c₁₀ .if1 in
-    let c₁₉ = c₁₀ .before .before .before .before .before .before .before .before .before in let args = c₁₉ .args in let pre = c₁₉ .pre in
-    let ids = now (args .ids) in let index = now (args .index) in let kinds = now (args .kinds) in let lengths = now (args .lengths) in let numbers = now (args .numbers) in let starts = now (args .starts) in let text = now (args .text) in let i = args .i in
-    number-new (nameIn text kinds starts lengths) i (take 512 index) (drop 512 index) ids (pre .1 .2) ((named-some text (table kinds starts lengths numbers) (pre .0 .3) i (pre .0 .0) (omega (arith, if1 .left)))) (pre .1 .1) (met-none (nameIn text kinds starts lengths) i (take 512 index) (drop 512 index) ids (pre .1 .2) ((named-some text (table kinds starts lengths numbers) (pre .0 .3) i (pre .0 .0) (omega (arith, if1 .left)))) (pre .1 .1) (earlier .result) (earlier .ensures (pre .1 .2)) (omega (arith, if2 .left))) (heads-room index (omega (arith, pre .1 .0))) (nexts-room index i (pre .1 .0)) (bucket .result) (bucket .ensures .0 ∙ ap (λ (v : ℕ). v % 512) (named-code text (table kinds starts lengths numbers) (pre .0 .3) i (pre .0 .0) (omega (arith, if1 .left)))) (bucket .ensures .1) _ _ (put .ensures .0) (put .ensures .1)
+returns-3 c = let put = c .before .before .put in
+    let bucket = c .before .before .before .bucket in
+    let if2 = c .before .before .before .before .before .before .if2 in
+    let earlier = c .before .before .before .before .before .before .before .earlier in
+    let if1 = c .before .before .before .before .before .before .before .before .before .before .if1 in
+    let args = c .before .before .before .before .before .before .before .before .before .before .before .before .before .before .before .before .before .before .args in let pre = c .before .before .before .before .before .before .before .before .before .before .before .before .before .before .before .before .before .before .pre in
+    let ids = now (args .ids) in let index = now (args .index) in let kinds = now (args .kinds) in let numbers = now (args .numbers) in let starts = now (args .starts) in let text = now (args .text) in let i = args .i in
+    number-new (nameIn text kinds starts) i (take 512 index) (drop 512 index) ids (pre .1 .2) ((named-some text (table kinds starts numbers) (pre .0 .3) i (pre .0 .0) (omega (arith, if1 .left)))) (pre .1 .1) (met-none (nameIn text kinds starts) i (take 512 index) (drop 512 index) ids (pre .1 .2) ((named-some text (table kinds starts numbers) (pre .0 .3) i (pre .0 .0) (omega (arith, if1 .left)))) (pre .1 .1) (earlier .result) (earlier .ensures (pre .1 .2)) (omega (arith, if2 .left))) (heads-room index (omega (arith, pre .1 .0))) (nexts-room index i (pre .1 .0)) (bucket .result) (bucket .ensures .0 ∙ ap (λ (v : ℕ). v % 512) (named-code text (table kinds starts numbers) (pre .0 .3) i (pre .0 .0) (omega (arith, if1 .left)))) (bucket .ensures .1) _ _ (put .ensures .0) (put .ensures .1)
 
 pub enter-spec : {M : Type 1} → statement M
 enter-spec =

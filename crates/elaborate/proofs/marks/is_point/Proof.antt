@@ -10,10 +10,10 @@ use Rattle.elaborate.proofs.marks.is_point.Reads as reads
 use Rattle.elaborate.proofs.marks.is_point.Lts as lts
 
 returns : tie.Need-returns
-returns c = point-there [] (now (c .before .before .args .kinds)) [] [] (c .before .before .args .i) (c .before .if1 .taken)
+returns c = point-there [] (now (c .before .before .args .kinds)) [] (c .before .before .args .i) (c .before .if1 .taken)
 
 returns-2 : tie.Need-returns-2
-returns-2 c = point-past [] (now (c .before .args .kinds)) [] [] (c .before .args .i) (c .if1 .left)
+returns-2 c = point-past [] (now (c .before .args .kinds)) [] (c .before .args .i) (c .if1 .left)
 
 pub is-point-spec : {M : Type 1} → statement M
 is-point-spec = tie.close (tie.spec (λ c. search needs) returns returns-2)

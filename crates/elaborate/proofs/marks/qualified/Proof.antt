@@ -16,22 +16,22 @@ use Rattle.elaborate.proofs.marks.qualified.Reads as reads
 use Rattle.elaborate.proofs.marks.qualified.Lts as lts
 
 abbrev Inv-loop : tie.InvT-loop
-Inv-loop kinds from i₀ i = (text ss ls ns : List ℕ) → lastOf (tokensFrom text (table kinds ss ls ns) from) ≡ lastOf (tokensFrom text (table kinds ss ls ns) i)
+Inv-loop kinds from i₀ i = (text ss ns : List ℕ) → lastOf (tokensFrom text (table kinds ss ns) from) ≡ lastOf (tokensFrom text (table kinds ss ns) i)
 
 abbrev μ-loop : tie.MeasureT-loop
 μ-loop kinds from i₀ i = length kinds - i
 
 loop-holds : tie.Need-loop-holds Inv-loop μ-loop
-loop-holds c = λ text ss ls ns. refl
+loop-holds c = λ text ss ns. refl
 
 returns : tie.Need-returns Inv-loop μ-loop
-returns c = λ text ss ls ns. c .before .before .before .loop .inv text ss ls ns ∙ last-turn text (table (now (c .before .before .before .before .args .kinds)) ss ls ns) (c .before .before .before .loop .i) (c .before .before .loop-test .taken) ∙ rw (c .if1 .taken)
+returns c = λ text ss ns. c .before .before .before .loop .inv text ss ns ∙ last-turn text (table (now (c .before .before .before .before .args .kinds)) ss ns) (c .before .before .before .loop .i) (c .before .before .loop-test .taken) ∙ rw (c .if1 .taken)
 
 loop-again : tie.Need-loop-again Inv-loop μ-loop
-loop-again c = λ text ss ls ns. c .before .before .before .loop .inv text ss ls ns ∙ last-turn text (table (now (c .before .before .before .before .args .kinds)) ss ls ns) (c .before .before .before .loop .i) (c .before .before .loop-test .taken) ∙ rw (ne-eqb _ _ (c .if1 .left))
+loop-again c = λ text ss ns. c .before .before .before .loop .inv text ss ns ∙ last-turn text (table (now (c .before .before .before .before .args .kinds)) ss ns) (c .before .before .before .loop .i) (c .before .before .loop-test .taken) ∙ rw (ne-eqb _ _ (c .if1 .left))
 
 returns-2 : tie.Need-returns-2 Inv-loop μ-loop
-returns-2 c = λ text ss ls ns. c .before .loop .inv text ss ls ns ∙ last-end text (table (now (c .before .before .args .kinds)) ss ls ns) (c .before .loop .i) (c .loop-test .left)
+returns-2 c = λ text ss ns. c .before .loop .inv text ss ns ∙ last-end text (table (now (c .before .before .args .kinds)) ss ns) (c .before .loop .i) (c .loop-test .left)
 
 pub qualified-spec : {M : Type 1} → statement M
 qualified-spec =

@@ -15,13 +15,11 @@ use Rattle.elaborate.proofs.marks.same.Reads as same-reads
 use Rattle.elaborate.proofs.marks.word.Reads as word-reads
 
 returns : tie.Need-returns
-returns c =
-    let c₈ = c .before .before .before .before .before .before .before .before in let pre = c₈ .pre in
+returns c = let pre = c .before .before .before .before .before .before .before .pre in
     names-differ _ _ _ _ (pre .2) (pre .3) (λ e. c .if1 .taken (sym e))
 
 returns-2 : tie.Need-returns-2
-returns-2 c =
-    let c₉ = c .before .before .before .before .before .before .before .before .before in let pre = c₉ .pre in
+returns-2 c = let pre = c .before .before .before .before .before .before .before .before .pre in
     names-same _ _ _ _ (pre .2) (pre .3) (omega (arith, c .before .if1 .left)) (c .if2 .taken)
 
 returns-3 : tie.Need-returns-3

@@ -17,4 +17,9 @@ unique-with-requires : tie.Need-unique-with-requires
 unique-with-requires c κs = (omega (arith, c .before .before .before .pre .0), omega (arith, c .before .before .before .pre .0), c .before .before .before .pre .1, getD-same 4000 0)
 
 pub unique-long-spec : {M : Type 1} → statement M
-unique-long-spec = tie.close (tie.spec (λ c. search needs) unique-with-requires (λ c. search needs))
+unique-long-spec =
+    tie.close
+    (tie.spec
+    (λ c. search needs)
+    unique-with-requires
+    (λ c. search needs))

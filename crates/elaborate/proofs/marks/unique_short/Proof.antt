@@ -17,4 +17,9 @@ unique-with-requires : tie.Need-unique-with-requires
 unique-with-requires c κs = (omega (arith, c .before .before .before .pre .0), omega (arith, c .before .before .before .pre .0), c .before .before .before .pre .1, getD-same 257 0)
 
 pub unique-short-spec : {M : Type 1} → statement M
-unique-short-spec = tie.close (tie.spec (λ c. search needs) unique-with-requires (λ c. search needs))
+unique-short-spec =
+    tie.close
+    (tie.spec
+    (λ c. search needs)
+    unique-with-requires
+    (λ c. search needs))

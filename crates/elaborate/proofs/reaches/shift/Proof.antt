@@ -4,6 +4,7 @@ use mathlib.Core.Path.{_≡_, refl, sym, ap, subst, _∙_}
 use Prim.Native.Nat.{ℕ, _+_}
 use Rattle.quel.specs.Writing.{Reaches}
 use Rattle.elaborate.specs.Frames.{Stack}
+use Rattle.elaborate.specs.Lookup.{idsIn}
 use Rattle.elaborate.proofs.reaches.Laws.{open-reach, close-reach, same-reach}
 use borrow.Author.Needs.{needs}
 use Rattle.elaborate.proofs.reaches.shift.Statement.{statement}
@@ -16,31 +17,28 @@ use Rattle.elaborate.proofs.reaches.leave.Reads as leave-reads
 use Rattle.elaborate.proofs.reaches.opening.Reads as opening-reads
 
 returns : tie.Need-returns
-returns c =
-    let c₄ = c .before .before .before .before in let enter = c₄ .enter in
-    let c₇ = c₄ .before .before .before in let if1 = c₇ .if1 in
-    let c₈ = c₇ .before in let opening = c₈ .opening in
-    let c₁₂ = c₈ .before .before .before .before in let args = c₁₂ .args in
+returns c = let enter = c .before .before .before .before .enter in
+    let if1 = c .before .before .before .before .before .before .before .if1 in
+    let opening = c .before .before .before .before .before .before .before .before .opening in
+    let args = c .before .before .before .before .before .before .before .before .before .before .before .before .args in
     let i = args .i in
-    (λ f w σ sm st. subst (λ (τ : Reaches). Stack w (now (args .ids)) (enter .last .1 .1 .0) (enter .result .depth) (enter .result .crossing) (enter .last .1 .0) τ) (open-reach (args .a) (args .item) (w (i + 1)) (w (i + 2)) σ f (sym (opening .ensures) ∙ if1 .taken)) (enter .ensures .0 w σ sm st), (omega (arith, enter .ensures .1 .0), enter .ensures .1 .1, enter .ensures .1 .2, enter .ensures .1 .3))
+    (λ f w σ sm st. subst (λ (τ : Reaches). Stack w (idsIn (now (args .lookup))) (enter .last .1 .1 .0) (enter .result .depth) (enter .result .crossing) (enter .last .1 .0) τ) (open-reach (args .a) (args .item) (w (i + 1)) (w (i + 2)) σ f (sym (opening .ensures) ∙ if1 .taken)) (enter .ensures .0 w σ sm st), (omega (arith, enter .ensures .1 .0), enter .ensures .1 .1, enter .ensures .1 .2, enter .ensures .1 .3))
 
 returns-2 : tie.Need-returns-2
-returns-2 c =
-    let c₂ = c .before .before in let leave = c₂ .leave in
-    let c₅ = c₂ .before .before .before in let if2 = c₅ .if2 in
-    let c₆ = c₅ .before in let closing = c₆ .closing in
-    let c₇ = c₆ .before in let if1 = c₇ .if1 in
-    let c₈ = c₇ .before in let opening = c₈ .opening in
-    let c₁₂ = c₈ .before .before .before .before in let args = c₁₂ .args in
-    let ids = now (args .ids) in let i = args .i in
+returns-2 c = let leave = c .before .before .leave in
+    let if2 = c .before .before .before .before .before .if2 in
+    let closing = c .before .before .before .before .before .before .closing in
+    let if1 = c .before .before .before .before .before .before .before .if1 in
+    let opening = c .before .before .before .before .before .before .before .before .opening in
+    let args = c .before .before .before .before .before .before .before .before .before .before .before .before .args in
+    let ids = idsIn (now (args .lookup)) in let i = args .i in
     (λ f w σ sm st. subst (λ (τ : Reaches). Stack w ids (now (args .frames)) (leave .result .depth) (leave .result .crossing) (leave .last .0) τ) (close-reach (args .a) (args .item) (w (i + 1)) (w (i + 2)) σ (sym (opening .ensures) ∙ if1 .left) (sym (closing .ensures) ∙ if2 .taken)) (leave .ensures .0 w ids σ st), (omega (arith, leave .ensures .1 .0), leave .ensures .1 .1, leave .ensures .1 .2, λ j l. refl))
 
 returns-3 : tie.Need-returns-3
-returns-3 c =
-    let c₃ = c .before .before .before in let opening = c₃ .opening in
-    let c₇ = c₃ .before .before .before .before in let args = c₇ .args in let pre = c₇ .pre in
+returns-3 c = let opening = c .before .before .before .opening in
+    let args = c .before .before .before .before .before .before .before .args in let pre = c .before .before .before .before .before .before .before .pre in
     let i = args .i in let r = args .r in
-    (λ f w σ sm st. subst (λ (τ : Reaches). Stack w (now (args .ids)) (now (args .frames)) (r .depth) (r .crossing) (now (args .known)) τ) (same-reach (args .a) (args .item) (w (i + 1)) (w (i + 2)) σ (sym (opening .ensures) ∙ c .before .before .if1 .left) (sym (c .before .closing .ensures) ∙ c .if2 .left)) st, (omega arith, pre .2, pre .6, λ j l. refl))
+    (λ f w σ sm st. subst (λ (τ : Reaches). Stack w (idsIn (now (args .lookup))) (now (args .frames)) (r .depth) (r .crossing) (now (args .known)) τ) (same-reach (args .a) (args .item) (w (i + 1)) (w (i + 2)) σ (sym (opening .ensures) ∙ c .before .before .if1 .left) (sym (c .before .closing .ensures) ∙ c .if2 .left)) st, (omega arith, pre .2, pre .6, λ j l. refl))
 
 pub shift-spec : {M : Type 1} → statement M
 shift-spec =

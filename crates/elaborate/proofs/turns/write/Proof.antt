@@ -16,20 +16,18 @@ use Rattle.copier.proofs.put_record.Reads as put-record-reads
 use Rattle.elaborate.proofs.opens.open.Reads as open-reads
 
 put-record-requires : tie.Need-put-record-requires
-put-record-requires c κs =
-    let c₄ = c .before .before .before .before in let operator = c₄ .operator in
-    let c₅ = c₄ .before in let ands = c₅ .ands in
-    let c₆ = c₅ .before in let ors = c₆ .ors in
-    let c₁₀ = c₆ .before .before .before .before in let args = c₁₀ .args in
+put-record-requires c κs = let operator = c .before .before .before .before .operator in
+    let ands = c .before .before .before .before .before .before .ands in
+    let ors = c .before .before .before .before .before .before .before .before .ors in
+    let args = c .before .before .before .before .before .before .before .before .before .before .before .before .before .args in
     omega (arith, c .before .before .before .«open» .ensures .0, ors .ensures, ands .ensures, open-most (args .mode) (args .kind) (ors .result) (ands .result) (operator .result), record-most (args .item))
 
 returns : tie.Need-returns
-returns c =
-    let c₂ = c .before .before in let put-record = c₂ .put-record in
-    let c₇ = c₂ .before .before .before .before .before in let operator = c₇ .operator in
-    let c₈ = c₇ .before in let ands = c₈ .ands in
-    let c₉ = c₈ .before in let ors = c₉ .ors in
-    let c₁₃ = c₉ .before .before .before .before in let args = c₁₃ .args in
+returns c = let put-record = c .before .before .put-record in
+    let operator = c .before .before .before .before .before .before .before .operator in
+    let ands = c .before .before .before .before .before .before .before .before .before .ands in
+    let ors = c .before .before .before .before .before .before .before .before .before .before .before .ors in
+    let args = c .before .before .before .before .before .before .before .before .before .before .before .before .before .before .before .before .args in
     let counts = now (args .counts) in let i = args .i in
     let w = write-all (now (args .out)) _ _ (args .at) _ _ (args .mode) (args .kind) (ors .result) (ands .result) (operator .result) (orsIn (getD counts i 0)) (andsIn (getD counts i 0)) (1 + signIn (getD counts (i + 1) 0)) (args .item) (ors .ensures) (ands .ensures) (omega (arith, operator .ensures)) (omega arith) (omega arith) (c .before .before .before .before .before .before .«open» .ensures .0) (c .before .before .before .before .before .before .«open» .ensures .1) (put-record .ensures .0) (put-record .ensures .1) in (w .0, (w .1, w .2))
 
@@ -37,8 +35,14 @@ pub write-spec : {M : Type 1} → statement M
 write-spec =
     tie.close
     (tie.spec
+    (λ c. search needs)
+    (λ c. search needs)
     (λ c κs. search needs)
+    (λ c. search needs)
+    (λ c. search needs)
     (λ c κs. search needs)
+    (λ c. search needs)
+    (λ c. search needs)
     (λ c. search needs)
     (λ c κs. search needs)
     (λ c κs. search needs)

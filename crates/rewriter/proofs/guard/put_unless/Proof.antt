@@ -24,4 +24,10 @@ returns-2 c =
     wrote-as (now (args .out)) (args .at) _ _ _ _ (something-is (args .mask) ((args .b) ∷ []) (if1 .left)) (c .before .before .put .ensures)
 
 pub put-unless-spec : {M : Type 1} → statement M
-put-unless-spec = tie.close (tie.spec returns put-requires (λ c. search needs) returns-2)
+put-unless-spec =
+    tie.close
+    (tie.spec
+    returns
+    put-requires
+    (λ c. search needs)
+    returns-2)

@@ -29,8 +29,8 @@ copy-condition-requires c κs =
     let c₈ = c₅ .before .before .before in let args = c₈ .args in let pre = c₈ .pre in
     turn-second (now (args .condition)) (args .mask) (args .variable) (args .next) (if1 .left) (now (args .out)) (args .at) _ _ (put-unless .ensures) (pre .0) (pre .1)
 
-add-t16 : tie.Need-add-t16
-add-t16 c =
+add-t10 : tie.Need-add-t10
+add-t10 c =
     let c₈ = c .before .before .before .before .before .before .before .before in let put-unless = c₈ .put-unless in
     let c₁₀ = c₈ .before .before in let if1 = c₁₀ .if1 in
     let c₁₃ = c₁₀ .before .before .before in let args = c₁₃ .args in let pre = c₁₃ .pre in
@@ -52,6 +52,6 @@ write-turn-spec =
     put-unless-requires
     copy-condition-requires
     (λ c κs. search needs)
-    add-t16
+    add-t10
     (λ c. search needs)
     returns-2)
