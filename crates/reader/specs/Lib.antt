@@ -1,3 +1,5 @@
 pub mod Readings
 pub mod Machine
 pub mod Verdict
+pub mod Parts
+pub mod Quick

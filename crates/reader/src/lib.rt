@@ -1,4 +1,5 @@
 // The reader of QUEL (document 02, Change 1): a text and a name list, to the records of a question in a lent buffer.
+mod quick;
 mod syntax;
 
 use tokens::Outcome;
@@ -126,6 +127,10 @@ pub fn read(text: &[u8], list: &[u8], out: &mut [u8]) -> Reading
     ensures { λ r. ⌜ readingOf r (now (out .exit)) ≡ readText (now (list .entry)) (now (text .entry)) (now (out .entry)) ⌝ }
 {
     if is_short(text, list) {
+        let r = quick::read(text, list, out);
+        if r.number != 255 {
+            return r;
+        }
         return read_short(text, list, out);
     }
     read_long(text, list, out)
