@@ -1,4 +1,6 @@
 // Records: one byte of kind, then a body whose length the kind fixes. Getters that are total, so that their callers need no bounds.
+#![tactic(auto)]
+
 ghost use Rattle.std.specs.Prelude.{◌≡◌, ◌%◌, ◌≤◌, cond, ltb, get_or, drop, nat_abs};
 ghost use Rattle.model.specs.Syntax.{is_operator, is_function};
 ghost use Rattle.model.specs.Meaning.{signed};
