@@ -1,4 +1,6 @@
 // The catalogue's records, checks 10 and 11, and the values of rows.
+#![tactic(auto)]
+
 ghost use Rattle.std.specs.Prelude.{◌≡◌, not, ℕ, ◌+◌, ◌*◌, ◌≤◌, ◌<◌, eqb, pos, length, get_or};
 ghost use Rattle.model.specs.Checks.{fails10, refusal, keeper_checks};
 ghost use Rattle.catalogue.specs.Layout as L;

@@ -1,1 +1,3 @@
 // The model: definitions in specs/, theorems in proofs/. It has no code.
+
+#![tactic(auto)]
