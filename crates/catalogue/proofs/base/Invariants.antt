@@ -8,8 +8,8 @@ use mathlib.Core.List.{List}
 use Rattle.catalogue.specs.Layout as L
 use Rattle.catalogue.proofs.base.Given as goal
 
-abbrev pub invariant-loop : goal.invariant-loop
-invariant-loop l = (l.at ≡ L.base_of l.catalogue l.i) × (l.at ≤ 16711425 * l.i) × (l.i ≤ l.relation)
+abbrev pub invariant-loop-i : goal.invariant-loop-i
+invariant-loop-i l = (l.at ≡ L.base_of l.catalogue l.i) × (l.at ≤ 16711425 * l.i) × (l.i ≤ l.relation)
 
-abbrev pub decreases-loop : goal.decreases-loop
-decreases-loop l = l.relation - l.i
+abbrev pub decreases-loop-i : goal.decreases-loop-i
+decreases-loop-i l = l.relation - l.i

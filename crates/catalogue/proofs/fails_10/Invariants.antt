@@ -12,8 +12,8 @@ use Rattle.catalogue.specs.Layout as L
 use Rattle.catalogue.proofs.Reading.{valid-passes, refused}
 use Rattle.catalogue.proofs.fails_10.Given as goal
 
-abbrev pub invariant-loop : goal.invariant-loop
-invariant-loop l = ((r : ℕ) → r < l.i → L.known_of l.catalogue r ≡ true) × (l.i ≤ l.end)
+abbrev pub invariant-loop-i : goal.invariant-loop-i
+invariant-loop-i l = ((r : ℕ) → r < l.i → L.known_of l.catalogue r ≡ true) × (l.i ≤ l.end)
 
-abbrev pub decreases-loop : goal.decreases-loop
-decreases-loop l = l.end - l.i
+abbrev pub decreases-loop-i : goal.decreases-loop-i
+decreases-loop-i l = l.end - l.i
