@@ -1,28 +1,26 @@
 -- The plain evaluator accepts the rewritten query.
-use Prim.Native.Nat.{ℕ, zero, suc, ◌+◌, ◌*◌, ◌<◌, ◌≤◌}
-use mathlib.Core.Bool.{Bool, true, false, not, cond, ◌&&◌, ◌||◌}
-use mathlib.Core.List.{List, [], ◌∷◌, ◌++◌}
-use mathlib.Core.Path.{◌≡◌, refl, sym, ◌∙◌, ap}
+use Prim.Native.Nat.{ℕ, ◌+◌, ◌≤◌}
+use mathlib.Core.Bool.{Bool, true, false}
+use mathlib.Core.List.{List, [], ◌∷◌}
+use mathlib.Core.Path.{◌≡◌, refl, ap}
 use native.Mathlib.Omega.{arith}
-use lib.Dec.{leb, ltb}
 use lib.ListN.{length}
-use borrow.Author.Tests.{le-ltb, lt-ltb, ltb-true}
+use borrow.Author.Tests.{le-ltb, lt-ltb}
 use Rattle.model.specs.Lists.{all, concat_map, Every}
-use Rattle.model.specs.Syntax.{Condition, Term, Binding, Query, Permit, WellFormedQ, bindings, bindings_t, bindings_q, levels_q}
-use Rattle.model.specs.Encoding.{encode_query, ok, failed, read_or, read_query, query_of, permits_of}
+use Rattle.model.specs.Syntax.{Binding, Query, bindings, bindings_t, bindings_q, levels_q}
+use Rattle.model.specs.Encoding.{encode_query, ok, read_query, query_of, permits_of}
 use Rattle.model.specs.Catalogue.{Shape}
 use Rattle.model.specs.Permits.{Guards, guards_of}
 use Rattle.model.specs.Rewriting.{new_for, rewrite, rewrite_targets, guard_ranges, rewrite_query}
-use Rattle.model.specs.Scope.{known_binding, in_scope, in_scope_t, range_scope, query_in_scope, bound_once}
-use Rattle.model.specs.Limits.{Limits}
+use Rattle.model.specs.Scope.{known_binding, in_scope, in_scope_t, range_scope, query_in_scope}
 use Rattle.model.specs.Checks.{guarded_limits, plain_limits, fails30, fails31, fails32, shape_checks, query_checks, refusal}
 use Rattle.model.proofs.Tests.{and_intro}
 use Rattle.model.proofs.Lists.{every_map}
 use Rattle.model.proofs.ReadingQueries.{IsQ, read-query}
 use Rattle.model.proofs.Sizes.{size_q, size-query}
-use Rattle.model.proofs.Scoping.{InScope, InScopeT, in-test, in-test_t}
-use Rattle.model.proofs.Permitted.{Sound, SaneGuard}
-use Rattle.model.proofs.Limits.{Good, binds_ts, binds, binds_q, binds_ts-length, binds-length, binds_q-length, FitsQ, FitsTs, rewrite-targets, rewrite-fits, ranges-put, rewritten-fits, within-plain}
+use Rattle.model.proofs.Scoping.{in-test, in-test_t}
+use Rattle.model.proofs.Permitted.{SaneGuard}
+use Rattle.model.proofs.Limits.{Good, binds_q, binds_q-length, FitsQ, rewrite-targets, rewrite-fits, ranges-put, rewritten-fits, within-plain}
 use Rattle.model.proofs.Numbering.{bound-once}
 use Rattle.model.proofs.Reaching.{rewrite-scope, targets-scope, ranges-scope, ranges-reach}
 use Rattle.model.proofs.Passed.{Passed, passed, query-read, query-length, permits-read, Within, within, Scoped, scoped, known, sound, sane-guards, good-guards}

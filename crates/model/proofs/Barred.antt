@@ -3,7 +3,7 @@ use mathlib.Core.Bool.{Bool, true, false, not, ◌&&◌, ◌||◌}
 use mathlib.Core.List.{List, [], ◌∷◌, map}
 use mathlib.Core.Path.{◌≡◌, refl}
 use Rattle.model.specs.Lists.{filter, any, cons_if}
-use Rattle.model.specs.Syntax.{Binding, Query, Permit, Condition}
+use Rattle.model.specs.Syntax.{Binding, Query, Permit}
 use Rattle.model.specs.Catalogue.{Shape, stored_at}
 use Rattle.model.specs.Permits.{used_of, applies, bars, Guard, free, only, guard_of, guards_of}
 use Rattle.model.specs.Checks.{served}

@@ -7,12 +7,12 @@ use mathlib.Core.List.{List, [], ◌∷◌, ◌++◌, map, map-append, append-ni
 use mathlib.Core.Path.{◌≡◌, refl, sym, ◌∙◌, ap, subst}
 use lib.Dec.{leb, ltb}
 use lib.IntN.{ℤ, pos}
-use lib.ListN.{length, take, drop, get_or, length-append, length-drop, length-map, get_or-append}
+use lib.ListN.{length, take, drop, get_or, length-append, length-drop, get_or-append}
 use lib.Seq.{take_at, take-length, get_or_at, drop_at, drop-append-le, take-append-le, take_all}
 use borrow.Author.Tests.{leb-true, ltb-true, ltb-false, eq-eqb, ne_eqb}
-use Rattle.model.specs.Lists.{any, concat_map, below, Every}
+use Rattle.model.specs.Lists.{concat_map, below, Every}
 use Rattle.model.specs.Syntax.{Query}
-use Rattle.model.specs.Meaning.{Tuple, Rows, answers}
+use Rattle.model.specs.Meaning.{Tuple, answers}
 use Rattle.model.specs.Catalogue.{all_rows}
 use Rattle.model.specs.Checks.{Check, ask_checks, refusal}
 use Rattle.model.specs.Calls.{Outcome, refuse, give, evaluate_unless, ask_unless, ask}
@@ -20,7 +20,7 @@ use Rattle.model.specs.Book.{Row, row_cells, rows_in, is_label, display_of, entr
 use Rattle.model.specs.Demands.{BookGrounds, Demand1Book, BookRows, Laid, Demand3Book}
 use Rattle.model.proofs.Width.{answers-wide}
 use Rattle.model.proofs.Tests.{clash}
-use Rattle.model.proofs.Lists.{concat_map-append, every-join}
+use Rattle.model.proofs.Lists.{concat_map-append}
 use Rattle.model.proofs.Demands.{ask-below, demand-3}
 
 -- the three ways of a book call

@@ -3,7 +3,7 @@ use Rattle.model.specs.Lists.{filter, any, all, concat_map, total, contains, uni
 use Rattle.model.specs.Kinds.{find, kind_of}
 use Rattle.model.specs.Syntax.{bindings, bindings_q, uses, uses_q, levels, levels_ts, levels_q}
 use Rattle.model.specs.Encoding.{encode, encode_targets, encode_ranges, encode_query, encode_permit, encode_permits, condition_body, term_body, on_kind, read_condition, starts_range, starts_target, read_ranges, read_targets, read_query, read_permit, read_permits, permits_read, query_of, permits_of}
-use Rattle.model.specs.Meaning.{cell, signed, sum, best_from, best, average, aggregate, ordered, holds, assignments, target_row, rows_met, same_row, add_row, add_rows, qualifying, answers, holds_with, target_row_with}
+use Rattle.model.specs.Meaning.{cell, signed, sum, best_from, best, average, aggregate, ordered, assignments, rows_met, same_row, add_row, add_rows, qualifying, answers, holds_with, target_row_with}
 use Rattle.model.specs.Catalogue.{read_catalogue, catalogue_read, catalogue_of, value_count, shape_of, attributes_at, stored_at, tuples_of, walk, tuples_at}
 use Rattle.model.specs.Search.{search, searches_in, some_searches, row_searches, permit_searches}
 use Rattle.model.specs.Permits.{bit, used_of, is_false, applies, bars, guard_of, guards_of, meets, allowed, permitted}

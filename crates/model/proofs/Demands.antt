@@ -1,24 +1,24 @@
 -- The three demands, proved. The statements are in specs/Demands.antt.
-use Prim.Native.Nat.{ℕ, zero, suc, ◌+◌, ◌*◌, ◌/◌, ◌<◌, ◌≤◌, min}
+use Prim.Native.Nat.{ℕ, zero, suc, ◌*◌, ◌/◌, ◌<◌, ◌≤◌, min}
 use mathlib.Core.Bool.{Bool, true, false, cond}
 use mathlib.Core.List.{List, [], ◌∷◌, ◌++◌, map}
-use mathlib.Core.Path.{◌≡◌, refl, sym, ◌∙◌, ap, ap₂, subst}
+use mathlib.Core.Path.{◌≡◌, refl, sym, ◌∙◌, ap, subst}
 use native.Mathlib.Omega.{arith}
 use lib.Dec.{leb}
 use lib.IntN.{ℤ}
 use lib.ListN.{length, take, drop}
 use lib.Seq.{take_at, take-length}
-use borrow.Author.Tests.{leb-true, leb-false, le-leb, lt-leb}
+use borrow.Author.Tests.{leb-true, leb-false, lt-leb}
 use Rattle.model.specs.Lists.{any, concat_map, contains, Every}
-use Rattle.model.specs.Syntax.{Condition, Term, Binding, Query, Permit, WellFormedPs, bindings_q}
+use Rattle.model.specs.Syntax.{Term, Query, Permit, WellFormedPs, bindings_q}
 use Rattle.model.specs.Encoding.{encode_query, encode_permits, ok, query_of, permits_of, permits_read}
 use Rattle.model.specs.Meaning.{Tuple, answers}
 use Rattle.model.specs.Catalogue.{catalogue_of, Shape, shape_of, tuples_at, all_rows}
 use Rattle.model.specs.Permits.{used_of, Guards, guards_of, permitted, cut}
-use Rattle.model.specs.Rewriting.{rewrite_t, new_for, rewrite_targets, rewrite_query}
+use Rattle.model.specs.Rewriting.{rewrite_targets, rewrite_query}
 use Rattle.model.specs.Checks.{Check, plain_limits, keeper_checks, permit_checks, query_checks, guard_checks, shape_checks, ask_checks, evaluate_checks, refusal}
-use Rattle.model.specs.Calls.{Answer, Outcome, refuse, fitting, give, evaluate_unless, evaluate, ask_unless, ask}
-use Rattle.model.specs.Demands.{guards_in, rewritten_of, rows_of, columns_of, ask_numbers, evaluate_numbers, fails, Ground, Passes, Demand1, Demand2, Kept, permitted_cut, Demand3}
+use Rattle.model.specs.Calls.{Answer, Outcome, refuse, give, evaluate_unless, evaluate, ask_unless, ask}
+use Rattle.model.specs.Demands.{guards_in, rewritten_of, rows_of, columns_of, ask_numbers, evaluate_numbers, fails, Demand1, Demand2, Kept, permitted_cut, Demand3}
 use Rattle.model.proofs.Tests.{clash}
 use Rattle.model.proofs.ReadingQueries.{query-inverse, read-query, permits-inverse, read-permits}
 use Rattle.model.proofs.Sizes.{size-query}

@@ -1,7 +1,7 @@
 -- The answer has each row once, in order of first meeting (specs/Demands: `FirstMeeting`).
-use Prim.Native.Nat.{ℕ, zero, suc, ◌+◌, ◌<◌, ◌≤◌}
+use Prim.Native.Nat.{ℕ, zero, suc, ◌<◌}
 use mathlib.Core.Bool.{Bool, true, false}
-use mathlib.Core.List.{List, [], ◌∷◌, ◌++◌, map, append_assoc, append-nil}
+use mathlib.Core.List.{List, [], ◌∷◌, ◌++◌, append_assoc, append-nil}
 use mathlib.Core.Path.{◌≡◌, refl, sym, ◌∙◌, ap, subst}
 use native.Mathlib.Omega.{arith}
 use lib.Dec.{ltb}
@@ -10,9 +10,8 @@ use lib.ListN.{length, get_or, length-append, get_or-append}
 use lib.Seq.{get_or_at}
 use borrow.Author.Tests.{ltb-true, ltb-false}
 use Rattle.model.specs.Lists.{any}
-use Rattle.model.specs.Meaning.{Rows, same_row, add_row, add_rows, rows_met, answers}
-use Rattle.model.specs.Syntax.{Query}
-use Rattle.model.specs.Demands.{FirstAt, FirstMeeting, InOrder}
+use Rattle.model.specs.Meaning.{same_row, add_row, add_rows, rows_met, answers}
+use Rattle.model.specs.Demands.{FirstAt, InOrder}
 use Rattle.model.proofs.Tests.{clash, or-inv, or_no}
 use Rattle.model.proofs.Monotone.{same-equal, same_refl}
 

@@ -6,20 +6,20 @@ use mathlib.Core.Path.{◌≡◌, refl, sym, ◌∙◌, ap, ap₂, subst}
 use native.Mathlib.Omega.{arith}
 use lib.Dec.{leb}
 use lib.IntN.{ℤ}
-use lib.ListN.{length, take, drop, length-map}
+use lib.ListN.{length, take, drop}
 use lib.Seq.{take_at, drop_at, take-length}
 use borrow.Author.Tests.{leb-true, le-leb, le-ltb}
 use Rattle.model.specs.Lists.{filter, any, concat_map, Every}
 use Rattle.model.specs.Syntax.{Binding, Query, Permit, bindings_q}
 use Rattle.model.specs.Encoding.{encode_query, query_of, permits_of}
-use Rattle.model.specs.Meaning.{Tuple, Rows, answers}
+use Rattle.model.specs.Meaning.{Tuple, answers}
 use Rattle.model.specs.Catalogue.{catalogue_of, Shape, shape_of, stored_at, tuples_at}
 use Rattle.model.specs.Permits.{used_of, no_access, applies, bars, guard_of, guards_of, meets, allowed, permitted}
 use Rattle.model.specs.Checks.{served, fails33, rewritten_bytes, fails40, permit_checks, query_checks, guard_checks, shape_checks, ask_checks, refusal}
 use Rattle.model.specs.Calls.{Outcome, give, ask}
 use Rattle.model.specs.Demands.{guards_in, rewritten_of, rows_of, columns_of, Passes, positive_q, rows_from, rows_given, included, MorePermits}
 use Rattle.model.proofs.Tests.{and-inv, and_intro, or-inv, or_left, or_right, not-no}
-use Rattle.model.proofs.Lists.{any-filter, any-map, any-weaken, all-weaken, any-skip, every-join, Within, within-insert}
+use Rattle.model.proofs.Lists.{any-filter, any-map, any-weaken, all-weaken, any-skip, Within, within-insert}
 use Rattle.model.proofs.Passed.{Passed, passed}
 use Rattle.model.proofs.Grounds.{refusal-skip, passes-refusal}
 use Rattle.model.proofs.Width.{Wide, answers-wide}

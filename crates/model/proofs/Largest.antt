@@ -1,5 +1,5 @@
 -- The bound of 17,216 bytes is reached.
-use mathlib.Core.List.{List, [], ◌∷◌}
+use mathlib.Core.List.{[], ◌∷◌}
 use mathlib.Core.Path.{◌≡◌, refl}
 use lib.ListN.{length, replicate}
 use Rattle.model.specs.Encoding.{encode_query, encode_permits}

@@ -1,7 +1,7 @@
 -- Non-interference: the answer over the permitted rows depends on their used attributes alone.
-use Prim.Native.Nat.{ℕ, zero, suc, ◌+◌, ◌<◌, ◌≤◌}
+use Prim.Native.Nat.{ℕ, zero, suc, ◌<◌}
 use mathlib.Core.Bool.{Bool, true, false, not, cond, ◌&&◌, ◌||◌}
-use mathlib.Core.Option.{Option, none, some}
+use mathlib.Core.Option.{Option}
 use mathlib.Core.List.{List, [], ◌∷◌, ◌++◌, map, map-map}
 use mathlib.Core.Path.{◌≡◌, refl, sym, ◌∙◌, ap, ap₂, fun_ext}
 use native.Mathlib.Omega.{arith}
@@ -10,7 +10,7 @@ use lib.IntN.{ℤ, pos}
 use borrow.Author.Tests.{eq-eqb, eqb-true, eqb-false}
 use Rattle.model.specs.Lists.{update, cons_if, filter, any, concat_map, contains, below, Every, present}
 use Rattle.model.specs.Syntax.{Condition, Term, TRUE, FALSE, NOT, AND, OR, COMPARE, SOME, CONSTANT, ATTRIBUTE, AGGREGATE, Binding, Use, Query, bindings, bindings_t, bindings_q, uses_q}
-use Rattle.model.specs.Meaning.{Tuple, Assignment, Rows, whole, compare, aggregate, holds, value, assignments, unbound, with_cell, target_row, add_rows, rows_met, answers, holds_with, target_row_with}
+use Rattle.model.specs.Meaning.{Tuple, Assignment, Rows, compare, aggregate, holds, value, assignments, unbound, with_cell, target_row, add_rows, rows_met, answers, holds_with, target_row_with}
 use Rattle.model.specs.Catalogue.{Shape, all_rows}
 use Rattle.model.specs.Permits.{used_of, Guards, permitted, cut}
 use Rattle.model.specs.Rewriting.{rewrite_query}

@@ -1,12 +1,12 @@
 -- The numbers bound in the rewritten query: below 8 the query's own, from 8 up the new ones in a row; so each is bound once.
 use Prim.Native.Nat.{ℕ, zero, suc, ◌+◌, ◌<◌, ◌≤◌}
 use native.Mathlib.Nat.{add-zero, zero-add}
-use mathlib.Core.Bool.{Bool, true, false, not, cond, ◌&&◌, ◌||◌}
-use mathlib.Core.List.{List, [], ◌∷◌, ◌++◌, map, map-map, map-append}
+use mathlib.Core.Bool.{Bool, true, false, not, ◌&&◌, ◌||◌}
+use mathlib.Core.List.{List, [], ◌∷◌, ◌++◌, map, map-append}
 use mathlib.Core.Path.{◌≡◌, refl, sym, ◌∙◌, ap, ap₂, subst}
 use native.Mathlib.Omega.{arith}
 use lib.Dec.{eqb, ltb}
-use lib.ListN.{length, length-append}
+use lib.ListN.{length}
 use borrow.Author.Tests.{eq-eqb, ne_eqb, eqb-true, eqb-false, lt-ltb, le-ltb}
 use Rattle.model.specs.Lists.{cons_if, filter, any, concat_map, total, contains, unique, index_of, Every}
 use Rattle.model.specs.Syntax.{Condition, Term, TRUE, FALSE, NOT, AND, OR, COMPARE, SOME, CONSTANT, ATTRIBUTE, AGGREGATE, Binding, Query, bindings, bindings_t, bindings_q, variables}
@@ -14,7 +14,7 @@ use Rattle.model.specs.Permits.{Guard, free, only, Guards}
 use Rattle.model.specs.Catalogue.{Shape}
 use Rattle.model.specs.Rewriting.{rename, rename_t, new_number, copy_for, disjunction, new_in, guarded, new_for, rewrite, rewrite_t, rewrite_targets, guard_ranges, rewrite_query}
 use Rattle.model.specs.Scope.{bound_once}
-use Rattle.model.proofs.Tests.{clash, and-inv, or_no, not_yes}
+use Rattle.model.proofs.Tests.{and-inv, or_no, not_yes}
 use Rattle.model.proofs.Lists.{filter-append, every_append, every_map}
 use Rattle.model.proofs.Renaming.{Sane, length-variables}
 use Rattle.model.proofs.Permitted.{Low, Sound, SaneGuard}

@@ -1,32 +1,31 @@
 -- What passed checks give: facts about the catalogue, the permits and the query.
 use Prim.Native.Nat.{ℕ, zero, suc, ◌+◌, ◌*◌, ◌<◌, ◌≤◌}
-use mathlib.Core.Bool.{Bool, true, false, not, cond, ◌&&◌, ◌||◌}
+use mathlib.Core.Bool.{Bool, true, false, not, ◌&&◌, ◌||◌}
 use mathlib.Core.List.{List, [], ◌∷◌, ◌++◌, map}
-use mathlib.Core.Option.{Option, none, some}
-use mathlib.Core.Path.{◌≡◌, refl, sym, ◌∙◌, ap, subst}
+use mathlib.Core.Option.{some}
+use mathlib.Core.Path.{◌≡◌, refl, sym, subst}
 use native.Mathlib.Omega.{arith}
 use lib.Dec.{eqb, leb, ltb}
-use lib.IntN.{ℤ}
 use lib.ListN.{length}
-use borrow.Author.Tests.{eqb-true, eqb-false, leb-true, ltb-true, ltb-false}
+use borrow.Author.Tests.{eqb-true, leb-true, ltb-true, ltb-false}
 use Rattle.model.specs.Lists.{update, cons_if, filter, any, all, concat_map, contains, unique, Every}
-use Rattle.model.specs.Syntax.{Condition, Term, TRUE, FALSE, NOT, AND, OR, COMPARE, SOME, CONSTANT, ATTRIBUTE, AGGREGATE, Binding, Use, Query, Permit, WellFormed, WellFormedQ, WellFormedPs, bindings, bindings_t, bindings_q, variables, uses, uses_t, uses_q, levels, levels_q}
-use Rattle.model.specs.Encoding.{encode_permit, encode_query, Read, fail, ok, failed, read_or, read_query, permits_read, query_of, permits_of}
+use Rattle.model.specs.Syntax.{Condition, Term, TRUE, FALSE, NOT, AND, OR, COMPARE, SOME, CONSTANT, ATTRIBUTE, AGGREGATE, Binding, Use, Query, Permit, WellFormed, WellFormedPs, bindings, bindings_t, bindings_q, variables, uses, uses_t, uses_q, levels, levels_q}
+use Rattle.model.specs.Encoding.{encode_permit, Read, fail, ok, failed, read_or, read_query, permits_read, query_of, permits_of}
 use Rattle.model.specs.Catalogue.{Relation, read_catalogue, catalogue_read, catalogue_of, Shape, shape_of, attributes_at, stored_at}
-use Rattle.model.specs.Permits.{mask, used_of, no_access, applies, Guard, free, only, Guards, guard_of, guards_of}
+use Rattle.model.specs.Permits.{used_of, no_access, applies, guard_of, guards_of}
 use Rattle.model.specs.Scope.{Scope, nobody, known_binding, in_scope, in_scope_t, range_scope, query_in_scope, bound_once}
 use Rattle.model.specs.Limits.{Limits}
-use Rattle.model.specs.Checks.{guarded_limits, plain_limits, fails10, fails11, fails20, permit_fits, fails21, mask_known, permit_known, fails22, fails23, fails30, fails31, fails32, fails33, fails40, Check, keeper_checks, permit_checks, query_checks, guard_checks, shape_checks, refusal}
-use Rattle.model.proofs.Tests.{clash, and-inv, or-inv, or_no, not-no, not_yes, all_cons}
+use Rattle.model.specs.Checks.{guarded_limits, fails20, permit_fits, fails21, mask_known, permit_known, fails22, fails23, fails30, fails31, fails32, fails33, fails40, Check, permit_checks, query_checks, guard_checks, shape_checks, refusal}
+use Rattle.model.proofs.Tests.{clash, and-inv, or-inv, or_no, not-no, not_yes}
 use Rattle.model.proofs.Lists.{every_append, every-join, every_map}
 use Rattle.model.proofs.Reading.{never, then-inv, byte-inv, need-inv}
 use Rattle.model.proofs.ReadingQueries.{IsQ, query-inverse, permits-inverse}
-use Rattle.model.proofs.Sizes.{size, size-encode}
+use Rattle.model.proofs.Sizes.{size-encode}
 use Rattle.model.proofs.Scoping.{InScope, InScopeT, in-fact, in-fact_t}
 use Rattle.model.proofs.Renaming.{Sane, every-other}
-use Rattle.model.proofs.Permitted.{Low, Differ, Sound, SaneGuard}
+use Rattle.model.proofs.Permitted.{Differ, Sound, SaneGuard}
 use Rattle.model.proofs.NonInterference.{Narrow}
-use Rattle.model.proofs.Limits.{binds, binds-length, Fine, Good}
+use Rattle.model.proofs.Limits.{binds-length, Fine, Good}
 
 pub refusal-cons : (b : Bool) (n : ℕ) (cs : List Check) → 1 ≤ n → refusal ((b, n) ∷ cs) ≡ 0 → (b ≡ false) × (refusal cs ≡ 0)
 unfolding refusal

@@ -1,18 +1,18 @@
 -- The rewritten query over all rows means what the query means over the permitted rows.
-use Prim.Native.Nat.{ℕ, zero, suc, ◌+◌, ◌<◌, ◌≤◌}
-use mathlib.Core.Bool.{Bool, true, false, not, cond, ◌&&◌, ◌||◌}
-use mathlib.Core.Option.{Option, none, some}
-use mathlib.Core.List.{List, [], ◌∷◌, ◌++◌, map}
+use Prim.Native.Nat.{ℕ, ◌+◌, ◌<◌, ◌≤◌}
+use mathlib.Core.Bool.{Bool, not, cond, ◌&&◌, ◌||◌}
+use mathlib.Core.Option.{Option}
+use mathlib.Core.List.{List, [], ◌∷◌, map}
 use mathlib.Core.Path.{◌≡◌, refl, sym, ◌∙◌, ap, ap₂, fun_ext}
 use native.Mathlib.Omega.{arith}
 use lib.IntN.{ℤ}
 use lib.ListN.{length}
-use Rattle.model.specs.Lists.{update, filter, any, concat_map, total, Every, present}
-use Rattle.model.specs.Syntax.{Condition, Term, TRUE, FALSE, NOT, AND, OR, COMPARE, SOME, CONSTANT, ATTRIBUTE, AGGREGATE, Binding, Query, bindings, bindings_t, bindings_q}
-use Rattle.model.specs.Meaning.{Tuple, Assignment, Rows, whole, compare, aggregate, holds, value, assignments, unbound, with_cell, target_row, add_rows, qualifying, rows_met, answers, holds_with, target_row_with}
+use Rattle.model.specs.Lists.{update, filter, any, concat_map, Every, present}
+use Rattle.model.specs.Syntax.{Condition, Term, TRUE, FALSE, NOT, AND, OR, COMPARE, SOME, CONSTANT, ATTRIBUTE, AGGREGATE, Binding, Query, bindings, bindings_t}
+use Rattle.model.specs.Meaning.{Tuple, Assignment, Rows, compare, aggregate, holds, value, assignments, unbound, with_cell, target_row, add_rows, qualifying, rows_met, answers, holds_with, target_row_with}
 use Rattle.model.specs.Catalogue.{Shape, all_rows}
 use Rattle.model.specs.Permits.{Guard, free, only, Guards, meets, allowed, permitted}
-use Rattle.model.specs.Rewriting.{copy_for, disjunction, new_in, guarded, new_for, rewrite, rewrite_t, rewrite_targets, guard_ranges, rewrite_query}
+use Rattle.model.specs.Rewriting.{disjunction, new_in, guarded, new_for, rewrite, rewrite_t, rewrite_targets, guard_ranges, rewrite_query}
 use Rattle.model.proofs.Tests.{or-false, and-true}
 use Rattle.model.proofs.Lists.{any-filter, filter-filter, filter-concat_map, filter-const, concat_map-filter, every_append}
 use Rattle.model.proofs.Renaming.{update_same, update_other, Sane, copy_holds}

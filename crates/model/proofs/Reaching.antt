@@ -1,24 +1,24 @@
 -- The rewritten query passes the scope test at the plain evaluator's limit.
-use Prim.Native.Nat.{ℕ, zero, suc, ◌+◌, ◌<◌, ◌≤◌}
-use mathlib.Core.Bool.{Bool, true, false, not, cond, ◌&&◌, ◌||◌}
-use mathlib.Core.List.{List, [], ◌∷◌, ◌++◌, map}
-use mathlib.Core.Option.{Option, none, some}
+use Prim.Native.Nat.{ℕ, suc, ◌+◌, ◌<◌, ◌≤◌}
+use mathlib.Core.Bool.{Bool, true, false, not, cond}
+use mathlib.Core.List.{List, [], ◌∷◌}
+use mathlib.Core.Option.{none, some}
 use mathlib.Core.Path.{◌≡◌, refl, sym, ◌∙◌, ap}
 use native.Mathlib.Omega.{arith}
 use lib.Dec.{eqb}
 use lib.ListN.{length}
 use borrow.Author.Tests.{eq-eqb, ne_eqb, eqb-true, eqb-false}
 use Rattle.model.specs.Lists.{update, any, concat_map, total, contains, unique, index_of, Every}
-use Rattle.model.specs.Syntax.{Condition, Term, TRUE, FALSE, NOT, AND, OR, COMPARE, SOME, CONSTANT, ATTRIBUTE, AGGREGATE, Binding, Query, bindings, bindings_t, variables}
+use Rattle.model.specs.Syntax.{Condition, Term, TRUE, FALSE, NOT, AND, OR, COMPARE, SOME, CONSTANT, ATTRIBUTE, AGGREGATE, Binding, bindings, bindings_t, variables}
 use Rattle.model.specs.Permits.{Guard, free, only, Guards}
-use Rattle.model.specs.Catalogue.{Shape, attributes_at}
-use Rattle.model.specs.Rewriting.{rename, rename_t, new_number, copy_for, disjunction, new_in, guarded, new_for, rewrite, rewrite_t, rewrite_targets, guard_ranges, rewrite_query}
+use Rattle.model.specs.Catalogue.{Shape}
+use Rattle.model.specs.Rewriting.{rename, rename_t, new_number, copy_for, disjunction, new_in, guarded, new_for, rewrite, rewrite_t, rewrite_targets, guard_ranges}
 use Rattle.model.specs.Scope.{Scope, nobody, range_scope}
 use Rattle.model.proofs.Tests.{clash, and-inv, not_yes}
 use Rattle.model.proofs.Lists.{every_append, every_map, every-both}
 use Rattle.model.proofs.Scoping.{InScope, InScopeT}
 use Rattle.model.proofs.Renaming.{update_same, update_other, Apart, Sane, copy_apart, every-contained, every-other, length-variables}
-use Rattle.model.proofs.Permitted.{Low, Differ, Sound, SaneGuard}
+use Rattle.model.proofs.Permitted.{Low, Differ, SaneGuard}
 use Rattle.model.proofs.Limits.{new_for-append, new_for-cons}
 
 -- σ's variables, renamed by ρ, are in reach in σ' with the same relations

@@ -1,17 +1,17 @@
 -- The reader undoes the bytes of whole queries and permit lists, and reads nothing else.
-use Prim.Native.Nat.{ℕ, zero, suc, ◌+◌, ◌*◌, ◌<◌, ◌≤◌}
+use Prim.Native.Nat.{ℕ, zero, suc, ◌+◌, ◌<◌, ◌≤◌}
 use mathlib.Core.Bool.{Bool, true, false}
 use mathlib.Core.List.{List, [], ◌∷◌}
-use mathlib.Core.Path.{◌≡◌, refl, sym, ◌∙◌, ap, ap₂, subst₂, subst}
+use mathlib.Core.Path.{◌≡◌, refl, ◌∙◌, ap, ap₂, subst₂, subst}
 use native.Mathlib.Omega.{arith}
 use lib.Dec.{eqb, leb}
 use lib.ListN.{length}
 use borrow.Author.Tests.{eqb-true, leb-true, le-leb}
 use Rattle.model.specs.Syntax.{Condition, Term, TRUE, FALSE, NOT, AND, OR, COMPARE, SOME, CONSTANT, ATTRIBUTE, AGGREGATE, Binding, Query, Permit, WellFormed, WellFormedT, Targets, WellFormedQ, WellFormedPs, levels}
-use Rattle.model.specs.Encoding.{encode, encode_t, encode_targets, encode_ranges, encode_query, encode_permit, encode_permits, Read, fail, ok, then, byte, need, read_condition, read_term, starts_range, starts_target, read_ranges, read_targets, at_end, read_query, read_permit, read_permits, permits_read}
+use Rattle.model.specs.Encoding.{encode, encode_t, encode_targets, encode_ranges, encode_query, encode_permit, encode_permits, Read, ok, then, byte, read_condition, read_term, starts_range, starts_target, read_ranges, read_targets, at_end, read_query, read_permit, read_permits}
 use Rattle.model.proofs.Tests.{clash}
-use Rattle.model.proofs.Reading.{IsC, IsT, never, then-inv, byte-inv, need-inv, read-encode, read-encode_t, read-inverse, read-inverse_t}
-use Rattle.model.proofs.Sizes.{size, size_t, size_ts, size_q, size-encode, levels-size, levels-size_t, size-query}
+use Rattle.model.proofs.Reading.{IsC, never, then-inv, byte-inv, need-inv, read-encode, read-encode_t, read-inverse, read-inverse_t}
+use Rattle.model.proofs.Sizes.{size, size_ts, size_q, size-encode, levels-size, levels-size_t, size-query}
 
 pub no_target : (c : Condition) (r : List ℕ) → starts_target (encode c r) ≡ false
 unfolding encode starts_target

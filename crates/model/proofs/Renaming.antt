@@ -1,8 +1,8 @@
 -- A permit's condition, copied for a variable, holds exactly if the permit's own condition holds of that variable's row.
-use Prim.Native.Nat.{ℕ, zero, suc, ◌+◌, ◌<◌, ◌≤◌}
+use Prim.Native.Nat.{ℕ, suc, ◌+◌, ◌<◌}
 use mathlib.Core.Bool.{Bool, true, false, not, cond, ◌&&◌, ◌||◌}
-use mathlib.Core.List.{List, [], ◌∷◌, ◌++◌, map}
-use mathlib.Core.Option.{Option, none, some}
+use mathlib.Core.List.{List, [], ◌∷◌, map}
+use mathlib.Core.Option.{none, some}
 use mathlib.Core.Path.{◌≡◌, refl, sym, ◌∙◌, ap, ap₂, fun_ext}
 use native.Mathlib.Omega.{arith}
 use lib.Dec.{eqb}
@@ -17,7 +17,7 @@ use Rattle.model.specs.Rewriting.{rename, rename_t, new_number, copy_for}
 use Rattle.model.specs.Scope.{nobody}
 use Rattle.model.proofs.Tests.{clash, and-inv, or_no, not_yes}
 use Rattle.model.proofs.Lists.{every_append, every_map, every-both}
-use Rattle.model.proofs.Scoping.{InScope, Alike, alike-holds}
+use Rattle.model.proofs.Scoping.{InScope, alike-holds}
 
 pub update_same : {A : Type 0} (e : ℕ → A) (v : ℕ) (x : A) → update e v x v ≡ x
 update_same e v x = rw (eq-eqb v v refl)

@@ -1,11 +1,11 @@
 -- The searches of the asker's query are the same over two collections alike in demand 3's premises (specs/Demands: `SearchesAlike`).
-use Prim.Native.Nat.{ℕ, zero, suc, ◌≤◌}
+use Prim.Native.Nat.{ℕ, zero, suc}
 use mathlib.Core.Bool.{Bool, true}
 use mathlib.Core.List.{List, [], ◌∷◌, ◌++◌, map}
 use mathlib.Core.Path.{◌≡◌, refl, sym, ◌∙◌, ap, ap₂, subst, fun_ext}
 use lib.ListN.{length, take}
 use Rattle.model.specs.Lists.{update, concat_map, Every}
-use Rattle.model.specs.Syntax.{Condition, Term, TRUE, FALSE, NOT, AND, OR, COMPARE, SOME, CONSTANT, ATTRIBUTE, AGGREGATE, Binding, Use, Query, bindings, bindings_t, bindings_q, uses, uses_t, uses_q}
+use Rattle.model.specs.Syntax.{Condition, Term, TRUE, FALSE, NOT, AND, OR, COMPARE, SOME, CONSTANT, ATTRIBUTE, AGGREGATE, Binding, Query, bindings, bindings_t, bindings_q, uses, uses_t, uses_q}
 use Rattle.model.specs.Meaning.{Tuple, Assignment, Rows, holds, assignments, unbound, rows_met}
 use Rattle.model.specs.Encoding.{query_of, permits_of}
 use Rattle.model.specs.Catalogue.{Shape, catalogue_of, shape_of, tuples_at}

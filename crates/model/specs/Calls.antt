@@ -1,10 +1,10 @@
 -- The two calls, whole: number, counts and the lent buffers afterwards (document 01, "Who can cause a refusal").
-use Rattle.std.specs.Prelude.{ℕ, zero, suc, ◌*◌, ◌/◌, min, cond, List, [], ◌∷◌, ◌++◌, leb, ℤ, length, take, drop}
+use Rattle.std.specs.Prelude.{ℕ, zero, suc, ◌*◌, ◌/◌, min, cond, List, ◌++◌, leb, ℤ, length, take, drop}
 use Rattle.model.specs.Lists.{concat_map}
 use Rattle.model.specs.Syntax.{Query}
 use Rattle.model.specs.Encoding.{query_of, permits_of, encode_query}
 use Rattle.model.specs.Meaning.{Tuple, answers}
-use Rattle.model.specs.Catalogue.{Shape, catalogue_of, shape_of, tuples_at, all_rows}
+use Rattle.model.specs.Catalogue.{catalogue_of, shape_of, tuples_at, all_rows}
 use Rattle.model.specs.Permits.{guards_of}
 use Rattle.model.specs.Rewriting.{rewrite_query}
 use Rattle.model.specs.Checks.{refusal, ask_checks, evaluate_checks}

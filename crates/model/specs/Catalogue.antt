@@ -1,5 +1,5 @@
 -- The catalogue and the relations (document 01, "Catalogue and relations").
-use Rattle.std.specs.Prelude.{ℕ, zero, suc, ◌+◌, ◌*◌, Bool, true, false, not, cond, ◌&&◌, ◌||◌, List, [], ◌∷◌, map, eqb, leb, ℤ, pos, length, get_or, drop}
+use Rattle.std.specs.Prelude.{ℕ, zero, suc, ◌+◌, ◌*◌, Bool, true, not, cond, ◌&&◌, ◌||◌, List, [], ◌∷◌, map, eqb, leb, ℤ, pos, length, get_or, drop}
 use Rattle.model.specs.Lists.{total, backwards}
 use Rattle.model.specs.Limits.{limits}
 use Rattle.model.specs.Kinds.{k-stored, k-workspace, k-latest, relation_code}

@@ -1,5 +1,5 @@
 -- Who can cause a refusal (document 01): one test for each number, true where the call is refused.
-use Rattle.std.specs.Prelude.{ℕ, Bool, true, false, not, cond, ◌&&◌, ◌||◌, List, [], ◌∷◌, ◌++◌, eqb, leb, ltb, ℤ, length}
+use Rattle.std.specs.Prelude.{ℕ, Bool, not, cond, ◌&&◌, ◌||◌, List, [], ◌∷◌, ◌++◌, eqb, leb, ltb, ℤ, length}
 use Rattle.std.proofs.Math.Option.{some}
 use Rattle.model.specs.Lists.{update, any, all, unique, below}
 use Rattle.model.specs.Limits.{Limits, limits}

@@ -15,10 +15,10 @@ use Rattle.model.specs.Syntax.{Condition, Term, TRUE, FALSE, NOT, AND, OR, COMPA
 use Rattle.model.specs.Encoding.{encode_query, encode_permits, ok, read_query, query_of, permits_of, permits_read}
 use Rattle.model.specs.Meaning.{Rows, same_row, rows_met, answers}
 use Rattle.model.specs.Catalogue.{catalogue_of, shape_of, tuples_at, all_rows}
-use Rattle.model.specs.Search.{Search, some_searches, row_searches}
+use Rattle.model.specs.Search.{some_searches, row_searches}
 use Rattle.model.specs.Permits.{used_of, no_access, Guards, guards_of, permitted, cut}
 use Rattle.model.specs.Rewriting.{rewrite_query}
-use Rattle.model.specs.Checks.{Check, keeper_checks, permit_checks, shape_checks, ask_checks, evaluate_checks, refusal}
+use Rattle.model.specs.Checks.{Check, keeper_checks, permit_checks, ask_checks, evaluate_checks, refusal}
 use Rattle.model.specs.Calls.{Answer, Outcome, refuse, give, evaluate, ask}
 use Rattle.model.specs.Book.{Row, row_cells, rows_in, entry_for, Book, book_of, BookOutcome, answer_cells, fails53, label_book}
 

@@ -1,6 +1,6 @@
 -- A query and permits whose rewriting has the most bytes (document 01: 1,024 + 8 × (1 + 7 + 8 × 252) = 17,216).
 use Rattle.std.specs.Prelude.{ℕ, zero, suc, List, [], ◌∷◌, replicate}
-use Rattle.model.specs.Syntax.{Condition, TRUE, NOT, AND, SOME, ATTRIBUTE, Binding, Query, Permit}
+use Rattle.model.specs.Syntax.{Condition, TRUE, NOT, AND, SOME, ATTRIBUTE, Query, Permit}
 
 -- 2 ^ n records TRUE under AND
 unfoldable pub full : ℕ → Condition

@@ -1,5 +1,5 @@
 -- Which permits apply or bar, and the rows they permit (document 01, "Permits and the rewriting", steps 1 to 3; document 02, change 6).
-use Rattle.std.specs.Prelude.{ℕ, ◌+◌, ◌*◌, ◌/◌, ◌%◌, ◌^◌, Bool, true, false, not, ◌&&◌, ◌||◌, List, [], ◌∷◌, map, eqb, ℤ}
+use Rattle.std.specs.Prelude.{ℕ, ◌+◌, ◌*◌, ◌/◌, ◌%◌, ◌^◌, Bool, true, false, not, ◌&&◌, ◌||◌, List, map, eqb, ℤ}
 use Rattle.model.specs.Lists.{update, filter, any, all, below}
 use Rattle.model.specs.Syntax.{Condition, TRUE, FALSE, NOT, AND, OR, COMPARE, SOME, Use, Query, Permit, uses_q}
 use Rattle.model.specs.Meaning.{Tuple, Rows, holds, unbound}

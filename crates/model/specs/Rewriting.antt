@@ -1,5 +1,5 @@
 -- The rewriting (document 01, "Permits and the rewriting", step 4 and the numbering).
-use Rattle.std.specs.Prelude.{ℕ, suc, ◌+◌, Bool, cond, List, [], ◌∷◌, map, eqb, length}
+use Rattle.std.specs.Prelude.{ℕ, ◌+◌, cond, List, [], ◌∷◌, eqb, length}
 use Rattle.model.specs.Lists.{total, index_of, concat_map}
 use Rattle.model.specs.Syntax.{Condition, Term, TRUE, FALSE, NOT, AND, OR, COMPARE, SOME, CONSTANT, ATTRIBUTE, AGGREGATE, Binding, Query, bindings, bindings_t, variables}
 use Rattle.model.specs.Permits.{Guard, free, only, Guards}

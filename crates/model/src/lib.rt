@@ -1,5 +1,6 @@
 // The model: definitions in specs/, theorems in proofs/. It has no code but the limits of document 01, the numbers of specs/Limits: all crates read them here,
 // and what they prove of the definitions holds for equal numbers only.
+#![tactic(auto)]
 
 // Of a query: its bytes, levels and bound variables, its RANGEs and targets.
 #[derive(Drop)]
