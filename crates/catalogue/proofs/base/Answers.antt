@@ -17,8 +17,5 @@ unfolding base_of
 loop-i-init c = (refl, omega arith, omega arith)
 
 pub loop-i-preserved : goal.loop-i-preserved
-loop-i-preserved c = let c.args = c.args in
-    let c.loop-i = c.loop-i in
-    let c.rows = c.rows in
-    (next c.args.catalogue.now c.loop-i.i c.loop-i.at c.rows.result c.attributes.result c.loop-i.invariant.0 c.rows.ensures.value c.attributes.ensures.value, omega (arith, mul-le-mul c.rows.ensures.upper_bound c.attributes.ensures.upper_bound), omega arith)
+loop-i-preserved c = (next c.args.catalogue.now c.loop-i.i c.loop-i.at c.rows.result c.attributes.result c.loop-i.invariant.0 c.rows.ensures.value c.attributes.ensures.value, omega (arith, mul-le-mul c.rows.ensures.upper_bound c.attributes.ensures.upper_bound), omega arith)
 

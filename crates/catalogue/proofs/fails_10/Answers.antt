@@ -25,25 +25,13 @@ pub returns-then-n-gt-RELATIONS : goal.returns-then-n-gt-RELATIONS
 returns-then-n-gt-RELATIONS c = sym (refused c.args.catalogue.now (λ v. omega (arith, v.few, c.count-n.ensures)))
 
 pub returns-then-n-catalogue : goal.returns-then-n-catalogue
-returns-then-n-catalogue c = let c.args = c.args in
-    let c.count-n = c.count-n in
-    sym (refused c.args.catalogue.now (λ v. omega (arith, v.size, c.count-n.ensures)))
+returns-then-n-catalogue c = sym (refused c.args.catalogue.now (λ v. omega (arith, v.size, c.count-n.ensures)))
 
 pub returns-then-not-known : goal.returns-then-not-known
-returns-then-not-known c = let c.args = c.args in
-    let c.count-n = c.count-n in
-    let c.loop-i = c.loop-i in
-    let c.known = c.known in
-    unknown c.args.catalogue.now c.loop-i.i c.known.result (omega (arith, c.count-n.ensures)) c.known.ensures (not-true _ c.if-not-known.true)
+returns-then-not-known c = unknown c.args.catalogue.now c.loop-i.i c.known.result (omega (arith, c.count-n.ensures)) c.known.ensures (not-true _ c.if-not-known.true-raw)
 
 pub loop-i-preserved : goal.loop-i-preserved
-loop-i-preserved c = let c.args = c.args in
-    let c.loop-i = c.loop-i in
-    let c.known = c.known in
-    (below_more (λ (r : ℕ). L.known_of c.args.catalogue.now r ≡ true) c.loop-i.i c.loop-i.invariant.0 (sym c.known.ensures ∙ not-false _ c.if-not-known.false), omega arith)
+loop-i-preserved c = (below_more (λ (r : ℕ). L.known_of c.args.catalogue.now r ≡ true) c.loop-i.i c.loop-i.invariant.0 (sym c.known.ensures ∙ not-false _ c.if-not-known.false-raw), omega arith)
 
 pub returns : goal.returns
-returns c = let c.args = c.args in
-    let c.count-n = c.count-n in
-    let c.loop-i = c.loop-i in
-    passes c.args.catalogue.now c.count-n.result c.loop-i.i c.count-n.ensures (omega arith) (omega arith) (omega arith) (omega arith) c.loop-i.invariant.0
+returns c = passes c.args.catalogue.now c.count-n.result c.loop-i.i c.count-n.ensures (omega arith) (omega arith) (omega arith) (omega arith) c.loop-i.invariant.0
