@@ -1,5 +1,7 @@
 // Well-formedness of whole queries and permit lists, nested as deep as the bytes allow. Conditions that are still to be read are counted, so that only
 // an aggregate takes a level of the stack: 240 bytes for each 7 of the input.
+#![tactic(auto)]
+
 ghost use Rattle.std.specs.Prelude.{◌≡◌, ◌≤◌, cond, not};
 ghost use Rattle.model.specs.Encoding.{failed, permits_read};
 ghost use Rattle.model.specs.Checks.{fails20};

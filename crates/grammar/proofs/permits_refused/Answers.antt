@@ -1,6 +1,4 @@
 use borrow.Author.Rules.{rules}
-use Rattle.grammar.proofs.permits_refused.Statement.{statement}
-use Rattle.grammar.proofs.permits_refused.Tie as tie
 use mathlib.Core.Path.{◌≡◌, refl, ap, ◌∙◌}
 use mathlib.Core.Bool.{Bool, true, false, not}
 use Prim.Native.Nat.{ℕ, ◌<◌, ◌≤◌}
@@ -9,6 +7,7 @@ use lib.ListN.{length}
 use borrow.Author.Tests.{lt-ltb, le-ltb}
 use Rattle.model.specs.Encoding.{failed, permits_read}
 use Rattle.model.specs.Checks.{fails20}
+use Rattle.grammar.proofs.permits_refused.Goals as goal
 
 too_long : (l : List ℕ) → 2048 < length l → true ≡ fails20 l
 unfolding fails20
@@ -22,11 +21,8 @@ tested : (l : List ℕ) (r : Bool) → length l ≤ 2048 → r ≡ not (failed (
 unfolding fails20
 tested l r h e = rw (le-ltb 2048 (length l) h) (ap not e ∙ double (failed (permits_read l)))
 
-returns : tie.Need-returns
-returns c = too_long c.before.before.args.bytes.now c.if1.true
+pub returns-then-bytes-gt-LIST_BYTES : goal.returns-then-bytes-gt-LIST_BYTES
+returns-then-bytes-gt-LIST_BYTES c = too_long c.args.bytes.now c.if-bytes-gt-LIST_BYTES.true
 
-returns-2 : tie.Need-returns-2
-returns-2 c = tested c.before.before.before.args.bytes.now c.permits.result c.before.if1.false c.permits.ensures
-
-pub permits-refused-spec : {M : Type 1} → statement M
-permits-refused-spec = tie.close (tie.spec (λ c κs. search rules) returns returns-2)
+pub returns-else-bytes-gt-LIST_BYTES : goal.returns-else-bytes-gt-LIST_BYTES
+returns-else-bytes-gt-LIST_BYTES c = tested c.args.bytes.now c.permits.result c.if-bytes-gt-LIST_BYTES.false c.permits.ensures

@@ -1,0 +1,31 @@
+use Prim.Native.Nat.{ℕ, suc, ◌<◌, ◌≤◌, ◌+◌, ◌-◌, ◌*◌}
+use borrow.Author.Rules.{rules}
+use native.Mathlib.Omega.{arith}
+use mathlib.Core.Path.{◌≡◌, sym, ap, ◌∙◌}
+use lib.ListN.{length, drop, length-drop}
+use Rattle.grammar.specs.Sizes.{condition_size, term_size, after, many, head_size}
+use Rattle.grammar.proofs.Pending.{start, next, turn, stop, halt, end, no-head, no-leaf, head-whole, head-is, leaf-whole, leaf-is}
+use Rattle.grammar.proofs.Bounds.{condition-within, many-within, head-takes, term-takes, part-within, part-takes}
+use Rattle.kinds.specs.Places.{is_condition, is_term}
+use Rattle.grammar.proofs.+conditions_head_term.Given as goal
+
+abbrev pub decreases-conditions : goal.decreases-conditions
+decreases-conditions l = suc (2 * length l.q.now)
+
+abbrev pub decreases-head : goal.decreases-head
+decreases-head l = 2 * length l.q.now
+
+abbrev pub decreases-term : goal.decreases-term
+decreases-term l = 2 * length l.q.now
+
+abbrev pub invariant-conditions-loop-pending : goal.invariant-conditions-loop-pending
+invariant-conditions-loop-pending l = (after l.at (many condition_size l.pending (drop l.at l.q)) ≡ many condition_size l.n l.q) × (l.at ≤ length l.q) × (l.pending ≤ 255 + l.at)
+
+abbrev pub decreases-conditions-loop-pending : goal.decreases-conditions-loop-pending
+decreases-conditions-loop-pending l = length l.q - l.at
+
+abbrev pub invariant-head-loop-left : goal.invariant-head-loop-left
+invariant-head-loop-left l = (after l.at (many term_size l.left (drop l.at l.q)) ≡ head_size l.q) × (l.at ≤ length l.q) × (1 ≤ l.at)
+
+abbrev pub decreases-head-loop-left : goal.decreases-head-loop-left
+decreases-head-loop-left l = l.left
