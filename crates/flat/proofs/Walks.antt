@@ -1,18 +1,17 @@
 -- A walk that gathers words from the tokens of a condition gives those of its tree.
 use Prim.Native.Nat.{ℕ, zero, suc}
-use mathlib.Core.Bool.{Bool, true, false, cond, ◌&&◌}
+use mathlib.Core.Bool.{false}
 use mathlib.Core.List.{List, [], ◌∷◌, ◌++◌, append_assoc}
-use mathlib.Core.Option.{Option, none, some}
-use mathlib.Core.Path.{◌≡◌, refl, sym, ◌∙◌, ap, ap₂}
+use mathlib.Core.Path.{◌≡◌, refl, sym, ◌∙◌, ap}
 use Rattle.model.specs.Lists.{concat_map}
-use Rattle.quel.specs.Results.{Read, fail, ok, then, need, found, Word, Several, each, has_word, unique_words}
-use Rattle.quel.specs.Tokens.{Key, RANGE, RETRIEVE, NOT, SOME, IN, or, and, left, right, comma, colon, semicolon, point, Function, Sign, Token, name, number, function, sign, key}
-use Rattle.quel.specs.Tree.{Formula, Operand, Target, Not, And, Or, Compare, Some, Number, Value, Of, Attribute, Aggregate, AggregateIf, Range, Text}
-use Rattle.quel.specs.Grammar.{IsCondition, Ors, IsConjunct, Ands, IsFactor, IsOperand, IsTarget, condition, no_or, one-or, conjunct, no-and, one-and, negated, exists, within, compared, a-number, a-value, a-target, attribute, aggregate, aggregate_if, Repeated, no_item, one-item, Listed, listed, IsName, a-name, IsRange, range, IsQualification, unqualified, qualified, IsText, text}
+use Rattle.quel.specs.Results.{Word, Several, each}
+use Rattle.quel.specs.Tokens.{NOT, SOME, IN, or, and, left, right, comma, semicolon, point, Function, Sign, Token, name, number, function, sign, key}
+use Rattle.quel.specs.Tree.{Formula, Operand, Target, Not, And, Or, Compare, Some, Number, Value, Of, Attribute, Aggregate, AggregateIf}
+use Rattle.quel.specs.Grammar.{IsCondition, Ors, IsConjunct, Ands, IsFactor, IsOperand, IsTarget, condition, no_or, one-or, conjunct, no-and, one-and, negated, exists, within, compared, a-number, a-value, a-target, attribute, aggregate, aggregate_if, Repeated, no_item, one-item, Listed, listed}
 use Rattle.quel.specs.Reader.{starts}
-use Rattle.quel.specs.Elaboration.{used, used_o, used_t, used_in, somes, somes_o, somes_t, symbols_of, of_qualification}
+use Rattle.quel.specs.Elaboration.{used, used_o, used_t, somes, somes_o, somes_t}
 use Rattle.quel.proofs.Complete.{ors-free, ands-free}
-use Rattle.flat.specs.Flat.{outside, enter, deeper, shallower, uses, binders, colons}
+use Rattle.flat.specs.Flat.{uses, binders, colons}
 
 -- W gathers from tokens, F, O and T from trees, at a depth; inn is the depth in parentheses, agg that in an aggregate
 pub record Walk : Type 1 where

@@ -1,25 +1,24 @@
 -- The loops over tokens give the bytes of what elaborates, and refuse what does not.
-use Prim.Native.Nat.{ℕ, zero, suc}
-use mathlib.Core.Bool.{Bool, true, false, cond, ◌&&◌}
+use Prim.Native.Nat.{ℕ, suc}
+use mathlib.Core.Bool.{Bool, true, false}
 use mathlib.Core.List.{List, [], ◌∷◌, ◌++◌, append_assoc, append-nil}
 use mathlib.Core.Option.{Option, none, some}
-use mathlib.Core.Path.{◌≡◌, refl, sym, ◌∙◌, ap, ap₂, fun_ext}
+use mathlib.Core.Path.{◌≡◌, refl, sym, ◌∙◌, ap, fun_ext}
 use Rattle.model.specs.Lists.{concat_map}
 use Rattle.quel.specs.Results.{Read, fail, ok, then, need, found, Word, Several, each, has_word, unique_words}
-use Rattle.quel.specs.Tokens.{Key, RANGE, RETRIEVE, NOT, SOME, IN, or, and, left, right, comma, colon, semicolon, point, Function, Sign, Token, name, number, function, sign, key}
-use Rattle.quel.specs.Tree.{Formula, Operand, Target, Not, And, Or, Compare, Some, Number, Value, Of, Attribute, Aggregate, AggregateIf, Range, Text}
-use Rattle.quel.specs.Grammar.{IsCondition, Ors, IsConjunct, Ands, IsFactor, IsOperand, IsTarget, condition, no_or, one-or, conjunct, no-and, one-and, negated, exists, within, compared, a-number, a-value, a-target, attribute, aggregate, aggregate_if, Repeated, no_item, one-item, Listed, listed, IsName, a-name, IsRange, range, IsQualification, unqualified, qualified, IsText, text}
+use Rattle.quel.specs.Tokens.{RETRIEVE, comma, colon, point, Token, key}
+use Rattle.quel.specs.Tree.{Formula, Target, Range, Text}
+use Rattle.quel.specs.Grammar.{IsTarget, Repeated, no_item, one-item, Listed, listed, IsName, a-name, IsRange, range, IsQualification, unqualified, qualified, IsText, text}
 use Rattle.quel.specs.Reader.{starts}
-use Rattle.quel.specs.Elaboration.{used, used_o, used_t, used_in, Symbol, bind_symbols, bind_ranges, as_byte, ranges_of, elaborate_ts, elaborate_q, elaborate_text, somes, somes_o, somes_t, symbols_of, of_qualification}
-use Rattle.quel.proofs.Complete.{ors-free, ands-free}
-use Rattle.model.specs.Syntax.{Query, Term, Condition}
-use Rattle.model.specs.Encoding.{encode, encode_targets, encode_ranges, encode_query}
+use Rattle.quel.specs.Elaboration.{used, used_t, used_in, Symbol, bind_symbols, bind_ranges, as_byte, ranges_of, elaborate_ts, elaborate_q, elaborate_text, somes, somes_t, symbols_of, of_qualification}
+use Rattle.model.specs.Syntax.{Term, Condition}
+use Rattle.model.specs.Encoding.{encode_targets, encode_ranges, encode_query}
 use Rattle.quel.specs.Names.{Entry, relation_named}
 use Rattle.quel.specs.Ahead.{at_rest}
 use Rattle.quel.specs.Writing.{Written, before, loop, last_bytes}
 use Rattle.quel.proofs.Writing.{on_c, on_ts, writes-text}
-use Rattle.flat.specs.Flat.{uses, binders, colons, main_of, last_by, last_of, symbol_of, range_name, bound, flat_text, encoded}
-use Rattle.flat.proofs.Walks.{Walk, walk_c, walk-listed, uses_walk, somes_walk, colons_walk}
+use Rattle.flat.specs.Flat.{uses, binders, colons, main_of, last_by, last_of, symbol_of, bound, flat_text, encoded}
+use Rattle.flat.proofs.Walks.{walk_c, walk-listed, uses_walk, somes_walk, colons_walk}
 
 -- words of a RANGE relation
 words-repeated : {s r : List Token} {xs : List Word} → Repeated comma IsName s xs r → binders 1 s ≡ xs ++ binders 1 r

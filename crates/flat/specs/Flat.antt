@@ -4,7 +4,7 @@ use Rattle.std.proofs.Math.Option.{Option, none, some}
 use Rattle.model.specs.Encoding.{encode_ranges, encode_query}
 use Rattle.model.specs.Syntax.{Query}
 use Rattle.quel.specs.Results.{Read, fail, ok, then, need, found, Word, has_word, unique_words}
-use Rattle.quel.specs.Tokens.{Key, RANGE, RETRIEVE, NOT, SOME, IN, or, and, left, right, comma, colon, semicolon, point, Token, name, number, function, sign, key}
+use Rattle.quel.specs.Tokens.{RANGE, RETRIEVE, NOT, SOME, IN, or, and, left, right, comma, colon, semicolon, point, Token, name, number, function, sign, key}
 use Rattle.quel.specs.Reader.{starts}
 use Rattle.quel.specs.Ahead.{word_at, at_rest}
 use Rattle.quel.specs.Names.{Entry, relation_named}
