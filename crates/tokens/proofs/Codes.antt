@@ -1,8 +1,8 @@
 -- Words of up to twelve letters are the same where their codes are.
 use Prim.Native.Nat.{ℕ, zero, suc, ◌+◌, ◌*◌, ◌-◌, ◌/◌, ◌≤◌, ◌<◌}
-use mathlib.Core.Bool.{Bool, true, false, cond, ◌&&◌}
-use mathlib.Core.List.{List, [], ◌∷◌}
-use mathlib.Core.Path.{◌≡◌, refl, sym, ◌∙◌, ap}
+use mathlib.Core.Bool.{true}
+use mathlib.Core.List.{[], ◌∷◌}
+use mathlib.Core.Path.{◌≡◌, sym, ◌∙◌, ap}
 use native.Mathlib.Omega.{arith}
 use lib.ListN.{length}
 use Rattle.model.specs.Lists.{all}
@@ -13,7 +13,7 @@ use Rattle.tokens.specs.Spans.{positional, capped}
 use Rattle.tokens.specs.Kinds.{code_of}
 use Rattle.tokens.specs.Codes.{Spelt}
 use Rattle.tokens.proofs.Places.{within-bounds}
-use Rattle.tokens.proofs.Values.{capped-low, capped-exact, same_code}
+use Rattle.tokens.proofs.Values.{capped-exact, same_code}
 
 abbrev limit : ℕ
 limit = 288230376151711744

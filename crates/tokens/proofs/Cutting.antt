@@ -1,6 +1,6 @@
 -- The loop that stores: the tokens held so far, before those of what is left, are the text's.
-use Prim.Native.Nat.{ℕ, zero, suc, ◌+◌, ◌-◌, ◌≤◌, ◌<◌}
-use mathlib.Core.Bool.{Bool, true, false, cond}
+use Prim.Native.Nat.{ℕ, zero, suc, ◌+◌, ◌≤◌, ◌<◌}
+use mathlib.Core.Bool.{Bool, true, false}
 use mathlib.Core.List.{List, [], ◌∷◌, ◌++◌, append_assoc, append-nil}
 use mathlib.Core.Path.{◌≡◌, refl, sym, ◌∙◌, ap, ap₂, subst}
 use native.Mathlib.Omega.{arith}
@@ -9,17 +9,15 @@ use lib.Dec.{leb}
 use lib.ListN.{length, get_or, drop, set, length-drop, drop_of_length-le}
 use lib.Seq.{get_or-set_same, get_or-set_other, drop-drop}
 use borrow.Author.Tests.{leb-true, leb-false, le-leb, lt-leb}
-use Rattle.model.proofs.Tests.{clash}
-use Rattle.quel.specs.Results.{Read, fail, ok, then, need}
-use Rattle.quel.specs.Tokens.{Token, is_blank, is_letter, run, token, tokens_from, tokens}
-use Rattle.quel.specs.Lexical.{first, Spelled}
+use Rattle.quel.specs.Results.{Read, fail, ok, then}
+use Rattle.quel.specs.Tokens.{Token, is_blank, is_letter, run, tokens_from, tokens}
+use Rattle.quel.specs.Lexical.{first}
 use Rattle.quel.proofs.Results.{never}
 use Rattle.quel.proofs.Lexical.{spelled-cut, cut-spelled}
 use Rattle.tokens.specs.Codes.{Spelt, Coded}
 use Rattle.tokens.specs.Table.{Table, token_of, word_in, token_at, tokens_at}
-use Rattle.tokens.specs.Pieces.{leading, stands, Leads, read_of}
+use Rattle.tokens.specs.Pieces.{leading, Leads}
 use Rattle.tokens.specs.declared.Piece.TheVariants as P
-use Rattle.tokens.specs.declared.Outcome.TheVariants as O
 use Rattle.tokens.proofs.Places.{split, first-at}
 
 abbrev Tokens : Type 0

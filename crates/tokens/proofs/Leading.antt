@@ -1,12 +1,12 @@
 -- Each way to begin a token, as the code reads it.
-use Prim.Native.Nat.{ℕ, zero, suc, ◌+◌, ◌-◌, ◌%◌, ◌≤◌, ◌<◌}
-use mathlib.Core.Bool.{Bool, true, false, cond, ◌&&◌}
-use mathlib.Core.List.{List, [], ◌∷◌, ◌++◌}
+use Prim.Native.Nat.{ℕ, suc, ◌+◌, ◌-◌, ◌%◌, ◌≤◌, ◌<◌}
+use mathlib.Core.Bool.{Bool, true, false, ◌&&◌}
+use mathlib.Core.List.{List, [], ◌∷◌}
 use mathlib.Core.Path.{◌≡◌, refl, sym, ◌∙◌, ap, subst}
 use native.Mathlib.Omega.{arith}
-use lib.Dec.{eqb, leb}
+use lib.Dec.{leb}
 use lib.ListN.{length, get_or, drop, length-drop}
-use borrow.Author.Tests.{leb-true, le-leb, lt-leb, eqb-true, eq-eqb, ne_eqb}
+use borrow.Author.Tests.{le-leb, lt-leb, eqb-true, ne_eqb}
 use Rattle.model.proofs.Tests.{clash}
 use Rattle.quel.specs.Results.{Read, fail, ok, found}
 use Rattle.quel.specs.Tokens.{Token, word_in, reserved, sign_in, signs, is_letter, is_digit, run, past, decimal, plain, negative, with_equal, token}
@@ -14,8 +14,7 @@ use Rattle.quel.specs.Lexical.{first}
 use Rattle.tokens.specs.Spans.{within, positional, capped}
 use Rattle.tokens.specs.Table.{token_of}
 use Rattle.tokens.specs.Kinds.{code_of, kind_spelled, sign_kind}
-use Rattle.tokens.specs.Pieces.{leading, stands, Leads, Opens, Single, after_first}
-use Rattle.tokens.specs.declared.Piece.{Piece}
+use Rattle.tokens.specs.Pieces.{leading, Leads, Opens, Single}
 use Rattle.tokens.specs.declared.Piece.TheVariants as P
 use Rattle.tokens.proofs.Places.{split, first-lt, passed, run-goes, run_length, drop-run, run-all, within-bounds, only}
 use Rattle.tokens.proofs.Values.{capped_le, capped-exact, decimals}

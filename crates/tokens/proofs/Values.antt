@@ -1,15 +1,15 @@
 -- Numbers in digits, held up to a limit; two words of letters spell the same number only if they are the same.
-use Prim.Native.Nat.{ℕ, zero, suc, ◌+◌, ◌*◌, ◌-◌, ◌≤◌, ◌<◌}
-use mathlib.Core.Bool.{Bool, true, false, cond, ◌&&◌}
+use Prim.Native.Nat.{ℕ, ◌+◌, ◌*◌, ◌-◌, ◌≤◌, ◌<◌}
+use mathlib.Core.Bool.{Bool, true, false, cond}
 use mathlib.Core.List.{List, [], ◌∷◌, ◌++◌}
-use mathlib.Core.Path.{◌≡◌, refl, sym, ◌∙◌, ap, ap₂, subst}
+use mathlib.Core.Path.{◌≡◌, refl, sym, ◌∙◌, ap, ap₂}
 use native.Mathlib.Nat.{le-mul_of_pos_right, mul_comm}
 use native.Mathlib.Omega.{arith}
 use lib.Dec.{leb}
-use lib.ListN.{length, take, drop, take-append-drop, length-drop, length-take}
-use borrow.Author.Tests.{leb-true, leb-false, le-leb, lt-leb}
+use lib.ListN.{length, take, drop, take-append-drop, length-drop}
+use borrow.Author.Tests.{leb-true, leb-false, le-leb}
 use Rattle.model.specs.Lists.{all}
-use Rattle.model.proofs.Tests.{clash, and-inv, all_append}
+use Rattle.model.proofs.Tests.{and-inv, all_append}
 use Rattle.quel.specs.Tokens.{is_letter, decimal}
 use Rattle.tokens.specs.Spans.{positional, capped}
 use Rattle.tokens.specs.Kinds.{code_of}

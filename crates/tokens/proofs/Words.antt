@@ -1,17 +1,16 @@
 -- The kind of a word or a sign is that of its token.
-use Prim.Native.Nat.{ℕ, zero, suc, ◌+◌, ◌-◌, ◌≤◌, ◌<◌}
-use mathlib.Core.Bool.{Bool, true, false, not, cond, ◌&&◌, ◌||◌}
-use mathlib.Core.List.{List, [], ◌∷◌, ◌++◌}
-use mathlib.Core.Option.{Option, none, some}
-use mathlib.Core.Path.{◌≡◌, refl, sym, ◌∙◌, ap, ap₂, subst}
+use Prim.Native.Nat.{ℕ, ◌≤◌, ◌<◌}
+use mathlib.Core.Bool.{Bool, true, false, not, cond, ◌||◌}
+use mathlib.Core.List.{List, [], ◌∷◌}
+use mathlib.Core.Option.{some}
+use mathlib.Core.Path.{◌≡◌, refl, sym, ◌∙◌, ap, ap₂}
 use native.Mathlib.Omega.{arith}
-use lib.Dec.{eqb, leb}
-use lib.ListN.{get_or}
+use lib.Dec.{eqb}
 use borrow.Author.Tests.{eqb-true, eq-eqb, ne_eqb}
 use Rattle.model.specs.Lists.{any, all, Every}
 use Rattle.model.proofs.Tests.{clash, and-inv}
-use Rattle.quel.specs.Results.{Read, fail, ok, found, Word, same_word}
-use Rattle.quel.specs.Tokens.{Token, name, word_in, reserved, is_reserved, sign_in, signs, is_letter}
+use Rattle.quel.specs.Results.{fail, ok, found, Word, same_word}
+use Rattle.quel.specs.Tokens.{Token, word_in, reserved, is_reserved, sign_in, signs, is_letter}
 use Rattle.tokens.specs.Spans.{positional, capped}
 use Rattle.tokens.specs.Table.{token_of}
 use Rattle.tokens.specs.Kinds.{kind_of, code_of, kind_spelled, sign_kind}

@@ -1,7 +1,7 @@
 -- What the code gives, as the definitions of QUEL have it: a token at the front of some bytes, and all tokens of a text.
-use Rattle.std.specs.Prelude.{ℕ, ◌+◌, ◌≤◌, Bool, true, false, List, [], ◌∷◌, ◌≡◌, length, drop}
+use Rattle.std.specs.Prelude.{ℕ, ◌+◌, ◌≤◌, false, List, [], ◌∷◌, ◌≡◌, length, drop}
 use Rattle.quel.specs.Results.{Read, fail, ok}
-use Rattle.quel.specs.Tokens.{less, at_most, more, at_least, Token, sign, is_letter, is_digit, run, token, with_equal}
+use Rattle.quel.specs.Tokens.{Token, is_letter, is_digit, run, token, with_equal}
 use Rattle.quel.specs.Lexical.{first}
 use Rattle.tokens.specs.Spans.{within}
 use Rattle.tokens.specs.Codes.{Spelt}

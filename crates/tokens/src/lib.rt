@@ -1,4 +1,6 @@
 // The tokens of a text: words, numbers and signs, each read as far as it goes.
+#![tactic(auto)]
+
 ghost use Rattle.std.specs.Prelude.{◌≡◌, true, ◌+◌, ◌*◌, ◌≤◌, ◌<◌, eqb, length, drop};
 ghost use Rattle.model.specs.Lists.{all};
 ghost use Rattle.quel.specs.Tokens.{reserved, signs, is_blank, is_letter, is_digit, run, tokens};
