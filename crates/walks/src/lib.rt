@@ -1,4 +1,6 @@
 // The rows of each variable, in the order in which they are walked (specs/Walks).
+#![tactic(auto)]
+
 ghost use Rattle.std.specs.Prelude.{◌≡◌, suc, ◌+◌, ◌-◌, ◌≤◌, cond, eqb, get_or};
 ghost use Rattle.walks.specs.Walks as W;
 
