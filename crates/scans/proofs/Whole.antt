@@ -10,8 +10,7 @@ use Rattle.model.specs.Syntax.{Condition, Term, TRUE, FALSE, NOT, AND, OR, COMPA
 use Rattle.model.specs.Encoding.{encode, encode_t, encode_targets, encode_ranges, encode_query, encode_permit}
 use Rattle.model.specs.Kinds.{Kind, k-range, k-true, k-false, k-not, k-and, k-or, k-compare, k-some, k-constant, k-attribute, k-aggregate, k-permit, code, body_length, kind_of, find}
 use Rattle.model.specs.Permits.{used_of}
-use Rattle.model.specs.Catalogue.{Shape}
-use Rattle.model.specs.Scope.{known_binding, bound_once}
+use Rattle.model.specs.Scope.{bound_once}
 use Rattle.kinds.specs.Tables.{record_length}
 use Rattle.kinds.specs.Record.{filled}
 use Rattle.kinds.specs.declared.Record.{Record}

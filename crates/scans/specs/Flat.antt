@@ -1,6 +1,6 @@
 -- The records of bytes one after the other, with no regard to what is a child of what: each kind fixes how long its record is,
 -- and children follow their parent, so that a loop meets them all. Total: for any bytes.
-use Rattle.std.specs.Prelude.{ℕ, zero, suc, ◌-◌, Bool, not, ◌&&◌, List, [], ◌∷◌, eqb, ltb, length, get_or}
+use Rattle.std.specs.Prelude.{ℕ, zero, suc, ◌-◌, Bool, not, ◌&&◌, List, [], ◌∷◌, eqb, length, get_or}
 use Rattle.model.specs.Lists.{any, all, unique, cons_if, concat_map}
 use Rattle.model.specs.Syntax.{Binding, Use, variables}
 use Rattle.catalogue.specs.Layout.{stored_of}

@@ -1,5 +1,7 @@
 // Flat loops over the records of a query or a condition. A record's kind fixes its length and children follow their parent,
 // so that a walk from record to record meets them all, at any depth, with no recursion.
+#![tactic(auto)]
+
 ghost use Rattle.std.specs.Prelude.{◌≡◌, true, false, ◌&&◌, List, ◌++◌, ℕ, ◌≤◌, length, drop, get_or};
 ghost use Rattle.model.specs.Lists.{unique, cons_if};
 ghost use Rattle.model.specs.Syntax.{variables};
