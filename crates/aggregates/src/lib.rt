@@ -15,7 +15,7 @@ use kinds::{ConditionRecord, TermRecord};
 use numbers::{Accumulator, Ratio};
 
 // What an aggregate takes: an attribute of its variable, of the rows that meet a condition, which is read down to a level.
-#[derive(Drop)]
+#[derive(Clone, Copy)]
 struct Column {
     variable: u8,
     attribute: usize,
@@ -363,7 +363,7 @@ fn target_term(
 }
 
 // How many targets are left, and the level down to which each is read.
-#[derive(Drop)]
+#[derive(Clone, Copy)]
 pub struct Left {
     pub targets: usize,
     pub level: usize,

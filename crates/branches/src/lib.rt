@@ -83,7 +83,7 @@ pub fn side(t: &[u16], i: usize, j: usize, values: &[i32], memo: &[i64], env: &[
 
 // One side of a comparison, where it can be kept in numbers: an attribute of a variable, from variable 256 on a known aggregate, 512 a number,
 // by its halves.
-#[derive(Drop)]
+#[derive(Clone, Copy)]
 struct Operand {
     known: bool,
     variable: u16,
@@ -93,7 +93,7 @@ struct Operand {
 }
 
 // A comparison; operator 0 where there is none.
-#[derive(Drop)]
+#[derive(Clone, Copy)]
 struct Comparison {
     operator: u8,
     left: Operand,
@@ -228,14 +228,14 @@ fn narrow(x: usize) -> u16
 }
 
 // Where a condition leads that holds, and one that does not.
-#[derive(Drop)]
+#[derive(Clone, Copy)]
 pub struct Ways {
     pub met: usize,
     pub unmet: usize,
 }
 
 // Two numbers of a branch: an operand's variable and attribute, a condition's place and level, or a row's variable and what is asked of it.
-#[derive(Drop)]
+#[derive(Clone, Copy)]
 struct Pair {
     first: u16,
     second: u16,
@@ -276,14 +276,14 @@ fn write_numbers(t: &mut [u16], k: usize, a: u16, b: u16, c: u16, d: u16)
 }
 
 // The branches that are free: from one on, and below an end.
-#[derive(Drop)]
+#[derive(Clone, Copy)]
 pub struct Room {
     pub next: usize,
     pub end: usize,
 }
 
 // Where a condition stands, and down to which level it is read.
-#[derive(Drop)]
+#[derive(Clone, Copy)]
 pub struct Spot {
     pub place: usize,
     pub level: usize,
@@ -324,7 +324,7 @@ fn single(q: &[u8], z: &[u16], spot: Spot, memo: &[i64], t: &mut [u16], k: usize
 }
 
 // The parts of a condition and their places: kind 1 for NOT, 2 for AND, 3 for OR; 0 for any other, or two parts with no room for two branches.
-#[derive(Drop)]
+#[derive(Clone, Copy)]
 pub struct Parts {
     pub kind: usize,
     pub first: usize,
@@ -380,7 +380,7 @@ pub fn parts_at(q: &[u8], z: &[u16], place: usize, level: usize, room: usize) ->
 }
 
 // The place of what a SOME asks of a row, and its variable; place 0: no SOME, or no room for two branches.
-#[derive(Drop)]
+#[derive(Clone, Copy)]
 struct Search {
     place: usize,
     variable: u16,

@@ -9,7 +9,7 @@ ghost use Rattle.catalogue.specs.Layout as L;
 pub const RECORD: usize = 4;
 
 // What the catalogue says of a relation.
-#[derive(Drop)]
+#[derive(Clone, Copy)]
 pub struct Relation {
     // whether there is such a relation
     pub listed: bool,

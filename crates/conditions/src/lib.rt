@@ -10,7 +10,7 @@ ghost use Rattle.conditions.specs.Answers.{some_reading, aggregate_reading, cond
 
 use kinds::{ConditionRecord, TermRecord};
 
-#[derive(Drop)]
+#[derive(Clone, Copy)]
 pub enum Reading {
     // its bytes, and whether it is in scope
     Whole(usize, bool),
@@ -174,7 +174,7 @@ fn terms(
 }
 
 // The condition under a SOME or an aggregate: where it stands, the level down to which it is read, and the variable that is bound.
-#[derive(Drop)]
+#[derive(Clone, Copy)]
 struct Under {
     at: usize,
     level: usize,

@@ -33,7 +33,7 @@ pub fn copy(out: &mut [u8], at: usize, src: &[u8]) -> usize
 }
 
 // The first n of five bytes.
-#[derive(Drop)]
+#[derive(Clone, Copy)]
 struct Bytes {
     n: usize,
     k: u8,

@@ -59,7 +59,7 @@ pub(crate) fn build(
 }
 
 // What a chain is followed by: where it stands, the attribute, and the value that is looked for.
-#[derive(Drop)]
+#[derive(Clone, Copy)]
 pub struct Entry {
     pub at: usize,
     pub attribute: usize,

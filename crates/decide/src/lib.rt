@@ -14,7 +14,7 @@ ghost use Rattle.model.specs.Search as M;
 use walks::Walk;
 
 // Whether a row was a hit, and how many rows were tried: up to the first hit, or all.
-#[derive(Drop)]
+#[derive(Clone, Copy)]
 struct Search {
     found: bool,
     tried: usize,
@@ -181,7 +181,7 @@ fn byte_of(x: usize) -> u8
 }
 
 // A row that is sought: of a variable, leading from branch `start` to 0.
-#[derive(Drop)]
+#[derive(Clone, Copy)]
 struct Sought {
     start: usize,
     variable: u8,

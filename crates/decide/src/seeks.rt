@@ -27,7 +27,7 @@ fn scaled(a: i32, d: i64) -> i64
 
 // A comparison of an attribute with a number, so turned that no row asks for its operator: a value is between two bounds, or it is wanted that it is
 // not. A value is multiplied before it is compared; a bound that is not there has 0 twice.
-#[derive(Drop)]
+#[derive(Clone, Copy)]
 pub struct Test {
     pub attribute: usize,
     pub lower: i64,
@@ -39,7 +39,7 @@ pub struct Test {
 
 // What a loop over the rows of a variable has read before the first one: which rows it stops at (specs/Cursor), and the branch that such a row goes
 // on from.
-#[derive(Drop)]
+#[derive(Clone, Copy)]
 pub struct Cursor {
     pub way: usize,
     pub next: usize,
@@ -294,7 +294,7 @@ fn fails_alone(t: &[u16], start: usize, operator: usize) -> bool
 
 // An equality that a row of a variable must meet: where its other side stands in a table, the number of that side, the attribute, and the branch
 // that a row may still lead from to 0 where it fails; 1 is no such branch. Place 0: none.
-#[derive(Drop)]
+#[derive(Clone, Copy)]
 struct Key {
     place: usize,
     number: usize,
@@ -431,7 +431,7 @@ fn head(chains: &mut [u16], at: usize, variable: u8, number: usize, key: Key)
 }
 
 // The branch that a row leads from, and the one that it may lead on from where it fails the equality; 1: none.
-#[derive(Drop)]
+#[derive(Clone, Copy)]
 struct Fork {
     start: usize,
     other: usize,

@@ -12,7 +12,7 @@ use crate::{ahead, frames, items, lookups};
 use names::{Found, Sort};
 
 // Whether a relation's parentheses are open, its number, the next variable's number, and where to write.
-#[derive(Drop)]
+#[derive(Clone, Copy)]
 pub struct Tally {
     pub inside: bool,
     pub relation: u8,
@@ -21,7 +21,7 @@ pub struct Tally {
 }
 
 // What a token leaves, or a relation that is unknown.
-#[derive(Drop)]
+#[derive(Clone, Copy)]
 pub enum Ranges {
     Listed(Tally),
     Refused,

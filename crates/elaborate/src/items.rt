@@ -17,7 +17,7 @@ use kinds::Record;
 use names::{Found, Sort};
 
 // The token at hand: its place, its kind and what is to be done there; the innermost aggregate's frame, and the next variable's number.
-#[derive(Drop)]
+#[derive(Clone, Copy)]
 pub struct Scope {
     pub i: usize,
     pub kind: u8,
@@ -27,7 +27,7 @@ pub struct Scope {
 }
 
 // A token's record (Short: none), or a name that is unknown or out of reach.
-#[derive(Drop)]
+#[derive(Clone, Copy)]
 pub enum Item {
     Put(Record),
     Refused,

@@ -34,7 +34,7 @@ const NAMES: u8 = 51;
 const LENGTH: u8 = 52;
 
 // The number of a refusal, 0 where there is none, and the length of the records.
-#[derive(Drop)]
+#[derive(Clone, Copy)]
 pub struct Answer {
     pub number: u8,
     pub length: usize,
@@ -47,7 +47,7 @@ fn refused(number: u8) -> Answer
 }
 
 // The place after what was written, or a name that is unknown or out of reach.
-#[derive(Drop)]
+#[derive(Clone, Copy)]
 pub enum End {
     Place(usize),
     Refused,

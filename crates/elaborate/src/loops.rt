@@ -13,7 +13,7 @@ use crate::turns::{Next, State};
 use crate::{End, turns};
 
 // The first token and how many there are, where to write, and the next variable's number.
-#[derive(Drop)]
+#[derive(Clone, Copy)]
 pub struct Start {
     pub first: usize,
     pub end: usize,

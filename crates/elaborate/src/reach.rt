@@ -9,7 +9,7 @@ ghost use Rattle.elaborate.specs.Tables.{Holds};
 use crate::{ahead, lookups};
 
 // A symbol's relation and variable, or its relation alone, or no symbol.
-#[derive(Drop)]
+#[derive(Clone, Copy)]
 pub enum Known {
     Variable(u8, u8),
     Head(u8),

@@ -12,7 +12,7 @@ use crate::{ahead, frames, lookups};
 use kinds::Record;
 
 // How many frames are open, and the innermost aggregate's.
-#[derive(Drop)]
+#[derive(Clone, Copy)]
 pub struct Reach {
     pub depth: usize,
     pub crossing: usize,

@@ -20,7 +20,7 @@ use crate::{ahead, items, modes, opens, reaches};
 use kinds::Record;
 
 // The next token, the loop's mode, how many frames are open, the innermost aggregate's, the next variable's number, and where to write.
-#[derive(Drop)]
+#[derive(Clone, Copy)]
 pub struct State {
     pub i: usize,
     pub mode: u8,
@@ -31,7 +31,7 @@ pub struct State {
 }
 
 // The state after a turn, or a name that is unknown or out of reach.
-#[derive(Drop)]
+#[derive(Clone, Copy)]
 pub enum Next {
     Go(State),
     Refused,

@@ -11,7 +11,7 @@ use kinds::{ConditionRecord, TermRecord};
 use numbers::{Accumulator, Ratio};
 
 // Whether a row was a hit, and how many rows were tried: up to the first hit, or all.
-#[derive(Drop)]
+#[derive(Clone, Copy)]
 struct Search {
     found: bool,
     tried: usize,
@@ -141,7 +141,7 @@ pub fn term(
 }
 
 // What is asked of each row of a variable: the level down to which the condition is read, and the variable.
-#[derive(Drop)]
+#[derive(Clone, Copy)]
 struct Asked {
     level: usize,
     variable: u8,
@@ -186,7 +186,7 @@ fn some_row(
 }
 
 // The same, and the attribute that is gathered of the rows that meet it.
-#[derive(Drop)]
+#[derive(Clone, Copy)]
 struct Column {
     level: usize,
     variable: u8,

@@ -12,7 +12,7 @@ ghost use Rattle.grammar.specs.Shapes.{is_target, ranges_part, targets_part, sha
 
 use kinds::{ConditionRecord, HeadRecord, PermitRecord, TermRecord};
 
-#[derive(Drop)]
+#[derive(Clone, Copy)]
 enum Size {
     Bytes(usize),
     Refused,
@@ -158,7 +158,7 @@ fn permits_refused(bytes: &[u8]) -> bool
 }
 
 // Records or terms of one sort: how many, and their bytes.
-#[derive(Drop)]
+#[derive(Clone, Copy)]
 enum Part {
     Read(usize, usize),
     Refused,
@@ -203,7 +203,7 @@ fn targets(q: &[u8]) -> Part
 }
 
 // A well-formed query: how many RANGEs and targets, and where the first target and the final condition start.
-#[derive(Drop)]
+#[derive(Clone, Copy)]
 pub struct Layout {
     pub ranges: usize,
     pub targets: usize,
@@ -211,7 +211,7 @@ pub struct Layout {
     pub condition: usize,
 }
 
-#[derive(Drop)]
+#[derive(Clone, Copy)]
 enum Shape {
     WellFormed(Layout),
     NotWellFormed,
@@ -257,7 +257,7 @@ fn query_within(q: &[u8], limit: usize) -> Shape
 }
 
 // What bytes are read as.
-#[derive(Drop)]
+#[derive(Clone, Copy)]
 pub enum Input {
     // a query of at most so many bytes
     Query(usize),

@@ -29,7 +29,7 @@ const FEW_WALKS: usize = VARIABLES * (8 + 16);
 const TABLE: usize = rewriter::PLACES + VARIABLES;
 
 // The number of a refusal, 0 where there is none, and the counts of rows, columns and rewritten bytes.
-#[derive(Drop)]
+#[derive(Clone, Copy)]
 pub struct Reply {
     pub number: u8,
     pub rows: usize,

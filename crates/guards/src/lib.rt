@@ -17,21 +17,21 @@ use scans::Bound;
 const PERMITS: u8 = model::PERMITS as u8;
 
 // What a permit list is to a variable: bit k of the mask for permit k where it applies, and whether a permit bars it.
-#[derive(Drop)]
+#[derive(Clone, Copy)]
 struct Verdict {
     mask: u8,
     barred: bool,
 }
 
 // Of bound variables: whether each over a stored relation has a permit (33), and how many bytes their guards take.
-#[derive(Drop)]
+#[derive(Clone, Copy)]
 struct Tally {
     served: bool,
     length: usize,
 }
 
 // Check 33; where it passes, how many bytes the rewritten query has.
-#[derive(Drop)]
+#[derive(Clone, Copy)]
 pub enum Check33 {
     Passed(usize),
     Refused,

@@ -7,7 +7,7 @@ ghost use Rattle.guards.specs.Uses.{used_by};
 
 use kinds::TermRecord;
 
-#[derive(Drop)]
+#[derive(Clone, Copy)]
 enum Used {
     // variable, attribute
     Of(u8, u8),

@@ -86,7 +86,7 @@ fn child_terms(kind: u8) -> u8
 }
 
 // How many conditions and how many terms follow a record of the kind as its children.
-#[derive(Drop)]
+#[derive(Clone, Copy)]
 pub struct ChildCounts {
     pub conditions: u8,
     pub terms: u8,
@@ -174,7 +174,7 @@ pub fn is_code(aggregate: bool, code: u8) -> bool
 }
 
 // Any record, with the bytes of its body: what a walk from record to record meets, and what is written. Short: the bytes end before it does.
-#[derive(Drop)]
+#[derive(Clone, Copy)]
 pub enum Record {
     // variable, relation
     Range(u8, u8),
@@ -239,7 +239,7 @@ pub fn read(q: &[u8]) -> Record
 }
 
 // A record where a condition stands. Other: one of another place, or none, or the bytes end before it does.
-#[derive(Drop)]
+#[derive(Clone, Copy)]
 pub enum ConditionRecord {
     True,
     False,
@@ -269,7 +269,7 @@ pub fn condition_record(q: &[u8]) -> ConditionRecord
 }
 
 // A record where a term stands.
-#[derive(Drop)]
+#[derive(Clone, Copy)]
 pub enum TermRecord {
     // four bytes, low first
     Constant(u8, u8, u8, u8),
@@ -292,7 +292,7 @@ pub fn term_record(q: &[u8]) -> TermRecord
 }
 
 // A record at the head of a query, before its targets.
-#[derive(Drop)]
+#[derive(Clone, Copy)]
 pub enum HeadRecord {
     // variable, relation
     Range(u8, u8),
@@ -309,7 +309,7 @@ pub fn head_record(q: &[u8]) -> HeadRecord
 }
 
 // A record where a permit starts.
-#[derive(Drop)]
+#[derive(Clone, Copy)]
 pub enum PermitRecord {
     // relation, mask
     Permit(u8, u16),

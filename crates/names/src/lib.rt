@@ -12,7 +12,7 @@ ghost use Rattle.names.specs.Answers.{failed, found, valued, said};
 use tokens::Spelled;
 
 // What a name is looked up as: a relation, an attribute of one, or a value.
-#[derive(Drop)]
+#[derive(Clone, Copy)]
 pub enum Sort {
     Relation,
     Attribute(u8),
@@ -20,7 +20,7 @@ pub enum Sort {
 }
 
 // A value's four bytes, low first; the number of a relation or of an attribute is the first of them.
-#[derive(Drop)]
+#[derive(Clone, Copy)]
 pub enum Found {
     Of(u8, u8, u8, u8),
     Nothing,

@@ -9,14 +9,14 @@ ghost use Rattle.numbers.specs.Numbers as N;
 ghost use Rattle.numbers.specs.Memo as Memo;
 
 // A value: numerator over denominator. Over 0 it is nothing: no number has that denominator.
-#[derive(Drop)]
+#[derive(Clone, Copy)]
 pub struct Ratio {
     pub numerator: i64,
     pub denominator: i64,
 }
 
 // What an aggregate has taken so far.
-#[derive(Drop)]
+#[derive(Clone, Copy)]
 pub struct Accumulator {
     pub count: u64,
     pub sum: i64,

@@ -28,7 +28,7 @@ const LIST: usize = 2 * model::TARGETS;
 
 // Where a query's targets start, how many they are and how deep, and whether they are listed; how many ranges are left, and are bound; where in
 // `work` the list starts; how many rows are stored, and whether a distinct row did not fit.
-#[derive(Drop)]
+#[derive(Clone, Copy)]
 pub struct Plan {
     pub targets: usize,
     pub columns: usize,
@@ -182,7 +182,7 @@ fn listed_cells(
 }
 
 // How many targets are ahead, how deep they may be, and the cell of the first.
-#[derive(Drop)]
+#[derive(Clone, Copy)]
 struct Ahead {
     left: usize,
     level: usize,

@@ -69,7 +69,7 @@ fn mask_in(mask: u16, attributes: usize) -> bool
 }
 
 // What stands at a place of a list.
-#[derive(Drop)]
+#[derive(Clone, Copy)]
 enum Grant {
     // a permit within the limits (21): its bytes, whether all that it names is known (22), and stored (23)
     Whole(usize, bool, bool),
@@ -77,7 +77,7 @@ enum Grant {
 }
 
 // What a list is.
-#[derive(Drop)]
+#[derive(Clone, Copy)]
 enum Listing {
     // permits within the limits, and whether all pass 22, and 23
     Whole(bool, bool),

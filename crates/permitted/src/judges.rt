@@ -28,7 +28,7 @@ const VARIABLES: usize = model::PERMIT_VARIABLES as usize;
 
 // A comparison of an attribute with a number, in a form that is the same for all operators: the value times `scale` against the number
 // from below unless `above`, from above unless `below`, and turned round unless `wanted`.
-#[derive(Drop)]
+#[derive(Clone, Copy)]
 struct Test {
     above: bool,
     below: bool,
@@ -197,7 +197,7 @@ fn mark_against(
 }
 
 // A term whose value is known before the first row.
-#[derive(Drop)]
+#[derive(Clone, Copy)]
 struct Known {
     known: bool,
     value: Ratio,
@@ -249,7 +249,7 @@ fn known_at(q: &[u8], level: usize, memo: &[i64]) -> Known
 
 // What is asked of a condition: at which level it is read, on which rows, and the end that it is to lead to, 0 where it is to hold. A number, since a
 // flag that is read from a struct costs an instruction for each row.
-#[derive(Drop)]
+#[derive(Clone, Copy)]
 struct Task {
     level: usize,
     walk: Walk,
@@ -337,7 +337,7 @@ fn place_of(walk: Walk, i: usize) -> usize
 }
 
 // A walk, and the branch that each of its rows is to lead from to 0.
-#[derive(Drop)]
+#[derive(Clone, Copy)]
 struct Trial {
     walk: Walk,
     start: usize,

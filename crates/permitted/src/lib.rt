@@ -23,7 +23,7 @@ const VARIABLES: usize = model::ASKED_VARIABLES as usize;
 const LISTS: usize = 8 * VARIABLES;
 
 // What a variable is given rows by: its relation, the mask of its permits, and where a list of its own would start.
-#[derive(Drop)]
+#[derive(Clone, Copy)]
 struct Grant {
     variable: u8,
     relation: u8,

@@ -30,7 +30,7 @@ const TWO: usize = 4168;
 const EIGHT: usize = 16480;
 
 // The number of a refusal, 0 where there is none, and the counts of rows and columns.
-#[derive(Drop)]
+#[derive(Clone, Copy)]
 pub struct Reply {
     pub number: u8,
     pub rows: usize,
@@ -68,7 +68,7 @@ fn filled(state: Filled, columns: usize) -> Reply
 }
 
 // The parts of a query, how many levels it may have, and where in its table the targets stand.
-#[derive(Drop)]
+#[derive(Clone, Copy)]
 struct Task {
     layout: Layout,
     level: usize,

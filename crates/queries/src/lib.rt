@@ -16,14 +16,14 @@ use grammar::{Input, Layout};
 use kinds::HeadRecord;
 
 // The limits of a call.
-#[derive(Drop)]
+#[derive(Clone, Copy)]
 pub struct Limits {
     pub bytes: usize,
     pub levels: usize,
     pub variables: u8,
 }
 
-#[derive(Drop)]
+#[derive(Clone, Copy)]
 pub enum Checked {
     // 30, 31 or 32
     Refused(u8),
@@ -31,7 +31,7 @@ pub enum Checked {
 }
 
 // The RANGE records that a query starts with: how many, and whether they and their relations have known numbers.
-#[derive(Drop)]
+#[derive(Clone, Copy)]
 struct Ranges {
     count: usize,
     known: bool,
@@ -78,7 +78,7 @@ fn wide(x: u8) -> usize
 }
 
 // Targets one after the other.
-#[derive(Drop)]
+#[derive(Clone, Copy)]
 enum Run {
     // how many, the place after them, and whether they are in scope
     Whole(usize, usize, bool),
@@ -86,7 +86,7 @@ enum Run {
 }
 
 // Where the next target stands, and the level down to which it is read.
-#[derive(Drop)]
+#[derive(Clone, Copy)]
 struct Next {
     at: usize,
     level: usize,
@@ -132,7 +132,7 @@ fn targets(
 }
 
 // A whole query, or that none was read.
-#[derive(Drop)]
+#[derive(Clone, Copy)]
 enum Found {
     // where its parts stand, and whether it is in scope
     Whole(Layout, bool),

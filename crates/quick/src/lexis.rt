@@ -22,7 +22,7 @@ pub(crate) fn low(x: u64) -> u8
 }
 
 // Where something ends, 0 where it does not stand there, and the number that it spells.
-#[derive(Drop)]
+#[derive(Clone, Copy)]
 pub(crate) struct Span {
     pub end: usize,
     pub value: u64,
@@ -172,7 +172,7 @@ pub(crate) fn past_or(text: &[u8; 256], at: usize) -> usize
     skip(text, at + 1)
 }
 
-#[derive(Drop)]
+#[derive(Clone, Copy)]
 pub(crate) struct Operator {
     pub end: usize,
     pub number: u8,
@@ -315,7 +315,7 @@ pub(crate) fn function(value: u64) -> u8
 }
 
 // X.A: where it ends, 0 where it does not stand there, and both codes.
-#[derive(Drop)]
+#[derive(Clone, Copy)]
 pub(crate) struct Owned {
     pub end: usize,
     pub owner: u64,

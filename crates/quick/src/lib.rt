@@ -29,7 +29,7 @@ const NOTHING: Reading = Reading {
 };
 
 // Where the pass stands in the text, 0 where it gave up, and how many bytes are written.
-#[derive(Drop)]
+#[derive(Clone, Copy)]
 struct Pass {
     at: usize,
     to: usize,

@@ -17,7 +17,7 @@ const GRAMMAR: u8 = 50;
 const NAMES: u8 = 51;
 
 // The number of a refusal, 0 where there is none, and the length of the records.
-#[derive(Drop)]
+#[derive(Clone, Copy)]
 pub struct Reading {
     pub number: u8,
     pub length: usize,

@@ -134,7 +134,7 @@ fn next(mode: u8, kind: u8) -> u8
     }
 }
 
-#[derive(Drop)]
+#[derive(Clone, Copy)]
 struct State {
     mode: u8,
     depth: usize,

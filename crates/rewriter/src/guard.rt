@@ -13,7 +13,7 @@ use kinds::Record;
 use scans::Bound;
 
 // The place after what was written, and the next number for a new variable.
-#[derive(Drop)]
+#[derive(Clone, Copy)]
 pub struct Written {
     pub at: usize,
     pub next: usize,

@@ -20,7 +20,7 @@ use kinds::{ConditionRecord, HeadRecord, Record, TermRecord};
 pub const PLACES: usize = 2 * model::PERMITS;
 
 // Where to write, the next number for a new variable, and at which level what is written is read.
-#[derive(Drop)]
+#[derive(Clone, Copy)]
 struct Writing {
     at: usize,
     next: usize,

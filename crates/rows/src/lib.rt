@@ -6,14 +6,14 @@ ghost use Rattle.rows.specs.Buffer.{sought, over, added, start};
 ghost use Rattle.rows.specs.Chains.{mixed, hashed, heads_of, nexts_of, bucket_of, Chained, Linked};
 
 // How many rows are stored, and whether a distinct row did not fit.
-#[derive(Drop)]
+#[derive(Clone, Copy)]
 pub struct Filled {
     pub rows: usize,
     pub full: bool,
 }
 
 // Whether an equal row was found, and how many rows were tried: in their order up to that row, or all.
-#[derive(Drop)]
+#[derive(Clone, Copy)]
 struct Search {
     found: bool,
     tried: usize,

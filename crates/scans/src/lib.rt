@@ -11,7 +11,7 @@ ghost use Rattle.scans.specs.Flat.{binding_of, flat_bindings, bindings_of, bound
 
 use kinds::Record;
 
-#[derive(Drop)]
+#[derive(Clone, Copy)]
 pub enum Bound {
     // variable, relation
     To(u8, u8),
@@ -19,7 +19,7 @@ pub enum Bound {
 }
 
 // How many variables are bound, and whether no number is bound twice.
-#[derive(Drop)]
+#[derive(Clone, Copy)]
 pub struct Bindings {
     pub count: usize,
     pub once: bool,

@@ -2,7 +2,7 @@
 // before it; what bytes with such a table stand for. Definitions and laws: the reader of conditions fills the table.
 #![tactic(auto)]
 
-#[derive(Drop)]
+#[derive(Clone, Copy)]
 pub enum Size {
     Bytes(usize),
     Refused,

@@ -46,7 +46,7 @@ fn passes(text: &[u8], i: usize, low: u8, high: u8) -> bool
 }
 
 // A stretch of bytes from low to high: where it ends, and the number that they spell after a start.
-#[derive(Drop)]
+#[derive(Clone, Copy)]
 struct Span {
     end: usize,
     value: u64,
@@ -119,7 +119,7 @@ fn is_name(word: &[u8], n: usize, code: u64) -> bool
 }
 
 // The code of the letters in front, and whether they are a name filled up with spaces.
-#[derive(Drop)]
+#[derive(Clone, Copy)]
 pub struct Spelled {
     pub code: u64,
     pub name: bool,
@@ -154,7 +154,7 @@ fn sign_kind(b: u8) -> u8
 }
 
 // What begins at a place: a token's kind, how many bytes it has, and its number; or no token.
-#[derive(Drop)]
+#[derive(Clone, Copy)]
 enum Piece {
     Found(u8, usize, u64),
     Refused,
@@ -262,7 +262,7 @@ fn is_blank(b: u8) -> bool
 }
 
 // How many tokens, or no text.
-#[derive(Drop)]
+#[derive(Clone, Copy)]
 pub enum Outcome {
     Tokens(usize),
     Refused,

@@ -7,7 +7,7 @@ ghost use Rattle.waldumre.specs.AskText.{ask_text};
 
 // The number of a refusal, 0 where there is none, and the counts of rows, columns and rewritten bytes.
 #[repr(C)]
-#[derive(Drop)]
+#[derive(Clone, Copy)]
 pub struct Outcome {
     pub number: u64,
     pub rows: u64,
@@ -65,7 +65,7 @@ pub extern "C" fn waldumre_ask(
 
 // The number of a refusal of the reader, 0 where there is none, and the length of the records.
 #[repr(C)]
-#[derive(Drop)]
+#[derive(Clone, Copy)]
 pub struct Reading {
     pub number: u64,
     pub length: u64,

@@ -9,7 +9,7 @@ use guarded::Reply;
 
 // The number of a refusal, 0 where there is none, and the counts of rows, columns and rewritten bytes.
 #[repr(C)]
-#[derive(Drop)]
+#[derive(Clone, Copy)]
 pub struct Outcome {
     pub number: u64,
     pub rows: u64,

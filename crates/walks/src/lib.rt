@@ -5,7 +5,7 @@ ghost use Rattle.std.specs.Prelude.{◌≡◌, suc, ◌+◌, ◌-◌, ◌≤◌,
 ghost use Rattle.walks.specs.Walks as W;
 
 // Where a variable's list stands in the table and how many rows it has; where the values of its relation begin and how many a row has.
-#[derive(Drop)]
+#[derive(Clone, Copy)]
 pub struct Walk {
     pub start: usize,
     pub count: usize,
