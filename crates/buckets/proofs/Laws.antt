@@ -46,7 +46,7 @@ module _ (slot : ℕ → ℕ) where
   chain-frame nexts s v link [] e c = c
   chain-frame nexts s v link (x ∷ xs) e c =
       let g : get_or (set nexts s v) (slot x) 0 ≡ get_or nexts (slot x) 0 = get_or-set_other nexts s (slot x) v 0 (λ z. omega (arith, e.0, z)) in
-      (c.0, (omega (arith, g, c.1.0), subst (λ (l : ℕ). Chain slot (set nexts s v) l xs) (sym g) (chain-frame nexts s v _ xs e.1 c.1.1)))
+      (c.0, (omega (arith, g, c.1.0), subst (λ (l : ℕ). Chain slot (set nexts s v) l xs) (sym g) (chain-frame nexts s v (get_or nexts (slot x) 0) xs e.1 c.1.1)))
 
   -- the place y at the front of its chain
   module _ (b : ℕ → ℕ) (heads nexts xs : List ℕ) (y : ℕ) (f : Held b slot y heads nexts xs) (low : b y < length heads) (room : slot y < length nexts) where
