@@ -1,3 +1,4 @@
 pub mod Output
 pub mod Cut
 pub mod Text
+pub mod Counts

@@ -1,41 +1,61 @@
 // The program of document 01: the four files of its folder, and what is printed of them.
+#![tactic(auto)]
+
 mod output;
 mod text;
 
-ghost use Rattle.io.specs.Counts.{IsPrefixLen};
+ghost use Rattle.std.specs.Io.{ReadsAtMost};
+ghost use Rattle.program.specs.Counts.{IsPrefixLen};
 
-use libc::STDOUT_FILENO;
+use std::fs::File;
+use std::io;
+use std::io::{ErrorKind, Read, Write};
 
-// Whether a descriptor has no byte left. A read that fails says no.
-fn ended(fd: i32) -> bool {
-    let mut one = [0u8; 1];
-    libc::read(fd, &mut one) == 0
+// Reads until the buffer is full or the file has ended, and answers how many bytes it put there. A read that a signal interrupts is tried again.
+fn read_full(file: &mut File, buf: &mut [u8]) -> io::Result<usize>
+    ensures { ReadsAtMost result buf.new }
+{
+    let mut n = 0;
+    for _ in 0..u64::MAX {
+        if n == buf.len() {
+            break;
+        }
+        match file.read(&mut buf[n..]) {
+            Ok(0) => break,
+            Ok(more) => n += more,
+            Err(e) => {
+                if e.kind() != ErrorKind::Interrupted {
+                    return Err(e);
+                }
+            }
+        }
+    }
+    Ok(n)
 }
 
 // Reads a file until the buffer is full, and answers how many bytes it put there. Each buffer has a byte more than any file that
 // is accepted, so a longer file is refused and never cut. A file that is missing or cannot be read to its end counts as empty.
-fn load(name: &[u8], buf: &mut [u8]) -> usize
+fn load(rt: &HostRuntime, name: &str, buf: &mut [u8]) -> usize
     ensures { IsPrefixLen result buf.new }
 {
-    let fd = os::open_read(name);
-    if fd < 0 {
+    let Ok(mut file) = File::open(rt, name) else {
         return 0;
+    };
+    match read_full(&mut file, buf) {
+        Ok(n) => n,
+        Err(_) => 0,
     }
-    let n = io::read_full(fd, buf);
-    let whole = n == buf.len() || ended(fd);
-    libc::close(fd);
-    if whole { n } else { 0 }
 }
 
-fn main() {
+fn main(rt: HostRuntime) -> io::Result<()> {
     let mut catalogue = [0u8; 65];
-    let c = load(b"catalogue", &mut catalogue);
+    let c = load(&rt, "catalogue", &mut catalogue);
     let mut values = [0u8; 32769];
-    let v = load(b"values", &mut values);
+    let v = load(&rt, "values", &mut values);
     let mut permits = [0u8; 2049];
-    let p = load(b"permits", &mut permits);
+    let p = load(&rt, "permits", &mut permits);
     let mut question = [0u8; 1025];
-    let q = load(b"question", &mut question);
+    let q = load(&rt, "question", &mut question);
     let mut out = [0u8; 470000];
     let n = output::respond(
         &catalogue[..c],
@@ -44,5 +64,5 @@ fn main() {
         &question[..q],
         &mut out,
     );
-    io::write_all(STDOUT_FILENO, &out[..n]);
+    io::writer(&rt).write_all(&out[..n])
 }
