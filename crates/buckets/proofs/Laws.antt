@@ -2,16 +2,16 @@
 use mathlib.Core.Path.{◌≡◌, refl, sym, ap, ap₂, ◌∙◌, subst}
 use mathlib.Core.Bool.{Bool, true, false, not, ◌&&◌, ◌||◌}
 use mathlib.Core.List.{List, [], ◌∷◌}
-use Prim.Native.Nat.{ℕ, ◌+◌, ◌-◌, ◌≤◌, ◌<◌}
+use Prim.Native.Nat.{ℕ, ◌+◌, ◌≤◌, ◌<◌}
 use native.Mathlib.Omega.{arith}
 use lib.Dec.{eqb, leb}
 use lib.ListN.{length, get_or, set, take, drop, length-take, length-drop, get_or-eq_default}
 use lib.Seq.{get_or-set_same, get_or-set_other, take-set-le, take-set-lt, drop-set-lt, drop-set-add, get_or-take, length-take-le}
-use borrow.Author.Tests.{eqb-true, eqb-false, eq-eqb, ne_eqb, leb-true, leb-false}
+use borrow.Author.Tests.{eqb-true, eqb-false, eq-eqb, leb-true, leb-false}
 use Rattle.model.specs.Lists.{any, all, filter, cons_if, Every}
 use Rattle.model.proofs.Tests.{clash, and-inv}
 use Rattle.quel.specs.Results.{Word, same_word}
-use Rattle.buckets.specs.Chains.{Chain, Held, Chained}
+use Rattle.buckets.specs.Chains.{Chain, Held}
 
 -- words that are compared and equal
 pub same_word_lem : (v w : Word) → same_word v w ≡ true → v ≡ w

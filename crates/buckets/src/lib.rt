@@ -1,4 +1,6 @@
 // Words by their buckets (specs/Chains), in one table: for each of 512 buckets the last place with a word of it, then for each place the one before it there.
+#![tactic(auto)]
+
 ghost use Rattle.std.specs.Prelude.{◌≡◌, ◌+◌, ◌%◌, ◌<◌, length, get_or, set, take, drop};
 
 // The bucket of a word by its code, one of 512.
