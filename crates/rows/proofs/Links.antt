@@ -1,14 +1,14 @@
 -- Chains through the stored rows: one row more at the front, and one link further back.
-use mathlib.Core.Path.{◌≡◌, refl, sym, ap, ◌∙◌, transport, subst}
+use mathlib.Core.Path.{◌≡◌, refl, sym, ap, ◌∙◌, subst}
 use mathlib.Core.Bool.{Bool, true, false, cond}
 use mathlib.Core.List.{List, ◌++◌}
-use Prim.Native.Nat.{ℕ, zero, suc, ◌+◌, ◌-◌, ◌*◌, ◌/◌, ◌≤◌, ◌<◌, min}
+use Prim.Native.Nat.{ℕ, suc, ◌+◌, ◌-◌, ◌*◌, ◌/◌, ◌≤◌, ◌<◌, min}
 use native.Mathlib.Nat.{mul-le-mul, le_refl}
 use native.Mathlib.Omega.{arith}
 use lib.Dec.{eqb, ltb}
 use lib.IntN.{ℤ}
 use lib.ListN.{length, get_or, set, take, drop, length-append, length-take, length-drop, length-set, take-append-drop}
-use lib.Seq.{take_all, drop-drop, drop_at, take-length, take-append-le, drop-append-le, get_or-set_same, get_or-set_other}
+use lib.Seq.{take_all, drop_at, take-length, take-append-le, drop-append-le, get_or-set_same, get_or-set_other}
 use borrow.Author.Tests.{eqb-true, eqb-false, ltb-true, ltb-false}
 use Rattle.model.specs.Meaning.{same_row}
 use Rattle.model.specs.Search.{Search, search}
@@ -18,7 +18,6 @@ use Rattle.model.proofs.Tests.{clash}
 use Rattle.rows.specs.Buffer.{stored_rows, sought, over}
 use Rattle.rows.specs.Chains.{heads_of, nexts_of, bucket_of, row_at, bucket_at, Last, LastOf, Chained, Linked}
 use Rattle.rows.proofs.Compared.{same_at, row_count, sought-hit, sought-none, rows_split}
-use Rattle.rows.proofs.Folded.{bucket-low}
 use Rattle.rows.proofs.Laws.{row_room}
 
 -- a walk along the chain of a row: no row equal to it from the link on

@@ -1,4 +1,6 @@
 // The answer buffer: distinct rows, row after row, and refusal 41.
+#![tactic(auto)]
+
 ghost use Rattle.std.specs.Prelude.{◌≡◌, ◌&&◌, ℕ, ◌+◌, ◌-◌, ◌*◌, ◌/◌, ◌≤◌, ◌<◌, min, length, take, drop};
 ghost use Rattle.std.specs.Int.Signed.{le_z, mag};
 ghost use Rattle.model.specs.Meaning.{same_row};
