@@ -9,7 +9,7 @@ use lib.IntN.{ℤ}
 use lib.ListN.{length}
 use Rattle.model.specs.Lists.{filter, unique, concat_map, backwards, Every, present}
 use Rattle.model.specs.Syntax.{Binding, Query, variables, bindings, bindings_t, bindings_q}
-use Rattle.model.specs.Meaning.{Tuple, Assignment, Rows, holds, assignments, unbound, target_row, add_rows, qualifying, rows_met, answers}
+use Rattle.model.specs.Meaning.{Assignment, Rows, holds, assignments, unbound, target_row, add_rows, qualifying, rows_met, answers}
 use Rattle.model.specs.Catalogue.{walk}
 use Rattle.model.proofs.Lists.{every_map, every_append, backwards-last, map-backwards}
 use Rattle.model.proofs.NonInterference.{Agree, same-holds, same_row, same-assign}

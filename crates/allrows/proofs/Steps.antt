@@ -11,7 +11,7 @@ use Rattle.scans.specs.declared.Bound.{Bound}
 use Rattle.scans.specs.declared.Bound.TheVariants.{To, Nothing}
 use Rattle.scans.proofs.Walk.{flat-end}
 use Rattle.scans.proofs.Loops.{bindings-on}
-use mathlib.Core.Bool.{Bool, true, false, cond}
+use mathlib.Core.Bool.{cond}
 use Rattle.catalogue.specs.Layout.{attributes_of, rows_of, latest_of, base_of}
 use Rattle.walks.specs.declared.Walk.{Walk}
 use Rattle.allrows.specs.Filled.{written, whole_of, filled_by}

@@ -1,4 +1,6 @@
 // The walks of the variables that some bytes bind: all rows of their relations.
+#![tactic(auto)]
+
 ghost use Rattle.std.specs.Prelude.{◌≡◌, ◌≤◌, set, cond};
 ghost use Rattle.walks.specs.Walks.{Fits};
 ghost use Rattle.scans.specs.Flat.{bound_by, flat_bindings};
