@@ -2,22 +2,20 @@
 use mathlib.Core.Path.{◌≡◌, refl, sym, ap, ap₂, ◌∙◌}
 use mathlib.Core.Bool.{Bool, true, false, cond, ◌||◌}
 use mathlib.Core.List.{List, [], ◌∷◌, ◌++◌, map, append_assoc}
-use mathlib.Core.Option.{some}
 use Prim.Native.Nat.{ℕ, zero, suc, ◌+◌, ◌*◌, ◌/◌, ◌%◌, ◌≤◌}
 use native.Mathlib.Omega.{arith}
 use lib.Dec.{eqb}
-use lib.ListN.{length, get_or, drop}
+use lib.ListN.{length}
 use borrow.Author.Tests.{eq-eqb, ne_eqb}
-use Rattle.model.specs.Lists.{concat_map, index_of, total, filter, any, cons_if}
-use Rattle.model.specs.Syntax.{Condition, Term, TRUE, FALSE, NOT, AND, OR, COMPARE, SOME, CONSTANT, ATTRIBUTE, AGGREGATE, Binding, variables, bindings, bindings_t}
+use Rattle.model.specs.Lists.{index_of, total, filter, any, cons_if}
+use Rattle.model.specs.Syntax.{Condition, Term, TRUE, FALSE, NOT, AND, OR, COMPARE, SOME, CONSTANT, ATTRIBUTE, AGGREGATE, Binding, variables, bindings}
 use Rattle.model.specs.Encoding.{encode, encode_t}
 use Rattle.model.specs.Rewriting.{rename, rename_t, new_number, copy_for, disjunction}
-use Rattle.model.specs.Kinds.{Kind, k-true, k-false, k-not, k-and, k-or, k-compare, k-some, k-constant, k-attribute, k-aggregate, code, body_length}
-use Rattle.kinds.specs.Record.{filled}
+use Rattle.model.specs.Kinds.{k-true, k-false, k-not, k-and, k-or, k-compare, k-some, k-constant, k-attribute, k-aggregate}
 use Rattle.kinds.specs.declared.Record.{Record}
 use Rattle.scans.specs.Flat.{flat}
 use Rattle.scans.proofs.Whole.{at, nothing-flat, bindings-condition}
-use Rattle.copier.specs.Copied.{record_bytes, renamed_record, number_in, copied_record, copied_bytes}
+use Rattle.copier.specs.Copied.{record_bytes, renamed_record, number_in, copied_bytes}
 use Rattle.copier.specs.Guard.{picked, new_in_part, disjunction_bytes, bits_of, PartsOf}
 use Rattle.copier.proofs.Turns.{picked_none}
 

@@ -14,8 +14,8 @@ use Rattle.model.specs.Lists.{cons_if, total}
 use borrow.Author.Tests.{eqb-true, eqb-false}
 use Rattle.scans.specs.Flat.{flat_bindings}
 use Rattle.copier.specs.Copied.{copied_bytes}
-use Rattle.copier.specs.Guard.{part, picked, new_in_part, disjunction_bytes, or_nothing, guard_from, new_from, guard_bytes, guard_new, opening, turn_bytes, turn_new}
-use Rattle.copier.proofs.Sets.{Wrote, wrote_then, wrote_as, wrote_nothing, Left, left-then, left_end, left-room}
+use Rattle.copier.specs.Guard.{part, picked, new_in_part, disjunction_bytes, or_nothing, guard_from, new_from, guard_bytes, guard_new, turn_bytes, turn_new}
+use Rattle.copier.proofs.Sets.{Wrote, wrote_then, wrote_as, Left, left-then, left_end, left-room}
 
 -- a byte that is written unless the mask is 0
 pub nothing_is : (m : ℕ) (w : List ℕ) → m ≡ 0 → [] ≡ or_nothing m w

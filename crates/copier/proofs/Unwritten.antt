@@ -1,7 +1,6 @@
 -- Which records are not written, as the code tells the records apart.
 use mathlib.Core.Path.{◌≡◌, refl}
-use mathlib.Core.List.{List, [], ◌∷◌}
-use Prim.Native.Nat.{ℕ}
+use mathlib.Core.List.{[], ◌∷◌}
 use denote.Enum.Declared.{tag_of, declared}
 use types.Run.{OneOf, miss}
 use Rattle.kinds.specs.declared.Record.{Record}

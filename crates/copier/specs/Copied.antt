@@ -1,5 +1,5 @@
 -- Records written anew, and the copy of a permit's condition for a guarded variable (document 01, "Permits and the rewriting", the numbering).
-use Rattle.std.specs.Prelude.{ℕ, ◌+◌, ◌<◌, cond, List, [], ◌∷◌, eqb, length}
+use Rattle.std.specs.Prelude.{ℕ, ◌+◌, cond, List, [], ◌∷◌, eqb}
 use Rattle.model.specs.Lists.{index_of}
 use Rattle.model.specs.Syntax.{variables}
 use Rattle.kinds.specs.declared.Record.{Record}

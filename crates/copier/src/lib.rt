@@ -1,4 +1,6 @@
 // Writes into a lent buffer: bytes, and records of a query. What does not fit the buffer is not written.
+#![tactic(auto)]
+
 ghost use Rattle.std.specs.Prelude.{◌≡◌, [], ◌∷◌, ◌+◌, ◌≤◌, ◌<◌, length, take};
 ghost use Rattle.std.proofs.lemmas.List.Edits.{sets};
 ghost use Rattle.copier.specs.Copied.{record_bytes};
