@@ -1,11 +1,10 @@
 -- Terms and comparisons kept in numbers.
-use Prim.Native.Nat.{ℕ, zero, suc, ◌+◌, ◌-◌, ◌*◌, ◌≤◌, ◌<◌}
+use Prim.Native.Nat.{ℕ, ◌+◌, ◌-◌, ◌*◌, ◌≤◌, ◌<◌}
 use mathlib.Core.Bool.{Bool, true, false, not, cond}
 use mathlib.Core.List.{List}
 use mathlib.Core.Option.{some}
-use mathlib.Core.Path.{◌≡◌, refl, sym, ap, ap₂, ◌∙◌, subst}
+use mathlib.Core.Path.{◌≡◌, sym, ap, ap₂, ◌∙◌, subst}
 use native.Mathlib.Omega.{arith}
-use native.Mathlib.Numerals.{sub-one}
 use lib.Dec.{ltb}
 use lib.IntN.{ℤ, pos, ◌-ℤ◌}
 use lib.ListN.{get_or, drop}
@@ -20,7 +19,7 @@ use Rattle.kinds.specs.declared.ConditionRecord.TheVariants as C
 use Rattle.kinds.specs.declared.TermRecord.{TermRecord}
 use Rattle.kinds.specs.declared.TermRecord.TheVariants as T
 use Rattle.numbers.specs.Memo.{knows}
-use Rattle.sizes.specs.Decode.{first, second, condition_by, term_by, decode, decode_t}
+use Rattle.sizes.specs.Decode.{first, second, decode, decode_t}
 use Rattle.sizes.proofs.Decoding.{decode-step, decode_t-step}
 use Rattle.numbers.specs.Recalled.{holds_by, value_by}
 use Rattle.branches.specs.Compiled.{side_of, Means, Compares}

@@ -1,13 +1,13 @@
 -- One side of a comparison read.
-use Prim.Native.Nat.{ℕ, zero, suc, ◌+◌, ◌-◌, ◌*◌, ◌≤◌, ◌<◌}
+use Prim.Native.Nat.{ℕ, ◌+◌, ◌-◌, ◌≤◌, ◌<◌}
 use mathlib.Core.Bool.{Bool, true, false, not}
 use mathlib.Core.List.{List}
 use mathlib.Core.Option.{some}
-use mathlib.Core.Path.{◌≡◌, sym, ap, ap₂, ◌∙◌, subst}
+use mathlib.Core.Path.{◌≡◌, sym, ap, ap₂, ◌∙◌}
 use native.Mathlib.Omega.{arith}
 use lib.IntN.{ℤ, pos}
-use lib.ListN.{length, get_or, drop}
-use borrow.Author.Tests.{ne_eqb, lt-ltb, le-ltb}
+use lib.ListN.{length, get_or}
+use borrow.Author.Tests.{lt-ltb, le-ltb}
 use Rattle.model.specs.Meaning as M
 use Rattle.model.specs.Meaning.{whole, compare}
 use Rattle.model.proofs.Tests.{not_yes, not-no}
@@ -16,7 +16,7 @@ use Rattle.numbers.specs.Memo.{knows, recalled}
 use Rattle.numbers.specs.declared.Ratio.{Ratio}
 use Rattle.walks.specs.Assigned.{assigned}
 use Rattle.walks.proofs.Assigned.{get_or-inside}
-use Rattle.branches.specs.Branches.{field, number, recalled_or0, operand}
+use Rattle.branches.specs.Branches.{number, recalled_or0, operand}
 
 -- what the memo has
 module _ (m : List ℤ) (v : ℕ) (b : Bool) (r : Ratio) (eb : b ≡ knows m v) where

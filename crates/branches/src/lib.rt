@@ -1,5 +1,7 @@
 // The condition of a query as a table of branches (specs/Branches), so that no record is read again for each row. A comparison of attributes,
 // numbers and known aggregates is kept as such, SOME by its place in the query.
+#![tactic(auto)]
+
 ghost use Rattle.std.specs.Prelude.{◌≡◌, ℕ, ◌+◌, ◌*◌, ◌≤◌, ◌<◌, length, get_or, drop, true, false, List, [], ◌∷◌};
 ghost use Rattle.std.proofs.lemmas.List.Edits.{sets};
 ghost use Rattle.model.specs.Syntax.{Condition, AGGREGATE};
