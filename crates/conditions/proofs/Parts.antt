@@ -11,7 +11,7 @@ use lib.Seq.{drop-drop}
 use Rattle.model.specs.Encoding.{Read, fail, ok, then}
 use Rattle.sizes.specs.declared.Size.{Size}
 use Rattle.sizes.specs.declared.Size.TheVariants as S
-use Rattle.sizes.specs.Measured.{Measured, leaves, onward, children, stored, measured, size_read}
+use Rattle.sizes.specs.Measured.{Measured, leaves, onward, children, stored, size_read}
 use Rattle.sizes.proofs.Reader.{Taken}
 use Rattle.conditions.specs.declared.Reading.{Reading}
 use Rattle.conditions.specs.declared.Reading.TheVariants.{Whole, Refused}

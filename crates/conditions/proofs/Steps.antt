@@ -9,7 +9,7 @@ use lib.Dec.{ltb}
 use lib.ListN.{length, get_or, drop, set, replicate, length-drop}
 use lib.Seq.{drop-drop}
 use denote.Enum.Declared.{tag_of, declared}
-use types.Run.{OneOf, miss}
+use types.Run.{OneOf}
 use borrow.Author.Tests.{not-false, not-true}
 use Rattle.model.specs.Lists.{update}
 use Rattle.model.specs.Kinds.{kind_of, find, k-and, k-or, k-true, k-false}

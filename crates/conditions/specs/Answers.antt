@@ -1,5 +1,5 @@
 -- What the reader answers of a condition or a term: nothing where the model reads none of so many levels, else its bytes and whether it is in scope.
-use Rattle.std.specs.Prelude.{ℕ, ◌+◌, ◌-◌, Bool, true, false, ◌&&◌, List, length, drop}
+use Rattle.std.specs.Prelude.{ℕ, ◌+◌, ◌-◌, Bool, ◌&&◌, List, length, drop}
 use Rattle.model.specs.Syntax.{Binding}
 use Rattle.model.specs.Encoding.{Read, fail, ok, then, read_condition, read_term}
 use Rattle.model.specs.Catalogue.{Shape}

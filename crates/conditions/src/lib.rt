@@ -1,5 +1,7 @@
 // The one reader of conditions and terms, of at most so many levels: sizes go into the table, and variables, relations and attributes are held to
 // their scope. What is out of scope is read on, so that the answer says both: whether it can be read, and whether it is in scope.
+#![tactic(auto)]
+
 pub mod scope;
 
 ghost use Rattle.std.specs.Prelude.{◌≡◌, true, false, ◌+◌, ◌≤◌, ◌<◌, length, drop};

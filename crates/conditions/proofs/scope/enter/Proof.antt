@@ -1,6 +1,0 @@
-use borrow.Author.Rules.{rules}
-use Rattle.conditions.proofs.scope.enter.Statement.{statement}
-use Rattle.conditions.proofs.scope.enter.Tie as tie
-
-pub enter_spec : {M : Type 1} → statement M
-enter_spec = tie.close (tie.spec (λ c κs. search rules) (λ c κs. search rules) (λ c. search rules) (λ c. search rules))
