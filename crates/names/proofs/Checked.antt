@@ -5,9 +5,9 @@ use mathlib.Core.List.{List, [], ◌∷◌}
 use Prim.Native.Nat.{ℕ, ◌+◌, ◌<◌, ◌≤◌}
 use native.Mathlib.Omega.{arith}
 use lib.Dec.{leb, ltb}
-use lib.ListN.{length, get_or, drop, length-drop, drop_of_length-le}
+use lib.ListN.{length, get_or, drop, length-drop}
 use lib.Seq.{drop-drop, get_or-drop}
-use borrow.Author.Tests.{leb-true, le-leb, lt-leb, lt-ltb, le-ltb, leb-false, not-true, not-false}
+use borrow.Author.Tests.{leb-true}
 use Rattle.model.proofs.Tests.{and-inv}
 use Rattle.quel.specs.Results.{Word}
 use Rattle.quel.specs.Names.{is_padded}
@@ -17,8 +17,8 @@ use Rattle.names.specs.Search.{is_named, seek, again, good_code, good_at}
 use Rattle.tokens.specs.Spans.{capped}
 use Rattle.tokens.specs.Kinds.{code_of}
 use Rattle.tokens.proofs.Values.{above}
-use Rattle.names.proofs.Walk.{name-at, rest_at}
-use Rattle.names.proofs.Reading.{passes, passes-cons, passes_none}
+use Rattle.names.proofs.Walk.{name-at}
+use Rattle.names.proofs.Reading.{passes, passes-cons}
 
 -- a good name lies within the list
 pub padded-room : (x w : List ℕ) (at : ℕ) → is_padded w (drop at x) ≡ true → at + 12 ≤ length x

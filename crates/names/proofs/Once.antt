@@ -1,12 +1,12 @@
 -- Each name once: what is left of the list, against the records before.
-use Prim.Native.Nat.{ℕ, ◌+◌, ◌*◌, ◌-◌, ◌/◌, ◌≤◌, ◌<◌}
+use Prim.Native.Nat.{ℕ, ◌+◌, ◌*◌, ◌/◌, ◌≤◌, ◌<◌}
 use mathlib.Core.Bool.{Bool, true, false, not, cond, ◌&&◌, ◌||◌}
 use mathlib.Core.List.{List, [], ◌∷◌}
 use mathlib.Core.Path.{◌≡◌, refl, sym, ap, ap₂, ◌∙◌, subst}
 use native.Mathlib.Omega.{arith}
 use lib.Dec.{eqb, leb, ltb}
 use lib.ListN.{length, get_or, set, take, drop, length-drop, drop_of_length-le}
-use lib.Seq.{drop-drop, get_or-drop}
+use lib.Seq.{get_or-drop}
 use borrow.Author.Tests.{eqb-true, le-leb, lt-leb, lt-ltb, le-ltb, leb-true, leb-false}
 use Rattle.model.specs.Lists.{any, all, Every}
 use Rattle.model.proofs.Tests.{and-true, and-inv, clash}
@@ -24,7 +24,7 @@ use Rattle.names.specs.Entries.{place_of, width_of, name_at}
 use Rattle.names.specs.Search.{good_code, is_named, seek_after, seek, name_of, record_code, like, HeldIn, ChainedIn, listed_before, later, apart, after, Index, Told, IndexedBy}
 use Rattle.names.proofs.Same.{eqb-turned, same-turned}
 use Rattle.names.proofs.Walk.{place-small, named-of, name-at, rest_at, seek-some, seek-none}
-use Rattle.names.proofs.Reading.{passes, passes-cons, passes_none}
+use Rattle.names.proofs.Reading.{passes, passes_none}
 use Rattle.names.proofs.Checked.{padded-room, letters-some, letters-none, good_of, passes-some}
 
 -- a record's letters

@@ -2,7 +2,7 @@
 use mathlib.Core.Path.{◌≡◌, refl, sym, ap, ap₂, subst, ◌∙◌}
 use mathlib.Core.Bool.{Bool, true, false, not, ◌&&◌, ◌||◌}
 use mathlib.Core.List.{List, [], ◌∷◌, ◌++◌}
-use mathlib.Core.Option.{Option, none, some}
+use mathlib.Core.Option.{Option, some}
 use Prim.Native.Nat.{ℕ, zero, suc, ◌<◌, ◌≤◌}
 use native.Mathlib.Omega.{arith}
 use lib.Dec.{eqb, leb, ltb}
@@ -79,14 +79,29 @@ name-read : (x : List ℕ) (f : Word → Entry) → then (padded_name x) (λ w r
 unfolding padded_name
 name-read x f = then-need (is_padded (run is_letter (take 12 x)) x) (run is_letter (take 12 x)) (drop 12 x) (λ w r. ok (f w) r)
 
+relation-reads : (r : List ℕ) → entry 80 r ≡ need (is_padded (name_at (80 ∷ r) 2) (drop 2 (80 ∷ r))) (ok (relation (get_or r 0 0) (name_at (80 ∷ r) 2)) (drop 14 (80 ∷ r)))
+unfolding entry name_at is_padded
+relation-reads [] = refl
+relation-reads (a ∷ r) = name-read r (relation a)
+
+attribute-reads : (r : List ℕ) → entry 81 r ≡ need (is_padded (name_at (81 ∷ r) 3) (drop 3 (81 ∷ r))) (ok (attribute (get_or r 0 0) (get_or r 1 0) (name_at (81 ∷ r) 3)) (drop 15 (81 ∷ r)))
+unfolding entry name_at is_padded
+attribute-reads [] = refl
+attribute-reads (a ∷ []) = refl
+attribute-reads (a ∷ (b ∷ r)) = name-read r (attribute a b)
+
+value-reads : (r : List ℕ) → entry 82 r ≡ need (is_padded (name_at (82 ∷ r) 5) (drop 5 (82 ∷ r))) (ok (value (bytes_at (82 ∷ r)) (name_at (82 ∷ r) 5)) (drop 17 (82 ∷ r)))
+unfolding entry name_at is_padded
+value-reads [] = refl
+value-reads (a ∷ []) = refl
+value-reads (a ∷ (b ∷ [])) = refl
+value-reads (a ∷ (b ∷ (c ∷ []))) = refl
+value-reads (a ∷ (b ∷ (c ∷ (d ∷ r)))) = name-read r (value (record { b0 = a; b1 = b; b2 = c; b3 = d }))
+
 -- of each kind
 module _ (r : List ℕ) where
   abbrev relation_here : Entry
   relation_here = relation (get_or r 0 0) (name_at (80 ∷ r) 2)
-
-  relation-reads : entry 80 r ≡ need (is_padded (name_at (80 ∷ r) 2) (drop 2 (80 ∷ r))) (ok relation_here (drop 14 (80 ∷ r)))
-  unfolding entry name_at is_padded
-  relation-reads = elim r [ [] ↦ refl | a ∷ r ↦ name-read r (relation a) ]
 
   relation-once : (w : Word) (q : ℕ) (y : List ℕ) → listed_once (relation q w ∷ entries y) ≡ (not (ltb 0 (length (seek (is_named 80 q w) y))) && listed_once (entries y))
   unfolding listed_once concat_map unique_words relation_named
@@ -96,14 +111,10 @@ module _ (r : List ℕ) where
 
   first-relation : First 80 r relation_here
   unfolding entry_at place_of
-  first-relation = record { at = refl; reads = relation-reads; once = relation-once (name_at (80 ∷ r) 2) (get_or r 0 0) }
+  first-relation = record { at = refl; reads = relation-reads r; once = relation-once (name_at (80 ∷ r) 2) (get_or r 0 0) }
 
   abbrev attribute_here : Entry
   attribute_here = attribute (get_or r 0 0) (get_or r 1 0) (name_at (81 ∷ r) 3)
-
-  attribute-reads : entry 81 r ≡ need (is_padded (name_at (81 ∷ r) 3) (drop 3 (81 ∷ r))) (ok attribute_here (drop 15 (81 ∷ r)))
-  unfolding entry name_at is_padded
-  attribute-reads = elim r [ [] ↦ refl | a ∷ r ↦ elim r [ [] ↦ refl | b ∷ r ↦ name-read r (attribute a b) ] ]
 
   attribute-once : (w : Word) (q a : ℕ) (y : List ℕ) → listed_once (attribute q a w ∷ entries y) ≡ (not (ltb 0 (length (seek (is_named 81 q w) y))) && listed_once (entries y))
   unfolding listed_once concat_map unique_words attribute_named
@@ -113,17 +124,10 @@ module _ (r : List ℕ) where
 
   first-attribute : First 81 r attribute_here
   unfolding entry_at place_of
-  first-attribute = record { at = refl; reads = attribute-reads; once = attribute-once (name_at (81 ∷ r) 3) (get_or r 0 0) (get_or r 1 0) }
+  first-attribute = record { at = refl; reads = attribute-reads r; once = attribute-once (name_at (81 ∷ r) 3) (get_or r 0 0) (get_or r 1 0) }
 
   abbrev value_here : Entry
   value_here = value (bytes_at (82 ∷ r)) (name_at (82 ∷ r) 5)
-
-  value-reads : entry 82 r ≡ need (is_padded (name_at (82 ∷ r) 5) (drop 5 (82 ∷ r))) (ok value_here (drop 17 (82 ∷ r)))
-  unfolding entry name_at is_padded
-  value-reads = elim r [
-    | [] ↦ refl
-    | a ∷ r ↦ elim r [ [] ↦ refl | b ∷ r ↦ elim r [ [] ↦ refl | c ∷ r ↦ elim r [ [] ↦ refl | d ∷ r ↦ name-read r (value (record { b0 = a; b1 = b; b2 = c; b3 = d })) ] ] ]
-  ]
 
   value-once : (w : Word) (q : ℕ) (b : Bytes) (y : List ℕ) → listed_once (value b w ∷ entries y) ≡ (not (ltb 0 (length (seek (is_named 82 q w) y))) && listed_once (entries y))
   unfolding listed_once concat_map unique_words value_named
@@ -133,7 +137,7 @@ module _ (r : List ℕ) where
 
   first-value : First 82 r value_here
   unfolding entry_at place_of
-  first-value = record { at = refl; reads = value-reads; once = value-once (name_at (82 ∷ r) 5) (get_or r 0 0) (bytes_at (82 ∷ r)) }
+  first-value = record { at = refl; reads = value-reads r; once = value-once (name_at (82 ∷ r) 5) (get_or r 0 0) (bytes_at (82 ∷ r)) }
 
 -- of the first record: one of the three, or none, and then all is refused
 pub by_first : {X : Type 0} (k : ℕ) (r : List ℕ) → ((e : Entry) → (80 ≤ k) × (k ≤ 82) → First k r e → X) → ((k < 80) ⊎ (82 < k) → entry k r ≡ fail → X) → X

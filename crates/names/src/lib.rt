@@ -1,4 +1,6 @@
 // The lent name list (document 02, Change 1): checked whole, and looked up, by its bytes; nothing is copied.
+#![tactic(auto)]
+
 ghost use Rattle.std.specs.Prelude.{◌≡◌, true, not, ◌||◌, List, ℕ, ◌+◌, ◌*◌, ◌≤◌, ◌<◌, eqb, length, get_or, take, drop};
 ghost use Rattle.quel.specs.Results.{Word};
 ghost use Rattle.quel.specs.Names.{names, relation_named, attribute_named, value_named};
