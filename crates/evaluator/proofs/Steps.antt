@@ -1,22 +1,19 @@
 -- One level of the evaluation as an equation, and what a loop over rows keeps.
-use mathlib.Core.Path.{◌≡◌, refl, sym, ap, ap₂, ◌∙◌, fun_ext, subst, subst₂}
-use mathlib.Core.Bool.{Bool, true, false, not, cond, ◌&&◌, ◌||◌}
+use mathlib.Core.Path.{◌≡◌, refl, sym, ap, ap₂, ◌∙◌, subst, subst₂}
+use mathlib.Core.Bool.{Bool, true, false, not}
 use mathlib.Core.List.{List, [], ◌∷◌, ◌++◌, map}
 use mathlib.Core.Option.{some}
-use Prim.Native.Nat.{ℕ, zero, suc, ◌+◌, ◌-◌, ◌*◌, ◌≤◌, ◌<◌}
+use Prim.Native.Nat.{ℕ, zero, suc, ◌+◌, ◌-◌, ◌≤◌, ◌<◌}
 use native.Mathlib.Omega.{arith}
 use native.Mathlib.Numerals.{sub-one}
-use lib.Dec.{eqb}
 use lib.IntN.{ℤ, pos}
 use lib.ListN.{length, get_or, set, drop, length-set}
-use lib.Seq.{set-set, set-get_or, get_or-set_same, get_or-set_other}
-use borrow.Author.Tests.{eq-eqb, ne_eqb, eqb-true, eqb-false}
+use lib.Seq.{set-set, set-get_or}
 use Rattle.model.specs.Lists.{update, filter, any}
 use Rattle.model.specs.Search.{Search, search}
 use Rattle.model.proofs.Search.{search-found}
 use Rattle.model.proofs.Tests.{not_yes, not-no}
-use Rattle.model.specs.Syntax.{Condition, Term, TRUE, FALSE, NOT, AND, OR, COMPARE, SOME, CONSTANT, ATTRIBUTE, AGGREGATE}
-use Rattle.model.specs.Meaning.{Tuple, Assignment, Value, whole, signed, compare, aggregate, holds_with}
+use Rattle.model.specs.Meaning.{Tuple, Value, whole, signed, compare, aggregate, holds_with}
 use Rattle.kinds.specs.Tables.{record_length}
 use Rattle.kinds.specs.Places.{condition_at, term_at}
 use Rattle.kinds.specs.declared.ConditionRecord.{ConditionRecord}
@@ -31,7 +28,7 @@ use Rattle.walks.specs.declared.Walk.{Walk}
 use Rattle.walks.specs.Walks.{walk_of, place_at, walked, rows_by, kept}
 use Rattle.walks.proofs.Assigned.{get_or-inside, assigned-set}
 use Rattle.walks.proofs.Loops.{kept-start, kept-hit, kept-miss, kept-length}
-use Rattle.sizes.specs.Decode.{first, second, condition_by, term_by, nothing, decode, decode_t}
+use Rattle.sizes.specs.Decode.{first, second, condition_by, term_by, decode, decode_t}
 use Rattle.numbers.specs.Memo.{knows, recalled}
 use Rattle.numbers.specs.Recalled.{holds_by, value_by}
 use Rattle.evaluator.specs.Evaluation.{holds_at, value_at, holds_on, values_on}

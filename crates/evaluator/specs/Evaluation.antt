@@ -1,8 +1,7 @@
 -- What the bytes of a condition or a term mean over the rows of each variable, by the table ws among the values vs, with the memo m; `e` has the place of each variable's row among the values.
-use Rattle.std.specs.Prelude.{ℕ, Bool, List, map, ℤ, length, get_or}
+use Rattle.std.specs.Prelude.{ℕ, Bool, List, map, ℤ}
 use Rattle.model.specs.Lists.{update, filter}
-use Rattle.model.specs.Meaning.{Tuple, Assignment, Value}
-use Rattle.catalogue.specs.Layout.{tuple_at}
+use Rattle.model.specs.Meaning.{Tuple, Value}
 use Rattle.walks.specs.Assigned.{assigned}
 use Rattle.walks.specs.Walks.{walked, rows_by}
 use Rattle.sizes.specs.Decode.{decode, decode_t}

@@ -1,6 +1,8 @@
 // Conditions and terms evaluated over the bytes of a query. A table of sizes tells where a second child starts, so that
 // AND, OR and SOME are left as soon as their truth is known. The level falls at each call. An aggregate that the memo
 // knows, by its variable, is not evaluated again.
+#![tactic(auto)]
+
 ghost use Rattle.std.specs.Prelude.{◌≡◌, ◌≤◌, ◌<◌, length, get_or, set};
 ghost use Rattle.model.specs.Search.{search};
 ghost use Rattle.numbers.specs.Numbers.{value_of, Small, Accumulates};
