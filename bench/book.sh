@@ -5,9 +5,8 @@ set -euo pipefail
 cd "$(dirname "$0")/.."
 out=target/bench
 mkdir -p "$out"
-build() { rt staticlib "$1" >"$out/library.log" 2>&1 || { cat "$out/library.log" >&2; exit 1; }; }
-if [[ -z ${ENGINE:-} ]]; then build waldumre; ENGINE=target/staticlib/libwaldumre.a; fi
-if [[ -z ${BOOK:-} ]]; then build waldumre_book; BOOK=target/staticlib/libwaldumre_book.a; fi
+ENGINE=$(LIBRARY=${ENGINE:-} tools/library.sh)
+BOOK=$(LIBRARY=${BOOK:-} tools/library.sh waldumre_book)
 gcc -std=c11 -D_GNU_SOURCE -O2 -g -Wall -Wextra -Wpedantic -Werror -Iinclude \
   bench/src/book.c bench/src/measure.c "$ENGINE" "$BOOK" -o "$out/book"
 

@@ -7,11 +7,7 @@ cd "$(dirname "$0")/.."
 need gcc python3
 mkdir -p target/bench
 python3 bench/make.py target/bench/inputs
-if [[ -z ${LIBRARY:-} ]]; then
-  need rt
-  rt staticlib waldumre >target/bench/library.log 2>&1 || { cat target/bench/library.log; exit 1; }
-  LIBRARY=target/staticlib/libwaldumre.a
-fi
+LIBRARY=$(tools/library.sh)
 build=(gcc -std=c11 -D_GNU_SOURCE -O2 -g -Wall -Wextra -Wpedantic -Werror -Iinclude)
 common=(bench/src/load.c bench/src/engine.c bench/src/measure.c "$LIBRARY")
 loops=(bench/src/loops.c bench/src/loops_n.c)

@@ -5,10 +5,7 @@ set -euo pipefail
 cd "$(dirname "$0")/.."
 out=target/bench
 mkdir -p "$out"
-if [[ -z ${LIBRARY:-} ]]; then
-  rt staticlib waldumre >"$out/library.log" 2>&1 || { cat "$out/library.log" >&2; exit 1; }
-  LIBRARY=target/staticlib/libwaldumre.a
-fi
+LIBRARY=$(tools/library.sh)
 # symbols are bound at the start, or the first call of memset would be counted with the loader's work
 gcc -std=c11 -D_GNU_SOURCE -O2 -g -Wall -Wextra -Wpedantic -Werror -Iinclude \
   bench/src/text.c bench/src/engine.c bench/src/load.c bench/src/measure.c "$LIBRARY" -Wl,-z,now -o "$out/text"

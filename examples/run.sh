@@ -5,10 +5,10 @@
 set -eu
 cd "$(dirname "$0")/.."
 . tools/need.sh
-need rt od sed
+need make rt od sed
 folder=${1:-examples/offers}
 [[ -d $folder ]] || { echo "run.sh: there is no folder $folder" >&2; exit 2; }
-tools/prove.sh check program || exit 2
+make --silent target/bin/program || exit 2
 program=$PWD/target/bin/program
 printed=$(cd "$folder" && "$program")
 echo "the question:"

@@ -17,7 +17,7 @@ for log in [word for word in sys.argv[1:] if '=' not in word]:
 
 seconds.update(by_hand)
 os.chdir(os.path.join(os.path.dirname(os.path.abspath(__file__)), '..'))
-crates = [line.split(':')[0].strip() for line in open('crates.txt') if ':' in line.split('#')[0]]
+crates = [line.split(':')[0].split()[0] for line in open('crates.txt') if ':' in line.split('#')[0]]
 
 
 def lines(crate, kinds):

@@ -1,6 +1,6 @@
 #!/usr/bin/env bash
-# Prints where the static library is, and before that proves and builds it if it is missing or older than a file of crates/.
-# LIBRARY=FILE takes that file instead.
+# library.sh [NAME]: prints where the static library is (waldumre if none is named), and before that proves and builds it if it is missing
+# or older than a file of crates/. LIBRARY=FILE takes that file instead.
 set -eu
 cd "$(dirname "$0")/.."
 if [[ -n ${LIBRARY:-} ]]; then
@@ -10,5 +10,6 @@ if [[ -n ${LIBRARY:-} ]]; then
 fi
 . tools/need.sh
 need make rt
-make --silent target/staticlib/libwaldumre.a >&2
-echo target/staticlib/libwaldumre.a
+archive=target/staticlib/lib${1:-waldumre}.a
+make --silent "$archive" >&2
+echo "$archive"

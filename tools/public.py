@@ -11,7 +11,7 @@ def listed():
         line = line.split('#')[0]
         if ':' in line:
             name, needs = line.split(':')
-            crates[name.strip()] = needs.split()
+            crates[name.split()[0]] = needs.split()
     return crates
 
 
