@@ -7,15 +7,14 @@ use mathlib.Core.Path.{◌≡◌, refl, sym, ap, ap₂, ◌∙◌, fun_ext}
 use native.Mathlib.Omega.{arith}
 use native.Mathlib.Numerals.{sub-one}
 use lib.Dec.{eqb, leb}
-use lib.IntN.{ℤ}
 use lib.ListN.{length, get_or, drop}
 use lib.Seq.{drop-drop, get_or-drop}
 use borrow.Author.Tests.{ne_eqb}
 use Rattle.model.specs.Kinds.{Kind, k-range, k-true, k-false, k-not, k-and, k-or, k-compare, k-some, k-constant, k-attribute, k-aggregate, k-permit, kinds, code, find, kind_of, body_length, child_conditions, child_terms}
 use Rattle.model.proofs.Lists.{first-at}
 use Rattle.model.specs.Lists.{update, filter, any, contains}
-use Rattle.model.specs.Syntax.{Condition, Term, TRUE, FALSE, NOT, AND, OR, COMPARE, SOME, CONSTANT, ATTRIBUTE, AGGREGATE, Binding, variables}
-use Rattle.model.specs.Meaning.{Tuple, Assignment, Rows, whole, compare, aggregate, known_or, holds_with}
+use Rattle.model.specs.Syntax.{Binding, variables}
+use Rattle.model.specs.Meaning.{Tuple, Assignment, whole, compare, aggregate, known_or, holds_with}
 use Rattle.model.proofs.Reading.{find-inv}
 use Rattle.model.proofs.Tests.{or_no}
 use Rattle.kinds.specs.Tables.{record_length, conditions_of, terms_of, of_kind}
@@ -27,7 +26,7 @@ use Rattle.kinds.proofs.Entries.{of_none, of_some}
 use Rattle.sizes.specs.Decode.{decode, decode_t, condition_by, term_by, first, second}
 use Rattle.sizes.specs.Measured.{children_of}
 use Rattle.sizes.specs.Parts.{ranges_at}
-use Rattle.sizes.proofs.Decoding.{decode-zero, decode_t-zero, decode-step, decode_t-step}
+use Rattle.sizes.proofs.Decoding.{decode-step, decode_t-step}
 use Rattle.numbers.specs.Recalled.{recall, holds_by, value_by}
 use Rattle.conjuncts.specs.Stages.{Extends}
 use Rattle.conjuncts.specs.Filling.{Stable, StableT, Settled}

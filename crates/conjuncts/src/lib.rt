@@ -1,5 +1,7 @@
 // The condition of a query, split at its ANDs into conjuncts. Each is compiled into branches before those of its stage, so that it is tried as
 // soon as the range variables it uses are bound (specs/Stages).
+#![tactic(auto)]
+
 ghost use Rattle.std.specs.Prelude.{◌≡◌, ℕ, ◌+◌, ◌*◌, ◌≤◌, ◌<◌, ℤ, length, get_or, drop, List, true, false};
 ghost use Rattle.model.specs.Lists.{contains};
 ghost use Rattle.model.specs.Syntax.{TRUE, variables};
