@@ -1,18 +1,18 @@
 -- Of a well-formed query: the table is filled exactly if its levels are within the bound, and then the parts read with the table are the query's.
 use mathlib.Core.Path.{◌≡◌, refl, sym, ap, ap₂, ◌∙◌, subst}
 use mathlib.Core.List.{List, [], ◌∷◌}
-use Prim.Native.Nat.{ℕ, suc, ◌+◌, ◌-◌, ◌*◌, ◌≤◌, ◌<◌}
+use Prim.Native.Nat.{ℕ, ◌+◌, ◌*◌, ◌≤◌, ◌<◌}
 use native.Mathlib.Omega.{arith}
 use lib.ListN.{length, get_or, drop}
 use lib.Seq.{drop-drop}
-use Rattle.model.specs.Syntax.{Term, CONSTANT, ATTRIBUTE, AGGREGATE, Binding, Query, WellFormed, WellFormedT, Targets, WellFormedQ, levels, levels_ts, levels_q}
+use Rattle.model.specs.Syntax.{Term, CONSTANT, ATTRIBUTE, AGGREGATE, Binding, Query, WellFormed, WellFormedT, Targets, WellFormedQ, levels_ts, levels_q}
 use Rattle.model.specs.Encoding.{encode, encode_t, encode_targets, encode_ranges, encode_query, ok, read_condition, read_term}
 use Rattle.model.proofs.Reading.{read-encode, read-encode_t}
-use Rattle.model.proofs.Sizes.{size, size_t, size_ts, drop-encode_t, drop-ranges}
+use Rattle.model.proofs.Sizes.{size_t, size_ts, drop-encode_t, drop-ranges}
 use Rattle.sizes.specs.declared.Size.{Size}
 use Rattle.sizes.specs.declared.Size.TheVariants.{Bytes}
 use Rattle.sizes.specs.Decode.{decode}
-use Rattle.sizes.specs.Measured.{Measured, leaves, onward, condition_table, term_size, term_table}
+use Rattle.sizes.specs.Measured.{Measured, onward, condition_table, term_size, term_table}
 use Rattle.sizes.proofs.Sized.{SizedT, sized-head_t, Agree}
 use Rattle.sizes.proofs.Decoding.{decode-encode, decode-encode_t, condition-before, condition-sized, term-size, term-rest, term-length, term-before, term-sized, sized-kept_t}
 use Rattle.sizes.specs.Parts.{targets_at, ranges_at}

@@ -2,10 +2,10 @@
 use mathlib.Core.Path.{◌≡◌, refl, sym, ap, ap₂, ◌∙◌, subst}
 use mathlib.Core.Bool.{Bool, true, false, not, cond}
 use mathlib.Core.List.{List, [], ◌∷◌}
-use Prim.Native.Nat.{ℕ, ◌+◌, ◌-◌, ◌*◌, ◌≤◌, ◌<◌}
+use Prim.Native.Nat.{ℕ, ◌+◌, ◌*◌, ◌≤◌, ◌<◌}
 use native.Mathlib.Omega.{arith}
 use lib.ListN.{length, get_or, drop, length-drop}
-use Rattle.model.specs.Syntax.{Term, Query, Targets, levels, levels_q}
+use Rattle.model.specs.Syntax.{Term, Query, Targets, levels_q}
 use Rattle.model.proofs.Lists.{nothing_left, first-at}
 use Rattle.model.specs.Encoding.{encode, encode_targets, ok, read_query}
 use Rattle.model.specs.Catalogue.{Shape}
@@ -24,7 +24,7 @@ use Rattle.grammar.specs.Shapes.{layout}
 use Rattle.grammar.proofs.Whole.{targets-place}
 use Rattle.queries.specs.declared.Run.{Run}
 use Rattle.queries.specs.declared.Run.TheVariants as T
-use Rattle.queries.specs.declared.Found.TheVariants.{Whole, Refused}
+use Rattle.queries.specs.declared.Found.TheVariants.{Refused}
 use Rattle.queries.specs.Found.{Targeted, Standing, Leads, TargetsFound, RestFound, Rest}
 use Rattle.queries.proofs.Targeting.{target-byte}
 

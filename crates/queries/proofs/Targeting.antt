@@ -8,7 +8,7 @@ use lib.ListN.{length, get_or, drop}
 use lib.Seq.{drop-drop}
 use Rattle.model.specs.Lists.{all}
 use Rattle.model.proofs.Lists.{first-at}
-use Rattle.model.specs.Syntax.{Condition, Term, TRUE, FALSE, NOT, AND, OR, COMPARE, SOME, CONSTANT, ATTRIBUTE, AGGREGATE, Binding, Query, Targets, WellFormed, WellFormedT, levels_ts}
+use Rattle.model.specs.Syntax.{Condition, Term, TRUE, FALSE, NOT, AND, OR, COMPARE, SOME, CONSTANT, ATTRIBUTE, AGGREGATE, Binding, Query, Targets, WellFormedT, levels_ts}
 use Rattle.model.specs.Encoding.{encode, encode_t, encode_targets, encode_ranges, encode_query}
 use Rattle.model.specs.Catalogue.{Shape}
 use Rattle.model.specs.Scope.{Scope}

@@ -2,13 +2,13 @@
 use mathlib.Core.Path.{◌≡◌, refl, sym, ap, ap₂, ◌∙◌, subst}
 use mathlib.Core.Bool.{Bool, true, false, not, cond, ◌&&◌, ◌||◌}
 use mathlib.Core.List.{List, [], ◌∷◌}
-use Prim.Native.Nat.{ℕ, zero, suc, ◌+◌, ◌-◌, ◌*◌, ◌≤◌, ◌<◌}
+use Prim.Native.Nat.{ℕ, ◌+◌, ◌*◌, ◌≤◌, ◌<◌}
 use native.Mathlib.Omega.{arith}
 use lib.Dec.{ltb}
 use lib.ListN.{length, get_or, drop, length-drop, replicate}
 use borrow.Author.Tests.{le-ltb, lt-ltb, ltb-false}
 use Rattle.model.specs.Lists.{all, unique}
-use Rattle.model.specs.Syntax.{Binding, Term, Query, Targets, WellFormedQ, bindings_q, levels, levels_q, variables}
+use Rattle.model.specs.Syntax.{Binding, Term, Query, Targets, WellFormedQ, bindings_q, levels_q, variables}
 use Rattle.model.specs.Encoding.{encode, encode_targets, encode_ranges, encode_query, Read as Reads, fail, ok, failed, read_or, read_query, query_of}
 use Rattle.model.specs.Catalogue.{Shape, shape_of, catalogue_of}
 use Rattle.model.specs.Scope.{Scope, known_binding, in_scope, in_scope_t, range_scope, query_in_scope, bound_once}
@@ -16,7 +16,6 @@ use Rattle.model.specs.Checks.{fails10, fails30, fails31, fails32, query_checks,
 use Rattle.model.proofs.Tests.{clash, not-no, not_yes, or_no, or_right}
 use Rattle.model.proofs.ReadingQueries.{IsQ, read-query, query-inverse}
 use Rattle.model.proofs.Sizes.{size-targets}
-use Rattle.kinds.specs.Tables.{record_length}
 use Rattle.sizes.specs.Parts.{ranges_at}
 use Rattle.scans.specs.Flat.{flat_bindings}
 use Rattle.scans.proofs.Whole.{bindings-query, once-query}

@@ -1,7 +1,6 @@
 -- The table of sizes of a whole query: its targets one after the other, then its condition.
 use Rattle.std.specs.Prelude.{ℕ, zero, suc, ◌+◌, List, drop}
-use Rattle.sizes.specs.declared.Size.{Size}
-use Rattle.sizes.specs.declared.Size.TheVariants.{Bytes, Refused}
+use Rattle.sizes.specs.declared.Size.TheVariants.{Bytes}
 use Rattle.sizes.specs.Measured.{Measured, leaves, onward, condition_size, condition_table, term_size, term_table}
 
 -- n targets from place p on: the place after them, and the table that is left behind

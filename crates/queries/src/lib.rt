@@ -1,5 +1,7 @@
 // The checks of a query (30, 31, 32), and its table of sizes, from one reading. Only where it finds no query within the limits does the grammar say
 // whether the query is ill formed or too large.
+#![tactic(auto)]
+
 ghost use Rattle.std.specs.Prelude.{◌≡◌, cond, true, false, ◌&&◌, ◌≤◌, ◌<◌, length, drop};
 ghost use Rattle.model.specs.Lists.{all};
 ghost use Rattle.model.specs.Syntax.{variables};
