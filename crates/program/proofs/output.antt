@@ -1,4 +1,4 @@
 pub mod Reading
 pub mod Parts
-pub mod Answers
+pub mod Outcomes
 pub mod Cut

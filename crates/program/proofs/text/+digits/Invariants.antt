@@ -1,0 +1,4 @@
+use Rattle.program.proofs.text.+digits.Given as goal
+
+abbrev pub decreases-digits : goal.decreases-digits
+decreases-digits l = l.k
