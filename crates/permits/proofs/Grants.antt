@@ -2,7 +2,6 @@
 use mathlib.Core.Path.{◌≡◌, refl, sym, ap, ap₂, ◌∙◌, subst}
 use mathlib.Core.Bool.{Bool, true, false, not, cond, ◌&&◌, ◌||◌}
 use mathlib.Core.List.{List, [], ◌∷◌}
-use mathlib.Core.Option.{some}
 use Prim.Native.Nat.{ℕ, suc, ◌+◌, ◌-◌, ◌≤◌, ◌<◌}
 use native.Mathlib.Nat.{zero-add}
 use native.Mathlib.Omega.{arith}
@@ -10,7 +9,7 @@ use lib.Dec.{ltb}
 use lib.ListN.{length, drop, take, set, replicate, length-drop}
 use lib.Seq.{drop-drop}
 use borrow.Author.Tests.{le-leb, leb-true, lt-ltb, le-ltb, ltb-false}
-use Rattle.model.specs.Lists.{any, all, unique, contains}
+use Rattle.model.specs.Lists.{all, unique}
 use Rattle.model.proofs.Lists.{nothing_left}
 use Rattle.model.specs.Syntax.{Condition, Binding, Permit, WellFormed, WellFormedPs, bindings, variables, levels}
 use Rattle.model.specs.Encoding.{encode, encode_permit, encode_permits, ok, read_condition, permits_read, permits_of}

@@ -1,4 +1,6 @@
 // The permit list: its checks 20 to 23, from one reading.
+#![tactic(auto)]
+
 ghost use Rattle.std.specs.Prelude.{◌≡◌, false, cond, not, ◌&&◌, ◌||◌, ◌+◌, ◌≤◌, ◌<◌, length, take, ltb};
 ghost use Rattle.model.specs.Lists.{all};
 ghost use Rattle.model.specs.Syntax.{variables};
