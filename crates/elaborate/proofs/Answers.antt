@@ -1,12 +1,12 @@
 -- What is written, against what the definition says: by way of a draft, or straight into the buffer.
 use Prim.Native.Nat.{ℕ, ◌+◌, ◌≤◌, ◌<◌}
-use mathlib.Core.List.{List, [], ◌++◌}
-use mathlib.Core.Path.{◌≡◌, refl, sym, ap, ap₂, ◌∙◌, subst}
+use mathlib.Core.List.{List, ◌++◌}
+use mathlib.Core.Path.{◌≡◌, refl, sym, ap, ap₂, ◌∙◌}
 use native.Mathlib.Omega.{arith}
 use lib.ListN.{length, take, drop}
 use lib.Seq.{sets, sets-eq, take-append_seam}
 use borrow.Author.Tests.{le-leb, lt-leb}
-use Rattle.quel.specs.Results.{Read, fail, ok}
+use Rattle.quel.specs.Results.{fail, ok}
 use Rattle.quel.specs.Writing.{Written}
 use Rattle.quel.specs.ReadText.{refused, written}
 use Rattle.quel.proofs.Results.{never, ok-value, ok-left}

@@ -1,5 +1,5 @@
 -- The parts of flat_text, one after the other.
-use Prim.Native.Nat.{ℕ, suc, ◌+◌, ◌*◌, ◌≤◌, ◌<◌}
+use Prim.Native.Nat.{ℕ, ◌+◌, ◌*◌, ◌≤◌, ◌<◌}
 use mathlib.Core.Bool.{Bool, true, false, not, cond}
 use mathlib.Core.List.{List, [], ◌∷◌, map}
 use mathlib.Core.Option.{none}
@@ -9,7 +9,7 @@ use lib.Dec.{eqb}
 use lib.ListN.{length, get_or}
 use native.Mathlib.Omega.{arith}
 use lib.Seq.{sets}
-use Rattle.quel.specs.Results.{Read, fail, ok, then, need, Word, same_word, unique_words}
+use Rattle.quel.specs.Results.{fail, ok, then, need, Word, same_word, unique_words}
 use Rattle.quel.specs.Tokens.{Token}
 use Rattle.quel.specs.Names.{Entry}
 use Rattle.quel.specs.Elaboration.{Symbol, ranges_of}

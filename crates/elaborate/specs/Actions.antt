@@ -1,13 +1,12 @@
 -- What the loop of quel's Writing does at a token, by numbers: its mode, the token's kind, and whether a point follows.
-use Rattle.std.specs.Prelude.{ℕ, suc, ◌/◌, ◌%◌, Bool, true, false, cond, ◌&&◌, ◌||◌, List, [], ◌∷◌, map, eqb, leb}
+use Rattle.std.specs.Prelude.{ℕ, suc, ◌/◌, ◌%◌, Bool, cond, ◌&&◌, ◌||◌, List, ◌∷◌, eqb, leb}
 use Rattle.std.proofs.Math.Option.{Option, none, some}
 use Rattle.model.specs.Encoding.{encode_t}
 use Rattle.quel.specs.Results.{found, Word}
 use Rattle.quel.specs.Ahead.{Mode, at-condition, at-conjunct, at-factor, at_rest, in_some, in-attribute, in-aggregate}
 use Rattle.quel.specs.Names.{Entry, Bytes, relation_named, attribute_named, value_named}
-use Rattle.quel.specs.Elaboration.{Symbol, symbol_in, inside, head_only, as_byte, constant}
+use Rattle.quel.specs.Elaboration.{Symbol, symbol_in, inside, as_byte, constant}
 use Rattle.quel.specs.Writing.{Written, before, Reaches, inner, around, use_of, value_of, some_of}
-use Rattle.kinds.specs.declared.Record.{Record}
 use Rattle.kinds.specs.declared.Record.TheVariants as R
 use Rattle.elaborate.specs.declared.reach.Known.{Known}
 use Rattle.elaborate.specs.declared.reach.Known.TheVariants as K

@@ -1,7 +1,7 @@
 -- What a turn of the loop over a text's tokens leaves: a buffer and a place, with the rest of the loop still to be written there.
-use Rattle.std.specs.Prelude.{ℕ, ◌+◌, ◌≤◌, ◌<◌, cond, List, [], ◌≡◌, eqb, length}
+use Rattle.std.specs.Prelude.{ℕ, ◌+◌, ◌≤◌, ◌<◌, cond, List, ◌≡◌, eqb, length}
 use Rattle.std.proofs.lemmas.List.Edits.{sets}
-use Rattle.quel.specs.Results.{Read, fail, ok}
+use Rattle.quel.specs.Results.{fail, ok}
 use Rattle.quel.specs.Names.{Entry}
 use Rattle.quel.specs.Ahead.{Mode, at-condition, at-conjunct, at-factor, at_rest, in_some, in-attribute, in-aggregate}
 use Rattle.quel.specs.Writing.{Written, Reaches, loop}

@@ -1,6 +1,6 @@
 -- What is returned, with the buffer afterwards, as the definition's reading.
 use Rattle.std.specs.Prelude.{ℕ, List}
-use Rattle.quel.specs.Results.{Read, fail, ok}
+use Rattle.quel.specs.Results.{fail, ok}
 use Rattle.quel.specs.ReadText.{Reading, refused, written}
 use Rattle.quel.specs.Writing.{Written}
 use Rattle.flat.specs.Flat.{flat_text}

@@ -1,6 +1,6 @@
 -- How the loop over a text's tokens ends: all is written but what stands after the last token.
 use Rattle.std.specs.Prelude.{ℕ, ◌+◌, ◌≤◌, List, [], ◌∷◌, ◌≡◌}
-use Rattle.quel.specs.Results.{Read, fail, ok}
+use Rattle.quel.specs.Results.{fail, ok}
 use Rattle.quel.specs.Names.{Entry}
 use Rattle.quel.specs.Elaboration.{Symbol}
 use Rattle.quel.specs.Ahead.{at_rest}

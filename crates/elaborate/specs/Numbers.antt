@@ -1,5 +1,5 @@
 -- Names as numbers, 0 for none, and tables of marks by these numbers. w says the name at each place, no letters where there is none.
-use Rattle.std.specs.Prelude.{ℕ, ◌+◌, ◌≤◌, ◌<◌, Bool, true, false, not, cond, ◌||◌, List, ◌⊎◌, ◌≡◌, eqb, length, get_or, set}
+use Rattle.std.specs.Prelude.{ℕ, ◌≤◌, ◌<◌, Bool, true, false, not, cond, List, ◌⊎◌, ◌≡◌, eqb, length, get_or, set}
 use Rattle.model.specs.Lists.{any, Every}
 use Rattle.quel.specs.Results.{Word, same_word, has_word}
 use Rattle.tokens.specs.Table.{Table}

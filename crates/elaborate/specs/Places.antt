@@ -1,5 +1,5 @@
 -- A text's tokens from a place on, and what the code asks of one place.
-use Rattle.std.specs.Prelude.{ℕ, zero, suc, ◌+◌, ◌-◌, Bool, true, false, cond, ◌&&◌, List, [], eqb, leb, ltb, length, get_or, drop}
+use Rattle.std.specs.Prelude.{ℕ, ◌+◌, ◌-◌, Bool, true, cond, ◌&&◌, List, [], eqb, leb, ltb, length, get_or, drop}
 use Rattle.quel.specs.Results.{Word}
 use Rattle.quel.specs.Tokens.{Token, is_letter, run}
 use Rattle.tokens.specs.Table.{Table, tokens_at}

@@ -1,7 +1,7 @@
 -- What is written at a token and what is in reach after it, by the token's record.
-use Rattle.std.specs.Prelude.{ℕ, suc, ◌+◌, Bool, true, false, cond, ◌||◌, List, [], ◌∷◌, ◌++◌, map, ◌≡◌, eqb}
-use Rattle.std.proofs.Math.Option.{Option, none, some}
-use Rattle.quel.specs.Results.{Read, fail, ok, Word}
+use Rattle.std.specs.Prelude.{ℕ, suc, cond, ◌||◌, ◌∷◌, ◌++◌, map, eqb}
+use Rattle.std.proofs.Math.Option.{some}
+use Rattle.quel.specs.Results.{fail, Word}
 use Rattle.quel.specs.Elaboration.{Symbol, head_only}
 use Rattle.quel.specs.Writing.{Written, before, Reaches, inner, around}
 use Rattle.kinds.specs.declared.Record.{Record}

@@ -1,8 +1,8 @@
 -- What a token of the RANGE list leaves: its symbols so far, and a buffer and a place at which the rest is still to be written.
-use Rattle.std.specs.Prelude.{ℕ, ◌+◌, ◌*◌, ◌≤◌, ◌<◌, Bool, not, cond, List, [], ◌∷◌, ◌++◌, map, ◌≡◌, eqb, length, get_or}
+use Rattle.std.specs.Prelude.{ℕ, ◌+◌, ◌*◌, ◌≤◌, ◌<◌, not, cond, List, [], ◌++◌, map, ◌≡◌, eqb, length, get_or}
 use Rattle.std.proofs.Math.Option.{Option, none, some}
 use Rattle.model.specs.Encoding.{encode_ranges}
-use Rattle.quel.specs.Results.{Read, fail, ok, then, Word}
+use Rattle.quel.specs.Results.{Read, fail, then, Word}
 use Rattle.quel.specs.Names.{Entry}
 use Rattle.quel.specs.Elaboration.{Symbol, ranges_of}
 use Rattle.quel.specs.Writing.{Written, before}

@@ -1,6 +1,6 @@
 -- A refusal, or the buffer and the place after what was written.
 use Rattle.std.specs.Prelude.{ℕ, true, List, ◌≡◌}
-use Rattle.quel.specs.Results.{Read, fail, ok, unique_words}
+use Rattle.quel.specs.Results.{fail, ok, unique_words}
 use Rattle.quel.specs.Writing.{Written}
 use Rattle.tokens.specs.Table.{Table}
 use Rattle.flat.specs.Flat.{binders}

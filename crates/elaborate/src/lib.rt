@@ -1,4 +1,6 @@
 // The records of a text's tokens, with names numbered and looked up.
+#![tactic(auto)]
+
 mod ahead;
 mod binds;
 mod frames;

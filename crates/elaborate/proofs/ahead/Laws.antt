@@ -1,22 +1,22 @@
 -- A token counts by its kind, and the four numbers of a place follow from those after it.
 use Prim.Native.Nat.{ℕ, zero, suc, ◌+◌, ◌-◌, ◌≤◌, ◌<◌}
 use mathlib.Core.Bool.{Bool, true, false, cond, ◌&&◌}
-use mathlib.Core.List.{List, [], ◌∷◌, map}
+use mathlib.Core.List.{List, [], ◌∷◌}
 use mathlib.Core.Path.{◌≡◌, refl, sym, ap, ◌∙◌, subst}
 use native.Mathlib.Nat.{add-zero}
 use native.Mathlib.Omega.{arith}
 use native.Mathlib.Numerals.{add-one}
 use lib.Dec.{eqb, leb}
-use lib.ListN.{length, drop, get_or, set, get_or-eq_default, length-drop, length-map, length-set}
+use lib.ListN.{length, drop, get_or, set, get_or-eq_default, length-drop}
 use borrow.Author.Tests.{ne_eqb, lt-leb, le-leb, leb-true, eqb-true, eqb-false}
-use lib.Seq.{drop-cons, drop-drop, drop-length, drop-nil, get_or-set_same, get_or-set_other}
+use lib.Seq.{drop-cons, drop-drop, drop-length, get_or-set_same, get_or-set_other}
 use Rattle.quel.specs.Results.{Word}
 use Rattle.quel.specs.Tokens.{Token, key, point, Sign, equal, unequal, less, at_most, more, at_least}
 use Rattle.quel.specs.Elaboration.{operator_of}
 use Rattle.quel.specs.Ahead.{Count, ahead, top, outer, count, one_sign, one_or, one_and, fresh, ors_at, ands_at, operator_at}
 use Rattle.model.proofs.Tests.{and-inv}
 use Rattle.tokens.specs.Table.{Table, fixed, token_of, token_at, tokens_at}
-use Rattle.elaborate.specs.Counts.{ors_in, ands_in, sign_in, skip_in, kind_in, plain, Place, Stepped, Counted}
+use Rattle.elaborate.specs.Counts.{ors_in, ands_in, sign_in, skip_in, kind_in, plain, Place, Stepped}
 
 -- the kinds of signs are 7 to 12
 abbrev pub sign_of : ℕ → Sign

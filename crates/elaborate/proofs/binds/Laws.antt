@@ -1,5 +1,5 @@
 -- Steps of the RANGE list.
-use Prim.Native.Nat.{ℕ, zero, suc, ◌+◌, ◌-◌, ◌≤◌, ◌<◌}
+use Prim.Native.Nat.{ℕ, suc, ◌+◌, ◌≤◌, ◌<◌}
 use mathlib.Core.Bool.{Bool, true, false, not, cond, ◌&&◌}
 use mathlib.Core.List.{List, [], ◌∷◌, ◌++◌, map, map-append, append_assoc, append-nil}
 use mathlib.Core.Option.{Option, none, some}
@@ -13,7 +13,6 @@ use borrow.Author.Tests.{ne_eqb, eqb-true, eqb-false}
 use Rattle.model.specs.Lists.{concat_map}
 use Rattle.model.specs.Encoding.{encode_ranges}
 use Rattle.quel.specs.Results.{Read, fail, ok, then, found, Word, has_word}
-use Rattle.quel.specs.Tokens.{Token}
 use Rattle.quel.specs.Names.{Entry, relation_named}
 use Rattle.quel.specs.Elaboration.{Symbol, as_byte, ranges_of}
 use Rattle.quel.specs.Writing.{Written, before}
@@ -32,7 +31,7 @@ use Rattle.elaborate.proofs.turns.Laws.{ended-before}
 use Rattle.elaborate.specs.declared.binds.Tally.{Tally}
 use Rattle.elaborate.specs.declared.binds.Ranges.{Ranges}
 use Rattle.elaborate.specs.declared.binds.Ranges.TheVariants as R
-use Rattle.elaborate.specs.Tallies.{listing, open_relation, symbols_in, bound_from, to_do, after_token, Binds, after_all, Counts, Stands, Tells, Adds, Fills}
+use Rattle.elaborate.specs.Tallies.{listing, open_relation, symbols_in, bound_from, to_do, after_token, Binds, Counts, Stands, Tells, Adds, Fills}
 
 -- one symbol more
 module _ (es : List Entry) (d : List ℕ) (at : ℕ) (done : List Symbol) (F : List Symbol → ℕ → Written) (x : Word) (q : ℕ) where

@@ -1,25 +1,21 @@
 -- An action is its record, or a refusal; then the rest of the loop.
-use Prim.Native.Nat.{ℕ, zero, suc, ◌+◌, ◌-◌, ◌≤◌, ◌<◌}
-use mathlib.Core.Bool.{Bool, true, false, cond, ◌&&◌, ◌||◌}
-use mathlib.Core.List.{List, [], ◌∷◌, ◌++◌, map}
+use Prim.Native.Nat.{ℕ, zero, suc, ◌≤◌}
+use mathlib.Core.Bool.{Bool, true, false}
+use mathlib.Core.List.{List, [], ◌∷◌, map}
 use mathlib.Core.Option.{Option, none, some}
 use mathlib.Core.Path.{◌≡◌, refl, sym, ap, ap₂, ◌∙◌}
 use native.Mathlib.Omega.{arith}
 use lib.Dec.{eqb}
-use lib.ListN.{length, get_or}
 use borrow.Author.Tests.{ne_eqb, eqb-true}
 use Rattle.model.specs.Encoding.{encode_t}
-use Rattle.quel.specs.Results.{Read, fail, ok, found, Word, same_word}
+use Rattle.quel.specs.Results.{fail, ok, found, Word, same_word}
 use Rattle.quel.specs.Names.{Entry, Bytes, relation_named, attribute_named, value_named}
-use Rattle.quel.specs.Elaboration.{Symbol, symbol_in, head_only, inside, as_byte, constant}
+use Rattle.quel.specs.Elaboration.{Symbol, symbol_in, head_only, inside, as_byte}
 use Rattle.quel.specs.Writing.{Written, before, Reaches, inner, around}
 use Rattle.model.proofs.Tests.{clash, and-inv}
-use Rattle.kinds.specs.declared.Record.{Record}
-use Rattle.kinds.specs.declared.Record.TheVariants as R
 use Rattle.elaborate.specs.Reach.{known_of, known_by}
 use Rattle.elaborate.specs.declared.items.Item.{Item}
-use Rattle.elaborate.specs.declared.items.Item.TheVariants as I
-use Rattle.elaborate.specs.Actions.{use_item, head_item, use_by, head_by, some_by, value_by, constant_by, item_of, head_at, perform}
+use Rattle.elaborate.specs.Actions.{use_item, head_item, use_by, head_by, some_by, value_by, item_of, perform}
 use Rattle.elaborate.specs.Puts.{putting, symbol_by, reach_after, number_after, written}
 
 -- equal words are one word

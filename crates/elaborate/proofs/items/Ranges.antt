@@ -1,17 +1,16 @@
 -- A step of the loop over the RANGE list, by the kind of the token.
-use Prim.Native.Nat.{ℕ, zero, suc, ◌-◌, ◌≤◌}
+use Prim.Native.Nat.{ℕ, zero, suc, ◌≤◌}
 use mathlib.Core.Bool.{cond}
 use mathlib.Core.List.{List, [], ◌∷◌}
-use mathlib.Core.Option.{Option, none, some}
+use mathlib.Core.Option.{Option, none}
 use mathlib.Core.Path.{◌≡◌, refl}
 use native.Mathlib.Omega.{arith}
 use lib.Dec.{eqb}
-use lib.ListN.{length, get_or-eq_default}
 use borrow.Author.Tests.{ne_eqb}
-use Rattle.quel.specs.Results.{Read, ok, Word}
-use Rattle.quel.specs.Tokens.{Token, key, point}
+use Rattle.quel.specs.Results.{ok, Word}
+use Rattle.quel.specs.Tokens.{Token}
 use Rattle.quel.specs.Names.{Entry}
-use Rattle.tokens.specs.Table.{fixed, token_of}
+use Rattle.tokens.specs.Table.{token_of}
 use Rattle.flat.specs.Flat.{range_name, bound}
 use Rattle.elaborate.proofs.items.Turns.{past-token}
 

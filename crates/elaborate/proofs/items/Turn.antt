@@ -1,21 +1,20 @@
 -- A turn of quel's loop at a place of the arrays: what is opened, the token's record or a refusal, and the rest of the loop.
-use Prim.Native.Nat.{ℕ, zero, suc, ◌+◌, ◌-◌, ◌≤◌, ◌<◌}
-use mathlib.Core.Bool.{Bool, true, false, cond}
-use mathlib.Core.List.{List, [], ◌∷◌}
+use Prim.Native.Nat.{ℕ, ◌+◌, ◌-◌, ◌≤◌, ◌<◌}
+use mathlib.Core.Bool.{Bool, true, false}
+use mathlib.Core.List.{List, ◌∷◌}
 use mathlib.Core.Path.{◌≡◌, refl, sym, ap, ◌∙◌}
 use native.Mathlib.Omega.{arith}
 use lib.Dec.{eqb}
 use lib.ListN.{length, get_or}
 use borrow.Author.Tests.{eqb-true}
-use Rattle.quel.specs.Results.{Read, ok, Word}
+use Rattle.quel.specs.Results.{ok, Word}
 use Rattle.quel.specs.Tokens.{Token, point}
 use Rattle.quel.specs.Reader.{starts}
 use Rattle.quel.specs.Names.{Entry}
 use Rattle.quel.specs.Ahead.{Mode, next, word_at}
 use Rattle.quel.specs.Writing.{Written, Reaches, inner, loop}
-use Rattle.kinds.specs.declared.Record.{Record}
 use Rattle.tokens.specs.Table.{Table, token_of, word_in, token_at}
-use Rattle.elaborate.specs.Places.{tokens_from, name_in, point_in}
+use Rattle.elaborate.specs.Places.{tokens_from, point_in}
 use Rattle.elaborate.proofs.marks.Walks.{from_cons, from_end, here, here-is, word-from, point-from}
 use Rattle.elaborate.specs.Actions.{mode_number, action_of, item_of}
 use Rattle.elaborate.specs.Puts.{putting, reach_after, number_after, written}

@@ -1,18 +1,18 @@
 -- The numbers of modes and kinds say what quel's loop does.
-use Prim.Native.Nat.{ℕ, zero, suc, ◌+◌, ◌-◌, ◌≤◌, ◌<◌}
-use mathlib.Core.Bool.{Bool, true, false, cond, ◌&&◌, ◌||◌}
-use mathlib.Core.List.{List, [], ◌∷◌}
-use mathlib.Core.Path.{◌≡◌, refl, sym, ap, ◌∙◌}
+use Prim.Native.Nat.{ℕ, zero, suc, ◌-◌, ◌≤◌}
+use mathlib.Core.Bool.{Bool, true, false, cond, ◌&&◌}
+use mathlib.Core.List.{List, ◌∷◌}
+use mathlib.Core.Path.{◌≡◌, refl, ap, ◌∙◌}
 use native.Mathlib.Omega.{arith}
 use lib.Dec.{eqb, leb}
-use lib.ListN.{length, get_or-eq_default}
+use lib.ListN.{get_or-eq_default}
 use borrow.Author.Tests.{ne_eqb, lt-leb, le-leb}
 use Rattle.quel.specs.Results.{Word, fail, ok}
-use Rattle.quel.specs.Tokens.{Token, key, point, name}
+use Rattle.quel.specs.Tokens.{Token, key, point}
 use Rattle.quel.specs.Reader.{starts}
 use Rattle.quel.specs.Names.{Entry}
 use Rattle.quel.specs.Elaboration.{operator_of}
-use Rattle.quel.specs.Ahead.{Mode, at-condition, at-conjunct, at-factor, at_rest, in_some, in-attribute, in-aggregate, next, word_at, word_of, ors_at, ands_at, operator_at}
+use Rattle.quel.specs.Ahead.{Mode, at-condition, at-conjunct, at-factor, at_rest, in_some, in-attribute, in-aggregate, next, word_at, ors_at, ands_at, operator_at}
 use Rattle.quel.specs.Writing.{Written, before, often, Reaches, inner, name_of, bytes_rest, bytes_factor, bytes_aggregate, bytes}
 use Rattle.tokens.specs.Table.{fixed, token_of}
 use Rattle.elaborate.specs.Actions.{mode_number, action_of, rest_of, next_of, perform}

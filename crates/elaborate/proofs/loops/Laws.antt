@@ -3,15 +3,15 @@ use Prim.Native.Nat.{ℕ, ◌+◌, ◌≤◌, ◌<◌}
 use mathlib.Core.List.{List, [], ◌∷◌}
 use mathlib.Core.Path.{◌≡◌, refl, sym, ap, ◌∙◌, subst}
 use native.Mathlib.Omega.{arith}
-use lib.ListN.{length, get_or, set, drop}
+use lib.ListN.{length, set, drop}
 use lib.Seq.{get_or-set_same, get_or-set_other}
-use Rattle.quel.specs.Results.{Read, fail, ok, Word}
+use Rattle.quel.specs.Results.{fail, ok, Word}
 use Rattle.quel.specs.Names.{Entry}
 use Rattle.quel.specs.Elaboration.{Symbol}
 use Rattle.quel.specs.Ahead.{Mode, at_rest}
 use Rattle.quel.specs.Writing.{Written, Reaches, loop}
 use Rattle.tokens.specs.Table.{Table}
-use Rattle.elaborate.specs.Places.{tokens_from, name_in}
+use Rattle.elaborate.specs.Places.{tokens_from}
 use Rattle.elaborate.specs.Tables.{Holds}
 use Rattle.elaborate.proofs.items.Turn.{turn_end}
 use Rattle.elaborate.proofs.reach.Holds.{holds-open}

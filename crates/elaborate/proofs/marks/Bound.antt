@@ -13,7 +13,7 @@ use Rattle.quel.specs.Results.{Word, same_word, has_word, unique_words}
 use Rattle.tokens.specs.Table.{Table}
 use Rattle.flat.specs.Flat.{binding, binders}
 use Rattle.buckets.proofs.Laws.{none-again}
-use Rattle.elaborate.specs.Places.{table, tokens_from, name_in, part_kind, bound_place, binds_kind}
+use Rattle.elaborate.specs.Places.{table, tokens_from, part_kind, bound_place, binds_kind}
 use Rattle.elaborate.specs.Numbers.{Numbered, marked, Seen, Told}
 use Rattle.elaborate.proofs.marks.Walks.{from_end, here, bound-from, binding-other}
 use Rattle.elaborate.proofs.marks.Numbers.{mark-bound}

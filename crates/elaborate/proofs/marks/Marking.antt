@@ -9,7 +9,7 @@ use lib.Seq.{get_or-set_same, get_or-set_other}
 use native.Mathlib.Omega.{arith}
 use borrow.Author.Tests.{ne_eqb, eqb-true, eqb-false}
 use Rattle.model.proofs.Tests.{or-false}
-use Rattle.quel.specs.Results.{Word, same_word, has_word}
+use Rattle.quel.specs.Results.{same_word, has_word}
 use Rattle.tokens.specs.Table.{Table}
 use Rattle.flat.specs.Flat.{uses, outside}
 use Rattle.elaborate.specs.Places.{tokens_from, point_in, use_in, depth_kind}

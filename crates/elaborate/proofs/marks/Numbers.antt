@@ -1,6 +1,6 @@
 -- Names numbered place by place, and marks by their numbers.
-use Prim.Native.Nat.{ℕ, zero, suc, ◌+◌, ◌-◌, ◌≤◌, ◌<◌}
-use mathlib.Core.Bool.{Bool, true, false, not, cond, ◌&&◌, ◌||◌}
+use Prim.Native.Nat.{ℕ, ◌+◌, ◌≤◌, ◌<◌}
+use mathlib.Core.Bool.{Bool, true, false, not, ◌||◌}
 use mathlib.Core.List.{List, [], ◌∷◌}
 use mathlib.Core.Logic.{◌⊎◌, inl, inr}
 use mathlib.Core.Path.{◌≡◌, refl, sym, ap, ap₂, ◌∙◌, subst}
@@ -13,13 +13,12 @@ use Rattle.model.specs.Lists.{any, Every}
 use Rattle.model.proofs.Tests.{clash}
 use Rattle.quel.specs.Results.{Word, same_word}
 use Rattle.tokens.specs.Codes.{Spelt, Coded}
-use Rattle.tokens.specs.Table.{Table, word_in}
+use Rattle.tokens.specs.Table.{Table}
 use Rattle.tokens.specs.Spans.{capped}
 use Rattle.tokens.specs.Kinds.{code_of}
 use Rattle.tokens.proofs.Codes.{spelt-same, spelt-code}
 use Rattle.buckets.specs.Chains.{bucket_of, Held}
 use Rattle.buckets.proofs.Laws.{same_word_lem, every_map, held-put, held_up, held_none}
-use Rattle.elaborate.specs.Places.{name_in}
 use Rattle.elaborate.specs.Numbers.{Numbered, Numbering, Earlier, Met, marked}
 use Rattle.elaborate.proofs.marks.Walks.{here, here-is, same_word-length, name-past, name-other}
 

@@ -1,18 +1,18 @@
 -- A walk's step by the kind of the token.
-use Prim.Native.Nat.{ℕ, zero, suc, ◌+◌, ◌-◌, ◌≤◌, ◌<◌}
-use mathlib.Core.Bool.{Bool, true, false, cond, ◌&&◌, ◌||◌}
+use Prim.Native.Nat.{ℕ, zero, suc, ◌-◌, ◌≤◌}
+use mathlib.Core.Bool.{cond, ◌&&◌}
 use mathlib.Core.List.{List, [], ◌∷◌}
-use mathlib.Core.Path.{◌≡◌, refl, sym, ap, ◌∙◌}
+use mathlib.Core.Path.{◌≡◌, refl}
 use native.Mathlib.Omega.{arith}
-use lib.Dec.{eqb, leb, ltb}
-use lib.ListN.{length, get_or, drop, get_or-eq_default}
+use lib.Dec.{eqb, leb}
+use lib.ListN.{drop, get_or-eq_default}
 use borrow.Author.Tests.{ne_eqb, lt-leb, le-leb}
 use Rattle.quel.specs.Results.{Word}
-use Rattle.quel.specs.Tokens.{Token, key, point, name}
+use Rattle.quel.specs.Tokens.{Token, key, point}
 use Rattle.quel.specs.Reader.{starts}
 use Rattle.quel.specs.Ahead.{word_at, word_of}
 use Rattle.tokens.specs.Table.{fixed, token_of}
-use Rattle.flat.specs.Flat.{outside, enter, deeper, shallower, uses, binding, opened, closed, binders, main_of, colons}
+use Rattle.flat.specs.Flat.{outside, uses, binding, binders, main_of, colons}
 use Rattle.elaborate.specs.Places.{depth_kind, part_kind}
 
 past-token : (k : ℕ) (w : Word) (n : ℕ) → 26 ≤ k → token_of k w n ≡ key point

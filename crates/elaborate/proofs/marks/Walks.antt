@@ -2,22 +2,22 @@
 use Prim.Native.Nat.{ℕ, zero, suc, ◌+◌, ◌-◌, ◌≤◌, ◌<◌}
 use mathlib.Core.Bool.{Bool, true, false, not, cond, ◌&&◌, ◌||◌}
 use mathlib.Core.List.{List, [], ◌∷◌}
-use mathlib.Core.Path.{◌≡◌, refl, sym, ap, ◌∙◌, subst}
+use mathlib.Core.Path.{◌≡◌, refl, sym, ap, ◌∙◌}
 use native.Mathlib.Omega.{arith}
-use native.Mathlib.Nat.{add-zero, add-suc}
+use native.Mathlib.Nat.{add-zero}
 use native.Mathlib.Numerals.{add-one}
 use lib.Dec.{eqb, leb, ltb}
 use lib.ListN.{length, get_or, drop, drop_of_length-le}
 use lib.Seq.{drop-cons}
-use borrow.Author.Tests.{ne_eqb, lt-ltb, le-ltb, eqb-true, eqb-false, ltb-true, ltb-false, leb-true, leb-false}
+use borrow.Author.Tests.{ne_eqb, lt-ltb, le-ltb, eqb-true, ltb-true, ltb-false}
 use Rattle.model.specs.Lists.{any}
 use Rattle.quel.specs.Results.{Word, same_word, has_word, unique_words}
 use Rattle.quel.specs.Tokens.{Token, point, is_letter, run}
 use Rattle.quel.specs.Reader.{starts}
-use Rattle.quel.specs.Ahead.{word_at, word_of}
-use Rattle.tokens.specs.Table.{Table, token_of, word_in, token_at, tokens_at}
+use Rattle.quel.specs.Ahead.{word_at}
+use Rattle.tokens.specs.Table.{Table, word_in, token_at, tokens_at}
 use Rattle.flat.specs.Flat.{outside, enter, deeper, shallower, uses, binding, opened, closed, binders, main_of, colons, last_by, last_of}
-use Rattle.elaborate.specs.Places.{table, tokens_from, name_in, point_in, depth_kind, part_kind, use_in}
+use Rattle.elaborate.specs.Places.{tokens_from, name_in, point_in, depth_kind, part_kind, use_in}
 use Rattle.elaborate.proofs.marks.Steps.{uses-kind, binders-kind, main-kind, colons-kind, point-kind, word-kind}
 
 next : (i j : ℕ) → i + 1 + j ≡ i + suc j

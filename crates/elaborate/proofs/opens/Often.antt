@@ -8,7 +8,7 @@ use lib.ListN.{length, length-append}
 use native.Mathlib.Nat.{add-zero}
 use lib.Seq.{sets}
 use Rattle.quel.specs.Writing.{often}
-use mathlib.Core.Bool.{Bool, true, false, cond, ◌&&◌}
+use mathlib.Core.Bool.{cond, ◌&&◌}
 use lib.Dec.{leb}
 use borrow.Author.Tests.{le-leb, lt-leb}
 use Rattle.copier.proofs.Sets.{sets_then}

@@ -1,14 +1,14 @@
 -- What the table of names says, when a symbol is bound and when frames are opened.
-use Prim.Native.Nat.{ℕ, zero, suc, ◌+◌, ◌≤◌, ◌<◌}
+use Prim.Native.Nat.{ℕ, ◌+◌, ◌≤◌, ◌<◌}
 use mathlib.Core.Bool.{Bool, true, false, cond, ◌&&◌}
 use mathlib.Core.List.{List, [], ◌∷◌, ◌++◌, map}
 use mathlib.Core.Option.{Option, none, some}
-use mathlib.Core.Path.{◌≡◌, refl, sym, ap, ap₂, ◌∙◌, subst}
+use mathlib.Core.Path.{◌≡◌, refl, sym, ap, ◌∙◌}
 use native.Mathlib.Omega.{arith}
 use lib.Dec.{eqb, leb}
 use lib.ListN.{length, get_or, set}
 use lib.Seq.{get_or-set_same, get_or-set_other}
-use borrow.Author.Tests.{ne_eqb, eqb-true, eqb-false, eq-eqb, lt-leb, le-leb}
+use borrow.Author.Tests.{eqb-true, eqb-false, lt-leb, le-leb}
 use Rattle.model.proofs.Tests.{clash}
 use Rattle.quel.specs.Results.{Word, same_word}
 use Rattle.quel.specs.Elaboration.{Symbol, symbol_in, head_only}

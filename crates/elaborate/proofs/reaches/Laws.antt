@@ -1,5 +1,5 @@
 -- Frames opened and closed.
-use Prim.Native.Nat.{ℕ, zero, suc, ◌+◌, ◌-◌, ◌/◌, ◌%◌, ◌≤◌, ◌<◌}
+use Prim.Native.Nat.{ℕ, zero, suc, ◌+◌, ◌-◌, ◌≤◌, ◌<◌}
 use mathlib.Core.List.{List, [], ◌∷◌, map}
 use mathlib.Core.Option.{some}
 use mathlib.Core.Path.{◌≡◌, refl, sym, ap, ap₂, ◌∙◌, subst}
@@ -8,17 +8,14 @@ use native.Mathlib.Numerals.{add-one}
 use lib.Dec.{eqb, leb}
 use lib.ListN.{length, get_or, set, get_or-eq_default}
 use lib.Seq.{get_or-set_same, get_or-set_other, set-set, set-get_or}
-use denote.Enum.Declared.{tag_of, declared}
-use types.Run.{OneOf, miss}
 use mathlib.Core.Bool.{Bool, true, false, ◌||◌}
-use borrow.Author.Tests.{ne_eqb, eqb-true, eqb-false, leb-true, leb-false}
+use borrow.Author.Tests.{eqb-true, eqb-false, leb-true, leb-false}
 use Rattle.model.proofs.Tests.{clash}
 use Rattle.quel.specs.Results.{Word}
 use Rattle.quel.specs.Elaboration.{Symbol, head_only}
 use Rattle.quel.specs.Writing.{Reaches, inner, around}
 use Rattle.kinds.specs.declared.Record.{Record}
 use Rattle.kinds.specs.declared.Record.TheVariants as R
-use Rattle.kinds.specs.contracts.Record.{enum}
 use Rattle.elaborate.specs.Reach.{mode_in, relation_in, variable_in, place_in}
 use Rattle.elaborate.specs.Tables.{Same, Holds}
 use Rattle.elaborate.specs.Puts.{frame_mode, reach_after}
@@ -82,24 +79,21 @@ module _ (w : ℕ → Word) (ids fs : List ℕ) (p crossing : ℕ) (known : List
       rw em (stack-more crossing (inner σ) (subst (λ (l : List ℕ). Holds w ids l (p + 1) crossing (inner σ)) (sym (ap₂ (λ (y v : ℕ). set known y v) ex ee ∙ set-get_or known 0 0)) (holds-open w ids known p crossing (inner σ) top)))
 
 -- a record that binds no name
-plain : (it : Record) → OneOf (0 ∷ 1 ∷ 2 ∷ 3 ∷ 4 ∷ 5 ∷ 6 ∷ 8 ∷ 9 ∷ 11 ∷ 12 ∷ 13 ∷ []) (tag_of (declared enum) it) → frame_mode it ≡ 0
-plain (R.Range _ _) h = refl
-plain R.True h = refl
-plain R.False h = refl
-plain R.Not h = refl
-plain R.And h = refl
-plain R.Or h = refl
-plain (R.Compare _) h = refl
-plain (R.Some _ _) h = absurd (miss (0 ∷ 1 ∷ 2 ∷ 3 ∷ 4 ∷ 5 ∷ 6 ∷ 8 ∷ 9 ∷ 11 ∷ 12 ∷ 13 ∷ []) 7 tt h)
-plain (R.Constant _ _ _ _) h = refl
-plain (R.Attribute _ _) h = refl
-plain (R.Aggregate _ _ _ _) h = absurd (miss (0 ∷ 1 ∷ 2 ∷ 3 ∷ 4 ∷ 5 ∷ 6 ∷ 8 ∷ 9 ∷ 11 ∷ 12 ∷ 13 ∷ []) 10 tt h)
-plain (R.Permit _ _ _) h = refl
-plain R.Unknown h = refl
-plain R.Short h = refl
-
-pub binds-none : (it : Record) → OneOf (0 ∷ 1 ∷ 2 ∷ 3 ∷ 4 ∷ 5 ∷ 6 ∷ 8 ∷ 9 ∷ 11 ∷ 12 ∷ 13 ∷ []) (tag_of (declared enum) it) → frame_mode it ≡ 0
-binds-none it h = plain it h
+pub binds-none : (it : Record) → ((v q : ℕ) → it ≡ R.Some v q → ⊥) → ((g v q a : ℕ) → it ≡ R.Aggregate g v q a → ⊥) → frame_mode it ≡ 0
+binds-none (R.Range _ _) s h = refl
+binds-none R.True s h = refl
+binds-none R.False s h = refl
+binds-none R.Not s h = refl
+binds-none R.And s h = refl
+binds-none R.Or s h = refl
+binds-none (R.Compare _) s h = refl
+binds-none (R.Some v q) s h = absurd (s v q refl)
+binds-none (R.Constant _ _ _ _) s h = refl
+binds-none (R.Attribute _ _) s h = refl
+binds-none (R.Aggregate g v q a) s h = absurd (h g v q a refl)
+binds-none (R.Permit _ _ _) s h = refl
+binds-none R.Unknown s h = refl
+binds-none R.Short s h = refl
 
 -- one frame less
 module _ (w : ℕ → Word) (ids fs : List ℕ) where

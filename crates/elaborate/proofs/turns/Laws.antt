@@ -1,30 +1,30 @@
 -- A turn of the loop, by the numbers that the code holds.
 use Prim.Native.Nat.{ℕ, zero, suc, ◌+◌, ◌-◌, ◌≤◌, ◌<◌}
-use mathlib.Core.Bool.{Bool, true, false, cond, ◌&&◌, ◌||◌}
-use mathlib.Core.List.{List, [], ◌∷◌, ◌++◌, map, append_assoc}
+use mathlib.Core.Bool.{Bool, true, false, cond, ◌&&◌}
+use mathlib.Core.List.{List, [], ◌∷◌, ◌++◌, append_assoc}
 use mathlib.Core.Option.{Option, none, some}
 use mathlib.Core.Path.{◌≡◌, refl, sym, ap, ap₂, ◌∙◌, subst}
 use native.Mathlib.Omega.{arith}
 use native.Mathlib.Numerals.{add-one}
 use lib.Dec.{eqb, leb, ltb}
-use lib.ListN.{length, drop, get_or, set, get_or-eq_default, length-append}
+use lib.ListN.{length, drop, get_or, get_or-eq_default, length-append}
 use lib.Seq.{sets}
 use borrow.Author.Tests.{eqb-true, ne_eqb, leb-true, lt-leb, ltb-false}
 use native.Mathlib.Nat.{add-zero}
 use Rattle.model.proofs.Tests.{and-inv}
-use Rattle.quel.specs.Results.{Read, fail, ok, Word}
+use Rattle.quel.specs.Results.{fail, ok, Word}
 use Rattle.quel.specs.Tokens.{Token, key, point}
 use Rattle.quel.specs.Reader.{starts}
-use Rattle.quel.specs.Names.{Entry, Bytes, relation_named, attribute_named, value_named}
+use Rattle.quel.specs.Names.{Entry, relation_named, attribute_named}
 use Rattle.quel.specs.Elaboration.{Symbol, operator_of, symbol_in, as_byte}
-use Rattle.quel.specs.Ahead.{Mode, at-condition, at-conjunct, at-factor, at_rest, in_some, in-attribute, in-aggregate, Count, ahead, top, count, next, ors_at, ands_at, operator_at}
-use Rattle.quel.specs.Writing.{Written, before, often, Reaches, inner, around, loop}
+use Rattle.quel.specs.Ahead.{Mode, at-condition, at-conjunct, at-factor, at_rest, in_some, in-attribute, in-aggregate, Count, ahead, top, next, ors_at, ands_at, operator_at}
+use Rattle.quel.specs.Writing.{Written, before, often, Reaches, inner, loop}
 use Rattle.kinds.specs.declared.Record.{Record}
 use Rattle.kinds.specs.declared.Record.TheVariants as R
 use Rattle.tokens.specs.Table.{Table, token_of, token_at}
 use Rattle.elaborate.specs.Counts.{ors_in, ands_in, sign_in, kind_in, plain, Place, Counted}
-use Rattle.elaborate.proofs.ahead.Laws.{counted, count_kind, tokens-ahead}
-use Rattle.elaborate.specs.Places.{tokens_from, name_in, point_in}
+use Rattle.elaborate.proofs.ahead.Laws.{counted, tokens-ahead}
+use Rattle.elaborate.specs.Places.{tokens_from, point_in}
 use Rattle.elaborate.proofs.marks.Walks.{from_cons, here, point-from}
 use Rattle.elaborate.specs.declared.reach.Known.{Known}
 use Rattle.elaborate.specs.declared.reach.Known.TheVariants as K
@@ -33,8 +33,8 @@ use Rattle.copier.specs.Copied.{record_bytes}
 use Rattle.copier.proofs.Sets.{sets-append, wrote_then}
 use Rattle.elaborate.specs.declared.items.Item.{Item}
 use Rattle.elaborate.specs.declared.items.Item.TheVariants as I
-use Rattle.elaborate.specs.Actions.{mode_number, action_of, next_of, item_of, use_by, head_by, some_by, value_by, use_item, head_item}
-use Rattle.elaborate.specs.Puts.{frame_mode, putting, symbol_by, reach_after, number_after, written}
+use Rattle.elaborate.specs.Actions.{mode_number, action_of, next_of, item_of, head_by, some_by, head_item}
+use Rattle.elaborate.specs.Puts.{frame_mode, putting, reach_after, number_after, written}
 use Rattle.elaborate.proofs.items.Turns.{opening, next-number}
 use Rattle.elaborate.proofs.items.Turn as T
 use Rattle.elaborate.specs.Opens.{open_bytes}
