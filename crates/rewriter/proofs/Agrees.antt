@@ -1,13 +1,9 @@
 -- The bytes of a rewritten query are the rewritten query, written out.
 use mathlib.Core.Path.{◌≡◌, refl, sym, ap, ap₂, ◌∙◌}
-use mathlib.Core.Bool.{Bool, cond}
-use mathlib.Core.List.{List, [], ◌∷◌, ◌++◌, map, append_assoc, append-nil}
-use Prim.Native.Nat.{ℕ, suc, ◌+◌}
-use native.Mathlib.Nat.{add_assoc}
+use mathlib.Core.List.{List, [], ◌∷◌, ◌++◌, append_assoc, append-nil}
+use Prim.Native.Nat.{ℕ, ◌+◌}
 use native.Mathlib.Omega.{arith}
-use lib.Dec.{eqb}
-use lib.ListN.{length, get_or}
-use borrow.Author.Tests.{eq-eqb, ne_eqb}
+use lib.ListN.{get_or}
 use Rattle.model.specs.Lists.{total, concat_map, Every}
 use Rattle.model.specs.Syntax.{Condition, Term, TRUE, FALSE, NOT, AND, OR, COMPARE, SOME, CONSTANT, ATTRIBUTE, AGGREGATE, Binding, Query, bindings, bindings_t, bindings_q}
 use Rattle.model.specs.Permits.{Guard, free, only, Guards}
@@ -15,10 +11,10 @@ use Rattle.model.specs.Encoding.{encode, encode_t, encode_targets, encode_ranges
 use Rattle.model.specs.Rewriting.{disjunction, new_in, guarded, new_for, rewrite, rewrite_t, rewrite_targets, guard_ranges, rewrite_query}
 use Rattle.model.proofs.Lists.{every_append}
 use Rattle.model.proofs.Limits.{new_for-append}
-use Rattle.copier.specs.Guard.{picked, new_in_part, disjunction_bytes, opening, or_nothing, guard_from, new_from, guard_bytes, guard_new}
-use Rattle.copier.proofs.Turns.{picked_none, nothing_is, something-is}
+use Rattle.copier.specs.Guard.{picked, new_in_part, disjunction_bytes, opening, guard_from, new_from, guard_bytes, guard_new}
+use Rattle.copier.proofs.Turns.{something-is}
 use Rattle.copier.proofs.Encoded.{encode-append, encode-append_t, disjunction-written, numbers-written}
-use Rattle.rewriter.specs.Rewritten.{mask_of, new_of, guarded_bytes, rewritten, rewritten_t, StandsFor, Stands}
+use Rattle.rewriter.specs.Rewritten.{new_of, rewritten, rewritten_t, StandsFor, Stands}
 use Rattle.rewriter.specs.Parts.{targets_bytes, targets_new, openings, range_guards, final_bytes, query_bytes, query_new}
 
 -- the guard of one variable

@@ -1,6 +1,6 @@
 -- Runs of bytes with the numbers that they take, one after the other.
-use mathlib.Core.Path.{◌≡◌, refl, sym, ap, ap₂, ◌∙◌, subst}
-use mathlib.Core.List.{List, [], ◌∷◌, ◌++◌, append_assoc}
+use mathlib.Core.Path.{◌≡◌, refl, sym, ap, ap₂, ◌∙◌}
+use mathlib.Core.List.{List, ◌++◌}
 use Prim.Native.Nat.{ℕ, ◌+◌, ◌<◌}
 use native.Mathlib.Nat.{add-zero}
 use native.Mathlib.Omega.{arith}
@@ -9,7 +9,7 @@ use lib.Seq.{sets}
 use Rattle.sizes.specs.Decode.{first, second}
 use Rattle.copier.specs.Guard.{opening, guard_bytes, guard_new}
 use Rattle.copier.proofs.Sets.{Wrote, sets_then}
-use Rattle.rewriter.specs.Rewritten.{mask_of, guarded_bytes, condition_bytes, condition_new, from, both_bytes, both_new, under_bytes, under_new, Room, After}
+use Rattle.rewriter.specs.Rewritten.{condition_bytes, condition_new, from, both_bytes, both_new, under_bytes, under_new, Room, After}
 
 -- w was written from `at` on, and took k numbers from n on; e is the place after it, m the next number
 abbrev pub Did : List ℕ → ℕ → ℕ → List ℕ → ℕ → List ℕ → ℕ → ℕ → Type 0

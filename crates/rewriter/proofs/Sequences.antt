@@ -1,8 +1,8 @@
 -- The parts of a query, written one after the other.
-use mathlib.Core.Path.{◌≡◌, refl, sym, ap, ap₂, ◌∙◌}
+use mathlib.Core.Path.{◌≡◌, refl, sym, ap, ◌∙◌}
 use mathlib.Core.List.{List, [], ◌∷◌, ◌++◌}
 use Prim.Native.Nat.{ℕ, zero, suc, ◌+◌, ◌-◌, ◌<◌}
-use native.Mathlib.Nat.{add-zero, add_assoc}
+use native.Mathlib.Nat.{add-zero}
 use native.Mathlib.Numerals.{sub-one}
 use native.Mathlib.Omega.{arith}
 use lib.ListN.{length, get_or, drop, length-append}
@@ -15,9 +15,9 @@ use Rattle.sizes.specs.Parts.{targets_at}
 use Rattle.grammar.specs.declared.Layout.{Layout}
 use Rattle.copier.specs.Guard.{opening, guard_bytes, guard_new}
 use Rattle.copier.proofs.Sets.{Wrote, wrote_then, wrote_as}
-use Rattle.rewriter.specs.Rewritten.{mask_of, new_of, rewritten, rewritten_t, Room, After}
+use Rattle.rewriter.specs.Rewritten.{new_of, rewritten, rewritten_t, Room}
 use Rattle.queries.specs.Found.{head_ranges}
-use Rattle.rewriter.specs.Parts.{query_read, targets_bytes, targets_new, openings, range_guards, final_bytes, query_bytes, query_new}
+use Rattle.rewriter.specs.Parts.{query_read, targets_bytes, targets_new, openings, range_guards, query_bytes, query_new}
 use Rattle.rewriter.proofs.Runs.{Did, did-as, did_then, did-head, room-left, room-then, room_as}
 
 -- bytes that are two runs

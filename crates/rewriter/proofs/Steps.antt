@@ -1,22 +1,21 @@
 -- One level of the rewriting, by the record that was read.
-use mathlib.Core.Path.{◌≡◌, refl, sym, ap, ap₂, ◌∙◌}
+use mathlib.Core.Path.{◌≡◌, refl, sym, ap, ◌∙◌}
 use mathlib.Core.List.{List, [], ◌∷◌, ◌++◌}
-use Prim.Native.Nat.{ℕ, zero, suc, ◌+◌, ◌-◌, ◌<◌}
-use native.Mathlib.Nat.{add-zero, add_comm}
-use native.Mathlib.Omega.{arith}
-use lib.ListN.{length, get_or, drop}
+use Prim.Native.Nat.{ℕ, ◌+◌, ◌-◌}
+use native.Mathlib.Nat.{add_comm}
+use lib.ListN.{drop}
 use denote.Enum.Declared.{tag_of, declared}
 use types.Run.{OneOf, miss}
 use Rattle.model.specs.Lists.{total}
 use Rattle.model.proofs.Lists.{total-append}
-use Rattle.model.specs.Syntax.{Condition, Term, TRUE, FALSE, NOT, AND, OR, COMPARE, SOME, CONSTANT, ATTRIBUTE, AGGREGATE, Binding, bindings, bindings_t}
+use Rattle.model.specs.Syntax.{Condition, Term, TRUE, FALSE, CONSTANT, ATTRIBUTE, AGGREGATE, Binding, bindings, bindings_t}
 use Rattle.kinds.specs.Places.{condition_at, term_at}
 use Rattle.kinds.specs.declared.ConditionRecord.{ConditionRecord}
 use Rattle.kinds.specs.declared.ConditionRecord.TheVariants as C
 use Rattle.kinds.specs.declared.TermRecord.{TermRecord}
 use Rattle.kinds.specs.declared.TermRecord.TheVariants as T
 use Rattle.kinds.specs.contracts.ConditionRecord.{enum}
-use Rattle.sizes.specs.Decode.{first, second, decode, decode_t, condition_by, term_by, nothing}
+use Rattle.sizes.specs.Decode.{first, decode, decode_t, condition_by, nothing}
 use Rattle.sizes.proofs.Decoding.{decode-zero, decode-step, decode_t-zero, decode_t-step}
 use Rattle.copier.specs.Guard.{guard_new}
 use Rattle.rewriter.specs.Rewritten.{mask_of, new_of, rewritten, rewritten_t, condition_bytes, condition_new, term_bytes, term_new, from, both_bytes, both_new, under_bytes, under_new}

@@ -1,6 +1,5 @@
 -- The bytes of a rewritten query, the guards given by a mask of applying permits for each variable (document 01, "Permits and the rewriting", step 4).
 use Rattle.std.specs.Prelude.{ℕ, ◌+◌, ◌<◌, List, [], ◌∷◌, ◌++◌, map, ◌≡◌, length, get_or, take, drop}
-use Rattle.std.proofs.lemmas.List.Edits.{sets}
 use Rattle.model.specs.Lists.{total, Every}
 use Rattle.model.specs.Permits.{Guard, free, only, Guards}
 use Rattle.model.specs.Encoding.{encode}

@@ -1,4 +1,6 @@
 // The rewriting: a query's bytes written anew, with guards after the conditions of its bindings.
+#![tactic(auto)]
+
 mod guard;
 
 ghost use Rattle.std.specs.Prelude.{◌≡◌, List, [], ◌∷◌, ◌++◌, ℕ, ◌+◌, ◌≤◌, ◌<◌, length, drop, get_or};
