@@ -1,24 +1,19 @@
 -- One branch tried, and the branches followed to their end.
-use Prim.Native.Nat.{ℕ, zero, suc, ◌+◌, ◌-◌, ◌*◌, ◌≤◌, ◌<◌}
-use mathlib.Core.Bool.{Bool, true, false, not, cond}
+use Prim.Native.Nat.{ℕ, zero, suc, ◌+◌, ◌*◌, ◌≤◌, ◌<◌}
+use mathlib.Core.Bool.{Bool, true, false, cond}
 use mathlib.Core.List.{List}
-use mathlib.Core.Option.{some}
-use mathlib.Core.Path.{◌≡◌, sym, ap, ap₂, ◌∙◌, subst}
+use mathlib.Core.Path.{◌≡◌, sym, ap, ◌∙◌, subst}
 use native.Mathlib.Omega.{arith}
 use lib.Dec.{eqb}
-use lib.IntN.{ℤ, pos}
-use lib.ListN.{length, get_or, drop}
-use borrow.Author.Tests.{ne_eqb, lt-ltb, le-ltb}
-use Rattle.model.specs.Meaning as M
-use Rattle.model.specs.Meaning.{whole, compare}
-use Rattle.model.proofs.Tests.{not_yes, not-no}
+use lib.IntN.{ℤ}
+use lib.ListN.{get_or, drop}
+use borrow.Author.Tests.{ne_eqb}
+use Rattle.model.specs.Meaning.{compare}
 use Rattle.numbers.specs.Numbers.{value_of}
-use Rattle.numbers.specs.Memo.{knows, recalled}
 use Rattle.numbers.specs.declared.Ratio.{Ratio}
 use Rattle.evaluator.specs.Evaluation.{holds_at}
 use Rattle.walks.specs.Assigned.{assigned}
-use Rattle.walks.proofs.Assigned.{get_or-inside}
-use Rattle.branches.specs.Branches.{number, field, recalled_or0, operand, holds_in, branch_holds, next, runs}
+use Rattle.branches.specs.Branches.{number, field, operand, holds_in, branch_holds, next, runs}
 use Rattle.branches.proofs.Running.{runs-0, runs-1, runs-step, runs-stuck}
 
 module _ (t q z ws : List ℕ) (vs m : List ℤ) (e : List ℕ) (i : ℕ) where

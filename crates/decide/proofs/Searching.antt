@@ -1,8 +1,8 @@
 -- A search over the rows of a variable that passes some over.
-use Prim.Native.Nat.{ℕ, ◌+◌, ◌-◌, ◌*◌, ◌≤◌, ◌<◌}
+use Prim.Native.Nat.{ℕ, ◌+◌, ◌*◌, ◌≤◌, ◌<◌}
 use mathlib.Core.Bool.{Bool, true, false, cond}
 use mathlib.Core.List.{List}
-use mathlib.Core.Path.{◌≡◌, refl, sym, ap, ◌∙◌, subst}
+use mathlib.Core.Path.{◌≡◌, sym, ap, ◌∙◌, subst}
 use native.Mathlib.Nat.{add-zero}
 use native.Mathlib.Omega.{arith}
 use lib.IntN.{ℤ}
@@ -17,7 +17,7 @@ use Rattle.walks.specs.Walks.{walk_of, walked}
 use Rattle.walks.proofs.Loops.{Failed}
 use Rattle.walks.specs.Assigned.{assigned}
 use Rattle.walks.proofs.Assigned.{assigned-set}
-use Rattle.branches.specs.Branches.{field, holds_in, branch_holds, next, runs}
+use Rattle.branches.specs.Branches.{holds_in, branch_holds, next, runs}
 use Rattle.decide.specs.Cursor.{stops, Ready, Prepared}
 use Rattle.decide.specs.declared.seeks.Cursor.{Cursor}
 use Rattle.walks.specs.declared.Walk.{Walk}

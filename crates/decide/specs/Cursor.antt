@@ -1,6 +1,6 @@
 -- A loop over the rows of a variable: what is read once before the first one, and the rows that it stops at. Way 0 stops at every row, way 1 at those
 -- whose attribute passes a test, way 2 at those of a chain, way 3 at those of two chains.
-use Rattle.std.specs.Prelude.{ℕ, ◌≤◌, ◌<◌, ◌≡◌, Bool, true, false, not, cond, ◌&&◌, ◌||◌, List, eqb, ℤ, nat_abs, ◌*ℤ◌}
+use Rattle.std.specs.Prelude.{ℕ, ◌≤◌, ◌≡◌, Bool, true, false, not, cond, ◌&&◌, ◌||◌, List, eqb, ℤ, nat_abs, ◌*ℤ◌}
 use Rattle.std.specs.Int.Signed.{le_z}
 use Rattle.model.specs.Lists.{update}
 use Rattle.model.specs.Meaning.{Tuple}

@@ -1,5 +1,7 @@
 // Whether a branch of a table leads to 0 (branches/specs/Branches). Comparisons are followed in one loop; where a branch asks for some row of a variable,
 // its rows are tried, those that cannot meet what is asked passed over.
+#![tactic(auto)]
+
 pub mod chains;
 pub mod seeks;
 

@@ -1,6 +1,6 @@
 -- One row more in front of a chain, and one link further along it.
 use mathlib.Core.Path.{◌≡◌, refl, sym, ap, ◌∙◌, transport, subst}
-use mathlib.Core.Bool.{Bool, true, false, ◌&&◌, ◌||◌}
+use mathlib.Core.Bool.{Bool, true, false, ◌||◌}
 use mathlib.Core.List.{List}
 use Prim.Native.Nat.{ℕ, zero, suc, ◌+◌, ◌-◌, ◌/◌, ◌%◌, ◌≤◌, ◌<◌}
 use native.Mathlib.Nat.{le_antisymm}
@@ -10,10 +10,10 @@ use lib.IntN.{ℤ, pos, negsuc}
 use lib.Signed.{le_z}
 use lib.ListN.{get_or, length, set, length-set}
 use lib.Seq.{get_or-set_same, get_or-set_other}
-use borrow.Author.Tests.{eqb-true, eqb-false, ltb-true, ltb-false, leb-true, le-leb}
+use borrow.Author.Tests.{eqb-true, eqb-false, ltb-true, ltb-false, leb-true}
 use Rattle.rows.specs.Chains.{mixed}
 use Rattle.model.proofs.Tests.{clash, and-inv, or_left, or_right, or-inv}
-use Rattle.decide.specs.Chains.{First, Passing, Built, Nexts, Outside, same, bucket_of, left}
+use Rattle.decide.specs.Chains.{First, Passing, Built, same, bucket_of, left}
 
 -- values that are the same are equal
 pub same-equal : (x y : ℤ) → same x y ≡ true → x ≡ y

@@ -2,9 +2,9 @@
 use mathlib.Core.Path.{◌≡◌, refl, sym, ap, ◌∙◌, subst}
 use mathlib.Core.Bool.{Bool, true, false, cond, ◌||◌}
 use mathlib.Core.List.{List}
-use Prim.Native.Nat.{ℕ, ◌≤◌, ◌<◌}
+use Prim.Native.Nat.{ℕ, ◌≤◌}
 use native.Mathlib.Omega.{arith}
-use lib.Dec.{ltb, eqb}
+use lib.Dec.{ltb}
 use lib.IntN.{ℤ}
 use borrow.Author.Tests.{eq-eqb, ne_eqb}
 use Rattle.model.specs.Lists.{update}
@@ -12,7 +12,7 @@ use Rattle.model.specs.Meaning.{Tuple}
 use Rattle.model.proofs.Tests.{clash, or_no}
 use Rattle.branches.specs.Branches.{field, branch_holds, runs}
 use Rattle.walks.specs.Assigned.{assigned}
-use Rattle.decide.specs.Cursor.{meets, has, Bounded, stops, Ready, Prepared}
+use Rattle.decide.specs.Cursor.{meets, has, Bounded, stops, Prepared}
 use Rattle.decide.specs.Keys.{equality, Enters, Follows}
 use Rattle.decide.specs.declared.chains.Entry.{Entry}
 use Rattle.branches.proofs.Running.{runs-1}

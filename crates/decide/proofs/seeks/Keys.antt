@@ -12,7 +12,6 @@ use lib.ListN.{get_or}
 use borrow.Author.Tests.{lt-ltb, le-ltb}
 use Rattle.model.specs.Meaning as M
 use Rattle.model.specs.Meaning.{Assignment, Tuple, whole, compare}
-use Rattle.model.proofs.Tests.{clash}
 use Rattle.numbers.specs.Numbers.{fraction, value_of}
 use Rattle.numbers.specs.declared.Ratio.{Ratio}
 use Rattle.walks.specs.declared.Walk.{Walk}
