@@ -1,13 +1,11 @@
 -- Each way through the reader is the definition's.
-use Prim.Native.Nat.{ℕ, ◌+◌, ◌≤◌, ◌<◌}
+use Prim.Native.Nat.{ℕ, ◌≤◌}
 use mathlib.Core.Bool.{Bool, true, false, not}
-use mathlib.Core.List.{List, [], ◌++◌}
-use mathlib.Core.Path.{◌≡◌, refl, sym, ap, ap₂, ◌∙◌, subst}
-use native.Mathlib.Omega.{arith}
+use mathlib.Core.List.{List, []}
+use mathlib.Core.Path.{◌≡◌, refl, sym, ap, ◌∙◌, subst}
 use lib.Dec.{leb}
-use lib.ListN.{length, take, drop}
-use lib.Seq.{sets, sets-eq, take-append_seam}
-use borrow.Author.Tests.{leb-true, le-leb, lt-leb}
+use lib.ListN.{length}
+use borrow.Author.Tests.{leb-true}
 use Rattle.model.specs.Syntax.{Query}
 use Rattle.model.proofs.Tests.{clash}
 use Rattle.quel.specs.Results.{Read, fail, ok}
@@ -19,7 +17,7 @@ use Rattle.quel.specs.Elaboration.{elaborate_text}
 use Rattle.quel.specs.Writing.{Written}
 use Rattle.quel.specs.ReadText as Q
 use Rattle.quel.specs.ReadText.{refused, parse, resolve, written, resolved, parsed, read_text}
-use Rattle.quel.proofs.Results.{never, ok-value, ok-left, need-inv}
+use Rattle.quel.proofs.Results.{need-inv}
 use Rattle.quel.proofs.Sound.{sound}
 use Rattle.flat.specs.Flat.{flat_text, encoded}
 use Rattle.flat.proofs.Whole.{flat-text}

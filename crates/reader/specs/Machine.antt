@@ -1,7 +1,7 @@
 -- The grammar as a machine with a stack: a mode says what may come next, and at each parenthesis that opens a condition, and at each function, the mode
 -- to go on with after the ) is kept on the stack. Precedence does not matter here, so V and ^ are one sort.
 use Rattle.std.specs.Prelude.{ℕ, ◌+◌, ◌-◌, ◌%◌, Bool, true, false, cond, ◌&&◌, ◌||◌, List, [], ◌∷◌, eqb, ltb, get_or}
-use Rattle.quel.specs.Tokens.{Key, Token, name, number, function, sign, key, key_code}
+use Rattle.quel.specs.Tokens.{Token, name, number, function, sign, key, key_code}
 
 -- a token's kind as in Table, with one number for all functions, one for all signs, and one for V and ^
 abbrev pub key_sort : ℕ → ℕ

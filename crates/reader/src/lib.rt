@@ -1,4 +1,6 @@
 // The reader of QUEL (document 02, Change 1): a text and a name list, to the records of a question in a lent buffer.
+#![tactic(auto)]
+
 mod syntax;
 
 ghost use Rattle.std.specs.Prelude.{◌≡◌, true, not, ℕ, ◌+◌, ◌≤◌, ◌<◌, length, get_or};

@@ -2,20 +2,20 @@
 use Prim.Native.Nat.{ℕ, zero, suc, ◌+◌, ◌*◌, ◌≤◌, ◌<◌}
 use mathlib.Core.Bool.{Bool, true, false, cond}
 use mathlib.Core.List.{List, [], ◌∷◌}
-use mathlib.Core.Option.{Option, none, some}
+use mathlib.Core.Option.{none, some}
 use mathlib.Core.Path.{◌≡◌, refl, sym, ◌∙◌, ap, subst}
 use native.Mathlib.Omega.{arith}
-use lib.Dec.{eqb, ltb}
+use lib.Dec.{eqb}
 use lib.ListN.{length}
 use Rattle.model.proofs.Tests.{clash}
-use Rattle.quel.specs.Results.{Read, fail, ok, then, Several, Word}
+use Rattle.quel.specs.Results.{fail, ok, Word}
 use Rattle.quel.specs.Tokens.{Key, RANGE, RETRIEVE, NOT, SOME, IN, or, and, left, right, comma, colon, semicolon, point, Function, Sign, Token, name, number, function, sign, key, key_code}
-use Rattle.quel.specs.Tree.{Formula, Operand, Target, Not, And, Or, Compare, Some, Number, Value, Of, Attribute, Aggregate, AggregateIf, Range, Text}
-use Rattle.quel.specs.Reader.{Reads, same_key, starts, if_key, expect, a_name, a_sign, read_attribute, operand_body, aggregate_body, target_body, comparison, factor_body, read_condition, read_ors, read_conjunct, read_ands, read_factor, read_operand, read_target, enough, read_repeated, read_listed, read_name, read_range, at_end, read_qualification, read_tree}
+use Rattle.quel.specs.Tree.{Formula, And, Or, Attribute}
+use Rattle.quel.specs.Reader.{Reads, starts, if_key, a_name, a_sign, read_attribute, operand_body, aggregate_body, target_body, comparison, factor_body, read_condition, read_ors, read_conjunct, read_ands, read_factor, read_operand, read_target, enough, read_name, read_range, at_end, read_qualification, read_tree}
 use Rattle.quel.proofs.Results.{never, ok-left, then-inv, key-inv}
-use Rattle.reader.specs.Machine.{sort_of, move, may_end, mode_after, stack_after, accepts}
+use Rattle.reader.specs.Machine.{sort_of, move, mode_after, stack_after, accepts}
 use Rattle.reader.specs.Verdict.{is_text}
-use Rattle.reader.proofs.syntax.Steps.{Agree, verdict, refused, reads, agree_at, agree-more, bind, is_key, is_name, is_sign, by_key, Only, wants, wants-name, only-key, only-name, no_key, no_join, low-sort, stops, dead, listed-stops, listed-agree}
+use Rattle.reader.proofs.syntax.Steps.{Agree, verdict, refused, reads, agree_at, agree-more, bind, is_key, is_name, by_key, Only, wants, wants-name, only-key, only-name, no_key, no_join, low-sort, stops, dead, listed-stops, listed-agree}
 
 -- a condition ends before neither V nor ^
 ands-stop : (n : ℕ) (c d : Formula) (s r : List Token) → read_ands n c s ≡ ok d r → starts and r ≡ false

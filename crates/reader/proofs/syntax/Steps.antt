@@ -1,19 +1,18 @@
 -- The machine beside the grammar's readers, one at a time.
-use Prim.Native.Nat.{ℕ, zero, suc, ◌+◌, ◌*◌, ◌%◌, ◌≤◌, ◌<◌}
-use mathlib.Core.Bool.{Bool, true, false, cond, ◌&&◌, ◌||◌}
+use Prim.Native.Nat.{ℕ, zero, suc, ◌+◌, ◌≤◌, ◌<◌}
+use mathlib.Core.Bool.{Bool, true, false, cond}
 use mathlib.Core.List.{List, [], ◌∷◌}
 use mathlib.Core.Path.{◌≡◌, refl, sym, ◌∙◌, ap, subst}
 use native.Mathlib.Omega.{arith}
 use lib.Dec.{eqb, ltb}
 use lib.ListN.{length}
 use borrow.Author.Tests.{eqb-true, eqb-false, eq-eqb, ne_eqb}
-use Rattle.model.proofs.Tests.{clash}
-use Rattle.quel.specs.Results.{Read, fail, ok, then, Several, Word}
-use Rattle.quel.specs.Tokens.{Key, RANGE, RETRIEVE, NOT, SOME, IN, or, and, left, right, comma, colon, semicolon, point, Function, Sign, Token, name, number, function, sign, key, key_code}
-use Rattle.quel.specs.Reader.{Reads, same_key, starts, if_key, a_name, a_sign, read_repeated, read_listed}
+use Rattle.quel.specs.Results.{fail, ok, then, Several, Word}
+use Rattle.quel.specs.Tokens.{Key, or, and, Token, name, number, function, sign, key, key_code}
+use Rattle.quel.specs.Reader.{Reads, same_key, starts, if_key, a_name, read_repeated, read_listed}
 use Rattle.quel.proofs.Results.{never, ok-left, then-inv, key-inv, same_key_lem}
 use Rattle.reader.specs.Verdict.{given}
-use Rattle.reader.specs.Machine.{key_sort, sort_of, move, may_end, is_empty, accepts}
+use Rattle.reader.specs.Machine.{key_sort, sort_of, move, may_end, accepts}
 
 -- what a reader gives: refused where the machine is, else the machine goes on with fewer than l tokens
 abbrev Holds : {B : Type 0} → ℕ → Reads B → Bool → (List Token → Bool) → Type 0
