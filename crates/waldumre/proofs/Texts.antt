@@ -1,10 +1,10 @@
 -- The ways of the call by text, and what follows for calls from C by their contracts' equations.
 use Prim.Native.Nat.{ℕ, zero, suc, ◌≤◌}
-use mathlib.Core.List.{List, [], ◌++◌}
+use mathlib.Core.List.{List, []}
 use mathlib.Core.Path.{◌≡◌, refl, sym, ap, ◌∙◌, subst}
 use native.Mathlib.Omega.{arith}
 use lib.IntN.{ℤ}
-use lib.ListN.{length, take, drop}
+use lib.ListN.{length, take}
 use lib.Seq.{take-append_seam}
 use Rattle.model.specs.Lists.{Every}
 use Rattle.model.specs.Syntax.{TRUE, Query, bindings_q}

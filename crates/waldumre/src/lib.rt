@@ -1,4 +1,6 @@
 // What C calls: the exported functions. Each only hands on, so that its contract is the model's.
+#![tactic(auto)]
+
 ghost use Rattle.std.specs.Prelude.{◌≡◌};
 ghost use Rattle.model.specs.Calls.{evaluate, ask};
 ghost use Rattle.quel.specs.ReadText.{read_text};

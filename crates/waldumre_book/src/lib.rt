@@ -1,4 +1,6 @@
 // What C calls for a label book: a question asked as waldumre_ask does, and the book of its rows.
+#![tactic(auto)]
+
 mod book;
 
 ghost use Rattle.std.specs.Prelude.{◌≡◌};
