@@ -11,7 +11,7 @@ use lib.Seq.{take-set-lt, take-set-le, drop-set-lt, drop-set-add}
 use Rattle.model.specs.Lists.{any}
 use Rattle.model.specs.Syntax.{Binding}
 use Rattle.catalogue.specs.Layout.{stored_of}
-use Rattle.permits.specs.Entries.{Entry, size_of, entries}
+use Rattle.permits.specs.Entries.{size_of, entries}
 use Rattle.permits.specs.Applying.{applies_to, bars_from, used_bytes}
 use Rattle.copier.specs.Guard.{bits_of}
 use Rattle.rewriter.specs.Rewritten.{places_in, masks_in}

@@ -1,5 +1,7 @@
 // The table of applying permits: where each permit's condition stands, then for each variable a mask of those that apply to it.
 // The rewriter is lent it. One walk over the bindings makes it, and with it check 33 and the length of the rewritten query.
+#![tactic(auto)]
+
 mod applying;
 mod uses;
 
