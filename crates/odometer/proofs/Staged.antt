@@ -4,7 +4,7 @@ use native.Mathlib.Omega.{arith}
 use native.Mathlib.Nat.{zero-add}
 use native.Mathlib.Numerals.{add-one}
 use mathlib.Core.Bool.{Bool, true, false, cond, ◌&&◌}
-use mathlib.Core.List.{List, [], ◌∷◌, ◌++◌, map}
+use mathlib.Core.List.{List, [], ◌∷◌, ◌++◌}
 use mathlib.Core.Path.{◌≡◌, refl, sym, ◌∙◌, ap, ap₂, subst}
 use lib.Dec.{eqb}
 use lib.IntN.{ℤ}
@@ -14,7 +14,7 @@ use Rattle.model.specs.Lists.{update, cons_if, filter, all, concat_map, contains
 use Rattle.model.specs.Syntax.{Condition, Binding, variables}
 use Rattle.model.specs.Meaning.{Tuple, Assignment, Rows, assignments}
 use Rattle.model.proofs.Lists.{filter-concat_map, filter-const, every-join, every_map}
-use Rattle.model.proofs.Tests.{or_no, and-true}
+use Rattle.model.proofs.Tests.{or_no}
 use Rattle.sizes.specs.Parts.{ranges_at}
 use Rattle.numbers.specs.Recalled.{holds_by}
 use Rattle.walks.specs.Walks.{rows_by}

@@ -6,22 +6,20 @@ use mathlib.Core.Option.{Option, none, some}
 use Prim.Native.Nat.{ℕ, zero, suc, ◌+◌, ◌-◌, ◌*◌, ◌≤◌, ◌<◌}
 use native.Mathlib.Omega.{arith}
 use native.Mathlib.Numerals.{sub-one, add-one}
-use lib.IntN.{ℤ, pos}
+use lib.IntN.{ℤ}
 use lib.ListN.{length, get_or, set, drop, take}
 use lib.Seq.{sets, sets-eq, take_at, length-take-le, drop-drop, get_or-drop}
 use Rattle.model.specs.Lists.{update, concat_map, present}
 use Rattle.model.specs.Kinds.{kind_of, find}
-use Rattle.model.specs.Syntax.{Term, Binding}
-use Rattle.model.specs.Meaning.{Tuple, Assignment, Rows, Ratio, Value, whole, cell, with_cell, target_row_with}
+use Rattle.model.specs.Syntax.{Binding}
+use Rattle.model.specs.Meaning.{Tuple, Assignment, Rows, Ratio, cell, with_cell, target_row_with}
 use Rattle.model.proofs.Tests.{not_yes, not-no, clash}
-use Rattle.model.proofs.Rounding.{cell-whole}
 use Rattle.model.proofs.Width.{row-wide}
 use Rattle.kinds.specs.Tables.{of_kind, record_length}
 use Rattle.numbers.specs.Recalled.{recall}
 use Rattle.walks.specs.Walks.{walk_of, place_at, places, walked, rows_by}
 use Rattle.evaluator.specs.Evaluation.{value_at}
 use Rattle.walks.specs.Assigned.{assigned}
-use Rattle.evaluator.proofs.Steps.{attribute-is}
 use Rattle.walks.proofs.Assigned.{assigned-set}
 use Rattle.catalogue.specs.Layout.{tuple_at}
 use Rattle.walks.specs.declared.Walk.{Walk}

@@ -1,5 +1,7 @@
 // The odometer: range variables run over their rows, the last RANGE fastest. Each conjunct is tried as soon as the variables that it needs
 // are bound; an assignment that meets all of them gives a row, if each target has a value.
+#![tactic(auto)]
+
 ghost use Rattle.std.specs.Prelude.{◌≡◌, true, false, List, ℕ, ◌≤◌, ◌<◌, ◌+◌, ◌-◌, ◌*◌, pos, nat_abs, length, get_or, set};
 ghost use Rattle.model.specs.Meaning.{Assignment, Rows};
 ghost use Rattle.model.specs.Meaning as M;

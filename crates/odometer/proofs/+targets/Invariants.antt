@@ -1,0 +1,4 @@
+use Rattle.odometer.proofs.+targets.Given as goal
+
+abbrev pub decreases-targets : goal.decreases-targets
+decreases-targets l = l.ahead.left
