@@ -1,26 +1,23 @@
 -- A memo that was filled for a query gives the model's meaning: each aggregate is closed, and its variable is its own.
 use mathlib.Core.Path.{◌≡◌, refl, sym, ap, ap₂, ◌∙◌, fun_ext, subst}
-use mathlib.Core.Bool.{Bool, true, false, not, cond, ◌&&◌, ◌||◌}
+use mathlib.Core.Bool.{Bool, true, false, not, ◌&&◌, ◌||◌}
 use mathlib.Core.List.{List, [], ◌∷◌, ◌++◌, map, append-nil}
-use mathlib.Core.Option.{Option, none, some}
-use Prim.Native.Nat.{ℕ, zero, suc, ◌+◌, ◌-◌, ◌*◌, ◌≤◌, ◌<◌}
+use mathlib.Core.Option.{some}
+use Prim.Native.Nat.{ℕ, ◌+◌, ◌-◌, ◌*◌, ◌≤◌, ◌<◌}
 use native.Mathlib.Omega.{arith}
-use lib.Dec.{eqb}
 use lib.IntN.{ℤ, pos, nat_abs}
 use lib.ListN.{length, get_or, set, length-set}
 use lib.Seq.{get_or-set_same, get_or-set_other}
-use borrow.Author.Tests.{eqb-true, eqb-false, ne_eqb}
-use Rattle.model.specs.Lists.{update, filter, any, concat_map, contains, unique, Every}
+use Rattle.model.specs.Lists.{update, filter, any, concat_map, unique, Every}
 use Rattle.model.specs.Syntax.{Condition, Term, TRUE, FALSE, NOT, AND, OR, COMPARE, SOME, CONSTANT, ATTRIBUTE, AGGREGATE, Binding, Query, bindings, bindings_t, bindings_q, variables}
-use Rattle.model.specs.Meaning as M
-use Rattle.model.proofs.Lists.{every_append, every-join, every_map}
+use Rattle.model.proofs.Lists.{every_append, every_map}
 use Rattle.model.proofs.Permitted.{Differ}
 use Rattle.model.specs.Meaning.{Tuple, Assignment, Rows, Value, aggregate, compare, holds, value, holds_with}
 use Rattle.model.specs.Scope.{Scope, nobody, range_scope, bound_once}
 use Rattle.model.proofs.Passed.{Scoped, ranges-differ}
 use Rattle.model.specs.Catalogue.{Shape}
 use Rattle.model.proofs.Scoping.{InScope, InScopeT, alike-nobody, alike-value}
-use Rattle.model.proofs.Tests.{and-inv, or_no, not_yes, clash}
+use Rattle.model.proofs.Tests.{clash}
 use Rattle.numbers.specs.Numbers.{fraction}
 use Rattle.numbers.specs.Memo.{knows, recalled, remembered, numerator_at, mark_at, numerator_of, mark_of}
 use Rattle.numbers.proofs.Memo.{Keeps, keeps-aggregate}

@@ -1,16 +1,15 @@
 -- One level of filling the memo as an equation.
 use mathlib.Core.Path.{◌≡◌, refl, sym, ap, ap₂, ◌∙◌}
 use mathlib.Core.List.{List, [], ◌∷◌}
-use Prim.Native.Nat.{ℕ, zero, suc, ◌+◌, ◌-◌, ◌≤◌, ◌<◌}
+use Prim.Native.Nat.{ℕ, zero, suc, ◌+◌, ◌-◌}
 use native.Mathlib.Numerals.{sub-one}
 use lib.IntN.{ℤ}
 use lib.ListN.{get_or, drop}
 use denote.Enum.Declared.{tag_of, declared}
 use types.Run.{OneOf, miss}
-use Rattle.model.specs.Syntax.{Condition, Term, TRUE, FALSE}
+use Rattle.model.specs.Syntax.{Condition, Term}
 use Rattle.model.specs.Meaning.{Assignment, Rows, Value}
 use Rattle.kinds.specs.contracts.ConditionRecord as a-condition
-use Rattle.kinds.specs.contracts.TermRecord as a-term
 use Rattle.kinds.specs.Tables.{record_length}
 use Rattle.kinds.specs.Places.{condition_at, term_at}
 use Rattle.kinds.specs.declared.ConditionRecord.{ConditionRecord}
@@ -18,7 +17,7 @@ use Rattle.kinds.specs.declared.ConditionRecord.TheVariants as C
 use Rattle.kinds.specs.declared.TermRecord.{TermRecord}
 use Rattle.kinds.specs.declared.TermRecord.TheVariants as T
 use Rattle.numbers.specs.Memo.{remembered}
-use Rattle.sizes.specs.Decode.{first, second, condition_by, term_by, nothing, decode, decode_t}
+use Rattle.sizes.specs.Decode.{first, second, condition_by, term_by, decode, decode_t}
 use Rattle.sizes.specs.Parts.{targets_at}
 use Rattle.numbers.specs.Recalled.{value_by}
 use Rattle.walks.specs.Walks.{rows_by}
@@ -132,14 +131,14 @@ pub no-aggregate : (S : Rows) (e : Assignment) (q z : List ℕ) (m : List ℤ) (
     → m ≡ filled_c (decode l q z) S e m
 no-aggregate S e q z m l r nz er h = sym (rest-condition (λ x y. decode (l - 1) x y) (λ x y. decode_t (l - 1) x y) q z r S e m h) ∙ filled_is S e q z m l r nz er
 
-rest-term : (f : List ℕ → List ℕ → Condition) (q z : List ℕ) (r : TermRecord) (S : Rows) (e : Assignment) (m : List ℤ) → OneOf (0 ∷ 1 ∷ 3 ∷ []) (tag_of (declared a-term.enum) r) → filled_t (term_by r f q z) S e m ≡ m
+rest-term : (f : List ℕ → List ℕ → Condition) (q z : List ℕ) (r : TermRecord) (S : Rows) (e : Assignment) (m : List ℤ) → ((k v w a : ℕ) → r ≡ T.Aggregate k v w a → ⊥) → filled_t (term_by r f q z) S e m ≡ m
 unfolding filled_c
 rest-term f q z (T.Constant a b c d) S e m h = refl
 rest-term f q z (T.Attribute v a) S e m h = refl
-rest-term f q z (T.Aggregate k v r a) S e m h = absurd (miss (0 ∷ 1 ∷ 3 ∷ []) 2 tt h)
+rest-term f q z (T.Aggregate k v r a) S e m h = absurd (h k v r a refl)
 rest-term f q z T.Other S e m h = refl
 
-pub no-term : (S : Rows) (e : Assignment) (q z : List ℕ) (m : List ℤ) (l : ℕ) (r : TermRecord) → (l ≡ 0 → ⊥) → r ≡ term_at q → OneOf (0 ∷ 1 ∷ 3 ∷ []) (tag_of (declared a-term.enum) r)
+pub no-term : (S : Rows) (e : Assignment) (q z : List ℕ) (m : List ℤ) (l : ℕ) (r : TermRecord) → (l ≡ 0 → ⊥) → r ≡ term_at q → ((k v w a : ℕ) → r ≡ T.Aggregate k v w a → ⊥)
     → m ≡ filled_t (decode_t l q z) S e m
 no-term S e q z m l r nz er h = sym (rest-term (λ x y. decode (l - 1) x y) q z r S e m h) ∙ filled_t-is S e q z m l r nz er
 

@@ -1,27 +1,25 @@
 -- What an aggregate takes, by a loop that passes over rows that fail.
-use Prim.Native.Nat.{ℕ, zero, suc, ◌+◌, ◌≤◌, ◌<◌}
+use Prim.Native.Nat.{ℕ, ◌+◌, ◌≤◌, ◌<◌}
 use native.Mathlib.Omega.{arith}
 use mathlib.Core.Bool.{Bool, true, false, not, cond, ◌&&◌}
-use mathlib.Core.List.{List, [], map}
+use mathlib.Core.List.{List, map}
 use mathlib.Core.Path.{◌≡◌, refl, sym, ap, ap₂, ◌∙◌, subst, fun_ext}
 use lib.IntN.{ℤ, pos}
-use lib.ListN.{length, get_or, set, drop, replicate}
+use lib.ListN.{length, get_or, set, drop}
 use Rattle.model.specs.Lists.{update, filter, all, below}
-use Rattle.model.specs.Syntax.{Condition}
 use Rattle.model.specs.Meaning.{Tuple, Assignment}
 use Rattle.model.proofs.Tests.{not_yes, not-no, and-true}
-use Rattle.numbers.specs.Numbers.{added, Bounded, Accumulates, accumulator_of}
+use Rattle.numbers.specs.Numbers.{added, Bounded, Accumulates}
 use Rattle.numbers.specs.declared.Accumulator.{Accumulator}
 use Rattle.catalogue.specs.Layout.{tuple_at}
 use Rattle.walks.specs.declared.Walk.{Walk}
 use Rattle.walks.proofs.Loops.{kept-miss}
 use Rattle.sizes.specs.Decode.{decode}
 use Rattle.sizes.specs.Parts.{ranges_at}
-use Rattle.numbers.specs.Recalled.{holds_by}
-use Rattle.walks.specs.Walks.{walk_of, place_at, walked, rows_by, kept}
+use Rattle.walks.specs.Walks.{walk_of, place_at, walked, kept}
 use Rattle.evaluator.specs.Evaluation.{holds_on, values_on}
 use Rattle.walks.specs.Assigned.{assigned}
-use Rattle.evaluator.proofs.Steps.{taken_start, taken-hit, taken-miss}
+use Rattle.evaluator.proofs.Steps.{taken-hit, taken-miss}
 use Rattle.walks.proofs.Assigned.{assigned-set}
 use Rattle.conjuncts.specs.Stages.{stage_holds, stages_hold, Planned}
 use Rattle.branches.specs.Branches.{runs}

@@ -1,4 +1,6 @@
 // Each aggregate of a query is evaluated once: a legal one is closed, so it has one value. A memo keeps it by its variable.
+#![tactic(auto)]
+
 ghost use Rattle.std.specs.Prelude.{◌≡◌, true, cond, ◌+◌, ◌≤◌, ◌<◌, pos, length, get_or, set};
 ghost use Rattle.sizes.specs.Decode.{decode, decode_t};
 ghost use Rattle.sizes.specs.Parts.{targets_at};
