@@ -64,7 +64,7 @@ def read(name, pattern):
 
 def limit(name, pattern):
     """What the fields of `limits` that a definition reads are: a number, or the five of a query."""
-    found = re.search(pattern.replace("FIELD", r"\(?limits \.([\w-]+)\)?"), definition(name))
+    found = re.search(pattern.replace("FIELD", r"limits\.([\w-]+)"), definition(name))
     if not found:
         sys.exit(f"format.py: the definition of {name} is not as this test reads it: {pattern}")
     query = r"record \{ bytes = (\d+); nesting = (\d+); bound = (\d+); ranges = (\d+); targets = (\d+) \}"
@@ -87,16 +87,16 @@ def in_header(what, names, values):
 
 def kinds(print_of):
     rows = table("table: kinds")
-    relations = by_kind("relationCode")
-    for column, name in ((0, "code"), (2, "bodyLength"), (4, "childConditions"), (5, "childTerms")):
+    relations = by_kind("relation_code")
+    for column, name in ((0, "code"), (2, "body_length"), (4, "child_conditions"), (5, "child_terms")):
         page = {row[1]: int(row[column]) for row in rows if row[1] not in relations}
         same(f"kinds, {name}", page, by_kind(name))
-    same("kinds, relationCode", {row[1]: int(row[0]) for row in rows if row[1] in relations}, relations)
+    same("kinds, relation_code", {row[1]: int(row[0]) for row in rows if row[1] in relations}, relations)
     for row in rows:
         in_header(f"kind {row[1]}", constants(row[6]), [int(row[0])])
     # which kinds are conditions and which are terms
     grammar = re.search(r"condition = ((?:.*\n)+?)\s+term +=(.*)\n", PAGE)
-    for text, name in zip(grammar.groups(), ("conditionBody", "termBody")):
+    for text, name in zip(grammar.groups(), ("condition_body", "term_body")):
         page = {alternative.split()[0] for alternative in text.split("|")}
         read_so = re.findall(rf"^\s*{name} k-(\w+) r = (\w+)", SPECS, re.M)
         same(f"grammar, {name}", page, {kind for kind, how in read_so if how != "fail"})
@@ -110,7 +110,7 @@ def kinds(print_of):
 
 def operators(print_of):
     rows = table("table: operators")
-    first, last = read("isOperator", r"leb (\d+) o && leb o (\d+)")
+    first, last = read("is_operator", r"leb (\d+) o && leb o (\d+)")
     same("operators", [int(row[0]) for row in rows], list(range(first, last + 1)))
     tests = {"=": lambda a, b: a == b, "≠": lambda a, b: a != b, "<": lambda a, b: a < b,
              "≤": lambda a, b: a <= b, ">": lambda a, b: a > b, "≥": lambda a, b: a >= b}
@@ -131,7 +131,7 @@ def last_line(print_of, function, values):
 
 def functions(print_of):
     rows = table("table: functions")
-    first, last = read("isFunction", r"leb (\d+) f && leb f (\d+)")
+    first, last = read("is_function", r"leb (\d+) f && leb f (\d+)")
     same("functions", [int(row[0]) for row in rows], list(range(first, last + 1)))
     values = [4, -9, 4, 5]
     means = {"COUNT": 4, "SUM": 4, "AVE": 1, "MAX": 5, "MIN": -9}
@@ -150,7 +150,7 @@ def functions(print_of):
 def checks(name):
     """The numbers of a list of checks, in order."""
     numbers = []
-    for inner, check in re.findall(r"(\w+Checks)\b|\(fails\d+[^,]*, (\d+)\)", definition(name)):
+    for inner, check in re.findall(r"(\w+_checks)\b|\(fails\d+[^,]*, (\d+)\)", definition(name)):
         if inner != name:
             numbers += [int(check)] if check else checks(inner)
     return numbers
@@ -159,9 +159,9 @@ def checks(name):
 def refusals():
     rows = table("table: refusals")
     full = read("give", r"cond .* 0 (\d+);")
-    same("refusals of ask", [int(row[0]) for row in rows], checks("askChecks") + [full])
+    same("refusals of ask", [int(row[0]) for row in rows], checks("ask_checks") + [full])
     plain = re.search(r"evaluate has ([\d, and]+) only", PAGE).group(1)
-    same("refusals of evaluate", [int(n) for n in re.findall(r"\d+", plain)], checks("evaluateChecks") + [full])
+    same("refusals of evaluate", [int(n) for n in re.findall(r"\d+", plain)], checks("evaluate_checks") + [full])
     limits = {}
     for row in table("table: limits"):
         limits.setdefault(row[3], set()).update(number(cell) for cell in row[1:3] if cell)
@@ -172,10 +172,10 @@ def refusals():
 
 
 def limits():
-    ask, plain = limit("guardedLimits", "FIELD"), limit("plainLimits", "FIELD")
-    permit = limit("permitFits", r"\[\]\)\) FIELD &&.*levels.* FIELD &&.*bindings.* FIELD")
+    ask, plain = limit("guarded_limits", "FIELD"), limit("plain_limits", "FIELD")
+    permit = limit("permit_fits", r"\[\]\)\) FIELD &&.*levels.* FIELD &&.*bindings.* FIELD")
     relations = limit("fails10", r"ltb FIELD \(length")
-    attributes, rows = limit("readCatalogue", r"leb w FIELD\).*leb \(a \+ 256 \* b\) FIELD")
+    attributes, rows = limit("read_catalogue", r"leb w FIELD\).*leb \(a \+ 256 \* b\) FIELD")
 
     def refuses(name, *parts):
         """The number of a check whose definition uses all these."""
@@ -183,20 +183,20 @@ def limits():
 
     model = {
         "relations": [refuses(10, "length"), relations, relations],
-        "attributes of a relation": [refuses(10, "catalogueRead"), attributes, attributes],
-        "rows of a relation": [refuses(10, "catalogueRead"), rows, rows],
+        "attributes of a relation": [refuses(10, "catalogue_read"), attributes, attributes],
+        "rows of a relation": [refuses(10, "catalogue_read"), rows, rows],
         "bytes of the permit list": [20, limit("fails20", "ltb FIELD")],
         "permits": [21, limit("fails21", "ltb FIELD")],
-        "bytes of a permit, all its records": [refuses(21, "permitFits"), permit[0]],
-        "levels of a permit's condition": [refuses(21, "permitFits"), permit[1]],
-        "binding records of a permit": [refuses(21, "permitFits"), permit[2]],
-        "largest variable of a permit": [refuses(22, "permitKnown"), limit("permitKnown", "inScope sh FIELD") - 1],
+        "bytes of a permit, all its records": [refuses(21, "permit_fits"), permit[0]],
+        "levels of a permit's condition": [refuses(21, "permit_fits"), permit[1]],
+        "binding records of a permit": [refuses(21, "permit_fits"), permit[2]],
+        "largest variable of a permit": [refuses(22, "permit_known"), limit("permit_known", "in_scope sh FIELD") - 1],
         "bytes of a question": [refuses(30, ".bytes"), ask[0], plain[0]],
         "ranges": [refuses(31, ".ranges"), ask[3], plain[3]],
         "targets": [refuses(31, ".targets"), ask[4], plain[4]],
         "levels of a question": [refuses(31, ".nesting"), ask[1], plain[1]],
-        "binding records of a question": [refuses(31, ".bound", "bindingsQ"), ask[2], plain[2]],
-        "largest variable of a question": [refuses(32, ".bound", "queryInScope"), ask[2] - 1, plain[2] - 1],
+        "binding records of a question": [refuses(31, ".bound", "bindings_q"), ask[2], plain[2]],
+        "largest variable of a question": [refuses(32, ".bound", "query_in_scope"), ask[2] - 1, plain[2] - 1],
     }
     page = table("table: limits")
     same("limits", {row[0]: [int(row[3])] + [number(cell) for cell in row[1:3] if cell] for row in page}, model)
@@ -204,7 +204,7 @@ def limits():
         names = constants(row[4])
         in_header(f"limit {row[0]}", names, [number(cell) for cell in row[1:3] if cell][:len(names)])
     first = int(re.search(r"first new number of the rewriting is (\d+)", PAGE).group(1))
-    same("first new number", first, read("rewriteQuery", r"(\d+) \+ newFor"))
+    same("first new number", first, read("rewrite_query", r"(\d+) \+ new_for"))
     most = 1024 + 8 * (1 + 7 + 8 * 252)
     same("the most bytes", plain[0], most)
     answer = re.search(r"answer buffer of ([\d,]+) cells and ([\d,]+) bytes", PAGE).groups()
@@ -259,10 +259,10 @@ def book():
     """The label book's numbers, where its definitions are in the model."""
     if "pub fails53 :" not in SPECS:
         return
-    labels, cents = read("inRange", r"upTo (\d+) \(r \.label\).*upTo (\d+) \(r \.price\)")
-    columns, offers, shown = read("fits", r"columns (\d+) &&.*offers\)\) (\d+) &&.*display\)\) (\d+)")
-    refused = read("bookAfter", r"refuse (\d+)")
-    width, blank = read("noEntry", r"replicate (\d+) (\d+)")
+    labels, cents = read("in_range", r"up_to (\d+) r\.label.*up_to (\d+) r\.price")
+    columns, offers, shown = read("fits", r"columns (\d+) &&.*offers\) (\d+) &&.*display\) (\d+)")
+    refused = read("book_after", r"refuse (\d+)")
+    width, blank = read("no_entry", r"replicate (\d+) (\d+)")
     same("the book's ranges", re.findall(r"label outside 0 to (\d+).*price outside 0 to ([\d,]+)", PAGE), [(str(labels), f"{cents:,}")])
     same("the book's size", re.findall(r"book is not lent as (\d+) cells and ([\d,]+) bytes", PAGE), [(str(offers), f"{shown:,}")])
     same("the book's refusal", re.findall(r"Then\s+\*\*(\d+)\*\*", PAGE), [str(refused)])
