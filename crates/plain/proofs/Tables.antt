@@ -1,13 +1,13 @@
 -- The lent table: branches, then chains before place f, then the list of targets and the answer's rows.
 use mathlib.Core.Path.{◌≡◌, refl, sym, ap, ◌∙◌, subst}
 use mathlib.Core.Bool.{Bool, true, false}
-use mathlib.Core.List.{List, [], ◌∷◌, ◌++◌}
-use Prim.Native.Nat.{ℕ, zero, suc, ◌+◌, ◌-◌, ◌≤◌, ◌<◌}
+use mathlib.Core.List.{List, ◌++◌}
+use Prim.Native.Nat.{ℕ, ◌+◌, ◌-◌, ◌≤◌}
 use native.Mathlib.Omega.{arith}
 use lib.Dec.{ltb}
 use lib.IntN.{ℤ}
 use lib.ListN.{length, get_or, take, drop, replicate, length-replicate, length-take, length-drop, get_or-eq_default}
-use lib.Seq.{get_or-take, get_or-drop, take_at, drop_at, drop-drop, take_all, length-take-le}
+use lib.Seq.{get_or-take, get_or-drop, take_at, drop_at, drop-drop}
 use borrow.Author.Tests.{ltb-true, ltb-false}
 use Rattle.model.proofs.Lists.{get_or-same}
 use Rattle.grammar.specs.declared.Layout.{Layout}

@@ -1,4 +1,6 @@
 // A query answered over the rows of its walks; the plain evaluator takes all rows, with no permits.
+#![tactic(auto)]
+
 ghost use Rattle.std.specs.Prelude.{◌≡◌, false, ◌≤◌, ◌++◌, length, drop};
 ghost use Rattle.model.specs.Encoding.{query_of};
 ghost use Rattle.model.specs.Meaning.{answers};
