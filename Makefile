@@ -1,4 +1,4 @@
-# make            proves and builds the libraries and the program into target/package (about 7 minutes the first time)
+# make            proves and builds the libraries and the program into target/package (about 25 minutes the first time)
 # make check      the tests, after make; the gate, which proves all from nothing, is .ci/run
 # make install    to PREFIX (/usr/local), below DESTDIR if that is set
 PREFIX ?= /usr/local

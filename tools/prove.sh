@@ -20,7 +20,7 @@ total=$(awk -v name="$name" -F: '
   }
   END { visit(name); print count + 0 }' crates.txt)
 [[ $total -gt 0 ]] || { echo "prove.sh: crates.txt has no $name" >&2; exit 2; }
-echo "proving $name, $total crates: about 20 minutes on four idle cores; what has not changed since the last time is not proved again" >&2
+echo "proving $name, $total crates: about 25 minutes on four idle cores; what has not changed since the last time is not proved again" >&2
 SECONDS=0
 k=0
 time_so_far() { printf '%d:%02d' $((SECONDS / 60)) $((SECONDS % 60)); }
