@@ -1,8 +1,8 @@
 -- A permit's condition judged by its bytes is judged as the model judges it.
-use mathlib.Core.Path.{◌≡◌, refl, sym, ap, ap₂, ◌∙◌, subst}
-use mathlib.Core.Bool.{Bool, true, false, not}
+use mathlib.Core.Path.{◌≡◌, sym, ap, ◌∙◌}
+use mathlib.Core.Bool.{false, not}
 use mathlib.Core.List.{List, [], ◌∷◌, append-nil}
-use Prim.Native.Nat.{ℕ, ◌+◌, ◌*◌, ◌≤◌, ◌<◌}
+use Prim.Native.Nat.{ℕ, ◌+◌, ◌*◌, ◌<◌}
 use native.Mathlib.Omega.{arith}
 use lib.IntN.{ℤ, pos}
 use lib.ListN.{length, get_or, replicate, length-replicate}
@@ -10,7 +10,7 @@ use mathlib.Core.Option.{some}
 use Rattle.model.specs.Lists.{update, contains, unique, Every}
 use Rattle.model.specs.Syntax.{Condition, Binding, variables, bindings}
 use Rattle.model.specs.Encoding.{encode, ok, read_condition}
-use Rattle.model.specs.Meaning.{Tuple, Assignment, Rows, holds, unbound}
+use Rattle.model.specs.Meaning.{Tuple, Assignment, holds}
 use Rattle.model.specs.Catalogue.{catalogue_of, shape_of, tuples_at, all_rows}
 use Rattle.model.specs.Checks.{fails10}
 use Rattle.model.specs.Permits.{meets}

@@ -2,7 +2,7 @@
 use mathlib.Core.Path.{◌≡◌, refl, sym, ap, ap₂, ◌∙◌, fun_ext}
 use mathlib.Core.Bool.{Bool, true, false, ◌||◌}
 use mathlib.Core.List.{List, [], ◌∷◌, map}
-use Prim.Native.Nat.{ℕ, ◌≤◌}
+use Prim.Native.Nat.{ℕ}
 use native.Mathlib.Omega.{arith}
 use lib.IntN.{ℤ}
 use borrow.Author.Tests.{eq-eqb, ne_eqb}
@@ -17,7 +17,6 @@ use Rattle.model.proofs.Permitted.{SaneGuard}
 use Rattle.model.proofs.Renaming.{Sane}
 use Rattle.model.proofs.Limits.{Fine, Good}
 use Rattle.catalogue.proofs.Reading.{tuples-are}
-use Rattle.copier.specs.Guard.{picked}
 use Rattle.rewriter.specs.Rewritten.{StandsFor}
 use Rattle.permitted.specs.Meets.{meets_bytes}
 use Rattle.permitted.specs.Given.{meets_any, rows_for}

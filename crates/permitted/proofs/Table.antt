@@ -7,9 +7,9 @@ use native.Mathlib.Nat.{mul-le-mul, le_refl}
 use native.Mathlib.Omega.{arith}
 use lib.Dec.{eqb, leb}
 use lib.IntN.{ℤ}
-use lib.ListN.{length, get_or, set, replicate, length-replicate, length-set, length-append}
+use lib.ListN.{length, get_or, replicate, length-replicate, length-set}
 use lib.Seq.{get_or-set_same, get_or-set_other}
-use borrow.Author.Tests.{eqb-true, eqb-false, eq-eqb, ne_eqb, leb-true}
+use borrow.Author.Tests.{eqb-true, eqb-false, eq-eqb, ne_eqb}
 use Rattle.model.specs.Lists.{all, contains, any, filter, below, unique, Every}
 use Rattle.model.specs.Syntax.{Binding, variables}
 use Rattle.model.specs.Meaning.{Tuple}

@@ -1,5 +1,7 @@
 // The permitted rows of each variable of a query, as lists of row numbers in its table of walks. Only permits' conditions are computed on a row that
 // is not permitted, before anything of the query runs. Variables over one relation with the same permits share a list.
+#![tactic(auto)]
+
 mod judges;
 
 ghost use Rattle.std.specs.Prelude.{◌≡◌, true, ◌&&◌, map, ℕ, ◌+◌, ◌*◌, ◌%◌, ◌≤◌, ◌<◌, eqb, length, get_or};

@@ -1,12 +1,12 @@
 -- Marks by NOT, AND and OR, and by the rows one after the other.
-use Prim.Native.Nat.{ℕ, ◌+◌, ◌-◌, ◌≤◌, ◌<◌}
+use Prim.Native.Nat.{ℕ, ◌+◌, ◌-◌, ◌<◌}
 use mathlib.Core.Bool.{Bool, true, false, not, cond, ◌&&◌, ◌||◌}
 use mathlib.Core.List.{List}
 use mathlib.Core.Path.{◌≡◌, refl, sym, ap, ap₂, ◌∙◌, subst}
 use native.Mathlib.Omega.{arith}
 use lib.Dec.{eqb}
 use lib.IntN.{ℤ}
-use lib.ListN.{length, get_or, drop, replicate}
+use lib.ListN.{get_or, drop, replicate}
 use Rattle.model.specs.Lists.{update}
 use Rattle.model.specs.Syntax.{Condition}
 use Rattle.model.specs.Meaning.{Assignment, holds_with}

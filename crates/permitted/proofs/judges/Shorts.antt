@@ -1,6 +1,6 @@
 -- A condition of ten bytes, and what judging by tables gives.
-use Prim.Native.Nat.{ℕ, zero, suc, ◌+◌, ◌*◌, ◌≤◌, ◌<◌}
-use mathlib.Core.Bool.{Bool, true, false, cond}
+use Prim.Native.Nat.{ℕ}
+use mathlib.Core.Bool.{true}
 use mathlib.Core.List.{List, [], ◌∷◌}
 use mathlib.Core.Option.{some}
 use mathlib.Core.Path.{◌≡◌, refl, sym, ap, ap₂, ◌∙◌, subst}
@@ -12,7 +12,7 @@ use Rattle.model.specs.Syntax.{Condition, COMPARE, ATTRIBUTE, CONSTANT, is_opera
 use Rattle.model.specs.Encoding.{ok, encode, read_condition}
 use Rattle.model.proofs.Reading.{read-encode}
 use Rattle.model.specs.Meaning.{Tuple, whole, signed, compare, holds_with}
-use Rattle.catalogue.specs.Layout.{attributes_of, rows_of, base_of}
+use Rattle.catalogue.specs.Layout.{rows_of}
 use Rattle.numbers.specs.declared.Ratio.{Ratio}
 use Rattle.numbers.specs.Numbers.{value_of}
 use Rattle.sizes.specs.Decode.{decode}

@@ -1,17 +1,14 @@
 -- One step of each function over plain variables.
-use mathlib.Core.Path.{◌≡◌, refl, sym, ap, ap₂, ◌∙◌, subst}
-use mathlib.Core.Bool.{Bool, true, false, not, cond, ◌&&◌, ◌||◌}
-use mathlib.Core.List.{List, [], ◌∷◌}
-use Prim.Native.Nat.{ℕ, zero, suc, ◌+◌, ◌*◌, ◌≤◌, ◌<◌}
+use mathlib.Core.Path.{◌≡◌, refl, sym, ap, ◌∙◌, subst}
+use mathlib.Core.Bool.{Bool, true, false, cond, ◌||◌}
+use mathlib.Core.List.{List}
+use Prim.Native.Nat.{ℕ, ◌+◌, ◌*◌, ◌≤◌, ◌<◌}
 use native.Mathlib.Omega.{arith}
-use mir.Syntax.{w64}
-use mir.Val.{to_z}
 use lib.Bits.{bit_or, or_zero_r, or_zero_l, or_self}
 use lib.Dec.{eqb, ltb}
 use lib.IntN.{ℤ, pos, ◌*ℤ◌}
-use lib.Signed.{le_z}
 use lib.ListN.{length, get_or, set, replicate, length-set}
-use lib.Seq.{set-get_or, get_or-set_same, get_or-set_other}
+use lib.Seq.{get_or-set_same, get_or-set_other}
 use borrow.Author.Tests.{eqb-true, eqb-false, ltb-true, ltb-false}
 use Rattle.model.specs.Lists.{update}
 use Rattle.catalogue.specs.Layout.{tuple_at}
@@ -24,8 +21,8 @@ use Rattle.model.proofs.Lists.{get_or-same}
 use Rattle.permitted.specs.Meets.{no_places}
 use Rattle.permitted.specs.Marked.{Bits, Marked, between, tuple_of, ran_on}
 
-abbrev pub tested : List ℤ → ℕ → ℕ → Bool → Bool → Bool → ℕ → ℕ → ℕ → Bool
-tested vs from width above below wanted number scale i = between above below wanted (to_z w64 number) (get_or vs (from + i * width) (pos 0) *ℤ to_z w64 scale)
+abbrev pub tested : List ℤ → ℕ → ℕ → Bool → Bool → Bool → ℤ → ℤ → ℕ → Bool
+tested vs from width above below wanted number scale i = between above below wanted number (get_or vs (from + i * width) (pos 0) *ℤ scale)
 
 pub joined_is : (old r : ℕ) (b : Bool) → old ≤ 1 → r ≡ cond b 1 0 → bit_or old r ≡ cond b 1 old
 joined_is old r false h e = ap (bit_or old) e ∙ or_zero_r old

@@ -1,24 +1,23 @@
 -- Comparisons of an attribute with something known: what the bytes stand for, and the form in which they are tried.
 use Prim.Native.Nat.{ℕ, zero, suc, ◌+◌, ◌-◌, ◌*◌, ◌≤◌, ◌<◌}
-use mathlib.Core.Bool.{Bool, true, false, not, cond, ◌&&◌, ◌||◌}
+use mathlib.Core.Bool.{Bool, true, false, not, ◌&&◌}
 use mathlib.Core.List.{List}
 use mathlib.Core.Option.{none, some}
 use mathlib.Core.Path.{◌≡◌, refl, sym, ap, ap₂, ◌∙◌, subst}
 use native.Mathlib.Omega.{arith}
 use native.Mathlib.Nat.{mul-le-mul, le_refl}
-use native.Mathlib.Numerals.{sub-one}
 use mir.Syntax.{w64}
 use mir.Val.{Fits}
-use lib.Dec.{eqb, ltb, leb}
+use lib.Dec.{ltb, leb}
 use lib.IntN.{ℤ, pos, negsuc, ◌*ℤ◌, nat_abs, one, *ℤ-one}
 use lib.Signed.{le_z, lt_z}
-use lib.ListN.{length, get_or, drop}
+use lib.ListN.{get_or, drop}
 use borrow.Author.Tests.{ne_eqb, ltb-true, ltb-false, lt-leb, le-leb}
 use Rattle.model.specs.Lists.{update}
 use Rattle.model.specs.Syntax.{Condition, Term}
 use Rattle.model.specs.Meaning.{Rows, Assignment, Tuple, whole, signed, compare, holds_with}
 use Rattle.model.specs.Meaning as M
-use Rattle.model.proofs.Tests.{clash, not-no}
+use Rattle.model.proofs.Tests.{clash}
 use Rattle.kinds.specs.Tables.{record_length}
 use Rattle.kinds.specs.Places.{condition_at, term_at}
 use Rattle.kinds.specs.declared.ConditionRecord.{ConditionRecord}
@@ -29,7 +28,7 @@ use Rattle.numbers.specs.declared.Ratio.{Ratio}
 use Rattle.numbers.specs.Numbers.{value_of, Number, ordered, Small}
 use Rattle.numbers.proofs.Laws.{value-some}
 use Rattle.numbers.specs.Memo.{knows, recalled}
-use Rattle.sizes.specs.Decode.{first, second, condition_by, term_by, decode, decode_t}
+use Rattle.sizes.specs.Decode.{first, second, term_by, decode, decode_t}
 use Rattle.sizes.proofs.Decoding.{decode-step, decode_t-step}
 use Rattle.walks.specs.declared.Walk.{Walk}
 use Rattle.walks.specs.Walks.{rows_by}
