@@ -10,7 +10,7 @@ use lib.Seq.{drop-drop}
 use borrow.Author.Tests.{le-leb, lt-leb, eqb-true}
 use Rattle.model.proofs.Tests.{clash}
 use Rattle.quel.specs.Results.{fail, ok}
-use Rattle.quel.specs.Tokens.{Token, number, sign, more, is_blank, is_letter, is_digit, reserved, word_in, sign_in, run, past, decimal, plain, negative, with_equal, token, tokens_from, tokens}
+use Rattle.quel.specs.Tokens.{Token, number, is_blank, is_letter, is_digit, reserved, word_in, sign_in, run, past, decimal, plain, negative, with_equal, token, tokens_from, tokens}
 use Rattle.quel.specs.Lexical.{first, Spelled, nothing, blank}
 use Rattle.quel.proofs.Lexical.{spelled-cut, cut-spelled}
 use Rattle.quel.proofs.Results.{never}

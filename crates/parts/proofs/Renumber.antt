@@ -14,7 +14,7 @@ use Rattle.model.specs.Syntax.{Condition, Term, TRUE, FALSE, NOT, AND, OR, COMPA
 use Rattle.model.specs.Encoding.{encode, encode_t, encode_targets, encode_ranges, encode_query}
 use Rattle.model.specs.Rewriting.{rename, rename_t}
 use Rattle.model.proofs.Tests.{or_left, or_right, any_append, by-lt}
-use Rattle.quel.specs.Results.{Read, ok, found, Word, each, same_word, has_word, unique_words}
+use Rattle.quel.specs.Results.{Read, ok, Word, each, same_word, has_word, unique_words}
 use Rattle.quel.specs.Tree.{Formula, Operand, Target, Not, And, Or, Compare, Some, Number, Value, Of, Attribute, Aggregate, AggregateIf, Text}
 use Rattle.quel.specs.Names.{Entry, names, relation_named, attribute_named, value_named}
 use Rattle.quel.specs.Elaboration.{function_of, Symbol, symbol_in, head_only, inside, as_byte, aggregate, elaborate, elaborate_o, elaborate_t, elaborate_ts, elaborate_q, ranges_of, elaborate_text, used, used_o, used_t, used_in, symbols_of, of_qualification}

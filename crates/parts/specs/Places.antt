@@ -1,7 +1,7 @@
 -- What stands from place i to place j of a text: a word, a name, a sign, a number.
 use Rattle.std.specs.Prelude.{ℕ, ◌≤◌, ◌<◌, List, [], ◌∷◌, ◌≡◌, length}
 use Rattle.quel.specs.Results.{Word}
-use Rattle.quel.specs.Tokens.{Function, Sign, Token, name, number, function, sign, reserved, word_in, token}
+use Rattle.quel.specs.Tokens.{Function, Sign, Token, name, function, sign, reserved, word_in}
 use Rattle.quel.specs.Elaboration.{operator_of, function_of}
 use Rattle.tokens.specs.Codes.{Spelt}
 use Rattle.parts.specs.Parts.{Spells}
