@@ -39,14 +39,10 @@ def move(X):
         open(to, 'w').write(text)
 
 
-def repath(text, X, inside):
-    # the crate's own names, then those by which others name it
-    specs, proofs = (f'Rattle·{Y}·specs.specs.', f'Rattle·{Y}·proofs.proofs.') if inside else (f'Rattle·{Y}.specs.', f'Rattle·{Y}.proofs.')
-    for was in (f'Rattle·{X}·specs.specs.', f'Rattle·{X}.specs.'):
-        text = text.replace(was + 'declared.', specs + f'declared.{X}.').replace(was, specs)
-    for was in (f'Rattle·{X}·proofs.proofs.', f'Rattle·{X}.proofs.'):
-        text = text.replace(was, proofs + f'{X}.')
-    return text
+def repath(text, X):
+    # one form of path, in the crate itself and in others
+    text = text.replace(f'Rattle.{X}.specs.declared.', f'Rattle.{Y}.specs.declared.{X}.').replace(f'Rattle.{X}.specs.', f'Rattle.{Y}.specs.')
+    return text.replace(f'Rattle.{X}.proofs.', f'Rattle.{Y}.proofs.{X}.')
 
 
 for X in absorbed:
@@ -55,7 +51,7 @@ for path in glob.glob('crates/**', recursive=True):
     if path.endswith(('.rt', '.antt', '.edit')):
         text = before = open(path).read()
         for X in absorbed:
-            text = repath(text, X, path.startswith(f'crates/{Y}/'))
+            text = repath(text, X)
         if text != before:
             open(path, 'w').write(text)
             print(path)
