@@ -1,8 +1,8 @@
 -- The rewritten bytes and the answer of a call that passed its checks.
 use mathlib.Core.Path.{◌≡◌, sym, ap, ap₂, subst, ◌∙◌}
 use mathlib.Core.Bool.{Bool, true, false, cond}
-use mathlib.Core.List.{List, [], ◌++◌}
-use Prim.Native.Nat.{ℕ, ◌+◌, ◌*◌, ◌≤◌, ◌<◌}
+use mathlib.Core.List.{List, ◌++◌}
+use Prim.Native.Nat.{ℕ, ◌+◌, ◌≤◌, ◌<◌}
 use native.Mathlib.Omega.{arith}
 use borrow.Author.Tests.{leb-true}
 use lib.IntN.{ℤ}
@@ -51,7 +51,6 @@ use Rattle.permitted.proofs.Marks.{Enough, enough-itself, enough-bits}
 use Rattle.permitted.proofs.Rows.{permitted-rows}
 use Rattle.plain.specs.declared.Reply as plain
 use Rattle.plain.specs.Reply.{answer_of, Answerable}
-use Rattle.guarded.specs.declared.Reply.{Reply}
 use Rattle.guarded.specs.Outcome.{bytes_of, outcome_of, given_rows, Bound}
 
 -- a call that passed 10 to 40, with the query's layout and table

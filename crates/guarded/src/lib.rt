@@ -1,4 +1,6 @@
 // The guarded call: the permits written into the query, and the query answered over the permitted rows.
+#![tactic(auto)]
+
 ghost use Rattle.std.specs.Prelude.{◌≡◌, true, false, ◌≤◌, length};
 ghost use Rattle.model.specs.Catalogue.{catalogue_of, shape_of};
 ghost use Rattle.model.specs.Checks.{fails10, permit_checks, refusal};
