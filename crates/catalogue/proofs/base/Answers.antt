@@ -18,4 +18,3 @@ loop-i-init c = (refl, omega arith, omega arith)
 
 pub loop-i-preserved : goal.loop-i-preserved
 loop-i-preserved c = (next c.args.catalogue.now c.loop-i.i c.loop-i.at c.rows.result c.attributes.result c.loop-i.invariant.0 c.rows.ensures.value c.attributes.ensures.value, omega (arith, mul-le-mul c.rows.ensures.upper_bound c.attributes.ensures.upper_bound), omega arith)
-

@@ -9,4 +9,3 @@ use Rattle.kinds.proofs.cut.Goals as goal
 
 pub returns-then-length-ge5 : goal.returns-then-length-ge5
 returns-then-length-ge5 c = sym (le-ltb c.args.length (record_length c.args.kind) (omega (arith, (length-small c.args.kind).1, c.if-length-ge5.true)))
-
