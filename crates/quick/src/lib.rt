@@ -1,4 +1,6 @@
 // The reader of QUEL: a short text with a short name list in one pass, with no tokens; where that gives up, by tokens.
+#![tactic(auto)]
+
 mod conditions;
 mod heads;
 mod index;

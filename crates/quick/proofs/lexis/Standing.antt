@@ -8,11 +8,11 @@ use lib.Dec.{eqb, leb}
 use lib.ListN.{length, get_or, drop, length-drop}
 use borrow.Author.Tests.{le-leb, eq-eqb, ne_eqb}
 use Rattle.quel.specs.Results.{ok, Word}
-use Rattle.quel.specs.Tokens.{Sign, Token, Key, name, number, function, sign, key, RANGE, RETRIEVE, NOT, SOME, IN, or, COUNT, SUM, AVE, MAX, MIN, equal, unequal, less, at_most, more, at_least, is_blank, is_letter, is_digit, reserved, word_in, sign_in, run, with_equal, token}
+use Rattle.quel.specs.Tokens.{Sign, Token, name, number, function, sign, key, RANGE, RETRIEVE, NOT, SOME, IN, or, COUNT, SUM, AVE, MAX, MIN, equal, unequal, less, at_most, more, at_least, is_letter, reserved, word_in, sign_in, run, with_equal, token}
 use Rattle.quel.specs.Lexical.{first}
 use Rattle.quel.specs.Elaboration.{operator_of}
 use Rattle.tokens.specs.Spans.{within, positional, capped}
-use Rattle.tokens.specs.Kinds.{code_of, kind_spelled}
+use Rattle.tokens.specs.Kinds.{kind_spelled}
 use Rattle.tokens.specs.Table.{token_of}
 use Rattle.tokens.specs.Codes.{Spelt}
 use Rattle.tokens.proofs.Places.{run_length, run-all, first-lt, run-stops, run-goes, only}
