@@ -78,7 +78,7 @@ pub struct Reading {
 pub extern "C" fn waldumre_read_query(text: &[u8], names: &[u8], records: &mut [u8]) -> Reading
     ensures { reading_of result records.new ≡ read_text names.now text.now records.old }
 {
-    let reading = reader::read(text, names, records);
+    let reading = quick::read(text, names, records);
     Reading {
         number: wide(reading.number),
         length: reading.length as u64,
@@ -101,7 +101,7 @@ pub extern "C" fn waldumre_ask_text(
         ≡ ask_text catalogue.now values.now permits.now text.now names.now
         records.old rewritten.old answer.old }
 {
-    let read = reader::read(text, names, records);
+    let read = quick::read(text, names, records);
     let number = read.number;
     let n = read.length;
     if number != 0 {
