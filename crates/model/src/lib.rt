@@ -3,7 +3,7 @@
 #![tactic(auto)]
 
 // Of a query: its bytes, levels and bound variables, its RANGEs and targets.
-#[derive(Drop)]
+#[derive(Clone, Copy)]
 pub struct QueryLimits {
     pub bytes: usize,
     pub levels: usize,
@@ -14,7 +14,7 @@ pub struct QueryLimits {
 
 // Of the catalogue; of the permit list; of one permit, whose variables are numbered below a fourth limit; of a query that is asked, or put to the
 // plain evaluator.
-#[derive(Drop)]
+#[derive(Clone, Copy)]
 pub struct AllLimits {
     pub relations: usize,
     pub attributes: usize,

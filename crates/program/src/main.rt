@@ -9,9 +9,9 @@ ghost use Rattle.program.specs.Counts.{IsPrefixLen};
 
 use std::fs::File;
 use std::io;
-use std::io::{ErrorKind, Read, Write};
+use std::io::{Read, Write};
 
-// Reads until the buffer is full or the file has ended, and answers how many bytes it put there. A read that a signal interrupts is tried again.
+// Reads until the buffer is full or the file has ended, and answers how many bytes it put there.
 fn read_full(file: &mut File, buf: &mut [u8]) -> io::Result<usize>
     ensures { ReadsAtMost result buf.new }
 {
@@ -23,11 +23,7 @@ fn read_full(file: &mut File, buf: &mut [u8]) -> io::Result<usize>
         match file.read(&mut buf[n..]) {
             Ok(0) => break,
             Ok(more) => n += more,
-            Err(e) => {
-                if e.kind() != ErrorKind::Interrupted {
-                    return Err(e);
-                }
-            }
+            Err(e) => return Err(e),
         }
     }
     Ok(n)

@@ -273,12 +273,12 @@ pub fn cut(text: &[u8], kinds: &mut [u8], starts: &mut [u16], numbers: &mut [u64
     requires { length text.now ≤ 2000 → (length text.now ≤ length kinds.old) × (length text.now ≤ length starts.old)
         × (length text.now ≤ length numbers.old) }
     ensures numbers_after { read_of result text.now (record {
-      kinds = kinds.exit.now;
+      kinds = kinds.new;
       starts = starts.new;
       numbers = numbers.new;
     }) ≡ tokens text.now }
     ensures coded { Coded text.now (record {
-      kinds = kinds.exit.now;
+      kinds = kinds.new;
       starts = starts.new;
       numbers = numbers.new;
     }) (counted result) }

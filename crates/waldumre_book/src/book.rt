@@ -30,8 +30,8 @@ fn blank_display(display: &mut [u8])
 // Each row's entry into a blank book, the last row first: so a label's first row stays.
 fn fill(cells: &[i64], offers: &mut [i64], display: &mut [u8])
     requires cells_value { all in_range (rows_in cells.now) ≡ true }
-    requires display_value { record { offers = offers.now; display = display.old } ≡ book_of [] }
-    ensures { record { offers = offers.exit.now; display = display.new } ≡ book_of (rows_in cells.now) }
+    requires display_value { record { offers = offers.old; display = display.old } ≡ book_of [] }
+    ensures { record { offers = offers.new; display = display.new } ≡ book_of (rows_in cells.now) }
 {
     let rows = cells.len() / 3;
     let mut i = 0;
@@ -64,9 +64,9 @@ fn suits(columns: usize, cells: &[i64], offers: usize, display: usize) -> bool
 
 // Writes the book of an answer's cells, and returns whether there is one; where there is none the book is left as it was.
 pub(crate) fn write(columns: usize, cells: &[i64], offers: &mut [i64], display: &mut [u8]) -> bool
-    ensures value { result ≡ fits columns cells.now (record { offers = offers.entry.now; display = display.old }) }
-    ensures display_after { record { offers = offers.exit.now; display = display.new }
-        ≡ cond result (book_of (rows_in cells.now)) (record { offers = offers.entry.now; display = display.old }) }
+    ensures value { result ≡ fits columns cells.now (record { offers = offers.old; display = display.old }) }
+    ensures display_after { record { offers = offers.new; display = display.new }
+        ≡ cond result (book_of (rows_in cells.now)) (record { offers = offers.old; display = display.old }) }
 {
     let good = suits(columns, cells, offers.len(), display.len());
     if !good {

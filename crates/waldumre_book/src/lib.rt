@@ -44,9 +44,9 @@ pub extern "C" fn waldumre_label_book(
     display: &mut [u8],
 ) -> Outcome
     ensures { book_outcome_of result answer.new rewritten.new
-        (record { offers = offers.exit.now; display = display.new })
+        (record { offers = offers.new; display = display.new })
         ≡ label_book catalogue.now values.now permits.now query.now rewritten.old
-        answer.old (record { offers = offers.entry.now; display = display.old }) }
+        answer.old (record { offers = offers.old; display = display.old }) }
 {
     let r = guarded::ask(catalogue, values, permits, query, rewritten, answer);
     let number = r.number;
