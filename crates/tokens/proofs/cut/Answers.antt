@@ -7,10 +7,10 @@ use native.Mathlib.Omega.{arith}
 use Rattle.tokens.proofs.cut.Goals as goal
 
 pub returns-then-text-gt2000 : goal.returns-then-text-gt2000
-returns-then-text-gt2000 c = record { numbers_after = sym (too_long c.args.text.now c.if-text-gt2000.true); coded = none-coded _ _; result_bound = (omega arith, omega arith) }
+returns-then-text-gt2000 c = record { numbers_after = sym (too_long c.args.text.now (omega arith)); coded = none-coded _ _; result_bound = (omega arith, omega arith) }
 
 pub loop-at-init : goal.loop-at-init
-loop-at-init c = (held_start c.args.text.now _ _ _, c.if-text-gt2000.false, refl, refl, refl)
+loop-at-init c = (held_start c.args.text.now _ _ _, (omega arith), refl, refl, refl)
 
 pub loop-at-preserved-then-is_blank : goal.loop-at-preserved-then-is_blank
 loop-at-preserved-then-is_blank c = (held-blank c.args.text.now c.loop-at.kinds c.loop-at.starts c.loop-at.numbers c.loop-at.at c.loop-at.n c.loop-at.invariant.0 c.loop-at.invariant.1 c.loop-at-test.true (sym c.is_blank.ensures ∙ c.if-is_blank.true), c.loop-at.invariant.1, c.loop-at.invariant.2, c.loop-at.invariant.3, c.loop-at.invariant.4)

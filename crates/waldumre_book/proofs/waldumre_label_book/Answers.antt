@@ -8,7 +8,7 @@ use Rattle.waldumre_book.proofs.waldumre_label_book.Goals as goal
 
 pub returns-then-number-ne0 : goal.returns-then-number-ne0
 unfolding label_book
-returns-then-number-ne0 c = refused c.ask-r.result c.ask-r.ensures _ c.asked.ensures c.if-number-ne0.true
+returns-then-number-ne0 c = refused c.ask-r.result c.ask-r.ensures _ c.asked.ensures (λ z. omega (arith, z, c.if-number-ne0.true))
 
 pub overflow_mul-n : goal.overflow_mul-n
 overflow_mul-n c = record { fits = omega (arith, rows_in_lem c.ask-r.result _ _ _ _ _ _ c.ask-r.ensures, c.well_formed.1.1.1.1.1.0) }
@@ -21,8 +21,8 @@ slice_bounds-write-end-2 c = sym (length-take-le (c.ask-r.result.rows * c.ask-r.
 
 pub returns-then-write : goal.returns-then-write
 unfolding label_book
-returns-then-write c = written c.ask-r.result c.ask-r.ensures _ c.asked-then-write.ensures c.if-number-ne0.false (c.write.ensures.value, c.write.ensures.display_after) c.if-write.true
+returns-then-write c = written c.ask-r.result c.ask-r.ensures _ c.asked-then-write.ensures (omega arith) (c.write.ensures.value, c.write.ensures.display_after) c.if-write.true
 
 pub returns : goal.returns
 unfolding label_book
-returns c = failed c.ask-r.result c.ask-r.ensures _ c.if-number-ne0.false (c.write.ensures.value, c.write.ensures.display_after) c.if-write.false
+returns c = failed c.ask-r.result c.ask-r.ensures _ (omega arith) (c.write.ensures.value, c.write.ensures.display_after) c.if-write.false
