@@ -19,3 +19,4 @@ pub mod Premises
 pub mod Hidden
 pub mod Shelf
 pub mod Largest
+pub mod Refusals

@@ -2,6 +2,10 @@
 // and what they prove of the definitions holds for equal numbers only.
 #![tactic(auto)]
 
+mod refusal;
+
+pub use refusal::Refusal;
+
 // Of a query: its bytes, levels and bound variables, its RANGEs and targets.
 #[derive(Clone, Copy)]
 pub struct QueryLimits {
