@@ -3,7 +3,10 @@
 
 ghost use Rattle.std.specs.Prelude.{◌≡◌, not, ℕ, ◌+◌, ◌*◌, ◌≤◌, ◌<◌, eqb, pos, length, get_or};
 ghost use Rattle.model.specs.Checks.{fails10, refusal, keeper_checks};
+ghost use Rattle.model.specs.Refusals.{code_of};
 ghost use Rattle.catalogue.specs.Layout as L;
+
+use model::Refusal;
 
 // The length of a record, the same for all three kinds.
 pub const RECORD: usize = 4;
@@ -178,15 +181,15 @@ fn fails_10(catalogue: &[u8]) -> bool
     false
 }
 
-// Checks 10 and 11: the number of the first that fails, or 0.
-pub fn check(catalogue: &[u8], values: &[i32]) -> u8
-    ensures { result ≡ refusal (keeper_checks catalogue.now values.now) }
+// Checks 10 and 11: the first that fails.
+pub fn check(catalogue: &[u8], values: &[i32]) -> Result<(), Refusal>
+    ensures { code_of result ≡ refusal (keeper_checks catalogue.now values.now) }
 {
     if fails_10(catalogue) {
-        return 10;
+        return Err(Refusal::Catalogue);
     }
     if values.len() != total(catalogue) {
-        return 11;
+        return Err(Refusal::Values);
     }
-    0
+    Ok(())
 }

@@ -12,7 +12,11 @@ use Rattle.model.specs.Lists.{all, Every}
 use Rattle.model.specs.Encoding.{query_of, permits_of, encode_query}
 use Rattle.model.specs.Catalogue.{catalogue_of, Shape, shape_of}
 use Rattle.model.specs.Checks.{Check, guarded_limits, fails10, fails20, fails21, fails30, fails33, fails40, keeper_checks, permit_checks, query_checks, guard_checks, shape_checks, ask_checks, refusal}
-use Rattle.model.specs.Calls.{ask, ask_unless}
+use Rattle.model.specs.Calls.{Outcome, refuse, ask, ask_unless}
+use Rattle.model.specs.Refusals.{number_of}
+use Rattle.model.specs.declared.refusal.Refusal.{Refusal}
+use Rattle.model.specs.declared.refusal.Refusal.TheVariants.{NoPermit}
+use Rattle.std.specs.Prelude.{Result, Ok, Err}
 use Rattle.model.proofs.Passed.{refusal-cons, query-read, query-length}
 use Rattle.model.proofs.Grounds.{refusal-skip}
 use Rattle.scans.specs.Flat.{flat_bindings}
@@ -21,11 +25,8 @@ use Rattle.grammar.specs.declared.Layout.{Layout}
 use Rattle.queries.specs.Parts.{query_at}
 use Rattle.guards.specs.Filled.{placed_from}
 use Rattle.guards.specs.Counted.{served_by, rewritten_length, passed_if, check33}
-use Rattle.guards.specs.declared.Check33.{Check33}
-use Rattle.guards.specs.declared.Check33.TheVariants as C
 use Rattle.guards.proofs.Counts.{served-all, length-all}
-use Rattle.guarded.specs.declared.Reply.{Reply}
-use Rattle.guarded.specs.Outcome.{bytes_of, outcome_of}
+use Rattle.guarded.specs.Outcome.{bytes_of}
 use Rattle.guarded.proofs.Outcomes.{Writable}
 
 refusal-some : (xs ys : List Check) → (refusal xs ≡ 0 → ⊥) → refusal (xs ++ ys) ≡ refusal xs
@@ -37,16 +38,12 @@ refusal-some (c ∷ xs) ys h = go c.0 (λ k. refusal-some xs ys k) h
     go true i k = refl
     go false i k = i k
 
-positive : (n : ℕ) → (n ≡ 0 → ⊥) → 1 ≤ n
-positive zero h = absurd (h refl)
-positive (suc n) h = omega arith
-
 -- what an outcome of 33 says
-refuses : (b : Bool) (n : ℕ) → passed_if b n ≡ C.Refused → b ≡ false
-refuses true n e = absurd (let z : ◌≡◌ {A = ℕ} 0 1 = cc in omega arith)
-refuses false n e = refl
+refuses : (b : Bool) (n : ℕ) (e : Refusal) → passed_if b n ≡ Err e → (b ≡ false) × (e ≡ NoPermit)
+refuses true n e h = absurd (let z : ◌≡◌ {A = ℕ} 0 1 = cc in omega arith)
+refuses false n e h = (refl, cc)
 
-passes : (b : Bool) (m n : ℕ) → passed_if b m ≡ C.Passed n → (b ≡ true) × (m ≡ n)
+passes : (b : Bool) (m n : ℕ) → passed_if b m ≡ Ok n → (b ≡ true) × (m ≡ n)
 passes true m n e = (refl, cc)
 passes false m n e = absurd (let z : ◌≡◌ {A = ℕ} 0 1 = cc in omega arith)
 
@@ -69,15 +66,19 @@ module _ (cb : List ℕ) (vs : List ℤ) (pb qb rewritten : List ℕ) (cells : L
   unfolding Every query_checks
   query-numbers = (omega arith, (omega arith, (omega arith, tt)))
 
-  refuse-with : (n : ℕ) → refusal (ask_checks cb vs pb qb room) ≡ n → 1 ≤ n → (r : Reply) → r ≡ record { number = n; rows = 0; columns = 0; length = 0 } → outcome_of r cells rewritten ≡ ask cb vs pb qb rewritten cells
+  -- a refusal: its number with zero counts, and the buffers as they were
+  abbrev refusing : ℕ → Outcome
+  refusing n = record { answer = refuse n cells; count = 0; rewritten = rewritten }
+
+  refuse-with : (n : ℕ) → refusal (ask_checks cb vs pb qb room) ≡ n → 1 ≤ n → refusing n ≡ ask cb vs pb qb rewritten cells
   unfolding ask ask_unless
-  refuse-with zero e h r er = absurd (omega arith)
-  refuse-with (suc n) e h r er = ap (λ (x : Reply). outcome_of x cells rewritten) er ∙ sym (rw e)
+  refuse-with zero e h = absurd (omega arith)
+  refuse-with (suc n) e h = sym (rw e)
 
   -- 10, 11
-  pub refused-kept : (n : ℕ) (r : Reply) → n ≡ refusal (keeper_checks cb vs) → (n ≡ 0 → ⊥) → r ≡ record { number = n; rows = 0; columns = 0; length = 0 } → outcome_of r cells rewritten ≡ ask cb vs pb qb rewritten cells
+  pub refused-kept : (n : ℕ) → n ≡ refusal (keeper_checks cb vs) → 1 ≤ n → refusing n ≡ ask cb vs pb qb rewritten cells
   unfolding ask_checks
-  refused-kept n r en h er = refuse-with n (refusal-some (keeper_checks cb vs) _ (λ e. h (en ∙ e)) ∙ sym en) (positive n h) r er
+  refused-kept n en h = refuse-with n (refusal-some (keeper_checks cb vs) _ (λ e. omega (arith, h, en ∙ e)) ∙ sym en) h
 
   pub catalogue-passes : refusal (keeper_checks cb vs) ≡ 0 → fails10 cb ≡ false
   unfolding keeper_checks
@@ -89,9 +90,9 @@ module _ (cb : List ℕ) (vs : List ℤ) (pb qb rewritten : List ℕ) (cells : L
     ask-shape = refusal-skip (keeper_checks cb vs) _ keeper-numbers k
 
     -- 20 to 23
-    pub refused-permits : (n : ℕ) (r : Reply) → n ≡ refusal (permit_checks sh pb) → (n ≡ 0 → ⊥) → r ≡ record { number = n; rows = 0; columns = 0; length = 0 } → outcome_of r cells rewritten ≡ ask cb vs pb qb rewritten cells
+    pub refused-permits : (n : ℕ) → n ≡ refusal (permit_checks sh pb) → 1 ≤ n → refusing n ≡ ask cb vs pb qb rewritten cells
     unfolding shape_checks
-    refused-permits n r en h er = refuse-with n (ask-shape ∙ refusal-some (permit_checks sh pb) _ (λ e. h (en ∙ e)) ∙ sym en) (positive n h) r er
+    refused-permits n en h = refuse-with n (ask-shape ∙ refusal-some (permit_checks sh pb) _ (λ e. omega (arith, h, en ∙ e)) ∙ sym en) h
 
     module _ (p : refusal (permit_checks sh pb) ≡ 0) where
       shape-query : refusal (shape_checks sh pb qb room) ≡ refusal (query_checks guarded_limits sh qb ++ guard_checks sh pb qb room)
@@ -99,8 +100,8 @@ module _ (cb : List ℕ) (vs : List ℤ) (pb qb rewritten : List ℕ) (cells : L
       shape-query = refusal-skip (permit_checks sh pb) _ permit-numbers p
 
       -- 30 to 32
-      pub refused-query : (n : ℕ) (r : Reply) → n ≡ refusal (query_checks guarded_limits sh qb) → 1 ≤ n → r ≡ record { number = n; rows = 0; columns = 0; length = 0 } → outcome_of r cells rewritten ≡ ask cb vs pb qb rewritten cells
-      refused-query n r en h er = refuse-with n (ask-shape ∙ shape-query ∙ refusal-some (query_checks guarded_limits sh qb) _ (λ e. omega (arith, h, en ∙ e)) ∙ sym en) h r er
+      pub refused-query : (n : ℕ) → n ≡ refusal (query_checks guarded_limits sh qb) → 1 ≤ n → refusing n ≡ ask cb vs pb qb rewritten cells
+      refused-query n en h = refuse-with n (ask-shape ∙ shape-query ∙ refusal-some (query_checks guarded_limits sh qb) _ (λ e. omega (arith, h, en ∙ e)) ∙ sym en) h
 
       module _ (u : refusal (query_checks guarded_limits sh qb) ≡ 0) where
         shape-guard : refusal (shape_checks sh pb qb room) ≡ refusal (guard_checks sh pb qb room)
@@ -134,12 +135,15 @@ module _ (cb : List ℕ) (vs : List ℤ) (pb qb rewritten : List ℕ) (cells : L
         served-is : not B ≡ fails33 sh (permits_of pb) (query_of qb)
         served-is = ap (λ (x : List ℕ). not (all (served_by x pb cb) (flat_bindings x))) bytes ∙ served-all cb pb (catalogue-passes k) p20 p21 (query_of qb)
 
-        module _ (places₀ places : List ℕ) (ep : places ≡ placed_from 8 pb 0 0 places₀) (x : Check33) (ex : x ≡ check33 qb pb cb places) where
-          pub refused-33 : x ≡ C.Refused → (r : Reply) → r ≡ record { number = 33; rows = 0; columns = 0; length = 0 } → outcome_of r cells rewritten ≡ ask cb vs pb qb rewritten cells
+        module _ (places₀ places : List ℕ) (ep : places ≡ placed_from 8 pb 0 0 places₀) (x : Result ℕ Refusal) (ex : x ≡ check33 qb pb cb places) where
+          pub refused-33 : (e : Refusal) → x ≡ Err e → refusing (number_of e) ≡ ask cb vs pb qb rewritten cells
           unfolding guard_checks refusal
-          refused-33 h r er = let e : fails33 sh (permits_of pb) (query_of qb) ≡ true = sym served-is ∙ ap not (refuses B (rewritten_length qb pb cb places) (sym ex ∙ h)) in refuse-with 33 (ask-shape ∙ shape-guard ∙ rw e) (omega arith) r er
+          refused-33 e h =
+              let r = refuses B (rewritten_length qb pb cb places) e (sym ex ∙ h) in
+              let f : fails33 sh (permits_of pb) (query_of qb) ≡ true = sym served-is ∙ ap not r.0 in
+              ap (λ (x : Refusal). refusing (number_of x)) r.1 ∙ refuse-with 33 (ask-shape ∙ shape-guard ∙ rw f) (omega arith)
 
-          module _ (n : ℕ) (h : x ≡ C.Passed n) (enough : 16 ≤ length places₀) where
+          module _ (n : ℕ) (h : x ≡ Ok n) (enough : 16 ≤ length places₀) where
             p33 : fails33 sh (permits_of pb) (query_of qb) ≡ false
             p33 = sym served-is ∙ ap not (passes B (rewritten_length qb pb cb places) n (sym ex ∙ h)).0
 
@@ -150,11 +154,11 @@ module _ (cb : List ℕ) (vs : List ℤ) (pb qb rewritten : List ℕ) (cells : L
                 ∙ ap (λ (y : List ℕ). rewritten_length y pb cb (placed_from 8 pb 0 0 places₀)) bytes
                 ∙ length-all cb pb (catalogue-passes k) p20 p21 (query_of qb) p33 places₀ enough
 
-            pub refused-40 : room < n → (r : Reply) → r ≡ record { number = 40; rows = 0; columns = 0; length = 0 } → outcome_of r cells rewritten ≡ ask cb vs pb qb rewritten cells
+            pub refused-40 : room < n → refusing 40 ≡ ask cb vs pb qb rewritten cells
             unfolding guard_checks refusal fails40
-            refused-40 l r er =
+            refused-40 l =
                 let f : ltb room (length (bytes_of cb pb qb)) ≡ true = lt-ltb room _ (omega (arith, l, length-is)) in
-                refuse-with 40 (ask-shape ∙ shape-guard ∙ rw (p33, f)) (omega arith) r er
+                refuse-with 40 (ask-shape ∙ shape-guard ∙ rw (p33, f)) (omega arith)
 
             module _ (l : n ≤ room) where
               pub all_pass : refusal (shape_checks sh pb qb room) ≡ 0

@@ -194,7 +194,7 @@ module _ (cb : List ℕ) (vs : List ℤ) (pb qb rewritten : List ℕ) (cells : L
 
   pub answered : (n : ℕ) (w : List ℕ) (r : plain.Reply) (after : List ℤ) → n ≡ length (bytes_of cb pb qb) → n ≤ length rewritten → w ≡ sets rewritten 0 (bytes_of cb pb qb)
       → answer_of r after ≡ give (columns_of qb) (answers (query_of qb) (permitted (tuples_at (catalogue_of cb) vs) (guards_in cb pb (query_of qb)))) cells
-      → outcome_of (record { number = r.number; rows = r.rows; columns = r.columns; length = n }) after w ≡ ask cb vs pb qb rewritten cells
+      → outcome_of (record { answer = r; length = n }) after w ≡ ask cb vs pb qb rewritten cells
   unfolding rewritten_bytes
   answered n w r after en l ew er =
       let bs = bytes_of cb pb qb in

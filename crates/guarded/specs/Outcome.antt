@@ -1,6 +1,8 @@
 -- What a guarded call returns, with both buffers, as the model's outcome.
-use Rattle.std.specs.Prelude.{ℕ, ◌≤◌, ◌<◌, true, List, ◌≡◌, ℤ, length, get_or}
-use Rattle.model.specs.Calls.{Outcome}
+use Rattle.std.specs.Prelude.{ℕ, ◌≤◌, ◌<◌, true, List, ◌≡◌, ℤ, length, get_or, Result, Ok, Err}
+use Rattle.model.specs.Calls.{Outcome, refuse}
+use Rattle.model.specs.Refusals.{number_of}
+use Rattle.model.specs.declared.refusal.Refusal.{Refusal}
 use Rattle.model.specs.Lists.{unique, Every}
 use Rattle.model.specs.Syntax.{Binding, variables, bindings_q}
 use Rattle.model.specs.Meaning.{Rows}
@@ -13,10 +15,16 @@ use Rattle.scans.specs.Flat.{flat_bindings}
 use Rattle.copier.specs.Guard.{part}
 use Rattle.permitted.specs.Given.{rows_for}
 use Rattle.queries.specs.Parts.{query_at, Laid}
+use Rattle.plain.specs.Reply.{answer_of}
 use Rattle.guarded.specs.declared.Reply.{Reply}
 
 abbrev pub outcome_of : Reply → List ℤ → List ℕ → Outcome
-outcome_of r cells rewritten = record { answer = record { number = r.number; rows = r.rows; columns = r.columns; cells = cells }; count = r.length; rewritten = rewritten }
+outcome_of r cells rewritten = record { answer = answer_of r.answer cells; count = r.length; rewritten = rewritten }
+
+-- the same of a call that may be refused: a refusal is its number with zero counts
+abbrev pub result_of : Result Reply Refusal → List ℤ → List ℕ → Outcome
+result_of (Ok r) cells rewritten = outcome_of r cells rewritten
+result_of (Err e) cells rewritten = record { answer = refuse (number_of e) cells; count = 0; rewritten = rewritten }
 
 -- the bytes of the rewritten query
 abbrev pub bytes_of : List ℕ → List ℕ → List ℕ → List ℕ

@@ -1,9 +1,7 @@
 // The guarded call: the permits written into the query, and the query answered over the permitted rows.
 #![tactic(auto)]
 
-ghost use Rattle.std.specs.Prelude.{◌≡◌, true, false, ◌≤◌, length};
-ghost use Rattle.model.specs.Catalogue.{catalogue_of, shape_of};
-ghost use Rattle.model.specs.Checks.{fails10, permit_checks, refusal};
+ghost use Rattle.std.specs.Prelude.{◌≡◌, true, ◌≤◌, length};
 ghost use Rattle.model.specs.Encoding.{query_of};
 ghost use Rattle.model.specs.Meaning.{answers};
 ghost use Rattle.model.specs.Calls.{give, ask};
@@ -12,11 +10,11 @@ ghost use Rattle.scans.specs.Flat.{bound_by, flat_bindings};
 ghost use Rattle.plain.specs.Reply.{answer_of, Answerable};
 ghost use Rattle.permitted.specs.Given.{tiny, Bytes};
 ghost use Rattle.rewriter.specs.Rewritten.{places_in, masks_in};
-ghost use Rattle.guarded.specs.Outcome.{outcome_of, given_rows, Bound, Checks32};
+ghost use Rattle.guarded.specs.Outcome.{result_of, given_rows, Bound, Checks32};
 
 use grammar::Layout;
-use guards::Check33;
-use queries::{Checked, Limits};
+use model::Refusal;
+use queries::Limits;
 
 const LEVELS: usize = model::ASKED_LEVELS;
 
@@ -30,33 +28,11 @@ const FEW_WALKS: usize = VARIABLES * (8 + 16);
 // Where the permits' conditions stand, and which permits apply to each variable.
 const TABLE: usize = rewriter::PLACES + VARIABLES;
 
-// The number of a refusal, 0 where there is none, and the counts of rows, columns and rewritten bytes.
+// The answer, and how many bytes the rewritten query has.
 #[derive(Clone, Copy)]
 pub struct Reply {
-    pub number: u8,
-    pub rows: usize,
-    pub columns: usize,
+    pub answer: plain::Reply,
     pub length: usize,
-}
-
-// A refusal is its number with zero counts.
-fn refused(number: u8) -> Reply
-    ensures { result ≡ record { number = number; rows = 0; columns = 0; length = 0 } }
-{
-    Reply {
-        number,
-        rows: 0,
-        columns: 0,
-        length: 0,
-    }
-}
-
-// 20 to 23, the list alone.
-fn check_permits(permits: &[u8], catalogue: &[u8]) -> u8
-    requires { fails10 catalogue.now ≡ false }
-    ensures { result ≡ refusal (permit_checks (shape_of (catalogue_of catalogue.now)) permits.now) }
-{
-    permits::check(permits, catalogue)
 }
 
 // The asker's own query over the permitted rows of its variables, which are found first: nothing of it runs on another row.
@@ -160,26 +136,22 @@ fn answer_query(
     permits: &[u8],
     rewritten: &mut [u8],
     answer: &mut [i64],
-) -> Reply
+) -> Result<Reply, Refusal>
     requires { Checks32 layout catalogue.now values.now permits.now query.now z.now }
-    ensures { outcome_of result answer.new rewritten.new
+    ensures { result_of result answer.new rewritten.new
         ≡ ask catalogue.now values.now permits.now query.now rewritten.old answer.old }
 {
     let mut table = [0u16; TABLE];
-    let Check33::Passed(n) = guards::fill(query, permits, catalogue, &mut table) else {
-        return refused(33);
-    };
-    if rewritten.len() < n {
-        return refused(40);
+    let length = guards::fill(query, permits, catalogue, &mut table)?;
+    if rewritten.len() < length {
+        return Err(Refusal::RewrittenRoom);
     }
     rewriter::rewrite_query(query, z, layout, LEVELS, permits, &table, rewritten);
-    let r = answer_permitted(query, z, layout, catalogue, values, permits, &table, answer);
-    Reply {
-        number: r.number,
-        rows: r.rows,
-        columns: r.columns,
-        length: n,
-    }
+    let reply = answer_permitted(query, z, layout, catalogue, values, permits, &table, answer);
+    Ok(Reply {
+        answer: reply,
+        length,
+    })
 }
 
 // The checks by rising number; the table of sizes is lent.
@@ -191,32 +163,22 @@ fn ask_with(
     query: &[u8],
     rewritten: &mut [u8],
     answer: &mut [i64],
-) -> Reply
+) -> Result<Reply, Refusal>
     requires { 1024 ≤ length z.old }
-    ensures { outcome_of result answer.new rewritten.new
+    ensures { result_of result answer.new rewritten.new
         ≡ ask catalogue.now values.now permits.now query.now rewritten.old answer.old }
 {
-    let kept = catalogue::check(catalogue, values);
-    if kept != 0 {
-        return refused(kept);
-    }
-    let number = check_permits(permits, catalogue);
-    if number != 0 {
-        return refused(number);
-    }
+    catalogue::check(catalogue, values)?;
+    permits::check(permits, catalogue)?;
     let limits = Limits {
         bytes: model::ASKED_BYTES,
         levels: LEVELS,
         variables: model::ASKED_VARIABLES,
     };
-    match queries::check(query, limits, catalogue, z) {
-        Checked::Refused(n) => refused(n),
-        Checked::Passed(layout) => {
-            answer_query(
-                query, z, layout, catalogue, values, permits, rewritten, answer,
-            )
-        }
-    }
+    let layout = queries::check(query, limits, catalogue, z)?;
+    answer_query(
+        query, z, layout, catalogue, values, permits, rewritten, answer,
+    )
 }
 
 // ask of document 01: for every input the outcome that the model gives.
@@ -227,8 +189,8 @@ pub fn ask(
     query: &[u8],
     rewritten: &mut [u8],
     answer: &mut [i64],
-) -> Reply
-    ensures { outcome_of result answer.new rewritten.new
+) -> Result<Reply, Refusal>
+    ensures { result_of result answer.new rewritten.new
         ≡ ask catalogue.now values.now permits.now query.now rewritten.old answer.old }
 {
     let mut z = [0u16; model::ASKED_BYTES];

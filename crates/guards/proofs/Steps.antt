@@ -32,7 +32,8 @@ use Rattle.guards.specs.Filled.{placed_from, verdict_of, mask_unless_barred, mas
 use Rattle.guards.specs.declared.Verdict.{Verdict}
 use Rattle.guards.specs.Counted.{served_by, turn_length, length_from, length_by, tally_of, tally_all, passed_if, check33}
 use Rattle.guards.specs.declared.Tally.{Tally}
-use Rattle.guards.specs.declared.Check33.TheVariants as C
+use Rattle.std.specs.Prelude.{Ok, Err}
+use Rattle.model.specs.declared.refusal.Refusal.TheVariants.{NoPermit}
 
 module _ (left : ℕ) (list : List ℕ) (at k : ℕ) (places : List ℕ) where
   pub places-none : left ≡ 0 → places ≡ placed_from left list at k places
@@ -236,8 +237,8 @@ module _ (q list cb places : List ℕ) where
     outcome-of : check33 q list cb places ≡ passed_if t.served t.length
     outcome-of = sym (ap (λ (y : Tally). passed_if y.served y.length) et)
 
-    pub outcome-refused : not t.served ≡ true → C.Refused ≡ check33 q list cb places
+    pub outcome-refused : not t.served ≡ true → Err NoPermit ≡ check33 q list cb places
     outcome-refused h = sym (outcome-of ∙ ap (λ (y : Bool). passed_if y t.length) (not-true t.served h))
 
-    pub outcome-passed : not t.served ≡ false → C.Passed t.length ≡ check33 q list cb places
+    pub outcome-passed : not t.served ≡ false → Ok t.length ≡ check33 q list cb places
     outcome-passed h = sym (outcome-of ∙ ap (λ (y : Bool). passed_if y t.length) (not-false t.served h))

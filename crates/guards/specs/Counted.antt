@@ -1,13 +1,13 @@
 -- What is said of the bound variables: whether check 33 passes, and how long the rewritten query is.
-use Rattle.std.specs.Prelude.{ℕ, zero, suc, ◌+◌, ◌*◌, ◌/◌, ◌%◌, ◌≤◌, Bool, true, false, not, cond, ◌||◌, List, eqb, length, get_or}
+use Rattle.std.specs.Prelude.{ℕ, zero, suc, ◌+◌, ◌*◌, ◌/◌, ◌%◌, ◌≤◌, Bool, true, false, not, cond, ◌||◌, List, eqb, length, get_or, Result, Ok, Err}
 use Rattle.model.specs.Lists.{all, total}
+use Rattle.model.specs.declared.refusal.Refusal.{Refusal}
+use Rattle.model.specs.declared.refusal.Refusal.TheVariants.{NoPermit}
 use Rattle.model.specs.Syntax.{Binding}
 use Rattle.catalogue.specs.Layout.{stored_of}
 use Rattle.scans.specs.Flat.{flat_bindings}
 use Rattle.guards.specs.Filled.{mask_for}
 use Rattle.guards.specs.declared.Tally.{Tally}
-use Rattle.guards.specs.declared.Check33.{Check33}
-use Rattle.guards.specs.declared.Check33.TheVariants as C
 
 -- 33: a variable over a stored relation has a permit in its mask
 unfoldable pub served_by : List ℕ → List ℕ → List ℕ → Binding → Bool
@@ -33,16 +33,16 @@ rewritten_length qb pb cb places = length qb + total (length_by qb pb cb places)
 abbrev pub tally_of : List ℕ → List ℕ → List ℕ → List ℕ → List Binding → Tally
 tally_of qb pb cb places bs = record { served = all (served_by qb pb cb) bs; length = total (length_by qb pb cb places) bs }
 
-abbrev pub passed_if : Bool → ℕ → Check33
-passed_if true n = C.Passed n
-passed_if false n = C.Refused
+abbrev pub passed_if : Bool → ℕ → Result ℕ Refusal
+passed_if true n = Ok n
+passed_if false n = Err NoPermit
 
 -- of all that a query binds, with the query's own bytes
 abbrev pub tally_all : List ℕ → List ℕ → List ℕ → List ℕ → Tally
 tally_all qb pb cb places = record { served = all (served_by qb pb cb) (flat_bindings qb); length = rewritten_length qb pb cb places }
 
 -- the outcome of 33
-abbrev pub check33 : List ℕ → List ℕ → List ℕ → List ℕ → Check33
+abbrev pub check33 : List ℕ → List ℕ → List ℕ → List ℕ → Result ℕ Refusal
 check33 qb pb cb places = passed_if (all (served_by qb pb cb) (flat_bindings qb)) (rewritten_length qb pb cb places)
 
 -- no place and no length is large, so that sums of them are none either

@@ -14,6 +14,7 @@ ghost use Rattle.rewriter.specs.Rewritten.{places_in, masks_in};
 ghost use Rattle.guards.specs.Filled.{placed_from, verdict_of, mask_for, masked, bit_of};
 ghost use Rattle.guards.specs.Counted.{Short, turn_length, length_from, tally_of, tally_all, check33};
 
+use model::Refusal;
 use scans::Bound;
 
 const PERMITS: u8 = model::PERMITS as u8;
@@ -30,13 +31,6 @@ struct Verdict {
 struct Tally {
     served: bool,
     length: usize,
-}
-
-// Check 33; where it passes, how many bytes the rewritten query has.
-#[derive(Clone, Copy)]
-pub enum Check33 {
-    Passed(usize),
-    Refused,
 }
 
 fn put(table: &mut [u16], i: usize, x: usize)
@@ -228,8 +222,14 @@ fn enter_all(query: &[u8], permits: &[u8], catalogue: &[u8], table: &mut [u16]) 
     }
 }
 
-// Fills the table. A variable without a permit does not end the walk: a refusal too is said after all of them.
-pub fn fill(query: &[u8], permits: &[u8], catalogue: &[u8], table: &mut [u16]) -> Check33
+// Fills the table: check 33, and where it passes how many bytes the rewritten query has. A variable without a permit does not end the walk: a refusal
+// too is said after all of them.
+pub fn fill(
+    query: &[u8],
+    permits: &[u8],
+    catalogue: &[u8],
+    table: &mut [u16],
+) -> Result<usize, Refusal>
     requires { (length query.now ≤ 1024) × (length permits.now ≤ 2048) × Short (places_in table.old) }
     ensures value { result ≡ check33 query.now permits.now catalogue.now (places_in table.new) }
     ensures table_after { places_in table.new ≡ placed_from 8 permits.now 0 0 (places_in table.old) }
@@ -239,7 +239,7 @@ pub fn fill(query: &[u8], permits: &[u8], catalogue: &[u8], table: &mut [u16]) -
     fill_places(permits, 0, 0, model::PERMITS, table);
     let t = enter_all(query, permits, catalogue, table);
     if !t.served {
-        return Check33::Refused;
+        return Err(Refusal::NoPermit);
     }
-    Check33::Passed(t.length)
+    Ok(t.length)
 }

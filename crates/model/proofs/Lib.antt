@@ -31,3 +31,4 @@ pub mod BookExamples
 pub mod Shelf
 pub mod Largest
 pub mod Width
+pub mod Refusals

@@ -7,6 +7,7 @@ ghost use Rattle.model.specs.Syntax.{variables};
 ghost use Rattle.model.specs.Permits.{bit};
 ghost use Rattle.model.specs.Catalogue.{catalogue_of, shape_of};
 ghost use Rattle.model.specs.Checks.{fails10, fails20, permit_checks, refusal};
+ghost use Rattle.model.specs.Refusals.{number_of, code_of};
 ghost use Rattle.catalogue.specs.Layout.{count_of, stored_of, attributes_of};
 ghost use Rattle.scans.specs.Flat.{flat_bindings, stored_in, bound_by};
 ghost use Rattle.conditions.specs.Reach.{shape_in, permit_scope};
@@ -17,6 +18,7 @@ ghost use Rattle.permits.specs.Granted.{Granted, Listed};
 use conditions::Reading;
 use grammar::Input;
 use kinds::PermitRecord;
+use model::Refusal;
 use scans::Bound;
 
 const BYTES: usize = model::PERMIT_BYTES;
@@ -204,34 +206,34 @@ fn both(a: bool, b: bool) -> bool
     if a { b } else { false }
 }
 
-// The number of a list that was not read: 20 where it is not well formed at any depth, else 21.
-fn number(permits: &[u8]) -> u8
-    ensures { result ≡ cond (fails20 permits.now) 20 21 }
+// Why a list was not read: it is not well formed at any depth (20), or else over a limit (21).
+fn unread(permits: &[u8]) -> Refusal
+    ensures { number_of result ≡ cond (fails20 permits.now) 20 21 }
 {
     if grammar::refused(permits, Input::Permits) {
-        20
+        Refusal::PermitSyntax
     } else {
-        21
+        Refusal::PermitLimits
     }
 }
 
-// Checks 20 to 23 of a list, from one reading: the number of the first that fails, or 0.
-pub fn check(permits: &[u8], catalogue: &[u8]) -> u8
+// Checks 20 to 23 of a list, from one reading: the first that fails.
+pub fn check(permits: &[u8], catalogue: &[u8]) -> Result<(), Refusal>
     requires { fails10 catalogue.now ≡ false }
-    ensures { result ≡ refusal (permit_checks (shape_of (catalogue_of catalogue.now)) permits.now) }
+    ensures { code_of result ≡ refusal (permit_checks (shape_of (catalogue_of catalogue.now)) permits.now) }
 {
     if model::LIST_BYTES < permits.len() {
-        return 20;
+        return Err(Refusal::PermitSyntax);
     }
     let mut z = [0u16; BYTES];
     let Listing::Whole(known, over) = rest(permits, 0, model::PERMITS, catalogue, &mut z) else {
-        return number(permits);
+        return Err(unread(permits));
     };
     if !known {
-        return 22;
+        return Err(Refusal::PermitScope);
     }
     if !over {
-        return 23;
+        return Err(Refusal::PermitWorkspace);
     }
-    0
+    Ok(())
 }

@@ -115,14 +115,14 @@ module _ (cb : List ℕ) (vs : List ℤ) (q : List ℕ) (cells : List ℤ) (n : 
   unfolding Every keeper_checks
   keeper-numbers = (omega arith, (omega arith, tt))
 
-  pub refused-first : (r : Reply) → (n ≡ 0 → ⊥) → r ≡ record { number = n; rows = 0; columns = 0 } → answer_of r cells ≡ evaluate cb vs q cells
+  pub refused-first : 1 ≤ n → refuse n cells ≡ evaluate cb vs q cells
   unfolding evaluate evaluate_unless evaluate_checks keeper_checks refusal
-  refused-first r h er = ap (λ (x : Reply). answer_of x cells) er ∙ go (fails10 cb) (fails11 cb vs) refl refl
+  refused-first h = go (fails10 cb) (fails11 cb vs) refl refl
     where
       go : (a b : Bool) → fails10 cb ≡ a → fails11 cb vs ≡ b → refuse n cells ≡ evaluate cb vs q cells
       go true b p r = let e : n ≡ 10 = en ∙ rw p in ap (λ k. refuse k cells) e ∙ sym (rw p)
       go false true p r = let e : n ≡ 11 = en ∙ rw (p, r) in ap (λ k. refuse k cells) e ∙ sym (rw (p, r))
-      go false false p r = let e : n ≡ 0 = en ∙ rw (p, r) in absurd (h e)
+      go false false p r = let e : n ≡ 0 = en ∙ rw (p, r) in absurd (omega (arith, h, e))
 
   module _ (z : n ≡ 0) where
     kept : refusal (keeper_checks cb vs) ≡ 0
@@ -136,10 +136,10 @@ module _ (cb : List ℕ) (vs : List ℤ) (q : List ℕ) (cells : List ℤ) (n : 
     unfolding evaluate_checks
     rest-is = refusal-skip (keeper_checks cb vs) _ keeper-numbers kept
 
-    pub refused-second : (m : ℕ) (r : Reply) → m ≡ refusal (query_checks plain_limits (shape_of (catalogue_of cb)) q) → 1 ≤ m → r ≡ record { number = m; rows = 0; columns = 0 } → answer_of r cells ≡ evaluate cb vs q cells
+    pub refused-second : (m : ℕ) → m ≡ refusal (query_checks plain_limits (shape_of (catalogue_of cb)) q) → 1 ≤ m → refuse m cells ≡ evaluate cb vs q cells
     unfolding evaluate evaluate_unless
-    refused-second zero r em h er = absurd (omega arith)
-    refused-second (suc m) r em h er = ap (λ (x : Reply). answer_of x cells) er ∙ sym (rw (rest-is ∙ sym em))
+    refused-second zero em h = absurd (omega arith)
+    refused-second (suc m) em h = sym (rw (rest-is ∙ sym em))
 
     module _ (y : Layout) (w : List ℕ) (em : 0 ≡ refusal (query_checks plain_limits (shape_of (catalogue_of cb)) q)) where
       pub answerable : Laid y q → query_at y 64 q w ≡ query_of q → Answerable y 64 q w cb

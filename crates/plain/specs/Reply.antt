@@ -1,11 +1,14 @@
 -- What a call returns, with the cells of the answer buffer, as the model's answer.
-use Rattle.std.specs.Prelude.{ℕ, ◌+◌, ◌≤◌, false, cond, List, ◌≡◌, ℤ, length, get_or, drop}
-use Rattle.model.specs.Calls.{Answer}
+use Rattle.std.specs.Prelude.{ℕ, ◌+◌, ◌≤◌, false, cond, List, ◌≡◌, ℤ, length, get_or, drop, Result, Ok, Err}
+use Rattle.model.specs.Calls.{Answer, refuse}
 use Rattle.model.specs.Encoding.{query_of}
 use Rattle.model.specs.Syntax.{Query}
 use Rattle.model.specs.Meaning.{Assignment, Rows, holds, target_row}
 use Rattle.model.specs.Catalogue.{catalogue_of, shape_of}
 use Rattle.model.specs.Limits.{Limits}
+use Rattle.model.specs.Refusals.{number_of}
+use Rattle.model.specs.declared.refusal.Refusal.{Refusal}
+use Rattle.model.specs.declared.refusal.Refusal.TheVariants.{AnswerRoom}
 use Rattle.model.specs.Checks.{fails10, fails32}
 use Rattle.numbers.specs.Recalled.{holds_by}
 use Rattle.odometer.specs.declared.Plan.{Plan}
@@ -20,12 +23,21 @@ use Rattle.rows.specs.declared.Filled.{Filled}
 use Rattle.queries.specs.Parts.{query_at, Laid}
 use Rattle.plain.specs.declared.Reply.{Reply}
 
+-- the number of an answer, 0 where every row fitted
+abbrev pub number_in : Reply → ℕ
+number_in r = cond r.full (number_of AnswerRoom) 0
+
 abbrev pub answer_of : Reply → List ℤ → Answer
-answer_of r cells = record { number = r.number; rows = r.rows; columns = r.columns; cells = cells }
+answer_of r cells = record { number = number_in r; rows = r.rows; columns = r.columns; cells = cells }
+
+-- the same of a call that may be refused: a refusal is its number with zero counts
+abbrev pub result_of : Result Reply Refusal → List ℤ → Answer
+result_of (Ok r) cells = answer_of r cells
+result_of (Err e) cells = refuse (number_of e) cells
 
 -- the reply that the state of the buffer gives
 abbrev pub reply_of : ℕ → Filled → Reply
-reply_of columns s = record { number = cond s.full 41 0; rows = s.rows; columns = columns }
+reply_of columns s = record { rows = s.rows; columns = columns; full = s.full }
 
 -- the plan of a query of which no range is bound, with its table's list of targets from place f on
 abbrev pub plan_of : Layout → ℕ → ℕ → Plan

@@ -9,12 +9,13 @@ ghost use Rattle.model.specs.Calls.{give, evaluate};
 ghost use Rattle.walks.specs.Walks.{rows_by};
 ghost use Rattle.walks.specs.Assigned.{assigned};
 ghost use Rattle.queries.specs.Parts.{query_at};
-ghost use Rattle.plain.specs.Reply.{answer_of, reply_of, plan_of, memo_of, Cleared, Furnished, Answerable, Passed, Trusted};
+ghost use Rattle.plain.specs.Reply.{answer_of, result_of, reply_of, plan_of, memo_of, Cleared, Furnished, Answerable, Passed, Trusted};
 
 use aggregates::Left;
 use grammar::Layout;
 use odometer::Plan;
-use queries::{Checked, Limits};
+use model::Refusal;
+use queries::Limits;
 use rows::Filled;
 
 const LEVELS: usize = model::PLAIN_LEVELS;
@@ -31,41 +32,37 @@ const TWO: usize = 4168;
 
 const EIGHT: usize = 16480;
 
-// The number of a refusal, 0 where there is none, and the counts of rows and columns.
+// How many rows and columns an answer has, and whether a distinct row did not fit: 41, which the rows that fit come with.
 #[derive(Clone, Copy)]
 pub struct Reply {
-    pub number: u8,
     pub rows: usize,
     pub columns: usize,
+    pub full: bool,
 }
 
-// A refusal is its number with zero counts.
-fn refused(number: u8) -> Reply
-    ensures { result ≡ record { number = number; rows = 0; columns = 0 } }
-{
-    Reply {
-        number,
-        rows: 0,
-        columns: 0,
+impl Reply {
+    ghost use Rattle.plain.specs.Reply.{number_in};
+
+    // The number for C, 0 where every row fitted.
+    pub fn number(self) -> u8
+        ensures { result ≡ number_in self }
+    {
+        if self.full {
+            u8::from(Refusal::AnswerRoom)
+        } else {
+            0
+        }
     }
 }
 
-// 41 where a distinct row did not fit.
+// What the state of the buffer says.
 fn filled(state: Filled, columns: usize) -> Reply
     ensures { result ≡ reply_of columns state }
 {
-    let full = state.full;
-    if full {
-        return Reply {
-            number: 41,
-            rows: state.rows,
-            columns,
-        };
-    }
     Reply {
-        number: 0,
         rows: state.rows,
         columns,
+        full: state.full,
     }
 }
 
@@ -508,46 +505,39 @@ fn evaluate_with(
     values: &[i32],
     query: &[u8],
     answer: &mut [i64],
-) -> Reply
+) -> Result<Reply, Refusal>
     requires { length query.now ≤ 17216 → length query.now ≤ length z.old }
-    ensures { answer_of result answer.new ≡ evaluate catalogue.now values.now query.now answer.old }
+    ensures { result_of result answer.new ≡ evaluate catalogue.now values.now query.now answer.old }
 {
-    let number = catalogue::check(catalogue, values);
-    if number != 0 {
-        return refused(number);
-    }
+    catalogue::check(catalogue, values)?;
     let limits = Limits {
         bytes: model::PLAIN_BYTES,
         levels: LEVELS,
         variables: model::PLAIN_VARIABLES,
     };
-    match queries::check(query, limits, catalogue, z) {
-        Checked::Refused(n) => refused(n),
-        Checked::Passed(layout) => {
-            answer_all(query, z, layout, LEVELS, catalogue, values, answer)
-        }
-    }
+    let layout = queries::check(query, limits, catalogue, z)?;
+    Ok(answer_all(query, z, layout, LEVELS, catalogue, values, answer))
 }
 
 // A short query: a short table.
-fn evaluate_short(catalogue: &[u8], values: &[i32], query: &[u8], answer: &mut [i64]) -> Reply
+fn evaluate_short(catalogue: &[u8], values: &[i32], query: &[u8], answer: &mut [i64]) -> Result<Reply, Refusal>
     requires { length query.now ≤ 256 }
-    ensures { answer_of result answer.new ≡ evaluate catalogue.now values.now query.now answer.old }
+    ensures { result_of result answer.new ≡ evaluate catalogue.now values.now query.now answer.old }
 {
     let mut z = [0u16; 256];
     evaluate_with(&mut z, catalogue, values, query, answer)
 }
 
-fn evaluate_long(catalogue: &[u8], values: &[i32], query: &[u8], answer: &mut [i64]) -> Reply
-    ensures { answer_of result answer.new ≡ evaluate catalogue.now values.now query.now answer.old }
+fn evaluate_long(catalogue: &[u8], values: &[i32], query: &[u8], answer: &mut [i64]) -> Result<Reply, Refusal>
+    ensures { result_of result answer.new ≡ evaluate catalogue.now values.now query.now answer.old }
 {
     let mut z = [0u16; model::PLAIN_BYTES];
     evaluate_with(&mut z, catalogue, values, query, answer)
 }
 
 // evaluate of document 01: for every input the outcome that the model gives. A large table is not cleared for a short query.
-pub fn evaluate(catalogue: &[u8], values: &[i32], query: &[u8], answer: &mut [i64]) -> Reply
-    ensures { answer_of result answer.new ≡ evaluate catalogue.now values.now query.now answer.old }
+pub fn evaluate(catalogue: &[u8], values: &[i32], query: &[u8], answer: &mut [i64]) -> Result<Reply, Refusal>
+    ensures { result_of result answer.new ≡ evaluate catalogue.now values.now query.now answer.old }
 {
     if query.len() <= 256 {
         return evaluate_short(catalogue, values, query, answer);

@@ -221,13 +221,6 @@ module _ (l : Limits) (sh : Shape) (q w : List ℕ) (m : Found) (h : Told m l sh
       go true e = refl
       go false e = let f : fails31 (limits_of l) (query_of q) ≡ true = subst (λ x. Told x l sh q w) em h e in sym (rw f)
 
-  pub refused-some : (b k : ℕ) → k ≡ cond (fails30_at b q) 30 31 → 1 ≤ k
-  refused-some b k e = omega (arith, e, go (fails30_at b q))
-    where
-      go : (x : Bool) → 1 ≤ cond x 30 31
-      go true = omega arith
-      go false = omega arith
-
   module _ (y : Layout) (b : Bool) (em : m ≡ Whole y b) where
     abbrev r : Read y b l sh q w
     r = subst (λ x. Told x l sh q w) em h

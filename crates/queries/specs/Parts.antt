@@ -1,17 +1,16 @@
 -- The query that bytes and their table of sizes stand for, total for any bytes.
-use Rattle.std.specs.Prelude.{ℕ, ◌<◌, ◌≤◌, ◌≡◌, List, [], ◌∷◌, length, drop}
+use Rattle.std.specs.Prelude.{ℕ, ◌<◌, ◌≤◌, ◌≡◌, List, [], ◌∷◌, length, drop, Result, Ok, Err}
 use Rattle.std.proofs.Math.Option.{some}
 use Rattle.model.specs.Lists.{update}
 use Rattle.model.specs.Syntax.{Binding, Query}
 use Rattle.model.specs.Encoding.{ok, read_query, query_of}
 use Rattle.model.specs.Scope.{Scope}
 use Rattle.model.specs.Limits as M
+use Rattle.model.specs.declared.refusal.Refusal.{Refusal}
 use Rattle.sizes.specs.Decode.{decode}
 use Rattle.grammar.specs.declared.Layout.{Layout}
 use Rattle.grammar.specs.Shapes.{layout}
 use Rattle.queries.specs.declared.Limits.{Limits}
-use Rattle.queries.specs.declared.Checked.{Checked}
-use Rattle.queries.specs.declared.Checked.TheVariants.{Refused, Passed}
 use Rattle.sizes.specs.Parts.{ranges_at, targets_at}
 
 -- read to level l, its parts standing as the layout says
@@ -41,12 +40,7 @@ pub record Room (q z : List ℕ) : Type 0 where
   pub room : length q ≤ length z
   pub short : length q < 65536
 
--- the number of a refusal, 0 where there is none
-abbrev pub number_of : Checked → ℕ
-number_of (Refused n) = n
-number_of (Passed y) = 0
-
 -- where the query passed: its layout, and the table with which its bytes stand for it
-abbrev pub Ready : Checked → ℕ → List ℕ → List ℕ → Type 0
-Ready (Refused n) l q z = 1 ≤ n
-Ready (Passed y) l q z = Laid y q × (query_at y l q z ≡ query_of q)
+abbrev pub Ready : Result Layout Refusal → ℕ → List ℕ → List ℕ → Type 0
+Ready (Err e) l q z = Unit
+Ready (Ok y) l q z = Laid y q × (query_at y l q z ≡ query_of q)

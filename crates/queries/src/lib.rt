@@ -9,13 +9,15 @@ ghost use Rattle.model.specs.Scope.{known_binding};
 ghost use Rattle.conditions.specs.Reach.{scope_of, shape_in};
 ghost use Rattle.model.specs.Catalogue.{catalogue_of, shape_of};
 ghost use Rattle.model.specs.Checks.{fails10, query_checks, refusal};
-ghost use Rattle.queries.specs.Parts.{reach_on, limits_of, number_of, Ready};
+ghost use Rattle.model.specs.Refusals.{number_of, code_of};
+ghost use Rattle.queries.specs.Parts.{reach_on, limits_of, Ready};
 ghost use Rattle.grammar.specs.Shapes.{fails30_at};
 ghost use Rattle.queries.specs.Found.{head_ranges, TargetsFound, Leads, Rest, Told};
 
 use conditions::Reading;
 use grammar::{Input, Layout};
 use kinds::HeadRecord;
+use model::Refusal;
 
 // The limits of a call.
 #[derive(Clone, Copy)]
@@ -23,13 +25,6 @@ pub struct Limits {
     pub bytes: usize,
     pub levels: usize,
     pub variables: u8,
-}
-
-#[derive(Clone, Copy)]
-pub enum Checked {
-    // 30, 31 or 32
-    Refused(u8),
-    Passed(Layout),
 }
 
 // The RANGE records that a query starts with: how many, and whether they and their relations have known numbers.
@@ -226,31 +221,36 @@ fn read(q: &[u8], limits: Limits, catalogue: &[u8], z: &mut [u16]) -> Found
     Found::Whole(layout, bound.once)
 }
 
-// The number of a query that was not read: 30 where it is not well formed at any depth, else 31.
-fn number(q: &[u8], bytes: usize) -> u8
-    ensures { result ≡ cond (fails30_at bytes q.now) 30 31 }
+// Why a query was not read: it is not well formed at any depth (30), or else over a limit (31).
+fn unread(q: &[u8], bytes: usize) -> Refusal
+    ensures { number_of result ≡ cond (fails30_at bytes q.now) 30 31 }
 {
     if grammar::refused(q, Input::Query(bytes)) {
-        30
+        Refusal::QuerySyntax
     } else {
-        31
+        Refusal::QueryLimits
     }
 }
 
 // The checks of a query, by rising number, from one reading. Where it passes its table of sizes is left filled; where it does not, what stands in
 // the table at the query's places is free. Past the query the table is as it was.
-pub fn check(q: &[u8], limits: Limits, catalogue: &[u8], z: &mut [u16]) -> Checked
+pub fn check(
+    q: &[u8],
+    limits: Limits,
+    catalogue: &[u8],
+    z: &mut [u16],
+) -> Result<Layout, Refusal>
     requires { (fails10 catalogue.now ≡ false) × (length q.now ≤ limits.bytes → length q.now ≤ length z.old) × (limits.bytes < 65536) }
-    ensures result_value { number_of result ≡ refusal (query_checks (limits_of limits) (shape_of (catalogue_of catalogue.now)) q.now) }
+    ensures result_value { code_of result ≡ refusal (query_checks (limits_of limits) (shape_of (catalogue_of catalogue.now)) q.now) }
     ensures ready { Ready result limits.levels q.now z.new }
     ensures z_unchanged { drop (length q.now) z.new ≡ drop (length q.now) z.old }
 {
     let bytes = limits.bytes;
     let Found::Whole(layout, inside) = read(q, limits, catalogue, z) else {
-        return Checked::Refused(number(q, bytes));
+        return Err(unread(q, bytes));
     };
     if !inside {
-        return Checked::Refused(32);
+        return Err(Refusal::QueryScope);
     }
-    Checked::Passed(layout)
+    Ok(layout)
 }

@@ -5,7 +5,10 @@ ghost use Rattle.std.specs.Prelude.{◌≡◌};
 ghost use Rattle.model.specs.Calls.{evaluate, ask};
 ghost use Rattle.quel.specs.ReadText.{read_text};
 ghost use Rattle.waldumre.specs.Outcome.{answer_of, outcome_of, reading_of, text_outcome_of};
+ghost use Rattle.waldumre.specs.Outcome.{refused_as, answered_as, asked_as};
 ghost use Rattle.waldumre.specs.AskText.{ask_text};
+
+use model::Refusal;
 
 // The number of a refusal, 0 where there is none, and the counts of rows, columns and rewritten bytes.
 #[repr(C)]
@@ -17,10 +20,49 @@ pub struct Outcome {
     pub length: u64,
 }
 
-fn wide(x: u8) -> u64
-    ensures { result ≡ x }
+// A refusal is its number with zero counts.
+fn refused(refusal: Refusal) -> Outcome
+    ensures { result ≡ refused_as refusal }
 {
-    x as u64
+    Outcome {
+        number: u64::from(u8::from(refusal)),
+        rows: 0,
+        columns: 0,
+        length: 0,
+    }
+}
+
+// The plain evaluator rewrites nothing, so its third count is 0.
+impl From<Result<plain::Reply, Refusal>> for Outcome {
+    ghost from_gives = { λ r o. o ≡ answered_as r };
+
+    fn from(reply: Result<plain::Reply, Refusal>) -> Outcome {
+        match reply {
+            Ok(r) => Outcome {
+                number: u64::from(r.number()),
+                rows: r.rows as u64,
+                columns: r.columns as u64,
+                length: 0,
+            },
+            Err(refusal) => refused(refusal),
+        }
+    }
+}
+
+impl From<Result<guarded::Reply, Refusal>> for Outcome {
+    ghost from_gives = { λ r o. o ≡ asked_as r };
+
+    fn from(reply: Result<guarded::Reply, Refusal>) -> Outcome {
+        match reply {
+            Ok(r) => Outcome {
+                number: u64::from(r.answer.number()),
+                rows: r.answer.rows as u64,
+                columns: r.answer.columns as u64,
+                length: r.length as u64,
+            },
+            Err(refusal) => refused(refusal),
+        }
+    }
 }
 
 // The plain evaluator; it rewrites nothing, so its third count is 0.
@@ -34,13 +76,7 @@ pub extern "C" fn waldumre_evaluate(
     ensures answer_after { answer_of result answer.new ≡ evaluate catalogue.now values.now query.now answer.old }
     ensures length_value { result.length ≡ 0 }
 {
-    let r = plain::evaluate(catalogue, values, query, answer);
-    Outcome {
-        number: wide(r.number),
-        rows: r.rows as u64,
-        columns: r.columns as u64,
-        length: 0,
-    }
+    Outcome::from(plain::evaluate(catalogue, values, query, answer))
 }
 
 // The guarded call.
@@ -57,12 +93,7 @@ pub extern "C" fn waldumre_ask(
         ≡ ask catalogue.now values.now permits.now query.now rewritten.old answer.old }
 {
     let r = guarded::ask(catalogue, values, permits, query, rewritten, answer);
-    Outcome {
-        number: wide(r.number),
-        rows: r.rows as u64,
-        columns: r.columns as u64,
-        length: r.length as u64,
-    }
+    Outcome::from(r)
 }
 
 // The number of a refusal of the reader, 0 where there is none, and the length of the records.
@@ -80,7 +111,7 @@ pub extern "C" fn waldumre_read_query(text: &[u8], names: &[u8], records: &mut [
 {
     let reading = quick::read(text, names, records);
     Reading {
-        number: wide(reading.number),
+        number: u64::from(reading.number),
         length: reading.length as u64,
     }
 }
@@ -107,7 +138,7 @@ pub extern "C" fn waldumre_ask_text(
     if number != 0 {
         let none = 0;
         return Outcome {
-            number: wide(number),
+            number: u64::from(number),
             rows: none,
             columns: none,
             length: none,

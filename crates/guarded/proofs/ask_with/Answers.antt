@@ -1,25 +1,31 @@
 use mathlib.Core.Path.{sym, ap, subst, ◌∙◌}
 use native.Mathlib.Omega.{arith}
-use Rattle.queries.specs.declared.Checked.{Checked}
-use Rattle.queries.specs.Parts.{number_of, Ready}
+use Rattle.std.specs.Prelude.{Result}
+use Rattle.std.proofs.lemmas.Result.{err_from_is_err_and}
+use Rattle.grammar.specs.declared.Layout.{Layout}
+use Rattle.model.specs.declared.refusal.Refusal.{Refusal}
+use Rattle.model.specs.Refusals.{code_of}
+use Rattle.model.proofs.Refusals.{number-positive}
+use Rattle.queries.specs.Parts.{Ready}
 use Rattle.guarded.proofs.Numbers.{refused-kept, refused-permits, refused-query, catalogue-passes}
 use Rattle.guarded.proofs.ask_with.Goals as goal
 
-pub returns-then-kept-ne0 : goal.returns-then-kept-ne0
-returns-then-kept-ne0 c = refused-kept c.args.catalogue.now c.args.values.now c.args.permits.now c.args.query.now c.args.rewritten.now c.args.answer.now _ _ c.check-kept.ensures c.if-kept-ne0.true c.refused.ensures
+pub returns-in_err-check : goal.returns-in_err-check
+returns-in_err-check c = let p = err_from_is_err_and c.from_residual.result c.from_residual.ensures.1 in rw (p.1, p.2) (refused-kept c.args.catalogue.now c.args.values.now c.args.permits.now c.args.query.now c.args.rewritten.now c.args.answer.now _ (sym (ap code_of c.in_err-check.was) ∙ c.check.ensures) (number-positive _))
 
-pub check_permits-number-requires : goal.check_permits-number-requires
-check_permits-number-requires c = catalogue-passes c.args.catalogue.now c.args.values.now c.args.permits.now c.args.query.now c.args.rewritten.now c.args.answer.now (sym c.check-kept.ensures ∙ c.if-kept-ne0.false)
+pub check-requires-2 : goal.check-requires-2
+check-requires-2 c = catalogue-passes c.args.catalogue.now c.args.values.now c.args.permits.now c.args.query.now c.args.rewritten.now c.args.answer.now (sym c.check.ensures ∙ ap code_of c.in_ok-check.was)
 
-pub returns-then-number-ne0 : goal.returns-then-number-ne0
-returns-then-number-ne0 c = refused-permits c.args.catalogue.now c.args.values.now c.args.permits.now c.args.query.now c.args.rewritten.now c.args.answer.now (sym c.check-kept.ensures ∙ c.if-kept-ne0.false) _ _ c.check_permits-number.ensures c.if-number-ne0.true c.refused-then-number-ne0.ensures
+pub returns-in_err-check-2 : goal.returns-in_err-check-2
+returns-in_err-check-2 c = let p = err_from_is_err_and c.from_residual-in_err-check-2.result c.from_residual-in_err-check-2.ensures.1 in rw (p.1, p.2) (refused-permits c.args.catalogue.now c.args.values.now c.args.permits.now c.args.query.now c.args.rewritten.now c.args.answer.now (sym c.check.ensures ∙ ap code_of c.in_ok-check.was) _ (sym (ap code_of c.in_err-check-2.was) ∙ c.check-2.ensures) (number-positive _))
 
-pub check-requires : goal.check-requires
-check-requires c = let pre = c.requires in (catalogue-passes c.args.catalogue.now c.args.values.now c.args.permits.now c.args.query.now c.args.rewritten.now c.args.answer.now (sym c.check-kept.ensures ∙ c.if-kept-ne0.false), (λ h. omega (arith, pre)), omega arith)
+pub check-requires-3 : goal.check-requires-3
+check-requires-3 c = let pre = c.requires in (catalogue-passes c.args.catalogue.now c.args.values.now c.args.permits.now c.args.query.now c.args.rewritten.now c.args.answer.now (sym c.check.ensures ∙ ap code_of c.in_ok-check.was), (λ h. omega (arith, pre)), omega arith)
+
+pub returns-in_err-layout : goal.returns-in_err-layout
+returns-in_err-layout c = let p = err_from_is_err_and c.from_residual-in_err-layout.result c.from_residual-in_err-layout.ensures.1 in rw (p.1, p.2) (refused-query c.args.catalogue.now c.args.values.now c.args.permits.now c.args.query.now c.args.rewritten.now c.args.answer.now (sym c.check.ensures ∙ ap code_of c.in_ok-check.was) (sym c.check-2.ensures ∙ ap code_of c.in_ok-check-2.was) _ (sym (ap code_of c.in_err-layout.was) ∙ c.check-3.ensures.result_value) (number-positive _))
 
 pub answer_query-requires : goal.answer_query-requires
-answer_query-requires c = record { kept = (sym c.check-kept.ensures ∙ c.if-kept-ne0.false); permits = (sym c.check_permits-number.ensures ∙ c.if-number-ne0.false); query = sym (sym (ap number_of c.in-Passed.is) ∙ c.check.ensures.result_value); ready = (subst (λ (r : Checked). Ready r 32 c.args.query.now c.check.new.z) c.in-Passed.is c.check.ensures.ready).1; laid = (subst (λ (r : Checked). Ready r 32 c.args.query.now c.check.new.z) c.in-Passed.is c.check.ensures.ready).0 }
-
-pub returns-in-Refused : goal.returns-in-Refused
-returns-in-Refused c = let query = c.args.query.now in
-    refused-query c.args.catalogue.now c.args.values.now c.args.permits.now query c.args.rewritten.now c.args.answer.now (sym c.check-kept.ensures ∙ c.if-kept-ne0.false) (sym c.check_permits-number.ensures ∙ c.if-number-ne0.false) _ _ (sym (ap number_of c.in-Refused.is) ∙ c.check.ensures.result_value) (subst (λ (r : Checked). Ready r 32 query c.check.new.z) c.in-Refused.is c.check.ensures.ready) c.refused-in-Refused.ensures
+answer_query-requires c =
+    let ready = subst (λ (r : Result Layout Refusal). Ready r 32 c.args.query.now c.check-3.new.z) c.in_ok-layout.was c.check-3.ensures.ready in
+    record { kept = (sym c.check.ensures ∙ ap code_of c.in_ok-check.was); permits = (sym c.check-2.ensures ∙ ap code_of c.in_ok-check-2.was); query = sym c.check-3.ensures.result_value ∙ ap code_of c.in_ok-layout.was; ready = ready.1; laid = ready.0 }

@@ -6,7 +6,7 @@ pub returns-then-permits-gt-LIST_BYTES : goal.returns-then-permits-gt-LIST_BYTES
 returns-then-permits-gt-LIST_BYTES c = number-long (shape_of (catalogue_of c.args.catalogue.now)) c.args.permits.now c.if-permits-gt-LIST_BYTES.true
 
 pub returns-in_default : goal.returns-in_default
-returns-in_default c = number-unread (shape_of (catalogue_of c.args.catalogue.now)) c.args.permits.now c.rest.result c.in_default.is c.rest.ensures _ c.number.ensures
+returns-in_default c = number-unread (shape_of (catalogue_of c.args.catalogue.now)) c.args.permits.now c.rest.result c.in_default.is c.rest.ensures _ c.unread.ensures
 
 pub returns-then-not-known : goal.returns-then-not-known
 returns-then-not-known c = number-22 (shape_of (catalogue_of c.args.catalogue.now)) c.args.permits.now c.if-permits-gt-LIST_BYTES.false c.rest.result _ _ c.in-Whole.is c.rest.ensures c.if-not-known.true-raw

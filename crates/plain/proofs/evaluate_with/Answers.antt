@@ -1,23 +1,29 @@
 use native.Mathlib.Omega.{arith}
-use mathlib.Core.Path.{sym, ap, ◌∙◌, subst}
-use Rattle.queries.specs.declared.Checked.{Checked}
-use Rattle.queries.specs.Parts.{number_of, Ready}
+use mathlib.Core.Path.{refl, sym, ap, ◌∙◌, subst}
+use Rattle.std.specs.Prelude.{Result}
+use Rattle.std.proofs.lemmas.Result.{err_from_is_err_and}
+use Rattle.grammar.specs.declared.Layout.{Layout}
+use Rattle.model.specs.declared.refusal.Refusal.{Refusal}
+use Rattle.model.specs.Refusals.{code_of}
+use Rattle.model.proofs.Refusals.{number-positive}
+use Rattle.queries.specs.Parts.{Ready}
 use Rattle.plain.proofs.Answers.{refused-first, catalogue-passes, refused-second, answerable, accepted}
 use Rattle.plain.proofs.evaluate_with.Goals as goal
 
-pub returns-then-number-ne0 : goal.returns-then-number-ne0
-returns-then-number-ne0 c = refused-first c.args.catalogue.now c.args.values.now c.args.query.now c.args.answer.now _ c.check-number.ensures _ c.if-number-ne0.true c.refused.ensures
+pub returns-in_err-check : goal.returns-in_err-check
+returns-in_err-check c = let p = err_from_is_err_and c.from_residual.result c.from_residual.ensures.1 in rw (p.1, p.2) (refused-first c.args.catalogue.now c.args.values.now c.args.query.now c.args.answer.now _ (sym (ap code_of c.in_err-check.was) ∙ c.check.ensures) (number-positive _))
 
-pub check-requires : goal.check-requires
-check-requires c = let pre = c.requires in (catalogue-passes c.args.catalogue.now c.args.values.now c.args.query.now c.args.answer.now _ c.check-number.ensures c.if-number-ne0.false, pre, omega arith)
+pub check-requires-2 : goal.check-requires-2
+check-requires-2 c = let pre = c.requires in (catalogue-passes c.args.catalogue.now c.args.values.now c.args.query.now c.args.answer.now _ (sym (ap code_of c.in_ok-check.was) ∙ c.check.ensures) refl, pre, omega arith)
+
+pub returns-in_err-layout : goal.returns-in_err-layout
+returns-in_err-layout c = let p = err_from_is_err_and c.from_residual-in_err-layout.result c.from_residual-in_err-layout.ensures.1 in rw (p.1, p.2) (refused-second c.args.catalogue.now c.args.values.now c.args.query.now c.args.answer.now _ (sym (ap code_of c.in_ok-check.was) ∙ c.check.ensures) refl _ (sym (ap code_of c.in_err-layout.was) ∙ c.check-2.ensures.result_value) (number-positive _))
 
 pub answer_all-requires : goal.answer_all-requires
-answer_all-requires c = let query = c.args.query.now in
-    let h = subst (λ (r : Checked). Ready r 64 query c.check.new.z) c.in-Passed.is c.check.ensures.ready in answerable c.args.catalogue.now c.args.values.now query c.args.answer.now _ c.check-number.ensures c.if-number-ne0.false c.in-Passed.layout c.check.new.z (sym (ap number_of c.in-Passed.is) ∙ c.check.ensures.result_value) h.0 h.1
+answer_all-requires c =
+    let query = c.args.query.now in
+    let h = subst (λ (r : Result Layout Refusal). Ready r 64 query c.check-2.new.z) c.in_ok-layout.was c.check-2.ensures.ready in
+    answerable c.args.catalogue.now c.args.values.now query c.args.answer.now _ (sym (ap code_of c.in_ok-check.was) ∙ c.check.ensures) refl c.in_ok-layout.layout c.check-2.new.z (sym (ap code_of c.in_ok-layout.was) ∙ c.check-2.ensures.result_value) h.0 h.1
 
-pub returns-in-Refused : goal.returns-in-Refused
-returns-in-Refused c = let query = c.args.query.now in
-    refused-second c.args.catalogue.now c.args.values.now query c.args.answer.now _ c.check-number.ensures c.if-number-ne0.false _ _ (sym (ap number_of c.in-Refused.is) ∙ c.check.ensures.result_value) (subst (λ (r : Checked). Ready r 64 query c.check.new.z) c.in-Refused.is c.check.ensures.ready) c.refused-in-Refused.ensures
-
-pub returns-in-Passed : goal.returns-in-Passed
-returns-in-Passed c = accepted c.args.catalogue.now c.args.values.now c.args.query.now c.args.answer.now _ c.check-number.ensures c.if-number-ne0.false c.in-Passed.layout c.check.new.z (sym (ap number_of c.in-Passed.is) ∙ c.check.ensures.result_value) _ _ c.answer_all.ensures
+pub returns : goal.returns
+returns c = accepted c.args.catalogue.now c.args.values.now c.args.query.now c.args.answer.now _ (sym (ap code_of c.in_ok-check.was) ∙ c.check.ensures) refl c.in_ok-layout.layout c.check-2.new.z (sym (ap code_of c.in_ok-layout.was) ∙ c.check-2.ensures.result_value) _ _ c.answer_all.ensures

@@ -6,7 +6,7 @@ use Rattle.waldumre.proofs.Texts.{within, refused, asked}
 use Rattle.waldumre.proofs.waldumre_ask_text.Goals as goal
 
 pub returns-then-number-ne0 : goal.returns-then-number-ne0
-returns-then-number-ne0 c = refused c.args.catalogue.now c.args.values.now c.args.permits.now c.args.text.now c.args.names.now c.args.records.now c.args.rewritten.now c.args.answer.now (reading_of c.read-read.result c.read-read.new.out) c.read-read.ensures (λ z. omega (arith, z, c.if-number-ne0.true)) c.wide.result (omega arith)
+returns-then-number-ne0 c = refused c.args.catalogue.now c.args.values.now c.args.permits.now c.args.text.now c.args.names.now c.args.records.now c.args.rewritten.now c.args.answer.now (reading_of c.read-read.result c.read-read.new.out) c.read-read.ensures (λ z. omega (arith, z, c.if-number-ne0.true)) _ (omega arith)
 
 pub slice_bounds-waldumre_ask-end : goal.slice_bounds-waldumre_ask-end
 slice_bounds-waldumre_ask-end c = omega (arith, within c.args.names.now c.args.text.now c.args.records.now (reading_of c.read-read.result c.read-read.new.out) c.read-read.ensures, c.read-read.auto.out)

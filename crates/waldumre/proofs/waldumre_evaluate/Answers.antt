@@ -1,7 +1,13 @@
-use Prim.Native.Nat.{ℕ}
-use mathlib.Core.Path.{refl, ap, ◌∙◌}
+use mathlib.Core.Path.{ap, ◌∙◌}
+use Rattle.waldumre.specs.declared.Outcome.{Outcome}
+use Rattle.waldumre.specs.Outcome.{answer_of}
+use Rattle.waldumre.proofs.Replies.{answered-told, answered-length}
 use Rattle.waldumre.proofs.waldumre_evaluate.Goals as goal
 
 pub returns : goal.returns
-returns c = let r = c.evaluate-r.result in
-    let cells = c.evaluate-r.new.answer in record { answer_after = ap (λ (n : ℕ). record { number = n; rows = r.rows; columns = r.columns; cells = cells }) c.wide.ensures ∙ c.evaluate-r.ensures; length_value = refl }
+returns c =
+    let cells = c.evaluate.new.answer in
+    record {
+      answer_after = ap (λ (o : Outcome). answer_of o cells) c.from.ensures ∙ answered-told c.evaluate.result cells ∙ c.evaluate.ensures;
+      length_value = ap (λ (o : Outcome). o.length) c.from.ensures ∙ answered-length c.evaluate.result;
+    }
