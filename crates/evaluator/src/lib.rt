@@ -23,14 +23,13 @@ struct Search {
 fn place(env: &[usize], variable: u8) -> usize
     ensures { result ≡ get_or env.now variable 0 }
 {
-    let i = variable as usize;
-    if i < env.len() { env[i] } else { 0 }
+    env.get(usize::from(variable)).copied().unwrap_or(0)
 }
 
 fn set_place(env: &mut [usize], variable: u8, row: usize)
     ensures { env.new ≡ set env.old variable row }
 {
-    let i = variable as usize;
+    let i = usize::from(variable);
     if i < env.len() {
         env[i] = row;
     }
@@ -85,7 +84,7 @@ pub fn condition(
             let u = kinds::tail(q, b);
             let v = kinds::tail_sizes(z, b);
             let right = term(u, v, l, walks, values, memo, env);
-            numbers::compared(operator as usize, left, right)
+            numbers::compared(usize::from(operator), left, right)
         }
         ConditionRecord::Some(variable, _) => {
             let asked = Asked { level: l, variable };
@@ -122,7 +121,7 @@ pub fn term(
         TermRecord::Constant(a, b, c, d) => numbers::whole(kinds::constant(a, b, c, d)),
         TermRecord::Attribute(variable, attribute) => {
             let row = place(env, variable);
-            numbers::whole(catalogue::value(values, row, attribute as usize))
+            numbers::whole(catalogue::value(values, row, usize::from(attribute)))
         }
         TermRecord::Aggregate(function, variable, _, attribute) => {
             if numbers::knows(memo, variable) {
@@ -133,7 +132,7 @@ pub fn term(
             let column = Column {
                 level: l,
                 variable,
-                attribute: attribute as usize,
+                attribute: usize::from(attribute),
             };
             let taken = gather(x, y, column, walks, values, memo, env);
             numbers::finish(function, taken)
@@ -170,15 +169,13 @@ fn some_row(
     let walk = walks::walk_of(walks, asked.variable);
     let n = walk.count;
     let old = place(env, asked.variable);
-    let mut i = 0;
-    while i < n {
+    for i in 0..n {
         set_place(env, asked.variable, walks::place(walks, walk, i));
         if condition(q, z, asked.level, walks, values, memo, env) {
             set_place(env, asked.variable, old);
             let tried = i + 1;
             return Search { found: true, tried };
         }
-        i += 1;
     }
     set_place(env, asked.variable, old);
     Search {
@@ -216,14 +213,12 @@ fn gather(
     let n = walk.count;
     let old = place(env, column.variable);
     let mut taken = numbers::EMPTY;
-    let mut i = 0;
-    while i < n {
+    for i in 0..n {
         let row = walks::place(walks, walk, i);
         set_place(env, column.variable, row);
         if condition(q, z, column.level, walks, values, memo, env) {
             taken = numbers::add(taken, catalogue::value(values, row, column.attribute));
         }
-        i += 1;
     }
     set_place(env, column.variable, old);
     taken

@@ -7,22 +7,20 @@ use native.Mathlib.Omega.{arith}
 use lib.ListN.{length, get_or, drop, length-drop}
 use Rattle.model.specs.Encoding.{Read, fail, ok, read_condition, read_term}
 use Rattle.kinds.specs.Tables.{conditions_of, terms_of, record_length}
-use Rattle.kinds.specs.Record.{record_at}
 use Rattle.kinds.proofs.Entries.{length-small}
-use Rattle.kinds.specs.Places.{condition_at, term_at, condition_of, term_of, is_condition, is_term}
-use Rattle.grammar.specs.declared.Size.{Size}
-use Rattle.grammar.specs.declared.Size.TheVariants.{Bytes, Refused}
+use Rattle.kinds.specs.Places.{condition_at, term_at, condition_of, is_condition, is_term}
 use Rattle.grammar.specs.Sizes.{size_read, condition_size, term_size, after, followed, many, head_size}
 use Rattle.grammar.proofs.Steps.{term-step}
 use Rattle.grammar.proofs.Pending.{whole}
+use Rattle.std.specs.Prelude.{Option, Some, None}
 
-abbrev pub Within : (List ℕ → Size) → Type 0
-Within f = (q : List ℕ) (n : ℕ) → f q ≡ Bytes n → n ≤ length q
+abbrev pub Within : (List ℕ → Option ℕ) → Type 0
+Within f = (q : List ℕ) (n : ℕ) → f q ≡ Some n → n ≤ length q
 
-abbrev pub Takes : (List ℕ → Size) → Type 0
-Takes f = (q : List ℕ) (n : ℕ) → f q ≡ Bytes n → (1 ≤ n) × (n ≤ length q)
+abbrev pub Takes : (List ℕ → Option ℕ) → Type 0
+Takes f = (q : List ℕ) (n : ℕ) → f q ≡ Some n → (1 ≤ n) × (n ≤ length q)
 
-read-within : {A : Type 0} (q : List ℕ) (n : ℕ) (x : Read A) → size_read q x ≡ Bytes n → n ≤ length q
+read-within : {A : Type 0} (q : List ℕ) (n : ℕ) (x : Read A) → size_read q x ≡ Some n → n ≤ length q
 read-within q n fail h = absurd (let z : ◌≡◌ {A = ℕ} 0 1 = cc in omega arith)
 read-within q n (ok a r) h = let e : length q - length r ≡ n = cc in omega arith
 
@@ -34,22 +32,22 @@ pub term-within : Within term_size
 unfolding term_size
 term-within q n h = read-within q n (read_term (suc (length q)) q) h
 
-after-inv : {X : Type 0} (a n : ℕ) (x : Size) → after a x ≡ Bytes n → ((m : ℕ) → x ≡ Bytes m → n ≡ a + m → X) → X
-after-inv a n (Bytes m) h k = let e : n ≡ a + m = cc in k m refl e
-after-inv a n Refused h k = absurd (let z : ◌≡◌ {A = ℕ} 0 1 = cc in omega arith)
+after-inv : {X : Type 0} (a n : ℕ) (x : Option ℕ) → after a x ≡ Some n → ((m : ℕ) → x ≡ Some m → n ≡ a + m → X) → X
+after-inv a n (Some m) h k = let e : n ≡ a + m = cc in k m refl e
+after-inv a n None h k = absurd (let z : ◌≡◌ {A = ℕ} 0 1 = cc in omega arith)
 
-cond-inv : {X : Type 0} (b : Bool) (x : Size) (n : ℕ) → cond b x Refused ≡ Bytes n → (b ≡ true → x ≡ Bytes n → X) → X
+cond-inv : {X : Type 0} (b : Bool) (x : Option ℕ) (n : ℕ) → cond b x None ≡ Some n → (b ≡ true → x ≡ Some n → X) → X
 cond-inv true x n h k = k refl h
 cond-inv false x n h k = absurd (let z : ◌≡◌ {A = ℕ} 0 1 = cc in omega arith)
 
-pub many-within : (f : List ℕ → Size) → Within f → (c : ℕ) → Within (λ q. many f c q)
+pub many-within : (f : List ℕ → Option ℕ) → Within f → (c : ℕ) → Within (λ q. many f c q)
 unfolding many
 many-within f w zero q n h = let e : 0 ≡ n = cc in omega arith
 many-within f w (suc c) q n h = go (f q) refl h (λ x m e. many-within f w c x m e)
   where
-    go : (x : Size) → f q ≡ x → followed x (λ m. many f c (drop m q)) ≡ Bytes n → ((x : List ℕ) (m : ℕ) → many f c x ≡ Bytes m → m ≤ length x) → n ≤ length q
-    go (Bytes m) e h k = after-inv m n (many f c (drop m q)) h λ i ei l. omega (arith, w q m e, k (drop m q) i ei, length-drop m q)
-    go Refused e h k = absurd (let z : ◌≡◌ {A = ℕ} 0 1 = cc in omega arith)
+    go : (x : Option ℕ) → f q ≡ x → followed x (λ m. many f c (drop m q)) ≡ Some n → ((x : List ℕ) (m : ℕ) → many f c x ≡ Some m → m ≤ length x) → n ≤ length q
+    go (Some m) e h k = after-inv m n (many f c (drop m q)) h λ i ei l. omega (arith, w q m e, k (drop m q) i ei, length-drop m q)
+    go None e h k = absurd (let z : ◌≡◌ {A = ℕ} 0 1 = cc in omega arith)
 
 pub head-takes : Takes head_size
 unfolding head_size
@@ -71,7 +69,7 @@ term-takes q n h =
     (omega arith, d)
 
 -- the same of a part that the code has read
-module _ (f : List ℕ → Size) (q x : List ℕ) (at n : ℕ) (s : Size) (ex : x ≡ drop at q) (e : s ≡ f x) (es : s ≡ Bytes n) where
+module _ (f : List ℕ → Option ℕ) (q x : List ℕ) (at n : ℕ) (s : Option ℕ) (ex : x ≡ drop at q) (e : s ≡ f x) (es : s ≡ Some n) where
   pub part-within : Within f → n ≤ length q - at
   part-within w = omega (arith, w x n (sym e ∙ es), ap length ex, length-drop at q)
 

@@ -1,6 +1,6 @@
 -- A list of permits, one after the other.
 use Prim.Native.Nat.{ℕ, zero, suc, ◌+◌, ◌*◌, ◌<◌, ◌≤◌}
-use mathlib.Core.Bool.{Bool, true, false, not, cond}
+use mathlib.Core.Bool.{Bool, true, false, not}
 use mathlib.Core.List.{List, [], ◌∷◌}
 use mathlib.Core.Path.{◌≡◌, refl, sym, ◌∙◌, ap, subst₂}
 use native.Mathlib.Omega.{arith}
@@ -18,11 +18,10 @@ use Rattle.kinds.specs.Places.{permit_at}
 use Rattle.kinds.specs.declared.PermitRecord.{PermitRecord}
 use Rattle.kinds.specs.declared.PermitRecord.TheVariants as P
 use Rattle.kinds.proofs.Heads.{permit-at, permit-bytes}
-use Rattle.grammar.specs.declared.Size.{Size}
-use Rattle.grammar.specs.declared.Size.TheVariants.{Bytes, Refused}
 use Rattle.grammar.specs.Sizes.{condition_size, permit_size, after}
 use Rattle.grammar.proofs.Reader.{cut_short, Took, took-condition, sized, condition-sized, same, sized-is, encoded-condition}
 use Rattle.grammar.proofs.Bounds.{Takes}
+use Rattle.std.specs.Prelude.{Option, Some, None}
 
 -- a permit that is cut short, or none
 pub permit-cut : (q : List ℕ) → permit_at q ≡ P.Other → (f : ℕ) → read_permit f q ≡ fail
@@ -71,11 +70,11 @@ permit-sized f q h = sized-is (λ g x. read_permit g x) bytes_of took-permit f q
 pub permit-takes : Takes permit_size
 permit-takes q n h = go (read_permit (length q) q) refl (sym (permit-sized (length q) q (omega arith)) ∙ h)
   where
-    go : (x : Read Permit) → read_permit (length q) q ≡ x → sized bytes_of x ≡ Bytes n → (1 ≤ n) × (n ≤ length q)
+    go : (x : Read Permit) → read_permit (length q) q ≡ x → sized bytes_of x ≡ Some n → (1 ≤ n) × (n ≤ length q)
     go fail e i = absurd (let z : ◌≡◌ {A = ℕ} 0 1 = cc in omega arith)
     go (ok p r) e i = let b = (took-permit (length q) q p r e).bytes in let m : bytes_of p ≡ n = cc in (omega arith, omega arith)
 
-pub no-permit : (q : List ℕ) → permit_at q ≡ P.Other → Refused ≡ permit_size q
+pub no-permit : (q : List ℕ) → permit_at q ≡ P.Other → None ≡ permit_size q
 no-permit q n = sym (permit-sized (length q) q (omega arith) ∙ ap (sized bytes_of) (permit-cut q n (length q)))
 
 pub permit-is : (q : List ℕ) (x m : ℕ) → permit_at q ≡ P.Permit x m → after 4 (condition_size (drop 4 q)) ≡ permit_size q
@@ -116,16 +115,16 @@ permits-none [] h = refl
 permits-none (x ∷ xs) h = absurd (omega arith)
 
 -- the first permit refused, or read
-pub permits-refused : (q : List ℕ) → 0 < length q → permit_size q ≡ Refused → failed (permits_read q) ≡ true
+pub permits-refused : (q : List ℕ) → 0 < length q → permit_size q ≡ None → failed (permits_read q) ≡ true
 unfolding permits_read read_permits
 permits-refused [] h e = absurd (omega arith)
 permits-refused (x ∷ xs) h e = go (read_permit (suc (length xs)) (x ∷ xs)) (sym (permit-sized (suc (length xs)) (x ∷ xs) (omega arith)) ∙ e)
   where
-    go : (y : Read Permit) → sized bytes_of y ≡ Refused → failed (then y λ p r. then (read_permits (suc (length xs)) r) λ ps r. ok (p ∷ ps) r) ≡ true
+    go : (y : Read Permit) → sized bytes_of y ≡ None → failed (then y λ p r. then (read_permits (suc (length xs)) r) λ ps r. ok (p ∷ ps) r) ≡ true
     go fail i = refl
     go (ok p r) i = absurd (let z : ◌≡◌ {A = ℕ} 0 1 = cc in omega arith)
 
-pub permits-turn : (q : List ℕ) (n : ℕ) → 0 < length q → permit_size q ≡ Bytes n → failed (permits_read (drop n q)) ≡ failed (permits_read q)
+pub permits-turn : (q : List ℕ) (n : ℕ) → 0 < length q → permit_size q ≡ Some n → failed (permits_read (drop n q)) ≡ failed (permits_read q)
 unfolding permits_read read_permits
 permits-turn [] n h e = absurd (omega arith)
 permits-turn (x ∷ xs) n h e = go (read_permit (suc (length xs)) (x ∷ xs)) refl (sym (permit-sized (suc (length xs)) (x ∷ xs) (omega arith)) ∙ e)
@@ -134,7 +133,7 @@ permits-turn (x ∷ xs) n h e = go (read_permit (suc (length xs)) (x ∷ xs)) re
     rest p fail = refl
     rest p (ok ps r) = refl
 
-    go : (y : Read Permit) → read_permit (suc (length xs)) (x ∷ xs) ≡ y → sized bytes_of y ≡ Bytes n
+    go : (y : Read Permit) → read_permit (suc (length xs)) (x ∷ xs) ≡ y → sized bytes_of y ≡ Some n
         → failed (permits_read (drop n (x ∷ xs))) ≡ failed (then y λ p r. then (read_permits (suc (length xs)) r) λ ps r. ok (p ∷ ps) r)
     go fail p i = absurd (let z : ◌≡◌ {A = ℕ} 0 1 = cc in omega arith)
     go (ok p r) e i =
@@ -146,7 +145,7 @@ permits-turn (x ∷ xs) n h e = go (read_permit (suc (length xs)) (x ∷ xs)) re
 
 -- of what the code finds: a permit's record and its condition
 pub permit-found : (q : List ℕ) (r : PermitRecord) → r ≡ permit_at q → (x m : ℕ) → r ≡ P.Permit x m → (k a : ℕ) → k ≡ get_or q 0 0 → a ≡ record_length k
-    → (y : List ℕ) (s : Size) → y ≡ drop a q → s ≡ condition_size y → after a s ≡ permit_size q
+    → (y : List ℕ) (s : Option ℕ) → y ≡ drop a q → s ≡ condition_size y → after a s ≡ permit_size q
 unfolding record_length of_kind kind_of find
 permit-found q r er x m e k a ek ea y s ey es =
     let i : permit_at q ≡ P.Permit x m = sym er ∙ e in
@@ -155,15 +154,15 @@ permit-found q r er x m e k a ek ea y s ey es =
     ap (after a) (es ∙ ap condition_size ey) ∙ ap (λ n. after n (condition_size (drop n q))) a4 ∙ permit-is q x m i
 
 -- the loop over the list
-module _ (q : List ℕ) (x : List ℕ) (at : ℕ) (s : Size) (ex : x ≡ drop at q) (es : s ≡ permit_size x) (h : at < length q)
+module _ (q : List ℕ) (x : List ℕ) (at : ℕ) (s : Option ℕ) (ex : x ≡ drop at q) (es : s ≡ permit_size x) (h : at < length q)
     (inv : failed (permits_read (drop at q)) ≡ failed (permits_read q)) where
   left : 0 < length (drop at q)
   left = omega (arith, length-drop at q)
 
-  pub refused-at : s ≡ Refused → false ≡ not (failed (permits_read q))
+  pub refused-at : s ≡ None → false ≡ not (failed (permits_read q))
   refused-at e = ap not (sym (permits-refused (drop at q) left (ap permit_size (sym ex) ∙ sym es ∙ e)) ∙ inv)
 
-  pub turned-at : (n : ℕ) → s ≡ Bytes n → failed (permits_read (drop (at + n) q)) ≡ failed (permits_read q)
+  pub turned-at : (n : ℕ) → s ≡ Some n → failed (permits_read (drop (at + n) q)) ≡ failed (permits_read q)
   turned-at n e =
       ap (λ l. failed (permits_read l)) (sym (drop-drop n at q)) ∙ permits-turn (drop at q) n left (ap permit_size (sym ex) ∙ sym es ∙ e) ∙ inv
 
@@ -171,7 +170,7 @@ pub passed-at : (q : List ℕ) (at : ℕ) → length q ≤ at → failed (permit
 passed-at q at h inv = ap not (sym (permits-none (drop at q) (omega (arith, length-drop at q))) ∙ inv)
 
 -- the size of a written permit, and what follows it
-pub encoded-permit : (p : Permit) (r : List ℕ) → WellFormed p.condition → (permit_size (encode_permit p r) ≡ Bytes (4 + size p.condition)) × (drop (4 + size p.condition) (encode_permit p r) ≡ r)
+pub encoded-permit : (p : Permit) (r : List ℕ) → WellFormed p.condition → (permit_size (encode_permit p r) ≡ Some (4 + size p.condition)) × (drop (4 + size p.condition) (encode_permit p r) ≡ r)
 unfolding encode_permit kind_of find
 encoded-permit p r w =
     let i = encoded-condition p.condition r w in

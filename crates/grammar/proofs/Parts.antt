@@ -7,11 +7,11 @@ use native.Mathlib.Omega.{arith}
 use borrow.Author.Tests.{ne_eqb}
 use lib.Dec.{eqb}
 use lib.ListN.{length, get_or, drop, length-drop}
-use lib.Seq.{drop-drop, get_or-drop}
+use lib.Seq.{drop-drop}
 use Rattle.model.specs.Kinds.{kind_of, find}
 use Rattle.model.proofs.Lists.{first-at}
 use Rattle.model.specs.Syntax.{Binding, Term, CONSTANT, ATTRIBUTE, AGGREGATE}
-use Rattle.model.specs.Encoding.{Read, fail, ok, then, encode_ranges, encode_targets, encode_t, read_term, starts_range, starts_target, read_ranges, read_targets}
+use Rattle.model.specs.Encoding.{Read, fail, ok, then, encode_targets, encode_t, read_term, starts_range, starts_target, read_ranges, read_targets}
 use Rattle.model.proofs.Sizes.{size_t, size_ts, size-ranges, size-targets, size, drop-encode_t, drop-ranges}
 use Rattle.model.proofs.ReadingQueries.{ranges-inv, targets-inv}
 use Rattle.kinds.specs.Tables.{record_length, of_kind}
@@ -19,26 +19,23 @@ use Rattle.kinds.specs.Places.{head_at}
 use Rattle.kinds.specs.declared.HeadRecord.{HeadRecord}
 use Rattle.kinds.specs.declared.HeadRecord.TheVariants as H
 use Rattle.kinds.proofs.Heads.{range_at, range-bytes}
-use Rattle.grammar.specs.declared.Size.{Size}
-use Rattle.grammar.specs.declared.Size.TheVariants.{Bytes, Refused}
-use Rattle.grammar.specs.declared.Part.{Part}
-use Rattle.grammar.specs.declared.Part.TheVariants as P
 use Rattle.grammar.specs.Sizes.{term_size}
 use Rattle.grammar.specs.Shapes.{is_target, part_read, ranges_part, targets_part}
 use Rattle.grammar.proofs.Reader.{took-term, sized, term-sized, same}
+use Rattle.std.specs.Prelude.{Option, Some, None}
 
 -- a part after n others that took a bytes
-abbrev pub beyond : ℕ → ℕ → Part → Part
-beyond n a (P.Read m b) = P.Read (n + m) (a + b)
-beyond n a P.Refused = P.Refused
+abbrev pub beyond : ℕ → ℕ → Option (ℕ × ℕ) → Option (ℕ × ℕ)
+beyond n a (Some (m, b)) = Some (n + m, a + b)
+beyond n a None = None
 
-beyond-beyond : (n a m b : ℕ) (s : Part) → beyond n a (beyond m b s) ≡ beyond (n + m) (a + b) s
-beyond-beyond n a m b (P.Read i c) = ap₂ P.Read (omega arith) (omega arith)
-beyond-beyond n a m b P.Refused = refl
+beyond-beyond : (n a m b : ℕ) (s : Option (ℕ × ℕ)) → beyond n a (beyond m b s) ≡ beyond (n + m) (a + b) s
+beyond-beyond n a m b (Some (i, c)) = ap₂ (λ m b. Some (m, b)) (omega arith) (omega arith)
+beyond-beyond n a m b None = refl
 
-beyond-zero : (s : Part) → beyond 0 0 s ≡ s
-beyond-zero (P.Read m b) = ap₂ P.Read (omega arith) (omega arith)
-beyond-zero P.Refused = refl
+beyond-zero : (s : Option (ℕ × ℕ)) → beyond 0 0 s ≡ s
+beyond-zero (Some (m, b)) = ap₂ (λ m b. Some (m, b)) (omega arith) (omega arith)
+beyond-zero None = refl
 
 -- RANGE records: bytes, rest, bound
 pub took-ranges : (f : ℕ) (q : List ℕ) (bs : List Binding) (r : List ℕ) → read_ranges f q ≡ ok bs r → (length q ≡ 3 * length bs + length r) × (r ≡ drop (3 * length bs) q)
@@ -57,13 +54,13 @@ ranges-same (suc f) (suc g) (a ∷ b ∷ c ∷ r) h k =
     ap (λ y. elim (eqb a 1) as (λ _. Read (List Binding)) [ false ↦ ok [] (a ∷ b ∷ c ∷ r) | true ↦ then y λ bs r. ok (record { variable = b; relation = c } ∷ bs) r ])
     (ranges-same f g r (omega arith) (omega arith))
 
-pub ranges-none : (q : List ℕ) → (get_or q 0 0 ≡ 1 → ⊥) → P.Read 0 0 ≡ ranges_part q
+pub ranges-none : (q : List ℕ) → (get_or q 0 0 ≡ 1 → ⊥) → Some (0, 0) ≡ ranges_part q
 unfolding ranges_part read_ranges starts_range
 ranges-none [] h = refl
-ranges-none (k ∷ r) h = let e : 0 ≡ suc (length r) - suc (length r) = omega arith in rw (ne_eqb k 1 h, read_ranges) (ap (P.Read 0) e)
+ranges-none (k ∷ r) h = let e : 0 ≡ suc (length r) - suc (length r) = omega arith in rw (ne_eqb k 1 h, read_ranges) (ap (λ n. Some (0, n)) e)
 
 -- one that is cut short, and one that is whole
-pub ranges-cut : (q : List ℕ) → get_or q 0 0 ≡ 1 → head_at q ≡ H.Other → P.Refused ≡ ranges_part q
+pub ranges-cut : (q : List ℕ) → get_or q 0 0 ≡ 1 → head_at q ≡ H.Other → None ≡ ranges_part q
 unfolding ranges_part read_ranges starts_range
 ranges-cut [] h n = absurd (omega arith)
 ranges-cut (k ∷ []) h n = rw h
@@ -86,7 +83,7 @@ ranges_more (k ∷ v ∷ x ∷ r) h l =
   where
     go : (y : Read (List Binding)) → read_ranges (suc (length r)) r ≡ y → part_read (1 ∷ v ∷ x ∷ r) (then y λ bs r. ok (record { variable = v; relation = x } ∷ bs) r) ≡ beyond 1 3 (part_read r y)
     go fail e = refl
-    go (ok bs u) e = let t = took-ranges (suc (length r)) r bs u e in ap₂ P.Read (omega arith) (omega arith)
+    go (ok bs u) e = let t = took-ranges (suc (length r)) r bs u e in ap₂ (λ m b. Some (m, b)) (omega arith) (omega arith)
 
 pub range_length : record_length 1 ≡ 3
 unfolding record_length of_kind kind_of find
@@ -138,13 +135,13 @@ unfolding starts_target
 starts-target [] = refl
 starts-target (k ∷ r) = refl
 
-pub targets-none : (q : List ℕ) → is_target (get_or q 0 0) ≡ false → P.Read 0 0 ≡ targets_part q
+pub targets-none : (q : List ℕ) → is_target (get_or q 0 0) ≡ false → Some (0, 0) ≡ targets_part q
 unfolding targets_part read_targets
-targets-none q h = let e : 0 ≡ length q - length q = omega arith in rw (starts-target q ∙ h, read_targets) (ap (P.Read 0) e)
+targets-none q h = let e : 0 ≡ length q - length q = omega arith in rw (starts-target q ∙ h, read_targets) (ap (λ n. Some (0, n)) e)
 
-abbrev counted : Size → List ℕ → Part
-counted (Bytes n) q = beyond 1 n (targets_part (drop n q))
-counted Refused q = P.Refused
+abbrev counted : Option ℕ → List ℕ → Option (ℕ × ℕ)
+counted (Some n) q = beyond 1 n (targets_part (drop n q))
+counted None q = None
 
 pub targets-more : (q : List ℕ) → is_target (get_or q 0 0) ≡ true → counted (term_size q) q ≡ targets_part q
 unfolding targets_part read_targets
@@ -153,7 +150,7 @@ targets-more q h = rw (starts-target q ∙ h, read_targets, term-sized (length q
     all : (t : Term) (u : List ℕ) → length q ≡ size_t t + length u → (y : Read (List Term)) → read_targets (suc (length u)) u ≡ y
         → part_read q (then y λ ts r. ok (t ∷ ts) r) ≡ beyond 1 (size_t t) (part_read u y)
     all t u l fail e = refl
-    all t u l (ok ts w) e = let i = took-targets (suc (length u)) u ts w e in ap₂ P.Read (omega arith) (omega arith)
+    all t u l (ok ts w) e = let i = took-targets (suc (length u)) u ts w e in ap₂ (λ m b. Some (m, b)) (omega arith) (omega arith)
 
     go : (x : Read Term) → read_term (length q) q ≡ x
         → part_read q (then x λ t r. then (read_targets (length q) r) λ ts r. ok (t ∷ ts) r) ≡ counted (sized size_t x) q
@@ -164,22 +161,22 @@ targets-more q h = rw (starts-target q ∙ h, read_targets, term-sized (length q
         rw (← i.rest, targets-same (length q) (suc (length u)) u (omega (arith, term-some t)) (omega arith)) (all t u l (read_targets (suc (length u)) u) refl)
 
 -- the loops: what is left decides
-pub begins : (f : List ℕ → Part) (q : List ℕ) → beyond 0 0 (f (drop 0 q)) ≡ f q
+pub begins : (f : List ℕ → Option (ℕ × ℕ)) (q : List ℕ) → beyond 0 0 (f (drop 0 q)) ≡ f q
 begins f q = beyond-zero (f q)
 
-pub ends : (at n : ℕ) (s w : Part) → P.Read 0 0 ≡ s → beyond n at s ≡ w → P.Read n at ≡ w
-ends at n s w e inv = ap₂ P.Read (omega arith) (omega arith) ∙ ap (beyond n at) e ∙ inv
+pub ends : (at n : ℕ) (s w : Option (ℕ × ℕ)) → Some (0, 0) ≡ s → beyond n at s ≡ w → Some (n, at) ≡ w
+ends at n s w e inv = ap₂ (λ m b. Some (m, b)) (omega arith) (omega arith) ∙ ap (beyond n at) e ∙ inv
 
-module _ (q : List ℕ) (at n : ℕ) (w : Part) (k : ℕ) (ek : k ≡ get_or q at 0) where
+module _ (q : List ℕ) (at n : ℕ) (w : Option (ℕ × ℕ)) (k : ℕ) (ek : k ≡ get_or q at 0) where
   module _ (inv : beyond n at (ranges_part (drop at q)) ≡ w) where
-    pub range-end : (k ≡ 1 → ⊥) → P.Read n at ≡ w
+    pub range-end : (k ≡ 1 → ⊥) → Some (n, at) ≡ w
     range-end h = ends at n (ranges_part (drop at q)) w (ranges-none (drop at q) (λ e. h (ek ∙ sym (first-at at q) ∙ e))) inv
 
     module _ (h : k ≡ 1) (x : List ℕ) (r : HeadRecord) (ex : x ≡ drop at q) (er : r ≡ head_at x) where
       one : get_or (drop at q) 0 0 ≡ 1
       one = first-at at q ∙ sym ek ∙ h
 
-      pub range-cut : r ≡ H.Other → P.Refused ≡ w
+      pub range-cut : r ≡ H.Other → None ≡ w
       range-cut e = ap (beyond n at) (ranges-cut (drop at q) one (ap head_at (sym ex) ∙ sym er ∙ e)) ∙ inv
 
       module _ (v y : ℕ) (e : r ≡ H.Range v y) (a : ℕ) (ea : a ≡ record_length 1) where
@@ -198,14 +195,14 @@ module _ (q : List ℕ) (at n : ℕ) (w : Part) (k : ℕ) (ek : k ≡ get_or q a
     tests : is_target (get_or (drop at q) 0 0) ≡ b
     tests = ap is_target (first-at at q ∙ sym ek) ∙ sym eb
 
-    pub target-end : b ≡ false → P.Read n at ≡ w
+    pub target-end : b ≡ false → Some (n, at) ≡ w
     target-end h = ends at n (targets_part (drop at q)) w (targets-none (drop at q) (tests ∙ h)) inv
 
-    module _ (h : b ≡ true) (x : List ℕ) (s : Size) (ex : x ≡ drop at q) (es : s ≡ term_size x) where
-      pub target-cut : s ≡ Refused → P.Refused ≡ w
+    module _ (h : b ≡ true) (x : List ℕ) (s : Option ℕ) (ex : x ≡ drop at q) (es : s ≡ term_size x) where
+      pub target-cut : s ≡ None → None ≡ w
       target-cut e = ap (λ z. beyond n at (counted z (drop at q))) (sym e ∙ es ∙ ap term_size ex) ∙ ap (beyond n at) (targets-more (drop at q) (tests ∙ h)) ∙ inv
 
-      pub target-turn : (m : ℕ) → s ≡ Bytes m → beyond (n + 1) (at + m) (targets_part (drop (at + m) q)) ≡ w
+      pub target-turn : (m : ℕ) → s ≡ Some m → beyond (n + 1) (at + m) (targets_part (drop (at + m) q)) ≡ w
       target-turn m e =
           sym (beyond-beyond n at 1 m (targets_part (drop (at + m) q)))
           ∙ ap (λ l. beyond n at (beyond 1 m (targets_part l))) (sym (drop-drop m at q))

@@ -1,18 +1,16 @@
 -- The model's reader without its bound: bytes enough are levels enough, and what was read ends where its size says.
 use Prim.Native.Nat.{ℕ, suc, ◌+◌, ◌≤◌}
 use mathlib.Core.Bool.{Bool, true, false}
-use mathlib.Core.List.{List, ◌∷◌}
+use mathlib.Core.List.{List}
 use mathlib.Core.Path.{◌≡◌, refl, sym, ◌∙◌, ap}
 use native.Mathlib.Omega.{arith}
 use lib.ListN.{length, drop}
-use lib.Seq.{drop-drop}
-use Rattle.model.specs.Syntax.{Condition, Term, TRUE, FALSE, NOT, AND, OR, COMPARE, SOME, CONSTANT, ATTRIBUTE, AGGREGATE, WellFormed, WellFormedT}
+use Rattle.model.specs.Syntax.{Condition, Term, WellFormed, WellFormedT}
 use Rattle.model.specs.Encoding.{encode, encode_t, Read, fail, ok, need, read_condition, read_term}
 use Rattle.model.proofs.Reading.{read-encode, read-encode_t, read-inverse, read-inverse_t, never}
 use Rattle.model.proofs.Sizes.{size, size_t, size-encode, size-encode_t, levels-size, levels-size_t, drop-encode, drop-encode_t}
-use Rattle.grammar.specs.declared.Size.{Size}
-use Rattle.grammar.specs.declared.Size.TheVariants.{Bytes, Refused}
 use Rattle.grammar.specs.Sizes.{size_read, condition_size, term_size}
+use Rattle.std.specs.Prelude.{Option, Some, None}
 
 -- cut short after a test
 pub cut_short : {A : Type 0} (b : Bool) → need {B = A} b fail ≡ fail
@@ -46,9 +44,9 @@ took-term f q t r h =
     }
 
 -- the size of what was read
-abbrev pub sized : {A : Type 0} → (A → ℕ) → Read A → Size
-sized s fail = Refused
-sized s (ok a r) = Bytes (s a)
+abbrev pub sized : {A : Type 0} → (A → ℕ) → Read A → Option ℕ
+sized s fail = None
+sized s (ok a r) = Some (s a)
 
 module _ {A : Type 0} (read : ℕ → List ℕ → Read A) (s : A → ℕ) (took : (f : ℕ) (q : List ℕ) (a : A) (r : List ℕ) → read f q ≡ ok a r → Took read q a (s a) r) where
   pub same : (f g : ℕ) (q : List ℕ) → length q ≤ f → length q ≤ g → read f q ≡ read g q
@@ -67,7 +65,7 @@ module _ {A : Type 0} (read : ℕ → List ℕ → Read A) (s : A → ℕ) (took
       go (ok a r) p =
           let t = took f q a r p in
           let e = t.bytes in
-          ap (size_read q) (t.again (suc (length q)) (omega arith)) ∙ ap Bytes (omega arith)
+          ap (size_read q) (t.again (suc (length q)) (omega arith)) ∙ ap Some (omega arith)
 
 -- a condition's or a term's size, by any bound that is enough
 pub condition-sized : (f : ℕ) (q : List ℕ) → length q ≤ f → condition_size q ≡ sized size (read_condition f q)
@@ -79,12 +77,12 @@ unfolding term_size
 term-sized f q h = sized-is (λ g x. read_term g x) size_t took-term f q h
 
 -- the size of what is written, and what follows it
-pub encoded-condition : (c : Condition) (r : List ℕ) → WellFormed c → (condition_size (encode c r) ≡ Bytes (size c)) × (drop (size c) (encode c r) ≡ r)
+pub encoded-condition : (c : Condition) (r : List ℕ) → WellFormed c → (condition_size (encode c r) ≡ Some (size c)) × (drop (size c) (encode c r) ≡ r)
 encoded-condition c r w =
     let f = length (encode c r) in
     (condition-sized f (encode c r) (omega arith) ∙ ap (sized size) (read-encode c f r w (omega (arith, levels-size c, size-encode c r))), drop-encode c r)
 
-pub encoded-term : (t : Term) (r : List ℕ) → WellFormedT t → (term_size (encode_t t r) ≡ Bytes (size_t t)) × (drop (size_t t) (encode_t t r) ≡ r)
+pub encoded-term : (t : Term) (r : List ℕ) → WellFormedT t → (term_size (encode_t t r) ≡ Some (size_t t)) × (drop (size_t t) (encode_t t r) ≡ r)
 encoded-term t r w =
     let f = length (encode_t t r) in
     (term-sized f (encode_t t r) (omega arith) ∙ ap (sized size_t) (read-encode_t t f r w (omega (arith, levels-size_t t, size-encode_t t r))), drop-encode_t t r)

@@ -12,12 +12,6 @@ ghost use Rattle.grammar.specs.Shapes.{is_target, ranges_part, targets_part, sha
 
 use kinds::{ConditionRecord, HeadRecord, PermitRecord, TermRecord};
 
-#[derive(Clone, Copy)]
-enum Size {
-    Bytes(usize),
-    Refused,
-}
-
 fn is_condition(r: ConditionRecord) -> bool
     ensures { result ≡ is_condition r }
 {
@@ -43,93 +37,76 @@ fn is_term(r: TermRecord) -> bool
     }
 }
 
-fn wide(x: u8) -> usize
-    ensures { (result ≡ x) × (result ≤ 255) }
-{
-    x as usize
-}
-
 // How many conditions follow a record as its children.
 fn children(kind: u8) -> usize
     ensures { (result ≡ conditions_of kind) × (result ≤ 2) }
 {
-    wide(kinds::child_counts(kind).conditions)
+    usize::from(kinds::child_counts(kind).conditions)
 }
 
-// n conditions, one after the other.
+// The bytes of n conditions, one after the other.
 #[cycle(conditions_head_term)]
-fn conditions(q: &[u8], n: u8) -> Size
+fn conditions(q: &[u8], n: u8) -> Option<usize>
     ensures { result ≡ many condition_size n q.now }
 {
     let mut at = 0;
-    let mut pending = wide(n);
+    let mut pending = usize::from(n);
     while 0 < pending {
         let rest = kinds::tail(q, at);
-        let Size::Bytes(m) = head(rest) else {
-            return Size::Refused;
-        };
+        let m = head(rest)?;
         pending = pending - 1 + children(kinds::byte(rest, 0));
         at += m;
     }
-    Size::Bytes(at)
+    Some(at)
 }
 
 // The first record of a condition, and the terms that are its children.
 #[cycle(conditions_head_term)]
-fn head(q: &[u8]) -> Size
+fn head(q: &[u8]) -> Option<usize>
     ensures { result ≡ head_size q.now }
 {
     if !is_condition(kinds::condition_record(q)) {
-        return Size::Refused;
+        return None;
     }
     let k = kinds::byte(q, 0);
     let mut at = kinds::record_length(k);
-    let mut left = kinds::child_counts(k).terms;
-    while 0 < left {
-        let Size::Bytes(n) = term(kinds::tail(q, at)) else {
-            return Size::Refused;
-        };
-        at += n;
-        left -= 1;
+    for _ in 0..kinds::child_counts(k).terms {
+        at += term(kinds::tail(q, at))?;
     }
-    Size::Bytes(at)
+    Some(at)
 }
 
 // The term that q starts with.
 #[cycle(conditions_head_term)]
-fn term(q: &[u8]) -> Size
+fn term(q: &[u8]) -> Option<usize>
     ensures { result ≡ term_size q.now }
 {
     if !is_term(kinds::term_record(q)) {
-        return Size::Refused;
+        return None;
     }
     let k = kinds::byte(q, 0);
     let a = kinds::record_length(k);
-    let Size::Bytes(n) = conditions(kinds::tail(q, a), kinds::child_counts(k).conditions) else {
-        return Size::Refused;
-    };
-    Size::Bytes(a + n)
+    let n = conditions(kinds::tail(q, a), kinds::child_counts(k).conditions)?;
+    Some(a + n)
 }
 
 // The condition that q starts with.
-fn condition(q: &[u8]) -> Size
+fn condition(q: &[u8]) -> Option<usize>
     ensures { result ≡ condition_size q.now }
 {
     conditions(q, 1)
 }
 
 // The permit that a list starts with.
-fn permit(q: &[u8]) -> Size
+fn permit(q: &[u8]) -> Option<usize>
     ensures { result ≡ permit_size q.now }
 {
     let PermitRecord::Permit(_, _) = kinds::permit_record(q) else {
-        return Size::Refused;
+        return None;
     };
     let start = kinds::record_length(kinds::byte(q, 0));
-    let Size::Bytes(n) = condition(kinds::tail(q, start)) else {
-        return Size::Refused;
-    };
-    Size::Bytes(start + n)
+    let n = condition(kinds::tail(q, start))?;
+    Some(start + n)
 }
 
 // Whether a list of permits is well formed.
@@ -138,7 +115,7 @@ fn permits(bytes: &[u8]) -> bool
 {
     let mut at = 0;
     while at < bytes.len() {
-        let Size::Bytes(n) = permit(kinds::tail(bytes, at)) else {
+        let Some(n) = permit(kinds::tail(bytes, at)) else {
             return false;
         };
         at += n;
@@ -150,56 +127,42 @@ fn permits(bytes: &[u8]) -> bool
 fn permits_refused(bytes: &[u8]) -> bool
     ensures { result ≡ fails20 bytes.now }
 {
-    if model::LIST_BYTES < bytes.len() {
-        true
-    } else {
-        !permits(bytes)
-    }
+    model::LIST_BYTES < bytes.len() || !permits(bytes)
 }
 
-// Records or terms of one sort: how many, and their bytes.
-#[derive(Clone, Copy)]
-enum Part {
-    Read(usize, usize),
-    Refused,
-}
-
-// The RANGE records that q starts with.
-fn ranges(q: &[u8]) -> Part
+// The RANGE records that q starts with: how many, and their bytes.
+fn ranges(q: &[u8]) -> Option<(usize, usize)>
     ensures { result ≡ ranges_part q.now }
 {
     let mut at = 0;
     let mut n = 0;
     while kinds::byte(q, at) == 1 {
         let HeadRecord::Range(_, _) = kinds::head_record(kinds::tail(q, at)) else {
-            return Part::Refused;
+            return None;
         };
         at += kinds::record_length(1);
         n += 1;
     }
-    Part::Read(n, at)
+    Some((n, at))
 }
 
 fn is_target(kind: u8) -> bool
     ensures { result ≡ is_target kind }
 {
-    if kind == 33 { true } else { kind == 34 }
+    kind == 33 || kind == 34
 }
 
-// The targets that q starts with.
-fn targets(q: &[u8]) -> Part
+// The targets that q starts with: how many, and their bytes.
+fn targets(q: &[u8]) -> Option<(usize, usize)>
     ensures { result ≡ targets_part q.now }
 {
     let mut at = 0;
     let mut n = 0;
     while is_target(kinds::byte(q, at)) {
-        let Size::Bytes(m) = term(kinds::tail(q, at)) else {
-            return Part::Refused;
-        };
-        at += m;
+        at += term(kinds::tail(q, at))?;
         n += 1;
     }
-    Part::Read(n, at)
+    Some((n, at))
 }
 
 // A well-formed query: how many RANGEs and targets, and where the first target and the final condition start.
@@ -211,32 +174,20 @@ pub struct Layout {
     pub condition: usize,
 }
 
-#[derive(Clone, Copy)]
-enum Shape {
-    WellFormed(Layout),
-    NotWellFormed,
-}
-
 // RANGE records, at least one target, one condition, and no byte more.
-fn query(q: &[u8]) -> Shape
+fn query(q: &[u8]) -> Option<Layout>
     ensures { result ≡ shape_of q.now }
 {
-    let Part::Read(n, a) = ranges(q) else {
-        return Shape::NotWellFormed;
-    };
-    let Part::Read(m, b) = targets(kinds::tail(q, a)) else {
-        return Shape::NotWellFormed;
-    };
+    let (n, a) = ranges(q)?;
+    let (m, b) = targets(kinds::tail(q, a))?;
     if m == 0 {
-        return Shape::NotWellFormed;
+        return None;
     }
-    let Size::Bytes(c) = condition(kinds::tail(q, a + b)) else {
-        return Shape::NotWellFormed;
-    };
+    let c = condition(kinds::tail(q, a + b))?;
     if a + b + c != q.len() {
-        return Shape::NotWellFormed;
+        return None;
     }
-    Shape::WellFormed(Layout {
+    Some(Layout {
         ranges: n,
         targets: m,
         first: a,
@@ -245,15 +196,11 @@ fn query(q: &[u8]) -> Shape
 }
 
 // The same, of at most so many bytes: a longer query is not looked at. The number of each case is 30's.
-fn query_within(q: &[u8], limit: usize) -> Shape
+fn query_within(q: &[u8], limit: usize) -> Option<Layout>
     ensures value { result ≡ shape_within limit q.now }
     ensures result_value { number_of result ≡ cond (fails30_at limit q.now) 30 0 }
 {
-    if limit < q.len() {
-        Shape::NotWellFormed
-    } else {
-        query(q)
-    }
+    if limit < q.len() { None } else { query(q) }
 }
 
 // What bytes are read as.
@@ -268,11 +215,8 @@ pub enum Input {
 pub fn refused(bytes: &[u8], input: Input) -> bool
     ensures { result ≡ refused_as input bytes.now }
 {
-    let Input::Query(limit) = input else {
-        return permits_refused(bytes);
-    };
-    let Shape::WellFormed(_) = query_within(bytes, limit) else {
-        return true;
-    };
-    false
+    match input {
+        Input::Query(limit) => query_within(bytes, limit).is_none(),
+        Input::Permits => permits_refused(bytes),
+    }
 }

@@ -3,7 +3,7 @@ use mathlib.Core.Path.{◌≡◌, refl, sym, ap, ◌∙◌}
 use mathlib.Core.Bool.{Bool, true, false}
 use mathlib.Core.List.{List, [], ◌∷◌}
 use mathlib.Core.Option.{Option, none, some}
-use Prim.Native.Nat.{ℕ, suc, ◌+◌, ◌*◌, ◌<◌}
+use Prim.Native.Nat.{ℕ, ◌+◌, ◌*◌, ◌<◌}
 use native.Mathlib.Omega.{arith}
 use lib.Dec.{leb}
 use lib.ListN.{length, get_or, drop}
@@ -12,11 +12,9 @@ use Rattle.model.specs.Kinds.{Kind, k-range, k-true, k-false, k-not, k-and, k-or
 use Rattle.model.proofs.Reading.{find-inv}
 use Rattle.kinds.specs.Record.{filled, within, record_at}
 use Rattle.kinds.specs.Places.{head_of, head_at, permit_of, permit_at}
-use Rattle.kinds.specs.declared.Record.{Record}
 use Rattle.kinds.specs.declared.Record.TheVariants as R
 use Rattle.kinds.specs.declared.HeadRecord.{HeadRecord}
 use Rattle.kinds.specs.declared.HeadRecord.TheVariants as H
-use Rattle.kinds.specs.declared.PermitRecord.{PermitRecord}
 use Rattle.kinds.specs.declared.PermitRecord.TheVariants as P
 use Rattle.kinds.proofs.Entries.{of_none}
 use Rattle.kinds.proofs.Records.{whole-record, short-record}

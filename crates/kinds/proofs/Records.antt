@@ -9,7 +9,6 @@ use borrow.Author.Tests.{ne_eqb, le-leb, lt-leb}
 use Rattle.model.specs.Kinds.{Kind, kind_of, find, body_length}
 use Rattle.kinds.specs.Tables.{record_length}
 use Rattle.kinds.specs.Record.{filled, within, record_at}
-use Rattle.kinds.specs.declared.Record.{Record}
 use Rattle.kinds.specs.declared.Record.TheVariants as R
 use Rattle.kinds.proofs.Entries.{of_none, of_some}
 

@@ -38,3 +38,8 @@ module _ (a b c d n : ℕ) (e : n ≡ a + 256 * b + 65536 * c + 16777216 * d) wh
       let m : ℕ = 4294967295 - n in
       let p : to_z w32 (of_z w32 (negsuc 0 -ℤ to_z w32 m)) ≡ negsuc m = to_z-of_z (fits m (omega arith)) ∙ less_one m (omega arith) in
       (p ∙ simp (← e, le-ltb n 2147483648 h, high n k), rw p (omega arith))
+
+  -- as the methods from_le_bytes and cast_signed say it
+  pub read-as : n < 4294967296 → to_z w32 n ≡ signed a b c d
+  unfolding signed
+  read-as k = rw (← e, lt-ltb n 4294967296 k) refl

@@ -1,89 +1,15 @@
 // Records: one byte of kind, then a body whose length the kind fixes. Getters that are total, so that their callers need no bounds.
 #![tactic(auto)]
 
-ghost use Rattle.std.specs.Prelude.{◌≡◌, ◌%◌, ◌≤◌, cond, ltb, get_or, drop, nat_abs};
+ghost use Rattle.std.specs.Prelude.{◌≡◌, ◌≤◌, cond, ltb, get_or, drop, nat_abs};
 ghost use Rattle.model.specs.Syntax.{is_operator, is_function};
 ghost use Rattle.model.specs.Meaning.{signed};
-ghost use Rattle.kinds.specs.Tables.{byte_in, body_of, conditions_of, terms_of, record_length};
+ghost use Rattle.kinds.specs.Tables.{conditions_of, terms_of, record_length};
 ghost use Rattle.kinds.specs.Record.{record_at};
 ghost use Rattle.kinds.specs.Places.{condition_at, term_at, head_at, permit_at};
 
-// Tables by kind: a word for each sixteen kinds that have any, of which only the first eight are in use, and in it a byte for each kind, the first
-// one lowest. Words and no array: the compiler writes an array to the stack wherever it is read.
-// The length of the body, 255 where no record has the kind.
-const BODY_0: u64 = 0xffff_ffff_ffff_02ff;
-
-const BODY_16: u64 = 0xff02_0100_0000_0000;
-
-const BODY_32: u64 = 0xffff_ffff_ff04_0204;
-
-const BODY_64: u64 = 0xffff_ffff_ffff_ff03;
-
-// The length of a RANGE record, by the table (proofs/Entries: range-length): range i of a query that has passed stands at i times that.
+// The length of a RANGE record, as the table has it (proofs/Entries: range_length): range i of a query that has passed stands at i times that.
 pub const RANGE: usize = 3;
-
-// How many conditions follow as children, and how many terms.
-const CONDITIONS_16: u64 = 0x0001_0002_0201_0000;
-
-const CONDITIONS_32: u64 = 0x0001_0000;
-
-const CONDITIONS_64: u64 = 1;
-
-const TERMS_16: u64 = 0x0200_0000_0000;
-
-fn wide_kind(x: u8) -> u64
-    ensures { result ≡ x }
-{
-    x as u64
-}
-
-// The byte of a kind in its word.
-fn entry(word: u64, kind: u8) -> u8
-    ensures { result ≡ byte_in word (kind % 8) }
-{
-    ((word >> (8 * wide_kind(kind % 8))) % 256) as u8
-}
-
-fn body_length(kind: u8) -> u8
-    ensures { result ≡ body_of kind }
-{
-    if 8 <= kind % 16 {
-        return 255;
-    }
-    match kind / 16 {
-        0 => entry(BODY_0, kind),
-        1 => entry(BODY_16, kind),
-        2 => entry(BODY_32, kind),
-        4 => entry(BODY_64, kind),
-        _ => 255,
-    }
-}
-
-fn child_conditions(kind: u8) -> u8
-    ensures { result ≡ conditions_of kind }
-{
-    if 8 <= kind % 16 {
-        return 0;
-    }
-    match kind / 16 {
-        1 => entry(CONDITIONS_16, kind),
-        2 => entry(CONDITIONS_32, kind),
-        4 => entry(CONDITIONS_64, kind),
-        _ => 0,
-    }
-}
-
-fn child_terms(kind: u8) -> u8
-    ensures { result ≡ terms_of kind }
-{
-    if 8 <= kind % 16 {
-        return 0;
-    }
-    match kind / 16 {
-        1 => entry(TERMS_16, kind),
-        _ => 0,
-    }
-}
 
 // How many conditions and how many terms follow a record of the kind as its children.
 #[derive(Clone, Copy)]
@@ -95,15 +21,13 @@ pub struct ChildCounts {
 pub fn child_counts(kind: u8) -> ChildCounts
     ensures { (result.conditions ≡ conditions_of kind) × (result.terms ≡ terms_of kind) }
 {
-    let conditions = child_conditions(kind);
-    let terms = child_terms(kind);
+    let (conditions, terms) = match kind {
+        18 | 22 | 34 | 64 => (1, 0),
+        19 | 20 => (2, 0),
+        21 => (0, 2),
+        _ => (0, 0),
+    };
     ChildCounts { conditions, terms }
-}
-
-fn wide(x: u8) -> usize
-    ensures { result ≡ x }
-{
-    x as usize
 }
 
 // The kind byte and the body; 1 where no record has the kind.
@@ -111,35 +35,34 @@ pub fn record_length(kind: u8) -> usize
     ensures value { result ≡ record_length kind }
     ensures lower_bound { (1 ≤ result) × (result ≤ 5) }
 {
-    let n = body_length(kind);
-    if n == 255 { 1 } else { 1 + wide(n) }
+    match kind {
+        1 | 22 | 33 => 3,
+        21 => 2,
+        32 | 34 => 5,
+        64 => 4,
+        _ => 1,
+    }
 }
 
 // The byte at i, 0 past the end.
 pub fn byte(q: &[u8], i: usize) -> u8
     ensures { result ≡ get_or q.now i 0 }
 {
-    if i < q.len() { q[i] } else { 0 }
+    q.get(i).copied().unwrap_or(0)
 }
 
 // The bytes from a on, none past the end.
 pub fn tail(q: &[u8], a: usize) -> &[u8]
     ensures { result.now ≡ drop a q.now }
 {
-    if a <= q.len() { &q[a..] } else { &q[..0] }
+    q.get(a..).unwrap_or(&[])
 }
 
 // The same for a table of sizes.
 pub fn tail_sizes(z: &[u16], a: usize) -> &[u16]
     ensures { result.now ≡ drop a z.now }
 {
-    if a <= z.len() { &z[a..] } else { &z[..0] }
-}
-
-fn wide_size(x: u16) -> usize
-    ensures { (result ≡ x) × (result ≤ 65535) }
-{
-    x as usize
+    z.get(a..).unwrap_or(&[])
 }
 
 // The size at i, 0 past the end.
@@ -147,19 +70,7 @@ pub fn size_at(z: &[u16], i: usize) -> usize
     ensures value { result ≡ get_or z.now i 0 }
     ensures upper_bound { result ≤ 65535 }
 {
-    if i < z.len() { wide_size(z[i]) } else { 0 }
-}
-
-fn is_operator(o: u8) -> bool
-    ensures { result ≡ is_operator o }
-{
-    if 1 <= o { o <= 6 } else { false }
-}
-
-fn is_function(f: u8) -> bool
-    ensures { result ≡ is_function f }
-{
-    if 1 <= f { f <= 5 } else { false }
+    usize::from(z.get(i).copied().unwrap_or(0))
 }
 
 // Whether a comparison's record knows the operator, or an aggregate's the function.
@@ -167,9 +78,9 @@ pub fn is_code(aggregate: bool, code: u8) -> bool
     ensures { result ≡ cond aggregate (is_function code) (is_operator code) }
 {
     if aggregate {
-        is_function(code)
+        (1..=5).contains(&code)
     } else {
-        is_operator(code)
+        (1..=6).contains(&code)
     }
 }
 
@@ -203,11 +114,7 @@ pub enum Record {
 fn cut(length: usize, kind: u8) -> bool
     ensures { result ≡ ltb length (record_length kind) }
 {
-    if 5 <= length {
-        false
-    } else {
-        length < record_length(kind)
-    }
+    length < 5 && length < record_length(kind)
 }
 
 // The record that q starts with, for flat walks.
@@ -323,14 +230,8 @@ pub fn permit_record(q: &[u8]) -> PermitRecord
     let Record::Permit(relation, low, high) = read(q) else {
         return PermitRecord::Other;
     };
-    let mask = low as u16 + 256 * (high as u16);
+    let mask = u16::from(low) + 256 * u16::from(high);
     PermitRecord::Permit(relation, mask)
-}
-
-fn wide_byte(x: u8) -> u32
-    ensures { result ≡ x }
-{
-    x as u32
 }
 
 // A constant: two's complement, low first.
@@ -338,10 +239,5 @@ pub fn constant(a: u8, b: u8, c: u8, d: u8) -> i32
     ensures value { result ≡ signed a b c d }
     ensures result_bound { nat_abs result ≤ 2147483648 }
 {
-    let n = wide_byte(a) + 256 * wide_byte(b) + 65536 * wide_byte(c) + 16777216 * wide_byte(d);
-    if n < 2147483648 {
-        n as i32
-    } else {
-        -1 - ((4294967295 - n) as i32)
-    }
+    i32::from_le_bytes([a, b, c, d])
 }

@@ -1,7 +1,8 @@
 use lib.IntN.{pos}
 use borrow.Author.Rules.{rules}
 use native.Mathlib.Omega.{arith}
-use Prim.Native.Nat.{ℕ, ◌+◌}
+use Prim.Native.Nat.{ℕ, ◌+◌, ◌-◌}
+use Rattle.model.specs.Meaning.{aggregate}
 use mathlib.Core.Path.{refl, sym, ap, ◌∙◌, subst}
 use mir.Syntax.{w32}
 use mir.Facts.{to_z-of_z}
@@ -12,7 +13,7 @@ use Rattle.numbers.specs.Numbers.{Accumulates}
 use Rattle.catalogue.specs.Layout.{tuple_at}
 use Rattle.walks.specs.Walks.{place_at, kept}
 use Rattle.walks.proofs.Loops.{walked-hit, walked_none}
-use Rattle.evaluator.specs.Evaluation.{holds_on}
+use Rattle.evaluator.specs.Evaluation.{holds_on, values_on}
 use Rattle.evaluator.proofs.Steps.{holds-zero, value-zero, true-is, false-is, not_is, and_no, and_yes, or_yes, or_no, compare-is, some_is, aggregate-is, known_is, constant-is, attribute-is, no-condition, no-term, places-start, places-back, places-length, on_row, taken-all, taken_start, taken-few, taken-hit, taken-miss}
 use Rattle.numbers.proofs.Laws.{nothing-taken}
 use Rattle.numbers.proofs.Laws.{ends}
@@ -45,7 +46,7 @@ pub condition-returns-else-condition : goal.condition-returns-else-condition
 condition-returns-else-condition t c = record { value = or_no c.args.walks.now c.args.values.now c.args.memo.now c.args.env.now c.args.q.now c.args.z.now c.args.level _ _ _ c.if-level-eq0.false c.byte.ensures c.record_length-a.ensures.value c.condition_record.ensures _ _ c.tail-x.ensures c.tail_sizes-y.ensures _ _ _ _ c.size_at-in-Or.ensures.value refl c.tail-u-in-Or.ensures c.tail_sizes-v-in-Or.ensures _ _ _ c.in-Or.is c.condition-in-Or.ensures.value c.if-condition.false c.condition-in-Or.ensures.env_unchanged c.condition-in-Or-2.ensures.value; env_unchanged = c.condition-in-Or-2.ensures.env_unchanged ∙ c.condition-in-Or.ensures.env_unchanged }
 
 pub condition-returns-in-Compare : goal.condition-returns-in-Compare
-condition-returns-in-Compare t c = record { value = compare-is c.args.walks.now c.args.values.now c.args.memo.now c.args.env.now c.args.q.now c.args.z.now c.args.level _ _ _ c.if-level-eq0.false c.byte.ensures c.record_length-a.ensures.value c.condition_record.ensures _ _ c.tail-x.ensures c.tail_sizes-y.ensures _ _ _ _ c.size_at-in-Compare.ensures.value refl c.tail-u-in-Compare.ensures c.tail_sizes-v-in-Compare.ensures _ _ _ _ _ c.in-Compare.is c.term-left.ensures.result_value c.term-left.ensures.env_unchanged c.term-right.ensures.result_value c.compared.ensures; env_unchanged = c.term-right.ensures.env_unchanged ∙ c.term-left.ensures.env_unchanged }
+condition-returns-in-Compare t c = record { value = compare-is c.args.walks.now c.args.values.now c.args.memo.now c.args.env.now c.args.q.now c.args.z.now c.args.level _ _ _ c.if-level-eq0.false c.byte.ensures c.record_length-a.ensures.value c.condition_record.ensures _ _ c.tail-x.ensures c.tail_sizes-y.ensures _ _ _ _ c.size_at-in-Compare.ensures.value refl c.tail-u-in-Compare.ensures c.tail_sizes-v-in-Compare.ensures _ _ _ _ _ c.in-Compare.is c.term-left.ensures.result_value c.term-left.ensures.env_unchanged c.term-right.ensures.result_value (rw c.from.ensures at c.compared.ensures); env_unchanged = c.term-right.ensures.env_unchanged ∙ c.term-left.ensures.env_unchanged }
 
 pub condition-returns-in-Some : goal.condition-returns-in-Some
 condition-returns-in-Some t c = record { value = some_is c.args.walks.now c.args.values.now c.args.memo.now c.args.env.now c.args.q.now c.args.z.now c.args.level _ _ _ c.if-level-eq0.false c.byte.ensures c.record_length-a.ensures.value c.condition_record.ensures _ _ c.tail-x.ensures c.tail_sizes-y.ensures _ _ _ _ c.in-Some.is c.some_row.ensures.tried_value; env_unchanged = c.some_row.ensures.env_unchanged }
@@ -104,10 +105,10 @@ pub term-returns-in-Constant : goal.term-returns-in-Constant
 term-returns-in-Constant t c = record { result_value = c.whole-in-Constant.ensures.result_value ∙ (constant-is c.args.walks.now c.args.values.now c.args.memo.now c.args.env.now c.args.q.now c.args.z.now c.args.level _ _ _ _ _ _ c.if-level-eq0.false c.term_record.ensures c.in-Constant.is (to_z-of_z {w = w32} (record { sfits = c.constant.type_inv }) ∙ c.constant.ensures.value)); small = c.whole-in-Constant.ensures.small; env_unchanged = search rules }
 
 pub term-returns-in-Attribute : goal.term-returns-in-Attribute
-term-returns-in-Attribute t c = record { result_value = c.whole-in-Attribute.ensures.result_value ∙ (attribute-is c.args.walks.now c.args.values.now c.args.memo.now c.args.env.now c.args.q.now c.args.z.now c.args.level _ _ _ _ _ c.if-level-eq0.false c.term_record.ensures c.in-Attribute.is (omega (arith, c.requires, c.in-Attribute.known_told-in-Attribute-1-own.given)) c.place-row.ensures (to_z-of_z {w = w32} (record { sfits = c.value.type_inv }) ∙ c.value.ensures)); small = c.whole-in-Attribute.ensures.small; env_unchanged = search rules }
+term-returns-in-Attribute t c = record { result_value = c.whole-in-Attribute.ensures.result_value ∙ (attribute-is c.args.walks.now c.args.values.now c.args.memo.now c.args.env.now c.args.q.now c.args.z.now c.args.level _ _ _ _ _ c.if-level-eq0.false c.term_record.ensures c.in-Attribute.is (omega (arith, c.requires, c.in-Attribute.known_told-in-Attribute-1-own.given)) c.place-row.ensures (to_z-of_z {w = w32} (record { sfits = c.value.type_inv }) ∙ (rw c.from.ensures at c.value.ensures))); small = c.whole-in-Attribute.ensures.small; env_unchanged = search rules }
 
 pub term-returns-else-knows : goal.term-returns-else-knows
-term-returns-else-knows t c = record { result_value = ends _ _ c.finish.result _ c.gather-taken.ensures.accumulates c.finish.ensures.result_value ∙ (aggregate-is c.args.walks.now c.args.values.now c.args.memo.now c.args.env.now c.args.q.now c.args.z.now c.args.level _ _ _ c.if-level-eq0.false c.byte.ensures c.record_length-at.ensures.value c.term_record.ensures _ _ c.tail-x.ensures c.tail_sizes-y.ensures _ _ _ _ _ _ c.in-Aggregate.is c.knows.ensures c.if-knows.false refl); small = c.finish.ensures.small; env_unchanged = c.gather-taken.ensures.env_unchanged }
+term-returns-else-knows t c = record { result_value = ends _ _ c.finish.result _ c.gather-taken.ensures.accumulates c.finish.ensures.result_value ∙ (aggregate-is c.args.walks.now c.args.values.now c.args.memo.now c.args.env.now c.args.q.now c.args.z.now c.args.level _ _ _ c.if-level-eq0.false c.byte.ensures c.record_length-at.ensures.value c.term_record.ensures _ _ c.tail-x.ensures c.tail_sizes-y.ensures _ _ _ _ _ _ c.in-Aggregate.is c.knows.ensures c.if-knows.false (ap (λ (k : ℕ). aggregate c.in-Aggregate.function (values_on (c.args.level - 1) c.tail-x.result.now c.tail_sizes-y.result.now c.args.walks.now c.args.values.now c.args.memo.now c.args.env.now c.in-Aggregate.variable k)) c.from-in-Aggregate.ensures)); small = c.finish.ensures.small; env_unchanged = c.gather-taken.ensures.env_unchanged }
 
 pub term-returns-in-Other : goal.term-returns-in-Other
 term-returns-in-Other t c = record { result_value = c.whole-in-Other.ensures.result_value ∙ (no-term c.args.walks.now c.args.values.now c.args.memo.now c.args.env.now c.args.q.now c.args.z.now c.args.level _ c.if-level-eq0.false c.term_record.ensures c.in-Other.is); small = c.whole-in-Other.ensures.small; env_unchanged = search rules }

@@ -1,12 +1,7 @@
-use Prim.Native.Nat.{ℕ, suc, ◌<◌, ◌≤◌, ◌+◌, ◌-◌, ◌*◌}
-use borrow.Author.Rules.{rules}
-use native.Mathlib.Omega.{arith}
-use mathlib.Core.Path.{◌≡◌, sym, ap, ◌∙◌}
-use lib.ListN.{length, drop, length-drop}
+use Prim.Native.Nat.{suc, ◌≤◌, ◌+◌, ◌-◌, ◌*◌}
+use mathlib.Core.Path.{◌≡◌}
+use lib.ListN.{length, drop}
 use Rattle.grammar.specs.Sizes.{condition_size, term_size, after, many, head_size}
-use Rattle.grammar.proofs.Pending.{start, next, turn, stop, halt, end, no-head, no-leaf, head-whole, head-is, leaf-whole, leaf-is}
-use Rattle.grammar.proofs.Bounds.{condition-within, many-within, head-takes, term-takes, part-within, part-takes}
-use Rattle.kinds.specs.Places.{is_condition, is_term}
 use Rattle.grammar.proofs.+conditions_head_term.Given as goal
 
 abbrev pub decreases-conditions : goal.decreases-conditions
@@ -24,8 +19,5 @@ invariant-conditions-loop-pending l = (after l.at (many condition_size l.pending
 abbrev pub decreases-conditions-loop-pending : goal.decreases-conditions-loop-pending
 decreases-conditions-loop-pending l = length l.q - l.at
 
-abbrev pub invariant-head-loop-left : goal.invariant-head-loop-left
-invariant-head-loop-left l = (after l.at (many term_size l.left (drop l.at l.q)) ≡ head_size l.q) × (l.at ≤ length l.q) × (1 ≤ l.at)
-
-abbrev pub decreases-head-loop-left : goal.decreases-head-loop-left
-decreases-head-loop-left l = l.left
+abbrev pub invariant-head-loop : goal.invariant-head-loop
+invariant-head-loop l = (after l.at (many term_size (l.end - l.counter) (drop l.at l.q)) ≡ head_size l.q) × (l.at ≤ length l.q) × (1 ≤ l.at)

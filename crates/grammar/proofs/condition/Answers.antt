@@ -1,4 +1,3 @@
-use borrow.Author.Rules.{rules}
 use mathlib.Core.Path.{◌∙◌}
 use Rattle.grammar.specs.Sizes.{condition_size}
 use Rattle.grammar.proofs.Pending.{many-one}

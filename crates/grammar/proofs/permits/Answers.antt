@@ -1,9 +1,4 @@
-use borrow.Author.Rules.{rules}
 use native.Mathlib.Omega.{arith}
-use mathlib.Core.Path.{◌≡◌}
-use Prim.Native.Nat.{◌≤◌, ◌-◌}
-use lib.ListN.{length, drop}
-use Rattle.model.specs.Encoding.{failed, permits_read}
 use Rattle.grammar.specs.Sizes.{permit_size}
 use Rattle.grammar.proofs.Listed.{permit-takes, refused-at, turned-at, passed-at}
 use Rattle.grammar.proofs.Bounds.{part-takes}
@@ -13,14 +8,14 @@ pub returns-in_default : goal.returns-in_default
 returns-in_default c = refused-at c.args.bytes.now c.tail.result.now c.loop-at.at c.permit.result c.tail.ensures c.permit.ensures c.loop-at-test.true c.loop-at.invariant.0 c.in_default.is
 
 pub overflow_add-at : goal.overflow_add-at
-overflow_add-at c = let h = part-takes permit_size c.args.bytes.now c.tail.result.now c.loop-at.at c.in-Bytes.n c.permit.result c.tail.ensures c.permit.ensures c.in-Bytes.is permit-takes in omega (arith, c.loop-at.invariant.1)
+overflow_add-at c = let h = part-takes permit_size c.args.bytes.now c.tail.result.now c.loop-at.at c.in-Some.n c.permit.result c.tail.ensures c.permit.ensures c.in-Some.is permit-takes in omega (arith, c.loop-at.invariant.1)
 
 pub loop-at-smaller : goal.loop-at-smaller
-loop-at-smaller c = let h = part-takes permit_size c.args.bytes.now c.tail.result.now c.loop-at.at c.in-Bytes.n c.permit.result c.tail.ensures c.permit.ensures c.in-Bytes.is permit-takes in omega (arith, c.loop-at.invariant.1)
+loop-at-smaller c = let h = part-takes permit_size c.args.bytes.now c.tail.result.now c.loop-at.at c.in-Some.n c.permit.result c.tail.ensures c.permit.ensures c.in-Some.is permit-takes in omega (arith, c.loop-at.invariant.1)
 
 pub loop-at-preserved : goal.loop-at-preserved
 loop-at-preserved c = let list = c.args.bytes.now in
-    let h = part-takes permit_size list c.tail.result.now c.loop-at.at c.in-Bytes.n c.permit.result c.tail.ensures c.permit.ensures c.in-Bytes.is permit-takes in (turned-at list c.tail.result.now c.loop-at.at c.permit.result c.tail.ensures c.permit.ensures c.loop-at-test.true c.loop-at.invariant.0 c.in-Bytes.n c.in-Bytes.is, omega (arith, c.loop-at.invariant.1))
+    let h = part-takes permit_size list c.tail.result.now c.loop-at.at c.in-Some.n c.permit.result c.tail.ensures c.permit.ensures c.in-Some.is permit-takes in (turned-at list c.tail.result.now c.loop-at.at c.permit.result c.tail.ensures c.permit.ensures c.loop-at-test.true c.loop-at.invariant.0 c.in-Some.n c.in-Some.is, omega (arith, c.loop-at.invariant.1))
 
 pub returns : goal.returns
 returns c = passed-at c.args.bytes.now c.loop-at.at c.loop-at-test.false c.loop-at.invariant.0

@@ -1,12 +1,7 @@
-use borrow.Author.Rules.{rules}
-use native.Mathlib.Omega.{arith}
 use mathlib.Core.Path.{◌≡◌}
 use Prim.Native.Nat.{◌≤◌, ◌-◌}
 use lib.ListN.{length, drop}
 use Rattle.model.specs.Encoding.{failed, permits_read}
-use Rattle.grammar.specs.Sizes.{permit_size}
-use Rattle.grammar.proofs.Listed.{permit-takes, refused-at, turned-at, passed-at}
-use Rattle.grammar.proofs.Bounds.{part-takes}
 use Rattle.grammar.proofs.permits.Given as goal
 
 abbrev pub invariant-loop-at : goal.invariant-loop-at

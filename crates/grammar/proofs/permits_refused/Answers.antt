@@ -1,4 +1,3 @@
-use borrow.Author.Rules.{rules}
 use mathlib.Core.Path.{◌≡◌, refl, ap, ◌∙◌}
 use mathlib.Core.Bool.{Bool, true, false, not}
 use Prim.Native.Nat.{ℕ, ◌<◌, ◌≤◌}
@@ -22,7 +21,7 @@ unfolding fails20
 tested l r h e = rw (le-ltb 2048 (length l) h) (ap not e ∙ double (failed (permits_read l)))
 
 pub returns-then-bytes-gt-LIST_BYTES : goal.returns-then-bytes-gt-LIST_BYTES
-returns-then-bytes-gt-LIST_BYTES c = too_long c.args.bytes.now c.if-bytes-gt-LIST_BYTES.true
+returns-then-bytes-gt-LIST_BYTES c = lt-ltb 2048 _ c.if-bytes-gt-LIST_BYTES.true ∙ too_long c.args.bytes.now c.if-bytes-gt-LIST_BYTES.true
 
 pub returns-else-bytes-gt-LIST_BYTES : goal.returns-else-bytes-gt-LIST_BYTES
 returns-else-bytes-gt-LIST_BYTES c = tested c.args.bytes.now c.permits.result c.if-bytes-gt-LIST_BYTES.false c.permits.ensures

@@ -1,5 +1,4 @@
-use borrow.Author.Rules.{rules}
-use mathlib.Core.Path.{◌≡◌, ap, ◌∙◌}
+use mathlib.Core.Path.{◌∙◌}
 use Rattle.grammar.proofs.Whole.{too_long, within-limit, numbered}
 use Rattle.grammar.proofs.query_within.Goals as goal
 

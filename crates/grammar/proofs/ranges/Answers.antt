@@ -1,10 +1,6 @@
-use borrow.Author.Rules.{rules}
 use native.Mathlib.Omega.{arith}
-use mathlib.Core.Path.{◌≡◌}
-use Prim.Native.Nat.{◌≤◌, ◌-◌}
-use lib.ListN.{length, drop}
 use Rattle.grammar.specs.Shapes.{ranges_part}
-use Rattle.grammar.proofs.Parts.{beyond, begins, range-end, range-cut, range-fits, range-turn}
+use Rattle.grammar.proofs.Parts.{range-end, range-cut, range-fits, range-turn}
 use Rattle.grammar.proofs.ranges.Goals as goal
 
 pub returns-in_default : goal.returns-in_default

@@ -1,10 +1,8 @@
-use borrow.Author.Rules.{rules}
-use native.Mathlib.Omega.{arith}
 use mathlib.Core.Path.{◌≡◌}
 use Prim.Native.Nat.{◌≤◌, ◌-◌}
 use lib.ListN.{length, drop}
 use Rattle.grammar.specs.Shapes.{ranges_part}
-use Rattle.grammar.proofs.Parts.{beyond, begins, range-end, range-cut, range-fits, range-turn}
+use Rattle.grammar.proofs.Parts.{beyond}
 use Rattle.grammar.proofs.ranges.Given as goal
 
 abbrev pub invariant-loop-at : goal.invariant-loop-at

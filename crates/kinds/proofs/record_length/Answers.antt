@@ -1,19 +1,29 @@
-use borrow.Author.Rules.{rules}
-use native.Mathlib.Omega.{arith}
-use mathlib.Core.Path.{◌≡◌, ap, sym, ◌∙◌}
-use Prim.Native.Nat.{ℕ, suc, ◌+◌}
-use Rattle.kinds.specs.Tables.{body_of, record_length}
-use Rattle.kinds.proofs.Entries.{length-unknown, length-known, length-small}
+use Rattle.std.proofs.Common.{rules, arith, sym, refl, ◌||◌, eqb}
+use Prim.Native.Nat.{suc}
+use borrow.Author.Tests.{ne_eqb}
+use Rattle.model.specs.Kinds.{kind_of, find, body_length}
+use Rattle.kinds.specs.Tables.{record_length, of_kind}
+use Rattle.kinds.proofs.Entries.{outside}
 use Rattle.kinds.proofs.record_length.Goals as goal
 
-one : (k n : ℕ) → n ≡ body_of k → n ≡ 255 → 1 ≡ record_length k
-one k n e h = sym (length-unknown k (sym e ∙ h))
+pub returns-in-21-clause-value : goal.returns-in-21-clause-value
+unfolding record_length of_kind kind_of find
+returns-in-21-clause-value c = search rules
 
-more : (k n w : ℕ) → n ≡ body_of k → (n ≡ 255 → ⊥) → w ≡ n → 1 + w ≡ record_length k
-more k n w e h q = omega (arith, length-known k (λ x. h (e ∙ x)))
+pub returns-in-1-clause-value : goal.returns-in-1-clause-value
+unfolding record_length of_kind kind_of find
+returns-in-1-clause-value c = search rules
 
-pub returns-then-n : goal.returns-then-n
-returns-then-n c = let p = one c.args.kind c.body_length-n.result c.body_length-n.ensures c.if-n.true in record { value = p; lower_bound = (omega arith, omega arith) }
+pub returns-in-64-clause-value : goal.returns-in-64-clause-value
+unfolding record_length of_kind kind_of find
+returns-in-64-clause-value c = search rules
 
-pub returns-else-n : goal.returns-else-n
-returns-else-n c = let p = more c.args.kind c.body_length-n.result c.wide.result c.body_length-n.ensures c.if-n.false c.wide.ensures in record { value = p; lower_bound = (omega arith, omega (arith, (length-small c.args.kind).1)) }
+pub returns-in-32-clause-value : goal.returns-in-32-clause-value
+unfolding record_length of_kind kind_of find
+returns-in-32-clause-value c = search rules
+
+pub returns-in_default-clause-value : goal.returns-in_default-clause-value
+unfolding record_length
+returns-in_default-clause-value c = let k = c.args.kind in
+    sym (outside (λ k. eqb k 1 || eqb k 21 || eqb k 22 || eqb k 32 || eqb k 33 || eqb k 34 || eqb k 64) 1 (λ x. suc (body_length x)) k
+    (rw (ne_eqb k 1 (grind arith), ne_eqb k 21 (grind arith), ne_eqb k 22 (grind arith), ne_eqb k 32 (grind arith), ne_eqb k 33 (grind arith), ne_eqb k 34 (grind arith), ne_eqb k 64 (grind arith)) refl) tt)
