@@ -4,7 +4,6 @@ use mathlib.Core.Bool.{Bool, true, false, not, cond, ◌&&◌}
 use mathlib.Core.List.{List, [], ◌∷◌, ◌++◌, map, map-append, append_assoc, append-nil}
 use mathlib.Core.Option.{Option, none, some}
 use mathlib.Core.Path.{◌≡◌, refl, sym, ap, ap₂, ◌∙◌, subst}
-use native.Mathlib.Omega.{arith}
 use native.Mathlib.Numerals.{add-one}
 use lib.Dec.{eqb, leb}
 use lib.ListN.{length, get_or, set}
@@ -280,6 +279,3 @@ within-next k s u e = go (eqb k 21) e
     go : (d : Bool) → u ≡ cond d (record { inside = false; relation = 0; n = s.n; at = s.at }) s → (u.n ≡ s.n) × (u.at ≡ s.at)
     go true f = (ap (λ (x : Tally). x.n) f, ap (λ (x : Tally). x.at) f)
     go false f = (ap (λ (x : Tally). x.n) f, ap (λ (x : Tally). x.at) f)
-
-pub count_fits : (n : ℕ) → n < 4000 → n + 1 < 18446744073709551616
-count_fits n h = omega arith
