@@ -189,11 +189,6 @@ pub enter-pos : (d : ℕ) → (d ≡ 0 → ⊥) → d ≡ enter d
 enter-pos zero h = absurd (h refl)
 enter-pos (suc d) h = refl
 
-pub binding-other : (p : ℕ) → (p ≡ 1 → ⊥) → binding p ≡ false
-binding-other zero h = refl
-binding-other (suc zero) h = absurd (h refl)
-binding-other (suc (suc p)) h = refl
-
 module _ (text ks ss : List ℕ) (i : ℕ) where
   pub name-past : length ks ≤ i → [] ≡ name_in text ks ss i
   unfolding name_in
