@@ -6,8 +6,6 @@ use Rattle.tokens.specs.Codes.{Spelt}
 use Rattle.tokens.specs.Kinds.{number_of}
 use Rattle.tokens.specs.Table.{Table, token_of, tokens_at}
 use Rattle.tokens.specs.declared.Piece.{Piece}
-use Rattle.tokens.specs.declared.Outcome.{Outcome}
-use Rattle.tokens.specs.declared.Outcome.TheVariants as O
 
 -- the token that begins with the first byte
 abbrev pub leading : List ℕ → Read (List ℕ) Token
@@ -49,10 +47,10 @@ pub record Single (b : ℕ) : Type 0 where
   pub no_more : eqb b 62 ≡ false
 
 -- the tokens that the arrays hold
-abbrev pub read_of : Outcome → List ℕ → Table → Read (List ℕ) (List Token)
-read_of (O.Tokens n) text t = ok (tokens_at text t 0 n) []
-read_of O.Refused text t = fail
+abbrev pub read_of : Option ℕ → List ℕ → Table → Read (List ℕ) (List Token)
+read_of (Some n) text t = ok (tokens_at text t 0 n) []
+read_of None text t = fail
 
-abbrev pub counted : Outcome → ℕ
-counted (O.Tokens n) = n
-counted O.Refused = 0
+abbrev pub counted : Option ℕ → ℕ
+counted (Some n) = n
+counted None = 0

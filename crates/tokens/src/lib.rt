@@ -301,15 +301,8 @@ fn is_blank(b: u8) -> bool
     matches!(b, b' ' | b'\n' | b'\r')
 }
 
-// How many tokens, or no text.
-#[derive(Clone, Copy)]
-pub enum Outcome {
-    Tokens(usize),
-    Refused,
-}
-
-// The tokens of a text of at most 2,000 bytes, into arrays: kinds, where words start, and numbers; that of a name is its code.
-pub fn cut(text: &[u8], kinds: &mut [u8], starts: &mut [u16], numbers: &mut [u64]) -> Outcome
+// The tokens of a text of at most 2,000 bytes, into arrays: kinds, where words start, and numbers; that of a name is its code. How many, or no text.
+pub fn cut(text: &[u8], kinds: &mut [u8], starts: &mut [u16], numbers: &mut [u64]) -> Option<usize>
     requires { length text.now ≤ 2000 → (length text.now ≤ length kinds.old) × (length text.now ≤ length starts.old)
         × (length text.now ≤ length numbers.old) }
     ensures numbers_after { read_of result text.now (record {
@@ -325,7 +318,7 @@ pub fn cut(text: &[u8], kinds: &mut [u8], starts: &mut [u16], numbers: &mut [u64
     ensures result_bound { (counted result ≤ 2000) × (counted result ≤ length text.now) }
 {
     if LONGEST < text.len() {
-        return Outcome::Refused;
+        return None;
     }
     let mut at = 0;
     let mut n = 0;
@@ -334,14 +327,12 @@ pub fn cut(text: &[u8], kinds: &mut [u8], starts: &mut [u16], numbers: &mut [u64
             at += 1;
             continue;
         }
-        let Some(piece) = first_piece(&text[at..]) else {
-            return Outcome::Refused;
-        };
+        let piece = first_piece(&text[at..])?;
         kinds[n] = u8::from(piece.kind);
         starts[n] = at as u16;
         numbers[n] = piece.value;
         n += 1;
         at += piece.size;
     }
-    Outcome::Tokens(n)
+    Some(n)
 }
