@@ -2,14 +2,13 @@
 use mathlib.Core.Path.{◌≡◌, refl, sym, ap, ◌∙◌, subst}
 use mathlib.Core.Bool.{Bool, true, false}
 use mathlib.Core.List.{List, ◌++◌}
-use Prim.Native.Nat.{ℕ, ◌+◌, ◌-◌, ◌≤◌}
+use Prim.Native.Nat.{ℕ, ◌+◌, ◌-◌}
 use native.Mathlib.Omega.{arith}
 use lib.Dec.{ltb}
 use lib.IntN.{ℤ}
-use lib.ListN.{length, get_or, take, drop, replicate, length-replicate, length-take, length-drop, get_or-eq_default}
+use lib.ListN.{length, get_or, take, drop, length-take, length-drop, get_or-eq_default}
 use lib.Seq.{get_or-take, get_or-drop, take_at, drop_at, drop-drop}
 use borrow.Author.Tests.{ltb-true, ltb-false}
-use Rattle.model.proofs.Lists.{get_or-same}
 use Rattle.grammar.specs.declared.Layout.{Layout}
 use Rattle.sizes.specs.Decode.{decode}
 use Rattle.sizes.specs.Parts.{ranges_at}
@@ -21,12 +20,6 @@ use Rattle.rows.proofs.Links.{linked-none}
 use Rattle.odometer.specs.declared.Plan.{Plan}
 use Rattle.odometer.specs.Plan.{table_in}
 use Rattle.plain.specs.Reply.{plan_of, Cleared, Furnished}
-
--- a table of zeros
-pub all-clear : (n f : ℕ) → 768 ≤ f → f + 16 ≤ n → n ≤ f + 65551 → Cleared f (replicate n 0)
-all-clear n f b r t =
-    let e = length-replicate {A = ℕ} n 0 in
-    record { branches = b; room = omega (arith, e); rows = omega (arith, e); clear = get_or-same {A = ℕ} n 0 }
 
 -- a part of it is cleared too
 pub part-clear : (a k : ℕ) (w : List ℕ) → ((i : ℕ) → get_or w i 0 ≡ 0) → (i : ℕ) → get_or (take k (drop a w)) i 0 ≡ 0
