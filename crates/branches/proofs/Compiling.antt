@@ -43,10 +43,10 @@ module _ (k met unmet : ℕ) (t t' q z : List ℕ) (m : List ℤ) (c : Condition
   one-branch = record { kept = h; means = λ ws vs e. decides ws vs e (holds_by m c (rows_by ws vs) e) (holds ws vs e) }
 
 -- a condition by its place
-module _ (k met unmet : ℕ) (t t' q z : List ℕ) (m : List ℤ) (place l p n : ℕ) (ep : p ≡ place) (en : n ≡ l)
-    (et : t' ≡ sets t (8 * k) (placing p n met unmet)) (rt : 768 ≤ length t) (hk : k < 64) where
+module _ (k met unmet : ℕ) (t t' q z : List ℕ) (m : List ℤ) (place l : ℕ)
+    (et : t' ≡ sets t (8 * k) (placing place l met unmet)) (rt : 768 ≤ length t) (hk : k < 64) where
   at_place : (j : ℕ) → j < 8 → field t' k j ≡ get_or (placing place l met unmet) j 0
-  at_place j h = ap (λ (y : List ℕ). get_or y (8 * k + j) 0) et ∙ sets-at 0 (placing p n met unmet) t (8 * k) j (omega arith) h ∙ ap₂ (λ (a b : ℕ). get_or (placing a b met unmet) j 0) ep en
+  at_place j h = ap (λ (y : List ℕ). get_or y (8 * k + j) 0) et ∙ sets-at 0 (placing place l met unmet) t (8 * k) j (omega arith) h
 
   says : (ws : List ℕ) (vs : List ℤ) (e : Assignment) → branch_holds t' q z ws vs m k e ≡ holds_by m (decode l (drop place q) (drop place z)) (rows_by ws vs) e
   unfolding branch_holds holds_in
@@ -55,14 +55,14 @@ module _ (k met unmet : ℕ) (t t' q z : List ℕ) (m : List ℤ) (place l p n :
   pub placed : 2 ≤ k → met < k → unmet < k → Compiled k k met unmet t t' q z m (decode l (drop place q) (drop place z))
   placed low hm hu =
       one-branch k met unmet t t' q z m (decode l (drop place q) (drop place z))
-      (eight-kept k t t' 0 p n 0 0 met unmet et hk)
+      (eight-kept k t t' 0 place l 0 0 met unmet et hk)
       low hm hu (at_place 5 (omega arith)) (at_place 6 (omega arith)) says
 
 -- a comparison
 module _ (k met unmet : ℕ) (t t' t'' q z u w : List ℕ) (m : List ℤ) (place l o : ℕ) (x : Comparison)
     (eo : o ≡ x.operator) (et : t' ≡ sets t (8 * k) (o ∷ x.left.variable ∷ x.left.attribute ∷ x.right.variable ∷ x.right.attribute ∷ met ∷ unmet ∷ 0 ∷ []))
     (rt : 768 ≤ length t) (rt' : 768 ≤ length t') (hk : k < 64) (ex : t'' ≡ sets t' (512 + 4 * k) (halves_of x))
-    (eu : u ≡ drop place q) (ew : w ≡ drop place z) (ec : Compares x m (decode l u w)) (no : x.operator ≡ 0 → ⊥) (low : x.operator ≡ 256 → ⊥) where
+    (eu : u ≡ drop place q) (ew : w ≡ drop place z) (ec : Compares x m (decode l u w)) (low : x.operator ≡ 256 → ⊥) where
   is_x : t' ≡ sets t (8 * k) (comparing x met unmet)
   is_x = et ∙ ap (λ (n : ℕ). sets t (8 * k) (n ∷ x.left.variable ∷ x.left.attribute ∷ x.right.variable ∷ x.right.attribute ∷ met ∷ unmet ∷ 0 ∷ [])) eo
 
@@ -84,8 +84,8 @@ module _ (k met unmet : ℕ) (t t' t'' q z u w : List ℕ) (m : List ℤ) (place
   compared-says : (ws : List ℕ) (vs : List ℤ) (e : Assignment) → branch_holds t'' q z ws vs m k e ≡ holds_by m (decode l (drop place q) (drop place z)) (rows_by ws vs) e
   unfolding branch_holds holds_in
   compared-says ws vs e =
-      rw (at-comparison 0 (omega arith), at-comparison 1 (omega arith), at-comparison 2 (omega arith), at-comparison 3 (omega arith), at-comparison 4 (omega arith), left, right, ne_eqb x.operator 0 no, ne_eqb x.operator 256 low)
-      (sym (ap₂ (λ (y v : List ℕ). holds_by m (decode l y v) (rows_by ws vs) e) (sym eu) (sym ew) ∙ ec no (rows_by ws vs) e))
+      rw (at-comparison 0 (omega arith), at-comparison 1 (omega arith), at-comparison 2 (omega arith), at-comparison 3 (omega arith), at-comparison 4 (omega arith), left, right, ne_eqb x.operator 0 ec.nonzero, ne_eqb x.operator 256 low)
+      (sym (ap₂ (λ (y v : List ℕ). holds_by m (decode l y v) (rows_by ws vs) e) (sym eu) (sym ew) ∙ ec.holds (rows_by ws vs) e))
 
   pub compared : 2 ≤ k → met < k → unmet < k → Compiled k k met unmet t t'' q z m (decode l (drop place q) (drop place z))
   compared low hm hu =
@@ -95,12 +95,12 @@ module _ (k met unmet : ℕ) (t t' t'' q z u w : List ℕ) (m : List ℤ) (place
 
 -- some row: branch r, which leads to 0 where c holds and to 1 where it does not, and after it a branch that searches for a row
 module _ (k r met unmet v g : ℕ) (t t' t'' q z : List ℕ) (m : List ℤ) (c w : Condition) (ew : w ≡ SOME v g c) (byte : v < 256) (low : 2 ≤ k) (le : k ≤ r) (hm : met < k) (hu : unmet < k)
-    (inner : Compiled k r 0 1 t t' q z m c) (u s : ℕ) (eu : u ≡ v) (es : s ≡ r) (et : t'' ≡ sets t' (8 * (r + 1)) (256 ∷ u ∷ s ∷ 0 ∷ 0 ∷ met ∷ unmet ∷ 0 ∷ [])) (rt : 768 ≤ length t') (hr : r + 1 < 64) where
+    (inner : Compiled k r 0 1 t t' q z m c) (u : ℕ) (eu : u ≡ v) (et : t'' ≡ sets t' (8 * (r + 1)) (256 ∷ u ∷ r ∷ 0 ∷ 0 ∷ met ∷ unmet ∷ 0 ∷ [])) (rt : 768 ≤ length t') (hr : r + 1 < 64) where
   at-search : (j : ℕ) → j < 8 → field t'' (r + 1) j ≡ get_or (256 ∷ v ∷ r ∷ 0 ∷ 0 ∷ met ∷ unmet ∷ 0 ∷ []) j 0
-  at-search j h = ap (λ (y : List ℕ). get_or y (8 * (r + 1) + j) 0) et ∙ sets-at 0 (256 ∷ u ∷ s ∷ 0 ∷ 0 ∷ met ∷ unmet ∷ 0 ∷ []) t' (8 * (r + 1)) j (omega arith) h ∙ ap₂ (λ (a b : ℕ). get_or (256 ∷ a ∷ b ∷ 0 ∷ 0 ∷ met ∷ unmet ∷ 0 ∷ []) j 0) eu es
+  at-search j h = ap (λ (y : List ℕ). get_or y (8 * (r + 1) + j) 0) et ∙ sets-at 0 (256 ∷ u ∷ r ∷ 0 ∷ 0 ∷ met ∷ unmet ∷ 0 ∷ []) t' (8 * (r + 1)) j (omega arith) h ∙ ap (λ (a : ℕ). get_or (256 ∷ a ∷ r ∷ 0 ∷ 0 ∷ met ∷ unmet ∷ 0 ∷ []) j 0) eu
 
   after : Kept (r + 1) t' t''
-  after = eight-kept (r + 1) t' t'' 256 u s 0 0 met unmet et hr
+  after = eight-kept (r + 1) t' t'' 256 u r 0 0 met unmet et hr
 
   inside : (ws : List ℕ) (vs : List ℤ) (e : Assignment) → runs t'' q z ws vs m r e ≡ holds_by m c (rows_by ws vs) e
   inside ws vs e =

@@ -5,11 +5,9 @@ use mathlib.Core.List.{List, [], ◌∷◌}
 use mathlib.Core.Option.{some}
 use mathlib.Core.Path.{◌≡◌, refl, sym, ap, ap₂, ◌∙◌, subst}
 use native.Mathlib.Omega.{arith}
-use lib.Dec.{eqb}
 use lib.IntN.{ℤ}
 use lib.ListN.{get_or, drop}
 use lib.Seq.{drop-drop, get_or-drop}
-use borrow.Author.Tests.{ne_eqb}
 use Rattle.model.specs.Kinds.{Kind, kind_of, body_length}
 use Rattle.model.specs.Syntax.{Condition, NOT, AND, OR, SOME}
 use Rattle.model.specs.Meaning.{Assignment, holds_with}
@@ -25,8 +23,9 @@ use Rattle.numbers.specs.Recalled.{holds_by}
 use Rattle.walks.specs.Walks.{rows_by}
 use Rattle.branches.specs.Branches.{runs}
 use Rattle.branches.specs.Compiled.{Compiled, node, joined, Parted, Searched}
+use Rattle.branches.specs.declared.Connective.{Connective}
+use Rattle.branches.specs.declared.Connective.TheVariants as K
 use Rattle.branches.specs.declared.Parts.{Parts}
-use Rattle.branches.specs.declared.Search.{Search}
 use Rattle.branches.proofs.Running.{runs-kept, kept-both}
 
 -- where the byte of a kind stands that has no body, its record does
@@ -35,19 +34,12 @@ bare [] k x h e l = absurd (omega (arith, h))
 bare (b ∷ r) k x h e l = whole-record b r x (ap kind_of h ∙ e) (omega (arith, l))
 
 -- where the parts stand
-pub no-parts : (x : Parts) (n l place : ℕ) (q z : List ℕ) → x ≡ record { kind = 0; first = 0; second = 0 } → (x.kind ≡ 0 → ⊥) → Parted x n l place q z
-no-parts x n l place q z ex h = absurd (h (ap (λ (y : Parts). y.kind) ex))
+by-node : (k : Connective) (f : List ℕ → List ℕ → Condition) (l : ℕ) (q z : List ℕ) → condition_by (node k) f (λ x y. decode_t l x y) q z ≡ joined k (f (drop (first q) q) (drop (first q) z)) (f (drop (second q z) q) (drop (second q z) z))
+by-node K.Not f l q z = refl
+by-node K.And f l q z = refl
+by-node K.Or f l q z = refl
 
-by-node : (k : ℕ) (f : List ℕ → List ℕ → Condition) (l : ℕ) (q z : List ℕ) → condition_by (node k) f (λ x y. decode_t l x y) q z ≡ joined k (f (drop (first q) q) (drop (first q) z)) (f (drop (second q z) q) (drop (second q z) z))
-by-node k f l q z = go (eqb k 1) (eqb k 2)
-  where
-    go : (a b : Bool) → condition_by (cond a C.Not (cond b C.And C.Or)) f (λ x y. decode_t l x y) q z
-        ≡ cond a (NOT (f (drop (first q) q) (drop (first q) z))) (cond b (AND (f (drop (first q) q) (drop (first q) z)) (f (drop (second q z) q) (drop (second q z) z))) (OR (f (drop (first q) q) (drop (first q) z)) (f (drop (second q z) q) (drop (second q z) z))))
-    go true b = refl
-    go false true = refl
-    go false false = refl
-
-module _ (x : Parts) (n l place : ℕ) (q z here : List ℕ) (k b a s : ℕ) (nz : l ≡ 0 → ⊥) (eh : here ≡ drop place q) (ek : (k ≡ 0 → ⊥) → condition_at here ≡ node k) (eb : b ≡ get_or here 0 0) (ea : a ≡ record_length b)
+module _ (x : Parts) (n l place : ℕ) (q z here : List ℕ) (k : Connective) (b a s : ℕ) (nz : l ≡ 0 → ⊥) (eh : here ≡ drop place q) (ek : condition_at here ≡ node k) (eb : b ≡ get_or here 0 0) (ea : a ≡ record_length b)
     (es : s ≡ get_or z (place + a) 0) (le : place + a + s ≤ 65535) (ex : x ≡ record { kind = k; first = place + a; second = place + a + s }) where
   at_first : x.first ≡ place + first (drop place q)
   at_first = ap (λ (y : Parts). y.first) ex ∙ ap (λ j. place + j) (ea ∙ ap record_length (eb ∙ ap (λ (y : List ℕ). get_or y 0 0) eh))
@@ -61,28 +53,25 @@ module _ (x : Parts) (n l place : ℕ) (q z here : List ℕ) (k b a s : ℕ) (nz
   part : (y : List ℕ) (i o : ℕ) → i ≡ place + o → drop o (drop place y) ≡ drop i y
   part y i o e = drop-drop o place y ∙ ap (λ (j : ℕ). drop j y) (sym e)
 
-  pub parted : (2 ≤ k → 2 ≤ n) → (x.kind ≡ 0 → ⊥) → Parted x n l place q z
-  parted room h =
+  pub parted : ((k ≡ K.Not → ⊥) → 2 ≤ n) → Parted x n l place q z
+  parted room =
       let ex-kind = ap (λ (y : Parts). y.kind) ex in
       record {
-        room = λ g. room (subst (λ (j : ℕ). 2 ≤ j) ex-kind g);
+        room = λ g. room (λ e. g (ex-kind ∙ e));
         deep = nz;
         first = omega (arith, ap (λ (y : Parts). y.first) ex);
         second = omega (arith, ap (λ (y : Parts). y.second) ex);
         whole =
-            decode-step l (drop place q) (drop place z) (node k) nz (sym (ap condition_at eh) ∙ ek (λ e. h (ex-kind ∙ e)))
+            decode-step l (drop place q) (drop place z) (node k) nz (sym (ap condition_at eh) ∙ ek)
             ∙ by-node k (λ u w. decode (l - 1) u w) (l - 1) (drop place q) (drop place z)
             ∙ ap₂ (joined k) (ap₂ (decode (l - 1)) (part q x.first (first (drop place q)) at_first) (part z x.first (first (drop place q)) at_first))
             (ap₂ (decode (l - 1)) (part q x.second (second (drop place q) (drop place z)) at_second) (part z x.second (second (drop place q) (drop place z)) at_second))
-            ∙ ap (λ (j : ℕ). joined j (decode (l - 1) (drop x.first q) (drop x.first z)) (decode (l - 1) (drop x.second q) (drop x.second z))) (sym ex-kind);
+            ∙ ap (λ (j : Connective). joined j (decode (l - 1) (drop x.first q) (drop x.first z)) (decode (l - 1) (drop x.second q) (drop x.second z))) (sym ex-kind);
       }
 
 -- a SOME
-pub no-search : (x : Search) (n l place : ℕ) (q : List ℕ) → x ≡ record { place = 0; variable = 0 } → (x.place ≡ 0 → ⊥) → Searched x.place x.variable n l place q
-no-search x n l place q ex h = absurd (h (ap (λ (y : Search). y.place) ex))
-
-pub search-found : (n l place : ℕ) (q here : List ℕ) (b a v g u : ℕ) (r : ConditionRecord) → (l ≡ 0 → ⊥) → 2 ≤ n → here ≡ drop place q → r ≡ condition_at here → r ≡ C.Some v g → b ≡ get_or here 0 0 → a ≡ record_length b → place + a ≤ 65535 → u ≡ v → u ≤ 255 → Searched (place + a) u n l place q
-search-found n l place q here b a v g u r nz room eh er es eb ea le eu hu =
+pub search-found : (n l place : ℕ) (q here : List ℕ) (b a v g : ℕ) (r : ConditionRecord) → (l ≡ 0 → ⊥) → 2 ≤ n → here ≡ drop place q → r ≡ condition_at here → r ≡ C.Some v g → b ≡ get_or here 0 0 → a ≡ record_length b → place + a ≤ 65535 → v ≤ 255 → Searched (place + a) v n l place q
+search-found n l place q here b a v g r nz room eh er es eb ea le hv =
     record {
       room = room;
       deep = nz;
@@ -91,8 +80,7 @@ search-found n l place q here b a v g u r nz room eh er es eb ea le eu hu =
       relation = g;
       whole = λ z.
           decode-step l (drop place q) (drop place z) (C.Some v g) nz (sym (er ∙ ap condition_at eh) ∙ es)
-          ∙ ap₂ (λ (x y : List ℕ). SOME v g (decode (l - 1) x y)) (part q) (part z)
-          ∙ ap (λ (w : ℕ). SOME w g (decode (l - 1) (drop (place + a) q) (drop (place + a) z))) (sym eu);
+          ∙ ap₂ (λ (x y : List ℕ). SOME v g (decode (l - 1) x y)) (part q) (part z);
     }
   where
     i : a ≡ first (drop place q)
@@ -109,8 +97,8 @@ pub falls-by : (l t : ℕ) → (l ≡ 0 → ⊥) → l ≡ t → l - 1 < t
 falls-by l t h e = omega (arith, h)
 
 -- branches of the parts
-module _ (k met unmet : ℕ) (q z : List ℕ) (m : List ℤ) (c d w : Condition) (kind : ℕ) (ew : w ≡ joined kind c d) where
-  pub joined-not : (r : ℕ) (t t' : List ℕ) → kind ≡ 1 → Compiled k r unmet met t t' q z m c → Compiled k r met unmet t t' q z m w
+module _ (k met unmet : ℕ) (q z : List ℕ) (m : List ℤ) (c d w : Condition) (kind : Connective) (ew : w ≡ joined kind c d) where
+  pub joined-not : (r : ℕ) (t t' : List ℕ) → kind ≡ K.Not → Compiled k r unmet met t t' q z m c → Compiled k r met unmet t t' q z m w
   unfolding holds_with
   joined-not r t t' h a =
       subst (Compiled k r met unmet t t' q z m) (sym is-not)
@@ -127,7 +115,7 @@ module _ (k met unmet : ℕ) (q z : List ℕ) (m : List ℤ) (c d w : Condition)
     back : (i : ℕ) (ws : List ℕ) (vs : List ℤ) (e : Assignment) → i < k → runs t' q z ws vs m i e ≡ runs t q z ws vs m i e
     back i ws vs e h = runs-kept k t t' q z ws vs m b.kept i e h
 
-    pub joined-and : kind ≡ 2 → Compiled (r + 1) s r unmet t' t'' q z m c → Compiled k s met unmet t t'' q z m w
+    pub joined-and : kind ≡ K.And → Compiled (r + 1) s r unmet t' t'' q z m c → Compiled k s met unmet t t'' q z m w
     unfolding holds_with
     joined-and h a =
         subst (Compiled k s met unmet t t'' q z m) (sym is-and)
@@ -144,9 +132,9 @@ module _ (k met unmet : ℕ) (q z : List ℕ) (m : List ℤ) (c d w : Condition)
         both true y u v = refl
         both false y u v = refl
 
-    pub joined-or : (kind ≡ 1 → ⊥) → (kind ≡ 2 → ⊥) → Compiled (r + 1) s met r t' t'' q z m c → Compiled k s met unmet t t'' q z m w
+    pub joined-or : kind ≡ K.Or → Compiled (r + 1) s met r t' t'' q z m c → Compiled k s met unmet t t'' q z m w
     unfolding holds_with
-    joined-or h g a =
+    joined-or h a =
         subst (Compiled k s met unmet t t'' q z m) (sym is-or)
         (record {
           kept = kept-both k (r + 1) t t' t'' (omega arith) b.kept a.kept;
@@ -155,7 +143,7 @@ module _ (k met unmet : ℕ) (q z : List ℕ) (m : List ℤ) (c d w : Condition)
         })
       where
         is-or : w ≡ OR c d
-        is-or = ew ∙ rw (ne_eqb kind 1 h, ne_eqb kind 2 g)
+        is-or = ew ∙ rw h
 
         either : (x y u v : Bool) → cond x u (cond y u v) ≡ cond (x || y) u v
         either true y u v = refl

@@ -1,5 +1,5 @@
 -- What the functions that fill a table of branches promise.
-use Rattle.std.specs.Prelude.{ℕ, ◌+◌, ◌-◌, ◌*◌, ◌≤◌, ◌<◌, ◌≡◌, true, cond, List, [], ◌∷◌, eqb, ℤ, get_or, drop}
+use Rattle.std.specs.Prelude.{ℕ, ◌+◌, ◌-◌, ◌*◌, ◌≤◌, ◌<◌, ◌≡◌, cond, List, [], ◌∷◌, ℤ, get_or, drop}
 use Rattle.model.specs.Syntax.{Condition, Term, NOT, AND, OR, SOME}
 use Rattle.model.specs.Meaning.{Assignment, Rows, Value, compare, signed}
 use Rattle.kinds.specs.declared.ConditionRecord.{ConditionRecord}
@@ -10,18 +10,22 @@ use Rattle.walks.specs.Walks.{rows_by}
 use Rattle.branches.specs.Branches.{operand, runs}
 use Rattle.branches.specs.declared.Operand.{Operand}
 use Rattle.branches.specs.declared.Comparison.{Comparison}
+use Rattle.branches.specs.declared.Connective.{Connective}
+use Rattle.branches.specs.declared.Connective.TheVariants as K
 use Rattle.branches.specs.declared.Parts.{Parts}
 
--- the value of an operand; where it is known, it is the value of the term
+-- the value of an operand
 abbrev pub side_of : List ℤ → Operand → Assignment → Value
 side_of m o e = operand m o.variable o.attribute (signed o.low 0 o.high 0) e
 
+-- it is the value of the term
 abbrev pub Means : Operand → List ℤ → Term → Type 0
-Means o m x = o.known ≡ true → (R : Rows) (e : Assignment) → value_by m x R e ≡ side_of m o e
+Means o m x = (R : Rows) (e : Assignment) → value_by m x R e ≡ side_of m o e
 
--- a comparison that has an operator holds where the condition holds
-abbrev pub Compares : Comparison → List ℤ → Condition → Type 0
-Compares x m c = (x.operator ≡ 0 → ⊥) → (R : Rows) (e : Assignment) → holds_by m c R e ≡ compare x.operator (side_of m x.left e) (side_of m x.right e)
+-- a comparison, of an operator that is not another branch's, holds where the condition holds
+pub record Compares (x : Comparison) (m : List ℤ) (c : Condition) : Type 0 where
+  pub nonzero : x.operator ≡ 0 → ⊥
+  pub holds : (R : Rows) (e : Assignment) → holds_by m c R e ≡ compare x.operator (side_of m x.left e) (side_of m x.right e)
 
 -- the eight numbers of a branch: a comparison's, and those of a condition at a place
 abbrev pub comparing : Comparison → ℕ → ℕ → List ℕ
@@ -44,16 +48,20 @@ pub record Compiled (k r met unmet : ℕ) (t t' q z : List ℕ) (m : List ℤ) (
   pub kept : Kept k t t'
   pub means : (ws : List ℕ) (vs : List ℤ) (e : Assignment) → runs t' q z ws vs m r e ≡ cond (holds_by m c (rows_by ws vs) e) (runs t q z ws vs m met e) (runs t q z ws vs m unmet e)
 
--- 1 NOT, 2 AND, 3 OR: the record, and the condition of its parts
-abbrev pub node : ℕ → ConditionRecord
-node k = cond (eqb k 1) C.Not (cond (eqb k 2) C.And C.Or)
+-- the record, and the condition of its parts
+abbrev pub node : Connective → ConditionRecord
+node K.Not = C.Not
+node K.And = C.And
+node K.Or = C.Or
 
-abbrev pub joined : ℕ → Condition → Condition → Condition
-joined k c d = cond (eqb k 1) (NOT c) (cond (eqb k 2) (AND c d) (OR c d))
+abbrev pub joined : Connective → Condition → Condition → Condition
+joined K.Not c d = NOT c
+joined K.And c d = AND c d
+joined K.Or c d = OR c d
 
 -- the condition at a place consists of these parts; where they are two, there is room for two branches
 pub record Parted (x : Parts) (n l place : ℕ) (q z : List ℕ) : Type 0 where
-  pub room : 2 ≤ x.kind → 2 ≤ n
+  pub room : (x.kind ≡ K.Not → ⊥) → 2 ≤ n
   pub deep : l ≡ 0 → ⊥
   pub first : x.first ≤ 65535
   pub second : x.second ≤ 65535

@@ -2,7 +2,7 @@
 // numbers and known aggregates is kept as such, SOME by its place in the query.
 #![tactic(auto)]
 
-ghost use Rattle.std.specs.Prelude.{◌≡◌, ℕ, ◌+◌, ◌*◌, ◌≤◌, ◌<◌, length, get_or, drop, true, false, List, [], ◌∷◌};
+ghost use Rattle.std.specs.Prelude.{◌≡◌, ℕ, ◌+◌, ◌*◌, ◌≤◌, ◌<◌, length, get_or, drop, List, IfSome};
 ghost use Rattle.std.proofs.lemmas.List.Edits.{sets};
 ghost use Rattle.model.specs.Syntax.{Condition, AGGREGATE};
 ghost use Rattle.model.specs.Meaning.{signed};
@@ -30,11 +30,7 @@ fn joined(low: usize, high: usize) -> i32
     ensures { result ≡ signed low 0 high 0 }
 {
     let n = low + 65536 * high;
-    if n < 2147483648 {
-        n as i32
-    } else {
-        -1 - ((4294967295 - n) as i32)
-    }
+    (n as u32).cast_signed()
 }
 
 // Number j of a table: numbers stand behind the branches, as two halves each.
@@ -45,13 +41,6 @@ fn number(t: &[u16], j: usize) -> i32
     let low = kinds::size_at(t, NUMBERS + 2 * j);
     let high = kinds::size_at(t, HIGH + 2 * j);
     joined(low, high)
-}
-
-fn byte_of(x: usize) -> u8
-    requires { x < 256 }
-    ensures { result ≡ x }
-{
-    x as u8
 }
 
 // What the memo has for a variable, 0 where it does not know it.
@@ -78,7 +67,7 @@ pub fn side(t: &[u16], i: usize, j: usize, values: &[i32], memo: &[i64], env: &[
         return numbers::whole(catalogue::value(values, row, kinds::size_at(t, i + 1)));
     }
     if v < 512 {
-        return recalled(memo, byte_of(v - 256));
+        return recalled(memo, (v - 256) as u8);
     }
     numbers::whole(number(t, j))
 }
@@ -87,14 +76,13 @@ pub fn side(t: &[u16], i: usize, j: usize, values: &[i32], memo: &[i64], env: &[
 // by its halves.
 #[derive(Clone, Copy)]
 struct Operand {
-    known: bool,
     variable: u16,
     attribute: u16,
     low: u16,
     high: u16,
 }
 
-// A comparison; operator 0 where there is none.
+// A comparison of two such sides.
 #[derive(Clone, Copy)]
 struct Comparison {
     operator: u8,
@@ -102,43 +90,17 @@ struct Comparison {
     right: Operand,
 }
 
-fn wide(x: u8) -> u16
-    ensures { result ≡ x }
-{
-    x as u16
-}
-
-// A byte, which is below 256.
-fn from_byte(x: u8) -> u16
-    ensures { (result ≡ x) × (result ≤ 255) }
-{
-    x as u16
-}
-
-fn unknown() -> Operand
-    ensures { result.known ≡ false }
-{
-    Operand {
-        known: false,
-        variable: 0,
-        attribute: 0,
-        low: 0,
-        high: 0,
-    }
-}
-
 // Half of a number from two of its bytes.
 fn half(a: u8, b: u8) -> u16
     ensures { result ≡ a + 256 * b }
 {
-    wide(a) + 256 * wide(b)
+    u16::from_le_bytes([a, b])
 }
 
 fn number_of(low: u16, high: u16) -> Operand
-    ensures { result ≡ record { known = true; variable = 512; attribute = 0; low = low; high = high } }
+    ensures { result ≡ record { variable = 512; attribute = 0; low = low; high = high } }
 {
     Operand {
-        known: true,
         variable: 512,
         attribute: 0,
         low,
@@ -147,86 +109,68 @@ fn number_of(low: u16, high: u16) -> Operand
 }
 
 fn attribute_of(variable: u8, attribute: u8) -> Operand
-    ensures { result ≡ record { known = true; variable = variable; attribute = attribute; low = 0; high = 0 } }
+    ensures { result ≡ record { variable = variable; attribute = attribute; low = 0; high = 0 } }
 {
     Operand {
-        known: true,
-        variable: wide(variable),
-        attribute: wide(attribute),
+        variable: u16::from(variable),
+        attribute: u16::from(attribute),
         low: 0,
         high: 0,
     }
 }
 
 // An aggregate that the memo knows.
-fn aggregate_of(memo: &[i64], variable: u8) -> Operand
-    ensures { (f r a : ℕ) (c : Condition) → C.Means result memo.now (AGGREGATE f variable r a c) }
+fn aggregate_of(memo: &[i64], variable: u8) -> Option<Operand>
+    ensures { IfSome result (λ o. (f r a : ℕ) (c : Condition) → C.Means o memo.now (AGGREGATE f variable r a c)) }
 {
     if !numbers::knows(memo, variable) {
-        return unknown();
+        return None;
     }
-    Operand {
-        known: true,
-        variable: wide(variable) + 256,
+    Some(Operand {
+        variable: u16::from(variable) + 256,
         attribute: 0,
         low: 0,
         high: 0,
-    }
+    })
 }
 
 // The term that q starts with.
-fn operand_at(q: &[u8], level: usize, memo: &[i64]) -> Operand
-    ensures { (z : List ℕ) → C.Means result memo.now (decode_t level q.now z) }
+fn operand_at(q: &[u8], level: usize, memo: &[i64]) -> Option<Operand>
+    ensures { IfSome result (λ o. (z : List ℕ) → C.Means o memo.now (decode_t level q.now z)) }
 {
     if level == 0 {
-        return unknown();
+        return None;
     }
     match kinds::term_record(q) {
-        TermRecord::Constant(a, b, c, d) => number_of(half(a, b), half(c, d)),
-        TermRecord::Attribute(variable, attribute) => attribute_of(variable, attribute),
+        TermRecord::Constant(a, b, c, d) => Some(number_of(half(a, b), half(c, d))),
+        TermRecord::Attribute(variable, attribute) => Some(attribute_of(variable, attribute)),
         TermRecord::Aggregate(_, variable, _, _) => aggregate_of(memo, variable),
-        TermRecord::Other => unknown(),
+        TermRecord::Other => None,
     }
 }
 
-fn compared(operator: u8, left: Operand, right: Operand) -> Comparison
-    ensures { result ≡ record { operator = operator; left = left; right = right } }
+// The condition that q starts with, where it is a comparison of such terms; operator 0 is that of another branch.
+fn comparison_at(q: &[u8], z: &[u16], level: usize, memo: &[i64]) -> Option<Comparison>
+    ensures { IfSome result (λ x. C.Compares x memo.now (decode level q.now z.now)) }
 {
-    Comparison {
+    if level == 0 {
+        return None;
+    }
+    let ConditionRecord::Compare(operator) = kinds::condition_record(q) else {
+        return None;
+    };
+    if operator == 0 {
+        return None;
+    }
+    let a = kinds::record_length(kinds::byte(q, 0));
+    let b = a + kinds::size_at(z, a);
+    let left = operand_at(kinds::tail(q, a), level - 1, memo)?;
+    let right = operand_at(kinds::tail(q, b), level - 1, memo)?;
+    Some(Comparison {
         operator,
         left,
         right,
-    }
-}
-
-// The condition that q starts with, where it is a comparison of such terms.
-fn comparison_at(q: &[u8], z: &[u16], level: usize, memo: &[i64]) -> Comparison
-    ensures { C.Compares result memo.now (decode level q.now z.now) }
-{
-    if level == 0 {
-        return compared(0, unknown(), unknown());
-    }
-    let ConditionRecord::Compare(operator) = kinds::condition_record(q) else {
-        return compared(0, unknown(), unknown());
-    };
-    let a = kinds::record_length(kinds::byte(q, 0));
-    let b = a + kinds::size_at(z, a);
-    let left = operand_at(kinds::tail(q, a), level - 1, memo);
-    let right = operand_at(kinds::tail(q, b), level - 1, memo);
-    if !left.known {
-        return compared(0, left, right);
-    }
-    if !right.known {
-        return compared(0, left, right);
-    }
-    compared(operator, left, right)
-}
-
-fn narrow(x: usize) -> u16
-    requires { x ≤ 65535 }
-    ensures { result ≡ x }
-{
-    x as u16
+    })
 }
 
 // Where a condition leads that holds, and one that does not.
@@ -236,45 +180,12 @@ pub struct Ways {
     pub unmet: usize,
 }
 
-// Two numbers of a branch: an operand's variable and attribute, a condition's place and level, or a row's variable and what is asked of it.
-#[derive(Clone, Copy)]
-struct Pair {
-    first: u16,
-    second: u16,
-}
-
-const NO_PAIR: Pair = Pair {
-    first: 0,
-    second: 0,
-};
-
-// Writes eight numbers for branch k.
-fn write(t: &mut [u16], k: usize, operator: u16, left: Pair, right: Pair, ways: Ways)
-    requires { (768 ≤ length t.old) × (k < 64) × (ways.met ≤ 65535) × (ways.unmet ≤ 65535) }
-    ensures { t.new ≡ sets t.old (8 * k) (operator ∷ left.first ∷ left.second ∷ right.first ∷ right.second ∷ ways.met
-        ∷ ways.unmet ∷ 0 ∷ []) }
+// Writes numbers from place i of the table on: the eight of a branch, or the halves of its two numbers.
+fn write(t: &mut [u16], i: usize, row: &[u16])
+    requires { i + length row.now ≤ length t.old }
+    ensures { t.new ≡ sets t.old i row.now }
 {
-    let i = 8 * k;
-    t[i] = operator;
-    t[i + 1] = left.first;
-    t[i + 2] = left.second;
-    t[i + 3] = right.first;
-    t[i + 4] = right.second;
-    t[i + 5] = narrow(ways.met);
-    t[i + 6] = narrow(ways.unmet);
-    t[i + 7] = 0;
-}
-
-// Writes the two numbers of branch k.
-fn write_numbers(t: &mut [u16], k: usize, a: u16, b: u16, c: u16, d: u16)
-    requires { (768 ≤ length t.old) × (k < 64) }
-    ensures { t.new ≡ sets t.old (512 + 4 * k) (a ∷ b ∷ c ∷ d ∷ []) }
-{
-    let i = NUMBERS + 4 * k;
-    t[i] = a;
-    t[i + 1] = b;
-    t[i + 2] = c;
-    t[i + 3] = d;
+    t[i..i + row.len()].copy_from_slice(row);
 }
 
 // The branches that are free: from one on, and below an end.
@@ -301,124 +212,113 @@ fn single(q: &[u8], z: &[u16], spot: Spot, memo: &[i64], t: &mut [u16], k: usize
 {
     let place = spot.place;
     let level = spot.level;
+    let met = ways.met as u16;
+    let unmet = ways.unmet as u16;
     let c = kinds::tail(q, place);
     let sizes = kinds::tail_sizes(z, place);
-    let x = comparison_at(c, sizes, level, memo);
-    let operator = x.operator;
-    if operator == 0 {
-        let first = narrow(place);
-        let second = narrow(level);
-        write(t, k, 0, Pair { first, second }, NO_PAIR, ways);
+    let Some(x) = comparison_at(c, sizes, level, memo) else {
+        write(
+            t,
+            8 * k,
+            &[0, place as u16, level as u16, 0, 0, met, unmet, 0],
+        );
         return;
-    }
+    };
     let a = x.left;
     let b = x.right;
-    let left = Pair {
-        first: a.variable,
-        second: a.attribute,
-    };
-    let right = Pair {
-        first: b.variable,
-        second: b.attribute,
-    };
-    write(t, k, from_byte(operator), left, right, ways);
-    write_numbers(t, k, a.low, a.high, b.low, b.high);
+    let row = [
+        u16::from(x.operator),
+        a.variable,
+        a.attribute,
+        b.variable,
+        b.attribute,
+        met,
+        unmet,
+        0,
+    ];
+    write(t, 8 * k, &row);
+    write(t, NUMBERS + 4 * k, &[a.low, a.high, b.low, b.high]);
 }
 
-// The parts of a condition and their places: kind 1 for NOT, 2 for AND, 3 for OR; 0 for any other, or two parts with no room for two branches.
+// The conditions that consist of others. They have no body, so the byte of the kind is the whole record.
+#[derive(Clone, Copy, PartialEq, Eq)]
+pub enum Connective {
+    Not,
+    And,
+    Or,
+}
+
+// The parts of such a condition and their places.
 #[derive(Clone, Copy)]
 pub struct Parts {
-    pub kind: usize,
+    pub kind: Connective,
     pub first: usize,
     pub second: usize,
 }
 
-fn parts_of(kind: usize, first: usize, second: usize) -> Parts
-    ensures { result ≡ record { kind = kind; first = first; second = second } }
-{
-    Parts {
-        kind,
-        first,
-        second,
-    }
-}
-
-// These three kinds have no body, so the byte of the kind is the whole record.
-fn kind_at(q: &[u8]) -> usize
-    ensures { (result ≡ 0 → ⊥) → condition_at q.now ≡ C.node result }
+fn kind_at(q: &[u8]) -> Option<Connective>
+    ensures { IfSome result (λ k. condition_at q.now ≡ C.node k) }
 {
     match kinds::byte(q, 0) {
-        18 => 1,
-        19 => 2,
-        20 => 3,
-        _ => 0,
+        18 => Some(Connective::Not),
+        19 => Some(Connective::And),
+        20 => Some(Connective::Or),
+        _ => None,
     }
 }
 
-pub fn parts_at(q: &[u8], z: &[u16], place: usize, level: usize, room: usize) -> Parts
+// None for any other condition, and for two parts with no room for two branches.
+pub fn parts_at(q: &[u8], z: &[u16], place: usize, level: usize, room: usize) -> Option<Parts>
     requires { place ≤ 65535 }
-    ensures { (result.kind ≡ 0 → ⊥) → C.Parted result room level place q.now z.now }
+    ensures { IfSome result (λ x. C.Parted x room level place q.now z.now) }
 {
     if level == 0 {
-        return parts_of(0, 0, 0);
+        return None;
     }
     let here = kinds::tail(q, place);
-    let kind = kind_at(here);
-    if kind == 0 {
-        return parts_of(0, 0, 0);
-    }
+    let kind = kind_at(here)?;
     let first = place + kinds::record_length(kinds::byte(here, 0));
     let second = first + kinds::size_at(z, first);
     if 65535 < second {
-        return parts_of(0, 0, 0);
+        return None;
     }
-    if kind < 2 {
-        return parts_of(kind, first, second);
+    if kind != Connective::Not && room < 2 {
+        return None;
     }
-    if room < 2 {
-        return parts_of(0, 0, 0);
-    }
-    parts_of(kind, first, second)
+    Some(Parts {
+        kind,
+        first,
+        second,
+    })
 }
 
-// The place of what a SOME asks of a row, and its variable; place 0: no SOME, or no room for two branches.
+// The place of what a SOME asks of a row, and its variable.
 #[derive(Clone, Copy)]
 struct Search {
     place: usize,
-    variable: u16,
+    variable: u8,
 }
 
-fn no_search() -> Search
-    ensures { result ≡ record { place = 0; variable = 0 } }
-{
-    Search {
-        place: 0,
-        variable: 0,
-    }
-}
-
-fn search_at(q: &[u8], place: usize, level: usize, room: usize) -> Search
+// None for any other condition, and where there is no room for two branches.
+fn search_at(q: &[u8], place: usize, level: usize, room: usize) -> Option<Search>
     requires { place ≤ 65535 }
-    ensures { (result.place ≡ 0 → ⊥) → C.Searched result.place result.variable room level place q.now }
+    ensures { IfSome result (λ s. C.Searched s.place s.variable room level place q.now) }
 {
-    if level == 0 {
-        return no_search();
-    }
-    if room < 2 {
-        return no_search();
+    if level == 0 || room < 2 {
+        return None;
     }
     let here = kinds::tail(q, place);
     let ConditionRecord::Some(variable, _) = kinds::condition_record(here) else {
-        return no_search();
+        return None;
     };
     let inner = place + kinds::record_length(kinds::byte(here, 0));
     if 65535 < inner {
-        return no_search();
+        return None;
     }
-    Search {
+    Some(Search {
         place: inner,
-        variable: from_byte(variable),
-    }
+        variable,
+    })
 }
 
 // Branches in a room for the condition at a place; the number of the last, with which it starts. The second part of an
@@ -443,43 +343,59 @@ pub fn compile(
     let end = room.end;
     let m = ways.met;
     let u = ways.unmet;
-    let x = parts_at(q, z, spot.place, spot.level, end - k);
-    let kind = x.kind;
-    if kind == 0 {
-        let s = search_at(q, spot.place, spot.level, end - k);
-        let place = s.place;
-        if place == 0 {
+    let left = Room {
+        next: k,
+        end: end - 1,
+    };
+    let Some(x) = parts_at(q, z, spot.place, spot.level, end - k) else {
+        let Some(s) = search_at(q, spot.place, spot.level, end - k) else {
             single(q, z, spot, memo, t, k, ways);
             return k;
-        }
-        let level = spot.level - 1;
-        let last = end - 1;
-        let inside = Room { next: k, end: last };
+        };
+        let inner = Spot {
+            place: s.place,
+            level: spot.level - 1,
+        };
         let ends = Ways { met: 0, unmet: 1 };
-        let r = compile(q, z, Spot { place, level }, memo, t, inside, ends);
-        let first = s.variable;
-        let second = narrow(r);
-        write(t, r + 1, 256, Pair { first, second }, NO_PAIR, ways);
+        let r = compile(q, z, inner, memo, t, left, ends);
+        let row = [
+            256,
+            u16::from(s.variable),
+            r as u16,
+            0,
+            0,
+            m as u16,
+            u as u16,
+            0,
+        ];
+        write(t, 8 * (r + 1), &row);
         return r + 1;
-    }
+    };
     let level = spot.level - 1;
-    let place = x.first;
-    let first = Spot { place, level };
-    if kind == 1 {
-        let turned = Ways { met: u, unmet: m };
-        return compile(q, z, first, memo, t, room, turned);
+    let first = Spot {
+        place: x.first,
+        level,
+    };
+    let second = Spot {
+        place: x.second,
+        level,
+    };
+    match x.kind {
+        Connective::Not => {
+            let turned = Ways { met: u, unmet: m };
+            compile(q, z, first, memo, t, room, turned)
+        }
+        Connective::And => {
+            let r = compile(q, z, second, memo, t, left, ways);
+            let rest = Room { next: r + 1, end };
+            let both = Ways { met: r, unmet: u };
+            compile(q, z, first, memo, t, rest, both)
+        }
+        Connective::Or => {
+            let r = compile(q, z, second, memo, t, left, ways);
+            let rest = Room { next: r + 1, end };
+            let either = Ways { met: m, unmet: r };
+            compile(q, z, first, memo, t, rest, either)
+        }
     }
-    let place = x.second;
-    let second = Spot { place, level };
-    let last = end - 1;
-    let left = Room { next: k, end: last };
-    let r = compile(q, z, second, memo, t, left, ways);
-    let next = r + 1;
-    let rest = Room { next, end };
-    if kind == 2 {
-        let both = Ways { met: r, unmet: u };
-        return compile(q, z, first, memo, t, rest, both);
-    }
-    let either = Ways { met: m, unmet: r };
-    compile(q, z, first, memo, t, rest, either)
 }

@@ -23,6 +23,10 @@ use Rattle.numbers.specs.Recalled.{holds_by}
 use Rattle.walks.specs.Walks.{rows_by}
 use Rattle.branches.specs.Branches.{field, number, holds_in, next_in, leads, runs}
 use Rattle.branches.specs.Compiled.{Compiled, Parted}
+use denote.Enum.Bare.{sameb}
+use Rattle.branches.specs.contracts.Connective.{the_type}
+use Rattle.branches.specs.declared.Connective.{Connective}
+use Rattle.branches.specs.declared.Connective.TheVariants as K
 use Rattle.branches.specs.declared.Parts.{Parts}
 use Rattle.branches.proofs.Joining.{bare}
 use Rattle.branches.proofs.Running.{runs-0, runs-1, runs-kept, holds_same}
@@ -163,15 +167,14 @@ joined-both n r t t₁ t₂ q z m c d bs a b =
     }
 
 -- the parts of an AND
-module _ (x : Parts) (n l place : ℕ) (q z : List ℕ) (h : (x.kind ≡ 0 → ⊥) → Parted x n l place q z) (g : x.kind ≡ 2) where
-  pub parts : Parted x n l place q z
-  parts = h (λ e. omega arith)
+is-and : (k : Connective) (b : Bool) → b ≡ sameb the_type k K.And → b ≡ true → k ≡ K.And
+is-and K.Not b e h = cc
+is-and K.And b e h = refl
+is-and K.Or b e h = cc
 
-  pub and-room : 2 ≤ n
-  and-room = parts.room (omega arith)
-
-  pub and-whole : decode l (drop place q) (drop place z) ≡ AND (decode (l - 1) (drop x.first q) (drop x.first z)) (decode (l - 1) (drop x.second q) (drop x.second z))
-  and-whole = parts.whole ∙ rw g
+pub and-whole : (x : Parts) (n l place : ℕ) (q z : List ℕ) (b : Bool) → Parted x n l place q z → b ≡ sameb the_type x.kind K.And → b ≡ true
+    → decode l (drop place q) (drop place z) ≡ AND (decode (l - 1) (drop x.first q) (drop x.first z)) (decode (l - 1) (drop x.second q) (drop x.second z))
+and-whole x n l place q z b parts e h = parts.whole ∙ rw (is-and x.kind b e h)
 
 -- a cleared table
 module _ (t : List ℕ) (h : (s : ℕ) → get_or t s 0 ≡ 0) where

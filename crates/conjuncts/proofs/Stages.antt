@@ -1,5 +1,5 @@
 -- The stage of a condition: its truth depends on the variables of its attributes alone.
-use Prim.Native.Nat.{ℕ, zero, suc, ◌+◌, ◌-◌, ◌*◌, ◌≤◌}
+use Prim.Native.Nat.{ℕ, zero, suc, ◌+◌, ◌-◌, ◌*◌, ◌≤◌, ◌<◌}
 use mathlib.Core.Bool.{Bool, true, false, not, cond, ◌&&◌, ◌||◌}
 use mathlib.Core.List.{List, [], ◌∷◌, map}
 use mathlib.Core.Option.{Option, none, some}
@@ -59,14 +59,14 @@ pub none_from : (v n ranges : ℕ) (q : List ℕ) → n ≡ ranges → contains 
 unfolding contains any
 none_from v n ranges q h = rw h (ap (λ (bs : List Binding). contains v (variables bs)) (none_after ranges q))
 
-pub none_before : (v n ranges b : ℕ) (q : List ℕ) → (n ≡ 0 → ⊥) → n ≤ ranges → b ≡ get_or q (3 * n - 2) 0 → (b ≡ v → ⊥) → contains v (variables (drop n (ranges_at ranges q))) ≡ false
+pub none_before : (v n ranges b : ℕ) (q : List ℕ) → 0 < n → n ≤ ranges → b ≡ get_or q (3 * (n - 1) + 1) 0 → (b ≡ v → ⊥) → contains v (variables (drop n (ranges_at ranges q))) ≡ false
     → contains v (variables (drop (n - 1) (ranges_at ranges q))) ≡ false
 unfolding contains any
-none_before v zero ranges b q nz le eb ne h = absurd (nz refl)
+none_before v zero ranges b q nz le eb ne h = absurd (omega arith)
 none_before v (suc n) ranges b q nz le eb ne h = rw (sub-one, range-there ranges n q le, ne_eqb v (get_or q (3 * n + 1) 0) other) h
   where
     other : v ≡ get_or q (3 * n + 1) 0 → ⊥
-    other e = let i : 3 * suc n - 2 ≡ 3 * n + 1 = omega arith in ne (eb ∙ ap (λ (j : ℕ). get_or q j 0) i ∙ sym e)
+    other e = let i : 3 * (suc n - 1) + 1 ≡ 3 * n + 1 = omega arith in ne (eb ∙ ap (λ (j : ℕ). get_or q j 0) i ∙ sym e)
 
 -- a stage may be later
 fewer : (s t : ℕ) (bs : List Binding) → s ≤ t → (w : ℕ) → contains w (variables (drop s bs)) ≡ false → contains w (variables (drop t bs)) ≡ false

@@ -10,7 +10,7 @@ ghost use Rattle.sizes.specs.Parts.{ranges_at};
 ghost use Rattle.conjuncts.specs.Stages as S;
 ghost use Rattle.conjuncts.specs.Filling as F;
 
-use branches::{Room, Spot, Ways};
+use branches::{Connective, Room, Spot, Ways};
 
 // The last range that binds the variable, counted from 1; 0 where none does.
 fn range_of(q: &[u8], ranges: usize, variable: u8) -> usize
@@ -18,20 +18,12 @@ fn range_of(q: &[u8], ranges: usize, variable: u8) -> usize
     ensures upper_bound { result ≤ ranges }
     ensures q_value { contains variable (variables (drop result (ranges_at ranges q.now))) ≡ false }
 {
-    let mut n = ranges;
-    while n != 0 {
-        if kinds::byte(q, kinds::RANGE * n - 2) == variable {
-            return n;
+    for i in (0..ranges).rev() {
+        if kinds::byte(q, kinds::RANGE * i + 1) == variable {
+            return i + 1;
         }
-        n = n - 1;
     }
     0
-}
-
-fn later(a: usize, b: usize) -> usize
-    ensures { (a ≤ result) × (b ≤ result) × ((n : ℕ) → a ≤ n → b ≤ n → result ≤ n) }
-{
-    if a < b { b } else { a }
 }
 
 // The last range whose variable is used at a place, counted from 1: how many ranges must be bound for what stands there, be it a condition or a
@@ -64,7 +56,7 @@ fn stage(q: &[u8], z: &[u16], ranges: usize, place: usize, level: usize) -> usiz
         return a;
     }
     let second = first + kinds::size_at(z, first);
-    later(a, stage(q, z, ranges, second, l))
+    a.max(stage(q, z, ranges, second, l))
 }
 
 // The same for the condition at a place. A comparison that begins with an attribute of the last range needs all of them: no more is looked at.
@@ -76,10 +68,9 @@ fn stage_at(q: &[u8], z: &[u16], ranges: usize, place: usize, level: usize) -> u
     if ranges == 0 {
         return 0;
     }
-    if kinds::byte(q, place + 2) == 33 {
-        if kinds::byte(q, place + 3) == kinds::byte(q, kinds::RANGE * ranges - 2) {
-            return ranges;
-        }
+    let variable = kinds::byte(q, kinds::RANGE * ranges - 2);
+    if kinds::byte(q, place + 2) == 33 && kinds::byte(q, place + 3) == variable {
+        return ranges;
     }
     stage(q, z, ranges, place, level)
 }
@@ -104,21 +95,11 @@ fn stage_number(q: &[u8], place: usize, bound: usize, t: &[u16]) -> usize
     if kinds::size_at(t, s) == 0 { s } else { s + 1 }
 }
 
-fn narrow(x: usize) -> u16
-    requires { x ≤ 65535 }
-    ensures { result ≡ x }
-{
-    x as u16
-}
-
 // Whether TRUE stands at a place: nothing to try. It has no body, so its byte is the whole record.
 fn always(q: &[u8], place: usize, level: usize) -> bool
     ensures { result ≡ true → (z : List ℕ) → decode level (drop place q.now) z ≡ TRUE }
 {
-    if level == 0 {
-        return false;
-    }
-    kinds::byte(q, place) == 16
+    level != 0 && kinds::byte(q, place) == 16
 }
 
 // The condition at a place before what stands at its stage, in branches of a room; the number of the next.
@@ -152,7 +133,7 @@ fn join(
         unmet: 1,
     };
     let r = branches::compile(q, z, spot, memo, t, room, ways);
-    t[s] = narrow(r);
+    t[s] = r as u16;
     r + 1
 }
 
@@ -173,21 +154,28 @@ fn split(
         memo.now (decode spot.level (drop spot.place q.now)
         (drop spot.place z.now)) (ranges_at ranges q.now) }
 {
-    let k = room.next;
-    let end = room.end;
-    let x = branches::parts_at(q, z, spot.place, spot.level, end - k);
-    if x.kind != 2 {
-        return join(q, z, ranges, spot, memo, t, room);
-    }
+    let x = match branches::parts_at(q, z, spot.place, spot.level, room.end - room.next) {
+        Some(x) if x.kind == Connective::And => x,
+        _ => return join(q, z, ranges, spot, memo, t, room),
+    };
     let level = spot.level - 1;
-    let place = x.first;
-    let first = Spot { place, level };
-    let place = x.second;
-    let second = Spot { place, level };
-    let last = end - 1;
-    let left = Room { next: k, end: last };
+    let first = Spot {
+        place: x.first,
+        level,
+    };
+    let second = Spot {
+        place: x.second,
+        level,
+    };
+    let left = Room {
+        next: room.next,
+        end: room.end - 1,
+    };
     let next = split(q, z, ranges, second, memo, t, left);
-    let rest = Room { next, end };
+    let rest = Room {
+        next,
+        end: room.end,
+    };
     split(q, z, ranges, first, memo, t, rest)
 }
 

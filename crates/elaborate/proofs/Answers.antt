@@ -11,23 +11,22 @@ use Rattle.quel.specs.Writing.{Written}
 use Rattle.quel.specs.ReadText.{refused, written}
 use Rattle.quel.proofs.Results.{never, ok-value, ok-left}
 use Rattle.elaborate.specs.After.{ended}
-use Rattle.elaborate.specs.declared.End.{End}
-use Rattle.elaborate.specs.declared.End.TheVariants as E
+use Rattle.std.specs.Prelude.{Option, Some, None}
 use Rattle.elaborate.specs.Whole.{outcome}
 use Rattle.elaborate.specs.declared.Answer.{Answer}
 use Rattle.elaborate.specs.Answers.{answered, writing}
 
 -- where bytes that are written from the first place on end
-abbrev measured : Written → End
-measured fail = E.Refused
-measured (ok bs n) = E.Place (length bs)
+abbrev measured : Written → Option ℕ
+measured fail = None
+measured (ok bs n) = Some (length bs)
 
 -- the place is that of the bytes, whatever the buffer
-pub measures : (d x : List ℕ) (w : Written) (r : End) → ended d 0 w ≡ outcome r x → r ≡ measured w
-measures d x fail E.Refused e = refl
-measures d x fail (E.Place at) e = never x at e
-measures d x (ok bs n) E.Refused e = never (sets d 0 bs) (0 + length bs) (sym e)
-measures d x (ok bs n) (E.Place at) e = ap E.Place (omega (arith, ok-left e))
+pub measures : (d x : List ℕ) (w : Written) (r : Option ℕ) → ended d 0 w ≡ outcome r x → r ≡ measured w
+measures d x fail None e = refl
+measures d x fail (Some at) e = never x at e
+measures d x (ok bs n) None e = never (sets d 0 bs) (0 + length bs) (sym e)
+measures d x (ok bs n) (Some at) e = ap Some (omega (arith, ok-left e))
 
 long : (bs d : List ℕ) → length d < length bs → written bs d ≡ refused 52 d
 unfolding written
@@ -43,28 +42,28 @@ in_place bs d x n j k e =
     let z : 0 + length bs ≡ length bs = omega arith in
     ap₂ (λ (c : ℕ) (z : List ℕ). record { number = 0; count = c; records = z }) j (e ∙ sets-eq bs d 0 (omega (arith, y)) ∙ ap (λ (c : ℕ). bs ++ drop c d) z) ∙ sym (whole bs d y)
 
-module _ (r : End) (w : Written) (d : List ℕ) (e : r ≡ measured w) where
+module _ (r : Option ℕ) (w : Written) (d : List ℕ) (e : r ≡ measured w) where
   -- a name that is unknown, out of reach or bound twice
-  pub no_name : r ≡ E.Refused → (a : Answer) → a ≡ record { number = 51; length = 0 } → answered a d ≡ writing w d
+  pub no_name : r ≡ None → (a : Answer) → a ≡ record { number = 51; length = 0 } → answered a d ≡ writing w d
   no_name h a ea = ap (λ (x : Answer). answered x d) ea ∙ go w (sym h ∙ e)
     where
-      go : (w : Written) → E.Refused ≡ measured w → refused 51 d ≡ writing w d
+      go : (w : Written) → None ≡ measured w → refused 51 d ≡ writing w d
       go fail i = refl
       go (ok bs m) i = let z : ◌≡◌ {A = ℕ} 0 1 = cc in absurd (omega arith)
 
-  module _ (n : ℕ) (h : r ≡ E.Place n) where
+  module _ (n : ℕ) (h : r ≡ Some n) where
     pub too_long : length d < n → (a : Answer) → a ≡ record { number = 52; length = 0 } → answered a d ≡ writing w d
     too_long l a ea = ap (λ (x : Answer). answered x d) ea ∙ go w (sym h ∙ e)
       where
-        go : (w : Written) → E.Place n ≡ measured w → refused 52 d ≡ writing w d
+        go : (w : Written) → Some n ≡ measured w → refused 52 d ≡ writing w d
         go fail i = let z : ◌≡◌ {A = ℕ} 0 1 = cc in absurd (omega arith)
         go (ok bs m) i = let j : n ≡ length bs = cc in sym (long bs d (omega (arith, l, j)))
 
     -- made elsewhere, and copied
     pub copied : n ≤ length d → (s y : List ℕ) → n ≤ length s → ended s 0 w ≡ outcome r y → (x : List ℕ) → x ≡ sets d 0 (take n y) → answered (record { number = 0; length = n }) x ≡ writing w d
-    copied k s y l o x c = go w (sym h ∙ e) (o ∙ ap (λ (z : End). outcome z y) h)
+    copied k s y l o x c = go w (sym h ∙ e) (o ∙ ap (λ (z : Option ℕ). outcome z y) h)
       where
-        go : (w : Written) → E.Place n ≡ measured w → ended s 0 w ≡ ok y n → answered (record { number = 0; length = n }) x ≡ writing w d
+        go : (w : Written) → Some n ≡ measured w → ended s 0 w ≡ ok y n → answered (record { number = 0; length = n }) x ≡ writing w d
         go fail i o = never y n o
         go (ok bs m) i o =
             let j : n ≡ length bs = cc in
@@ -72,13 +71,13 @@ module _ (r : End) (w : Written) (d : List ℕ) (e : r ≡ measured w) where
             let g : take n y ≡ bs = ap₂ (λ (c : ℕ) (z : List ℕ). take c z) j f ∙ take-append_seam bs (drop (0 + length bs) s) in
             in_place bs d x n j k (c ∙ ap (λ (z : List ℕ). sets d 0 z) g)
 
-    pub fits : n ≤ length d → (l : End) (x : List ℕ) → ended d 0 w ≡ outcome l x → answered (record { number = 0; length = n }) x ≡ writing w d
+    pub fits : n ≤ length d → (l : Option ℕ) (x : List ℕ) → ended d 0 w ≡ outcome l x → answered (record { number = 0; length = n }) x ≡ writing w d
     fits k l x o = go w l (sym h ∙ e) o
       where
-        go : (w : Written) (l : End) → E.Place n ≡ measured w → ended d 0 w ≡ outcome l x → answered (record { number = 0; length = n }) x ≡ writing w d
+        go : (w : Written) (l : Option ℕ) → Some n ≡ measured w → ended d 0 w ≡ outcome l x → answered (record { number = 0; length = n }) x ≡ writing w d
         go fail l i o = let z : ◌≡◌ {A = ℕ} 0 1 = cc in absurd (omega arith)
-        go (ok bs m) E.Refused i o = never (sets d 0 bs) (0 + length bs) (sym o)
-        go (ok bs m) (E.Place at) i o = let j : n ≡ length bs = cc in in_place bs d x n j k (sym (ok-value o))
+        go (ok bs m) None i o = never (sets d 0 bs) (0 + length bs) (sym o)
+        go (ok bs m) (Some at) i o = let j : n ≡ length bs = cc in in_place bs d x n j k (sym (ok-value o))
 
 -- a symbol that is bound twice
 pub twice-refused : (w : Written) (d out : List ℕ) → ended d 0 w ≡ fail → (a : Answer) → a ≡ record { number = 51; length = 0 } → answered a out ≡ writing w out

@@ -23,12 +23,10 @@ use Rattle.elaborate.specs.Reach.{Bound, range_symbol}
 use Rattle.elaborate.specs.Tables.{Same, Holds}
 use Rattle.model.proofs.Tests.{and-true}
 use Rattle.elaborate.specs.After.{ended}
-use Rattle.elaborate.specs.declared.binds.Ranges.{Ranges}
-use Rattle.elaborate.specs.declared.binds.Ranges.TheVariants as R
+use Rattle.std.specs.Prelude.{Some, None}
+use Rattle.std.specs.Prelude as P
 use Rattle.elaborate.specs.declared.binds.Tally.{Tally}
 use Rattle.elaborate.specs.Tallies.{listing, bound_from, symbols_in, after_all, Whole, Most, Stands}
-use Rattle.elaborate.specs.declared.End.{End}
-use Rattle.elaborate.specs.declared.End.TheVariants as E
 use Rattle.elaborate.specs.Ends.{end_by, Ends, Last}
 
 module _ (text : List ℕ) (t : Table) (es : List Entry) (d : List ℕ) (u : Bool) (eu : u ≡ unique_words (binders 0 (tokens_from text t 0))) where
@@ -57,20 +55,20 @@ module _ (text : List ℕ) (t : Table) (es : List Entry) (d : List ℕ) (u : Boo
         on true h = refl
         on false h = sym h
 
-    module _ (r : Ranges) (cs : List Bound) (x : List ℕ) (w : Whole text t es main d r cs x) where
-      pub no-relation : r ≡ R.Refused → ended d 0 (flat_text es (tokens_from text t 0)) ≡ fail
-      no-relation e = ap (ended d 0) parts ∙ w.ends follow ∙ ap (λ (y : Ranges). after_all text t es main follow y cs x) e
+    module _ (r : P.Option Tally) (cs : List Bound) (x : List ℕ) (w : Whole text t es main d r cs x) where
+      pub no-relation : r ≡ None → ended d 0 (flat_text es (tokens_from text t 0)) ≡ fail
+      no-relation e = ap (ended d 0) parts ∙ w.ends follow ∙ ap (λ (y : P.Option Tally). after_all text t es main follow y cs x) e
 
-      module _ (s : Tally) (e : r ≡ R.Listed s) (l : End) (y : List ℕ) (f : Ends text t es (symbols_in text t es main cs) main s.at s.n x l y) where
+      module _ (s : Tally) (e : r ≡ Some s) (l : P.Option ℕ) (y : List ℕ) (f : Ends text t es (symbols_in text t es main cs) main s.at s.n x l y) where
         whole : ended d 0 (flat_text es (tokens_from text t 0)) ≡ end_by last f.number l y
-        whole = ap (ended d 0) parts ∙ w.ends follow ∙ ap (λ (z : Ranges). after_all text t es main follow z cs x) e ∙ f.ends last
+        whole = ap (ended d 0) parts ∙ w.ends follow ∙ ap (λ (z : P.Option Tally). after_all text t es main follow z cs x) e ∙ f.ends last
 
-        pub no_name : l ≡ E.Refused → ended d 0 (flat_text es (tokens_from text t 0)) ≡ fail
-        no_name g = whole ∙ ap (λ (z : End). end_by last f.number z y) g
+        pub no_name : l ≡ None → ended d 0 (flat_text es (tokens_from text t 0)) ≡ fail
+        no_name g = whole ∙ ap (λ (z : P.Option ℕ). end_by last f.number z y) g
 
-        module _ (at : ℕ) (g : l ≡ E.Place at) (q : Bool) (eq : last ≡ cond q [] (16 ∷ [])) where
+        module _ (at : ℕ) (g : l ≡ Some at) (q : Bool) (eq : last ≡ cond q [] (16 ∷ [])) where
           placed : ended d 0 (flat_text es (tokens_from text t 0)) ≡ ok (sets y at (cond q [] (16 ∷ []))) (at + length {A = ℕ} (cond q [] (16 ∷ [])))
-          placed = whole ∙ ap (λ (z : End). end_by last f.number z y) g ∙ ap (λ (z : List ℕ). ok (sets y at z) (at + length z)) eq
+          placed = whole ∙ ap (λ (z : P.Option ℕ). end_by last f.number z y) g ∙ ap (λ (z : List ℕ). ok (sets y at z) (at + length z)) eq
 
           pub with-condition : q ≡ true → ended d 0 (flat_text es (tokens_from text t 0)) ≡ ok y at
           with-condition h = placed ∙ ap (λ (b : Bool). ok (sets y at (cond b [] (16 ∷ []))) (at + length {A = ℕ} (cond b [] (16 ∷ [])))) h ∙ ap (λ (n : ℕ). ok y n) (add-zero at)
@@ -78,15 +76,15 @@ module _ (text : List ℕ) (t : Table) (es : List Entry) (d : List ℕ) (u : Boo
           pub with-true : q ≡ false → (p : ℕ) (v : List ℕ) → p ≡ at + 1 → v ≡ sets y at (16 ∷ []) → ended d 0 (flat_text es (tokens_from text t 0)) ≡ ok v p
           with-true h p v ep ev = placed ∙ ap (λ (b : Bool). ok (sets y at (cond b [] (16 ∷ []))) (at + length {A = ℕ} (cond b [] (16 ∷ [])))) h ∙ ap₂ (λ (z : List ℕ) (n : ℕ). ok z n) (sym ev) (sym ep)
 
-pub most : (k : ℕ) (r : Ranges) (s : Tally) → Most k r → r ≡ R.Listed s → (s.n ≤ k) × (s.at ≤ 3 * k)
+pub most : (k : ℕ) (r : P.Option Tally) (s : Tally) → Most k r → r ≡ Some s → (s.n ≤ k) × (s.at ≤ 3 * k)
 most k r s m e = subst (Most k) e m
 
-pub place-most : (at p : ℕ) (l : End) → Last at l → l ≡ E.Place p → p ≤ at + 32812591
+pub place-most : (at p : ℕ) (l : P.Option ℕ) → Last at l → l ≡ Some p → p ≤ at + 32812591
 place-most at p l m e = subst (Last at) e m
 
 -- what names stand for after the RANGE list
-pub stand-after : (w : ℕ → Word) (ids : List ℕ) (cs : List Bound) (known : List ℕ) (r : Ranges) (s : Tally) → Stands w ids r cs known → r ≡ R.Listed s → Holds w ids known 0 0 (map (range_symbol w) cs)
-stand-after w ids cs known r s h e = subst (λ (x : Ranges). Stands w ids x cs known) e h
+pub stand-after : (w : ℕ → Word) (ids : List ℕ) (cs : List Bound) (known : List ℕ) (r : P.Option Tally) (s : Tally) → Stands w ids r cs known → r ≡ Some s → Holds w ids known 0 0 (map (range_symbol w) cs)
+stand-after w ids cs known r s h e = subst (λ (x : P.Option Tally). Stands w ids x cs known) e h
 
 -- there are names for any numbers
 abbrev pub named : List ℕ → ℕ → Word

@@ -38,9 +38,6 @@ module _ (t : List ℕ) (k : ℕ) (ek : k ≡ room_of (length t)) where
   unfolding chains_in
   chains-is = ap (λ (n : ℕ). take n t) ek
 
-  pub chains-all : length t < k → take (length t - 0) t ≡ chains_in t
-  chains-all h = take_all (length t - 0) t (omega arith) ∙ sym (take_all k t (omega arith)) ∙ chains-is
-
   ids-is : drop k t ≡ ids_in t
   unfolding ids_in
   ids-is = ap (λ (n : ℕ). drop n t) ek

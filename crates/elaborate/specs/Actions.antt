@@ -1,5 +1,6 @@
 -- What the loop of quel's Writing does at a token, by numbers: its mode, the token's kind, and whether a point follows.
-use Rattle.std.specs.Prelude.{ℕ, suc, ◌/◌, ◌%◌, Bool, cond, ◌&&◌, ◌||◌, List, ◌∷◌, eqb, leb}
+use Rattle.std.specs.Prelude.{ℕ, suc, ◌/◌, ◌%◌, Bool, cond, ◌&&◌, ◌||◌, List, ◌∷◌, eqb, leb, Some, None}
+use Rattle.std.specs.Prelude as P
 use Rattle.std.proofs.Math.Option.{Option, none, some}
 use Rattle.model.specs.Encoding.{encode_t}
 use Rattle.quel.specs.Results.{found, Word}
@@ -7,12 +8,12 @@ use Rattle.quel.specs.Ahead.{Mode, at-condition, at-conjunct, at-factor, at_rest
 use Rattle.quel.specs.Names.{Entry, Bytes, relation_named, attribute_named, value_named}
 use Rattle.quel.specs.Elaboration.{Symbol, symbol_in, inside, as_byte, constant}
 use Rattle.quel.specs.Writing.{Written, before, Reaches, inner, around, use_of, value_of, some_of}
+use Rattle.kinds.specs.declared.Record.{Record}
 use Rattle.kinds.specs.declared.Record.TheVariants as R
+use Rattle.names.specs.declared.Found.{Found}
+use Rattle.names.specs.declared.Found.TheVariants as F
 use Rattle.elaborate.specs.declared.reach.Known.{Known}
-use Rattle.elaborate.specs.declared.reach.Known.TheVariants as K
 use Rattle.elaborate.specs.Reach.{known_of}
-use Rattle.elaborate.specs.declared.items.Item.{Item}
-use Rattle.elaborate.specs.declared.items.Item.TheVariants as I
 
 abbrev pub mode_number : Mode → ℕ
 mode_number at-condition = 0
@@ -66,44 +67,51 @@ module _ (es : List Entry) where
       (cond (eqb a 9) (before (λ bs. 16 ∷ bs) (k (around σ) n))
       (k σ n)))))))))
 
+-- the first number that an answer of the name list says
+abbrev pub number_of : Found → P.Option ℕ
+number_of F.Nothing = None
+number_of (F.Of n a b c) = Some n
+
 -- the record of a token, or a name that says nothing
-abbrev pub use_by : ℕ → Option ℕ → Item
-use_by v none = I.Refused
-use_by v (some a) = I.Put (R.Attribute v a)
+abbrev pub use_by : ℕ → Option ℕ → P.Option Record
+use_by v none = None
+use_by v (some a) = Some (R.Attribute v a)
 
-abbrev pub head_by : ℕ → ℕ → ℕ → Option ℕ → Item
-head_by g v r none = I.Refused
-head_by g v r (some a) = I.Put (R.Aggregate g v r a)
+abbrev pub head_by : ℕ → ℕ → ℕ → Option ℕ → P.Option Record
+head_by g v r none = None
+head_by g v r (some a) = Some (R.Aggregate g v r a)
 
-abbrev pub some_by : ℕ → Option ℕ → Item
-some_by v none = I.Refused
-some_by v (some r) = I.Put (R.Some v r)
+abbrev pub some_by : ℕ → Option ℕ → P.Option Record
+some_by v none = None
+some_by v (some r) = Some (R.Some v r)
 
-abbrev pub value_by : Option Bytes → Item
-value_by none = I.Refused
-value_by (some b) = I.Put (R.Constant b.b0 b.b1 b.b2 b.b3)
+abbrev pub value_by : Option Bytes → P.Option Record
+value_by none = None
+value_by (some b) = Some (R.Constant b.b0 b.b1 b.b2 b.b3)
 
-abbrev pub constant_by : ℕ → Item
-constant_by k = I.Put (R.Constant (k % 256) (k / 256 % 256) (k / 65536 % 256) (k / 16777216 % 256))
+abbrev pub constant_by : ℕ → P.Option Record
+constant_by k = Some (R.Constant (k % 256) (k / 256 % 256) (k / 65536 % 256) (k / 16777216 % 256))
 
 module _ (es : List Entry) where
   -- X.A wants a variable, an aggregate's head only a relation
-  abbrev pub use_item : Word → Known → Item
-  use_item a (K.Variable r v) = use_by v (attribute_named es r a)
-  use_item a (K.Head r) = I.Refused
-  use_item a K.Nothing = I.Refused
+  abbrev pub use_variable : Word → ℕ → P.Option ℕ → P.Option Record
+  use_variable a r None = None
+  use_variable a r (Some v) = use_by v (attribute_named es r a)
 
-  abbrev pub head_item : ℕ → ℕ → Word → Known → Item
-  head_item g n a (K.Variable r v) = head_by g (as_byte n) r (attribute_named es r a)
-  head_item g n a (K.Head r) = head_by g (as_byte n) r (attribute_named es r a)
-  head_item g n a K.Nothing = I.Refused
+  abbrev pub use_item : Word → P.Option Known → P.Option Record
+  use_item a None = None
+  use_item a (Some k) = use_variable a k.relation k.variable
 
-  abbrev pub item_of : ℕ → ℕ → ℕ → Word → Word → Word → Word → List Symbol → ℕ → Item
+  abbrev pub head_item : ℕ → ℕ → Word → P.Option Known → P.Option Record
+  head_item g n a None = None
+  head_item g n a (Some k) = head_by g (as_byte n) k.relation (attribute_named es k.relation a)
+
+  abbrev pub item_of : ℕ → ℕ → ℕ → Word → Word → Word → Word → List Symbol → ℕ → P.Option Record
   item_of a g v x₀ x₂ x₃ x₄ ρ n =
       cond (eqb a 1) (use_item x₂ (known_of (symbol_in x₀ ρ)))
       (cond (eqb a 2) (value_by (value_named es x₀))
       (cond (eqb a 3) (constant_by v)
       (cond (eqb a 4) (head_item g n x₄ (known_of (symbol_in x₂ ρ)))
-      (cond (eqb a 5) (I.Put R.Not)
+      (cond (eqb a 5) (Some R.Not)
       (cond (eqb a 6) (some_by (as_byte n) (relation_named es x₃))
-      (cond (eqb a 9) (I.Put R.True) (I.Put R.Short)))))))
+      (cond (eqb a 9) (Some R.True) (Some R.Short)))))))

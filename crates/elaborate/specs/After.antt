@@ -1,5 +1,5 @@
 -- What a turn of the loop over a text's tokens leaves: a buffer and a place, with the rest of the loop still to be written there.
-use Rattle.std.specs.Prelude.{ℕ, ◌+◌, ◌≤◌, ◌<◌, cond, List, ◌≡◌, eqb, length}
+use Rattle.std.specs.Prelude.{ℕ, ◌+◌, ◌≤◌, ◌<◌, cond, List, ◌≡◌, eqb, length, Option, Some, None}
 use Rattle.std.proofs.lemmas.List.Edits.{sets}
 use Rattle.quel.specs.Results.{fail, ok}
 use Rattle.quel.specs.Names.{Entry}
@@ -11,8 +11,6 @@ use Rattle.elaborate.specs.Places.{tokens_from, name_in}
 use Rattle.elaborate.specs.Puts.{frame_mode}
 use Rattle.elaborate.specs.Frames.{Stack}
 use Rattle.elaborate.specs.declared.turns.State.{State}
-use Rattle.elaborate.specs.declared.turns.Next.{Next}
-use Rattle.elaborate.specs.declared.turns.Next.TheVariants as N
 
 -- a buffer and the place after what was written, once g has been written from `at` on
 abbrev pub ended : List ℕ → ℕ → Written → Written
@@ -42,14 +40,14 @@ module _ (text : List ℕ) (t : Table) (es : List Entry) (ids : List ℕ) where
     pub stack : Stack (name_in text t.kinds t.starts) ids fs s.depth s.crossing known reaches
     pub ends : (z : List ℕ) → g z ≡ ended out s.at (left z i s reaches)
 
-  abbrev pub GoesOn : (List ℕ → Written) → ℕ → Next → List ℕ → List ℕ → List ℕ → Type 0
-  GoesOn g i N.Refused fs known out = (z : List ℕ) → g z ≡ fail
-  GoesOn g i (N.Go s) fs known out = Going g i s fs known out
+  abbrev pub GoesOn : (List ℕ → Written) → ℕ → Option State → List ℕ → List ℕ → List ℕ → Type 0
+  GoesOn g i None fs known out = (z : List ℕ) → g z ≡ fail
+  GoesOn g i (Some s) fs known out = Going g i s fs known out
 
-  abbrev pub Goes : ℕ → State → Reaches → List ℕ → Next → List ℕ → List ℕ → List ℕ → Type 0
+  abbrev pub Goes : ℕ → State → Reaches → List ℕ → Option State → List ℕ → List ℕ → List ℕ → Type 0
   Goes i s σ out r gs known to = GoesOn (λ z. ended out s.at (left z i s σ)) (i + 1) r gs known to
 
 -- a turn writes at most 8197 bytes, and opens at most one frame
-abbrev pub Within : State → Next → Type 0
-Within s N.Refused = Unit
-Within s (N.Go r) = (r.mode ≤ 6) × (r.depth ≤ s.depth + 1) × (r.n ≤ s.n + 1) × (r.at ≤ s.at + 8197) × (r.crossing < 8192) × (r.i ≡ s.i + 1)
+abbrev pub Within : State → Option State → Type 0
+Within s None = Unit
+Within s (Some r) = (r.mode ≤ 6) × (r.depth ≤ s.depth + 1) × (r.n ≤ s.n + 1) × (r.at ≤ s.at + 8197) × (r.crossing < 8192) × (r.i ≡ s.i + 1)

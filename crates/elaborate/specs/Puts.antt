@@ -1,5 +1,5 @@
 -- What is written at a token and what is in reach after it, by the token's record.
-use Rattle.std.specs.Prelude.{ℕ, suc, cond, ◌||◌, ◌∷◌, ◌++◌, map, eqb}
+use Rattle.std.specs.Prelude.{ℕ, suc, cond, ◌||◌, ◌∷◌, ◌++◌, map, eqb, Option, Some, None}
 use Rattle.std.proofs.Math.Option.{some}
 use Rattle.quel.specs.Results.{fail, Word}
 use Rattle.quel.specs.Elaboration.{Symbol, head_only}
@@ -7,8 +7,6 @@ use Rattle.quel.specs.Writing.{Written, before, Reaches, inner, around}
 use Rattle.kinds.specs.declared.Record.{Record}
 use Rattle.kinds.specs.declared.Record.TheVariants as R
 use Rattle.copier.specs.Copied.{record_bytes}
-use Rattle.elaborate.specs.declared.items.Item.{Item}
-use Rattle.elaborate.specs.declared.items.Item.TheVariants as I
 
 -- the frame of a record: SOME (1) binds the name after it, an aggregate (2) that two tokens on
 abbrev pub frame_mode : Record → ℕ
@@ -59,9 +57,9 @@ frame_variable (R.Permit a b c) = 0
 frame_variable R.Unknown = 0
 frame_variable R.Short = 0
 
-abbrev pub putting : Item → (Record → Written) → Written
-putting I.Refused f = fail
-putting (I.Put it) f = f it
+abbrev pub putting : Option Record → (Record → Written) → Written
+putting None f = fail
+putting (Some it) f = f it
 
 abbrev pub symbol_by : Word → Record → Symbol
 symbol_by x it = record { word = x; relation = frame_relation it; variable = some (frame_variable it) }

@@ -1,17 +1,15 @@
 -- A refusal, or the buffer and the place after what was written.
-use Rattle.std.specs.Prelude.{ℕ, true, List, ◌≡◌}
+use Rattle.std.specs.Prelude.{ℕ, true, List, ◌≡◌, Option, Some, None}
 use Rattle.quel.specs.Results.{fail, ok, unique_words}
 use Rattle.quel.specs.Writing.{Written}
 use Rattle.tokens.specs.Table.{Table}
 use Rattle.flat.specs.Flat.{binders}
 use Rattle.elaborate.specs.Places.{tokens_from, name_in}
 use Rattle.elaborate.specs.Tables.{Named}
-use Rattle.elaborate.specs.declared.End.{End}
-use Rattle.elaborate.specs.declared.End.TheVariants as E
 
-abbrev pub outcome : End → List ℕ → Written
-outcome E.Refused out = fail
-outcome (E.Place at) out = ok out at
+abbrev pub outcome : Option ℕ → List ℕ → Written
+outcome None out = fail
+outcome (Some at) out = ok out at
 
 -- what the records of a text's tokens are written by
 pub record Ready (text : List ℕ) (t : Table) (ids : List ℕ) : Type 0 where

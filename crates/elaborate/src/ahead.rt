@@ -3,25 +3,12 @@
 ghost use Rattle.std.specs.Prelude.{◌≡◌, ◌+◌, suc, ◌<◌, ◌≤◌, ◌&&◌, leb, length, get_or};
 ghost use Rattle.elaborate.specs.Counts.{ors_in, ands_in, sign_in, skip_in, kind_in, Stepped, Counted};
 
-fn wide(x: u8) -> u64
-    ensures { result ≡ x }
-{
-    x as u64
-}
-
-// Five numbers as one.
+// Five numbers as one, and no struct: the table holds the frames too, behind the token at hand.
 fn pack(kind: u8, ors: u64, ands: u64, sign: u64, skip: u64) -> u64
     requires { (ors < 4096) × (ands < 4096) × (sign < 8) × (skip < 8192) }
     ensures { (ors_in result ≡ ors) × (ands_in result ≡ ands) × (sign_in result ≡ sign) × (skip_in result ≡ skip) × (kind_in result ≡ kind) }
 {
-    wide(kind) + 256 * skip + 2097152 * ors + 8589934592 * ands + 35184372088832 * sign
-}
-
-// Signs have the kinds 7 to 12.
-fn is_sign(kind: u8) -> bool
-    ensures { result ≡ leb 7 kind && leb kind 12 }
-{
-    if 7 <= kind { kind <= 12 } else { false }
+    u64::from(kind) + 256 * skip + 2097152 * ors + 8589934592 * ands + 35184372088832 * sign
 }
 
 // A token that changes no count is one more before the level ends: most are such, and nothing is taken apart for them.
@@ -29,24 +16,22 @@ fn further(kind: u8, next: u64) -> u64
     requires { skip_in next < 8191 }
     ensures { (ors_in result ≡ ors_in next) × (ands_in result ≡ ands_in next) × (sign_in result ≡ sign_in next) × (skip_in result ≡ skip_in next + 1) × (kind_in result ≡ kind) }
 {
-    next % 281474976710656 / 256 * 256 + 256 + wide(kind)
+    next % 281474976710656 / 256 * 256 + 256 + u64::from(kind)
 }
 
-// The place of a token of this kind, before `next`; `after` is where the level of `next` has ended.
+// The place of a token of this kind, before `next`; `after` is where the level of `next` has ended. Signs have the kinds 7 to 12.
 fn step(kind: u8, next: u64, after: u64) -> u64
     requires { (ors_in next < 4000) × (ands_in next < 4000) × (skip_in next < 4000) × (skip_in after < 4000) }
     ensures { Stepped kind next after result }
 {
-    if is_sign(kind) {
-        return pack(
+    match kind {
+        7..=12 => pack(
             kind,
             next / 2097152 % 4096,
             next / 8589934592 % 4096,
-            wide(kind) - 7,
+            u64::from(kind) - 7,
             next / 256 % 8192 + 1,
-        );
-    }
-    match kind {
+        ),
         18 => pack(
             kind,
             next / 2097152 % 4096 + 1,
@@ -78,10 +63,8 @@ pub(crate) fn count(kinds: &[u8], counts: &mut [u64])
     requires { (length kinds.now < length counts.old) × (length kinds.now < 4000) }
     ensures { Counted kinds.now counts.new 0 }
 {
-    let mut i = kinds.len();
-    counts[i] = 0;
-    while 0 < i {
-        i -= 1;
+    counts[kinds.len()] = 0;
+    for i in (0..kinds.len()).rev() {
         let next = counts[i + 1];
         let after = counts[i + 1 + (next / 256 % 8192) as usize];
         counts[i] = step(kinds[i], next, after);
@@ -91,7 +74,7 @@ pub(crate) fn count(kinds: &[u8], counts: &mut [u64])
 pub(crate) fn entry(table: &[u64], i: usize) -> u64
     ensures { result ≡ get_or table.now i 0 }
 {
-    if i < table.len() { table[i] } else { 0 }
+    table.get(i).copied().unwrap_or(0)
 }
 
 // What an entry says: the token's kind.

@@ -1,5 +1,5 @@
 // The RANGE list: its symbols, with relations looked up, and a record for each symbol that is used.
-ghost use Rattle.std.specs.Prelude.{◌≡◌, true, false, cond, List, ℕ, ◌+◌, ◌<◌, ◌≤◌, eqb, length, get_or, set};
+ghost use Rattle.std.specs.Prelude.{◌≡◌, true, false, cond, List, ℕ, ◌+◌, ◌<◌, ◌≤◌, eqb, length, get_or, set, Some, None};
 ghost use Rattle.quel.specs.Names.{Entry};
 ghost use Rattle.names.specs.Entries.{entries};
 ghost use Rattle.names.specs.Search.{Indexed};
@@ -9,22 +9,14 @@ ghost use Rattle.elaborate.specs.Tables.{Clear};
 ghost use Rattle.elaborate.specs.Tallies.{Adds, Fills, Counts, Most};
 
 use crate::{ahead, frames, items, lookups};
-use names::{Found, Sort};
+use names::Sort;
 
-// Whether a relation's parentheses are open, its number, the next variable's number, and where to write.
+// The relation whose parentheses are open, the next variable's number, and where to write.
 #[derive(Clone, Copy)]
 pub struct Tally {
-    pub inside: bool,
-    pub relation: u8,
+    pub relation: Option<u8>,
     pub n: usize,
     pub at: usize,
-}
-
-// What a token leaves, or a relation that is unknown.
-#[derive(Clone, Copy)]
-pub enum Ranges {
-    Listed(Tally),
-    Refused,
 }
 
 // How a symbol is entered: as a variable, or, where it is not used, as a relation alone.
@@ -56,30 +48,29 @@ fn settle(known: &mut [u64], x: usize, e: u64)
     }
 }
 
-// A symbol, at token i.
-fn symbol(lookup: &[u16], known: &mut [u64], out: &mut [u8], s: Tally, i: usize) -> Ranges
-    requires { (i < 4000) × (s.n < 4000) × (s.at < 4611686018427387904) × (s.inside ≡ true) × (get_or (ids_in lookup.now) i 0 < length known.old) }
+// A symbol of the relation r, at token i.
+fn symbol(lookup: &[u16], known: &mut [u64], out: &mut [u8], s: Tally, r: u8, i: usize) -> Tally
+    requires { (i < 4000) × (s.n < 4000) × (s.at < 4611686018427387904) × (s.relation ≡ Some r) × (get_or (ids_in lookup.now) i 0 < length known.old) }
     ensures by_index { (marks codes : List ℕ) (es : List Entry) (cs : List Bound) → Adds (ids_in lookup.now) marks codes es i s cs
-        known.old out.old result known.new out.new }
-    ensures counts { Counts s result }
+        known.old out.old (Some result) known.new out.new }
+    ensures counts { Counts s (Some result) }
 {
     let x = lookups::id_at(lookup, i);
     let used = is_used(known, x);
     let v = (s.n % 256) as u8;
-    settle(known, x, frames::pack(entered(used), s.relation, v, 0));
+    settle(known, x, frames::pack(entered(used), r, v, 0));
     if !used {
-        return Ranges::Listed(s);
+        return s;
     }
-    let at = copier::copy(out, s.at, &[1, v, s.relation]);
-    Ranges::Listed(Tally {
-        inside: true,
-        relation: s.relation,
+    let at = copier::copy(out, s.at, &[1, v, r]);
+    Tally {
+        relation: Some(r),
         n: s.n + 1,
-        at: at,
-    })
+        at,
+    }
 }
 
-// A name: a relation's, or a symbol in its parentheses.
+// A name: a relation's, or a symbol in its parentheses; none where the relation is unknown.
 fn name(
     lookup: &[u16],
     numbers: &[u64],
@@ -88,45 +79,39 @@ fn name(
     out: &mut [u8],
     s: Tally,
     i: usize,
-) -> Ranges
+) -> Option<Tally>
     requires { (i < 4000) × (s.n < 4000) × (s.at < 4611686018427387904) × (get_or (ids_in lookup.now) i 0 < length known.old)
         × Indexed list.now (chains_in lookup.now) }
     ensures by_index { (marks : List ℕ) (cs : List Bound) → Adds (ids_in lookup.now) marks numbers.now (entries list.now) i s cs
         known.old out.old result known.new out.new }
     ensures counts { Counts s result }
 {
-    if s.inside {
-        return symbol(lookup, known, out, s, i);
+    if let Some(r) = s.relation {
+        return Some(symbol(lookup, known, out, s, r, i));
     }
     let code = items::code(lookup, numbers, i);
-    let Found::Of(r, _, _, _) = names::meaning(list, lookups::chains(lookup), Sort::Relation, code)
-    else {
-        return Ranges::Refused;
-    };
-    Ranges::Listed(Tally {
-        inside: true,
-        relation: r,
-        n: s.n,
-        at: s.at,
+    let relation = items::numbered(lookup, list, Sort::Relation, code)?;
+    Some(Tally {
+        relation: Some(relation),
+        ..s
     })
 }
 
 // A token that is no name: ) closes a relation's parentheses.
 fn passed(kind: u8, s: Tally) -> Tally
-    ensures { result ≡ cond (eqb kind 21) (record { inside = false; relation = 0; n = s.n; at = s.at }) s }
+    ensures { result ≡ cond (eqb kind 21) (record { relation = None; n = s.n; at = s.at }) s }
 {
     if kind == 21 {
-        return Tally {
-            inside: false,
-            relation: 0,
-            n: s.n,
-            at: s.at,
-        };
+        Tally {
+            relation: None,
+            ..s
+        }
+    } else {
+        s
     }
-    s
 }
 
-// Enters the symbols of the RANGE list, and writes its records; names that are used are marked.
+// Enters the symbols of the RANGE list, and writes its records; names that are used are marked. None where a relation is unknown.
 pub(crate) fn bind(
     kinds: &[u8],
     lookup: &[u16],
@@ -134,7 +119,7 @@ pub(crate) fn bind(
     list: &[u8],
     known: &mut [u64],
     out: &mut [u8],
-) -> Ranges
+) -> Option<Tally>
     requires { (length kinds.now < 4000) × (length kinds.now < length known.old)
         × ((x : ℕ) → get_or (ids_in lookup.now) x 0 ≤ length kinds.now) × Clear known.old × Indexed list.now (chains_in lookup.now) }
     ensures fills { Fills kinds.now (ids_in lookup.now) known.old numbers.now (entries list.now)
@@ -142,27 +127,19 @@ pub(crate) fn bind(
     ensures most { Most (length kinds.now) result }
 {
     let mut s = Tally {
-        inside: false,
-        relation: 0,
+        relation: None,
         n: 0,
         at: 0,
     };
-    let mut i = 0;
-    while i < kinds.len() {
-        let kind = kinds[i];
+    for (i, &kind) in kinds.iter().enumerate() {
         if kind == 14 {
-            return Ranges::Listed(s);
+            return Some(s);
         }
         if kind == 0 {
-            let Ranges::Listed(t) = name(lookup, numbers, list, known, out, s, i) else {
-                return Ranges::Refused;
-            };
-            s = t;
-            i += 1;
+            s = name(lookup, numbers, list, known, out, s, i)?;
             continue;
         }
         s = passed(kind, s);
-        i += 1;
     }
-    Ranges::Listed(s)
+    Some(s)
 }

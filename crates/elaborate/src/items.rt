@@ -1,7 +1,8 @@
 // What each token of a text gives: its record, with its names looked up in what is in reach.
-ghost use Rattle.std.specs.Prelude.{◌≡◌, List, ℕ, ◌+◌, ◌-◌, ◌<◌, get_or};
+ghost use Rattle.std.specs.Prelude.{◌≡◌, List, ℕ, ◌+◌, ◌-◌, ◌<◌, get_or, Some};
 ghost use Rattle.quel.specs.Elaboration.{Symbol, as_byte, symbol_in};
-ghost use Rattle.quel.specs.Names.{attribute_named, relation_named, value_named};
+ghost use Rattle.quel.specs.Names.{relation_named, value_named};
+ghost use Rattle.names.specs.Answers.{said};
 ghost use Rattle.names.specs.Entries.{entries};
 ghost use Rattle.quel.specs.Results.{Word};
 ghost use Rattle.tokens.specs.Codes.{Spelt};
@@ -9,7 +10,7 @@ ghost use Rattle.names.specs.Search.{Indexed};
 ghost use Rattle.elaborate.specs.Lookup.{chains_in, ids_in};
 ghost use Rattle.elaborate.specs.Reach.{known_of};
 ghost use Rattle.elaborate.specs.Tables.{code_at, Named, Holds};
-ghost use Rattle.elaborate.specs.Actions.{use_by, head_by, some_by, value_by, constant_by, use_item, head_item, item_of};
+ghost use Rattle.elaborate.specs.Actions.{number_of, some_by, value_by, constant_by, use_item, head_item, item_of};
 
 use crate::reach::Known;
 use crate::{ahead, lookups, reach};
@@ -26,114 +27,75 @@ pub struct Scope {
     pub n: usize,
 }
 
-// A token's record (Short: none), or a name that is unknown or out of reach.
-#[derive(Clone, Copy)]
-pub enum Item {
-    Put(Record),
-    Refused,
-}
-
-// An attribute of a relation, of the variable v.
-fn attribute_item(list: &[u8], lookup: &[u16], v: u8, r: u8, attribute: u64) -> Item
+// The number of the relation or attribute with this name.
+pub(crate) fn numbered(lookup: &[u16], list: &[u8], sort: Sort, name: u64) -> Option<u8>
     requires { Indexed list.now (chains_in lookup.now) }
-    ensures { (z : Word) → Spelt z attribute → result ≡ use_by v (attribute_named (entries list.now) r z) }
+    ensures { (z : Word) → Spelt z name → result ≡ number_of (said (entries list.now) z sort) }
 {
-    let Found::Of(a, _, _, _) = names::meaning(
-        list,
-        lookups::chains(lookup),
-        Sort::Attribute(r),
-        attribute,
-    ) else {
-        return Item::Refused;
+    let Found::Of(number, _, _, _) = names::meaning(list, lookups::chains(lookup), sort, name)
+    else {
+        return None;
     };
-    Item::Put(Record::Attribute(v, a))
+    Some(number)
 }
 
 // X.A: the symbol's variable, and the attribute of its relation.
-fn use_item(list: &[u8], lookup: &[u16], known: Known, attribute: u64) -> Item
+fn use_item(list: &[u8], lookup: &[u16], known: Option<Known>, attribute: u64) -> Option<Record>
     requires { Indexed list.now (chains_in lookup.now) }
     ensures { (z : Word) → Spelt z attribute → result ≡ use_item (entries list.now) z known }
 {
-    match known {
-        Known::Variable(r, v) => attribute_item(list, lookup, v, r, attribute),
-        Known::Head(_) => Item::Refused,
-        Known::Nothing => Item::Refused,
-    }
+    let known = known?;
+    let variable = known.variable?;
+    let a = numbered(lookup, list, Sort::Attribute(known.relation), attribute)?;
+    Some(Record::Attribute(variable, a))
 }
 
-// An aggregate over a relation, with a new variable.
-fn over_item(list: &[u8], lookup: &[u16], f: u8, v: u8, r: u8, attribute: u64) -> Item
-    requires { Indexed list.now (chains_in lookup.now) }
-    ensures { (z : Word) → Spelt z attribute → result ≡ head_by f v r (attribute_named (entries list.now) r z) }
-{
-    let Found::Of(a, _, _, _) = names::meaning(
-        list,
-        lookups::chains(lookup),
-        Sort::Attribute(r),
-        attribute,
-    ) else {
-        return Item::Refused;
-    };
-    Item::Put(Record::Aggregate(f, v, r, a))
-}
-
-fn head_item(list: &[u8], lookup: &[u16], f: u8, n: usize, known: Known, attribute: u64) -> Item
+// An aggregate over a symbol's relation, with a new variable.
+fn head_item(
+    list: &[u8],
+    lookup: &[u16],
+    f: u8,
+    n: usize,
+    known: Option<Known>,
+    attribute: u64,
+) -> Option<Record>
     requires { Indexed list.now (chains_in lookup.now) }
     ensures { (z : Word) → Spelt z attribute → result ≡ head_item (entries list.now) f n z known }
 {
-    match known {
-        Known::Variable(r, _) => over_item(list, lookup, f, (n % 256) as u8, r, attribute),
-        Known::Head(r) => over_item(list, lookup, f, (n % 256) as u8, r, attribute),
-        Known::Nothing => Item::Refused,
-    }
+    let r = known?.relation;
+    let a = numbered(lookup, list, Sort::Attribute(r), attribute)?;
+    Some(Record::Aggregate(f, (n % 256) as u8, r, a))
 }
 
-fn some_item(list: &[u8], lookup: &[u16], n: usize, relation: u64) -> Item
+fn some_item(list: &[u8], lookup: &[u16], n: usize, relation: u64) -> Option<Record>
     requires { Indexed list.now (chains_in lookup.now) }
     ensures { (z : Word) → Spelt z relation → result ≡ some_by (as_byte n) (relation_named (entries list.now) z) }
 {
-    let Found::Of(r, _, _, _) = names::meaning(
-        list,
-        lookups::chains(lookup),
-        Sort::Relation,
-        relation,
-    ) else {
-        return Item::Refused;
-    };
-    Item::Put(Record::Some((n % 256) as u8, r))
+    let r = numbered(lookup, list, Sort::Relation, relation)?;
+    Some(Record::Some((n % 256) as u8, r))
 }
 
-fn value_item(list: &[u8], lookup: &[u16], value: u64) -> Item
+fn value_item(list: &[u8], lookup: &[u16], value: u64) -> Option<Record>
     requires { Indexed list.now (chains_in lookup.now) }
     ensures { (z : Word) → Spelt z value → result ≡ value_by (value_named (entries list.now) z) }
 {
     let Found::Of(a, b, c, d) = names::meaning(list, lookups::chains(lookup), Sort::Value, value)
     else {
-        return Item::Refused;
+        return None;
     };
-    Item::Put(Record::Constant(a, b, c, d))
+    Some(Record::Constant(a, b, c, d))
 }
 
-fn constant_item(numbers: &[u64], i: usize) -> Item
-    ensures { result ≡ constant_by (get_or numbers.now i 0) }
+fn constant_item(numbers: &[u64], i: usize) -> Record
+    ensures { Some result ≡ constant_by (get_or numbers.now i 0) }
 {
-    if numbers.len() <= i {
-        return Item::Put(Record::Constant(0, 0, 0, 0));
-    }
-    let k = numbers[i];
-    Item::Put(Record::Constant(
+    let k = ahead::entry(numbers, i);
+    Record::Constant(
         (k % 256) as u8,
         (k / 256 % 256) as u8,
         (k / 65536 % 256) as u8,
         (k / 16777216 % 256) as u8,
-    ))
-}
-
-// One less; 0 for 0.
-fn less(x: u8) -> u8
-    ensures { result ≡ x - 1 }
-{
-    if x == 0 { 0 } else { x - 1 }
+    )
 }
 
 // The code of the name at x, that of no letters where there is none.
@@ -141,13 +103,20 @@ pub(crate) fn code(lookup: &[u16], numbers: &[u64], x: usize) -> u64
     ensures { result ≡ code_at (ids_in lookup.now) numbers.now x }
 {
     if lookups::id_at(lookup, x) == 0 {
-        return 1;
+        1
+    } else {
+        ahead::entry(numbers, x)
     }
-    ahead::entry(numbers, x)
 }
 
 // X.A.
-fn use_at(lookup: &[u16], numbers: &[u64], list: &[u8], known: &[u64], scope: Scope) -> Item
+fn use_at(
+    lookup: &[u16],
+    numbers: &[u64],
+    list: &[u8],
+    known: &[u64],
+    scope: Scope,
+) -> Option<Record>
     requires { (scope.i < 4000) × Indexed list.now (chains_in lookup.now) }
     ensures { (w : ℕ → Word) (ρ : List Symbol) (d : ℕ) → Named w (ids_in lookup.now) numbers.now
         → Holds w (ids_in lookup.now) known.now d scope.crossing ρ → result
@@ -158,7 +127,13 @@ fn use_at(lookup: &[u16], numbers: &[u64], list: &[u8], known: &[u64], scope: Sc
 }
 
 // An aggregate.
-fn head_at(lookup: &[u16], numbers: &[u64], list: &[u8], known: &[u64], scope: Scope) -> Item
+fn head_at(
+    lookup: &[u16],
+    numbers: &[u64],
+    list: &[u8],
+    known: &[u64],
+    scope: Scope,
+) -> Option<Record>
     requires { (scope.i < 4000) × Indexed list.now (chains_in lookup.now) }
     ensures { (w : ℕ → Word) (ρ : List Symbol) (d : ℕ) → Named w (ids_in lookup.now) numbers.now
         → Holds w (ids_in lookup.now) known.now d scope.crossing ρ → result ≡ head_item (entries list.now) (scope.kind - 1)
@@ -168,47 +143,35 @@ fn head_at(lookup: &[u16], numbers: &[u64], list: &[u8], known: &[u64], scope: S
     head_item(
         list,
         lookup,
-        less(scope.kind),
+        scope.kind.saturating_sub(1),
         scope.n,
         symbol,
         code(lookup, numbers, scope.i + 4),
     )
 }
 
-// The record of the token at hand.
+// The record of the token at hand (Short: none), unless a name is unknown or out of reach.
 pub(crate) fn item_at(
     lookup: &[u16],
     numbers: &[u64],
     list: &[u8],
     known: &[u64],
     scope: Scope,
-) -> Item
+) -> Option<Record>
     requires { (scope.i < 4000) × Indexed list.now (chains_in lookup.now) }
     ensures { (w : ℕ → Word) (ρ : List Symbol) (d : ℕ) → Named w (ids_in lookup.now) numbers.now
         → Holds w (ids_in lookup.now) known.now d scope.crossing ρ → result ≡ item_of (entries list.now) scope.action
         (scope.kind - 1) (get_or numbers.now scope.i 0) (w scope.i) (w (scope.i + 2)) (w (scope.i + 3)) (w (scope.i + 4)) ρ
         scope.n }
 {
-    if scope.action == 1 {
-        return use_at(lookup, numbers, list, known, scope);
+    match scope.action {
+        1 => use_at(lookup, numbers, list, known, scope),
+        2 => value_item(list, lookup, code(lookup, numbers, scope.i)),
+        3 => Some(constant_item(numbers, scope.i)),
+        4 => head_at(lookup, numbers, list, known, scope),
+        5 => Some(Record::Not),
+        6 => some_item(list, lookup, scope.n, code(lookup, numbers, scope.i + 3)),
+        9 => Some(Record::True),
+        _ => Some(Record::Short),
     }
-    if scope.action == 2 {
-        return value_item(list, lookup, code(lookup, numbers, scope.i));
-    }
-    if scope.action == 3 {
-        return constant_item(numbers, scope.i);
-    }
-    if scope.action == 4 {
-        return head_at(lookup, numbers, list, known, scope);
-    }
-    if scope.action == 5 {
-        return Item::Put(Record::Not);
-    }
-    if scope.action == 6 {
-        return some_item(list, lookup, scope.n, code(lookup, numbers, scope.i + 3));
-    }
-    if scope.action == 9 {
-        return Item::Put(Record::True);
-    }
-    Item::Put(Record::Short)
 }

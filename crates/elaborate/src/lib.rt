@@ -27,7 +27,6 @@ ghost use Rattle.elaborate.specs.Answers.{records_of, answered, writing};
 ghost use Rattle.elaborate.specs.After.{ended};
 ghost use Rattle.elaborate.specs.Whole.{Ready, outcome};
 
-use binds::Ranges;
 use loops::Start;
 
 // A name that is unknown, out of reach or bound twice; records longer than the buffer.
@@ -48,14 +47,8 @@ fn refused(number: u8) -> Answer
     Answer { number, length: 0 }
 }
 
-// The place after what was written, or a name that is unknown or out of reach.
-#[derive(Clone, Copy)]
-pub enum End {
-    Place(usize),
-    Refused,
-}
-
-// Writes the records of all tokens, with tables for what stands ahead of them and for what names stand for.
+// Writes the records of all tokens, with tables for what stands ahead of them and for what names stand for: the place after them, unless a name is
+// unknown or out of reach.
 fn records_with(
     kinds: &[u8],
     lookup: &[u16],
@@ -64,7 +57,7 @@ fn records_with(
     counts: &mut [u64],
     known: &mut [u64],
     out: &mut [u8],
-) -> End
+) -> Option<usize>
     requires { (length kinds.now < 4000) × (length kinds.now < length counts.old) × (length kinds.now < length known.old)
         × ((x : ℕ) → get_or (ids_in lookup.now) x 0 ≤ length kinds.now) × ((x : ℕ) → get_or known.old x 0 ≡ 0)
         × Indexed list.now (chains_in lookup.now) }
@@ -74,60 +67,57 @@ fn records_with(
 {
     let first = marks::main_place(kinds);
     marks::uses(kinds, lookup, first, known);
-    let Ranges::Listed(s) = binds::bind(kinds, lookup, numbers, list, known, out) else {
-        return End::Refused;
-    };
+    let s = binds::bind(kinds, lookup, numbers, list, known, out)?;
     ahead::count(kinds, counts);
     let start = Start {
-        first: first,
+        first,
         end: kinds.len(),
         at: s.at,
         n: s.n,
     };
-    let End::Place(at) = loops::run(lookup, numbers, list, counts, known, out, start) else {
-        return End::Refused;
-    };
+    let at = loops::run(lookup, numbers, list, counts, known, out, start)?;
     if marks::qualified(kinds, first) {
-        return End::Place(at);
+        return Some(at);
     }
-    End::Place(copier::put(out, at, 16))
+    Some(copier::put(out, at, 16))
 }
 
-// Few tokens: the tables are small, none over 2,048 bytes, and soon cleared.
-fn records_short(kinds: &[u8], lookup: &[u16], numbers: &[u64], list: &[u8], out: &mut [u8]) -> End
-    requires { (length kinds.now ≤ 255) × ((x : ℕ) → get_or (ids_in lookup.now) x 0 ≤ length kinds.now) × Indexed list.now (chains_in lookup.now) }
+// The same, with tables of N places of its own.
+fn records_sized<const N: usize>(
+    kinds: &[u8],
+    lookup: &[u16],
+    numbers: &[u64],
+    list: &[u8],
+    out: &mut [u8],
+) -> Option<usize>
+    requires { (length kinds.now < N) × (N ≤ 2001) × ((x : ℕ) → get_or (ids_in lookup.now) x 0 ≤ length kinds.now) × Indexed list.now (chains_in lookup.now) }
     ensures { (text ss : List ℕ) → Ready text (table kinds.now ss numbers.now) (ids_in lookup.now)
         → ended out.old 0 (flat_text (entries list.now)
         (tokens_from text (table kinds.now ss numbers.now) 0)) ≡ outcome result out.new }
 {
-    let mut counts = [0u64; 256];
-    let mut known = [0u64; 256];
+    let mut counts = [0u64; N];
+    let mut known = [0u64; N];
     records_with(kinds, lookup, numbers, list, &mut counts, &mut known, out)
 }
 
-// As many tokens as a text can have.
-fn records_long(kinds: &[u8], lookup: &[u16], numbers: &[u64], list: &[u8], out: &mut [u8]) -> End
-    requires { (length kinds.now ≤ 2000) × ((x : ℕ) → get_or (ids_in lookup.now) x 0 ≤ length kinds.now) × Indexed list.now (chains_in lookup.now) }
-    ensures { (text ss : List ℕ) → Ready text (table kinds.now ss numbers.now) (ids_in lookup.now)
-        → ended out.old 0 (flat_text (entries list.now)
-        (tokens_from text (table kinds.now ss numbers.now) 0)) ≡ outcome result out.new }
-{
-    let mut counts = [0u64; 2001];
-    let mut known = [0u64; 2001];
-    records_with(kinds, lookup, numbers, list, &mut counts, &mut known, out)
-}
-
-// Writes the records of all tokens, and says where they end, or refuses a name. What does not fit the buffer is not written.
-fn records(kinds: &[u8], lookup: &[u16], numbers: &[u64], list: &[u8], out: &mut [u8]) -> End
+// Writes the records of all tokens, and says where they end, unless a name is refused. What does not fit the buffer is not written. Few tokens take
+// small tables, none over 2,048 bytes, and soon cleared; the large ones are for as many as a text can have.
+fn records(
+    kinds: &[u8],
+    lookup: &[u16],
+    numbers: &[u64],
+    list: &[u8],
+    out: &mut [u8],
+) -> Option<usize>
     requires { (length kinds.now ≤ 2000) × ((x : ℕ) → get_or (ids_in lookup.now) x 0 ≤ length kinds.now) × Indexed list.now (chains_in lookup.now) }
     ensures { (text ss : List ℕ) → Ready text (table kinds.now ss numbers.now) (ids_in lookup.now)
         → ended out.old 0 (flat_text (entries list.now)
         (tokens_from text (table kinds.now ss numbers.now) 0)) ≡ outcome result out.new }
 {
     if kinds.len() <= 255 {
-        return records_short(kinds, lookup, numbers, list, out);
+        return records_sized::<256>(kinds, lookup, numbers, list, out);
     }
-    records_long(kinds, lookup, numbers, list, out)
+    records_sized::<2001>(kinds, lookup, numbers, list, out)
 }
 
 // The records of all tokens, or 51 for a name and 52 for their length. They are written into a draft first, so that a buffer that is too short is not
@@ -146,7 +136,7 @@ fn write(
         → answered result out.new ≡ writing
         (records_of text (table kinds.now ss numbers.now) list.now) out.old }
 {
-    let End::Place(length) = records(kinds, lookup, numbers, list, draft) else {
+    let Some(length) = records(kinds, lookup, numbers, list, draft) else {
         return refused(NAMES);
     };
     if out.len() < length {
@@ -202,31 +192,8 @@ fn number_names(
     marks::number(text, kinds, starts, numbers, links, &mut lookup[k..]);
 }
 
-// Few tokens: the tables are small, none over 2,048 bytes, and soon cleared.
-fn elaborate_short(
-    text: &[u8],
-    kinds: &[u8],
-    starts: &[u16],
-    numbers: &[u64],
-    list: &[u8],
-    lookup: &mut [u16],
-    out: &mut [u8],
-) -> Answer
-    requires kinds_len_bound { (length kinds.now ≤ 255) × (length kinds.now ≤ length numbers.now)
-        × Coded text.now (table kinds.now starts.now numbers.now) (length kinds.now) × Indexed list.now (chains_in lookup.old) }
-    requires kinds_in_bounds { (room_of (length lookup.old) + length kinds.now ≤ length lookup.old) × ((x : ℕ) → get_or (ids_in lookup.old) x 0 ≡ 0) }
-    ensures { answered result out.new ≡ writing (records_of text.now
-        (table kinds.now starts.now numbers.now) list.now)
-        out.old }
-{
-    let mut links = [0u16; 768];
-    number_names(text, kinds, starts, numbers, lookup, &mut links);
-    let mut draft = [0u8; 512];
-    resolve(kinds, lookup, numbers, list, &mut draft, out)
-}
-
-// As many tokens as a text can have.
-fn elaborate_long(
+// With a table of L links and a draft of D bytes.
+fn elaborate_sized<const L: usize, const D: usize>(
     text: &[u8],
     kinds: &[u8],
     starts: &[u16],
@@ -238,13 +205,14 @@ fn elaborate_long(
     requires kinds_len_bound { (length kinds.now ≤ 2000) × (length kinds.now ≤ length numbers.now)
         × Coded text.now (table kinds.now starts.now numbers.now) (length kinds.now) × Indexed list.now (chains_in lookup.old) }
     requires kinds_in_bounds { (room_of (length lookup.old) + length kinds.now ≤ length lookup.old) × ((x : ℕ) → get_or (ids_in lookup.old) x 0 ≡ 0) }
+    requires sizes { (512 + length kinds.now ≤ L) × (L ≤ 2513) × (D ≤ 2048) }
     ensures { answered result out.new ≡ writing (records_of text.now
         (table kinds.now starts.now numbers.now) list.now)
         out.old }
 {
-    let mut links = [0u16; 2513];
+    let mut links = [0u16; L];
     number_names(text, kinds, starts, numbers, lookup, &mut links);
-    let mut draft = [0u8; 2048];
+    let mut draft = [0u8; D];
     resolve(kinds, lookup, numbers, list, &mut draft, out)
 }
 
@@ -266,7 +234,7 @@ pub fn elaborate(
         out.old }
 {
     if kinds.len() <= 255 {
-        return elaborate_short(text, kinds, starts, numbers, list, lookup, out);
+        return elaborate_sized::<768, 512>(text, kinds, starts, numbers, list, lookup, out);
     }
-    elaborate_long(text, kinds, starts, numbers, list, lookup, out)
+    elaborate_sized::<2513, 2048>(text, kinds, starts, numbers, list, lookup, out)
 }

@@ -10,15 +10,11 @@ pub(crate) fn room(n: usize) -> usize
 }
 
 // The chains of the name list.
+#[tactic(auto, unfolding(crate::specs::Lookup::chains_in))]
 pub(crate) fn chains(lookup: &[u16]) -> &[u16]
     ensures { result.now ≡ chains_in lookup.now }
 {
-    let k = room(lookup.len());
-    if k <= lookup.len() {
-        &lookup[..k]
-    } else {
-        &lookup[0..]
-    }
+    &lookup[..room(lookup.len()).min(lookup.len())]
 }
 
 // The number of the name at x, 0 where there is none.

@@ -9,8 +9,8 @@ ghost use Rattle.elaborate.specs.Tables.{Named, Holds};
 ghost use Rattle.elaborate.specs.Counts.{Counted};
 ghost use Rattle.elaborate.specs.Ends.{Ends, Last};
 
-use crate::turns::{Next, State};
-use crate::{End, turns};
+use crate::turns;
+use crate::turns::State;
 
 // The first token and how many there are, where to write, and the next variable's number.
 #[derive(Clone, Copy)]
@@ -21,7 +21,8 @@ pub struct Start {
     pub n: usize,
 }
 
-// Writes the records of the tokens from a place on, with the RANGE list's frame open.
+// Writes the records of the tokens from a place on, with the RANGE list's frame open, and returns the place after them, unless a name is unknown or
+// out of reach.
 pub(crate) fn run(
     lookup: &[u16],
     numbers: &[u64],
@@ -30,7 +31,7 @@ pub(crate) fn run(
     known: &mut [u64],
     out: &mut [u8],
     start: Start,
-) -> End
+) -> Option<usize>
     requires end_bound { (start.end < 4000) × (start.end < length counts.old) × (0 < start.end → 1 ≤ start.first)
         × (start.first < 4003) × (start.n < 4000) × (start.at < 4611686018427387904) }
     requires by_index { ((x : ℕ) → get_or (ids_in lookup.now) x 0 < 8192) × ((x : ℕ) → get_or (ids_in lookup.now) x 0 < length known.old)
@@ -52,10 +53,7 @@ pub(crate) fn run(
         at: start.at,
     };
     while s.i < start.end {
-        let Next::Go(t) = turns::turn(lookup, numbers, list, counts, known, out, s) else {
-            return End::Refused;
-        };
-        s = t;
+        s = turns::turn(lookup, numbers, list, counts, known, out, s)?;
     }
-    End::Place(s.at)
+    Some(s.at)
 }

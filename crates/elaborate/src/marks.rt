@@ -16,29 +16,16 @@ use crate::lookups;
 // The code of every word of more than twelve letters.
 const LONG: u64 = 288_230_376_151_711_744;
 
-// Whether a letter stands there.
-fn is_letter(q: &[u8], i: usize) -> bool
-    ensures { result ≡ first is_letter (drop i q.now) }
-{
-    if q.len() <= i {
-        return false;
-    }
-    let b = q[i];
-    if b < 65 {
-        return false;
-    }
-    b <= 90
-}
-
 // The letters in front.
 fn letters(q: &[u8]) -> &[u8]
     ensures { result.now ≡ run is_letter q.now }
 {
-    let mut i = 0;
-    while is_letter(q, i) {
-        i += 1;
+    for (i, b) in q.iter().enumerate() {
+        if !b.is_ascii_uppercase() {
+            return &q[..i];
+        }
     }
-    &q[..i]
+    q
 }
 
 // The name at a place; no letters where there is none.
@@ -52,22 +39,6 @@ fn word<'a>(text: &'a [u8], kinds: &[u8], starts: &[u16], i: usize) -> &'a [u8]
         return &text[..0];
     }
     letters(kinds::tail(text, kinds::size_at(starts, i)))
-}
-
-fn same(a: &[u8], b: &[u8]) -> bool
-    ensures { result ≡ same_word a.now b.now }
-{
-    if a.len() != b.len() {
-        return false;
-    }
-    let mut i = 0;
-    while i < a.len() {
-        if a[i] != b[i] {
-            return false;
-        }
-        i += 1;
-    }
-    true
 }
 
 // Whether two places with names have one name.
@@ -92,7 +63,7 @@ fn same_names(
     if code < LONG {
         return true;
     }
-    same(word(text, kinds, starts, i), word(text, kinds, starts, j))
+    word(text, kinds, starts, i) == word(text, kinds, starts, j)
 }
 
 // The number of an earlier place with the name at i, 0 where there is none.
@@ -168,22 +139,17 @@ pub(crate) fn number(
     ensures { Numbered (name_in text.now kinds.now starts.now)
         (length kinds.now) ids.new }
 {
-    let mut i = 0;
-    while i < kinds.len() {
+    for i in 0..kinds.len() {
         enter(text, kinds, starts, numbers, index, ids, i);
-        i += 1;
     }
 }
 
 // Whether a point stands there.
+#[tactic(auto, unfolding(crate::specs::Places::point_in))]
 pub(crate) fn is_point(kinds: &[u8], i: usize) -> bool
     ensures { result ≡ point_in kinds.now i }
 {
-    if i < kinds.len() {
-        25 <= kinds[i]
-    } else {
-        false
-    }
+    kinds.get(i).is_some_and(|kind| 25 <= *kind)
 }
 
 fn deeper(d: usize) -> usize
@@ -205,23 +171,15 @@ fn entered(d: usize) -> usize
     if d == 0 { 1 } else { d }
 }
 
-// Functions have the kinds 2 to 6.
-pub(crate) fn is_function(kind: u8) -> bool
-    ensures { result ≡ leb 2 kind && leb kind 6 }
-{
-    if 2 <= kind { kind <= 6 } else { false }
-}
-
-// The depth in aggregates after a token.
+// The depth in aggregates after a token. Functions have the kinds 2 to 6.
+#[tactic(auto, unfolding(crate::specs::Places::depth_kind))]
 fn depth(kind: u8, d: usize) -> usize
     requires { d < 4000 }
     ensures value { result ≡ depth_kind kind d }
     ensures upper_bound { result ≤ d + 1 }
 {
-    if is_function(kind) {
-        return entered(d);
-    }
     match kind {
+        2..=6 => entered(d),
         20 => deeper(d),
         21 => shallower(d),
         _ => d,
@@ -229,17 +187,12 @@ fn depth(kind: u8, d: usize) -> usize
 }
 
 // Whether the token at i is the X of an X.A outside all aggregates.
+#[tactic(auto, unfolding(crate::specs::Places::use_in))]
 fn is_use(kinds: &[u8], d: usize, i: usize) -> bool
     requires { i < 4000 }
     ensures { result ≡ use_in kinds.now d i }
 {
-    if kinds::byte(kinds, i) != 0 {
-        return false;
-    }
-    if d != 0 {
-        return false;
-    }
-    is_point(kinds, i + 1)
+    kinds::byte(kinds, i) == 0 && d == 0 && is_point(kinds, i + 1)
 }
 
 // Marks the name at i, if it is used there.
@@ -247,11 +200,9 @@ fn note(kinds: &[u8], lookup: &[u16], used: &mut [u64], d: usize, i: usize)
     requires { (i < 4000) × (get_or (ids_in lookup.now) i 0 < length used.old) }
     ensures { Noted (ids_in lookup.now) used.old i (use_in kinds.now d i) used.new }
 {
-    if !is_use(kinds, d, i) {
-        return;
+    if is_use(kinds, d, i) {
+        used[lookups::id_at(lookup, i)] = 4;
     }
-    let x = lookups::id_at(lookup, i);
-    used[x] = 4;
 }
 
 // Marks, by their numbers, the names that tokens from a place on use outside all aggregates, in the table of what they stand for: nothing yet.
@@ -262,21 +213,19 @@ pub(crate) fn uses(kinds: &[u8], lookup: &[u16], from: usize, used: &mut [u64])
         → Used text (table kinds.now ss ns) (ids_in lookup.now) from used.new }
     ensures clear { Clear used.new }
 {
-    let mut i = from;
     let mut d = 0;
-    while i < kinds.len() {
+    for i in from..kinds.len() {
         let kind = kinds[i];
         if kind == 0 {
             note(kinds, lookup, used, d, i);
-            i += 1;
             continue;
         }
         d = depth(kind, d);
-        i += 1;
     }
 }
 
 // Where symbols may be bound, after a token: 0 between the RANGE relations, 1 in their parentheses, 2 after RETRIEVE.
+#[tactic(auto, unfolding(crate::specs::Places::part_kind))]
 fn part(kind: u8, p: u8) -> u8
     requires { p ≤ 2 }
     ensures value { result ≡ part_kind kind p }
@@ -284,8 +233,8 @@ fn part(kind: u8, p: u8) -> u8
 {
     match kind {
         14 => 2,
-        20 => { if p == 0 { 1 } else { p } }
-        21 => { if p == 1 { 0 } else { p } }
+        20 if p == 0 => 1,
+        21 if p == 1 => 0,
         _ => p,
     }
 }
@@ -303,16 +252,11 @@ fn bound_place(kinds: &[u8], i: usize) -> usize
 }
 
 // Whether a token of a kind binds a name.
+#[tactic(auto, unfolding(crate::specs::Places::binds_kind))]
 fn binds(kind: u8, p: u8) -> bool
     ensures { result ≡ binds_kind kind p }
 {
-    if kind == 16 {
-        return true;
-    }
-    if kind != 0 {
-        return false;
-    }
-    p == 1
+    kind == 16 || kind == 0 && p == 1
 }
 
 // Whether the token at i binds no name, or one that is not marked; it is marked then.
@@ -339,46 +283,36 @@ fn unique_with(kinds: &[u8], lookup: &[u16], seen: &mut [u8]) -> bool
     ensures { (text ss ns : List ℕ) → Numbered (name_in text kinds.now ss) (length kinds.now) (ids_in lookup.now)
         → result ≡ unique_words (binders 0 (tokens_from text (table kinds.now ss ns) 0)) }
 {
-    let mut i = 0;
     let mut p = 0;
-    while i < kinds.len() {
+    for (i, &kind) in kinds.iter().enumerate() {
         if !once(kinds, lookup, seen, p, i) {
             return false;
         }
-        p = part(kinds[i], p);
-        i += 1;
+        p = part(kind, p);
     }
     true
 }
 
-fn unique_short(kinds: &[u8], lookup: &[u16]) -> bool
-    requires { (length kinds.now ≤ 256) × ((x : ℕ) → get_or (ids_in lookup.now) x 0 ≤ length kinds.now) }
+// The same with a table of N marks of its own.
+fn unique_sized<const N: usize>(kinds: &[u8], lookup: &[u16]) -> bool
+    requires { (length kinds.now < N) × (N ≤ 4000) × ((x : ℕ) → get_or (ids_in lookup.now) x 0 ≤ length kinds.now) }
     ensures { (text ss ns : List ℕ) → Numbered (name_in text kinds.now ss) (length kinds.now) (ids_in lookup.now)
         → result ≡ unique_words (binders 0 (tokens_from text (table kinds.now ss ns) 0)) }
 {
-    let mut seen = [0u8; 257];
+    let mut seen = [0u8; N];
     unique_with(kinds, lookup, &mut seen)
 }
 
-fn unique_long(kinds: &[u8], lookup: &[u16]) -> bool
-    requires { (length kinds.now < 4000) × ((x : ℕ) → get_or (ids_in lookup.now) x 0 ≤ length kinds.now) }
-    ensures { (text ss ns : List ℕ) → Numbered (name_in text kinds.now ss) (length kinds.now) (ids_in lookup.now)
-        → result ≡ unique_words (binders 0 (tokens_from text (table kinds.now ss ns) 0)) }
-{
-    let mut seen = [0u8; 4000];
-    unique_with(kinds, lookup, &mut seen)
-}
-
-// Whether no symbol is bound twice.
+// Whether no symbol is bound twice: the table is small where the tokens are few.
 pub(crate) fn unique(kinds: &[u8], lookup: &[u16]) -> bool
     requires { (length kinds.now < 4000) × ((x : ℕ) → get_or (ids_in lookup.now) x 0 ≤ length kinds.now) }
     ensures { (text ss ns : List ℕ) → Numbered (name_in text kinds.now ss) (length kinds.now) (ids_in lookup.now)
         → result ≡ unique_words (binders 0 (tokens_from text (table kinds.now ss ns) 0)) }
 {
     if kinds.len() <= 256 {
-        return unique_short(kinds, lookup);
+        return unique_sized::<257>(kinds, lookup);
     }
-    unique_long(kinds, lookup)
+    unique_sized::<4000>(kinds, lookup)
 }
 
 // Where the targets begin: after RETRIEVE, the workspace's name and a colon.
@@ -388,26 +322,17 @@ pub(crate) fn main_place(kinds: &[u8]) -> usize
         ≡ main_of (tokens_from text (table kinds.now ss ns) 0) }
     ensures upper_bound { (result < 4003) × (0 < length kinds.now → 1 ≤ result) }
 {
-    let mut i = 0;
-    while i < kinds.len() {
-        if kinds[i] == 14 {
+    for (i, &kind) in kinds.iter().enumerate() {
+        if kind == 14 {
             return i + 3;
         }
-        i += 1;
     }
-    i
+    kinds.len()
 }
 
 // Whether a colon, and so a qualification, stands among the tokens from a place on.
 pub(crate) fn qualified(kinds: &[u8], from: usize) -> bool
     ensures { (text ss ns : List ℕ) → last_of (tokens_from text (table kinds.now ss ns) from) ≡ cond result [] (16 ∷ []) }
 {
-    let mut i = from;
-    while i < kinds.len() {
-        if kinds[i] == 23 {
-            return true;
-        }
-        i += 1;
-    }
-    false
+    kinds::tail(kinds, from).contains(&23)
 }

@@ -8,89 +8,64 @@ use crate::marks;
 fn ending(mode: u8, kind: u8) -> u8
     ensures { result ≡ cond (eqb mode 6 && eqb kind 21) 9 0 }
 {
-    if mode != 6 {
-        return 0;
-    }
-    if kind == 21 { 9 } else { 0 }
+    if mode == 6 && kind == 21 { 9 } else { 0 }
 }
 
 // Where a factor begins with a key.
 fn factor(kind: u8) -> u8
     ensures { result ≡ cond (eqb kind 15) 5 (cond (eqb kind 16) 6 (cond (eqb kind 20) 7 0)) }
 {
-    if kind == 15 {
-        return 5;
+    match kind {
+        15 => 5,
+        16 => 6,
+        20 => 7,
+        _ => 0,
     }
-    if kind == 16 {
-        return 6;
-    }
-    if kind == 20 { 7 } else { 0 }
-}
-
-fn pick(b: bool, x: u8, y: u8) -> u8
-    ensures { result ≡ cond b x y }
-{
-    if b { x } else { y }
-}
-
-fn pick_at(kind: u8, k: u8, x: u8, y: u8) -> u8
-    ensures { result ≡ cond (eqb kind k) x y }
-{
-    if kind == k { x } else { y }
 }
 
 // What is to be done at a token.
+#[tactic(auto, unfolding(crate::specs::Actions::action_of))]
 pub(crate) fn action(mode: u8, kind: u8, point: bool) -> u8
     ensures { result ≡ action_of mode kind point }
 {
     if 4 <= mode {
         return ending(mode, kind);
     }
-    if kind == 0 {
-        return pick(point, 1, 2);
+    match kind {
+        0 => if point { 1 } else { 2 },
+        1 => 3,
+        2..=6 => 4,
+        21 if mode == 3 => 8,
+        _ if mode == 3 => 0,
+        _ => factor(kind),
     }
-    if kind == 1 {
-        return 3;
-    }
-    if marks::is_function(kind) {
-        return 4;
-    }
-    if mode == 3 {
-        return pick_at(kind, 21, 8, 0);
-    }
-    factor(kind)
 }
 
 // The mode after an operand's first token, or what joins operands.
+#[tactic(auto, unfolding(crate::specs::Actions::rest_of))]
 fn rest(kind: u8, point: bool) -> u8
     ensures { result ≡ rest_of kind point }
 {
-    if kind == 0 {
-        return pick(point, 5, 3);
+    match kind {
+        0 => if point { 5 } else { 3 },
+        2..=6 => 6,
+        18 => 1,
+        19 => 2,
+        23 => 0,
+        _ => 3,
     }
-    if marks::is_function(kind) {
-        return 6;
-    }
-    if kind == 18 {
-        return 1;
-    }
-    if kind == 19 {
-        return 2;
-    }
-    pick_at(kind, 23, 0, 3)
 }
 
 // The mode after a key where a factor begins.
 fn after_key(kind: u8) -> u8
     ensures { result ≡ cond (eqb kind 15) 2 (cond (eqb kind 16) 4 (cond (eqb kind 20) 0 3)) }
 {
-    if kind == 15 {
-        return 2;
+    match kind {
+        15 => 2,
+        16 => 4,
+        20 => 0,
+        _ => 3,
     }
-    if kind == 16 {
-        return 4;
-    }
-    if kind == 20 { 0 } else { 3 }
 }
 
 // The mode in the head of SOME or of an aggregate: k leaves it, a semicolon begins a condition.
@@ -110,6 +85,7 @@ fn in_attribute(kind: u8) -> u8
 }
 
 // The mode after a token.
+#[tactic(auto, unfolding(crate::specs::Actions::next_of))]
 pub(crate) fn next_mode(mode: u8, kind: u8, point: bool) -> u8
     ensures { result ≡ next_of mode kind point }
 {

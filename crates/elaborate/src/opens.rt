@@ -10,19 +10,10 @@ fn many(out: &mut [u8], at: usize, b: u8, n: usize) -> usize
     ensures value { result ≡ at + n }
     ensures out_after { out.new ≡ sets out.old at (often n b []) }
 {
-    let mut i = 0;
-    while i < n {
+    for i in 0..n {
         copier::put(out, at + i, b);
-        i += 1;
     }
-    at + i
-}
-
-fn when(b: bool, n: usize) -> usize
-    ensures value { result ≡ cond b n 0 }
-    ensures upper_bound { result ≤ n }
-{
-    if b { n } else { 0 }
+    at + n
 }
 
 // Writes the sign of a comparison, where a factor begins with an operand.
@@ -31,13 +22,11 @@ fn compare(out: &mut [u8], at: usize, mode: u8, kind: u8, operator: u8) -> usize
     ensures value { result ≡ at + length (cond (leb mode 2 && leb kind 6) (21 ∷ operator ∷ []) []) }
     ensures out_after { out.new ≡ sets out.old at (cond (leb mode 2 && leb kind 6) (21 ∷ operator ∷ []) []) }
 {
-    if 2 < mode {
-        return at;
+    if mode <= 2 && kind <= 6 {
+        copier::copy(out, at, &[21, operator])
+    } else {
+        at
     }
-    if 6 < kind {
-        return at;
-    }
-    copier::copy(out, at, &[21, operator])
 }
 
 // Writes all that stands before a token's record, and returns the place after it.
@@ -54,7 +43,9 @@ pub(crate) fn open(
     ensures value { result ≡ at + length (open_bytes mode kind ors ands operator) }
     ensures out_after { out.new ≡ sets out.old at (open_bytes mode kind ors ands operator) }
 {
-    let p = many(out, at, 20, when(mode == 0, ors));
-    let q = many(out, p, 19, when(mode <= 1, ands));
+    let ors = if mode == 0 { ors } else { 0 };
+    let ands = if mode <= 1 { ands } else { 0 };
+    let p = many(out, at, 20, ors);
+    let q = many(out, p, 19, ands);
     compare(out, q, mode, kind, operator)
 }

@@ -8,44 +8,33 @@ ghost use Rattle.elaborate.specs.Tables.{Holds};
 
 use crate::{ahead, lookups};
 
-// A symbol's relation and variable, or its relation alone, or no symbol.
+// A symbol: its relation, and its variable where that is in reach.
 #[derive(Clone, Copy)]
-pub enum Known {
-    Variable(u8, u8),
-    Head(u8),
-    Nothing,
-}
-
-fn relation(c: u64) -> u8
-    ensures { result ≡ relation_in c }
-{
-    (c / 4 % 256) as u8
-}
-
-fn variable(c: u64) -> u8
-    ensures { result ≡ variable_in c }
-{
-    (c / 1024 % 256) as u8
+pub struct Known {
+    pub relation: u8,
+    pub variable: Option<u8>,
 }
 
 // What an entry says: a symbol that was bound before the innermost aggregate's frame only names its relation.
-fn decoded(c: u64, crossing: usize) -> Known
+fn decoded(c: u64, crossing: usize) -> Option<Known>
     ensures { result ≡ standing crossing c }
 {
     if c % 4 == 0 {
-        return Known::Nothing;
+        return None;
     }
-    if c % 4 != 1 {
-        return Known::Head(relation(c));
+    let relation = (c / 4 % 256) as u8;
+    if c % 4 == 1 && crossing <= (c / 262144) as usize {
+        let variable = Some((c / 1024 % 256) as u8);
+        return Some(Known { relation, variable });
     }
-    if ((c / 262144) as usize) < crossing {
-        return Known::Head(relation(c));
-    }
-    Known::Variable(relation(c), variable(c))
+    Some(Known {
+        relation,
+        variable: None,
+    })
 }
 
 // What the name at x stands for.
-pub(crate) fn seek(lookup: &[u16], known: &[u64], crossing: usize, x: usize) -> Known
+pub(crate) fn seek(lookup: &[u16], known: &[u64], crossing: usize, x: usize) -> Option<Known>
     ensures { (w : ℕ → Word) (ρ : List Symbol) (d : ℕ) → Holds w (ids_in lookup.now) known.now d crossing ρ → result
         ≡ known_of (symbol_in (w x) ρ) }
 {

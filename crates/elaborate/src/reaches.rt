@@ -84,17 +84,6 @@ fn enter(
     }
 }
 
-// Past the RANGE list's own frame no name stands for anything.
-fn forget(known: &mut [u64])
-    ensures { (x : ℕ) → get_or known.new x 0 ≡ 0 }
-{
-    let mut i = 0;
-    while i < known.len() {
-        known[i] = 0;
-        i += 1;
-    }
-}
-
 // A frame less: what it kept is put back.
 fn leave(known: &mut [u64], frames: &[u64], r: Reach) -> Reach
     requires { (r.crossing < 8192) × ((y : ℕ) → get_or known.old y 0 < 68719476736) }
@@ -109,7 +98,8 @@ fn leave(known: &mut [u64], frames: &[u64], r: Reach) -> Reach
     }
     let c = ahead::entry(frames, depth - 1);
     if c % 4 == 0 {
-        forget(known);
+        // Past the RANGE list's own frame no name stands for anything.
+        known.fill(0);
         return Reach {
             depth: depth - 1,
             crossing: 0,
@@ -126,17 +116,14 @@ fn leave(known: &mut [u64], frames: &[u64], r: Reach) -> Reach
 fn opening(a: u8) -> bool
     ensures { result ≡ (eqb a 4 || (eqb a 6 || eqb a 7)) }
 {
-    if a == 4 {
-        return true;
-    }
-    if a == 6 { true } else { a == 7 }
+    matches!(a, 4 | 6 | 7)
 }
 
 // ) closes one.
 fn closing(a: u8) -> bool
     ensures { result ≡ (eqb a 8 || eqb a 9) }
 {
-    if a == 8 { true } else { a == 9 }
+    matches!(a, 8 | 9)
 }
 
 // The reaches after an action with this record at token i.

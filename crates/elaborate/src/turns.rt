@@ -14,7 +14,7 @@ ghost use Rattle.elaborate.specs.Opens.{open_bytes};
 ghost use Rattle.elaborate.specs.Frames.{Stack};
 ghost use Rattle.elaborate.specs.After.{Goes, Within};
 
-use crate::items::{Item, Scope};
+use crate::items::Scope;
 use crate::reaches::Reach;
 use crate::{ahead, items, modes, opens, reaches};
 use kinds::Record;
@@ -28,13 +28,6 @@ pub struct State {
     pub crossing: usize,
     pub n: usize,
     pub at: usize,
-}
-
-// The state after a turn, or a name that is unknown or out of reach.
-#[derive(Clone, Copy)]
-pub enum Next {
-    Go(State),
-    Refused,
 }
 
 // Writes what stands before a token's record and the record, and returns the place after it.
@@ -72,23 +65,20 @@ fn number(a: u8, n: usize) -> usize
     ensures value { result ≡ number_after a n }
     ensures upper_bound { result ≤ n + 1 }
 {
-    if a == 4 {
-        return n + 1;
+    match a {
+        4 | 6 => n + 1,
+        _ => n,
     }
-    if a == 6 { n + 1 } else { n }
 }
 
 // Whether a token writes nothing and changes no reach.
 fn quiet(mode: u8, a: u8) -> bool
     ensures { result ≡ (leb 3 mode && eqb a 0) }
 {
-    if mode < 3 {
-        return false;
-    }
-    a == 0
+    3 <= mode && a == 0
 }
 
-// A turn. What was counted for the tokens behind is asked for no more: open frames are kept there.
+// A turn: the state after it, unless a name is unknown or out of reach. What was counted for the tokens behind is asked for no more: open frames are kept there.
 pub(crate) fn turn(
     lookup: &[u16],
     numbers: &[u64],
@@ -97,7 +87,7 @@ pub(crate) fn turn(
     known: &mut [u64],
     out: &mut [u8],
     s: State,
-) -> Next
+) -> Option<State>
     requires i_bound { (s.i < 4000) × (s.i + 1 < length counts.old) × (s.mode ≤ 6) × (s.n < 8000) × (s.at + 8197 < 9223372036854775808) }
     requires depth_le_i { (s.depth ≤ s.i) × (s.crossing < 8192) × ((x : ℕ) → get_or (ids_in lookup.now) x 0 < 8192)
         × ((x : ℕ) → get_or (ids_in lookup.now) x 0 < length known.old) × ((y : ℕ) → get_or known.old y 0 < 68719476736)
@@ -117,25 +107,20 @@ pub(crate) fn turn(
     let a = modes::action(s.mode, kind, point);
     let mode = modes::next_mode(s.mode, kind, point);
     if quiet(s.mode, a) {
-        return Next::Go(State {
+        return Some(State {
             i: i + 1,
-            mode: mode,
-            depth: s.depth,
-            crossing: s.crossing,
-            n: s.n,
-            at: s.at,
+            mode,
+            ..s
         });
     }
     let scope = Scope {
-        i: i,
-        kind: kind,
+        i,
+        kind,
         action: a,
         crossing: s.crossing,
         n: s.n,
     };
-    let Item::Put(r) = items::item_at(lookup, numbers, list, known, scope) else {
-        return Next::Refused;
-    };
+    let r = items::item_at(lookup, numbers, list, known, scope)?;
     let at = write(out, s.at, s.mode, kind, counts, i, r);
     let held = Reach {
         depth: s.depth,
@@ -143,12 +128,12 @@ pub(crate) fn turn(
     };
     let reach = reaches::shift(lookup, known, counts, held, a, r, i);
     let n = number(a, s.n);
-    Next::Go(State {
+    Some(State {
         i: i + 1,
-        mode: mode,
+        mode,
         depth: reach.depth,
         crossing: reach.crossing,
-        n: n,
-        at: at,
+        n,
+        at,
     })
 }

@@ -1,6 +1,6 @@
 -- What a memo knows keeps its bounds, and is what was remembered last.
 use mathlib.Core.Path.{◌≡◌, refl, sym, ap, ap₂, ◌∙◌, subst}
-use mathlib.Core.Bool.{Bool, true, false, not, cond, ◌&&◌}
+use mathlib.Core.Bool.{Bool, true, false, cond}
 use mathlib.Core.List.{List, [], ◌∷◌}
 use Prim.Native.Nat.{ℕ, zero, suc, ◌+◌, ◌-◌, ◌*◌, ◌≤◌}
 use native.Mathlib.Omega.{arith}
@@ -13,26 +13,12 @@ use mir.Syntax.{w64}
 use mir.Val.{SFits}
 use Rattle.numbers.proofs.Signed.{fits64}
 use borrow.Author.Tests.{leb-true, le-ltb}
-use Rattle.model.proofs.Tests.{not_yes, not-no, and-inv, clash}
+use Rattle.model.proofs.Tests.{and-inv, clash}
 use Rattle.model.specs.Meaning as M
 use Rattle.numbers.specs.Numbers.{Small, fraction, value_of}
 use Rattle.numbers.specs.Memo.{within, knows, recalled, numerator_at, mark_at, numerator_of, mark_of}
 use Rattle.numbers.proofs.Laws.{small-over}
 use Rattle.numbers.specs.declared.Ratio.{Ratio}
-
-module _ (m : List ℤ) (v i : ℕ) (n : ℤ) (b : Bool) (ei : i ≡ 2 * v) (en : n ≡ get_or m i (pos 0)) (eb : b ≡ within (neg_ℤ (pos 140735340871680)) n (pos 140735340871680)) where
-  first : within (neg_ℤ (pos 140735340871680)) (numerator_at m v) (pos 140735340871680) ≡ b
-  first = sym (eb ∙ ap (λ (x : ℤ). within (neg_ℤ (pos 140735340871680)) x (pos 140735340871680)) (en ∙ ap (λ (j : ℕ). get_or m j (pos 0)) ei))
-
-  pub knows-no : not b ≡ true → false ≡ knows m v
-  unfolding knows
-  knows-no h = sym (ap (λ (x : Bool). x && within (pos 1) (mark_at m v) (pos 65536)) (first ∙ not_yes b h))
-
-  pub knows-yes : (d : ℤ) (c : Bool) → not b ≡ false → d ≡ get_or m (i + 1) (pos 0) → c ≡ within (pos 1) d (pos 65536) → c ≡ knows m v
-  unfolding knows
-  knows-yes d c h ed ec =
-      ec ∙ ap (λ (x : ℤ). within (pos 1) x (pos 65536)) (ed ∙ ap (λ (j : ℕ). get_or m (j + 1) (pos 0)) ei)
-      ∙ sym (ap (λ (x : Bool). x && within (pos 1) (mark_at m v) (pos 65536)) (first ∙ not-no b h))
 
 -- bounds on both sides bound the absolute value
 pub abs-within : (k : ℕ) (z : ℤ) → within (neg_ℤ (pos (suc k))) z (pos (suc k)) ≡ true → nat_abs z ≤ suc k

@@ -1,7 +1,7 @@
 // Exact values of terms, their comparison, and what an aggregate takes.
 #![tactic(auto)]
 
-ghost use Rattle.std.specs.Prelude.{◌≡◌, ℕ, ◌+◌, ◌*◌, ◌≤◌, ◌<◌, pos, nat_abs, ◌*ℤ◌, ◌+ℤ◌, get_or, true, ◌&&◌};
+ghost use Rattle.std.specs.Prelude.{◌≡◌, ℕ, ◌+◌, ◌*◌, ◌≤◌, ◌<◌, pos, nat_abs, ◌*ℤ◌, ◌+ℤ◌, get_or, true};
 ghost use Rattle.std.proofs.Math.Option.{some};
 ghost use Rattle.std.specs.Int.Signed.{le_z};
 ghost use Rattle.model.specs.Meaning as M;
@@ -32,13 +32,6 @@ pub const EMPTY: Accumulator = Accumulator {
     min: 0,
 };
 
-fn wide(x: i32) -> i64
-    ensures value { result ≡ x }
-    ensures result_bound { nat_abs result ≤ 2147483648 }
-{
-    x as i64
-}
-
 fn over(a: i64, b: i64) -> Ratio
     ensures { result ≡ record { numerator = a; denominator = b } }
 {
@@ -53,14 +46,7 @@ pub fn whole(x: i32) -> Ratio
     ensures result_value { N.value_of result ≡ some (M.whole x) }
     ensures small { N.Small result }
 {
-    over(wide(x), 1)
-}
-
-fn product(a: i64, b: i64) -> i64
-    requires { (nat_abs a ≤ 140735340871680) × (nat_abs b ≤ 65535) }
-    ensures { result ≡ a *ℤ b }
-{
-    a * b
+    over(i64::from(x), 1)
 }
 
 // Compares two numbers.
@@ -68,8 +54,8 @@ fn ordered(operator: usize, a: i64, b: i64) -> bool
     ensures { result ≡ N.ordered operator a b }
 {
     match operator {
-        1 => if a <= b { b <= a } else { false },
-        2 => if a <= b { !(b <= a) } else { true },
+        1 => a == b,
+        2 => a != b,
         3 => a < b,
         4 => a <= b,
         5 => b < a,
@@ -90,32 +76,19 @@ pub fn compared(operator: usize, x: Ratio, y: Ratio) -> bool
     if e <= 0 {
         return false;
     }
-    ordered(operator, product(x.numerator, e), product(y.numerator, d))
-}
-
-fn plus(a: i64, b: i64) -> i64
-    requires { nat_abs a + nat_abs b ≤ 281474976710656 }
-    ensures { result ≡ a +ℤ b }
-{
-    a + b
+    ordered(operator, x.numerator * e, y.numerator * d)
 }
 
 fn larger(count: u64, a: i64, b: i64) -> i64
     ensures { result ≡ N.larger count a b }
 {
-    if count == 0 {
-        return b;
-    }
-    if a < b { b } else { a }
+    if count == 0 { b } else { a.max(b) }
 }
 
 fn smaller(count: u64, a: i64, b: i64) -> i64
     ensures { result ≡ N.smaller count a b }
 {
-    if count == 0 {
-        return b;
-    }
-    if b < a { b } else { a }
+    if count == 0 { b } else { a.min(b) }
 }
 
 // One value more.
@@ -124,23 +97,13 @@ pub fn add(a: Accumulator, x: i32) -> Accumulator
     ensures value { result ≡ N.added a x }
     ensures bounded { N.Bounded result }
 {
-    let value = wide(x);
-    let sum = plus(a.sum, value);
-    let max = larger(a.count, a.max, value);
-    let min = smaller(a.count, a.min, value);
+    let value = i64::from(x);
     Accumulator {
         count: a.count + 1,
-        sum,
-        max,
-        min,
+        sum: a.sum + value,
+        max: larger(a.count, a.max, value),
+        min: smaller(a.count, a.min, value),
     }
-}
-
-fn counted(n: u64) -> i64
-    requires { n ≤ 65535 }
-    ensures { result ≡ pos n }
-{
-    n as i64
 }
 
 // The best of so many values; of none, nothing.
@@ -161,16 +124,12 @@ pub fn finish(function: u8, a: Accumulator) -> Ratio
     ensures result_value { N.value_of result ≡ N.finished function a }
     ensures small { N.Small result }
 {
-    let n = a.count;
-    let sum = a.sum;
-    let max = a.max;
-    let min = a.min;
     match function {
-        1 => over(counted(n), 1),
-        2 => over(sum, 1),
-        3 => over(sum, counted(n)),
-        4 => best(n, max),
-        _ => best(n, min),
+        1 => over(a.count as i64, 1),
+        2 => over(a.sum, 1),
+        3 => over(a.sum, a.count as i64),
+        4 => best(a.count, a.max),
+        _ => best(a.count, a.min),
     }
 }
 
@@ -178,7 +137,7 @@ pub fn finish(function: u8, a: Accumulator) -> Ratio
 fn at(memo: &[i64], i: usize) -> i64
     ensures { result ≡ get_or memo.now i (pos 0) }
 {
-    if i < memo.len() { memo[i] } else { 0 }
+    memo.get(i).copied().unwrap_or(0)
 }
 
 // Where a variable's numerator stands; its denominator, raised by one, follows: 0 there says that nothing is kept, 1 that the value is nothing.
@@ -186,14 +145,7 @@ fn place(variable: u8) -> usize
     ensures value { result ≡ 2 * variable }
     ensures upper_bound { result ≤ 510 }
 {
-    2 * (variable as usize)
-}
-
-// Whether x lies between two numbers.
-fn within(low: i64, x: i64, high: i64) -> bool
-    ensures { result ≡ le_z low x && le_z x high }
-{
-    if low <= x { x <= high } else { false }
+    2 * usize::from(variable)
 }
 
 // Whether the memo has a value for the variable.
@@ -201,10 +153,8 @@ pub fn knows(memo: &[i64], variable: u8) -> bool
     ensures { result ≡ Memo.knows memo.now variable }
 {
     let i = place(variable);
-    if !within(-140735340871680, at(memo, i), 140735340871680) {
-        return false;
-    }
-    within(1, at(memo, i + 1), 65536)
+    (-140735340871680..=140735340871680).contains(&at(memo, i))
+        && (1..=65536).contains(&at(memo, i + 1))
 }
 
 // The value that the memo has.

@@ -50,13 +50,13 @@ module _ (m : List ℤ) (l l' : List ℕ) (i v a : ℕ) (el : l' ≡ set (set l 
     pub put-attribute : (w b : ℕ) → w < 256 → r ≡ T.Attribute w b → v ≡ w → a ≡ b → (z : List ℕ) (R : Rows) (e : Assignment) → value_by m (decode_t n q z) R e ≡ value_in m l' i e
     unfolding signed
     put-attribute w b g h ev ea z R e =
-        attribute-means m q n r nz er (record { known = true; variable = w; attribute = b; low = 0; high = 0 }) w b g h refl z refl R e
+        attribute-means m q n r nz er (record { variable = w; attribute = b; low = 0; high = 0 }) w b g h refl z R e
         ∙ ap₂ (λ (x y : ℕ). operand m x y (pos 0) e) (sym ev) (sym ea) ∙ put-value room e
 
     pub put-aggregate : (f w s b u : ℕ) (k : Bool) → w < 256 → r ≡ T.Aggregate f w s b → k ≡ knows m w → not k ≡ false → u ≡ w → v ≡ u + 256 → a ≡ 0 → (z : List ℕ) (R : Rows) (e : Assignment) → value_by m (decode_t n q z) R e ≡ value_in m l' i e
     unfolding signed
     put-aggregate f w s b u k g h ek hk eu ev ea z R e =
-        aggregate-means m q n r nz er (record { known = true; variable = u + 256; attribute = 0; low = 0; high = 0 }) f w s b h (recalled-means m w u k (record { known = true; variable = u + 256; attribute = 0; low = 0; high = 0 }) ek hk eu g refl) z refl R e
+        aggregate-means m q n r nz er (record { variable = u + 256; attribute = 0; low = 0; high = 0 }) f w s b h (recalled-means m w u k (record { variable = u + 256; attribute = 0; low = 0; high = 0 }) ek hk eu g refl) z R e
         ∙ ap₂ (λ (x y : ℕ). operand m x y (pos 0) e) (sym ev) (sym ea) ∙ put-value room e
 
 -- the targets listed one after the other

@@ -2,27 +2,22 @@
 use mathlib.Core.Path.{◌≡◌, refl, sym, ap, ap₂, ◌∙◌, subst}
 use mathlib.Core.Bool.{Bool, true, false, cond, ◌&&◌, ◌||◌}
 use mathlib.Core.List.{List, [], ◌∷◌, ◌++◌, map, map-append, append-nil}
-use Prim.Native.Nat.{ℕ, suc, ◌+◌, ◌-◌, ◌*◌, ◌/◌, ◌%◌, ◌≤◌, ◌<◌}
+use Prim.Native.Nat.{ℕ, suc, ◌+◌, ◌-◌, ◌/◌, ◌%◌, ◌≤◌, ◌<◌}
 use native.Mathlib.Omega.{arith}
 use lib.Dec.{eqb, ltb}
 use lib.IntN.{ℤ}
-use lib.ListN.{length, get_or, set, take, drop, length-set, length-append, get_or-append}
+use lib.ListN.{length, get_or, set, length-set, length-append, get_or-append}
 use lib.Seq.{get_or-set_same, get_or-set_other, get_or-append_seam}
 use borrow.Author.Tests.{eqb-true, eqb-false, ltb-true, ltb-false, eq-eqb, ne_eqb}
 use Rattle.model.specs.Lists.{any, cons_if, filter, below}
 use Rattle.model.proofs.Lists.{filter-append, filter_map}
 use Rattle.catalogue.specs.Layout.{rows_of, latest_of}
-use Rattle.copier.specs.Guard.{part, picked}
+use Rattle.copier.specs.Guard.{picked}
 use Rattle.permitted.specs.Marked.{Bits, Marked}
 use Rattle.permitted.specs.Meets.{meets_bytes, row_of}
 use Rattle.permitted.proofs.judges.Steps.{marked-same, marked-then, marked-nothing}
 use Rattle.permitted.specs.Given.{meets_any, number_at, numbers_for, Listed}
 use Rattle.permitted.proofs.Marks.{filter-below}
-
--- the bytes of a permit's condition
-pub part-is : (list places : List ℕ) (k p n : ℕ) (rest y : List ℕ) → p ≡ get_or places (2 * k) 0 → rest ≡ drop p list → n ≡ get_or places (2 * k + 1) 0 → y ≡ take n rest → y ≡ part list places k
-unfolding part
-part-is list places k p n rest y ep er en ey = ey ∙ rw (er, en, ep)
 
 module _ (cb : List ℕ) (vs : List ℤ) (f : ℕ → List ℕ) (r : ℕ) where
   -- what permit k adds, and what those from k on add

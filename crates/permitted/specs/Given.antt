@@ -40,6 +40,11 @@ key_of r m = 256 * r + m
 abbrev pub entered : List ℕ → ℕ → Walk → ℕ → List ℕ
 entered ws v x key = set (written ws v x) (8 * v + 5) key
 
+-- a list of so many rows fits the table from a place on
+pub record Room (rows next : ℕ) (ws : List ℕ) : Type 0 where
+  pub list : next + rows ≤ length ws
+  pub table : length ws ≤ 65535
+
 -- variable v has these rows; its list, if it has one, stands below `next`
 pub record Has (ws : List ℕ) (vs : List ℤ) (next v : ℕ) (xs : List Tuple) : Type 0 where
   pub rows : walked ws vs v ≡ xs

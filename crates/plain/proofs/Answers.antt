@@ -40,7 +40,7 @@ use Rattle.odometer.specs.declared.Plan.{Plan}
 use Rattle.odometer.specs.Plan.{Bounds, rows_from}
 use Rattle.odometer.proofs.Staged.{rows-planned}
 use Rattle.sizes.specs.Decode.{decode}
-use Rattle.sizes.specs.Parts.{ranges_at}
+use Rattle.sizes.specs.Parts.{ranges_at, targets_at}
 use Rattle.conjuncts.specs.Stages.{Planned}
 use Rattle.model.proofs.Tests.{or_no}
 use Rattle.queries.proofs.Numbers.{condition-room}
@@ -61,34 +61,36 @@ unfolding rows_met qualifying
 wide_rows u R = rows-wide u R
 
 -- its plan is in bounds
-pub bounded : (y : Layout) (l f n : ℕ) (q z cb : List ℕ) (p : Plan) → Answerable y l q z cb → 768 ≤ f → f + 16 ≤ n → p ≡ plan_of y l f → Bounds p n
-bounded y l f n q z cb p ok b r e = subst (λ (k : Plan). Bounds k n) (sym e) (record { columns = ok.columns; ranges = omega (arith, ok.ranges); branches = b; room = r })
+pub bounded : (y : Layout) (l f n : ℕ) (p : Plan) → y.targets ≤ 8 → y.ranges ≤ 4 → 768 ≤ f → f + 16 ≤ n → p ≡ plan_of y l f → Bounds p n
+bounded y l f n p columns ranges b r e = subst (λ (k : Plan). Bounds k n) (sym e) (record { columns = columns; ranges = omega (arith, ranges); branches = b; room = r })
 
-module _ (y : Layout) (l f : ℕ) (q z cb ws : List ℕ) (vs m : List ℤ) (e : List ℕ) (ok : Answerable y l q z cb) (h : Trusted m (rows_by ws vs) (query_at y l q z)) (b : Unbound vs e) where
+length-targets : (n l : ℕ) (q z : List ℕ) → length (targets_at n l q z) ≡ n
+unfolding targets_at
+length-targets zero l q z = refl
+length-targets (suc n) l q z = ap suc (length-targets n l _ _)
+
+module _ (y : Layout) (l f : ℕ) (q z ws : List ℕ) (vs m : List ℤ) (e : List ℕ) (h : Trusted m (rows_by ws vs) (query_at y l q z)) (b : Unbound vs e) where
   module _ (t : List ℕ) (w : Planned t q z ws vs m (decode l (drop y.condition q) (drop y.condition z)) (ranges_at y.ranges q)) where
-    as-query : rows_from (plan_of y l f) t q z ws vs m (assigned vs e) ≡ rows_before (query_of q) (rows_by ws vs)
+    as-query : rows_from (plan_of y l f) t q z ws vs m (assigned vs e) ≡ rows_before (query_at y l q z) (rows_by ws vs)
     as-query =
         let u = query_at y l q z in
         let R = rows_by ws vs in
         rows-planned (plan_of y l f) t q z ws vs m u.condition refl w (assigned vs e)
         ∙ ap₂ (λ (f : Assignment → Option (List ℤ)) (g : Assignment → Bool). present (map f (filter g (assignments u.ranges R (assigned vs e))))) (fun_ext h.targets) (fun_ext h.condition)
         ∙ ap (λ (e : Assignment). present (map (target_row u.targets R) (filter (holds u.condition R) (assignments u.ranges R e)))) b.none
-        ∙ ap (λ (u : Query). rows_before u R) ok.ready
-
-    columns-are : y.targets ≡ length (query_of q).targets
-    unfolding layout
-    columns-are = ap (λ (x : Layout). x.targets) ok.laid.place
 
     pub answered : (p : Plan) (s : Filled) (r : Reply) (cells after : List ℤ) → p ≡ plan_of y l f
         → record { rows = s.rows; full = s.full; cells = after } ≡ added_all (start cells) (rows_from p t q z ws vs m (assigned vs e))
-        → r ≡ reply_of y.targets s → answer_of r after ≡ give (length (query_of q).targets) (answers (query_of q) (rows_by ws vs)) cells
+        → r ≡ reply_of y.targets s → answer_of r after ≡ give (length (query_at y l q z).targets) (answers (query_at y l q z) (rows_by ws vs)) cells
     answered p s r cells after ep eb er =
+        let u = query_at y l q z in
         let R = rows_by ws vs in
-        let w = length (query_of q).targets in
+        let w = length u.targets in
+        let columns-are : y.targets ≡ w = sym (length-targets y.targets l _ _) in
         ap (λ (x : Reply). answer_of x after) (er ∙ ap (λ k. reply_of k s) columns-are)
         ∙ ap (λ (b : Buffer). record { number = cond b.full 41 0; rows = b.rows; columns = w; cells = b.cells }) (eb ∙ ap (λ (i : Plan). added_all (start cells) (rows_from i t q z ws vs m (assigned vs e))) ep ∙ ap (added_all (start cells)) as-query)
-        ∙ sym (given w (rows_before (query_of q) R) cells (wide_rows (query_of q) R))
-        ∙ ap (λ (xs : List (List ℤ)). give w xs cells) (sym (answers-are (query_of q) R))
+        ∙ sym (given w (rows_before u R) cells (wide_rows u R))
+        ∙ ap (λ (xs : List (List ℤ)). give w xs cells) (sym (answers-are u R))
 
 -- each variable that a query binds is below the limit
 bound-low : (sh : Shape) (k : ℕ) (u : Query) → Scoped sh k u → Every (Below k) (bindings_q u)

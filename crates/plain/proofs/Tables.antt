@@ -2,14 +2,13 @@
 use mathlib.Core.Path.{◌≡◌, refl, sym, ap, ◌∙◌, subst}
 use mathlib.Core.Bool.{Bool, true, false}
 use mathlib.Core.List.{List, ◌++◌}
-use Prim.Native.Nat.{ℕ, ◌+◌, ◌-◌, ◌≤◌}
+use Prim.Native.Nat.{ℕ, ◌+◌, ◌-◌}
 use native.Mathlib.Omega.{arith}
 use lib.Dec.{ltb}
 use lib.IntN.{ℤ}
-use lib.ListN.{length, get_or, take, drop, replicate, length-replicate, length-take, length-drop, get_or-eq_default}
+use lib.ListN.{length, get_or, take, drop, length-take, length-drop, get_or-eq_default}
 use lib.Seq.{get_or-take, get_or-drop, take_at, drop_at, drop-drop}
 use borrow.Author.Tests.{ltb-true, ltb-false}
-use Rattle.model.proofs.Lists.{get_or-same}
 use Rattle.grammar.specs.declared.Layout.{Layout}
 use Rattle.sizes.specs.Decode.{decode}
 use Rattle.sizes.specs.Parts.{ranges_at}
@@ -22,12 +21,6 @@ use Rattle.odometer.specs.declared.Plan.{Plan}
 use Rattle.odometer.specs.Plan.{table_in}
 use Rattle.plain.specs.Reply.{plan_of, Cleared, Furnished}
 
--- a table of zeros
-pub all-clear : (n f : ℕ) → 768 ≤ f → f + 16 ≤ n → n ≤ f + 65551 → Cleared f (replicate n 0)
-all-clear n f b r t =
-    let e = length-replicate {A = ℕ} n 0 in
-    record { branches = b; room = omega (arith, e); rows = omega (arith, e); clear = get_or-same {A = ℕ} n 0 }
-
 -- a part of it is cleared too
 pub part-clear : (a k : ℕ) (w : List ℕ) → ((i : ℕ) → get_or w i 0 ≡ 0) → (i : ℕ) → get_or (take k (drop a w)) i 0 ≡ 0
 part-clear a k w z i = go (ltb i k) refl
@@ -37,34 +30,30 @@ part-clear a k w z i = go (ltb i k) refl
     go false e = get_or-eq_default (take k (drop a w)) 0 (omega (arith, length-take k (drop a w), ltb-false i k e))
 
 module _ (y : Layout) (l f : ℕ) (q z ws : List ℕ) (vs m : List ℤ) (w : List ℕ) (clear : Cleared f w) where
-  -- branches made in the table, and no chains
-  pub furnished : (code after : List ℕ) → f ≡ 768 → length code ≡ 768 → after ≡ code ++ drop 768 w
-      → Planned code q z ws vs m (decode l (drop y.condition q) (drop y.condition z)) (ranges_at y.ranges q) → Furnished y l f q z ws vs m w after
-  furnished code after ef n e p =
-      let here : take 768 after ≡ code = ap (take 768) e ∙ take_at code (drop 768 w) 768 n in
-      let none : f - 768 ≡ 0 = omega arith in
-      record {
-        planned = subst (λ (t : List ℕ). Planned t q z ws vs m (decode l (drop y.condition q) (drop y.condition z)) (ranges_at y.ranges q)) (sym here) p;
-        faithful = (nothing _ ws vs _ (λ i. ap (λ (k : ℕ). get_or (take k (drop 768 after)) i 0) none)).faithful;
-        rest = ap (λ (k : ℕ). drop k after) ef ∙ ap (drop 768) e ∙ drop_at code (drop 768 w) 768 n ∙ ap (λ (k : ℕ). drop k w) (sym ef);
-      }
+  -- branches at its start, and behind them chains that serve them
+  module _ (code behind : List ℕ) (n : length code ≡ 768) (p : Planned code q z ws vs m (decode l (drop y.condition q) (drop y.condition z)) (ranges_at y.ranges q)) where
+    furnished : Faithful code ws vs (take (f - 768) behind) → drop (f - 768) behind ≡ drop (f - 768) (drop 768 w) → Furnished y l f q z ws vs m w (code ++ behind)
+    furnished s e =
+        let here : take 768 (code ++ behind) ≡ code = take_at code behind 768 n in
+        let there : drop 768 (code ++ behind) ≡ behind = drop_at code behind 768 n in
+        let low = clear.branches in
+        let whole : 768 + (f - 768) ≡ f = omega arith in
+        let joined : (t : List ℕ) → drop (f - 768) (drop 768 t) ≡ drop f t = λ t. drop-drop (f - 768) 768 t ∙ ap (λ (k : ℕ). drop k t) whole in
+        record {
+          planned = subst (λ (t : List ℕ). Planned t q z ws vs m (decode l (drop y.condition q) (drop y.condition z)) (ranges_at y.ranges q)) (sym here) p;
+          faithful = subst (λ (t : List ℕ). Faithful t ws vs (take (f - 768) (drop 768 (code ++ behind)))) (sym here) (subst (λ (t : List ℕ). Faithful code ws vs (take (f - 768) t)) (sym there) s);
+          rest = sym (joined (code ++ behind)) ∙ ap (drop (f - 768)) there ∙ e ∙ joined w;
+        }
 
-  -- branches made beside it, chains in it, and the branches copied to its start
-  pub furnished-linked : (code chains between after : List ℕ) → length code ≡ 768 → length chains ≡ f - 768 → drop 768 between ≡ chains ++ drop (f - 768) (drop 768 w) → after ≡ code ++ drop 768 between
-      → Planned code q z ws vs m (decode l (drop y.condition q) (drop y.condition z)) (ranges_at y.ranges q) → Faithful code ws vs chains → Furnished y l f q z ws vs m w after
-  furnished-linked code chains between after n k eb e p s =
-      let here : take 768 after ≡ code = ap (take 768) e ∙ take_at code (drop 768 between) 768 n in
-      let behind : drop 768 after ≡ chains ++ drop (f - 768) (drop 768 w) = ap (drop 768) e ∙ drop_at code (drop 768 between) 768 n ∙ eb in
-      let linked : take (f - 768) (drop 768 after) ≡ chains = ap (take (f - 768)) behind ∙ take_at chains (drop (f - 768) (drop 768 w)) (f - 768) k in
-      let low = clear.branches in
-      let whole : 768 + (f - 768) ≡ f = omega arith in
-      record {
-        planned = subst (λ (t : List ℕ). Planned t q z ws vs m (decode l (drop y.condition q) (drop y.condition z)) (ranges_at y.ranges q)) (sym here) p;
-        faithful = subst (λ (t : List ℕ). Faithful t ws vs (take (f - 768) (drop 768 after))) (sym here) (subst (Faithful code ws vs) (sym linked) s);
-        rest =
-            ap (λ (i : ℕ). drop i after) (sym whole) ∙ sym (drop-drop (f - 768) 768 after) ∙ ap (drop (f - 768)) behind
-            ∙ drop_at chains (drop (f - 768) (drop 768 w)) (f - 768) k ∙ drop-drop (f - 768) 768 w ∙ ap (λ (i : ℕ). drop i w) whole;
-      }
+    pub furnished-alone : behind ≡ drop 768 w → Furnished y l f q z ws vs m w (code ++ behind)
+    furnished-alone e =
+        furnished (subst (λ (t : List ℕ). Faithful code ws vs (take (f - 768) t)) (sym e) (nothing code ws vs _ (part-clear 768 (f - 768) w clear.clear)).faithful) (ap (drop (f - 768)) e)
+
+  pub furnished-linked : (code back chains : List ℕ) → length code ≡ 768 → Planned code q z ws vs m (decode l (drop y.condition q) (drop y.condition z)) (ranges_at y.ranges q)
+      → back ≡ drop 768 w → length chains ≡ f - 768 → Faithful code ws vs chains → Furnished y l f q z ws vs m w (code ++ (chains ++ drop (f - 768) back))
+  furnished-linked code back chains n p e k s =
+      let r : List ℕ = drop (f - 768) back in
+      furnished code (chains ++ r) n p (subst (Faithful code ws vs) (sym (take_at chains r (f - 768) k)) s) (drop_at chains r (f - 768) k ∙ ap (drop (f - 768)) e)
 
   -- the answer's rows have room, and none is there
   pub no_rows : (p : Plan) (columns : ℕ) (cells : List ℤ) (after : List ℕ) → p ≡ plan_of y l f → Furnished y l f q z ws vs m w after → Linked columns 0 cells (table_in p after)

@@ -87,7 +87,7 @@ fn enter(symbols: &mut [u64; 160], made: &mut [u8; 1024], to: usize, x: u64, rel
     made[to + 1] = lexis::low(next);
     made[to + 2] = relation;
     let level = symbols[symbols::LEVEL];
-    symbols::bind(symbols, k, x, lexis::wide(relation), next, level);
+    symbols::bind(symbols, k, x, u64::from(relation), next, level);
     symbols[symbols::COUNT] = (k + 1) as u64;
     symbols[symbols::NEXT] = next + 1;
 }
@@ -111,13 +111,12 @@ fn opened(
     if 30 <= symbols[symbols::COUNT] {
         return false;
     }
-    if symbols::find(symbols, x) < symbols::MOST {
+    if symbols::find(symbols, x).is_some() {
         return false;
     }
-    let q = index::relation_at(list, names, r);
-    if list.len() <= q {
+    let Some(q) = index::relation_at(list, names, r) else {
         return false;
-    }
+    };
     if 199 < symbols[symbols::NEXT] {
         return false;
     }
@@ -207,11 +206,7 @@ fn insert(made: &mut [u8; 1024], from: usize, to: usize, b: u8)
     ensures made_len { length made.new ≡ 1024 }
     ensures made_after { take (to + 1) made.new ≡ take from made.old ++ (b ∷ drop from (take to made.old)) }
 {
-    let mut i = to;
-    while from < i {
-        made[i] = made[i - 1];
-        i -= 1;
-    }
+    made.copy_within(from..to, from + 1);
     made[from] = b;
 }
 

@@ -29,10 +29,10 @@ fn bound(text: &[u8; 256], symbols: &mut [u64; 160], s: Pass, relation: u8) -> P
             return LOST;
         }
         let code = x.value;
-        if symbols::find(symbols, code) < symbols::MOST {
+        if symbols::find(symbols, code).is_some() {
             return LOST;
         }
-        symbols::bind(symbols, n, code, lexis::wide(relation), n as u64, 0);
+        symbols::bind(symbols, n, code, u64::from(relation), n as u64, 0);
         n += 1;
         at = lexis::past(text, end, 44);
         if at == 0 {
@@ -61,10 +61,9 @@ fn range(
     if end == 0 {
         return LOST;
     }
-    let q = index::relation_at(list, names, r.value);
-    if list.len() <= q {
+    let Some(q) = index::relation_at(list, names, r.value) else {
         return LOST;
-    }
+    };
     let at = lexis::past(text, end, 40);
     if at == 0 {
         return LOST;

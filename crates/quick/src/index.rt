@@ -1,5 +1,5 @@
 // The name list by the codes of its names, in a table (specs/Index), so that a look-up compares numbers.
-ghost use Rattle.std.specs.Prelude.{◌≡◌, true, false, ◌&&◌, [], ℕ, ◌+◌, ◌-◌, ◌≤◌, ◌<◌, eqb, length, get_or, drop};
+ghost use Rattle.std.specs.Prelude.{◌≡◌, true, false, ◌&&◌, [], ℕ, ◌+◌, ◌-◌, ◌≤◌, ◌<◌, eqb, length, get_or, drop, IfSome, MatchOption};
 ghost use Rattle.model.specs.Lists.{all};
 ghost use Rattle.quel.specs.Results.{ok, Word};
 ghost use Rattle.quel.specs.Tokens.{reserved};
@@ -18,47 +18,42 @@ fn spaces(name: &[u8], n: usize) -> bool
     requires { length name.now ≡ 12 }
     ensures { result ≡ all (λ b. eqb b 32) (drop n name.now) }
 {
-    let mut i = 0;
-    while i < 12 {
+    for i in 0..12 {
         if i < n {
-            i += 1;
             continue;
         }
         if name[i] != 32 {
             return false;
         }
-        i += 1;
     }
     true
 }
 
 // The code of the n letters in front, if there are some and nothing but spaces after them.
-fn padded(name: &[u8], n: usize, code: u64) -> u64
+fn padded(name: &[u8], n: usize, code: u64) -> Option<u64>
     requires { length name.now ≡ 12 }
-    ensures { result ≡ padded_code n code name.now }
+    ensures { MatchOption result (0 ≡ padded_code n code name.now) (λ c. (c ≡ code) × (c ≡ padded_code n code name.now)) }
 {
     if n == 0 {
-        return 0;
+        return None;
     }
-    if spaces(name, n) { code } else { 0 }
+    if spaces(name, n) { Some(code) } else { None }
 }
 
 // Twelve letters stay below 2^58, so that no letter asks whether there is room.
-fn spelled(name: &[u8]) -> u64
+fn spelled(name: &[u8]) -> Option<u64>
     requires { length name.now ≡ 12 }
-    ensures { result ≡ letter_code name.now }
+    ensures { MatchOption result (0 ≡ letter_code name.now) (λ c. (1 ≤ c) × (c ≡ letter_code name.now)) }
 {
-    let mut i = 0;
     let mut code = 1;
-    while i < 12 {
-        let b = lexis::wide(name[i]);
+    for i in 0..12 {
+        let b = u64::from(name[i]);
         if !lexis::is_letter(b) {
             return padded(name, i, code);
         }
         code = 26 * code + (b - 65);
-        i += 1;
     }
-    code
+    Some(code)
 }
 
 // Whether a code is that of no reserved word. Most names spell more than RANGE, and of these only RETRIEVE is one.
@@ -71,28 +66,27 @@ fn is_free(code: u64) -> bool
     lexis::word_kind(code) == 0
 }
 
-// The code of the good name that ends at a place: 1 to 12 capitals, then spaces; not reserved. 0 where none stands there.
-fn code_before(list: &[u8], end: usize) -> u64
+// The code of the good name that ends at a place: 1 to 12 capitals, then spaces; not reserved.
+fn code_before(list: &[u8], end: usize) -> Option<u64>
     requires { 12 ≤ end }
-    ensures { result ≡ good_code list.now (end - 12) }
+    ensures { IfSome result (λ c. (1 ≤ c) × (c ≡ good_code list.now (end - 12))) }
 {
     if list.len() < end {
-        return 0;
+        return None;
     }
-    let code = spelled(&list[end - 12..end]);
-    if is_free(code) { code } else { 0 }
+    let code = spelled(&list[end - 12..end])?;
+    if is_free(code) { Some(code) } else { None }
 }
 
-// How many bytes a record has, 0 where there is no such kind.
-fn size(kind: u8) -> usize
-    ensures le_kind { 1 ≤ result → (80 ≤ kind) × (kind ≤ 82) × (result ≡ width_of kind) }
-    ensures lower_bound { (1 ≤ result → 14 ≤ result) × (result ≤ 17) }
+// How many bytes a record of a kind has.
+fn size(kind: u8) -> Option<usize>
+    ensures { IfSome result (λ k. (80 ≤ kind) × (kind ≤ 82) × (k ≡ width_of kind) × (14 ≤ k) × (k ≤ 17)) }
 {
     match kind {
-        80 => 14,
-        81 => 15,
-        82 => 17,
-        _ => 0,
+        80 => Some(14),
+        81 => Some(15),
+        82 => Some(17),
+        _ => None,
     }
 }
 
@@ -101,13 +95,7 @@ fn like(list: &[u8], at: usize, kind: u8, relation: u8) -> bool
     requires { at + 14 ≤ length list.now }
     ensures { result ≡ is_like list.now at kind relation }
 {
-    if list[at] != kind {
-        return false;
-    }
-    if kind != 81 {
-        return true;
-    }
-    list[at + 1] == relation
+    list[at] == kind && (kind != 81 || list[at + 1] == relation)
 }
 
 // Whether the record of a slot has the name with the code, the kind and the relation.
@@ -116,27 +104,24 @@ fn named(list: &[u8], names: &[u64; 256], slot: usize, kind: u8, relation: u8, c
     ensures { result ≡ (eqb (get_or names.now slot 0) code
         && is_like list.now (get_or names.now (64 + slot) 0) kind relation) }
 {
-    if names[slot] != code {
-        return false;
-    }
-    like(list, names[64 + slot] as usize, kind, relation)
+    names[slot] == code && like(list, names[64 + slot] as usize, kind, relation)
 }
 
-// The place of the record with a name, or the end of the list.
-fn look(list: &[u8], names: &[u64; 256], kind: u8, relation: u8, code: u64) -> usize
+// The place of the record with a name.
+fn look(list: &[u8], names: &[u64; 256], kind: u8, relation: u8, code: u64) -> Option<usize>
     requires { Begun list.now names.now }
-    ensures result_in_bounds { result < length list.now → result + 14 ≤ length list.now }
+    ensures result_in_bounds { IfSome result (λ r. r + 14 ≤ length list.now) }
     ensures by_index { (at n : ℕ) → Filled list.now names.now at n → (w : Word) → Spelt w code
-        → Sought list.now names.now n kind relation w result }
+        → MatchOption result (Sought list.now names.now n kind relation w (length list.now)) (Sought list.now names.now n kind relation w) }
 {
     let mut slot = names[192 + (code % 64) as usize] as usize;
     while 0 < slot {
         if named(list, names, slot, kind, relation, code) {
-            return names[64 + slot] as usize;
+            return Some(names[64 + slot] as usize);
         }
         slot = names[128 + slot] as usize;
     }
-    list.len()
+    None
 }
 
 // A record more, in a slot: it is the last of its bucket.
@@ -161,19 +146,17 @@ pub(crate) fn listed(list: &[u8], names: &mut [u64; 256]) -> bool
     let mut n = 0;
     while at < list.len() {
         let kind = list[at];
-        let k = size(kind);
-        if k == 0 {
+        let Some(k) = size(kind) else {
             return false;
-        }
+        };
         if 62 < n {
             return false;
         }
         let end = at + k;
-        let code = code_before(list, end);
-        if code == 0 {
+        let Some(code) = code_before(list, end) else {
             return false;
-        }
-        if look(list, names, kind, list[at + 1], code) < list.len() {
+        };
+        if look(list, names, kind, list[at + 1], code).is_some() {
             return false;
         }
         n += 1;
@@ -184,31 +167,33 @@ pub(crate) fn listed(list: &[u8], names: &mut [u64; 256]) -> bool
 }
 
 // The place of a relation's record; its number stands there after the kind.
-pub(crate) fn relation_at(list: &[u8], names: &[u64; 256], code: u64) -> usize
+pub(crate) fn relation_at(list: &[u8], names: &[u64; 256], code: u64) -> Option<usize>
     requires { Indexed list.now names.now }
-    ensures result_in_bounds { result < length list.now → result + 14 ≤ length list.now }
-    ensures told { (w : Word) → Spelt w code
-        → Told list.now w result (relation_named (entries list.now) w) (get_or list.now (result + 1) 0) }
+    ensures { IfSome result (λ r. (r + 14 ≤ length list.now) × ((w : Word) → Spelt w code
+        → Told list.now w r (relation_named (entries list.now) w) (get_or list.now (r + 1) 0))) }
 {
     look(list, names, 80, 0, code)
 }
 
 // The place of the record of a relation's attribute; its number stands there after the relation.
-pub(crate) fn attribute_at(list: &[u8], names: &[u64; 256], relation: u8, code: u64) -> usize
+pub(crate) fn attribute_at(
+    list: &[u8],
+    names: &[u64; 256],
+    relation: u8,
+    code: u64,
+) -> Option<usize>
     requires { Indexed list.now names.now }
-    ensures result_in_bounds { result < length list.now → result + 14 ≤ length list.now }
-    ensures told { (w : Word) → Spelt w code
-        → Told list.now w result (attribute_named (entries list.now) relation w) (get_or list.now (result + 2) 0) }
+    ensures { IfSome result (λ r. (r + 14 ≤ length list.now) × ((w : Word) → Spelt w code
+        → Told list.now w r (attribute_named (entries list.now) relation w) (get_or list.now (r + 2) 0))) }
 {
     look(list, names, 81, relation, code)
 }
 
 // The place of a value's record; its four bytes stand there after the kind.
-pub(crate) fn value_at(list: &[u8], names: &[u64; 256], code: u64) -> usize
+pub(crate) fn value_at(list: &[u8], names: &[u64; 256], code: u64) -> Option<usize>
     requires { Indexed list.now names.now }
-    ensures result_in_bounds { result < length list.now → result + 14 ≤ length list.now }
-    ensures told { (w : Word) → Spelt w code
-        → Told list.now w result (value_named (entries list.now) w) (bytes_at list.now result) }
+    ensures { IfSome result (λ r. (r + 14 ≤ length list.now) × ((w : Word) → Spelt w code
+        → Told list.now w r (value_named (entries list.now) w) (bytes_at list.now r))) }
 {
     look(list, names, 82, 0, code)
 }

@@ -9,7 +9,7 @@ mod mend;
 mod symbols;
 mod terms;
 
-ghost use Rattle.std.specs.Prelude.{◌≡◌, List, [], ℕ, ◌≤◌, ◌<◌, get_or};
+ghost use Rattle.std.specs.Prelude.{◌≡◌, List, [], ℕ, ◌≤◌, ◌<◌, get_or, MatchOption};
 ghost use Rattle.std.proofs.Math.ListN as L;
 ghost use Rattle.quel.specs.Results.{Word};
 ghost use Rattle.quel.specs.Elaboration.{Symbol};
@@ -23,12 +23,6 @@ ghost use Rattle.quick.specs.Lexis.{Ended};
 ghost use Rattle.quick.specs.Steps.{Lent, Went};
 
 use reader::Reading;
-
-// Where the pass gives up: a number that no refusal has.
-const NOTHING: Reading = Reading {
-    number: 255,
-    length: 0,
-};
 
 // Where the pass stands in the text, 0 where it gave up, and how many bytes are written.
 #[derive(Clone, Copy)]
@@ -82,55 +76,38 @@ fn read_with(
     symbols: &mut [u64; 160],
     made: &mut [u8; 1024],
     out: &mut [u8],
-) -> Reading
+) -> Option<Reading>
     requires ended { Ended text.now × (1 ≤ length) × Heads symbols.old [] × (L.length made.old ≡ 1024) }
     requires names_value { (L.length names.old ≡ 256) × ((h : ℕ) → get_or names.old h 0 ≡ 0) }
-    ensures out_unchanged { result.number ≡ 255 → out.new ≡ out.old }
-    ensures by_index { (given : List ℕ) → Copied text.now given → length ≡ L.length given → (result.number ≡ 255 → ⊥)
-        → reading_of result out.new ≡ read_text list.now given out.old }
+    ensures { (given : List ℕ) → Copied text.now given → length ≡ L.length given
+        → MatchOption result (out.new ≡ out.old) (λ r. reading_of r out.new ≡ read_text list.now given out.old) }
 {
     if !index::listed(list, names) {
-        return NOTHING;
+        return None;
     }
     let at = heads::head(text, list, names, symbols);
     if at == 0 {
-        return NOTHING;
+        return None;
     }
     let n = symbols[symbols::COUNT] as usize;
     let s = rest(text, list, names, symbols, made, at);
     let end = s.at;
     if end != length {
-        return NOTHING;
+        return None;
     }
-    mend::finish(symbols, made, n, s.to, out)
+    Some(mend::finish(symbols, made, n, s.to, out))
 }
 
-// A text of at most 254 bytes, with zeros behind it.
-fn copy(from: &[u8], to: &mut [u8; 256])
-    requires { (L.length from.now ≤ 254) × (L.length to.old ≡ 256) × ((i : ℕ) → get_or to.old i 0 ≡ 0) }
-    ensures { Copied to.new from.now }
-{
-    let mut i = 0;
-    while i < from.len() {
-        to[i] = from[i];
-        i += 1;
-    }
-}
-
-// What the definition gives, of a text that the pass reads whole; 255, and the buffer as it was, of any other.
-fn one_pass(given: &[u8], list: &[u8], out: &mut [u8]) -> Reading
-    ensures out_unchanged { result.number ≡ 255 → out.new ≡ out.old }
-    ensures out_after { (result.number ≡ 255 → ⊥) → reading_of result out.new ≡ read_text list.now given.now out.old }
+// What the definition gives, of a text that the pass reads whole; nothing, and the buffer as it was, of any other.
+fn one_pass(given: &[u8], list: &[u8], out: &mut [u8]) -> Option<Reading>
+    ensures { MatchOption result (out.new ≡ out.old) (λ r. reading_of r out.new ≡ read_text list.now given.now out.old) }
 {
     let length = given.len();
-    if length == 0 {
-        return NOTHING;
-    }
-    if 254 < length {
-        return NOTHING;
+    if length == 0 || 254 < length {
+        return None;
     }
     let mut text = [0u8; 256];
-    copy(given, &mut text);
+    text[..length].copy_from_slice(given);
     let mut names = [0u64; 256];
     let mut symbols = [0u64; 160];
     let mut made = [0u8; 1024];
@@ -149,9 +126,8 @@ fn one_pass(given: &[u8], list: &[u8], out: &mut [u8]) -> Reading
 pub fn read(text: &[u8], list: &[u8], out: &mut [u8]) -> Reading
     ensures { reading_of result out.new ≡ read_text list.now text.now out.old }
 {
-    let r = one_pass(text, list, out);
-    if r.number != 255 {
-        return r;
+    match one_pass(text, list, out) {
+        Some(r) => r,
+        None => reader::read(text, list, out),
     }
-    reader::read(text, list, out)
 }

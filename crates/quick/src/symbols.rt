@@ -1,5 +1,5 @@
 // The symbols in their table (parts/specs/Table): four words each, from 124 on whether X.A outside all aggregates used it, and behind them three numbers.
-ghost use Rattle.std.specs.Prelude.{◌≡◌, ℕ, ◌+◌, ◌*◌, ◌≤◌, ◌<◌, length, get_or, set};
+ghost use Rattle.std.specs.Prelude.{◌≡◌, ℕ, ◌+◌, ◌*◌, ◌≤◌, ◌<◌, length, get_or, set, IfSome, MatchOption};
 ghost use Rattle.parts.specs.Table.{code_at, level_at, level_now, Finds, Slotted};
 
 pub(crate) const LEVEL: usize = 155;
@@ -12,38 +12,31 @@ pub(crate) const CLOSED: u64 = 255;
 
 pub(crate) const MOST: usize = 30;
 
-// The slot with a code, 30 where there is none. Behind the last symbol stand zeros.
-pub(crate) fn find(symbols: &[u64; 160], code: u64) -> usize
-    ensures upper_bound { result ≤ 30 }
-    ensures finds { Finds symbols.now code result }
+// The slot with a code. Behind the last symbol stand zeros.
+pub(crate) fn find(symbols: &[u64; 160], code: u64) -> Option<usize>
+    ensures { MatchOption result (Finds symbols.now code 30) (λ i. (i < 30) × Finds symbols.now code i) }
 {
-    let mut i = 0;
-    while i < 30 {
+    for i in 0..MOST {
         let c = symbols[4 * i];
         if c == code {
-            return i;
+            return Some(i);
         }
         if c == 0 {
-            return 30;
+            return None;
         }
-        i += 1;
     }
-    30
+    None
 }
 
-// The slot with a code whose symbol is not closed, 30 where there is none.
-pub(crate) fn bound(symbols: &[u64; 160], code: u64) -> usize
-    ensures upper_bound { result ≤ 30 }
-    ensures result_value { result < 30 → (code_at symbols.now result ≡ code) × (level_at symbols.now result ≡ 255 → ⊥) }
+// The slot with a code whose symbol is not closed.
+pub(crate) fn bound(symbols: &[u64; 160], code: u64) -> Option<usize>
+    ensures { IfSome result (λ i. (i < 30) × (code_at symbols.now i ≡ code) × (level_at symbols.now i ≡ 255 → ⊥)) }
 {
-    let i = find(symbols, code);
-    if MOST <= i {
-        return i;
-    }
+    let i = find(symbols, code)?;
     if symbols[4 * i + 3] == CLOSED {
-        return MOST;
+        return None;
     }
-    i
+    Some(i)
 }
 
 // A symbol more, in the slot i.

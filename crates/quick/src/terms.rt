@@ -41,17 +41,16 @@ fn used(
     if at == 0 {
         return LOST;
     }
-    let i = symbols::find(symbols, code);
-    if symbols::MOST <= i {
+    let Some(i) = symbols::find(symbols, code) else {
         return LOST;
-    }
+    };
     if symbols[4 * i + 3] != symbols[symbols::LEVEL] {
         return LOST;
     }
-    let p = index::attribute_at(list, names, lexis::low(symbols[4 * i + 1]), a.value);
-    if list.len() <= p {
+    let relation = lexis::low(symbols[4 * i + 1]);
+    let Some(p) = index::attribute_at(list, names, relation, a.value) else {
         return LOST;
-    }
+    };
     symbols::mark(symbols, i);
     let from = s.to;
     made[from] = 33;
@@ -67,10 +66,9 @@ fn value(list: &[u8], names: &[u64; 256], made: &mut [u8; 1024], from: usize, w:
     ensures at_le_end { (result.at ≤ w.end) × (1 ≤ result.at → (result.at ≡ w.end) × (from ≤ result.to)) × (length made.new ≡ 1024) }
     ensures value_at { 1 ≤ result.at → ValueAt list.now made.old made.new from w.end result.to w.value }
 {
-    let p = index::value_at(list, names, w.value);
-    if list.len() <= p {
+    let Some(p) = index::value_at(list, names, w.value) else {
         return LOST;
-    }
+    };
     put(
         made,
         from,
@@ -198,15 +196,13 @@ fn aggregate(
     if at == 0 {
         return LOST;
     }
-    let i = symbols::bound(symbols, x.owner);
-    if symbols::MOST <= i {
+    let Some(i) = symbols::bound(symbols, x.owner) else {
         return LOST;
-    }
+    };
     let relation = lexis::low(symbols[4 * i + 1]);
-    let q = index::attribute_at(list, names, relation, x.value);
-    if list.len() <= q {
+    let Some(q) = index::attribute_at(list, names, relation, x.value) else {
         return LOST;
-    }
+    };
     let next = symbols[symbols::NEXT];
     if 199 < next {
         return LOST;

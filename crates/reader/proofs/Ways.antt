@@ -26,8 +26,7 @@ use Rattle.names.specs.Answers.{failed}
 use Rattle.names.proofs.Callers.{good-list, bad-list}
 use Rattle.tokens.specs.Table.{Table, tokens_at}
 use Rattle.tokens.specs.Pieces.{read_of, counted}
-use Rattle.tokens.specs.declared.Outcome.{Outcome}
-use Rattle.tokens.specs.declared.Outcome.TheVariants as O
+use Rattle.std.specs.Prelude.{Option, Some, None}
 use Rattle.reader.specs.Verdict.{given, is_text}
 use Rattle.reader.specs.declared.Reading.{Reading}
 use Rattle.reader.specs.Readings.{reading_of}
@@ -38,30 +37,29 @@ resolved-writing : (g : Read ℕ Query) (d : List ℕ) → writing (encoded g) d
 resolved-writing fail d = refl
 resolved-writing (ok q n) d = refl
 
-module _ (list text d : List ℕ) (t : Table) (c : Outcome) (e : read_of c text t ≡ tokens text) where
-  pub no-tokens : c ≡ O.Refused → (a : Reading) → a ≡ record { number = 50; length = 0 } → reading_of a d ≡ read_text list text d
+module _ (list text d : List ℕ) (t : Table) (c : Option ℕ) (e : read_of c text t ≡ tokens text) where
+  pub no-tokens : c ≡ None → (a : Reading) → a ≡ record { number = 50; length = 0 } → reading_of a d ≡ read_text list text d
   unfolding read_text
   no-tokens h a ea =
       ap (λ (x : Reading). reading_of x d) ea
-      ∙ ap (λ (g : Read (List ℕ) (List Token)). parsed (parse g) list d) (ap (λ (o : Outcome). read_of o text t) (sym h) ∙ e)
+      ∙ ap (λ (g : Read (List ℕ) (List Token)). parsed (parse g) list d) (ap (λ (o : Option ℕ). read_of o text t) (sym h) ∙ e)
 
-  module _ (n : ℕ) (h : c ≡ O.Tokens n) where
+  module _ (n : ℕ) (h : c ≡ Some n) where
     cut : ok (tokens_at text t 0 n) [] ≡ tokens text
-    cut = ap (λ (o : Outcome). read_of o text t) (sym h) ∙ e
+    cut = ap (λ (o : Option ℕ). read_of o text t) (sym h) ∙ e
 
-    pub no_text : (b : Bool) → b ≡ is_text (tokens_at text t 0 n) → not b ≡ true → (a : Reading) → a ≡ record { number = 50; length = 0 } → reading_of a d ≡ read_text list text d
+    pub no_text : (b : Bool) → b ≡ is_text (tokens_at text t 0 n) → b ≡ false → (a : Reading) → a ≡ record { number = 50; length = 0 } → reading_of a d ≡ read_text list text d
     unfolding read_text
     no_text b i j a ea =
         ap (λ (x : Reading). reading_of x d) ea
         ∙ go (read_tree (tokens_at text t 0 n)) b i j
         ∙ ap (λ (g : Read (List ℕ) (List Token)). parsed (parse g) list d) cut
       where
-        go : (g : Read (List Token) Text) (b : Bool) → b ≡ given g → not b ≡ true → refused 50 d ≡ parsed g list d
+        go : (g : Read (List Token) Text) (b : Bool) → b ≡ given g → b ≡ false → refused 50 d ≡ parsed g list d
         go fail b i j = refl
-        go (ok u r) true i j = clash j
-        go (ok u r) false i j = clash i
+        go (ok u r) b i j = clash (sym j ∙ i)
 
-    module _ (b : Bool) (i : b ≡ is_text (tokens_at text t 0 n)) (j : not b ≡ false) where
+    module _ (b : Bool) (i : b ≡ is_text (tokens_at text t 0 n)) (j : b ≡ true) where
       -- what follows a text that is derived
       abbrev Derived : (Q.Reading → Type 0) → Type 0
       Derived P = (u : Text) (r : List Token) → read_tree (tokens_at text t 0 n) ≡ ok u r → P (resolved (resolve (names list) u) d)
@@ -70,37 +68,28 @@ module _ (list text d : List ℕ) (t : Table) (c : Outcome) (e : read_of c text 
       unfolding read_text
       derived P f = subst P (ap (λ (g : Read (List ℕ) (List Token)). parsed (parse g) list d) cut) (go (read_tree (tokens_at text t 0 n)) refl b i j)
         where
-          go : (g : Read (List Token) Text) → read_tree (tokens_at text t 0 n) ≡ g → (b : Bool) → b ≡ given g → not b ≡ false → P (parsed g list d)
-          go fail o true i j = clash (sym i)
-          go fail o false i j = clash (sym j)
+          go : (g : Read (List Token) Text) → read_tree (tokens_at text t 0 n) ≡ g → (b : Bool) → b ≡ given g → b ≡ true → P (parsed g list d)
+          go fail o b i j = clash (sym i ∙ j)
           go (ok u r) o b i j = f u r o
 
       module _ (g : Bool) (k : g ≡ not (failed (names list))) where
-        pub bad-names : not g ≡ true → (a : Reading) → a ≡ record { number = 51; length = 0 } → reading_of a d ≡ read_text list text d
-        bad-names l a ea = derived (λ x. reading_of a d ≡ x) λ u r o. ap (λ (x : Reading). reading_of x d) ea ∙ ap (λ (y : Read (List ℕ) (List Entry)). resolved (resolve y u) d) (sym (bad-list list (sym (off g l) ∙ k)))
-          where
-            off : (g : Bool) → not g ≡ true → g ≡ false
-            off true h = sym h
-            off false h = refl
+        pub bad-names : g ≡ false → (a : Reading) → a ≡ record { number = 51; length = 0 } → reading_of a d ≡ read_text list text d
+        bad-names l a ea = derived (λ x. reading_of a d ≡ x) λ u r o. ap (λ (x : Reading). reading_of x d) ea ∙ ap (λ (y : Read (List ℕ) (List Entry)). resolved (resolve y u) d) (sym (bad-list list (sym l ∙ k)))
 
-        pub read_names : not g ≡ false → (ts : List Token) → tokens_at text t 0 n ≡ ts → (a : Reading) (x : List ℕ) → reading_of a x ≡ writing (flat_text (entries list) ts) d → reading_of a x ≡ read_text list text d
+        pub read_names : g ≡ true → (ts : List Token) → tokens_at text t 0 n ≡ ts → (a : Reading) (x : List ℕ) → reading_of a x ≡ writing (flat_text (entries list) ts) d → reading_of a x ≡ read_text list text d
         read_names l ts f a x o =
             derived (λ z. reading_of a x ≡ z) λ u r p.
             o
             ∙ ap (λ (y : List Token). writing (flat_text (entries list) y) d) (sym f)
             ∙ ap (λ (y : Written). writing y d) (flat-text (entries list) (sound (tokens_at text t 0 n) r u p))
             ∙ resolved-writing (elaborate_text (entries list) u) d
-            ∙ ap (λ (y : Read (List ℕ) (List Entry)). resolved (resolve y u) d) (sym (good-list list (sym (on g l) ∙ k)))
-          where
-            on : (g : Bool) → not g ≡ false → g ≡ true
-            on true h = refl
-            on false h = sym h
+            ∙ ap (λ (y : Read (List ℕ) (List Entry)). resolved (resolve y u) d) (sym (good-list list (sym l ∙ k)))
 
 -- no more tokens than bytes, and those are at most 2,000
-pub cut_most : (c : Outcome) (n : ℕ) (text : List ℕ) (t : Table) → (counted c ≤ 2000) × (counted c ≤ length text) → read_of c text t ≡ tokens text → c ≡ O.Tokens n → (n ≤ 2000) × (n ≤ length text) × (length text ≤ 2000)
+pub cut_most : (c : Option ℕ) (n : ℕ) (text : List ℕ) (t : Table) → (counted c ≤ 2000) × (counted c ≤ length text) → read_of c text t ≡ tokens text → c ≡ Some n → (n ≤ 2000) × (n ≤ length text) × (length text ≤ 2000)
 unfolding tokens
 cut_most c n text t m e h = (
-  subst (λ (o : Outcome). counted o ≤ 2000) h m.0,
-  subst (λ (o : Outcome). counted o ≤ length text) h m.1,
-  need-inv (tokens_at text t 0 n) [] (leb (length text) 2000) _ (sym (ap (λ (o : Outcome). read_of o text t) (sym h) ∙ e)) (λ l g. leb-true (length text) 2000 l),
+  subst (λ (o : Option ℕ). counted o ≤ 2000) h m.0,
+  subst (λ (o : Option ℕ). counted o ≤ length text) h m.1,
+  need-inv (tokens_at text t 0 n) [] (leb (length text) 2000) _ (sym (ap (λ (o : Option ℕ). read_of o text t) (sym h) ∙ e)) (λ l g. leb-true (length text) 2000 l),
 )

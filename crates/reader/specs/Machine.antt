@@ -1,7 +1,11 @@
 -- The grammar as a machine with a stack: a mode says what may come next, and at each parenthesis that opens a condition, and at each function, the mode
 -- to go on with after the ) is kept on the stack. Precedence does not matter here, so V and ^ are one sort.
-use Rattle.std.specs.Prelude.{ℕ, ◌+◌, ◌-◌, ◌%◌, Bool, true, false, cond, ◌&&◌, ◌||◌, List, [], ◌∷◌, eqb, ltb, get_or}
+use Rattle.std.specs.Prelude.{ℕ, ◌+◌, ◌%◌, ◌<◌, Option, Some, None, Bool, true, false, cond, ◌&&◌, ◌||◌, List, [], ◌∷◌, eqb, ltb, get_or}
 use Rattle.quel.specs.Tokens.{Token, name, number, function, sign, key, key_code}
+use Rattle.reader.specs.declared.syntax.Sort.{Sort}
+use Rattle.reader.specs.declared.syntax.Sort.TheVariants as S
+use Rattle.reader.specs.declared.syntax.Move.{Move}
+use Rattle.reader.specs.declared.syntax.Move.TheVariants as M
 
 -- a token's kind as in Table, with one number for all functions, one for all signs, and one for V and ^
 abbrev pub key_sort : ℕ → ℕ
@@ -13,6 +17,25 @@ sort_of (number n) = 1
 sort_of (function f) = 2
 sort_of (sign o) = 7
 sort_of (key k) = key_sort (key_code k)
+
+-- the number of the code's sort
+abbrev pub sort_number : Sort → ℕ
+sort_number S.Name = 0
+sort_number S.Number = 1
+sort_number S.Function = 2
+sort_number S.Sign = 7
+sort_number S.Range = 13
+sort_number S.Retrieve = 14
+sort_number S.Not = 15
+sort_number S.Some = 16
+sort_number S.In = 17
+sort_number S.Join = 18
+sort_number S.Left = 20
+sort_number S.Right = 21
+sort_number S.Comma = 22
+sort_number S.Colon = 23
+sort_number S.Semicolon = 24
+sort_number S.Point = 25
 
 -- the same of a kind, where every kind past 25 is a point
 unfoldable pub sort : ℕ → ℕ
@@ -70,6 +93,21 @@ pick (p ∷ ps) k = cond (eqb p.0 k) p.1 (pick ps k)
 unfoldable pub move : ℕ → ℕ → ℕ
 move m k = pick (get_or rules m []) k
 
+-- the same of the code's move, and that it names modes
+abbrev pub code_of : Option Move → ℕ
+code_of None = 0
+code_of (Some (M.To m)) = m
+code_of (Some (M.Aggregate m)) = 32 + m
+code_of (Some (M.Open m)) = 64 + m
+code_of (Some M.Back) = 96
+
+abbrev pub AreSmall : Option Move → Type 0
+AreSmall None = Unit {0}
+AreSmall (Some (M.To m)) = m < 32
+AreSmall (Some (M.Aggregate m)) = m < 32
+AreSmall (Some (M.Open m)) = m < 32
+AreSmall (Some M.Back) = Unit {0}
+
 -- the stack, the mode kept last first; below it there is none
 abbrev pub top : List ℕ → ℕ
 top [] = 0
@@ -84,9 +122,6 @@ mode_after v t = cond (ltb v 32) v (cond (ltb v 64) 25 (cond (ltb v 96) 13 t))
 
 abbrev pub stack_after : ℕ → List ℕ → List ℕ
 stack_after v σ = cond (ltb v 32) σ (cond (ltb v 96) (v % 32 ∷ σ) (below σ))
-
-abbrev pub depth_after : ℕ → ℕ → ℕ
-depth_after v d = cond (ltb v 32) d (cond (ltb v 96) (d + 1) (d - 1))
 
 -- a text may end after a target or a factor
 abbrev pub may_end : ℕ → Bool

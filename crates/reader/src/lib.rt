@@ -11,8 +11,6 @@ ghost use Rattle.names.specs.Search.{Indexed};
 ghost use Rattle.elaborate.specs.Lookup.{room_of, chains_in, ids_in};
 ghost use Rattle.reader.specs.Readings.{reading_of};
 
-use tokens::Outcome;
-
 // A text outside the grammar; the name list.
 const GRAMMAR: u8 = 50;
 
@@ -32,6 +30,7 @@ fn refused(number: u8) -> Reading
 }
 
 // What the chains of the name list take of the table by which names are looked up.
+#[tactic(auto, unfolding(elaborate::specs::Lookup::room_of))]
 fn room(n: usize) -> usize
     ensures { result ≡ room_of n }
 {
@@ -64,31 +63,38 @@ fn read_with(
     requires by_index { (x : ℕ) → get_or lookup.old x 0 ≡ 0 }
     ensures { reading_of result out.new ≡ read_text list.now text.now out.old }
 {
-    let Outcome::Tokens(n) = tokens::cut(text, kinds, starts, numbers) else {
+    let Some(n) = tokens::cut(text, kinds, starts, numbers) else {
         return refused(GRAMMAR);
     };
-    if !syntax::accepted(kinds, n) {
+    let kinds = &kinds[..n];
+    if !syntax::accepted(kinds) {
         return refused(GRAMMAR);
     }
     if !chained(list, lookup) {
         return refused(NAMES);
     }
-    let r = elaborate::elaborate(text, &kinds[..n], starts, numbers, list, lookup, out);
+    let r = elaborate::elaborate(text, kinds, starts, numbers, list, lookup, out);
     Reading {
         number: r.number,
         length: r.length,
     }
 }
 
-// A short text and a short list: the tables are small, none over 2,048 bytes, and soon cleared.
-fn read_short(text: &[u8], list: &[u8], out: &mut [u8]) -> Reading
-    requires { length text.now ≤ 255 }
+// Over tables of its own: for TEXT tokens, and of NAMES places for the names.
+fn read_in<const TEXT: usize, const NAMES: usize>(
+    text: &[u8],
+    list: &[u8],
+    out: &mut [u8],
+) -> Reading
+    requires tokens { length text.now ≤ 2000 → length text.now ≤ TEXT }
+    requires names { room_of NAMES + TEXT ≤ NAMES }
+    requires small { (TEXT ≤ 2000) × (NAMES ≤ 6608) }
     ensures { reading_of result out.new ≡ read_text list.now text.now out.old }
 {
-    let mut kinds = [0u8; 255];
-    let mut starts = [0u16; 255];
-    let mut numbers = [0u64; 255];
-    let mut lookup = [0u16; 1023];
+    let mut kinds = [0u8; TEXT];
+    let mut starts = [0u16; TEXT];
+    let mut numbers = [0u64; TEXT];
+    let mut lookup = [0u16; NAMES];
     read_with(
         text,
         list,
@@ -98,44 +104,16 @@ fn read_short(text: &[u8], list: &[u8], out: &mut [u8]) -> Reading
         &mut lookup,
         out,
     )
-}
-
-// A text and a list of any length.
-fn read_long(text: &[u8], list: &[u8], out: &mut [u8]) -> Reading
-    ensures { reading_of result out.new ≡ read_text list.now text.now out.old }
-{
-    let mut kinds = [0u8; 2000];
-    let mut starts = [0u16; 2000];
-    let mut numbers = [0u64; 2000];
-    let mut lookup = [0u16; 6608];
-    read_with(
-        text,
-        list,
-        &mut kinds,
-        &mut starts,
-        &mut numbers,
-        &mut lookup,
-        out,
-    )
-}
-
-// Whether the tables for short texts and lists will do.
-fn is_short(text: &[u8], list: &[u8]) -> bool
-    ensures { result ≡ true → length text.now ≤ 255 }
-{
-    if list.len() <= 3584 {
-        text.len() <= 255
-    } else {
-        false
-    }
 }
 
 // Reads a text: for every input what the definition gives. A refusal leaves the buffer as it was.
 pub fn read(text: &[u8], list: &[u8], out: &mut [u8]) -> Reading
     ensures { reading_of result out.new ≡ read_text list.now text.now out.old }
 {
-    if is_short(text, list) {
-        return read_short(text, list, out);
+    // For a short text and a short list the tables are small, none over 2,048 bytes, and soon cleared.
+    if list.len() <= 3584 && text.len() <= 255 {
+        read_in::<255, 1023>(text, list, out)
+    } else {
+        read_in::<2000, 6608>(text, list, out)
     }
-    read_long(text, list, out)
 }

@@ -6,9 +6,10 @@ ghost use Rattle.model.specs.Syntax.{variables};
 ghost use Rattle.kinds.specs.Record.{record_at};
 ghost use Rattle.scans.specs.Flat.{flat_bindings, bound_by};
 ghost use Rattle.copier.specs.Copied.{record_bytes, renamed_record, number_in, copied_record, copied_bytes};
-ghost use Rattle.rewriter.specs.Rewritten.{places_in, part_in};
+ghost use Rattle.rewriter.specs.Applying.{conditions_by};
 ghost use Rattle.copier.specs.Guard.{or_nothing, opening, turn_bytes, turn_new, guard_bytes, guard_new};
 
+use crate::Applying;
 use kinds::Record;
 use scans::Bound;
 
@@ -96,33 +97,6 @@ fn copy_condition(out: &mut [u8], at: usize, condition: &[u8], variable: u8, nex
     to
 }
 
-// One of the numbers that say where the permits' conditions stand.
-fn place(table: &[u16], i: usize) -> usize
-    ensures { result ≡ get_or (places_in table.now) i 0 }
-{
-    if i < crate::PLACES {
-        kinds::size_at(table, i)
-    } else {
-        0
-    }
-}
-
-// The first n bytes, or all.
-fn head(q: &[u8], n: usize) -> &[u8]
-    ensures { result.now ≡ take n q.now }
-{
-    if n <= q.len() { &q[..n] } else { &q[0..] }
-}
-
-// The bytes of a permit's condition.
-fn condition_of<'a>(permits: &'a [u8], table: &[u16], k: usize) -> &'a [u8]
-    requires { k ≤ 65535 }
-    ensures { result.now ≡ part_in permits.now table.now k }
-{
-    let i = 2 * k;
-    head(kinds::tail(permits, place(table, i)), place(table, i + 1))
-}
-
 // Writes a byte, unless the mask is 0.
 fn put_unless(out: &mut [u8], at: usize, mask: usize, b: u8) -> usize
     requires { at + length (or_nothing mask (b ∷ [])) < 9223372036854775808 }
@@ -145,57 +119,47 @@ pub(crate) fn open_guard(out: &mut [u8], at: usize, mask: usize) -> usize
 }
 
 // Writes one permit's condition if its bit, the mask's lowest, is set; an OR before it if there are more.
-fn write_turn(
-    out: &mut [u8],
-    at: usize,
-    condition: &[u8],
-    mask: usize,
-    variable: u8,
-    next: usize,
-) -> Written
-    requires { (at + length (turn_bytes mask condition.now variable next) < 9223372036854775808) × (next + turn_new mask condition.now < 256) }
-    ensures at_value { (result.at ≡ at + length (turn_bytes mask condition.now variable next))
-        × (result.next ≡ next + turn_new mask condition.now) }
-    ensures out_after { out.new ≡ sets out.old at (turn_bytes mask condition.now variable next) }
+fn write_turn(out: &mut [u8], to: Written, condition: &[u8], mask: usize, variable: u8) -> Written
+    requires { (to.at + length (turn_bytes mask condition.now variable to.next) < 9223372036854775808)
+        × (to.next + turn_new mask condition.now < 256) }
+    ensures at_value { (result.at ≡ to.at + length (turn_bytes mask condition.now variable to.next))
+        × (result.next ≡ to.next + turn_new mask condition.now) }
+    ensures out_after { out.new ≡ sets out.old to.at (turn_bytes mask condition.now variable to.next) }
 {
     if mask % 2 != 1 {
-        return Written { at: at, next: next };
+        return to;
     }
-    let p = put_unless(out, at, mask / 2, 20);
-    let e = copy_condition(out, p, condition, variable, next);
+    let p = put_unless(out, to.at, mask / 2, 20);
+    let at = copy_condition(out, p, condition, variable, to.next);
     let bindings = scans::tally(condition, false);
     Written {
-        at: e,
-        next: next + bindings.count,
+        at,
+        next: to.next + bindings.count,
     }
 }
 
 // Writes the guard of a variable: the OR of the conditions of the permits in the mask.
 pub(crate) fn write_guard(
     out: &mut [u8],
-    at: usize,
-    permits: &[u8],
-    table: &[u16],
+    to: Written,
+    applying: &Applying,
     mask: usize,
     variable: u8,
-    next: usize,
 ) -> Written
-    requires { (at + length (guard_bytes mask (part_in permits.now table.now) variable next) < 9223372036854775808)
-        × (next + guard_new mask (part_in permits.now table.now) < 256) × (mask ≤ 65535) }
-    ensures at_value { (result.at ≡ at + length (guard_bytes mask (part_in permits.now table.now) variable next))
-        × (result.next ≡ next + guard_new mask (part_in permits.now table.now)) }
-    ensures out_after { out.new ≡ sets out.old at (guard_bytes mask (part_in permits.now table.now) variable next) }
+    requires { (to.at + length (guard_bytes mask (conditions_by applying.now) variable to.next) < 9223372036854775808)
+        × (to.next + guard_new mask (conditions_by applying.now) < 256) × (mask ≤ 65535) }
+    ensures at_value { (result.at ≡ to.at + length (guard_bytes mask (conditions_by applying.now) variable to.next))
+        × (result.next ≡ to.next + guard_new mask (conditions_by applying.now)) }
+    ensures out_after { out.new ≡ sets out.old to.at (guard_bytes mask (conditions_by applying.now) variable to.next) }
 {
     let mut m = mask;
     let mut k: usize = 0;
-    let mut to = at;
-    let mut n = next;
+    let mut w = to;
+    // No count: it ends after the mask's highest bit.
     while m != 0 {
-        let w = write_turn(out, to, condition_of(permits, table, k), m, variable, n);
-        to = w.at;
-        n = w.next;
-        m = m / 2;
+        w = write_turn(out, w, applying.condition(k), m, variable);
+        m /= 2;
         k += 1;
     }
-    Written { at: to, next: n }
+    w
 }

@@ -1,19 +1,27 @@
 -- Two rows compared cell by cell, and a row with the stored ones.
-use mathlib.Core.Path.{◌≡◌, refl, sym, ap, ◌∙◌}
+use mathlib.Core.Path.{◌≡◌, refl, sym, ap, subst, ◌∙◌}
 use mathlib.Core.Bool.{Bool, true, false, ◌&&◌}
 use mathlib.Core.List.{List, [], ◌∷◌, ◌++◌}
 use Prim.Native.Nat.{ℕ, zero, suc, ◌+◌, ◌-◌, ◌*◌, ◌≤◌, ◌<◌}
 use native.Mathlib.Nat.{mul-le-mul, le_refl}
 use native.Mathlib.Omega.{arith}
-use lib.IntN.{ℤ, pos}
-use lib.ListN.{length, get_or, take, drop, drop_of_length-le, length-take, length-drop}
-use lib.Seq.{drop-cons, drop-drop}
+use lib.IntN.{ℤ}
+use lib.ListN.{length, get_or, take, drop, length-take, length-drop}
+use lib.Seq.{drop-drop}
 use lib.Signed.{le_z}
+use lib.Pointwise.{pointwise}
+use Rattle.std.specs.Ordering.{int_eq}
+use Rattle.std.specs.Bool.{Decides, one_answer}
+use Rattle.std.proofs.lemmas.Bool.Decides.{Decides-int_eq}
+use Rattle.std.proofs.lemmas.Slice.Eq.{slice_eq-Decides}
+use Rattle.model.proofs.Monotone.{same-equal, same_refl}
 use Rattle.model.specs.Meaning.{same_row}
 use Rattle.model.specs.Search.{Search}
 use Rattle.model.proofs.Tests.{clash, and-inv}
 use Rattle.model.proofs.Search.{NoneBelow, search-hit, search-none, search-found, search-missed, tried-most}
-use Rattle.rows.specs.Buffer.{stored, stored_rows, sought}
+use Rattle.rows.specs.Buffer.{stored, stored_rows, sought, place_of}
+use Rattle.std.proofs.Common.{Option, Some, None, cond}
+use Rattle.std.specs.Option.{is_some}
 use Rattle.rows.specs.Chains.{row_at}
 
 -- equal rows have as many cells
@@ -24,28 +32,18 @@ same_length [] (b ∷ y) h = clash h
 same_length (a ∷ x) [] h = clash h
 same_length (a ∷ x) (b ∷ y) h = ap suc (same_length x y (and-inv (le_z a b && le_z b a) (same_row x y) h).1)
 
+-- the equality of slices
+pub same_slices : (x y : List ℤ) → pointwise int_eq x y ≡ same_row x y
+same_slices x y =
+    let d : Decides (pointwise int_eq x y) (x ≡ y) = slice_eq-Decides Decides-int_eq x y _ refl in
+    one_answer _ _ d (same-equal x y, λ (e : x ≡ y). subst (λ (l : List ℤ). same_row x l ≡ true) e (same_refl x))
+
 pub same-lengths : (x y : List ℤ) → (length x ≡ length y → ⊥) → false ≡ same_row x y
 same-lengths x y h = go (same_row x y) refl
   where
     go : (b : Bool) → same_row x y ≡ b → false ≡ b
     go true e = absurd (h (same_length x y e))
     go false e = refl
-
--- what is left decides
-module _ (x y : List ℤ) (i : ℕ) (hx : i < length x) (hy : i < length y) where
-  split : same_row (drop i x) (drop i y) ≡ (le_z (get_or x i (pos 0)) (get_or y i (pos 0)) && le_z (get_or y i (pos 0)) (get_or x i (pos 0))) && same_row (drop (i + 1) x) (drop (i + 1) y)
-  unfolding same_row
-  split = let e : i + 1 ≡ suc i = omega arith in rw (e, drop-cons x i (pos 0), drop-cons y i (pos 0))
-
-  pub same-less : le_z (get_or x i (pos 0)) (get_or y i (pos 0)) && le_z (get_or y i (pos 0)) (get_or x i (pos 0)) ≡ false → same_row (drop i x) (drop i y) ≡ false
-  same-less e = split ∙ rw e
-
-  pub same_more : le_z (get_or x i (pos 0)) (get_or y i (pos 0)) && le_z (get_or y i (pos 0)) (get_or x i (pos 0)) ≡ true → same_row (drop i x) (drop i y) ≡ same_row (drop (i + 1) x) (drop (i + 1) y)
-  same_more e = split ∙ rw e
-
-pub same_end : (x y : List ℤ) (i : ℕ) → length x ≤ i → length y ≤ i → same_row (drop i x) (drop i y) ≡ true
-unfolding same_row
-same_end x y i hx hy = rw (drop_of_length-le x hx, drop_of_length-le y hy)
 
 -- the stored rows by their numbers
 module _ (x : List ℤ) where
@@ -82,19 +80,41 @@ module _ (x : List ℤ) where
       search-none (same_row x) (stored_rows (length x) n c) [] (λ i k. let l : i < n = omega (arith, row_count n c) in ap (same_row x) (row_is n i c l) ∙ h i l)
       ∙ ap (λ (m : ℕ). record { found = false; tried = m }) (row_count n c)
 
-  pub sought-most : (n : ℕ) (c : List ℤ) → (sought n c x).tried ≤ n
-  sought-most n c = omega (arith, tried-most (same_row x) (stored_rows (length x) n c), row_count n c)
+  -- the same of the number that the code hands back
+  pub found-at : (n j : ℕ) (c : List ℤ) → j < n → NoneBelow (same_at c) j → same_at c j ≡ true → Some j ≡ place_of (sought n c x)
+  found-at n j c l h e = let k : j ≡ j + 1 - 1 = omega arith in ap Some k ∙ sym (ap place_of (sought-hit n j c l h e))
 
-  -- s is what a search gave
-  module _ (n : ℕ) (c : List ℤ) (s : Search) (es : s ≡ sought n c x) where
-    pub sought-stored : (b : Bool) → s.found ≡ b → stored n c x ≡ b
-    sought-stored b h = sym (search-found (same_row x) (stored_rows (length x) n c)) ∙ ap (λ (r : Search). r.found) (sym es) ∙ h
+  pub found_none : (n : ℕ) (c : List ℤ) → NoneBelow (same_at c) n → None ≡ place_of (sought n c x)
+  found_none n c h = sym (ap place_of (sought-none n c h))
+
+  -- o is the number that a search gave
+  module _ (n : ℕ) (c : List ℤ) (o : Option ℕ) (eo : o ≡ place_of (sought n c x)) where
+    pub found-is : (b : Bool) → is_some o ≡ b → (sought n c x).found ≡ b
+    found-is b h = go (sought n c x) (sym (ap is_some eo) ∙ h)
+      where
+        go : (s : Search) → is_some (place_of s) ≡ b → s.found ≡ b
+        go s = pick s.found (s.tried - 1)
+          where
+            pick : (f : Bool) (t : ℕ) → is_some (cond f (Some t) None) ≡ b → f ≡ b
+            pick true t e = e
+            pick false t e = e
+
+    pub sought-stored : (b : Bool) → is_some o ≡ b → stored n c x ≡ b
+    sought-stored b h = sym (search-found (same_row x) (stored_rows (length x) n c)) ∙ found-is b h
 
     -- a row that is not found differs from all
-    pub sought-missed : s.found ≡ false → NoneBelow (same_at c) n
+    pub sought-missed : is_some o ≡ false → NoneBelow (same_at c) n
     sought-missed h j l =
         ap (same_row x) (sym (row_is n j c l))
-        ∙ search-missed (same_row x) (stored_rows (length x) n c) [] (ap (λ (r : Search). r.found) (sym es) ∙ h) j (omega (arith, row_count n c))
+        ∙ search-missed (same_row x) (stored_rows (length x) n c) [] (found-is false h) j (omega (arith, row_count n c))
+
+  -- its number is below that of the rows
+  pub found-below : (n i : ℕ) (c : List ℤ) → Some i ≡ place_of (sought n c x) → i ≤ n
+  found-below n i c e = go (sought n c x).found (sought n c x).tried (omega (arith, tried-most (same_row x) (stored_rows (length x) n c), row_count n c)) e
+    where
+      go : (f : Bool) (t : ℕ) → t ≤ n → Some i ≡ cond f (Some (t - 1)) None → i ≤ n
+      go true t l q = let k : i ≡ t - 1 = cc in omega arith
+      go false t l q = absurd (let z : ◌≡◌ {A = ℕ} 0 1 = cc in omega arith)
 
   -- past the end no row is whole
   pub rows_short : (c : List ℤ) (at i j : ℕ) → at ≡ i * length x → length c - at < length x → i ≤ j → same_at c j ≡ false

@@ -2,12 +2,13 @@
 use mathlib.Core.Path.{◌≡◌, refl, sym, ap, ap₂, ◌∙◌}
 use mathlib.Core.Bool.{Bool, true, false, not, cond}
 use mathlib.Core.List.{List, [], ◌∷◌, ◌++◌, append-nil, append_assoc}
-use Prim.Native.Nat.{ℕ, ◌+◌, ◌*◌, ◌/◌, ◌≤◌, ◌<◌, min}
+use Prim.Native.Nat.{ℕ, ◌+◌, ◌-◌, ◌*◌, ◌/◌, ◌≤◌, ◌<◌, min}
 use native.Mathlib.Nat.{mul-le-mul, le_refl, div-mul-le_self, zero-mul}
 use native.Mathlib.Omega.{arith}
 use lib.Dec.{leb}
 use lib.IntN.{ℤ}
-use lib.ListN.{length, take, drop, length-append, length-drop}
+use lib.ListN.{length, take, drop, length-append, length-take, length-drop}
+use borrow.Rule.Slice.PartMut.{put_mid}
 use lib.Seq.{take-length, take-append_seam, take_at, drop_at, drop-append-add, drop-drop, take-append-le}
 use borrow.Author.Tests.{lt-ltb, le-ltb, le-leb, lt-leb}
 use Rattle.model.specs.Lists.{any, concat_map, Every}
@@ -20,6 +21,15 @@ use Rattle.rows.specs.Buffer.{Buffer, stored_rows, stored, over, added, added_al
 -- a row that fits ends within the buffer
 pub row_room : (n w l : ℕ) → n < l / w → n * w + w ≤ l
 row_room n w l h = omega (arith, div-mul-le_self l w, mul-le-mul h (le_refl w))
+
+-- a row copied over a part of the cells
+pub copied : (c d x : List ℤ) (at : ℕ) → d ≡ x → put_mid at (at + length x - at) c d ≡ over c at x
+copied c d x at e =
+    let k : at + length x - at ≡ length x = omega arith in
+    rw (e, k) (sym (append_assoc (take at c) x (drop (length x) (drop at c))) ∙ ap (λ (l : List ℤ). take at c ++ x ++ l) (drop-drop (length x) at c))
+
+pub over-length : (c x : List ℤ) (at : ℕ) → at + length x ≤ length c → length (over c at x) ≡ length c
+over-length c x at h = simp (length-append, length-take, length-drop) (omega arith)
 
 -- one row, by the cases of the code
 module _ (n : ℕ) (full : Bool) (c x : List ℤ) where

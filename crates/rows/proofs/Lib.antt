@@ -2,4 +2,3 @@ pub mod Compared
 pub mod Folded
 pub mod Laws
 pub mod Links
-pub mod Pasted

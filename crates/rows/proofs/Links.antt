@@ -1,7 +1,7 @@
 -- Chains through the stored rows: one row more at the front, and one link further back.
 use mathlib.Core.Path.{◌≡◌, refl, sym, ap, ◌∙◌, subst}
 use mathlib.Core.Bool.{Bool, true, false, cond}
-use mathlib.Core.List.{List, ◌++◌}
+use mathlib.Core.List.{List, [], ◌∷◌, ◌++◌}
 use Prim.Native.Nat.{ℕ, suc, ◌+◌, ◌-◌, ◌*◌, ◌/◌, ◌≤◌, ◌<◌, min}
 use native.Mathlib.Nat.{mul-le-mul, le_refl}
 use native.Mathlib.Omega.{arith}
@@ -15,10 +15,15 @@ use Rattle.model.specs.Search.{Search, search}
 use Rattle.model.proofs.Monotone.{same-equal, same_refl}
 use Rattle.model.proofs.Search.{NoneBelow, search-before, search-after}
 use Rattle.model.proofs.Tests.{clash}
-use Rattle.rows.specs.Buffer.{stored_rows, sought, over}
+use Rattle.rows.specs.Buffer.{stored_rows, sought, place_of, over}
 use Rattle.rows.specs.Chains.{heads_of, nexts_of, bucket_of, row_at, bucket_at, Last, LastOf, Chained, Linked}
-use Rattle.rows.proofs.Compared.{same_at, row_count, sought-hit, sought-none, rows_split}
-use Rattle.rows.proofs.Laws.{row_room}
+use Rattle.std.proofs.Common.{Option, Some, None}
+use Rattle.std.specs.Option.{option_map}
+use lib.Pointwise.{pointwise}
+use Rattle.std.specs.Ordering.{int_eq}
+use Rattle.std.specs.List.{slice_range}
+use Rattle.rows.proofs.Compared.{same_at, same_slices, found-is, row_count, sought-hit, sought-none, rows_split}
+use Rattle.rows.proofs.Laws.{row_room, over-length}
 
 -- a walk along the chain of a row: no row equal to it from the link on
 abbrev pub Passed : List ℤ → List ℤ → ℕ → ℕ → ℕ → Type 0
@@ -136,34 +141,53 @@ heads-most l = go (ltb l 8192)
     go true = omega arith
     go false = omega arith
 
--- row j, read as a part of the cells
-pub row-part : (c : List ℤ) (at j : ℕ) (x : List ℤ) (r b : Bool) → at ≡ j * length x → r ≡ same_row x (take (at + length x - at) (drop at c)) → r ≡ b → same_at x c j ≡ b
-row-part c at j x r b ea e f =
+-- row j, read as a part of the cells and compared
+pub row-part : (c : List ℤ) (at j : ℕ) (x s : List ℤ) (r b : Bool) → at ≡ j * length x → s ≡ slice_range c at (at + length x) → r ≡ pointwise int_eq x s → r ≡ b → same_at x c j ≡ b
+row-part c at j x s r b ea es e f =
     let k : at + length x - at ≡ length x = omega arith in
-    ap (λ (m : ℕ). same_row x (take (length x) (drop m c))) (sym ea) ∙ ap (λ (m : ℕ). same_row x (take m (drop at c))) (sym k) ∙ sym e ∙ f
+    ap (λ (m : ℕ). same_row x (take (length x) (drop m c))) (sym ea) ∙ ap (λ (m : ℕ). same_row x (take m (drop at c))) (sym k) ∙ ap (same_row x) (sym es) ∙ sym (same_slices x s) ∙ sym e ∙ f
 
--- s is what the search among the first of n rows gave, as many as a table can link
-module _ (x c : List ℤ) (n k : ℕ) (s : Search) (es : s ≡ sought (min n k) c x) where
-  pub known-linked : s.found ≡ true → s ≡ sought n c x
-  known-linked h =
-      let l = min n k in
-      let after = stored_rows (length x) (n - l) (drop (l * length x) c) in
-      es
-      ∙ sym (search-before (same_row x) (stored_rows (length x) l c) after (ap (λ (r : Search). r.found) (sym es) ∙ h))
-      ∙ ap (search (same_row x)) (sym (rows_split x l (n - l) n c (omega arith)))
+-- a number further on
+found-tried : {A : Type 0} (p : A → Bool) (xs : List A) → (search p xs).found ≡ true → 1 ≤ (search p xs).tried
+unfolding search
+found-tried p [] h = clash h
+found-tried p (y ∷ xs) h = go (p y) h
+  where
+    go : (b : Bool) → (cond {A = Search} b (record { found = true; tried = 1 }) (record { found = (search p xs).found; tried = suc (search p xs).tried })).found ≡ true → 1 ≤ (cond {A = Search} b (record { found = true; tried = 1 }) (record { found = (search p xs).found; tried = suc (search p xs).tried })).tried
+    go true e = omega arith
+    go false e = omega arith
 
-  pub known-all : n ≤ k → s ≡ sought n c x
-  known-all h = let e : min n k ≡ n = omega arith in es ∙ ap (λ (i : ℕ). sought i c x) e
+shifted : (m : ℕ) (s : Search) → (s.found ≡ true → 1 ≤ s.tried) → option_map (λ i. m + i) (place_of s) ≡ place_of (record { found = s.found; tried = m + s.tried })
+shifted m s = go s.found s.tried
+  where
+    go : (f : Bool) (t : ℕ) → (f ≡ true → 1 ≤ t) → option_map (λ i. m + i) (cond f (Some (t - 1)) None) ≡ cond f (Some (m + t - 1)) None
+    go true t h = let l = h refl in ap Some (omega arith)
+    go false t h = refl
 
-  -- r is what the search among the rows after them gave
-  pub known-rest : (m : ℕ) → m ≡ k → m < n → s.found ≡ false → (at : ℕ) → at ≡ m * length x → (r : Search) → r ≡ sought (n - m) (take (length c - at) (drop at c)) x → record { found = r.found; tried = m + r.tried } ≡ sought n c x
+-- the search among the first of n rows, as many as a table can link, and then among those after them
+module _ (x c : List ℤ) (n k : ℕ) where
+  abbrev linked : Search
+  linked = sought (min n k) c x
+
+  abbrev others : List (List ℤ)
+  others = stored_rows (length x) (n - min n k) (drop (min n k * length x) c)
+
+  all_rows : sought n c x ≡ search (same_row x) (stored_rows (length x) (min n k) c ++ others)
+  all_rows = ap (search (same_row x)) (rows_split x (min n k) (n - min n k) n c (omega arith))
+
+  pub known-linked : (i : ℕ) → Some i ≡ place_of linked → Some i ≡ place_of (sought n c x)
+  known-linked i e = e ∙ ap place_of (sym (all_rows ∙ search-before (same_row x) (stored_rows (length x) (min n k) c) others (found-is x (min n k) c (Some i) e true refl)))
+
+  -- r is the number among the rows after them
+  pub known-rest : (m : ℕ) → m ≡ k → m < n → None ≡ place_of linked → (at : ℕ) → at ≡ m * length x → (r : Option ℕ) → r ≡ place_of (sought (n - m) (take (length c - at) (drop at c)) x) → option_map (λ i. m + i) r ≡ place_of (sought n c x)
   known-rest m em h none at ea r er =
-      let e : min n k ≡ m = omega arith in
-      let after = stored_rows (length x) (n - m) (drop (m * length x) c) in
-      ap (λ (y : Search). record { found = y.found; tried = m + y.tried }) (er ∙ ap (λ (d : List ℤ). sought (n - m) d x) (take_all (length c - at) (drop at c) (rw (length-drop at c) (omega arith)) ∙ ap (λ (i : ℕ). drop i c) ea))
-      ∙ ap (λ (i : ℕ). record { found = (search (same_row x) after).found; tried = i + (search (same_row x) after).tried }) (sym (row_count x m c))
-      ∙ sym (search-after (same_row x) (stored_rows (length x) m c) after (ap (λ (i : ℕ). (sought i c x).found) (sym e) ∙ ap (λ (y : Search). y.found) (sym es) ∙ none))
-      ∙ ap (search (same_row x)) (sym (rows_split x m (n - m) n c (omega arith)))
+      let e : m ≡ min n k = omega arith in
+      let part : take (length c - at) (drop at c) ≡ drop (m * length x) c = take_all (length c - at) (drop at c) (rw (length-drop at c) (omega arith)) ∙ ap (λ (i : ℕ). drop i c) ea in
+      let s = search (same_row x) others in
+      ap (option_map (λ i. m + i)) (er ∙ ap (λ (d : List ℤ). place_of (sought (n - m) d x)) part ∙ ap (λ (i : ℕ). place_of (sought (n - i) (drop (i * length x) c) x)) e)
+      ∙ shifted m s (found-tried (same_row x) others)
+      ∙ ap (λ (i : ℕ). place_of (record { found = s.found; tried = i + s.tried })) (e ∙ sym (row_count x (min n k) c))
+      ∙ ap place_of (sym (all_rows ∙ search-after (same_row x) (stored_rows (length x) (min n k) c) others (found-is x (min n k) c None none false refl)))
 
 pub rest-within : (k n w l : ℕ) → k < n → n * w ≤ l → k * w ≤ l
 rest-within k n w l h room =
@@ -213,11 +237,12 @@ module _ (c x : List ℤ) (n : ℕ) (room : n * length x + length x ≤ length c
           clash (sym (new i (omega arith)) ∙ ap (same_row x) is ∙ same_refl x)
 
 -- one row more, laid and linked
-pub linked-laid : (c d x : List ℤ) (n h : ℕ) (t u : List ℕ) → Linked (length x) n c t → NoneBelow (same_at x c) n → n < length c / length x → h ≡ bucket_of (length t) x → d ≡ over c (n * length x) x → length d ≡ length c → length u ≡ length t
+pub linked-laid : (c d x : List ℤ) (n h : ℕ) (t u : List ℕ) → Linked (length x) n c t → NoneBelow (same_at x c) n → n < length c / length x → h ≡ bucket_of (length t) x → d ≡ over c (n * length x) x → length u ≡ length t
     → ((b : ℕ → ℕ) → b n ≡ h → Chained b (heads_of (length t)) (min n (nexts_of (length t))) t → Chained b (heads_of (length t)) (min (n + 1) (nexts_of (length t))) u)
     → Linked (length x) (n + 1) d u
-linked-laid c d x n h t u f new lt eh ed ld lu more =
+linked-laid c d x n h t u f new lt eh ed lu more =
     let room = row_room n (length x) (length c) lt in
+    let ld : length d ≡ length c = ap length ed ∙ over-length c x (n * length x) room in
     let b : ℕ → ℕ = bucket_at (length t) (length x) d in
     let row_n : b n ≡ h = ap (λ (l : List ℤ). bucket_at (length t) (length x) l n) ed ∙ ap (bucket_of (length t)) (row_new c x n room) ∙ sym eh in
     let old = chained-alike (bucket_at (length t) (length x) c) b n (λ j k. ap (bucket_of (length t)) (row_below c x n room j k) ∙ ap (λ (l : List ℤ). bucket_at (length t) (length x) l j) (sym ed)) (heads_of (length t)) (min n (nexts_of (length t))) t (omega arith) f.chained in

@@ -1,10 +1,9 @@
 // The answer buffer: distinct rows, row after row, and refusal 41.
 #![tactic(auto)]
 
-ghost use Rattle.std.specs.Prelude.{◌≡◌, ◌&&◌, ℕ, ◌+◌, ◌-◌, ◌*◌, ◌/◌, ◌≤◌, ◌<◌, min, length, take, drop};
-ghost use Rattle.std.specs.Int.Signed.{le_z, mag};
-ghost use Rattle.model.specs.Meaning.{same_row};
-ghost use Rattle.rows.specs.Buffer.{sought, over, added, start};
+ghost use Rattle.std.specs.Prelude.{◌≡◌, ℕ, ◌+◌, ◌/◌, ◌≤◌, ◌<◌, min, length};
+ghost use Rattle.std.specs.Int.Signed.{mag};
+ghost use Rattle.rows.specs.Buffer.{sought, place_of, added, start};
 ghost use Rattle.rows.specs.Chains.{mixed, hashed, heads_of, nexts_of, bucket_of, Chained, Linked};
 
 // How many rows are stored, and whether a distinct row did not fit.
@@ -14,81 +13,26 @@ pub struct Filled {
     pub full: bool,
 }
 
-// Whether an equal row was found, and how many rows were tried: in their order up to that row, or all.
-#[derive(Clone, Copy)]
-struct Search {
-    found: bool,
-    tried: usize,
-}
-
-fn equal(x: i64, y: i64) -> bool
-    ensures { result ≡ le_z x y && le_z y x }
-{
-    if x <= y { y <= x } else { false }
-}
-
-fn same(x: &[i64], y: &[i64]) -> bool
-    ensures { result ≡ same_row x.now y.now }
-{
-    if x.len() != y.len() {
-        return false;
-    }
-    let mut i = 0;
-    while i < x.len() {
-        let a = x[i];
-        let b = y[i];
-        if !equal(a, b) {
-            return false;
-        }
-        i += 1;
-    }
-    true
-}
-
-// The search for the row among the first rows of the answer; ends at the first that equals it.
-fn find(answer: &[i64], rows: usize, row: &[i64]) -> Search
-    ensures { record { found = result.found; tried = result.tried } ≡ sought rows answer.now row.now }
+// The number of the first row that equals the given one, among the first rows of the answer.
+fn find(answer: &[i64], rows: usize, row: &[i64]) -> Option<usize>
+    ensures { result ≡ place_of (sought rows answer.now row.now) }
 {
     let mut at = 0;
-    let mut i = 0;
-    while i < rows {
-        if answer.len() - at < row.len() {
-            return Search {
-                found: false,
-                tried: rows,
-            };
+    for i in 0..rows {
+        let stored = answer.get(at..at + row.len())?;
+        if row == stored {
+            return Some(i);
         }
-        let end = at + row.len();
-        if same(row, &answer[at..end]) {
-            let tried = i + 1;
-            return Search { found: true, tried };
-        }
-        at = end;
-        i += 1;
+        at += row.len();
     }
-    Search {
-        found: false,
-        tried: rows,
-    }
+    None
 }
 
 // How many rows of `columns` cells fit; none of no cells.
 fn capacity(cells: usize, columns: usize) -> usize
     ensures { result ≡ cells / columns }
 {
-    if columns == 0 { 0 } else { cells / columns }
-}
-
-fn append(answer: &mut [i64], at: usize, row: &[i64])
-    requires { at + length row.now ≤ length answer.old }
-    ensures { answer.new ≡ over answer.old at row.now }
-{
-    let mut i = 0;
-    while i < row.len() {
-        let x = row[i];
-        answer[at + i] = x;
-        i += 1;
-    }
+    cells.checked_div(columns).unwrap_or(0)
 }
 
 // A number from 0 on for each cell.
@@ -110,11 +54,8 @@ fn hash(row: &[i64]) -> usize
     ensures { result ≡ hashed 0 row.now }
 {
     let mut h = 0;
-    let mut i = 0;
-    while i < row.len() {
-        let x = row[i];
+    for &x in row {
         h = mix(h, x);
-        i += 1;
     }
     h
 }
@@ -130,8 +71,7 @@ fn heads(length: usize) -> usize
 fn nexts(length: usize) -> usize
     ensures { result ≡ nexts_of length }
 {
-    let n = heads(length);
-    if length < n { 0 } else { length - n }
+    length.saturating_sub(heads(length))
 }
 
 // The bucket of a row in a table of this length; for one that has no room no hash is made.
@@ -141,68 +81,43 @@ fn bucket(row: &[i64], length: usize) -> usize
     if length < 512 {
         return 0;
     }
-    let h = hash(row) / 1024;
-    if length < 8192 { h % 512 } else { h % 4096 }
+    hash(row) / 1024 % heads(length)
 }
 
-fn least(a: usize, b: usize) -> usize
-    ensures { result ≡ min a b }
-{
-    if a < b { a } else { b }
-}
-
-// The search for the row among those that the table links, along the chain of its bucket from the last row back: none of them equals another, so the
-// one that is found is the first, and its number tells how many a walk would have tried.
-fn chained(answer: &[i64], table: &[u16], rows: usize, row: &[i64], bucket: usize) -> Search
+// The number of the row that equals the given one, among those that the table links, along the chain of its bucket from the last row back: none of
+// them equals another, so the one that is found is the first.
+fn chained(answer: &[i64], table: &[u16], rows: usize, row: &[i64], bucket: usize) -> Option<usize>
     requires { Linked (length row.now) rows answer.now table.now × (bucket ≡ bucket_of (length table.now) row.now) }
-    ensures { record { found = result.found; tried = result.tried } ≡ sought (min rows (nexts_of (length table.now))) answer.now
-        row.now }
+    ensures { result ≡ place_of (sought (min rows (nexts_of (length table.now))) answer.now row.now) }
 {
     let first = heads(table.len());
     let mut link = kinds::size_at(table, bucket);
     while 0 < link {
         let at = (link - 1) * row.len();
         let end = at + row.len();
-        if same(row, &answer[at..end]) {
-            return Search {
-                found: true,
-                tried: link,
-            };
+        if row == &answer[at..end] {
+            return Some(link - 1);
         }
         link = kinds::size_at(table, first + (link - 1));
     }
-    let tried = least(rows, nexts(table.len()));
-    Search {
-        found: false,
-        tried,
-    }
+    None
 }
 
-// The search for the row among all that are stored: on its chain, then among those that found no room in the table.
-fn known(answer: &[i64], table: &[u16], rows: usize, row: &[i64], bucket: usize) -> Search
+// The same among all rows that are stored: on its chain, then among those that found no room in the table.
+fn known(answer: &[i64], table: &[u16], rows: usize, row: &[i64], bucket: usize) -> Option<usize>
     requires { Linked (length row.now) rows answer.now table.now × (bucket ≡ bucket_of (length table.now) row.now) }
-    ensures { record { found = result.found; tried = result.tried } ≡ sought rows answer.now row.now }
+    ensures { result ≡ place_of (sought rows answer.now row.now) }
 {
-    let linked = chained(answer, table, rows, row, bucket);
-    if linked.found {
-        return linked;
+    if let Some(i) = chained(answer, table, rows, row, bucket) {
+        return Some(i);
     }
     let n = nexts(table.len());
     if rows <= n {
-        return linked;
+        return None;
     }
     let at = n * row.len();
-    let rest = find(&answer[at..], rows - n, row);
-    let found = rest.found;
-    let tried = n + rest.tried;
-    Search { found, tried }
-}
-
-fn narrow(x: usize) -> u16
-    requires { x ≤ 65535 }
-    ensures { result ≡ x }
-{
-    x as u16
+    let i = find(&answer[at..], rows - n, row)?;
+    Some(n + i)
 }
 
 // Row n at the front of its bucket's chain, where the table has room for it.
@@ -218,7 +133,7 @@ fn link(table: &mut [u16], n: usize, bucket: usize)
     let old = table[bucket];
     let at = heads(table.len()) + n;
     table[at] = old;
-    table[bucket] = narrow(n + 1);
+    table[bucket] = (n + 1) as u16;
 }
 
 // One row more: dropped where an equal one is stored; where it does not fit, 41 is certain and nothing is written.
@@ -229,19 +144,19 @@ pub fn add_row(answer: &mut [i64], table: &mut [u16], state: Filled, row: &[i64]
     ensures linked { Linked (length row.now) result.rows answer.new table.new }
 {
     let rows = state.rows;
-    let full = state.full;
-    if full {
+    if state.full {
         return state;
     }
     let h = bucket(row, table.len());
-    if known(answer, table, rows, row, h).found {
+    if known(answer, table, rows, row, h).is_some() {
         return state;
     }
     if capacity(answer.len(), row.len()) <= rows {
         return Filled { rows, full: true };
     }
     let at = rows * row.len();
-    append(answer, at, row);
+    let end = at + row.len();
+    answer[at..end].copy_from_slice(row);
     link(table, rows, h);
     Filled {
         rows: rows + 1,
@@ -259,7 +174,7 @@ pub fn only_row(answer: &mut [i64], row: &[i64]) -> Filled
             full: true,
         };
     }
-    append(answer, 0, row);
+    answer[..row.len()].copy_from_slice(row);
     Filled {
         rows: 1,
         full: false,

@@ -9,6 +9,7 @@ use lib.Dec.{leb}
 use lib.ListN.{length, get_or, drop, set, length-drop, drop_of_length-le}
 use lib.Seq.{get_or-set_same, get_or-set_other, drop-drop}
 use borrow.Author.Tests.{leb-true, leb-false, le-leb, lt-leb}
+use Rattle.std.specs.Prelude.{None}
 use Rattle.quel.specs.Results.{Read, fail, ok, then}
 use Rattle.quel.specs.Tokens.{Token, is_blank, is_letter, run, tokens_from, tokens}
 use Rattle.quel.specs.Lexical.{first}
@@ -17,7 +18,9 @@ use Rattle.quel.proofs.Lexical.{spelled-cut, cut-spelled}
 use Rattle.tokens.specs.Codes.{Spelt, Coded}
 use Rattle.tokens.specs.Table.{Table, token_of, word_in, token_at, tokens_at}
 use Rattle.tokens.specs.Pieces.{leading, Leads}
-use Rattle.tokens.specs.declared.Piece.TheVariants as P
+use Rattle.tokens.specs.Kinds.{number_of}
+use Rattle.tokens.specs.declared.Kind.{Kind}
+use Rattle.tokens.proofs.Leading.{piece}
 use Rattle.tokens.proofs.Places.{split, first-at}
 
 abbrev Tokens : Type 0
@@ -168,16 +171,19 @@ module _ (text K S N : List ℕ) (at n : ℕ) (h : Held text K S N at n) (short 
       word : first is_blank (drop at text) ≡ false
       word = first-at is_blank text at l ∙ w
 
-      pub held-refused : Leads P.Refused (drop at text) → fail ≡ tokens text
+      pub held-refused : Leads None (drop at text) → fail ≡ tokens text
       held-refused p =
           ap (ahead (tokens_at text (record { kinds = K; starts = S; numbers = N }) 0 n)) (sym (lex-refused (drop at text) (omega (arith, length-drop at text)) word (sym p.says)))
           ∙ (h.reads ∙ sym whole)
 
-      module _ (k m v : ℕ) (p : Leads (P.Found k m v) (drop at text)) where
+      module _ (kind : Kind) (m v : ℕ) (p : Leads (piece kind m v) (drop at text)) where
+        abbrev k : ℕ
+        k = number_of kind
+
         pub held-room : (1 ≤ m) × (at + m ≤ length text)
         held-room = (p.fits.0, omega (arith, p.fits.1, length-drop at text))
 
-        pub held_more : n < length K → n < length S → n < length N → Held text (set K n k) (set S n at) (set N n v) (at + m) (n + 1)
+        pub held_more : n < length K → n < length S → n < length N → Held text (set K n (number_of kind)) (set S n at) (set N n v) (at + m) (n + 1)
         held_more h₁ h₂ h₃ = record {
           reads =
               ap (λ (ts : List Token). ahead ts (lex (drop (at + m) text))) (ap (tokens_at text (new text K S N n k at v) 0) (add-one n) ∙ (more text K S N n k at v 0 n (omega arith) ∙ ap (λ (t : Token). tokens_at text (old text K S N n k at v) 0 n ++ (t ∷ [])) (added text K S N n k at v h₁ h₂ h₃)))

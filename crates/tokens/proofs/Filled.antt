@@ -1,18 +1,21 @@
 -- Spaces after letters, and whether these are a name.
 use mathlib.Core.Path.{◌≡◌, refl, sym, ap, ap₂, ◌∙◌}
 use mathlib.Core.Bool.{Bool, true, false, not, ◌&&◌}
-use mathlib.Core.List.{List, ◌∷◌}
+use mathlib.Core.List.{List, [], ◌∷◌}
 use Prim.Native.Nat.{ℕ, ◌+◌, ◌<◌, ◌≤◌}
 use native.Mathlib.Numerals.{add-one}
 use native.Mathlib.Omega.{arith}
 use lib.Dec.{eqb, leb}
 use lib.ListN.{length, get_or, drop, drop_of_length-le}
 use lib.Seq.{drop-cons}
-use borrow.Author.Tests.{le-leb, lt-leb, leb-true, leb-false, not-true, not-false}
+use borrow.Author.Tests.{le-leb, lt-leb, leb-true, leb-false, ne_eqb}
+use Rattle.std.specs.Prelude.{zero, suc, Option, Some, None, option_map, is_none}
+use Rattle.std.specs.List.{list_all}
 use Rattle.model.specs.Lists.{all}
 use Rattle.quel.specs.Tokens.{is_letter, run, reserved, is_reserved}
 use Rattle.tokens.specs.Spans.{capped}
-use Rattle.tokens.specs.Kinds.{code_of, kind_spelled, is_name}
+use Rattle.tokens.specs.Kinds.{number_of, code_of, kind_spelled, some_kind, is_name}
+use Rattle.tokens.specs.declared.Kind.{Kind}
 use Rattle.tokens.proofs.Places.{run-all}
 use Rattle.tokens.proofs.Words.{reserved-kind}
 
@@ -45,6 +48,12 @@ module _ (y : List ℕ) (p : ℕ → Bool) where
         go true f = no_more i h ∙ e (leb-true n i f)
         go false f = no_more n (omega (arith, leb-false n i f))
 
+-- a test of each element, as std and the model have it
+pub same-all : (p : ℕ → Bool) (xs : List ℕ) → list_all p xs ≡ all p xs
+unfolding all
+same-all p [] = refl
+same-all p (x ∷ xs) = ap (λ (b : Bool). p x && b) (same-all p xs)
+
 -- whether letters are a name, by the outcomes of the tests
 module _ (x : List ℕ) (n : ℕ) (en : n ≡ length (run is_letter x)) where
   name_of : is_name x ≡ (leb 1 n && (all (λ b. eqb b 32) (drop n x) && not (is_reserved (run is_letter x))))
@@ -58,12 +67,17 @@ module _ (x : List ℕ) (n : ℕ) (en : n ≡ length (run is_letter x)) where
     name-rest : is_name x ≡ (s && not (is_reserved (run is_letter x)))
     name-rest = name_of ∙ ap₂ (λ (t u : Bool). t && (u && not (is_reserved (run is_letter x)))) (le-leb 1 n (omega (arith, nz))) (sym es)
 
-    pub not-filled : not s ≡ true → false ≡ is_name x
-    not-filled f = sym (name-rest ∙ ap (λ (t : Bool). t && not (is_reserved (run is_letter x))) (not-true s f))
+    pub not-filled : s ≡ false → false ≡ is_name x
+    not-filled f = sym (name-rest ∙ ap (λ (t : Bool). t && not (is_reserved (run is_letter x))) f)
 
-    pub filled : not s ≡ false → (v k : ℕ) → v ≡ capped (code_of (run is_letter x)) → k ≡ kind_spelled reserved v → eqb k 0 ≡ is_name x
-    filled f v k ev ek = twice (eqb k 0) ∙ ap not (ap (λ (m : ℕ). not (eqb m 0)) (ek ∙ ap (kind_spelled reserved) ev) ∙ reserved-kind (run is_letter x) (run-all is_letter x)) ∙ sym (name-rest ∙ ap (λ (t : Bool). t && not (is_reserved (run is_letter x))) (not-false s f))
+    pub filled : s ≡ true → (v : ℕ) (o : Option Kind) → v ≡ capped (code_of (run is_letter x)) → option_map number_of o ≡ some_kind (kind_spelled reserved v) → is_none o ≡ is_name x
+    filled f v o ev eo =
+        missing o (kind_spelled reserved v) eo
+        ∙ ap not (ap (λ (u : ℕ). not (eqb (kind_spelled reserved u) 0)) ev ∙ reserved-kind (run is_letter x) (run-all is_letter x))
+        ∙ sym (name-rest ∙ ap (λ (t : Bool). t && not (is_reserved (run is_letter x))) f)
       where
-        twice : (b : Bool) → b ≡ not (not b)
-        twice true = refl
-        twice false = refl
+        missing : (o : Option Kind) (n : ℕ) → option_map number_of o ≡ some_kind n → is_none o ≡ not (not (eqb n 0))
+        missing None zero e = refl
+        missing None (suc n) e = cc
+        missing (Some k) zero e = cc
+        missing (Some k) (suc n) e = sym (ap (λ (b : Bool). not (not b)) (ne_eqb (suc n) 0 (λ z. omega arith)))

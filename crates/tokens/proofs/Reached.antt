@@ -11,14 +11,14 @@ use Rattle.tokens.specs.Spans.{within, positional, capped}
 use Rattle.tokens.proofs.Places.{first-lt, run-stops, run-goes}
 use Rattle.tokens.proofs.Values.{capped-low, capped_le, capped-digit}
 
-pub record Reached (text : List ℕ) (at low high base start end value : ℕ) : Type 0 where
-  pub ends : end + length (run (within low high) (drop end text)) ≡ at + length (run (within low high) (drop at text))
-  pub spells : capped (positional base low value (run (within low high) (drop end text))) ≡ capped (positional base low start (run (within low high) (drop at text)))
+pub record Reached (text : List ℕ) (low high base start end value : ℕ) : Type 0 where
+  pub ends : end + length (run (within low high) (drop end text)) ≡ length (run (within low high) text)
+  pub spells : capped (positional base low value (run (within low high) (drop end text))) ≡ capped (positional base low start (run (within low high) text))
   pub small : value ≤ 288230376151711744
   pub inside : end ≤ length text
 
-module _ (text : List ℕ) (at low high base start : ℕ) (b : 1 ≤ base) (end value : ℕ) (h : Reached text at low high base start end value) where
-  pub turn : first (within low high) (drop end text) ≡ true → (v : ℕ) → v ≡ capped (base * value + (get_or text end 0 - low)) → Reached text at low high base start (end + 1) v
+module _ (text : List ℕ) (low high base start : ℕ) (b : 1 ≤ base) (end value : ℕ) (h : Reached text low high base start end value) where
+  pub turn : first (within low high) (drop end text) ≡ true → (v : ℕ) → v ≡ capped (base * value + (get_or text end 0 - low)) → Reached text low high base start (end + 1) v
   turn f v e = record {
     ends = omega (arith, h.ends, ap length (run-goes (within low high) text end f));
     spells =
@@ -28,10 +28,10 @@ module _ (text : List ℕ) (at low high base start : ℕ) (b : 1 ≤ base) (end 
     inside = omega (arith, first-lt (within low high) text end f);
   }
 
-  module _ (f : first (within low high) (drop end text) ≡ false) where
-    pub ended : end ≡ at + length (run (within low high) (drop at text))
-    ended = omega (arith, h.ends, ap length (run-stops (within low high) text end f))
-
-    pub spelt : value ≡ capped (positional base low start (run (within low high) (drop at text)))
-    unfolding positional
-    spelt = sym (capped-low value h.small) ∙ (ap (λ (l : List ℕ). capped (positional base low value l)) (sym (run-stops (within low high) text end f)) ∙ h.spells)
+  -- what the stretch is, where no digit comes
+  pub ended : first (within low high) (drop end text) ≡ false → (end ≡ length (run (within low high) text)) × (value ≡ capped (positional base low start (run (within low high) text)))
+  unfolding positional
+  ended f = (
+    omega (arith, h.ends, ap length (run-stops (within low high) text end f)),
+    sym (capped-low value h.small) ∙ (ap (λ (l : List ℕ). capped (positional base low value l)) (sym (run-stops (within low high) text end f)) ∙ h.spells),
+  )

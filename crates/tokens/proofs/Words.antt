@@ -158,8 +158,3 @@ pub no_word : (ps : List (Word × Token)) (v : ℕ) → Every (λ (p : Word × T
 unfolding kind_spelled Every
 no_word [] v ev = refl
 no_word (p ∷ ps) v ev = rw (ne_eqb (code_of p.0) v (λ e. ev.0 (sym e))) (no_word ps v ev.1)
-
-pub no_sign : (ps : List (ℕ × Token)) (b : ℕ) → Every (λ (p : ℕ × Token). b ≡ p.0 → ⊥) ps → sign_kind ps b ≡ 0
-unfolding sign_kind Every
-no_sign [] b ev = refl
-no_sign (p ∷ ps) b ev = rw (ne_eqb p.0 b (λ e. ev.0 (sym e))) (no_sign ps b ev.1)

@@ -1,9 +1,40 @@
 -- The kind of a token, and kinds found by what is written: of a reserved word by the number it spells, of a sign by its byte.
-use Rattle.std.specs.Prelude.{ℕ, ◌+◌, Bool, cond, not, ◌&&◌, List, [], ◌∷◌, eqb, leb, length, drop}
+use Rattle.std.specs.Prelude.{ℕ, zero, suc, ◌+◌, Option, Some, None, Bool, cond, not, ◌&&◌, List, [], ◌∷◌, eqb, leb, length, drop}
 use Rattle.model.specs.Lists.{all}
 use Rattle.quel.specs.Results.{Word}
 use Rattle.quel.specs.Tokens.{Function, COUNT, SUM, AVE, MAX, MIN, Sign, equal, unequal, less, at_most, more, at_least, Token, name, number, function, sign, key, key_code, is_letter, run, is_reserved}
 use Rattle.tokens.specs.Spans.{positional}
+use Rattle.tokens.specs.declared.Kind.{Kind}
+use Rattle.tokens.specs.declared.Kind.TheVariants as K
+
+-- the number of a kind
+abbrev pub number_of : Kind → ℕ
+number_of K.Name = 0
+number_of K.Number = 1
+number_of K.Count = 2
+number_of K.Sum = 3
+number_of K.Ave = 4
+number_of K.Max = 5
+number_of K.Min = 6
+number_of K.Equal = 7
+number_of K.Unequal = 8
+number_of K.Less = 9
+number_of K.AtMost = 10
+number_of K.More = 11
+number_of K.AtLeast = 12
+number_of K.Range = 13
+number_of K.Retrieve = 14
+number_of K.Not = 15
+number_of K.Some = 16
+number_of K.In = 17
+number_of K.Or = 18
+number_of K.And = 19
+number_of K.Left = 20
+number_of K.Right = 21
+number_of K.Comma = 22
+number_of K.Colon = 23
+number_of K.Semicolon = 24
+number_of K.Point = 25
 
 abbrev pub function_code : Function → ℕ
 function_code COUNT = 0
@@ -39,6 +70,11 @@ kind_spelled (p ∷ ps) v = cond (eqb (code_of p.0) v) (kind_of p.1) (kind_spell
 unfoldable pub sign_kind : List (ℕ × Token) → ℕ → ℕ
 sign_kind [] b = 0
 sign_kind (p ∷ ps) b = cond (eqb p.0 b) (kind_of p.1) (sign_kind ps b)
+
+-- a kind that is not 0
+abbrev pub some_kind : ℕ → Option ℕ
+some_kind zero = None
+some_kind (suc k) = Some (suc k)
 
 -- the letters in front are a name, with nothing but spaces after them
 unfoldable pub is_name : List ℕ → Bool

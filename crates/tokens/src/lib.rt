@@ -1,121 +1,165 @@
 // The tokens of a text: words, numbers and signs, each read as far as it goes.
 #![tactic(auto)]
 
-ghost use Rattle.std.specs.Prelude.{◌≡◌, true, ◌+◌, ◌*◌, ◌≤◌, ◌<◌, eqb, length, drop};
+ghost use Rattle.std.specs.Prelude.{◌≡◌, true, false, List, ℕ, ◌∷◌, ◌+◌, ◌*◌, ◌-◌, ◌≤◌, ◌<◌, eqb, length, drop, Some, option_map};
 ghost use Rattle.model.specs.Lists.{all};
 ghost use Rattle.quel.specs.Tokens.{reserved, signs, is_blank, is_letter, is_digit, run, tokens};
 ghost use Rattle.quel.specs.Lexical.{first};
 ghost use Rattle.tokens.specs.Spans.{within, positional, capped};
-ghost use Rattle.tokens.specs.Kinds.{code_of, kind_spelled, sign_kind, is_name};
+ghost use Rattle.tokens.specs.Kinds.{number_of, code_of, kind_spelled, sign_kind, some_kind, is_name};
 ghost use Rattle.tokens.specs.Pieces.{Leads, Opens, Single, read_of, counted};
 ghost use Rattle.tokens.specs.Codes.{Coded};
 
 // Numbers that bytes spell are held up to here: above every word of up to twelve letters, and every constant.
 const LIMIT: u64 = 288_230_376_151_711_744;
 
-fn wide(b: u8) -> u64
-    ensures { result ≡ b }
-{
-    b as u64
-}
+// The largest number, and the smallest without its sign.
+const LARGEST: u64 = 2147483647;
 
-// One digit more, up to the limit.
-fn grown(n: u64, base: u64, digit: u8) -> u64
-    requires { (n ≤ 288230376151711744) × (base ≤ 26) }
-    ensures { result ≡ capped (base * n + digit) }
-{
-    let m = base * n + wide(digit);
-    if m <= LIMIT { m } else { LIMIT }
-}
+const SMALLEST: u64 = 2147483648;
 
-fn between(b: u8, low: u8, high: u8) -> bool
-    ensures { result ≡ within low high b }
-{
-    if low <= b { b <= high } else { false }
-}
+// Bytes of the longest text.
+const LONGEST: usize = 2000;
 
-// Whether the byte at i, if there is one, lies from low to high.
-fn passes(text: &[u8], i: usize, low: u8, high: u8) -> bool
-    ensures { result ≡ first (within low high) (drop i text.now) }
-{
-    if i < text.len() {
-        between(text[i], low, high)
-    } else {
-        false
-    }
-}
-
-// A stretch of bytes from low to high: where it ends, and the number that they spell after a start.
+// The bytes from low to high, as the digits of a number.
 #[derive(Clone, Copy)]
-struct Span {
-    end: usize,
+struct Digits {
+    low: u8,
+    high: u8,
+    base: u64,
+    ghost some: { 1 ≤ base },
+    ghost few: { base ≤ 26 },
+}
+
+const LETTERS: Digits = Digits {
+    low: b'A',
+    high: b'Z',
+    base: 26,
+};
+
+const DECIMALS: Digits = Digits {
+    low: b'0',
+    high: b'9',
+    base: 10,
+};
+
+// The digits that some bytes begin with: how many, and the number that they spell after a start.
+#[derive(Clone, Copy)]
+struct Front {
+    size: usize,
     value: u64,
 }
 
-fn stretch(text: &[u8], at: usize, low: u8, high: u8, base: u64, start: u64) -> Span
-    requires { (at ≤ length text.now) × (1 ≤ base) × (base ≤ 26) × (start ≤ 288230376151711744) }
-    ensures end_value { result.end ≡ at + length (run (within low high) (drop at text.now)) }
-    ensures value_value { result.value ≡ capped (positional base low start (run (within low high) (drop at text.now))) }
-{
-    let mut end = at;
-    let mut value = start;
-    while passes(text, end, low, high) {
-        value = grown(value, base, text[end] - low);
-        end += 1;
+impl Digits {
+    fn has(self, b: u8) -> bool
+        ensures { result ≡ within self.low self.high b }
+    {
+        (self.low..=self.high).contains(&b)
     }
-    Span { end, value }
+
+    // One digit more, up to the limit.
+    fn grown(self, n: u64, b: u8) -> u64
+        requires limited { n ≤ 288230376151711744 }
+        requires digit { self.low ≤ b }
+        ensures { result ≡ capped (self.base * n + (b - self.low)) }
+    {
+        (self.base * n + u64::from(b - self.low)).min(LIMIT)
+    }
+
+    fn front(self, s: &[u8], start: u64) -> Front
+        requires { start ≤ 288230376151711744 }
+        ensures inside { result.size ≤ length s.now }
+        ensures size { result.size ≡ length (run (within self.low self.high) s.now) }
+        ensures value { result.value ≡ capped (positional self.base self.low start (run (within self.low self.high) s.now)) }
+    {
+        let mut value = start;
+        for (size, &b) in s.iter().enumerate() {
+            if !self.has(b) {
+                return Front { size, value };
+            }
+            value = self.grown(value, b);
+        }
+        Front {
+            size: s.len(),
+            value,
+        }
+    }
 }
 
-// The kind of the word that spells a number, 0 for a name. RANGE RETRIEVE NOT SOME IN V COUNT SUM AVE MAX MIN
-fn word_kind(value: u64) -> u8
-    ensures { result ≡ kind_spelled reserved value }
+// The kinds of tokens, in the order of their numbers (specs/Table).
+#[derive(Clone, Copy)]
+enum Kind {
+    Name,
+    Number,
+    Count,
+    Sum,
+    Ave,
+    Max,
+    Min,
+    Equal,
+    Unequal,
+    Less,
+    AtMost,
+    More,
+    AtLeast,
+    Range,
+    Retrieve,
+    Not,
+    Some,
+    In,
+    Or,
+    And,
+    Left,
+    Right,
+    Comma,
+    Colon,
+    Semicolon,
+    Point,
+}
+
+impl From<Kind> for u8 {
+    ghost from_gives = { λ kind n. n ≡ number_of kind };
+
+    fn from(kind: Kind) -> u8 {
+        kind as u8
+    }
+}
+
+// The kind of the reserved word that spells a number. RANGE RETRIEVE NOT SOME IN V COUNT SUM AVE MAX MIN
+#[tactic(auto, unfolding(crate::specs::Kinds::kind_spelled, crate::specs::Spans::positional))]
+fn reserved_kind(value: u64) -> Option<Kind>
+    ensures { option_map number_of result ≡ some_kind (kind_spelled reserved value) }
 {
     match value {
-        19658916 => 13,
-        346837159270 => 14,
-        26747 => 15,
-        783124 => 16,
-        897 => 17,
-        47 => 18,
-        13055269 => 2,
-        30276 => 3,
-        18126 => 4,
-        25711 => 5,
-        25909 => 6,
-        _ => 0,
+        19658916 => Some(Kind::Range),
+        346837159270 => Some(Kind::Retrieve),
+        26747 => Some(Kind::Not),
+        783124 => Some(Kind::Some),
+        897 => Some(Kind::In),
+        47 => Some(Kind::Or),
+        13055269 => Some(Kind::Count),
+        30276 => Some(Kind::Sum),
+        18126 => Some(Kind::Ave),
+        25711 => Some(Kind::Max),
+        25909 => Some(Kind::Min),
+        _ => None,
     }
 }
 
-// Whether spaces fill a stretch of bytes from its nth on. It begins at the first, so that the compiler unrolls it and goes on where the letters end.
-fn spaces(word: &[u8], n: usize) -> bool
-    ensures { result ≡ all (λ b. eqb b 32) (drop n word.now) }
+fn are_spaces(bytes: &[u8]) -> bool
+    ensures { result ≡ all (λ b. eqb b 32) bytes.now }
 {
-    let mut i = 0;
-    while i < word.len() {
-        if i < n {
-            i += 1;
-            continue;
-        }
-        if word[i] != 32 {
-            return false;
-        }
-        i += 1;
-    }
-    true
+    bytes.iter().all(|&b| b == b' ')
 }
 
 // Whether n letters with this code are a name, and all that stands in front of spaces.
 fn is_name(word: &[u8], n: usize, code: u64) -> bool
-    requires { (n ≡ length (run is_letter word.now)) × (code ≡ capped (code_of (run is_letter word.now))) }
+    requires inside { n ≤ length word.now }
+    requires size { n ≡ length (run is_letter word.now) }
+    requires code { code ≡ capped (code_of (run is_letter word.now)) }
     ensures { result ≡ is_name word.now }
 {
-    if n == 0 {
-        return false;
-    }
-    if !spaces(word, n) {
-        return false;
-    }
-    word_kind(code) == 0
+    n != 0 && are_spaces(&word[n..]) && reserved_kind(code).is_none()
 }
 
 // The code of the letters in front, and whether they are a name filled up with spaces.
@@ -129,147 +173,136 @@ pub fn spelling(word: &[u8]) -> Spelled
     ensures code_value { result.code ≡ capped (code_of (run is_letter word.now)) }
     ensures name_value { result.name ≡ is_name word.now }
 {
-    let s = stretch(word, 0, 65, 90, 26, 1);
-    let code = s.value;
-    let name = is_name(word, s.end, code);
+    let letters = LETTERS.front(word, 1);
+    let code = letters.value;
+    let name = is_name(word, letters.size, code);
     Spelled { code, name }
 }
 
-// The kind of a sign of one byte, 0 where the byte is none.
-fn sign_kind(b: u8) -> u8
-    ensures { result ≡ sign_kind signs b }
+// The kind of a sign of one byte.
+#[tactic(auto, unfolding(crate::specs::Kinds::sign_kind))]
+fn sign_kind(b: u8) -> Option<Kind>
+    ensures { option_map number_of result ≡ some_kind (sign_kind signs b) }
 {
     match b {
-        40 => 20,
-        41 => 21,
-        44 => 22,
-        46 => 25,
-        58 => 23,
-        59 => 24,
-        94 => 19,
-        61 => 7,
-        35 => 8,
-        _ => 0,
+        b'(' => Some(Kind::Left),
+        b')' => Some(Kind::Right),
+        b',' => Some(Kind::Comma),
+        b'.' => Some(Kind::Point),
+        b':' => Some(Kind::Colon),
+        b';' => Some(Kind::Semicolon),
+        b'^' => Some(Kind::And),
+        b'=' => Some(Kind::Equal),
+        b'#' => Some(Kind::Unequal),
+        _ => None,
     }
 }
 
-// What begins at a place: a token's kind, how many bytes it has, and its number; or no token.
+// A token that some bytes begin with: its kind, how many bytes it has, and its number.
 #[derive(Clone, Copy)]
-enum Piece {
-    Found(u8, usize, u64),
-    Refused,
+struct Piece {
+    kind: Kind,
+    size: usize,
+    value: u64,
 }
 
-// The letter that is known to stand here is counted in: A spells 26 by itself.
-fn word(text: &[u8], at: usize) -> Piece
-    requires { first is_letter (drop at text.now) ≡ true }
-    ensures { Leads result (drop at text.now) }
+fn word(s: &[u8]) -> Piece
+    requires { first is_letter s.now ≡ true }
+    ensures { Leads (Some result) s.now }
 {
-    let s = stretch(text, at + 1, 65, 90, 26, wide(text[at]) - 39);
-    let end = s.end;
-    let code = s.value;
-    Piece::Found(word_kind(code), end - at, code)
-}
-
-fn number(text: &[u8], at: usize) -> Piece
-    requires { first is_digit (drop at text.now) ≡ true }
-    ensures { Leads result (drop at text.now) }
-{
-    let s = stretch(text, at, 48, 57, 10, 0);
-    let end = s.end;
-    let value = s.value;
-    if 2147483647 < value {
-        return Piece::Refused;
+    let letters = LETTERS.front(s, 1);
+    Piece {
+        kind: reserved_kind(letters.value).unwrap_or(Kind::Name),
+        size: letters.size,
+        value: letters.value,
     }
-    Piece::Found(1, end - at, value)
 }
 
-// A minus, with digits straight after it.
-fn negative(text: &[u8], at: usize) -> Piece
-    requires { first (within 45 45) (drop at text.now) ≡ true }
-    ensures { Leads result (drop at text.now) }
+fn number(s: &[u8]) -> Option<Piece>
+    requires { first is_digit s.now ≡ true }
+    ensures { Leads result s.now }
 {
-    let from = at + 1;
-    let s = stretch(text, from, 48, 57, 10, 0);
-    let end = s.end;
-    let value = s.value;
-    if end == from {
-        return Piece::Refused;
+    let digits = DECIMALS.front(s, 0);
+    let value = digits.value;
+    if LARGEST < value {
+        return None;
     }
-    if 2147483648 < value {
-        return Piece::Refused;
-    }
-    Piece::Found(1, end - at, (4294967296 - value) % 4294967296)
+    Some(Piece {
+        kind: Kind::Number,
+        size: digits.size,
+        value,
+    })
 }
 
-// < or >, with the = straight after it, if there is one. The kind is that of the sign alone.
-fn with_equal(text: &[u8], at: usize, kind: u8) -> Piece
-    requires { Opens kind (drop at text.now) }
-    ensures { Leads result (drop at text.now) }
+// After a minus, with digits straight after it.
+fn negative(rest: &[u8]) -> Option<Piece>
+    ensures { Leads result (45 ∷ rest.now) }
 {
-    if passes(text, at + 1, 61, 61) {
-        Piece::Found(kind + 1, 2, 0)
+    let digits = DECIMALS.front(rest, 0);
+    let value = digits.value;
+    if digits.size == 0 || SMALLEST < value {
+        return None;
+    }
+    Some(Piece {
+        kind: Kind::Number,
+        size: 1 + digits.size,
+        value: (4294967296 - value) % 4294967296,
+    })
+}
+
+// After < or >, which is of the kind with, if the = stands straight after it, and else of the kind alone.
+fn with_equal(rest: &[u8], alone: Kind, with: Kind) -> Piece
+    ensures { (b : ℕ) → Opens (number_of alone) (number_of with) b → Leads (Some result) (b ∷ rest.now) }
+{
+    if rest.starts_with(b"=") {
+        Piece {
+            kind: with,
+            size: 2,
+            value: 0,
+        }
     } else {
-        Piece::Found(kind, 1, 0)
+        Piece {
+            kind: alone,
+            size: 1,
+            value: 0,
+        }
     }
 }
 
 // A byte that begins neither a word nor a number nor a sign of two bytes.
-fn single(text: &[u8], at: usize) -> Piece
-    requires { Single (drop at text.now) }
-    ensures { Leads result (drop at text.now) }
+fn single(b: u8) -> Option<Piece>
+    ensures { (rest : List ℕ) → Single b → Leads result (b ∷ rest) }
 {
-    let kind = sign_kind(text[at]);
-    if kind == 0 {
-        return Piece::Refused;
-    }
-    Piece::Found(kind, 1, 0)
+    sign_kind(b).map(|kind| Piece {
+        kind,
+        size: 1,
+        value: 0,
+    })
 }
 
-// The token that begins at a place.
-fn piece_at(text: &[u8], at: usize) -> Piece
-    requires { at < length text.now }
-    ensures { Leads result (drop at text.now) }
+// The token that bytes begin with.
+fn first_piece(s: &[u8]) -> Option<Piece>
+    ensures { Leads result s.now }
 {
-    if passes(text, at, 65, 90) {
-        return word(text, at);
+    match s {
+        [b'A'..=b'Z', ..] => Some(word(s)),
+        [b'0'..=b'9', ..] => number(s),
+        [b'-', rest @ ..] => negative(rest),
+        [b'<', rest @ ..] => Some(with_equal(rest, Kind::Less, Kind::AtMost)),
+        [b'>', rest @ ..] => Some(with_equal(rest, Kind::More, Kind::AtLeast)),
+        [b, ..] => single(*b),
+        [] => None,
     }
-    if passes(text, at, 48, 57) {
-        return number(text, at);
-    }
-    if passes(text, at, 45, 45) {
-        return negative(text, at);
-    }
-    if passes(text, at, 60, 60) {
-        return with_equal(text, at, 9);
-    }
-    if passes(text, at, 62, 62) {
-        return with_equal(text, at, 11);
-    }
-    single(text, at)
 }
 
 fn is_blank(b: u8) -> bool
     ensures { result ≡ is_blank b }
 {
-    if b == 32 {
-        return true;
-    }
-    if b == 10 {
-        return true;
-    }
-    b == 13
+    matches!(b, b' ' | b'\n' | b'\r')
 }
 
-// How many tokens, or no text.
-#[derive(Clone, Copy)]
-pub enum Outcome {
-    Tokens(usize),
-    Refused,
-}
-
-// The tokens of a text of at most 2,000 bytes, into arrays: kinds, where words start, and numbers; that of a name is its code.
-pub fn cut(text: &[u8], kinds: &mut [u8], starts: &mut [u16], numbers: &mut [u64]) -> Outcome
+// The tokens of a text of at most 2,000 bytes, into arrays: kinds, where words start, and numbers; that of a name is its code. How many, or no text.
+pub fn cut(text: &[u8], kinds: &mut [u8], starts: &mut [u16], numbers: &mut [u64]) -> Option<usize>
     requires { length text.now ≤ 2000 → (length text.now ≤ length kinds.old) × (length text.now ≤ length starts.old)
         × (length text.now ≤ length numbers.old) }
     ensures numbers_after { read_of result text.now (record {
@@ -284,8 +317,8 @@ pub fn cut(text: &[u8], kinds: &mut [u8], starts: &mut [u16], numbers: &mut [u64
     }) (counted result) }
     ensures result_bound { (counted result ≤ 2000) × (counted result ≤ length text.now) }
 {
-    if 2000 < text.len() {
-        return Outcome::Refused;
+    if LONGEST < text.len() {
+        return None;
     }
     let mut at = 0;
     let mut n = 0;
@@ -294,14 +327,12 @@ pub fn cut(text: &[u8], kinds: &mut [u8], starts: &mut [u16], numbers: &mut [u64
             at += 1;
             continue;
         }
-        let Piece::Found(kind, size, value) = piece_at(text, at) else {
-            return Outcome::Refused;
-        };
-        kinds[n] = kind;
+        let piece = first_piece(&text[at..])?;
+        kinds[n] = u8::from(piece.kind);
         starts[n] = at as u16;
-        numbers[n] = value;
+        numbers[n] = piece.value;
         n += 1;
-        at += size;
+        at += piece.size;
     }
-    Outcome::Tokens(n)
+    Some(n)
 }

@@ -1,10 +1,7 @@
-use Prim.Native.Nat.{◌+◌, ◌*◌}
-use native.Mathlib.Omega.{arith}
-use Rattle.kinds.proofs.Signed.{below_half, from-half}
+use Rattle.std.proofs.Common.{arith, ◌∙◌, ◌+◌, ◌*◌, w32}
+use mir.Facts.{to_z-of_z}
+use Rattle.kinds.proofs.Signed.{read-as}
 use Rattle.branches.proofs.joined.Goals as goal
 
-pub returns-then-n-lt2147483648 : goal.returns-then-n-lt2147483648
-returns-then-n-lt2147483648 c = (below_half c.args.low 0 c.args.high 0 (c.args.low + 65536 * c.args.high) (omega arith) c.if-n-lt2147483648.true).0
-
-pub returns-else-n-lt2147483648 : goal.returns-else-n-lt2147483648
-returns-else-n-lt2147483648 c = (from-half c.args.low 0 c.args.high 0 (c.args.low + 65536 * c.args.high) (omega arith) c.if-n-lt2147483648.false (omega arith)).0
+pub returns : goal.returns
+returns c = to_z-of_z {w = w32} (record { sfits = c.cast_signed.type_inv }) ∙ c.cast_signed.ensures ∙ read-as c.args.low 0 c.args.high 0 (c.args.low + 65536 * c.args.high) (omega arith) (omega arith)

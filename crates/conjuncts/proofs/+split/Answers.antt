@@ -10,4 +10,4 @@ use Prim.Native.Nat.{◌-◌}
 use Rattle.conjuncts.proofs.+split.Goals as goal
 
 pub returns : goal.returns
-returns t c = let memo = c.args.memo.now in let q = c.args.q.now in let z = c.args.z.now in let level = c.args.spot.level in let ranges = c.args.ranges in record { lower_bound = (omega (arith, c.split-next.ensures.lower_bound.0, c.split.ensures.lower_bound.0), c.split.ensures.lower_bound.1); joined = subst (λ (d : Condition). Joined c.split.result c.args.t.now c.split.new.t q z memo d (ranges_at ranges q)) (sym (and-whole c.parts_at-x.result (c.args.room.end - c.args.room.next) level c.args.spot.place q z c.parts_at-x.ensures c.if-x-ne2.false)) (joined-both c.split-next.result c.split.result c.args.t.now c.split-next.new.t c.split.new.t q z memo (decode (level - 1) (drop c.parts_at-x.result.first q) (drop c.parts_at-x.result.first z)) (decode (level - 1) (drop c.parts_at-x.result.second q) (drop c.parts_at-x.result.second z)) (ranges_at ranges q) c.split-next.ensures.joined c.split.ensures.joined) }
+returns t c = let memo = c.args.memo.now in let q = c.args.q.now in let z = c.args.z.now in let level = c.args.spot.level in let x = c.in-Some.x in let ranges = c.args.ranges in record { lower_bound = (omega (arith, c.split-next.ensures.lower_bound.0, c.split.ensures.lower_bound.0), c.split.ensures.lower_bound.1); joined = subst (λ (d : Condition). Joined c.split.result c.args.t.now c.split.new.t q z memo d (ranges_at ranges q)) (sym (and-whole x _ level c.args.spot.place q z c.eq.result c.in-Some.ensures c.eq.ensures c.if-eq.true)) (joined-both c.split-next.result c.split.result c.args.t.now c.split-next.new.t c.split.new.t q z memo (decode (level - 1) (drop x.first q) (drop x.first z)) (decode (level - 1) (drop x.second q) (drop x.second z)) (ranges_at ranges q) c.split-next.ensures.joined c.split.ensures.joined) }

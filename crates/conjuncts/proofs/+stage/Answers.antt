@@ -24,4 +24,4 @@ pub returns-then-n-eq1 : goal.returns-then-n-eq1
 returns-then-n-eq1 t c = let q = c.args.q.now in record { upper_bound = c.stage-a.ensures.upper_bound; settled = one-settled q c.args.z.now (ranges_at c.args.ranges q) c.args.place c.args.level _ c.if-level-eq0.false c.byte-kind.ensures _ c.if-kind-eq33.false _ _ c.child_counts-children.ensures.0 c.child_counts-children.ensures.1 refl _ _ _ c.record_length.ensures.value refl c.stage-a.ensures.settled c.if-n-eq1.true }
 
 pub returns : goal.returns
-returns t c = let q = c.args.q.now in let ranges = c.args.ranges in record { upper_bound = c.later.ensures.2 ranges c.stage-a.ensures.upper_bound c.stage.ensures.upper_bound; settled = two-settled q c.args.z.now (ranges_at ranges q) c.args.place c.args.level _ c.if-level-eq0.false c.byte-kind.ensures _ c.if-kind-eq33.false _ _ c.child_counts-children.ensures.0 c.child_counts-children.ensures.1 refl _ _ _ c.record_length.ensures.value refl c.stage-a.ensures.settled _ _ _ _ c.size_at.ensures.value refl c.stage.ensures.settled c.later.ensures.0 c.later.ensures.1 }
+returns t c = let q = c.args.q.now in let ranges = c.args.ranges in record { upper_bound = omega (arith, c.max.ensures, c.stage-a.ensures.upper_bound, c.stage.ensures.upper_bound); settled = two-settled q c.args.z.now (ranges_at ranges q) c.args.place c.args.level _ c.if-level-eq0.false c.byte-kind.ensures _ c.if-kind-eq33.false _ _ c.child_counts-children.ensures.0 c.child_counts-children.ensures.1 refl _ _ _ c.record_length.ensures.value refl c.stage-a.ensures.settled _ _ _ _ c.size_at.ensures.value refl c.stage.ensures.settled (omega (arith, c.max.ensures)) (omega (arith, c.max.ensures)) }

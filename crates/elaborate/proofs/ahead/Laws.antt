@@ -174,9 +174,6 @@ module _ (k next after r : ℕ) where
     kind-is = p.4;
   }
 
-pub and_low : (k : ℕ) → (leb 7 k && leb k 12) ≡ true → (7 ≤ k) × (k ≤ 12)
-and_low k i = let j = and-inv (leb 7 k) (leb k 12) i in (leb-true 7 k j.0, leb-true k 12 j.1)
-
 pub back : {i : ℕ} → 0 < i → i ≡ i - 1 + 1
 back h = omega arith
 

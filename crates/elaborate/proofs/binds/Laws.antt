@@ -4,7 +4,6 @@ use mathlib.Core.Bool.{Bool, true, false, not, cond, ◌&&◌}
 use mathlib.Core.List.{List, [], ◌∷◌, ◌++◌, map, map-append, append_assoc, append-nil}
 use mathlib.Core.Option.{Option, none, some}
 use mathlib.Core.Path.{◌≡◌, refl, sym, ap, ap₂, ◌∙◌, subst}
-use native.Mathlib.Omega.{arith}
 use native.Mathlib.Numerals.{add-one}
 use lib.Dec.{eqb, leb}
 use lib.ListN.{length, get_or, set}
@@ -21,7 +20,8 @@ use Rattle.flat.specs.Flat.{uses, bound, range_name, symbol_of}
 use Rattle.elaborate.specs.Places.{table, tokens_from, name_in}
 use Rattle.elaborate.specs.Numbers.{Used}
 use Rattle.elaborate.proofs.marks.Walks.{from_cons, from_end, here, here-is}
-use Rattle.elaborate.specs.declared.reach.Known.TheVariants as K
+use Rattle.std.specs.Prelude.{Some, None}
+use Rattle.std.specs.Prelude as P
 use Rattle.elaborate.specs.Reach.{mode_in, relation_in, variable_in, place_in, used_in, Bound, range_symbol, known_by, known_of, standing}
 use Rattle.elaborate.specs.Tables.{Same, Named, Clear, Holds}
 use Rattle.elaborate.proofs.reach.Holds.{holds-none, holds_more}
@@ -29,9 +29,7 @@ use Rattle.elaborate.proofs.items.Ranges.{bound-kind}
 use Rattle.elaborate.specs.After.{ended}
 use Rattle.elaborate.proofs.turns.Laws.{ended-before}
 use Rattle.elaborate.specs.declared.binds.Tally.{Tally}
-use Rattle.elaborate.specs.declared.binds.Ranges.{Ranges}
-use Rattle.elaborate.specs.declared.binds.Ranges.TheVariants as R
-use Rattle.elaborate.specs.Tallies.{listing, open_relation, symbols_in, bound_from, to_do, after_token, Binds, Counts, Stands, Tells, Adds, Fills}
+use Rattle.elaborate.specs.Tallies.{listing, stated, open_relation, symbols_in, bound_from, to_do, after_token, Binds, Counts, Stands, Tells, Adds, Fills}
 
 -- one symbol more
 module _ (es : List Entry) (d : List ℕ) (at : ℕ) (done : List Symbol) (F : List Symbol → ℕ → Written) (x : Word) (q : ℕ) where
@@ -90,69 +88,69 @@ module _ (text : List ℕ) (t : Table) (es : List Entry) (main : ℕ) where
     other_step a b c o n = from-kind o n ∙ rw (ne_eqb kind 0 a, ne_eqb kind 14 b, ne_eqb kind 21 c)
 
     module _ (s : Tally) (cs : List Bound) (out : List ℕ) where
-      pub close : kind ≡ 21 → Binds text t es main i s cs out (R.Listed (record { inside = false; relation = 0; n = s.n; at = s.at })) cs out
+      pub close : kind ≡ 21 → Binds text t es main i s cs out (Some (record { relation = None; n = s.n; at = s.at })) cs out
       close e = record { ends = λ F. ap (λ (g : Read ℕ (List Symbol)). ended out s.at (listing es (symbols_in text t es main cs) F g)) (right-step e (open_relation s) s.n) }
 
-      pub pass : (kind ≡ 0 → ⊥) → (kind ≡ 14 → ⊥) → (kind ≡ 21 → ⊥) → Binds text t es main i s cs out (R.Listed s) cs out
+      pub pass : (kind ≡ 0 → ⊥) → (kind ≡ 14 → ⊥) → (kind ≡ 21 → ⊥) → Binds text t es main i s cs out (Some s) cs out
       pass a b c = record { ends = λ F. ap (λ (g : Read ℕ (List Symbol)). ended out s.at (listing es (symbols_in text t es main cs) F g)) (other_step a b c (open_relation s) s.n) }
 
-      pub next : (kind ≡ 0 → ⊥) → (kind ≡ 14 → ⊥) → (u : Tally) → u ≡ cond (eqb kind 21) (record { inside = false; relation = 0; n = s.n; at = s.at }) s → Binds text t es main i s cs out (R.Listed u) cs out
+      pub next : (kind ≡ 0 → ⊥) → (kind ≡ 14 → ⊥) → (u : Tally) → u ≡ cond (eqb kind 21) (record { relation = None; n = s.n; at = s.at }) s → Binds text t es main i s cs out (Some u) cs out
       next a b u eu = go (eqb kind 21) refl
         where
-          go : (d : Bool) → eqb kind 21 ≡ d → Binds text t es main i s cs out (R.Listed u) cs out
-          go true f = subst (λ (x : Tally). Binds text t es main i s cs out (R.Listed x) cs out) (sym (eu ∙ ap (λ (d : Bool). cond d (record { inside = false; relation = 0; n = s.n; at = s.at }) s) f)) (close (eqb-true kind 21 f))
-          go false f = subst (λ (x : Tally). Binds text t es main i s cs out (R.Listed x) cs out) (sym (eu ∙ ap (λ (d : Bool). cond d (record { inside = false; relation = 0; n = s.n; at = s.at }) s) f)) (pass a b (eqb-false kind 21 f))
+          go : (d : Bool) → eqb kind 21 ≡ d → Binds text t es main i s cs out (Some u) cs out
+          go true f = subst (λ (x : Tally). Binds text t es main i s cs out (Some x) cs out) (sym (eu ∙ ap (λ (d : Bool). cond d (record { relation = None; n = s.n; at = s.at }) s) f)) (close (eqb-true kind 21 f))
+          go false f = subst (λ (x : Tally). Binds text t es main i s cs out (Some x) cs out) (sym (eu ∙ ap (λ (d : Bool). cond d (record { relation = None; n = s.n; at = s.at }) s) f)) (pass a b (eqb-false kind 21 f))
 
       -- a relation
-      module _ (e : kind ≡ 0) (f : s.inside ≡ false) where
+      module _ (e : kind ≡ 0) (f : s.relation ≡ None) where
         outside : bound_from text t es main (open_relation s) s.n i ≡ found (relation_named es (here text t i)) (λ q. bound_from text t es main (some q) s.n (i + 1))
-        outside = ap (λ (b : Bool). bound_from text t es main (cond b (some s.relation) none) s.n i) f ∙ name-step e none s.n
+        outside = ap (λ (o : P.Option ℕ). bound_from text t es main (stated o) s.n i) f ∙ name-step e none s.n
 
-        pub known : (q : ℕ) → relation_named es (here text t i) ≡ some q → Binds text t es main i s cs out (R.Listed (record { inside = true; relation = q; n = s.n; at = s.at })) cs out
+        pub known : (q : ℕ) → relation_named es (here text t i) ≡ some q → Binds text t es main i s cs out (Some (record { relation = Some q; n = s.n; at = s.at })) cs out
         known q r = record {
           ends = λ F. ap (λ (g : Read ℕ (List Symbol)). ended out s.at (listing es (symbols_in text t es main cs) F g))
               (outside ∙ ap (λ (o : Option ℕ). found o (λ q. bound_from text t es main (some q) s.n (i + 1))) r);
         }
 
-        pub unknown : relation_named es (here text t i) ≡ none → Binds text t es main i s cs out R.Refused cs out
+        pub unknown : relation_named es (here text t i) ≡ none → Binds text t es main i s cs out None cs out
         unknown r = record {
           ends = λ F. ap (λ (g : Read ℕ (List Symbol)). ended out s.at (listing es (symbols_in text t es main cs) F g))
               (outside ∙ ap (λ (o : Option ℕ). found o (λ q. bound_from text t es main (some q) s.n (i + 1))) r);
         }
 
       -- a symbol
-      module _ (e : kind ≡ 0) (f : s.inside ≡ true) (b : Bool) (eb : b ≡ has_word (here text t i) used) where
+      module _ (e : kind ≡ 0) (q : ℕ) (f : s.relation ≡ Some q) (b : Bool) (eb : b ≡ has_word (here text t i) used) where
         abbrev one : Bound
-        one = record { place = i; relation = s.relation; variable = cond b (some (as_byte s.n)) none }
+        one = record { place = i; relation = q; variable = cond b (some (as_byte s.n)) none }
 
-        inside : bound_from text t es main (open_relation s) s.n i ≡ symbol_of es b (here text t i) s.relation s.n (λ n. bound_from text t es main (some s.relation) n (i + 1))
+        inside : bound_from text t es main (open_relation s) s.n i ≡ symbol_of es b (here text t i) q s.n (λ n. bound_from text t es main (some q) n (i + 1))
         inside =
-            ap (λ (b : Bool). bound_from text t es main (cond b (some s.relation) none) s.n i) f ∙ name-step e (some s.relation) s.n
-            ∙ ap (λ (u : Bool). symbol_of es u (here text t i) s.relation s.n (λ n. bound_from text t es main (some s.relation) n (i + 1))) (sym eb)
+            ap (λ (o : P.Option ℕ). bound_from text t es main (stated o) s.n i) f ∙ name-step e (some q) s.n
+            ∙ ap (λ (u : Bool). symbol_of es u (here text t i) q s.n (λ n. bound_from text t es main (some q) n (i + 1))) (sym eb)
 
-        symbol-is : (d : Bool) → b ≡ d → range_symbol (here text t) one ≡ record { word = here text t i; relation = s.relation; variable = cond d (some (as_byte s.n)) none }
+        symbol-is : (d : Bool) → b ≡ d → range_symbol (here text t) one ≡ record { word = here text t i; relation = q; variable = cond d (some (as_byte s.n)) none }
         unfolding range_symbol
-        symbol-is d u = ap (λ (y : Bool). record { word = here text t i; relation = s.relation; variable = cond y (some (as_byte s.n)) none }) u
+        symbol-is d u = ap (λ (y : Bool). record { word = here text t i; relation = q; variable = cond y (some (as_byte s.n)) none }) u
 
-        still : some s.relation ≡ open_relation s
-        still = ap (λ (b : Bool). cond b (some s.relation) none) (sym f)
+        still : some q ≡ open_relation s
+        still = sym (ap stated f)
 
-        pub unused : b ≡ false → Binds text t es main i s cs out (R.Listed s) (cs ++ (one ∷ [])) out
+        pub unused : b ≡ false → Binds text t es main i s cs out (Some s) (cs ++ (one ∷ [])) out
         unused u = record {
           ends = λ F.
-              ap (λ (g : Read ℕ (List Symbol)). ended out s.at (listing es (symbols_in text t es main cs) F g)) (inside ∙ ap (λ (y : Bool). symbol_of es y (here text t i) s.relation s.n (λ n. bound_from text t es main (some s.relation) n (i + 1))) u)
-              ∙ ap (ended out s.at) (put-unused es out s.at (symbols_in text t es main cs) F (here text t i) s.relation (bound_from text t es main (some s.relation) s.n (i + 1)))
-              ∙ ap₂ (λ (l : List Symbol) (o : Option ℕ). ended out s.at (listing es l F (bound_from text t es main o s.n (i + 1)))) (sym (symbols-more cs one (record { word = here text t i; relation = s.relation; variable = none }) (symbol-is false u))) still;
+              ap (λ (g : Read ℕ (List Symbol)). ended out s.at (listing es (symbols_in text t es main cs) F g)) (inside ∙ ap (λ (y : Bool). symbol_of es y (here text t i) q s.n (λ n. bound_from text t es main (some q) n (i + 1))) u)
+              ∙ ap (ended out s.at) (put-unused es out s.at (symbols_in text t es main cs) F (here text t i) q (bound_from text t es main (some q) s.n (i + 1)))
+              ∙ ap₂ (λ (l : List Symbol) (o : Option ℕ). ended out s.at (listing es l F (bound_from text t es main o s.n (i + 1)))) (sym (symbols-more cs one (record { word = here text t i; relation = q; variable = none }) (symbol-is false u))) still;
         }
 
-        pub used-one : b ≡ true → (to : List ℕ) (p : ℕ) → p ≡ s.at + 3 → to ≡ sets out s.at (1 ∷ as_byte s.n ∷ s.relation ∷ [])
-            → Binds text t es main i s cs out (R.Listed (record { inside = true; relation = s.relation; n = s.n + 1; at = p })) (cs ++ (one ∷ [])) to
+        pub used-one : b ≡ true → (to : List ℕ) (p : ℕ) → p ≡ s.at + 3 → to ≡ sets out s.at (1 ∷ as_byte s.n ∷ q ∷ [])
+            → Binds text t es main i s cs out (Some (record { relation = Some q; n = s.n + 1; at = p })) (cs ++ (one ∷ [])) to
         used-one u to p ep et = record {
           ends = λ F.
-              ap (λ (g : Read ℕ (List Symbol)). ended out s.at (listing es (symbols_in text t es main cs) F g)) (inside ∙ ap (λ (y : Bool). symbol_of es y (here text t i) s.relation s.n (λ n. bound_from text t es main (some s.relation) n (i + 1))) u)
-              ∙ put-used es out s.at (symbols_in text t es main cs) F (here text t i) s.relation (as_byte s.n) (bound_from text t es main (some s.relation) (suc s.n) (i + 1))
-              ∙ ap (λ (l : List Symbol). ended (sets out s.at (1 ∷ as_byte s.n ∷ s.relation ∷ [])) (s.at + 3) (listing es l F (bound_from text t es main (some s.relation) (suc s.n) (i + 1))))
-              (sym (symbols-more cs one (record { word = here text t i; relation = s.relation; variable = some (as_byte s.n) }) (symbol-is true u)))
+              ap (λ (g : Read ℕ (List Symbol)). ended out s.at (listing es (symbols_in text t es main cs) F g)) (inside ∙ ap (λ (y : Bool). symbol_of es y (here text t i) q s.n (λ n. bound_from text t es main (some q) n (i + 1))) u)
+              ∙ put-used es out s.at (symbols_in text t es main cs) F (here text t i) q (as_byte s.n) (bound_from text t es main (some q) (suc s.n) (i + 1))
+              ∙ ap (λ (l : List Symbol). ended (sets out s.at (1 ∷ as_byte s.n ∷ q ∷ [])) (s.at + 3) (listing es l F (bound_from text t es main (some q) (suc s.n) (i + 1))))
+              (sym (symbols-more cs one (record { word = here text t i; relation = q; variable = some (as_byte s.n) }) (symbol-is true u)))
               ∙ rw (ep, et, add-one s.n);
         }
 
@@ -175,14 +173,14 @@ finish es out at done F n g e =
     ap (λ (g : Read ℕ (List Symbol)). ended out at (listing es done F g)) e
     ∙ ap (λ (l : List Symbol). ended out at (before (λ bs. encode_ranges (ranges_of es []) bs) (F l n))) (append-nil done) ∙ ended-ranges es out at (F done n)
 
-module _ (text : List ℕ) (t : Table) (es : List Entry) (main i : ℕ) (s : Tally) (cs : List Bound) (out : List ℕ) (ds : List Bound) (to : List ℕ) (r : Ranges) (g : Binds text t es main i s cs out r ds to) where
-  pub on : (u : Tally) → r ≡ R.Listed u → (F : List Symbol → ℕ → Written) (a : Written) → a ≡ ended out s.at (to_do text t es main F i s cs) → a ≡ ended to u.at (to_do text t es main F (i + 1) u ds)
-  on u e F a h = h ∙ g.ends F ∙ ap (λ (x : Ranges). after_token text t es main F (i + 1) x ds to) e
+module _ (text : List ℕ) (t : Table) (es : List Entry) (main i : ℕ) (s : Tally) (cs : List Bound) (out : List ℕ) (ds : List Bound) (to : List ℕ) (r : P.Option Tally) (g : Binds text t es main i s cs out r ds to) where
+  pub on : (u : Tally) → r ≡ Some u → (F : List Symbol → ℕ → Written) (a : Written) → a ≡ ended out s.at (to_do text t es main F i s cs) → a ≡ ended to u.at (to_do text t es main F (i + 1) u ds)
+  on u e F a h = h ∙ g.ends F ∙ ap (λ (x : P.Option Tally). after_token text t es main F (i + 1) x ds to) e
 
-  pub off : r ≡ R.Refused → (F : List Symbol → ℕ → Written) (a : Written) → a ≡ ended out s.at (to_do text t es main F i s cs) → a ≡ fail
-  off e F a h = h ∙ g.ends F ∙ ap (λ (x : Ranges). after_token text t es main F (i + 1) x ds to) e
+  pub off : r ≡ None → (F : List Symbol → ℕ → Written) (a : Written) → a ≡ ended out s.at (to_do text t es main F i s cs) → a ≡ fail
+  off e F a h = h ∙ g.ends F ∙ ap (λ (x : P.Option Tally). after_token text t es main F (i + 1) x ds to) e
 
-pub within : (s u : Tally) (r : Ranges) → Counts s r → r ≡ R.Listed u → (u.n ≤ s.n + 1) × (u.at ≤ s.at + 3)
+pub within : (s u : Tally) (r : P.Option Tally) → Counts s r → r ≡ Some u → (u.n ≤ s.n + 1) × (u.at ≤ s.at + 3)
 within s u r w e = subst (Counts s) e w
 
 -- a symbol more
@@ -195,7 +193,7 @@ module _ (w : ℕ → Word) (ids known : List ℕ) (cs : List Bound) (f : Same w
   unfolding range_symbol
   says = rw (me, re, ve, pe) (by b)
     where
-      by : (b : Bool) → known_by q (cond b (some v) none) ≡ cond (eqb (cond b 1 2) 0) K.Nothing (cond (eqb (cond b 1 2) 1 && leb 0 0) (K.Variable q v) (K.Head q))
+      by : (b : Bool) → known_by q (cond b (some v) none) ≡ cond (eqb (cond b 1 2) 0) None (Some (record { relation = q; variable = cond (eqb (cond b 1 2) 1 && leb 0 0) (Some v) None }))
       by true = refl
       by false = refl
 
@@ -235,21 +233,21 @@ pub record Filling (ks ids marks codes : List ℕ) (es : List Entry) (from known
 
 module _ (ks ids marks codes : List ℕ) (es : List Entry) (start : List ℕ) where
   -- no name stands for anything yet
-  pub filling-none : (known : List ℕ) → Clear known → Tells marks known → Filling ks ids marks codes es start known start (record { inside = false; relation = 0; n = 0; at = 0 }) 0
+  pub filling-none : (known : List ℕ) → Clear known → Tells marks known → Filling ks ids marks codes es start known start (record { relation = None; n = 0; at = 0 }) 0
   filling-none known z t = record { symbols = []; ends = λ text ss ns main nm u F. refl; stands = λ w f. holds-none w ids known 0 z; tells = t }
 
   module _ (known out : List ℕ) (s : Tally) (i : ℕ) (h : i < length ks) (g : Filling ks ids marks codes es start known out s i) where
     -- a name
-    module _ (r : Ranges) (after to : List ℕ) (a : Adds ids marks codes es i s g.symbols known out r after to) (e : get_or ks i 0 ≡ 0) where
-      pub filling-on : (u : Tally) → r ≡ R.Listed u → Filling ks ids marks codes es start after to u (i + 1)
+    module _ (r : P.Option Tally) (after to : List ℕ) (a : Adds ids marks codes es i s g.symbols known out r after to) (e : get_or ks i 0 ≡ 0) where
+      pub filling-on : (u : Tally) → r ≡ Some u → Filling ks ids marks codes es start after to u (i + 1)
       filling-on u eu = record {
         symbols = a.symbols;
         ends = λ text ss ns main nm us F. on text (table ks ss ns) es main i s g.symbols out a.symbols to r (a.binds text ks ss ns main h e nm us g.tells) u eu F _ (g.ends text ss ns main nm us F);
-        stands = λ w f. subst (λ (x : Ranges). Stands w ids x a.symbols after) eu (a.stands w f (g.stands w f));
+        stands = λ w f. subst (λ (x : P.Option Tally). Stands w ids x a.symbols after) eu (a.stands w f (g.stands w f));
         tells = a.tells g.tells;
       }
 
-      pub fills-off : r ≡ R.Refused → (known' : List ℕ) → Fills ks ids marks codes es start R.Refused known' to
+      pub fills-off : r ≡ None → (known' : List ℕ) → Fills ks ids marks codes es start None known' to
       fills-off eu known' = record {
         symbols = [];
         whole = λ text ss ns main nm us. record { ends = λ F. off text (table ks ss ns) es main i s g.symbols out a.symbols to r (a.binds text ks ss ns main h e nm us g.tells) eu F _ (g.ends text ss ns main nm us F) };
@@ -257,29 +255,26 @@ module _ (ks ids marks codes : List ℕ) (es : List Entry) (start : List ℕ) wh
       }
 
     -- another token
-    pub filling-next : (get_or ks i 0 ≡ 0 → ⊥) → (get_or ks i 0 ≡ 14 → ⊥) → (u : Tally) → u ≡ cond (eqb (get_or ks i 0) 21) (record { inside = false; relation = 0; n = s.n; at = s.at }) s → Filling ks ids marks codes es start known out u (i + 1)
+    pub filling-next : (get_or ks i 0 ≡ 0 → ⊥) → (get_or ks i 0 ≡ 14 → ⊥) → (u : Tally) → u ≡ cond (eqb (get_or ks i 0) 21) (record { relation = None; n = s.n; at = s.at }) s → Filling ks ids marks codes es start known out u (i + 1)
     filling-next a b u eu = record {
       symbols = g.symbols;
-      ends = λ text ss ns main nm us F. on text (table ks ss ns) es main i s g.symbols out g.symbols out (R.Listed u) (next text (table ks ss ns) es main i h s g.symbols out a b u eu) u refl F _ (g.ends text ss ns main nm us F);
+      ends = λ text ss ns main nm us F. on text (table ks ss ns) es main i s g.symbols out g.symbols out (Some u) (next text (table ks ss ns) es main i h s g.symbols out a b u eu) u refl F _ (g.ends text ss ns main nm us F);
       stands = g.stands;
       tells = g.tells;
     }
 
   -- at RETRIEVE, or after the last token
   pub fills : (known out : List ℕ) (s : Tally) (i : ℕ) → Filling ks ids marks codes es start known out s i
-      → ((text ss ns : List ℕ) (main : ℕ) → bound_from text (table ks ss ns) es main (open_relation s) s.n i ≡ ok [] s.n) → Fills ks ids marks codes es start (R.Listed s) known out
+      → ((text ss ns : List ℕ) (main : ℕ) → bound_from text (table ks ss ns) es main (open_relation s) s.n i ≡ ok [] s.n) → Fills ks ids marks codes es start (Some s) known out
   fills known out s i g l = record {
     symbols = g.symbols;
     whole = λ text ss ns main nm us. record { ends = λ F. g.ends text ss ns main nm us F ∙ finish es out s.at (symbols_in text (table ks ss ns) es main g.symbols) F s.n (bound_from text (table ks ss ns) es main (open_relation s) s.n i) (l text ss ns main) };
     stands = g.stands;
   }
 
-pub within-next : (k : ℕ) (s u : Tally) → u ≡ cond (eqb k 21) (record { inside = false; relation = 0; n = s.n; at = s.at }) s → (u.n ≡ s.n) × (u.at ≡ s.at)
+pub within-next : (k : ℕ) (s u : Tally) → u ≡ cond (eqb k 21) (record { relation = None; n = s.n; at = s.at }) s → (u.n ≡ s.n) × (u.at ≡ s.at)
 within-next k s u e = go (eqb k 21) e
   where
-    go : (d : Bool) → u ≡ cond d (record { inside = false; relation = 0; n = s.n; at = s.at }) s → (u.n ≡ s.n) × (u.at ≡ s.at)
+    go : (d : Bool) → u ≡ cond d (record { relation = None; n = s.n; at = s.at }) s → (u.n ≡ s.n) × (u.at ≡ s.at)
     go true f = (ap (λ (x : Tally). x.n) f, ap (λ (x : Tally). x.at) f)
     go false f = (ap (λ (x : Tally). x.n) f, ap (λ (x : Tally). x.at) f)
-
-pub count_fits : (n : ℕ) → n < 4000 → n + 1 < 18446744073709551616
-count_fits n h = omega arith

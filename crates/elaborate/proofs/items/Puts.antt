@@ -14,7 +14,6 @@ use Rattle.quel.specs.Elaboration.{Symbol, symbol_in, head_only, inside, as_byte
 use Rattle.quel.specs.Writing.{Written, before, Reaches, inner, around}
 use Rattle.model.proofs.Tests.{clash, and-inv}
 use Rattle.elaborate.specs.Reach.{known_of, known_by}
-use Rattle.elaborate.specs.declared.items.Item.{Item}
 use Rattle.elaborate.specs.Actions.{use_item, head_item, use_by, head_by, some_by, value_by, item_of, perform}
 use Rattle.elaborate.specs.Puts.{putting, symbol_by, reach_after, number_after, written}
 
@@ -70,17 +69,11 @@ module _ (es : List Entry) (g v : ℕ) (x₀ x₁ x₂ x₃ x₄ : Word) (σ : R
       second s e (some i) =
           ap (λ (x : Word). before (λ bs. 34 ∷ g ∷ as_byte n ∷ s.relation ∷ i ∷ bs) (k ((record { word = x; relation = s.relation; variable = some (as_byte n) } ∷ map head_only (inner σ)) ∷ σ) (suc n))) e
 
-      known : (r : ℕ) (o : Option ℕ) → head_by g (as_byte n) r (attribute_named es r x₄) ≡ head_item es g n x₄ (known_by r o)
-      known r none = refl
-      known r (some u) = refl
-
       first : (o : Option Symbol) → symbol_in x₂ (inner σ) ≡ o
           → found o (λ s. found (attribute_named es s.relation x₄) λ i. before (λ bs. 34 ∷ g ∷ as_byte n ∷ s.relation ∷ i ∷ bs) (k (inside s (as_byte n) (inner σ) ∷ σ) (suc n)))
           ≡ putting (head_item es g n x₄ (known_of o)) (λ it. written it (k ((symbol_by x₂ it ∷ map head_only (inner σ)) ∷ σ) (suc n)))
       first none e = refl
-      first (some s) e =
-          second s (symbol-word x₂ (inner σ) s e) (attribute_named es s.relation x₄)
-          ∙ ap (λ (z : Item). putting z (λ it. written it (k ((symbol_by x₂ it ∷ map head_only (inner σ)) ∷ σ) (suc n)))) (known s.relation s.variable)
+      first (some s) e = second s (symbol-word x₂ (inner σ) s e) (attribute_named es s.relation x₄)
 
   some-put : perform es 6 g v x₀ x₁ x₂ x₃ x₄ σ n k ≡ putting (item_of es 6 g v x₀ x₂ x₃ x₄ (inner σ) n) (λ it. written it (k (reach_after 6 x₁ x₂ it σ) (number_after 6 n)))
   some-put = go (relation_named es x₃)

@@ -16,8 +16,7 @@ use Rattle.elaborate.specs.Tables.{Holds}
 use Rattle.elaborate.proofs.items.Turn.{turn_end}
 use Rattle.elaborate.proofs.reach.Holds.{holds-open}
 use Rattle.elaborate.specs.declared.turns.State.{State}
-use Rattle.elaborate.specs.declared.turns.Next.{Next}
-use Rattle.elaborate.specs.declared.turns.Next.TheVariants as N
+use Rattle.std.specs.Prelude.{Option, Some, None}
 use Rattle.elaborate.specs.Counts.{kind_in, plain, Place, Counted}
 use Rattle.elaborate.specs.Frames.{Under, Stack}
 use Rattle.elaborate.specs.After.{ended, mode_of, left, Going, GoesOn, Within}
@@ -39,16 +38,16 @@ module _ (text : List ℕ) (t : Table) (es : List Entry) (i at n : ℕ) (out : L
   last h z m σ = ap (ended out at) (turn_end text t i h es z m σ n)
 
 module _ (text : List ℕ) (t : Table) (es : List Entry) (ids : List ℕ) (g : List ℕ → Written) (i : ℕ) (s : State) (fs known out : List ℕ) (v : Going text t es ids g i s fs known out)
-    (r : Next) (gs after to : List ℕ) (k : GoesOn text t es ids (λ z. ended out s.at (left text t es ids z i s v.reaches)) (i + 1) r gs after to) where
-  pub on : (u : State) → r ≡ N.Go u → Going text t es ids g (i + 1) u gs after to
+    (r : Option State) (gs after to : List ℕ) (k : GoesOn text t es ids (λ z. ended out s.at (left text t es ids z i s v.reaches)) (i + 1) r gs after to) where
+  pub on : (u : State) → r ≡ Some u → Going text t es ids g (i + 1) u gs after to
   on u e =
-      let n = subst (λ (x : Next). GoesOn text t es ids (λ z. ended out s.at (left text t es ids z i s v.reaches)) (i + 1) x gs after to) e k in
+      let n = subst (λ (x : Option State). GoesOn text t es ids (λ z. ended out s.at (left text t es ids z i s v.reaches)) (i + 1) x gs after to) e k in
       record { reaches = n.reaches; stack = n.stack; ends = λ z. v.ends z ∙ n.ends z }
 
-  pub off : r ≡ N.Refused → (z : List ℕ) → g z ≡ fail
-  off e z = v.ends z ∙ subst (λ (x : Next). GoesOn text t es ids (λ z. ended out s.at (left text t es ids z i s v.reaches)) (i + 1) x gs after to) e k z
+  pub off : r ≡ None → (z : List ℕ) → g z ≡ fail
+  off e z = v.ends z ∙ subst (λ (x : Option State). GoesOn text t es ids (λ z. ended out s.at (left text t es ids z i s v.reaches)) (i + 1) x gs after to) e k z
 
-pub within : (s u : State) (r : Next) → Within s r → r ≡ N.Go u → (u.mode ≤ 6) × (u.depth ≤ s.depth + 1) × (u.n ≤ s.n + 1) × (u.at ≤ s.at + 8197) × (u.crossing < 8192) × (u.i ≡ s.i + 1)
+pub within : (s u : State) (r : Option State) → Within s r → r ≡ Some u → (u.mode ≤ 6) × (u.depth ≤ s.depth + 1) × (u.n ≤ s.n + 1) × (u.at ≤ s.at + 8197) × (u.crossing < 8192) × (u.i ≡ s.i + 1)
 within s u r w e = subst (Within s) e w
 
 -- the RANGE list's frame stands in place of what was counted for the first token
@@ -60,3 +59,7 @@ counted-at ks cs n m e c = subst (Counted ks cs) (sym e) c
 
 pub going-at : (text : List ℕ) (t : Table) (es : List Entry) (ids : List ℕ) (g : List ℕ → Written) (n m : ℕ) (u : State) (fs known out : List ℕ) → m ≡ n → Going text t es ids g n u fs known out → Going text t es ids g m u fs known out
 going-at text t es ids g n m u fs known out e v = subst (λ (i : ℕ). Going text t es ids g i u fs known out) (sym e) v
+
+-- the kinds that the counts are of
+abbrev pub Begun : List ℕ → List ℕ → ℕ → ℕ → Type 0
+Begun ks counts first end = (length ks ≡ end) × (first < end → Counted ks counts first)

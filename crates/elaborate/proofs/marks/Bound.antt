@@ -6,7 +6,7 @@ use mathlib.Core.Path.{◌≡◌, refl, sym, ap, ◌∙◌}
 use native.Mathlib.Omega.{arith}
 use lib.Dec.{eqb}
 use lib.ListN.{length, get_or, set}
-use borrow.Author.Tests.{eqb-true, eqb-false, eq-eqb, ne_eqb}
+use borrow.Author.Tests.{eqb-true, eq-eqb, ne_eqb}
 use Rattle.model.specs.Lists.{any, all}
 use Rattle.model.proofs.Tests.{and-true, clash}
 use Rattle.quel.specs.Results.{Word, same_word, has_word, unique_words}
@@ -15,7 +15,7 @@ use Rattle.flat.specs.Flat.{binding, binders}
 use Rattle.buckets.proofs.Laws.{none-again}
 use Rattle.elaborate.specs.Places.{table, tokens_from, part_kind, bound_place, binds_kind}
 use Rattle.elaborate.specs.Numbers.{Numbered, marked, Seen, Told}
-use Rattle.elaborate.proofs.marks.Walks.{from_end, here, bound-from, binding-other}
+use Rattle.elaborate.proofs.marks.Walks.{from_end, here, bound-from}
 use Rattle.elaborate.proofs.marks.Numbers.{mark-bound}
 
 -- the small functions
@@ -29,21 +29,9 @@ module _ (ks : List ℕ) (i k : ℕ) (ek : k ≡ get_or ks i 0) where
   place-own ne = rw (ne_eqb (get_or ks i 0) 16 (λ e. ne (ek ∙ e)))
 
 module _ (k p : ℕ) where
-  pub binds-some : k ≡ 16 → true ≡ binds_kind k p
-  unfolding binds_kind
-  binds-some e = rw e
-
   pub binds-none : (k ≡ 16 → ⊥) → (k ≡ 0 → ⊥) → false ≡ binds_kind k p
   unfolding binds_kind
   binds-none a b = rw (ne_eqb k 16 a, ne_eqb k 0 b)
-
-  pub binds-name : (k ≡ 16 → ⊥) → k ≡ 0 → eqb p 1 ≡ binds_kind k p
-  unfolding binds_kind
-  binds-name a b = rw (ne_eqb k 16 a, b) (go (eqb p 1) refl)
-    where
-      go : (t : Bool) → eqb p 1 ≡ t → t ≡ binding p
-      go true e = sym (ap binding (eqb-true p 1 e))
-      go false e = sym (binding-other p (eqb-false p 1 e))
 
 -- a token that binds a name
 module _ (text : List ℕ) (t : Table) (p i : ℕ) (h : i < length t.kinds) where

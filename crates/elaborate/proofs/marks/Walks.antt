@@ -1,22 +1,24 @@
 -- The walks at a place of the arrays.
 use Prim.Native.Nat.{ℕ, zero, suc, ◌+◌, ◌-◌, ◌≤◌, ◌<◌}
-use mathlib.Core.Bool.{Bool, true, false, not, cond, ◌&&◌, ◌||◌}
+use mathlib.Core.Bool.{Bool, true, false, cond, ◌&&◌, ◌||◌}
 use mathlib.Core.List.{List, [], ◌∷◌}
 use mathlib.Core.Path.{◌≡◌, refl, sym, ap, ◌∙◌}
 use native.Mathlib.Omega.{arith}
 use native.Mathlib.Nat.{add-zero}
 use native.Mathlib.Numerals.{add-one}
-use lib.Dec.{eqb, leb, ltb}
+use lib.Dec.{eqb, ltb}
 use lib.ListN.{length, get_or, drop, drop_of_length-le}
 use lib.Seq.{drop-cons}
 use borrow.Author.Tests.{ne_eqb, lt-ltb, le-ltb, eqb-true, ltb-true, ltb-false}
+use Rattle.std.specs.List.{list_any}
+use lib.Pointwise.{pointwise}
 use Rattle.model.specs.Lists.{any}
-use Rattle.quel.specs.Results.{Word, same_word, has_word, unique_words}
+use Rattle.quel.specs.Results.{Word, same_word, has_word}
 use Rattle.quel.specs.Tokens.{Token, point, is_letter, run}
 use Rattle.quel.specs.Reader.{starts}
 use Rattle.quel.specs.Ahead.{word_at}
 use Rattle.tokens.specs.Table.{Table, word_in, token_at, tokens_at}
-use Rattle.flat.specs.Flat.{outside, enter, deeper, shallower, uses, binding, opened, closed, binders, main_of, colons, last_by, last_of}
+use Rattle.flat.specs.Flat.{outside, enter, deeper, shallower, uses, binding, binders, main_of, colons, last_by, last_of}
 use Rattle.elaborate.specs.Places.{tokens_from, name_in, point_in, depth_kind, part_kind, use_in}
 use Rattle.elaborate.proofs.marks.Steps.{uses-kind, binders-kind, main-kind, colons-kind, point-kind, word-kind}
 
@@ -82,11 +84,6 @@ has_more : (x w : Word) (l : List Word) (b : Bool) → has_word x (cond b (w ∷
 unfolding has_word any
 has_more x w l true = refl
 has_more x w l false = refl
-
-unique-more : (w : Word) (l : List Word) (b : Bool) → unique_words (cond b (w ∷ l) l) ≡ (not (b && has_word w l) && unique_words l)
-unfolding unique_words
-unique-more w l true = refl
-unique-more w l false = refl
 
 module _ (text : List ℕ) (t : Table) (i : ℕ) (h : i < length t.kinds) where
   abbrev kind : ℕ
@@ -172,14 +169,6 @@ same_word-length [] (y ∷ ys) h = refl
 same_word-length (x ∷ xs) [] h = refl
 same_word-length (x ∷ xs) (y ∷ ys) h = rw (same_word-length xs ys (λ e. h (ap suc e))) (and-false (eqb x y))
 
-pub same_drop : (a b : List ℕ) (i : ℕ) → length a ≡ length b → i < length a → same_word (drop i a) (drop i b) ≡ (eqb (get_or a i 0) (get_or b i 0) && same_word (drop (i + 1) a) (drop (i + 1) b))
-unfolding same_word
-same_drop a b i e h = rw (add-one, drop-cons a i 0 h, drop-cons b i 0 (omega arith))
-
-pub same_end : (a b : List ℕ) (i : ℕ) → length a ≡ length b → length a ≤ i → same_word (drop i a) (drop i b) ≡ true
-unfolding same_word
-same_end a b i e h = rw (drop_of_length-le a {i = i} h, drop_of_length-le b {i = i} (omega arith))
-
 pub deeper-pos : (d : ℕ) → (d ≡ 0 → ⊥) → d + 1 ≡ deeper d
 deeper-pos zero h = absurd (h refl)
 deeper-pos (suc d) h = add-one (suc d)
@@ -200,72 +189,6 @@ pub enter-pos : (d : ℕ) → (d ≡ 0 → ⊥) → d ≡ enter d
 enter-pos zero h = absurd (h refl)
 enter-pos (suc d) h = refl
 
-pub deeper-most : (d : ℕ) → deeper d ≤ d + 1
-deeper-most zero = omega arith
-deeper-most (suc d) = omega arith
-
-pub shallower-most : (d : ℕ) → shallower d ≤ d + 1
-shallower-most zero = omega arith
-shallower-most (suc zero) = omega arith
-shallower-most (suc (suc zero)) = omega arith
-shallower-most (suc (suc (suc d))) = omega arith
-
-pub opened-pos : (p : ℕ) → (p ≡ 0 → ⊥) → p ≡ opened p
-opened-pos zero h = absurd (h refl)
-opened-pos (suc p) h = refl
-
-pub closed-other : (p : ℕ) → (p ≡ 1 → ⊥) → p ≡ closed p
-closed-other zero h = refl
-closed-other (suc zero) h = absurd (h refl)
-closed-other (suc (suc p)) h = refl
-
-pub outside-pos : (d : ℕ) → (d ≡ 0 → ⊥) → outside d ≡ false
-outside-pos zero h = absurd (h refl)
-outside-pos (suc d) h = refl
-
-pub binding-other : (p : ℕ) → (p ≡ 1 → ⊥) → binding p ≡ false
-binding-other zero h = refl
-binding-other (suc zero) h = absurd (h refl)
-binding-other (suc (suc p)) h = refl
-
-pub entered-most : (d : ℕ) → enter d ≤ d + 1
-entered-most zero = omega arith
-entered-most (suc d) = omega arith
-
-module _ (k d : ℕ) where
-  pub depth-function : (leb 2 k && leb k 6) ≡ true → enter d ≡ depth_kind k d
-  unfolding depth_kind
-  depth-function e = rw e
-
-  pub depth-left : k ≡ 20 → deeper d ≡ depth_kind k d
-  unfolding depth_kind
-  depth-left e = rw e
-
-  pub depth-right : k ≡ 21 → shallower d ≡ depth_kind k d
-  unfolding depth_kind
-  depth-right e = rw e
-
-  pub depth-rest : (leb 2 k && leb k 6) ≡ false → (k ≡ 20 → ⊥) → (k ≡ 21 → ⊥) → d ≡ depth_kind k d
-  unfolding depth_kind
-  depth-rest e g h = rw (e, ne_eqb k 20 g, ne_eqb k 21 h)
-
-module _ (k p : ℕ) where
-  pub part-main : k ≡ 14 → 2 ≡ part_kind k p
-  unfolding part_kind
-  part-main e = rw e
-
-  pub part_left : k ≡ 20 → opened p ≡ part_kind k p
-  unfolding part_kind
-  part_left e = rw e
-
-  pub part_right : k ≡ 21 → closed p ≡ part_kind k p
-  unfolding part_kind
-  part_right e = rw e
-
-  pub part-rest : (k ≡ 14 → ⊥) → (k ≡ 20 → ⊥) → (k ≡ 21 → ⊥) → p ≡ part_kind k p
-  unfolding part_kind
-  part-rest a g h = rw (ne_eqb k 14 a, ne_eqb k 20 g, ne_eqb k 21 h)
-
 module _ (text ks ss : List ℕ) (i : ℕ) where
   pub name-past : length ks ≤ i → [] ≡ name_in text ks ss i
   unfolding name_in
@@ -279,28 +202,6 @@ module _ (text ks ss : List ℕ) (i : ℕ) where
   unfolding name_in
   name-there h e x y ex ey = rw (lt-ltb i (length ks) h, e) (ey ∙ ap (run is_letter) ex)
 
-  pub point-there : i < length ks → leb 25 (get_or ks i 0) ≡ point_in ks i
-  unfolding point_in
-  point-there h = rw (lt-ltb i (length ks) h)
-
-  pub point-past : length ks ≤ i → false ≡ point_in ks i
-  unfolding point_in
-  point-past h = rw (le-ltb i (length ks) h)
-
--- whether a token is a use
-module _ (ks : List ℕ) (i k d : ℕ) (ek : k ≡ get_or ks i 0) where
-  pub use-other : (k ≡ 0 → ⊥) → false ≡ use_in ks d i
-  unfolding use_in
-  use-other h = rw (ne_eqb (get_or ks i 0) 0 (λ e. h (ek ∙ e)))
-
-  pub use-inside : k ≡ 0 → (d ≡ 0 → ⊥) → false ≡ use_in ks d i
-  unfolding use_in
-  use-inside e h = rw (sym ek ∙ e, outside-pos d h)
-
-  pub use-there : k ≡ 0 → d ≡ 0 → point_in ks (i + 1) ≡ use_in ks d i
-  unfolding use_in
-  use-there e z = rw (sym ek ∙ e, z)
-
 module _ (text : List ℕ) (t : Table) (i : ℕ) (h : length t.kinds ≤ i) where
   pub no-use-left : (d : ℕ) (x : Word) → false ≡ has_word x (uses d (tokens_from text t i))
   unfolding has_word any uses
@@ -310,6 +211,29 @@ module _ (text : List ℕ) (t : Table) (i : ℕ) (h : length t.kinds ≤ i) wher
   unfolding main_of
   main-end = rw (from_end text t i h)
 
-  pub last_end : last_of (tokens_from text t i) ≡ 16 ∷ []
+-- words compared byte by byte
+pub same-pointwise : (a b : List ℕ) → pointwise eqb a b ≡ same_word a b
+unfolding same_word
+same-pointwise [] [] = refl
+same-pointwise [] (y ∷ ys) = refl
+same-pointwise (x ∷ xs) [] = refl
+same-pointwise (x ∷ xs) (y ∷ ys) = ap (λ (b : Bool). eqb x y && b) (same-pointwise xs ys)
+
+module _ (text : List ℕ) (t : Table) where
+  -- whether a colon stands from i on
+  pub last-any : (n i : ℕ) → length t.kinds ≤ i + n → last_of (tokens_from text t i) ≡ cond (list_any (λ y. eqb y 23) (drop i t.kinds)) [] (16 ∷ [])
   unfolding colons
-  last_end = rw (from_end text t i h)
+  last-any zero i h = ap last_of (from_end text t i (omega arith)) ∙ sym (rw (drop_of_length-le t.kinds {i = i} (omega arith)))
+  last-any (suc n) i h = go (last-any n (i + 1) (omega arith)) (ltb i (length t.kinds)) refl
+    where
+      by : (b c : Bool) → cond {A = List ℕ} b [] (cond c [] (16 ∷ [])) ≡ cond (b || c) [] (16 ∷ [])
+      by true c = refl
+      by false c = refl
+
+      go : last_of (tokens_from text t (i + 1)) ≡ cond (list_any (λ y. eqb y 23) (drop (i + 1) t.kinds)) [] (16 ∷ [])
+          → (b : Bool) → ltb i (length t.kinds) ≡ b → last_of (tokens_from text t i) ≡ cond (list_any (λ y. eqb y 23) (drop i t.kinds)) [] (16 ∷ [])
+      go r true e =
+          last_turn text t i (ltb-true i (length t.kinds) e) ∙ ap (cond {A = List ℕ} (eqb (get_or t.kinds i 0) 23) []) r
+          ∙ by (eqb (get_or t.kinds i 0) 23) (list_any (λ y. eqb y 23) (drop (i + 1) t.kinds))
+          ∙ sym (rw (drop-cons t.kinds i 0 (ltb-true i (length t.kinds) e), add-one i))
+      go r false e = ap last_of (from_end text t i (ltb-false i (length t.kinds) e)) ∙ sym (rw (drop_of_length-le t.kinds {i = i} (ltb-false i (length t.kinds) e)))

@@ -1,16 +1,12 @@
 -- Bytes written often.
-use Prim.Native.Nat.{ℕ, zero, suc, ◌+◌, ◌≤◌, ◌<◌}
+use Prim.Native.Nat.{ℕ, zero, suc, ◌+◌}
 use mathlib.Core.List.{List, [], ◌∷◌, ◌++◌, append_assoc}
 use mathlib.Core.Path.{◌≡◌, refl, sym, ap, ◌∙◌}
 use native.Mathlib.Omega.{arith}
 use native.Mathlib.Numerals.{add-one}
 use lib.ListN.{length, length-append}
-use native.Mathlib.Nat.{add-zero}
 use lib.Seq.{sets}
 use Rattle.quel.specs.Writing.{often}
-use mathlib.Core.Bool.{cond, ◌&&◌}
-use lib.Dec.{leb}
-use borrow.Author.Tests.{le-leb, lt-leb}
 use Rattle.copier.proofs.Sets.{sets_then}
 
 pub often-length : (n b : ℕ) → length (often n b []) ≡ n
@@ -32,9 +28,6 @@ often-turn d x y at i b ex ey =
     sets_then (often i b []) d at (b ∷ []) x y (at + i) ex (ap (λ (n : ℕ). at + n) (sym (often-length i b))) ey
     ∙ ap (sets d at) (often-more i b ∙ ap (λ (n : ℕ). often n b []) (sym (add-one i)))
 
-pub often-done : (d x : List ℕ) (at i n b : ℕ) → i ≡ n → x ≡ sets d at (often i b []) → x ≡ sets d at (often n b [])
-often-done d x at i n b e h = h ∙ ap (λ (m : ℕ). sets d at (often m b [])) e
-
 -- three runs one after the other
 pub three : (d x y r : List ℕ) (at p q s : ℕ) (a b c : List ℕ)
     → p ≡ at + length a → x ≡ sets d at a → q ≡ p + length b → y ≡ sets x p b → s ≡ q + length c → r ≡ sets y q c
@@ -45,18 +38,6 @@ three d x y r at p q s a b c ep ex eq ey es er =
       omega (arith, ep, eq, es, length-append a (b ++ c), length-append b c),
       sets_then (a ++ b) d at c y r q xy (omega (arith, ep, eq, l)) er ∙ ap (sets d at) (append_assoc a b c),
     )
-
--- the sign of a comparison
-module _ (d : List ℕ) (at m k s : ℕ) where
-  pub no_sign : 2 < m → (at ≡ at + length (cond (leb m 2 && leb k 6) (21 ∷ s ∷ []) [])) × (d ≡ sets d at (cond (leb m 2 && leb k 6) (21 ∷ s ∷ []) []))
-  no_sign h = rw (lt-leb m 2 h) (sym (add-zero at), refl)
-
-  pub no_operand : m ≤ 2 → 6 < k → (at ≡ at + length (cond (leb m 2 && leb k 6) (21 ∷ s ∷ []) [])) × (d ≡ sets d at (cond (leb m 2 && leb k 6) (21 ∷ s ∷ []) []))
-  no_operand h i = rw (le-leb m 2 h, lt-leb k 6 i) (sym (add-zero at), refl)
-
-  pub a-sign : m ≤ 2 → k ≤ 6 → (x : List ℕ) (r : ℕ) → r ≡ at + length (21 ∷ s ∷ []) → x ≡ sets d at (21 ∷ s ∷ [])
-      → (r ≡ at + length (cond (leb m 2 && leb k 6) (21 ∷ s ∷ []) [])) × (x ≡ sets d at (cond (leb m 2 && leb k 6) (21 ∷ s ∷ []) []))
-  a-sign h i x r er ex = rw (le-leb m 2 h, le-leb k 6 i) (er, ex)
 
 -- V's, ^'s and a sign
 pub opened-all : (d x y r : List ℕ) (at p q s n o l a : ℕ) (c : List ℕ)

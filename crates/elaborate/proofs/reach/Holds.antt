@@ -13,7 +13,8 @@ use Rattle.model.proofs.Tests.{clash}
 use Rattle.quel.specs.Results.{Word, same_word}
 use Rattle.quel.specs.Elaboration.{Symbol, symbol_in, head_only}
 use Rattle.elaborate.specs.declared.reach.Known.{Known}
-use Rattle.elaborate.specs.declared.reach.Known.TheVariants as K
+use Rattle.std.specs.Prelude.{Some, None}
+use Rattle.std.specs.Prelude as P
 use Rattle.elaborate.specs.Reach.{mode_in, relation_in, variable_in, place_in, known_by, known_of, hide, standing}
 use Rattle.elaborate.specs.Tables.{Same, Clear, Holds}
 
@@ -23,23 +24,18 @@ unfolding symbol_in
 known-hidden x [] = refl
 known-hidden x (s ∷ ρ) = go (known-hidden x ρ) (same_word s.word x)
   where
-    by : (r : ℕ) (o : Option ℕ) → K.Head r ≡ hide true (known_by r o)
-    by r none = refl
-    by r (some v) = refl
-
     go : known_of (symbol_in x (map head_only ρ)) ≡ hide true (known_of (symbol_in x ρ)) → (b : Bool)
         → known_of (elim b [ true ↦ some (head_only s) | false ↦ symbol_in x (map head_only ρ) ]) ≡ hide true (known_of (elim b [ true ↦ some s | false ↦ symbol_in x ρ ]))
-    go e true = by s.relation s.variable
+    go e true = refl
     go e false = e
 
 hide-standing : (a b c : ℕ) → place_in c < b → hide true (standing a c) ≡ standing b c
 hide-standing a b c h = rw (lt-leb b (place_in c) h) (go (eqb (mode_in c) 0) (eqb (mode_in c) 1) (leb a (place_in c)))
   where
-    go : (x y z : Bool) → hide true (cond x K.Nothing (cond (y && z) (K.Variable (relation_in c) (variable_in c)) (K.Head (relation_in c))))
-        ≡ cond x K.Nothing (cond (y && false) (K.Variable (relation_in c) (variable_in c)) (K.Head (relation_in c)))
+    go : (x y z : Bool) → hide true (cond x None (Some (record { relation = relation_in c; variable = cond (y && z) (Some (variable_in c)) None })))
+        ≡ cond x None (Some (record { relation = relation_in c; variable = cond (y && false) (Some (variable_in c)) None }))
     go true y z = refl
-    go false true true = refl
-    go false true false = refl
+    go false true z = refl
     go false false z = refl
 
 symbol-first : (x : Word) (s : Symbol) (ρ : List Symbol) → symbol_in x (s ∷ ρ) ≡ cond (same_word s.word x) (some s) (symbol_in x ρ)
@@ -78,7 +74,7 @@ module _ (w : ℕ → Word) (ids known : List ℕ) (d crossing : ℕ) (ρ : List
         go true q = omega (arith, ep, ap (λ (j : ℕ). place_in (get_or new j 0)) (eqb-true y (get_or ids x 0) q), ap place_in (get_or-set_same known (get_or ids x 0) e 0 room))
         go false q = omega (arith, h.low y, ap place_in (get_or-set_other known (get_or ids x 0) y e 0 (eqb-false y (get_or ids x 0) q)))
 
-    own : (k : ℕ) → k ≤ d + 1 → K.Variable r v ≡ standing k e
+    own : (k : ℕ) → k ≤ d + 1 → known_by r (some v) ≡ standing k e
     own k l = sym (rw (em, er, ev, le-leb k (place_in e) (omega (arith, ep, l))))
 
     in-front : (k : ℕ) → k ≤ d + 1 → (τ : List Symbol) → ((y : ℕ) → known_of (symbol_in (w y) τ) ≡ standing k (get_or known (get_or ids y 0) 0))
@@ -116,25 +112,16 @@ symbol-more x (r ∷ ρ) s = go (same_word r.word x) (symbol-more x ρ s)
     go true h = refl
     go false h = h
 
-abbrev is_nothing : Known → Bool
-is_nothing (K.Variable r v) = false
-is_nothing (K.Head r) = false
-is_nothing K.Nothing = true
+abbrev is_nothing : P.Option Known → Bool
+is_nothing None = true
+is_nothing (Some k) = false
 
 standing-none : (c : ℕ) → is_nothing (standing 0 c) ≡ eqb (mode_in c) 0
-standing-none c = go (eqb (mode_in c) 0) (eqb (mode_in c) 1 && leb 0 (place_in c))
+standing-none c = go (eqb (mode_in c) 0)
   where
-    go : (a b : Bool) → is_nothing (cond a K.Nothing (cond b (K.Variable (relation_in c) (variable_in c)) (K.Head (relation_in c)))) ≡ a
-    go true b = refl
-    go false true = refl
-    go false false = refl
-
-known_some : (s : Symbol) → is_nothing (known_of (some s)) ≡ false
-known_some s = go s.variable
-  where
-    go : (o : Option ℕ) → is_nothing (known_by s.relation o) ≡ false
-    go none = refl
-    go (some v) = refl
+    go : (a : Bool) → is_nothing (cond a None (Some (record { relation = relation_in c; variable = cond (eqb (mode_in c) 1 && leb 0 (place_in c)) (Some (variable_in c)) None }))) ≡ a
+    go true = refl
+    go false = refl
 
 -- a symbol more of the RANGE list, if its name is free
 module _ (w : ℕ → Word) (ids known : List ℕ) (ρ : List Symbol) (h : Holds w ids known 0 0 ρ) (f : Same w ids) (i e : ℕ) (s : Symbol) (room : get_or ids i 0 < length known)
@@ -154,7 +141,7 @@ module _ (w : ℕ → Word) (ids known : List ℕ) (ρ : List Symbol) (h : Holds
       → known_of (or_then o (some s)) ≡ standing 0 (cond b e (get_or known (get_or ids i 0) 0))
   own-says none g true q = ee
   own-says none g false q = clash (sym (ap is_nothing g ∙ standing-none (get_or known (get_or ids i 0) 0) ∙ q))
-  own-says (some t) g true q = clash (sym (known_some t) ∙ ap is_nothing g ∙ standing-none (get_or known (get_or ids i 0) 0) ∙ q)
+  own-says (some t) g true q = clash (ap is_nothing g ∙ standing-none (get_or known (get_or ids i 0) 0) ∙ q)
   own-says (some t) g false q = g
 
   none_more : (o : Option Symbol) → or_then o none ≡ o

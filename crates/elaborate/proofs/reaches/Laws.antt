@@ -5,11 +5,11 @@ use mathlib.Core.Option.{some}
 use mathlib.Core.Path.{◌≡◌, refl, sym, ap, ap₂, ◌∙◌, subst}
 use native.Mathlib.Omega.{arith}
 use native.Mathlib.Numerals.{add-one}
-use lib.Dec.{eqb, leb}
-use lib.ListN.{length, get_or, set, get_or-eq_default}
+use lib.Dec.{eqb}
+use lib.ListN.{length, get_or, set}
 use lib.Seq.{get_or-set_same, get_or-set_other, set-set, set-get_or}
 use mathlib.Core.Bool.{Bool, true, false, ◌||◌}
-use borrow.Author.Tests.{eqb-true, eqb-false, leb-true, leb-false}
+use borrow.Author.Tests.{eqb-true}
 use Rattle.model.proofs.Tests.{clash}
 use Rattle.quel.specs.Results.{Word}
 use Rattle.quel.specs.Elaboration.{Symbol, head_only}
@@ -162,22 +162,6 @@ module _ (a : ℕ) (it : Record) (x₁ x₂ : Word) (σ : Reaches) where
 
 pub small-after : (p crossing x e : ℕ) (fs known gs after : List ℕ) → Opened p crossing x e fs known gs after → ((y : ℕ) → get_or known y 0 < 68719476736) → e < 68719476736 → (y : ℕ) → get_or after y 0 < 68719476736
 small-after p crossing x e fs known gs after u h l y = subst (λ (k : List ℕ). get_or k y 0 < 68719476736) (sym u.stands) (small-set known x e h l y)
-
--- a table cleared from its first entry on
-module _ (known : List ℕ) (i : ℕ) (h : (x : ℕ) → x < i → get_or known x 0 ≡ 0) where
-  pub clear-more : i < length known → (x : ℕ) → x < i + 1 → get_or (set known i 0) x 0 ≡ 0
-  clear-more l x k = go (eqb x i) refl
-    where
-      go : (b : Bool) → eqb x i ≡ b → get_or (set known i 0) x 0 ≡ 0
-      go true e = ap (λ (j : ℕ). get_or (set known i 0) j 0) (eqb-true x i e) ∙ get_or-set_same known i 0 0 l
-      go false e = get_or-set_other known i x 0 0 (eqb-false x i e) ∙ h x (omega (arith, eqb-false x i e))
-
-  pub clear-all : length known ≤ i → (x : ℕ) → get_or known x 0 ≡ 0
-  clear-all l x = go (leb i x) refl
-    where
-      go : (b : Bool) → leb i x ≡ b → get_or known x 0 ≡ 0
-      go true e = get_or-eq_default known 0 (omega (arith, leb-true i x e))
-      go false e = h x (leb-false i x e)
 
 -- frames above the one that was opened are as they were
 pub above_kept : (p crossing x e : ℕ) (fs known gs after : List ℕ) → Opened p crossing x e fs known gs after → (j : ℕ) → p < j → get_or gs j 0 ≡ get_or fs j 0

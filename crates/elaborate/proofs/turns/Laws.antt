@@ -5,7 +5,6 @@ use mathlib.Core.List.{List, [], ◌∷◌, ◌++◌, append_assoc}
 use mathlib.Core.Option.{Option, none, some}
 use mathlib.Core.Path.{◌≡◌, refl, sym, ap, ap₂, ◌∙◌, subst}
 use native.Mathlib.Omega.{arith}
-use native.Mathlib.Numerals.{add-one}
 use lib.Dec.{eqb, leb, ltb}
 use lib.ListN.{length, drop, get_or, get_or-eq_default, length-append}
 use lib.Seq.{sets}
@@ -27,12 +26,11 @@ use Rattle.elaborate.proofs.ahead.Laws.{counted, tokens-ahead}
 use Rattle.elaborate.specs.Places.{tokens_from, point_in}
 use Rattle.elaborate.proofs.marks.Walks.{from_cons, here, point-from}
 use Rattle.elaborate.specs.declared.reach.Known.{Known}
-use Rattle.elaborate.specs.declared.reach.Known.TheVariants as K
 use Rattle.elaborate.specs.Reach.{known_of}
 use Rattle.copier.specs.Copied.{record_bytes}
 use Rattle.copier.proofs.Sets.{sets-append, wrote_then}
-use Rattle.elaborate.specs.declared.items.Item.{Item}
-use Rattle.elaborate.specs.declared.items.Item.TheVariants as I
+use Rattle.std.specs.Prelude.{Some, None}
+use Rattle.std.specs.Prelude as P
 use Rattle.elaborate.specs.Actions.{mode_number, action_of, next_of, item_of, head_by, some_by, head_item}
 use Rattle.elaborate.specs.Puts.{frame_mode, putting, reach_after, number_after, written}
 use Rattle.elaborate.proofs.items.Turns.{opening, next-number}
@@ -192,10 +190,10 @@ module _ (text : List ℕ) (t : Table) (cs : List ℕ) (i : ℕ) (cd : Counted t
     abbrev act : ℕ → ℕ
     act x = action_of x kind (point_in t.kinds (i + 1))
 
-    abbrev item_here : ℕ → Item
+    abbrev item_here : ℕ → P.Option Record
     item_here x = item_of es (act x) (kind - 1) (T.number_here text t i h) (here text t i) (here text t (i + 2)) (here text t (i + 3)) (here text t (i + 4)) (inner σ) n
 
-    abbrev shape : ℕ → Mode → Item → Written
+    abbrev shape : ℕ → Mode → P.Option Record → Written
     shape x g it =
         opening x kind (T.token_here text t i h) (T.rest text t i h)
         (putting it (λ it. written it (loop es z (T.rest text t i h) g (reach_after (act x) (here text t (i + 1)) (here text t (i + 2)) it σ) (number_after (act x) n))))
@@ -214,15 +212,15 @@ module _ (text : List ℕ) (t : Table) (cs : List ℕ) (i : ℕ) (cd : Counted t
     abbrev onward : Record → Written
     onward it = loop es z (T.rest text t i h) (mode_of (next_of m kind (point_in t.kinds (i + 1)))) (reach_after (act m) (here text t (i + 1)) (here text t (i + 2)) it σ) (number_after (act m) n)
 
-    turn-put : (it : Record) → item_here m ≡ I.Put it
+    turn-put : (it : Record) → item_here m ≡ Some it
         → loop es z (tokens_from text t i) (mode_of m) σ n
         ≡ before (λ bs. (bytes_here m ++ record_bytes it) ++ bs) (onward it)
     turn-put it e =
-        turn-shape ∙ ap (λ (x : Item). shape m (mode_of (next_of m kind (point_in t.kinds (i + 1)))) x) e
+        turn-shape ∙ ap (λ (x : P.Option Record). shape m (mode_of (next_of m kind (point_in t.kinds (i + 1)))) x) e
         ∙ opening-bytes m (written it (onward it)) ∙ before-before (bytes_here m) (record_bytes it) (onward it)
 
     -- the state after it
-    module _ (d to : List ℕ) (at p : ℕ) (it : Record) (x : Item) (a k : ℕ) (b : Bool) (ek : k ≡ kind) (eb : b ≡ point_in t.kinds (i + 1)) (ea : a ≡ action_of m k b)
+    module _ (d to : List ℕ) (at p : ℕ) (it : Record) (x : P.Option Record) (a k : ℕ) (b : Bool) (ek : k ≡ kind) (eb : b ≡ point_in t.kinds (i + 1)) (ea : a ≡ action_of m k b)
         (ex : x ≡ item_of es a (k - 1) (T.number_here text t i h) (here text t i) (here text t (i + 2)) (here text t (i + 3)) (here text t (i + 4)) (inner σ) n) where
       act-is : a ≡ act m
       act-is = ea ∙ ap₂ (λ (y : ℕ) (c : Bool). action_of m y c) ek eb
@@ -230,11 +228,11 @@ module _ (text : List ℕ) (t : Table) (cs : List ℕ) (i : ℕ) (cd : Counted t
       item-is : x ≡ item_here m
       item-is = ex ∙ ap₂ (λ (y g : ℕ). item_of es y (g - 1) (T.number_here text t i h) (here text t i) (here text t (i + 2)) (here text t (i + 3)) (here text t (i + 4)) (inner σ) n) act-is ek
 
-      pub ends-refused : x ≡ I.Refused → ended d at (loop es z (tokens_from text t i) (mode_of m) σ n) ≡ fail
+      pub ends-refused : x ≡ None → ended d at (loop es z (tokens_from text t i) (mode_of m) σ n) ≡ fail
       ends-refused e =
-          ap (ended d at) (turn-shape ∙ ap (λ (y : Item). shape m (mode_of (next_of m kind (point_in t.kinds (i + 1)))) y) (sym item-is ∙ e) ∙ opening-bytes m fail)
+          ap (ended d at) (turn-shape ∙ ap (λ (y : P.Option Record). shape m (mode_of (next_of m kind (point_in t.kinds (i + 1)))) y) (sym item-is ∙ e) ∙ opening-bytes m fail)
 
-      pub ends-put : x ≡ I.Put it → (l : ℕ) → l ≡ next_of m k b → (τ : Reaches) → τ ≡ reach_after a (here text t (i + 1)) (here text t (i + 2)) it σ → (o : ℕ) → o ≡ number_after a n
+      pub ends-put : x ≡ Some it → (l : ℕ) → l ≡ next_of m k b → (τ : Reaches) → τ ≡ reach_after a (here text t (i + 1)) (here text t (i + 2)) it σ → (o : ℕ) → o ≡ number_after a n
           → p ≡ at + length (open_bytes m k (ors_in (get_or cs i 0)) (ands_in (get_or cs i 0)) (1 + sign_in (get_or cs (i + 1) 0)) ++ record_bytes it) → to ≡ sets d at (open_bytes m k (ors_in (get_or cs i 0)) (ands_in (get_or cs i 0)) (1 + sign_in (get_or cs (i + 1) 0)) ++ record_bytes it)
           → ended d at (loop es z (tokens_from text t i) (mode_of m) σ n) ≡ ended to p (loop es z (tokens_from text t (i + 1)) (mode_of l) τ o)
       ends-put e l el τ eτ o eo ep et =
@@ -273,32 +271,31 @@ quiet_write d at m k o a s h =
     (sym (ap (λ (l : List ℕ). at + length (l ++ [])) e ∙ add-zero at), sym (ap (λ (l : List ℕ). sets d at (l ++ [])) e))
 
 -- records that open frames
-abbrev item_by : (Record → ℕ) → ℕ → Item → ℕ
-item_by f d I.Refused = d
-item_by f d (I.Put it) = f it
+abbrev item_by : (Record → ℕ) → ℕ → P.Option Record → ℕ
+item_by f d None = d
+item_by f d (Some it) = f it
 
 module _ (es : List Entry) (f : Record → ℕ) (d g n : ℕ) (x : Word) where
   head-over : ((g v r a : ℕ) → f (R.Aggregate g v r a) ≡ d) → (v r : ℕ) (o : Option ℕ) → item_by f d (head_by g v r o) ≡ d
   head-over e v r none = refl
   head-over e v r (some a) = e g v r a
 
-  head-by : ((g v r a : ℕ) → f (R.Aggregate g v r a) ≡ d) → (k : Known) → item_by f d (head_item es g n x k) ≡ d
-  head-by e (K.Variable r v) = head-over e (as_byte n) r (attribute_named es r x)
-  head-by e (K.Head r) = head-over e (as_byte n) r (attribute_named es r x)
-  head-by e K.Nothing = refl
+  head-by : ((g v r a : ℕ) → f (R.Aggregate g v r a) ≡ d) → (k : P.Option Known) → item_by f d (head_item es g n x k) ≡ d
+  head-by e None = refl
+  head-by e (Some k) = head-over e (as_byte n) k.relation (attribute_named es k.relation x)
 
   some-by : ((v r : ℕ) → f (R.Some v r) ≡ d) → (o : Option ℕ) → item_by f d (some_by (as_byte n) o) ≡ d
   some-by e none = refl
   some-by e (some r) = e (as_byte n) r
 
-pub fits : (es : List Entry) (a g v : ℕ) (x₀ x₂ x₃ x₄ : Word) (ρ : List Symbol) (n : ℕ) (it : Record) (x : Item) → x ≡ item_of es a g v x₀ x₂ x₃ x₄ ρ n → x ≡ I.Put it → Fits a it
+pub fits : (es : List Entry) (a g v : ℕ) (x₀ x₂ x₃ x₄ : Word) (ρ : List Symbol) (n : ℕ) (it : Record) (x : P.Option Record) → x ≡ item_of es a g v x₀ x₂ x₃ x₄ ρ n → x ≡ Some it → Fits a it
 fits es a g v x₀ x₂ x₃ x₄ ρ n it x ex ei = record {
   head = λ z. sym (ap (item_by frame_mode 2) (at 4 z)) ∙ head-by es frame_mode 2 g n x₄ (λ g v r a. refl) (known_of (symbol_in x₂ ρ));
   binder = λ z. sym (ap (item_by frame_mode 1) (at 6 z)) ∙ some-by es frame_mode 1 g n x₄ (λ v r. refl) (relation_named es x₃);
   left = λ z. sym (ap (item_by frame_mode 0) (at 7 z));
 }
   where
-    at : (b : ℕ) → a ≡ b → item_of es b g v x₀ x₂ x₃ x₄ ρ n ≡ I.Put it
+    at : (b : ℕ) → a ≡ b → item_of es b g v x₀ x₂ x₃ x₄ ρ n ≡ Some it
     at b z = ap (λ (y : ℕ). item_of es y g v x₀ x₂ x₃ x₄ ρ n) (sym z) ∙ sym ex ∙ ei
 
 -- what is written
@@ -311,12 +308,3 @@ write-all d x y at p r m k o a s o' a' s' it eo ea es ho ha ep ex er ey =
   where
     same : open_bytes m k o a s ≡ open_bytes m k o' a' s'
     same = rw (eo, ea, es)
-
-pub number-head : (a n : ℕ) → a ≡ 4 → n + 1 ≡ number_after a n
-number-head a n e = rw e (add-one n)
-
-pub number-some : (a n : ℕ) → a ≡ 6 → n + 1 ≡ number_after a n
-number-some a n e = rw e (add-one n)
-
-pub number-none : (a n : ℕ) → (a ≡ 4 → ⊥) → (a ≡ 6 → ⊥) → n ≡ number_after a n
-number-none a n b c = rw (ne_eqb a 4 b, ne_eqb a 6 c)

@@ -1,14 +1,9 @@
-use Rattle.numbers.specs.declared.Accumulator.{Accumulator}
-use Rattle.numbers.proofs.Laws.{bounded-added}
-use Rattle.numbers.specs.Numbers as N
-use native.Mathlib.Omega.{arith}
+use Rattle.std.proofs.Common.{arith, ◌≡◌, ℕ, ℤ, ◌+◌, ap, ap₂, ◌∙◌, ◌+ℤ◌, w64, to_z, of_z}
 use mir.Facts.{to_z-of_z}
-use mir.Syntax.{w64}
-use Prim.Native.Nat.{ℕ, ◌+◌}
-use lib.IntN.{ℤ, ◌+ℤ◌}
-use Rattle.numbers.proofs.Signed.{fits64, abs32, test-is}
-use mathlib.Core.Path.{◌≡◌, ap, ap₂, ◌∙◌}
-use borrow.Author.Rules.{rules}
+use Rattle.numbers.specs.Numbers as N
+use Rattle.numbers.specs.declared.Accumulator.{Accumulator}
+use Rattle.numbers.proofs.Signed.{fits64, abs32, test-is, op-is, sum_fits}
+use Rattle.numbers.proofs.Laws.{bounded-added}
 use Rattle.numbers.proofs.add.Goals as goal
 
 abbrev made : ℕ → ℤ → ℤ → ℤ → Accumulator
@@ -18,7 +13,14 @@ same : (a : Accumulator) (x s u v : ℤ) → s ≡ a.sum +ℤ x → u ≡ N.larg
 same a x s u v es eu ev = ap (λ (z : ℤ). made (a.count + 1) z u v) es ∙ ap₂ (λ (y z : ℤ). made (a.count + 1) (a.sum +ℤ x) y z) eu ev
 
 pub returns : goal.returns
-returns c = let e = same c.args.a c.args.x _ _ _
-    (to_z-of_z {w = w64} (record { sfits = c.plus-sum.type_inv }) ∙ c.plus-sum.ensures ∙ test-is (◌+ℤ◌) c.args.a.sum c.wide-value.result (fits64 c.args.a.sum (omega (arith, c.requires.0.sum, c.requires.1))) (record { sfits = c.wide-value.type_inv }) ∙ ap ((◌+ℤ◌) c.args.a.sum) (c.wide-value.ensures.value ∙ to_z-of_z c.ranges.x))
-    (to_z-of_z {w = w64} (record { sfits = c.larger-max.type_inv }) ∙ c.larger-max.ensures ∙ test-is (N.larger c.args.a.count) c.args.a.max c.wide-value.result (fits64 c.args.a.max (omega (arith, c.requires.0.max, c.requires.1))) (record { sfits = c.wide-value.type_inv }) ∙ ap ((N.larger c.args.a.count) c.args.a.max) (c.wide-value.ensures.value ∙ to_z-of_z c.ranges.x))
-    (to_z-of_z {w = w64} (record { sfits = c.smaller-min.type_inv }) ∙ c.smaller-min.ensures ∙ test-is (N.smaller c.args.a.count) c.args.a.min c.wide-value.result (fits64 c.args.a.min (omega (arith, c.requires.0.min, c.requires.1))) (record { sfits = c.wide-value.type_inv }) ∙ ap ((N.smaller c.args.a.count) c.args.a.min) (c.wide-value.ensures.value ∙ to_z-of_z c.ranges.x)) in record { value = e; bounded = rw e (bounded-added c.args.a c.args.x c.requires.0 (abs32 c.args.x c.ranges.x.sfits)) }
+returns c =
+    let a = c.args.a in
+    let x = c.args.x in
+    let v = c.from-value.result in
+    let vx : v ≡ x = c.from-value.ensures ∙ to_z-of_z c.ranges.x in
+    let e = same a x _ _ _
+    (ap (λ (y : ℤ). to_z w64 (of_z w64 (to_z w64 (of_z w64 a.sum) +ℤ to_z w64 (of_z w64 y)))) vx
+    ∙ op-is (◌+ℤ◌) a.sum x (fits64 a.sum (omega (arith, c.requires.0.sum, c.requires.1))) (fits64 x (omega (arith, abs32 x c.ranges.x.sfits))) (sum_fits a.sum x (omega (arith, c.requires.0.sum, c.requires.1, abs32 x c.ranges.x.sfits))))
+    (to_z-of_z {w = w64} (record { sfits = c.larger.type_inv }) ∙ c.larger.ensures ∙ test-is (N.larger a.count) a.max v (fits64 a.max (omega (arith, c.requires.0.max))) (record { sfits = c.from-value.type_inv }) ∙ ap (N.larger a.count a.max) vx)
+    (to_z-of_z {w = w64} (record { sfits = c.smaller.type_inv }) ∙ c.smaller.ensures ∙ test-is (N.smaller a.count) a.min v (fits64 a.min (omega (arith, c.requires.0.min))) (record { sfits = c.from-value.type_inv }) ∙ ap (N.smaller a.count a.min) vx) in
+    record { value = e; bounded = rw e (bounded-added a x c.requires.0 (abs32 x c.ranges.x.sfits)) }

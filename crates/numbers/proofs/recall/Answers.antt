@@ -4,7 +4,6 @@ use mir.Syntax.{w64}
 use mir.Val.{to_z, of_z}
 use mir.Facts.{to_z-of_z}
 use Rattle.numbers.proofs.Memo.{recall-fits, recall-is}
-use borrow.Author.Rules.{rules}
 use Rattle.numbers.proofs.recall.Goals as goal
 
 pub overflow_sub-mark : goal.overflow_sub-mark

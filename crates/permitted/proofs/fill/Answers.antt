@@ -17,7 +17,7 @@ loop-at-init c = let query = c.args.query.now in let walks = c.args.walks.now in
 
 pub fill_one-next-requires : goal.fill_one-next-requires
 fill_one-next-requires c = let query = c.args.query.now in let walks = c.args.walks.now in
-    λ v r e. let a = asked c.args.catalogue.now c.args.values.now (part_in c.args.permits.now c.args.table.now) (masks_in c.args.table.now) (most_in walks) (flat_bindings query) _ _ c.binding-b.result v r c.loop-at.next c.loop-at.walks c.requires.1 e (bindings-on query c.loop-at.at _ c.loop-at-test.true refl c.binding-b.result c.binding-b.ensures) c.loop-at.invariant.1 in ((a.0.0, most-low _ (length walks) a.0.1 c.requires.3.1, c.requires.5 v), (omega (arith, a.1.0, a.0.1), omega (arith, c.loop-at.invariant.0, c.requires.3.1)), a.1.1)
+    λ v r e. let a = asked c.args.catalogue.now c.args.values.now (part_in c.args.permits.now c.args.table.now) (masks_in c.args.table.now) (most_in walks) (flat_bindings query) _ _ c.binding-b.result v r c.loop-at.next c.loop-at.walks c.requires.1 e (bindings-on query c.loop-at.at _ c.loop-at-test.true refl c.binding-b.result c.binding-b.ensures) c.loop-at.invariant.1 in ((a.0.0, most-low _ (length walks) a.0.1 c.requires.3.1, c.requires.5 v), record { list = omega (arith, a.1.0, a.0.1); table = omega (arith, c.loop-at.invariant.0, c.requires.3.1) }, a.1.1)
 
 pub loop-at-preserved : goal.loop-at-preserved
 loop-at-preserved c = let query = c.args.query.now in

@@ -217,21 +217,21 @@ conditions::some-returns t c = let symbols = c.args.symbols.now in
 pub terms::aggregate-returns-then-at-eq0 : goal.terms::aggregate-returns-then-at-eq0
 terms::aggregate-returns-then-at-eq0 t c = record { went = lost c.args.s.at c.args.s.to _ _ c.requires.lent.long c.requires.lent.wide; aggregate_after = record { reads = λ given ρ ws x p k t f l z. absurd (omega (arith, z)) } }
 
-pub terms::aggregate-returns-then-i-ge-MOST : goal.terms::aggregate-returns-then-i-ge-MOST
-terms::aggregate-returns-then-i-ge-MOST t c = record { went = lost c.args.s.at c.args.s.to _ _ c.requires.lent.long c.requires.lent.wide; aggregate_after = record { reads = λ given ρ ws x p k t f l z. absurd (omega (arith, z)) } }
+pub terms::aggregate-returns-in_default : goal.terms::aggregate-returns-in_default
+terms::aggregate-returns-in_default t c = record { went = lost c.args.s.at c.args.s.to _ _ c.requires.lent.long c.requires.lent.wide; aggregate_after = record { reads = λ given ρ ws x p k t f l z. absurd (omega (arith, z)) } }
 
-pub terms::aggregate-returns-then-list-q : goal.terms::aggregate-returns-then-list-q
-terms::aggregate-returns-then-list-q t c = record { went = lost c.args.s.at c.args.s.to _ _ c.requires.lent.long c.requires.lent.wide; aggregate_after = record { reads = λ given ρ ws x p k t f l z. absurd (omega (arith, z)) } }
+pub terms::aggregate-returns-in_default-attribute_at : goal.terms::aggregate-returns-in_default-attribute_at
+terms::aggregate-returns-in_default-attribute_at t c = record { went = lost c.args.s.at c.args.s.to _ _ c.requires.lent.long c.requires.lent.wide; aggregate_after = record { reads = λ given ρ ws x p k t f l z. absurd (omega (arith, z)) } }
 
 pub terms::aggregate-returns-then-next-gt199 : goal.terms::aggregate-returns-then-next-gt199
 terms::aggregate-returns-then-next-gt199 t c = record { went = lost c.args.s.at c.args.s.to _ _ c.requires.lent.long c.requires.lent.wide; aggregate_after = record { reads = λ given ρ ws x p k t f l z. absurd (omega (arith, z)) } }
 
 pub terms::aggregate-bounds-list-q : goal.terms::aggregate-bounds-list-q
-terms::aggregate-bounds-list-q t c = omega (arith, c.attribute_at-q.ensures.result_in_bounds c.if-list-q.false)
+terms::aggregate-bounds-list-q t c = omega (arith, c.in-Some-attribute_at.ensures.0)
 
 pub terms::aggregate-closed-requires : goal.terms::aggregate-closed-requires
 terms::aggregate-closed-requires t c = let symbols = c.args.symbols.now in
-    (omega (arith, c.decreases, c.attribute-x.ensures.end_bound.0, c.attribute-x.ensures.end_bound.1 (some _ c.if-at-eq0.false)), (record { ended = c.requires.lent.ended; indexed = c.requires.lent.indexed; long = length-set symbols 156 (next_number symbols + 1) ∙ c.requires.lent.long; wide = five-wide c.args.made.now _ c.args.s.to 34 c.args.f c.low.result c.low-relation.result (get_or c.args.list.now (c.attribute_at-q.result + 2) 0) c.put.ensures c.requires.lent.wide }, (c.attribute-x.ensures.end_bound.0, omega (arith, c.requires.at_bound.1), c.if-i-ge-MOST.false, omega (arith, get_or-set_same symbols 156 (next_number symbols + 1) 0 (omega (arith, c.requires.lent.long))))))
+    (omega (arith, c.decreases, c.attribute-x.ensures.end_bound.0, c.attribute-x.ensures.end_bound.1 (some _ c.if-at-eq0.false)), (record { ended = c.requires.lent.ended; indexed = c.requires.lent.indexed; long = length-set symbols 156 (next_number symbols + 1) ∙ c.requires.lent.long; wide = five-wide c.args.made.now _ c.args.s.to 34 c.args.f c.low.result c.low-relation.result (get_or c.args.list.now (c.in-Some-attribute_at.q + 2) 0) c.put.ensures c.requires.lent.wide }, (c.attribute-x.ensures.end_bound.0, omega (arith, c.requires.at_bound.1), c.in-Some.ensures.0, omega (arith, get_or-set_same symbols 156 (next_number symbols + 1) 0 (omega (arith, c.requires.lent.long))))))
 
 pub terms::aggregate-returns : goal.terms::aggregate-returns
 terms::aggregate-returns t c = let one = some _ c.if-at-eq0.false in record {
@@ -242,8 +242,8 @@ terms::aggregate-returns t c = let one = some _ c.if-at-eq0.false in record {
     long = c.closed.ensures.went.long;
     wide = c.closed.ensures.went.wide;
   };
-  aggregate_after = aggregate-reads c.args.text.now c.args.list.now c.args.symbols.now _ c.args.made.now _ _ c.args.s.at c.args.s.to c.attribute-x.result.end c.closed.result.at c.closed.result.to c.args.f c.attribute-x.result.owner c.attribute-x.result.value c.bound-i.result c.attribute_at-q.result c.low-relation.result c.low.result
-      c.requires.lent.long c.requires.lent.wide c.requires.at_bound.1 c.if-i-ge-MOST.false (c.bound-i.ensures.result_value c.if-i-ge-MOST.false).0 (c.bound-i.ensures.result_value c.if-i-ge-MOST.false).1 c.if-list-q.false c.attribute-x.ensures.by_index one c.low-relation.ensures c.attribute_at-q.ensures.told c.if-next-gt199.false c.low.ensures c.put.ensures c.closed.ensures.closed;
+  aggregate_after = aggregate-reads c.args.text.now c.args.list.now c.args.symbols.now _ c.args.made.now _ _ c.args.s.at c.args.s.to c.attribute-x.result.end c.closed.result.at c.closed.result.to c.args.f c.attribute-x.result.owner c.attribute-x.result.value c.in-Some.i c.in-Some-attribute_at.q c.low-relation.result c.low.result
+      c.requires.lent.long c.requires.lent.wide c.requires.at_bound.1 c.in-Some.ensures.0 c.in-Some.ensures.1 c.in-Some.ensures.2 (omega (arith, c.in-Some-attribute_at.ensures.0)) c.attribute-x.ensures.by_index one c.low-relation.ensures c.in-Some-attribute_at.ensures.1 c.if-next-gt199.false c.low.ensures c.put.ensures c.closed.ensures.closed;
 }
 
 pub terms::closed-returns-then-e-ne0 : goal.terms::closed-returns-then-e-ne0

@@ -3,6 +3,7 @@ use Prim.Native.Nat.{ℕ, ◌+◌, ◌*◌, ◌-◌, ◌≤◌, ◌<◌}
 use mathlib.Core.Bool.{Bool, true, false, not, cond, ◌&&◌}
 use mathlib.Core.List.{List, []}
 use mathlib.Core.Path.{◌≡◌, refl, sym, ap, ap₂, ◌∙◌}
+use Rattle.std.specs.Prelude.{Option, Some, None, MatchOption}
 use native.Mathlib.Omega.{arith}
 use lib.Dec.{eqb, leb}
 use lib.ListN.{length, get_or, take, drop, drop_of_length-le, length-take}
@@ -52,6 +53,11 @@ module _ (x : List ℕ) (s : length x ≡ 12) where
       letters-stop e r er =
           let g = run-stops is_letter x i (first-at is_letter x i h ∙ e) in
           er ∙ ap₂ (λ (n c : ℕ). padded_code n c x) (omega (arith, f.count, ap length g)) (sym (ap (positional 26 65 code) g) ∙ f.spells)
+
+      -- what is found there, of a code that some letters spell
+      pub letters-found : is_letter (get_or x i 0) ≡ false → 1 ≤ code → (r : Option ℕ) → MatchOption r (0 ≡ padded_code i code x) (λ c. (c ≡ code) × (c ≡ padded_code i code x)) → MatchOption r (0 ≡ letter_code x) (λ c. (1 ≤ c) × (c ≡ letter_code x))
+      letters-found e l None m = letters-stop e 0 m
+      letters-found e l (Some c) m = (omega (arith, l, m.0), letters-stop e c m.1)
 
     pub letters-all : length x ≤ i → i ≤ 12 → code ≡ letter_code x
     unfolding positional letter_code padded_code run all

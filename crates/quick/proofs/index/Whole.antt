@@ -3,6 +3,9 @@ use Prim.Native.Nat.{ℕ, ◌+◌, ◌%◌, ◌-◌, ◌≤◌, ◌<◌}
 use mathlib.Core.Bool.{Bool, true, false, not, cond, ◌&&◌, ◌||◌}
 use mathlib.Core.List.{List, [], ◌∷◌}
 use mathlib.Core.Option.{some}
+use mathlib.Core.Option as O
+use Rattle.std.specs.Prelude.{Option, Some, None, is_some, IfSome, MatchOption}
+use Rattle.tokens.specs.Codes.{Spelt}
 use mathlib.Core.Path.{◌≡◌, refl, sym, ap, ap₂, subst, ◌∙◌}
 use native.Mathlib.Omega.{arith}
 use lib.Dec.{eqb, leb, ltb}
@@ -156,3 +159,15 @@ module _ (x t : List ℕ) (f : Indexed x t) (q : ℕ) (w : Word) (r : ℕ) where
     named = λ h. free-name w (g.free h);
     missing = λ h. found_none (λ es. value_named es w) (is_named 82 q w) F.bytes_at refl (λ y es. value-one w q y es) x (length x) (end-at x t f 82 q w r g h) (omega arith);
   }
+
+-- what a look-up found says what the whole list does
+module _ (x t : List ℕ) (f : Indexed x t) (k q code : ℕ) {A : Type 0} (says : Word → O.Option A) (at : ℕ → A) (told : (w : Word) (r : ℕ) → Sought x t f.count k q w r → Told x w r (says w) (at r)) where
+  pub told-found : (r : Option ℕ) → IfSome r (λ i. i + 14 ≤ length x) → ((i n : ℕ) → Filled x t i n → (w : Word) → Spelt w code → MatchOption r (Sought x t n k q w (length x)) (Sought x t n k q w))
+      → IfSome r (λ i. (i + 14 ≤ length x) × ((w : Word) → Spelt w code → Told x w i (says w) (at i)))
+  told-found None b h = tt
+  told-found (Some i) b h = (b, λ w s. told w i (h _ _ f.filled w s))
+
+-- nothing was found
+pub sought-nothing : (x t : List ℕ) (n k q : ℕ) (w : Word) (r : Option ℕ) (b : Bool) → b ≡ is_some r → b ≡ false → MatchOption r (Sought x t n k q w (length x)) (Sought x t n k q w) → Sought x t n k q w (length x)
+sought-nothing x t n k q w None b e z h = h
+sought-nothing x t n k q w (Some i) b e z h = clash (sym z ∙ e)

@@ -7,7 +7,7 @@ use native.Mathlib.Nat.{mod-eq_of_lt}
 use native.Mathlib.Omega.{arith}
 use lib.Dec.{eqb}
 use lib.ListN.{length, get_or, set, take, drop, length-append, drop_of_length-le}
-use lib.Seq.{sets, paste, paste-suc, sets-eq, take_all, take-suc, drop-cons, take-suc-set, drop-set-lt, set_out, take-set-lt, take-set-le, get_or-take, get_or-set_same, get_or-set_other, length-take-le, take_at, drop-append-add, drop-drop}
+use lib.Seq.{sets, paste, sets-eq, take_all, take-suc, drop-cons, take-suc-set, drop-set-lt, set_out, take-set-lt, take-set-le, get_or-take, get_or-set_same, get_or-set_other, length-take-le, take_at, drop-append-add, drop-drop}
 use borrow.Author.Tests.{lt-ltb, le-ltb, eq-eqb, ne_eqb, lt-leb, le-leb}
 use Rattle.model.proofs.Tests.{by-lt}
 use Rattle.quel.specs.ReadText as Q
@@ -177,13 +177,10 @@ unfolding used_before
 used-none S = refl
 
 -- one byte more
-pub pasted-step : (d made out : List ℕ) (at i : ℕ) → at + i < length d → i < length made → out ≡ paste d at made i → set out (at + i) (get_or made i 0) ≡ paste d at made (i + 1)
-pasted-step d made out at i h k e =
-    ap (λ (x : List ℕ). set x (at + i) (get_or made i 0)) e ∙ paste-suc d at made i 0 h k
-    ∙ ap (λ (j : ℕ). paste d at made j) (let z : suc i ≡ i + 1 = omega arith in z)
-
-pub pasted-end : (d made out : List ℕ) (at i to : ℕ) → i ≤ to → to ≤ i → out ≡ paste d at made i → out ≡ paste d at made to
-pasted-end d made out at i to h k e = e ∙ ap (λ (j : ℕ). paste d at made j) (let z : i ≡ to = omega arith in z)
+pub put-part : (x made z : List ℕ) (at to k : ℕ) → k ≡ to → z ≡ take to made → take at x ++ (z ++ drop k (drop at x)) ≡ paste x at made to
+put-part x made z at to k ek ez =
+    ap₂ (λ (a : List ℕ) (j : ℕ). take at x ++ (a ++ drop j (drop at x))) ez ek ∙ sym (append_assoc (take at x) (take to made) (drop to (drop at x)))
+    ∙ ap (λ (r : List ℕ). (take at x ++ take to made) ++ r) (drop-drop to at x)
 
 -- RANGE records written up to a symbol: what is still to come, and the whole
 module _ (number : ℕ → ℕ) (T : List ℕ) (n : ℕ) where

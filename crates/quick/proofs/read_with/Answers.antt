@@ -1,5 +1,5 @@
 use native.Mathlib.Omega.{arith}
-use mathlib.Core.Path.{refl, sym, ap, ◌∙◌}
+use mathlib.Core.Path.{sym, ap, ◌∙◌}
 use Prim.Native.Nat.{ℕ}
 use lib.ListN.{take}
 use borrow.Author.Tests.{not-false}
@@ -14,23 +14,14 @@ use Rattle.quick.proofs.read_with.Goals as goal
 pub listed-requires : goal.listed-requires
 listed-requires c = c.requires.names_value
 
-pub returns-then-not-listed : goal.returns-then-not-listed
-returns-then-not-listed c = record { out_unchanged = (λ _. refl); by_index = λ given k e n. absurd (n refl) }
-
 pub head-at-requires : goal.head-at-requires
 head-at-requires c = (c.requires.ended.0, c.requires.ended.2, (c.listed.ensures (not-false c.listed.result c.if-not-listed.false-raw)).1)
 
-pub returns-then-at-eq0 : goal.returns-then-at-eq0
-returns-then-at-eq0 c = record { out_unchanged = (λ _. refl); by_index = λ given k e n. absurd (n refl) }
-
 pub rest-s-requires : goal.rest-s-requires
 rest-s-requires c = record { lent = record { ended = c.requires.ended.0; indexed = (c.listed.ensures (not-false c.listed.result c.if-not-listed.false-raw)).1; long = c.head-at.ensures.upper_bound.1; wide = c.requires.ended.3 }; start_bound = c.head-at.ensures.upper_bound.0 }
-
-pub returns-then-end-length : goal.returns-then-end-length
-returns-then-end-length c = record { out_unchanged = (λ _. refl); by_index = λ given k e n. absurd (n refl) }
 
 pub finish-requires : goal.finish-requires
 finish-requires c = (c.rest-s.ensures.went.long, c.head-at.ensures.upper_bound.2 (omega (arith, c.if-at-eq0.false)), c.rest-s.ensures.went.wide, omega (arith, c.rest-s.ensures.to_bound (omega (arith, c.if-end-length.false, c.requires.ended.1))))
 
 pub returns : goal.returns
-returns c = let list = c.args.list.now in let out = c.args.out.now in record { out_unchanged = (λ e. absurd (c.finish.ensures.fact e)); by_index = λ given k e n. c.finish.ensures.out_after ∙ ap (λ (m : ℕ). written (records_of c.rest-s.new.symbols m (take c.rest-s.result.to c.rest-s.new.made)) out) (c.head-at.ensures.by_index given k (omega (arith, c.if-at-eq0.false))).size ∙ sym (whole-text (entries list) list given out (c.listed.ensures (not-false c.listed.result c.if-not-listed.false-raw)).0 (omega (arith, k.room)) c.head-at.result c.rest-s.result.at c.head-at.new.symbols c.rest-s.new.symbols c.args.made.now c.rest-s.new.made c.rest-s.result.to (c.head-at.ensures.by_index given k (omega (arith, c.if-at-eq0.false))) (c.rest-s.ensures.by_index given (in_order 0 (c.head-at.ensures.by_index given k (omega (arith, c.if-at-eq0.false))).symbols) (words_of (c.head-at.ensures.by_index given k (omega (arith, c.if-at-eq0.false))).symbols) k (head-ready (c.head-at.ensures.by_index given k (omega (arith, c.if-at-eq0.false)))) (omega (arith, c.if-end-length.false, c.requires.ended.1))) (omega (arith, e, c.if-end-length.false))) }
+returns c = let list = c.args.list.now in let out = c.args.out.now in λ given k e. c.finish.ensures ∙ ap (λ (m : ℕ). written (records_of c.rest-s.new.symbols m (take c.rest-s.result.to c.rest-s.new.made)) out) (c.head-at.ensures.by_index given k (omega (arith, c.if-at-eq0.false))).size ∙ sym (whole-text (entries list) list given out (c.listed.ensures (not-false c.listed.result c.if-not-listed.false-raw)).0 (omega (arith, k.room)) c.head-at.result c.rest-s.result.at c.head-at.new.symbols c.rest-s.new.symbols c.args.made.now c.rest-s.new.made c.rest-s.result.to (c.head-at.ensures.by_index given k (omega (arith, c.if-at-eq0.false))) (c.rest-s.ensures.by_index given (in_order 0 (c.head-at.ensures.by_index given k (omega (arith, c.if-at-eq0.false))).symbols) (words_of (c.head-at.ensures.by_index given k (omega (arith, c.if-at-eq0.false))).symbols) k (head-ready (c.head-at.ensures.by_index given k (omega (arith, c.if-at-eq0.false)))) (omega (arith, c.if-end-length.false, c.requires.ended.1))) (omega (arith, e, c.if-end-length.false)))

@@ -5,7 +5,9 @@ use mathlib.Core.Path.{◌≡◌, sym, ◌∙◌}
 use native.Mathlib.Omega.{arith}
 use lib.ListN.{length, get_or, set, length-set}
 use lib.Seq.{get_or-set_same, get_or-set_other}
-use Rattle.parts.specs.Table.{Slotted}
+use Rattle.std.specs.Prelude.{Option, Some, None, Bool, false, is_some, MatchOption}
+use Rattle.model.proofs.Tests.{clash}
+use Rattle.parts.specs.Table.{Slotted, Finds}
 
 module _ (S : List ℕ) (k v q n l : ℕ) (long : length S ≡ 160) (low : k < 30) where
   abbrev one : List ℕ
@@ -46,3 +48,8 @@ module _ (S : List ℕ) (k v q n l : ℕ) (long : length S ≡ 160) (low : k < 3
 
   pub bound-rest : (j : ℕ) → 155 ≤ j → get_or bound j 0 ≡ get_or S j 0
   bound-rest j h = bound-other j (λ z. omega (arith, z)) (λ z. omega (arith, z)) (λ z. omega (arith, z)) (λ z. omega (arith, z))
+
+-- no symbol has the code
+pub none-found : (S : List ℕ) (v : ℕ) (r : Option ℕ) (b : Bool) → b ≡ is_some r → b ≡ false → MatchOption r (Finds S v 30) (λ i. (i < 30) × Finds S v i) → Finds S v 30
+none-found S v None b e z h = h
+none-found S v (Some i) b e z h = clash (sym z ∙ e)

@@ -1,4 +1,9 @@
+use Rattle.std.proofs.Common.{arith}
+use Rattle.elaborate.proofs.Lookup.{room_small, room-large}
 use Rattle.reader.proofs.read.Goals as goal
 
-pub read_short-requires : goal.read_short-requires
-read_short-requires c = c.is_short.ensures c.if-is_short.true
+pub read_in-requires-clause-names : goal.read_in-requires-clause-names
+read_in-requires-clause-names c = omega (arith, room_small 1023 (omega arith))
+
+pub read_in-requires-else-list-le3584-clause-names : goal.read_in-requires-else-list-le3584-clause-names
+read_in-requires-else-list-le3584-clause-names c = omega (arith, room-large 6608 (omega arith))

@@ -1,12 +1,13 @@
-use Rattle.tokens.proofs.Leading.{no-digits-at, minus-refused-at, minus-reads-at}
-use native.Mathlib.Omega.{arith}
+use Rattle.std.proofs.Common.{arith, refl, ◌-◌, ◌%◌}
+use Rattle.tokens.proofs.Leading.{no-digits, minus-refused, minus-reads}
+use Rattle.tokens.proofs.negative.Goals.{then-digits-eq0-via-then-digits-eq0, then-digits-eq0-via-else-digits-eq0+then-value-gt-SMALLEST}
 use Rattle.tokens.proofs.negative.Goals as goal
 
-pub returns-then-end-from : goal.returns-then-end-from
-returns-then-end-from c = no-digits-at c.args.text.now c.args.at c.requires (omega (arith, c.stretch-s.ensures.end_value, c.if-end-from.true))
-
-pub returns-then-value-gt2147483648 : goal.returns-then-value-gt2147483648
-returns-then-value-gt2147483648 c = minus-refused-at c.args.text.now c.args.at (c.requires) c.stretch-s.result.value c.stretch-s.ensures.value_value c.if-value-gt2147483648.true
+pub returns-then-digits-eq0 : goal.returns-then-digits-eq0
+returns-then-digits-eq0 c = elim c.then-digits-eq0.branch [
+  | then-digits-eq0-via-then-digits-eq0 w ↦ no-digits c.args.rest.now (omega (arith, c.front-digits.ensures.size))
+  | then-digits-eq0-via-else-digits-eq0+then-value-gt-SMALLEST w ↦ minus-refused c.args.rest.now _ c.front-digits.ensures.value w.if-value-gt-SMALLEST.true
+]
 
 pub returns : goal.returns
-returns c = minus-reads-at c.args.text.now c.args.at (c.requires) c.stretch-s.result.value c.stretch-s.ensures.value_value _ (omega (arith, c.stretch-s.ensures.end_value)) (omega (arith, c.stretch-s.ensures.end_value, c.if-end-from.false)) c.if-value-gt2147483648.false
+returns c = minus-reads c.args.rest.now _ c.front-digits.ensures.value _ ((4294967296 - c.front-digits.result.value) % 4294967296) refl (omega (arith, c.front-digits.ensures.size)) (omega (arith, c.front-digits.ensures.size)) c.if-value-gt-SMALLEST.false

@@ -1,10 +1,9 @@
+use Rattle.std.proofs.Common.{arith}
 use Rattle.tokens.proofs.Leading.{number-refused, number-reads}
-use lib.ListN.{drop}
-use native.Mathlib.Omega.{arith}
 use Rattle.tokens.proofs.number.Goals as goal
 
-pub returns-then-value-gt2147483647 : goal.returns-then-value-gt2147483647
-returns-then-value-gt2147483647 c = number-refused (drop c.args.at c.args.text.now) c.stretch-s.result.value 0 c.requires c.stretch-s.ensures.value_value (omega arith)
+pub returns-then-value-gt-LARGEST : goal.returns-then-value-gt-LARGEST
+returns-then-value-gt-LARGEST c = number-refused c.args.s.now c.front-digits.result.value 0 c.requires c.front-digits.ensures.value (omega arith)
 
 pub returns : goal.returns
-returns c = number-reads (drop c.args.at c.args.text.now) c.stretch-s.result.value _ c.requires c.stretch-s.ensures.value_value (omega (arith, c.stretch-s.ensures.end_value)) (omega arith)
+returns c = number-reads c.args.s.now c.front-digits.result.value _ c.requires c.front-digits.ensures.value c.front-digits.ensures.size (omega arith)

@@ -1,8 +1,6 @@
-use Rattle.tokens.proofs.Leading.{single-refused-at, single-reads-at}
+use Rattle.tokens.proofs.Leading.{single-reads}
+use Rattle.std.proofs.Common.{rules}
 use Rattle.tokens.proofs.single.Goals as goal
 
-pub returns-then-kind-eq0 : goal.returns-then-kind-eq0
-returns-then-kind-eq0 c = single-refused-at c.args.text.now c.args.at c.requires c.sign_kind-kind.result c.sign_kind-kind.ensures c.if-kind-eq0.true
-
 pub returns : goal.returns
-returns c = single-reads-at c.args.text.now c.args.at c.requires c.sign_kind-kind.result c.sign_kind-kind.ensures c.if-kind-eq0.false
+returns c = λ rest s. search (rules, single-reads c.args.b rest s _ c.sign_kind.ensures)

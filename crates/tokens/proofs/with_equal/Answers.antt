@@ -1,9 +1,9 @@
-use Rattle.tokens.proofs.Leading.{equal-reads-at, alone-reads-at}
-use mathlib.Core.Path.{sym, ◌∙◌}
+use Rattle.std.proofs.Common.{rules}
+use Rattle.tokens.proofs.Leading.{equal-reads, alone-reads}
 use Rattle.tokens.proofs.with_equal.Goals as goal
 
-pub returns-then-passes : goal.returns-then-passes
-returns-then-passes c = equal-reads-at c.args.text.now c.args.at c.args.kind c.requires (sym c.passes.ensures ∙ c.if-passes.true)
+pub returns-then-starts_with : goal.returns-then-starts_with
+returns-then-starts_with c = λ b o. equal-reads c.args.alone c.args.with b o c.args.rest.now (search rules)
 
-pub returns-else-passes : goal.returns-else-passes
-returns-else-passes c = alone-reads-at c.args.text.now c.args.at c.args.kind c.requires (sym c.passes.ensures ∙ c.if-passes.false)
+pub returns-else-starts_with : goal.returns-else-starts_with
+returns-else-starts_with c = λ b o. alone-reads c.args.alone c.args.with b o c.args.rest.now (search rules)

@@ -1,24 +1,18 @@
-use Rattle.elaborate.proofs.ahead.Laws.{step-sign, step-or, step-and, step_left, step_right, step-rest, and_low}
+use Rattle.elaborate.proofs.ahead.Laws.{step-sign, step-or, step-and, step_left, step_right, step-rest}
 use native.Mathlib.Omega.{arith}
-use mathlib.Core.Path.{◌∙◌, sym, ap}
+use mathlib.Core.Bool.{false, ◌&&◌}
+use mathlib.Core.Path.{◌≡◌, ap}
+use lib.Dec.{leb}
+use borrow.Author.Tests.{le-leb, lt-leb}
 use Prim.Native.Nat.{ℕ, ◌-◌}
-use Rattle.elaborate.proofs.ahead.Laws.{step-sign, step-or, step-and, step_left, step_right, step-rest, and_low}
-use native.Mathlib.Omega.{arith}
-use mathlib.Core.Path.{◌∙◌, sym, ap}
-use Prim.Native.Nat.{ℕ, ◌-◌}
+use Rattle.elaborate.proofs.ahead.step.Goals.{in_default-via-then-kind-lt7, in_default-via-else-kind-lt7+else-kind-lt13}
 use Rattle.elaborate.proofs.ahead.step.Goals as goal
 
-pub overflow_sub-wide : goal.overflow_sub-wide
-overflow_sub-wide c = omega (arith, (and_low c.args.kind (sym c.is_sign.ensures ∙ c.if-is_sign.true)).0, c.wide.ensures)
-
-pub pack-requires : goal.pack-requires
-pack-requires c = (omega arith, omega arith, omega (arith, (and_low c.args.kind (sym c.is_sign.ensures ∙ c.if-is_sign.true)).1, c.wide.ensures), omega arith)
-
-pub returns-then-is_sign : goal.returns-then-is_sign
-returns-then-is_sign c = step-sign c.args.kind c.args.next c.args.after _ (sym c.is_sign.ensures ∙ c.if-is_sign.true) _ (ap (λ (n : ℕ). n - 7) c.wide.ensures) c.pack.ensures
+pub returns-in-7-to-12 : goal.returns-in-7-to-12
+returns-in-7-to-12 c = step-sign c.args.kind c.args.next c.args.after _ (rw (le-leb 7 c.args.kind (omega arith), le-leb c.args.kind 12 (omega arith))) _ (ap (λ (n : ℕ). n - 7) c.from.ensures) c.pack-in-7-to-12.ensures
 
 pub returns-in-18 : goal.returns-in-18
-returns-in-18 c = step-or c.args.kind c.args.next c.args.after _ c.in-18.is c.pack-in-18.ensures
+returns-in-18 c = step-or c.args.kind c.args.next c.args.after _ c.in-18.is c.pack.ensures
 
 pub returns-in-19 : goal.returns-in-19
 returns-in-19 c = step-and c.args.kind c.args.next c.args.after _ c.in-19.is c.pack-in-19.ensures
@@ -30,4 +24,6 @@ pub returns-in-21 : goal.returns-in-21
 returns-in-21 c = step_right c.args.kind c.args.next c.args.after _ c.in-21.is c.pack-in-21.ensures
 
 pub returns-in_default : goal.returns-in_default
-returns-in_default c = step-rest c.args.kind c.args.next c.args.after _ (sym c.is_sign.ensures ∙ c.if-is_sign.false) (λ e. omega arith) (λ e. omega arith) (λ e. omega arith) (λ e. omega arith) c.further.ensures
+returns-in_default c = let kind = c.args.kind in
+    let low : (leb 7 kind && leb kind 12) ≡ false = elim c.in_default.branch [ in_default-via-then-kind-lt7 w ↦ rw (lt-leb 7 kind (omega arith)) | in_default-via-else-kind-lt7+else-kind-lt13 w ↦ rw (le-leb 7 kind (omega arith), lt-leb kind 12 (omega arith)) ] in
+    step-rest kind c.args.next c.args.after _ low (λ e. omega arith) (λ e. omega arith) (λ e. omega arith) (λ e. omega arith) c.further.ensures

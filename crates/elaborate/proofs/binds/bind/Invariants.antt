@@ -1,5 +1,5 @@
 use mathlib.Core.Path.{◌≡◌}
-use Prim.Native.Nat.{◌-◌, ◌*◌, ◌≤◌}
+use Prim.Native.Nat.{◌*◌, ◌≤◌}
 use lib.ListN.{length}
 use Rattle.names.specs.Entries.{entries}
 use Rattle.elaborate.specs.Lookup.{ids_in}
@@ -7,7 +7,4 @@ use Rattle.elaborate.proofs.binds.Laws.{Filling}
 use Rattle.elaborate.proofs.binds.bind.Given as goal
 
 abbrev pub invariant-loop-i : goal.invariant-loop-i
-invariant-loop-i l = Filling l.kinds (ids_in l.lookup) l.initial.known l.numbers (entries l.list) l.initial.out l.known l.out l.s l.i × (length l.known ≡ length l.initial.known) × (length l.out ≡ length l.initial.out) × (l.s.n ≤ l.i) × (l.s.at ≤ 3 * l.i) × (l.i ≤ length l.kinds)
-
-abbrev pub decreases-loop-i : goal.decreases-loop-i
-decreases-loop-i l = length l.kinds - l.i
+invariant-loop-i l = Filling l.kinds (ids_in l.lookup) l.initial.known l.numbers (entries l.list) l.initial.out l.known l.out l.s l.i × (length l.known ≡ length l.initial.known) × (length l.out ≡ length l.initial.out) × (l.s.n ≤ l.i) × (l.s.at ≤ 3 * l.i)

@@ -1,13 +1,18 @@
 use mathlib.Core.Path.{sym, ap, ◌∙◌}
 use Rattle.names.specs.Entries.{entries}
-use Rattle.elaborate.specs.Actions.{head_item}
+use Rattle.elaborate.proofs.items.Tests.{found_none, found_some}
+use Rattle.quel.specs.Names.{attribute_named}
+use Rattle.quel.specs.Elaboration.{as_byte}
+use Rattle.elaborate.specs.Actions.{head_by}
 use Rattle.elaborate.proofs.items.head_item.Goals as goal
 
-pub returns-in-Variable : goal.returns-in-Variable
-returns-in-Variable c = λ z s. c.over_item.ensures z s ∙ sym (ap (head_item (entries c.args.list.now) c.args.f c.args.n z) c.in-Variable.is)
+pub returns-in_err-r : goal.returns-in_err-r
+returns-in_err-r c = λ z s. rw c.in_err-r.was c.from_residual.ensures
 
-pub returns-in-Head : goal.returns-in-Head
-returns-in-Head c = λ z s. c.over_item-in-Head.ensures z s ∙ sym (ap (head_item (entries c.args.list.now) c.args.f c.args.n z) c.in-Head.is)
+pub returns-in_err-a : goal.returns-in_err-a
+returns-in_err-a c = let r = c.in_ok-r.field-0.relation in
+    λ z s. rw c.in_ok-r.was (c.from_residual-in_err-a.ensures ∙ sym (ap (head_by c.args.f (as_byte c.args.n) r) (found_none (attribute_named (entries c.args.list.now) r z) _ (c.numbered.ensures z s) c.in_err-a.was)))
 
-pub returns-in-Nothing : goal.returns-in-Nothing
-returns-in-Nothing c = λ z s. sym (ap (head_item (entries c.args.list.now) c.args.f c.args.n z) c.in-Nothing.is)
+pub returns : goal.returns
+returns c = let r = c.in_ok-r.field-0.relation in
+    λ z s. rw c.in_ok-r.was (sym (ap (head_by c.args.f (as_byte c.args.n) r) (found_some (attribute_named (entries c.args.list.now) r z) _ _ (c.numbered.ensures z s) c.in_ok-a.was)))

@@ -11,11 +11,8 @@ use Rattle.elaborate.specs.Counts.{Counted}
 use Rattle.elaborate.specs.Tables.{Named, Holds}
 use Rattle.elaborate.specs.After.{ended, Going}
 use Rattle.elaborate.specs.Lookup.{ids_in}
-use Rattle.elaborate.proofs.loops.Laws.{first}
+use Rattle.elaborate.proofs.loops.Laws.{Begun}
 use Rattle.elaborate.proofs.loops.run.Given as goal
-
-abbrev Begun : List ℕ → List ℕ → ℕ → ℕ → Type 0
-Begun ks counts first end = (length ks ≡ end) × (first < end → Counted ks counts first)
 
 abbrev pub invariant-loop-s : goal.invariant-loop-s
 invariant-loop-s l = ((text ks ss : List ℕ) (ρ : List Symbol) → Begun ks l.initial.counts l.initial.s.i l.start.end → Named (name_in text ks ss) (ids_in l.lookup) l.numbers → Holds (name_in text ks ss) (ids_in l.lookup) l.initial.known 0 0 ρ → Going text (table ks ss l.numbers) (entries l.list) (ids_in l.lookup) (λ z. ended l.initial.out l.initial.s.at (loop (entries l.list) z (tokens_from text (table ks ss l.numbers) l.initial.s.i) at_rest (ρ ∷ []) l.initial.s.n)) l.s.i l.s l.counts l.known l.out)

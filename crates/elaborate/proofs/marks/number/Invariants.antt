@@ -1,6 +1,6 @@
 use lib.ListN.{take, drop}
 use mathlib.Core.Path.{◌≡◌}
-use Prim.Native.Nat.{◌-◌, ◌≤◌}
+use Prim.Native.Nat.{◌≤◌}
 use lib.ListN.{length}
 use Rattle.elaborate.specs.Places.{name_in}
 use Rattle.elaborate.specs.Numbers.{Numbering}
@@ -8,6 +8,3 @@ use Rattle.elaborate.proofs.marks.number.Given as goal
 
 abbrev pub invariant-loop-i : goal.invariant-loop-i
 invariant-loop-i l = Numbering (name_in l.text l.kinds l.starts) l.i (take 512 l.index) (drop 512 l.index) l.ids × (l.i ≤ length l.kinds) × (length l.index ≡ length l.initial.index) × (length l.ids ≡ length l.initial.ids)
-
-abbrev pub decreases-loop-i : goal.decreases-loop-i
-decreases-loop-i l = length l.kinds - l.i

@@ -1,7 +1,9 @@
 use native.Mathlib.Omega.{arith}
 use mathlib.Core.Path.{sym, ap₂, ◌∙◌}
+use lib.Dec.{eqb}
+use lib.Pointwise.{pointwise}
+use Rattle.elaborate.proofs.marks.Walks.{same-pointwise}
 use Rattle.elaborate.proofs.marks.Numbers.{names-differ, names_same}
-use Rattle.quel.specs.Results.{same_word}
 use Rattle.elaborate.proofs.marks.same_names.Goals as goal
 
 pub returns-then-numbers-j : goal.returns-then-numbers-j
@@ -11,4 +13,4 @@ pub returns-then-code-lt-LONG : goal.returns-then-code-lt-LONG
 returns-then-code-lt-LONG c = names_same _ _ _ _ c.requires.2 c.requires.3 (omega (arith, c.if-numbers-j.false)) c.if-code-lt-LONG.true
 
 pub returns : goal.returns
-returns c = c.same.ensures ∙ ap₂ same_word c.word.ensures c.word-2.ensures
+returns c = c.eq.ensures ∙ ap₂ (pointwise eqb) c.word.ensures c.word-2.ensures ∙ same-pointwise _ _

@@ -1,5 +1,5 @@
 use mathlib.Core.Path.{◌≡◌}
-use Prim.Native.Nat.{ℕ, ◌-◌, ◌≤◌}
+use Prim.Native.Nat.{ℕ, ◌≤◌}
 use mathlib.Core.List.{List}
 use lib.ListN.{length}
 use Rattle.elaborate.specs.Places.{name_in}
@@ -10,6 +10,3 @@ use Rattle.elaborate.proofs.marks.unique_with.Given as goal
 
 abbrev pub invariant-loop-i : goal.invariant-loop-i
 invariant-loop-i l = ((text ss ns : List ℕ) → Numbered (name_in text l.kinds ss) (length l.kinds) (ids_in l.lookup) → Left text l.kinds ss ns (ids_in l.lookup) l.p l.i l.seen) × (l.p ≤ 2) × (length l.seen ≡ length l.initial.seen)
-
-abbrev pub decreases-loop-i : goal.decreases-loop-i
-decreases-loop-i l = length l.kinds - l.i

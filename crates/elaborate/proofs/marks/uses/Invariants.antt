@@ -1,5 +1,5 @@
 use mathlib.Core.Path.{◌≡◌}
-use Prim.Native.Nat.{ℕ, ◌-◌, ◌≤◌}
+use Prim.Native.Nat.{ℕ, ◌≤◌}
 use mathlib.Core.List.{List}
 use lib.ListN.{length}
 use Rattle.elaborate.specs.Places.{table, name_in}
@@ -11,6 +11,3 @@ use Rattle.elaborate.proofs.marks.uses.Given as goal
 
 abbrev pub invariant-loop-i : goal.invariant-loop-i
 invariant-loop-i l = ((text ss ns : List ℕ) → Numbered (name_in text l.kinds ss) (length l.kinds) (ids_in l.lookup) → Left text (table l.kinds ss ns) (ids_in l.lookup) l.from l.d l.i l.used) × (l.d ≤ l.i) × (length l.used ≡ length l.initial.used) × Clear l.used
-
-abbrev pub decreases-loop-i : goal.decreases-loop-i
-decreases-loop-i l = length l.kinds - l.i

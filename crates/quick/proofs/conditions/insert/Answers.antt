@@ -1,24 +1,30 @@
+use Prim.Native.Nat.{ℕ, ◌+◌, ◌-◌, ◌≤◌, ◌<◌}
+use mathlib.Core.List.{List, [], ◌∷◌, ◌++◌, append_assoc}
+use mathlib.Core.Path.{◌≡◌, sym, ◌∙◌, ap}
 use native.Mathlib.Omega.{arith}
-use Prim.Native.Nat.{◌-◌}
-use mathlib.Core.Path.{refl, ◌∙◌}
-use lib.ListN.{get_or, length-set}
-use Rattle.parts.proofs.Buffer.{shifted_start, shifted_step, inserted}
+use native.Mathlib.Numerals.{add-one}
+use lib.ListN.{length, get_or, set, take, drop, length-drop}
+use lib.Seq.{paste, take-paste, take-suc, take-set-lt, set_at, length-take-le}
+use Rattle.std.proofs.lemmas.List.{drop-take}
 use Rattle.quick.proofs.conditions.insert.Goals as goal
 
-pub loop-i-init : goal.loop-i-init
-loop-i-init c = (shifted_start c.args.made.now c.args.to (omega (arith, c.requires)), c.requires.0, omega arith, refl)
+moved : (m x : List ℕ) (from to b : ℕ) → from ≤ to → to < length m → x ≡ paste m (from + 1) (drop from m) (to - from) → take (to + 1) (set x from b) ≡ take from m ++ (b ∷ drop from (take to m))
+moved m x from to b l h e =
+    take-set-lt (to + 1) x from b (omega arith)
+    ∙ ap (λ (y : List ℕ). set y from b) (ap (take (to + 1)) e ∙ front ∙ seam)
+    ∙ set_at (take from m) (get_or m from 0) (take (to - from) (drop from m)) b from (length-take-le from m (omega arith))
+    ∙ ap (λ (y : List ℕ). take from m ++ (b ∷ y)) (sym part)
+  where
+    front : take (to + 1) (paste m (from + 1) (drop from m) (to - from)) ≡ take (from + 1) m ++ take (to - from) (drop from m)
+    front =
+        ap (λ (j : ℕ). take j (paste m (from + 1) (drop from m) (to - from))) (let z : to + 1 ≡ from + 1 + (to - from) = omega arith in z)
+        ∙ take-paste m (from + 1) (drop from m) (to - from) (omega arith) (omega (arith, length-drop from m))
 
-pub bounds-made-i : goal.bounds-made-i
-bounds-made-i c = omega (arith, c.loop-i.invariant.2, c.requires)
+    seam : take (from + 1) m ++ take (to - from) (drop from m) ≡ take from m ++ (get_or m from 0 ∷ take (to - from) (drop from m))
+    seam = ap (λ (y : List ℕ). y ++ take (to - from) (drop from m)) (ap (λ (j : ℕ). take j m) (add-one from) ∙ take-suc m from 0 (omega arith)) ∙ append_assoc (take from m) (get_or m from 0 ∷ []) (take (to - from) (drop from m))
 
-pub bounds-made-i-in-loop-i : goal.bounds-made-i-in-loop-i
-bounds-made-i-in-loop-i c = omega (arith, c.loop-i.invariant.2, c.requires)
+    part : drop from (take to m) ≡ take (to - from) (drop from m)
+    part = ap (λ (j : ℕ). drop from (take j m)) (let z : to ≡ from + (to - from) = omega arith in z) ∙ drop-take from (to - from) m
 
-pub loop-i-preserved : goal.loop-i-preserved
-loop-i-preserved c = let pre = c.requires in (shifted_step c.args.made.now c.args.to (omega (arith, pre)) c.loop-i.i c.loop-i.made (omega (arith, c.loop-i-test.true)) c.loop-i.invariant.2 c.loop-i.invariant.0, omega (arith, c.loop-i-test.true), omega (arith, c.loop-i.invariant.2), length-set c.loop-i.made c.loop-i.i (get_or c.loop-i.made (c.loop-i.i - 1) 0) ∙ c.loop-i.invariant.3)
-
-pub bounds-made-from : goal.bounds-made-from
-bounds-made-from c = omega (arith, c.requires)
-
-pub returns : goal.returns
-returns c = let pre = c.requires in let b = c.args.b in let from = c.args.from in record { made_len = length-set c.loop-i.made from b ∙ c.loop-i.invariant.3 ∙ c.requires.2; made_after = inserted c.args.made.now c.args.to (omega (arith, pre)) from c.loop-i.i b c.loop-i.made _ c.loop-i-test.false c.loop-i.invariant.1 c.requires.0 c.loop-i.invariant.0 refl }
+pub returns-clause-made_after : goal.returns-clause-made_after
+returns-clause-made_after c = moved c.args.made.now c.copy_within.new.self c.args.from c.args.to c.args.b c.requires.0 (omega (arith, c.requires)) c.copy_within.ensures.after

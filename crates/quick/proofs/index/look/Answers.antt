@@ -21,7 +21,7 @@ pub bounds-names-slot : goal.bounds-names-slot
 bounds-names-slot c = omega (arith, c.requires.filled.size, (c.loop-slot.invariant _ _ c.requires.filled).low, c.requires.filled.few)
 
 pub returns-then-named : goal.returns-then-named
-returns-then-named c = let list = c.args.list.now in let names = c.args.names.now in let code = c.args.code in let kind = c.args.kind in let relation = c.args.relation in record { result_in_bounds = λ _. (way_slot list names _ _ c.requires.filled kind relation code c.loop-slot.slot (c.loop-slot.invariant _ _ c.requires.filled) c.loop-slot-test.true).inside; by_index = λ at n f. way-hit list names at n f kind relation code c.loop-slot.slot (c.loop-slot.invariant at n f) c.loop-slot-test.true c.named.result c.named.ensures c.if-named.true }
+returns-then-named c = let list = c.args.list.now in let names = c.args.names.now in let code = c.args.code in let kind = c.args.kind in let relation = c.args.relation in record { result_in_bounds = (way_slot list names _ _ c.requires.filled kind relation code c.loop-slot.slot (c.loop-slot.invariant _ _ c.requires.filled) c.loop-slot-test.true).inside; by_index = λ at n f. way-hit list names at n f kind relation code c.loop-slot.slot (c.loop-slot.invariant at n f) c.loop-slot-test.true c.named.result c.named.ensures c.if-named.true }
 
 pub overflow_add-slot-in-loop-slot : goal.overflow_add-slot-in-loop-slot
 overflow_add-slot-in-loop-slot c = record { fits = omega (arith, (c.loop-slot.invariant _ _ c.requires.filled).low, c.requires.filled.few) }
@@ -39,4 +39,4 @@ pub loop-slot-preserved : goal.loop-slot-preserved
 loop-slot-preserved c = λ at n f. way_on c.args.list.now c.args.names.now at n f c.args.kind c.args.relation c.args.code c.loop-slot.slot (c.loop-slot.invariant at n f) c.loop-slot-test.true c.named.result c.named.ensures c.if-named.false
 
 pub returns : goal.returns
-returns c = record { result_in_bounds = λ h. absurd (omega (arith, h)); by_index = λ at n f. way-miss c.args.list.now c.args.names.now at n f c.args.kind c.args.relation c.args.code c.loop-slot.slot (omega (arith, c.loop-slot-test.false)) (c.loop-slot.invariant at n f) }
+returns c = record { result_in_bounds = tt; by_index = λ at n f. way-miss c.args.list.now c.args.names.now at n f c.args.kind c.args.relation c.args.code c.loop-slot.slot (omega (arith, c.loop-slot-test.false)) (c.loop-slot.invariant at n f) }

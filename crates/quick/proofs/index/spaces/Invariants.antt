@@ -1,5 +1,5 @@
 use mathlib.Core.Path.{◌≡◌}
-use Prim.Native.Nat.{◌-◌, ◌≤◌}
+use Prim.Native.Nat.{◌≤◌}
 use lib.Dec.{eqb}
 use lib.ListN.{drop}
 use Rattle.model.specs.Lists.{all}
@@ -7,6 +7,3 @@ use Rattle.quick.proofs.index.spaces.Given as goal
 
 abbrev pub invariant-loop-i : goal.invariant-loop-i
 invariant-loop-i l = l.n ≤ l.i → all (λ b. eqb b 32) (drop l.i l.name) ≡ all (λ b. eqb b 32) (drop l.n l.name)
-
-abbrev pub decreases-loop-i : goal.decreases-loop-i
-decreases-loop-i l = 12 - l.i

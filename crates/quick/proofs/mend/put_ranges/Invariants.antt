@@ -1,4 +1,4 @@
-use Prim.Native.Nat.{◌-◌, ◌%◌, ◌≤◌}
+use Prim.Native.Nat.{◌%◌}
 use mathlib.Core.Path.{◌≡◌}
 use lib.ListN.{length}
 use Rattle.parts.specs.Table.{number_at}
@@ -6,7 +6,4 @@ use Rattle.quick.proofs.mend.Laws.{ToCome}
 use Rattle.quick.proofs.mend.put_ranges.Given as goal
 
 abbrev pub invariant-loop-i : goal.invariant-loop-i
-invariant-loop-i l = (l.i ≤ l.n) × (length l.out ≡ length l.initial.out) × ToCome (λ i. number_at l.symbols i % 256) l.symbols l.n l.initial.out l.out l.i l.at
-
-abbrev pub decreases-loop-i : goal.decreases-loop-i
-decreases-loop-i l = l.n - l.i
+invariant-loop-i l = (length l.out ≡ length l.initial.out) × ToCome (λ i. number_at l.symbols i % 256) l.symbols l.n l.initial.out l.out l.i l.at

@@ -1,41 +1,37 @@
-use Rattle.reader.proofs.syntax.Turns.{ran-start, ran_on, ran-more, ran-end}
-use mathlib.Core.Path.{refl, ◌∙◌}
-use lib.ListN.{length-set}
-use native.Mathlib.Omega.{arith}
+use Rattle.std.proofs.Common.{Some, refl, subst, sym, ap, ◌∙◌, ◌&&◌, eqb, arith}
+use Rattle.reader.specs.declared.syntax.Move.{Move}
+use Rattle.reader.proofs.syntax.Turns.{ran-start, Takes, stops-none, stops-low, ran-to, ran-aggregate, ran-open, ran-back, ran-end}
+use Rattle.reader.proofs.syntax.run.Goals.{After-next, in-To, in-Aggregate, in-Open, in-Back+else-depth-eq0}
 use Rattle.reader.proofs.syntax.run.Goals as goal
 
-pub loop-i-init : goal.loop-i-init
-loop-i-init c = (ran-start c.args.kinds.now c.args.n c.args.stack.now c.requires.n_in_bounds_2.1, refl)
+pub loop-kind-init : goal.loop-kind-init
+loop-kind-init c = record { ran = ran-start _ _; kept = refl }
 
-pub bounds-kinds-i : goal.bounds-kinds-i
-bounds-kinds-i c = omega (arith, c.loop-i-test.true, c.requires.n_in_bounds.0)
+pub returns-in_default : goal.returns-in_default
+returns-in_default c = stops-none _ _ _ _ _ c.loop-kind.invariant.ran c.loop-kind-test.true _ c.from.ensures (c.in_default.ensures.value, c.in_default.ensures.small)
 
-pub overflow_add-i : goal.overflow_add-i
-overflow_add-i c = record { fits = omega (arith, c.loop-i-test.true, c.loop-i.invariant.0.deep, c.loop-i.invariant.1, c.requires.n_in_bounds_2.0, c.requires.n_in_bounds.1) }
+pub returns-then-depth-eq0 : goal.returns-then-depth-eq0
+returns-then-depth-eq0 c =
+    let ran = c.loop-kind.invariant.ran in
+    let step = subst (λ (x : Move). Takes _ _ _ _ _ ran c.loop-kind-test.true _ c.from.ensures (Some x)) c.in-Back.is (c.in-Some.ensures.value, c.in-Some.ensures.small) in
+    stops-low _ _ _ _ _ ran c.loop-kind-test.true _ c.from.ensures step c.if-depth-eq0.true
 
-pub loop-i-smaller-then-v-lt32 : goal.loop-i-smaller-then-v-lt32
-loop-i-smaller-then-v-lt32 c = omega (arith, c.loop-i-test.true)
+pub loop-kind-preserved : goal.loop-kind-preserved
+loop-kind-preserved c =
+    let ran = c.loop-kind.invariant.ran in
+    let l = c.loop-kind-test.true in
+    let kept = c.match-step.auto.stack ∙ c.loop-kind.invariant.kept in
+    let Goes : Move → Type 0 = λ (x : Move). Takes _ _ _ _ _ ran l _ c.from.ensures (Some x) in
+    let taken : Goes c.in-Some.step = (c.in-Some.ensures.value, c.in-Some.ensures.small) in
+    elim c.match-step.branch [
+      | in-To w ↦ record { ran = rw (w.stack-is, w.mode-is, w.depth-is) (ran-to _ _ _ _ _ ran l _ c.from.ensures w.in-To.m (subst Goes w.in-To.is taken)); kept = kept }
+      | in-Aggregate w ↦ record { ran = rw (w.stack-is, w.mode-is, w.depth-is) (ran-aggregate _ _ _ _ _ ran l _ c.from.ensures w.in-Aggregate.m (omega (arith, ran.deep, c.loop-kind.invariant.kept, l, c.requires)) (subst Goes w.in-Aggregate.is taken)); kept = kept }
+      | in-Open w ↦ record { ran = rw (w.stack-is, w.mode-is, w.depth-is) (ran-open _ _ _ _ _ ran l _ c.from.ensures w.in-Open.m (omega (arith, ran.deep, c.loop-kind.invariant.kept, l, c.requires)) (subst Goes w.in-Open.is taken)); kept = kept }
+      | in-Back+else-depth-eq0 w ↦ record { ran = rw (w.stack-is, w.mode-is, w.depth-is) (ran-back _ _ _ _ _ ran l _ c.from.ensures (subst Goes w.in-Back.is taken) w.if-depth-eq0.false); kept = kept }
+    ]
 
-pub loop-i-preserved-then-v-lt32 : goal.loop-i-preserved-then-v-lt32
-loop-i-preserved-then-v-lt32 c = (ran_on c.args.kinds.now c.args.n c.loop-i.stack c.loop-i.mode c.loop-i.depth c.loop-i.i c.loop-i.invariant.0 c.loop-i-test.true c.next-v.result c.next-v.ensures c.if-v-lt32.true, c.loop-i.invariant.1)
+pub returns-then-may_end : goal.returns-then-may_end
+returns-then-may_end c = ran-end _ _ _ _ _ c.loop-kind.invariant.ran c.loop-kind-test.false _ (ap (λ b. b && eqb c.loop-kind.depth 0) (sym c.if-may_end.true ∙ c.may_end.ensures))
 
-pub bounds-stack-depth : goal.bounds-stack-depth
-bounds-stack-depth c = omega (arith, c.loop-i-test.true, c.loop-i.invariant.0.deep, c.loop-i.invariant.1, c.requires.n_in_bounds_2.0, c.requires.n_in_bounds.1)
-
-pub overflow_add-above : goal.overflow_add-above
-overflow_add-above c = record { fits = omega (arith, c.loop-i-test.true, c.loop-i.invariant.0.deep, c.loop-i.invariant.1, c.requires.n_in_bounds_2.0, c.requires.n_in_bounds.1) }
-
-pub bounds-stack-above : goal.bounds-stack-above
-bounds-stack-above c = omega (arith, c.loop-i-test.true, c.loop-i.invariant.0.deep, c.loop-i.invariant.1, c.requires.n_in_bounds_2.0, c.requires.n_in_bounds.1)
-
-pub moved-s-requires : goal.moved-s-requires
-moved-s-requires c = (c.if-v-lt32.false, omega (arith, c.loop-i-test.true, c.loop-i.invariant.0.deep, c.requires.n_in_bounds.1))
-
-pub loop-i-smaller : goal.loop-i-smaller
-loop-i-smaller c = omega (arith, c.loop-i-test.true)
-
-pub loop-i-preserved : goal.loop-i-preserved
-loop-i-preserved c = (ran-more c.args.kinds.now c.args.n c.loop-i.stack c.loop-i.mode c.loop-i.depth c.loop-i.i c.loop-i.invariant.0 c.loop-i-test.true c.next-v.result c.next-v.ensures (omega (arith, c.loop-i.invariant.1, c.requires.n_in_bounds_2.0)) c.moved-s.result.mode c.moved-s.result.depth c.moved-s.ensures.mode_value c.moved-s.ensures.depth_value, length-set c.loop-i.stack _ _ ∙ c.loop-i.invariant.1)
-
-pub returns : goal.returns
-returns c = ran-end c.args.kinds.now c.args.n c.loop-i.stack c.loop-i.mode c.loop-i.depth c.loop-i.i c.loop-i.invariant.0 c.loop-i-test.false c.ends.result c.ends.ensures
+pub returns-else-may_end : goal.returns-else-may_end
+returns-else-may_end c = ran-end _ _ _ _ _ c.loop-kind.invariant.ran c.loop-kind-test.false _ (c.if-may_end.false ∙ ap (λ b. b && eqb c.loop-kind.depth 0) (sym c.if-may_end.false ∙ c.may_end.ensures))

@@ -1,11 +1,6 @@
 use Rattle.reader.proofs.syntax.Turns.{Ran}
-use Prim.Native.Nat.{◌-◌}
-use mathlib.Core.Path.{◌≡◌}
-use lib.ListN.{length}
+use Rattle.std.proofs.Common.{◌≡◌, length}
 use Rattle.reader.proofs.syntax.run.Given as goal
 
-abbrev pub invariant-loop-i : goal.invariant-loop-i
-invariant-loop-i l = Ran l.kinds l.n l.stack l.mode l.depth l.i × (length l.stack ≡ length l.initial.stack)
-
-abbrev pub decreases-loop-i : goal.decreases-loop-i
-decreases-loop-i l = l.n - l.i
+abbrev pub invariant-loop-kind : goal.invariant-loop-kind
+invariant-loop-kind l = record { ran : Ran l.kinds l.stack l.mode l.depth l.kind-index; kept : length l.stack ≡ length l.initial.stack }

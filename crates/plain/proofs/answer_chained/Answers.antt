@@ -1,6 +1,0 @@
-use native.Mathlib.Omega.{arith}
-use Rattle.plain.proofs.Tables.{all-clear}
-use Rattle.plain.proofs.answer_chained.Goals as goal
-
-pub answer_in-requires : goal.answer_in-requires
-answer_in-requires c = (c.requires.0, c.requires.1, all-clear 37744 17248 (omega arith) (omega arith) (omega arith))
