@@ -23,38 +23,35 @@ pub struct Relation {
     pub rows: usize,
 }
 
-fn wide(x: u8) -> usize
-    ensures { result ≡ x }
-{
-    x as usize
-}
-
 // The byte at i, 0 past the end.
 fn byte(bytes: &[u8], i: usize) -> usize
     ensures value { result ≡ get_or bytes.now i 0 }
     ensures upper_bound { result ≤ 255 }
 {
-    if i < bytes.len() { wide(bytes[i]) } else { 0 }
+    usize::from(bytes.get(i).copied().unwrap_or(0))
 }
 
+#[tactic(auto, unfolding(crate::specs::Layout::kind_of))]
 fn kind(catalogue: &[u8], relation: u8) -> usize
     ensures { result ≡ L.kind_of catalogue.now relation }
 {
-    byte(catalogue, RECORD * wide(relation))
+    byte(catalogue, RECORD * usize::from(relation))
 }
 
+#[tactic(auto, unfolding(crate::specs::Layout::attributes_of))]
 fn attributes(catalogue: &[u8], relation: u8) -> usize
     ensures value { result ≡ L.attributes_of catalogue.now relation }
     ensures upper_bound { result ≤ 255 }
 {
-    byte(catalogue, RECORD * wide(relation) + 1)
+    byte(catalogue, RECORD * usize::from(relation) + 1)
 }
 
+#[tactic(auto, unfolding(crate::specs::Layout::rows_of))]
 fn rows(catalogue: &[u8], relation: u8) -> usize
     ensures value { result ≡ L.rows_of catalogue.now relation }
     ensures upper_bound { result ≤ 65535 }
 {
-    let at = RECORD * wide(relation);
+    let at = RECORD * usize::from(relation);
     byte(catalogue, at + 2) + 256 * byte(catalogue, at + 3)
 }
 
@@ -83,17 +80,12 @@ pub fn entry(catalogue: &[u8], relation: u8) -> Relation
     ensures value { result ≡ L.relation_of catalogue.now relation }
     ensures attributes_bound { (result.attributes ≤ 255) × (result.rows ≤ 65535) }
 {
-    let attributes = attributes(catalogue, relation);
-    let rows = rows(catalogue, relation);
-    let listed = wide(relation) < count(catalogue);
-    let stored = stored(catalogue, relation);
-    let latest = latest(catalogue, relation);
     Relation {
-        listed,
-        stored,
-        latest,
-        attributes,
-        rows,
+        listed: usize::from(relation) < count(catalogue),
+        stored: stored(catalogue, relation),
+        latest: latest(catalogue, relation),
+        attributes: attributes(catalogue, relation),
+        rows: rows(catalogue, relation),
     }
 }
 
@@ -102,11 +94,9 @@ pub fn base(catalogue: &[u8], relation: u8) -> usize
     ensures value { result ≡ L.base_of catalogue.now relation }
     ensures upper_bound { result ≤ 16711425 * relation }
 {
-    let mut at: usize = 0;
-    let mut i: u8 = 0;
-    while i < relation {
+    let mut at = 0;
+    for i in 0..relation {
         at += rows(catalogue, i) * attributes(catalogue, i);
-        i += 1;
     }
     at
 }
@@ -126,34 +116,17 @@ fn total(catalogue: &[u8]) -> usize
 pub fn value(values: &[i32], row: usize, i: usize) -> i32
     ensures { result ≡ get_or values.now (row + i) (pos 0) }
 {
-    if row <= values.len() {
-        let part = &values[row..];
-        if i < part.len() {
-            return part[i];
-        }
-    }
-    0
+    let part = values.get(row..).unwrap_or(&[]);
+    part.get(i).copied().unwrap_or(0)
 }
 
 // Whether a record has a known kind and numbers in their ranges.
 fn known(catalogue: &[u8], relation: u8) -> bool
     ensures { result ≡ L.known_of catalogue.now relation }
 {
-    let k = kind(catalogue, relation);
-    if k < 48 {
-        return false;
-    }
-    if 50 < k {
-        return false;
-    }
-    let w = attributes(catalogue, relation);
-    if w < 1 {
-        return false;
-    }
-    if model::ATTRIBUTES < w {
-        return false;
-    }
-    rows(catalogue, relation) <= model::ROWS
+    (48..=50).contains(&kind(catalogue, relation))
+        && (1..=model::ATTRIBUTES).contains(&attributes(catalogue, relation))
+        && rows(catalogue, relation) <= model::ROWS
 }
 
 // Check 10.
@@ -170,13 +143,10 @@ fn fails_10(catalogue: &[u8]) -> bool
     if RECORD * n != catalogue.len() {
         return true;
     }
-    let end = n as u8;
-    let mut i: u8 = 0;
-    while i < end {
+    for i in 0..n as u8 {
         if !known(catalogue, i) {
             return true;
         }
-        i += 1;
     }
     false
 }

@@ -9,9 +9,8 @@ use lib.ListN.{length, drop, set, length-drop}
 use lib.Seq.{drop-set-lt}
 use Rattle.kinds.specs.Record.{record_at}
 use Rattle.kinds.specs.Tables.{record_length}
-use Rattle.sizes.specs.declared.Size.{Size}
-use Rattle.sizes.specs.declared.Size.TheVariants as S
 use Rattle.sizes.specs.Measured.{Measured, leaves, onward, accepts, children_of, child_term, children, stored, store, measured, condition_table, term_table}
+use Rattle.std.specs.Prelude.{Option, Some, None}
 
 store-past : (m p n : ℕ) (z : List ℕ) → p < m → drop m (store z p n) ≡ drop m z
 unfolding store
@@ -32,16 +31,16 @@ module _ (m : ℕ) (f : List ℕ → ℕ → List ℕ → Measured) (past : (q :
   children-past (suc n) a q p z h =
       go (λ i y. children-past n i q p y h) (f (drop a q) (p + a) z).size ∙ past (drop a q) (p + a) z (λ k. omega (arith, length-drop a q, k))
     where
-      go : ((i : ℕ) (y : List ℕ) → drop m (children n i f q p y).table ≡ drop m y) → (s : Size) → drop m (onward s (f (drop a q) (p + a) z).table (λ j y. children n (a + j) f q p y)).table ≡ drop m (f (drop a q) (p + a) z).table
-      go ih (S.Bytes j) = ih (a + j) (f (drop a q) (p + a) z).table
-      go ih S.Refused = refl
+      go : ((i : ℕ) (y : List ℕ) → drop m (children n i f q p y).table ≡ drop m y) → (s : Option ℕ) → drop m (onward s (f (drop a q) (p + a) z).table (λ j y. children n (a + j) f q p y)).table ≡ drop m (f (drop a q) (p + a) z).table
+      go ih (Some j) = ih (a + j) (f (drop a q) (p + a) z).table
+      go ih None = refl
 
 stored_past : (m p : ℕ) (x : Measured) → p < m → drop m (stored p x).table ≡ drop m x.table
 stored_past m p x h = go x.size
   where
-    go : (s : Size) → drop m (onward s x.table (λ n y. leaves (S.Bytes n) (store y p n))).table ≡ drop m x.table
-    go (S.Bytes n) = store-past m p n x.table h
-    go S.Refused = refl
+    go : (s : Option ℕ) → drop m (onward s x.table (λ n y. leaves (Some n) (store y p n))).table ≡ drop m x.table
+    go (Some n) = store-past m p n x.table h
+    go None = refl
 
 measured-past : (m l : ℕ) (t : Bool) (q : List ℕ) (p : ℕ) (z : List ℕ) → Before m p q → drop m (measured l t q p z).table ≡ drop m z
 unfolding measured record_at
@@ -51,7 +50,7 @@ measured-past m (suc l) false [] p z h = refl
 measured-past m (suc l) t (k ∷ r) p z h = go (λ s q p z h. measured-past m l s q p z h) (accepts t (record_at (k ∷ r)))
   where
     go : ((s : Bool) (q : List ℕ) (p : ℕ) (z : List ℕ) → Before m p q → drop m (measured l s q p z).table ≡ drop m z) → (b : Bool)
-        → drop m (cond b (stored p (children (children_of k) (record_length k) (λ x m y. measured l (child_term k) x m y) (k ∷ r) p z)) (leaves S.Refused z)).table ≡ drop m z
+        → drop m (cond b (stored p (children (children_of k) (record_length k) (λ x m y. measured l (child_term k) x m y) (k ∷ r) p z)) (leaves None z)).table ≡ drop m z
     go ih true =
         let e : p + length (k ∷ r) ≤ m = h (omega arith) in
         stored_past m p (children (children_of k) (record_length k) (λ x m y. measured l (child_term k) x m y) (k ∷ r) p z) (omega arith)

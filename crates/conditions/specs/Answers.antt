@@ -1,33 +1,34 @@
 -- What the reader answers of a condition or a term: nothing where the model reads none of so many levels, else its bytes and whether it is in scope.
-use Rattle.std.specs.Prelude.{ℕ, ◌+◌, ◌-◌, Bool, ◌&&◌, List, length, drop}
+use Rattle.std.specs.Prelude.{ℕ, ◌+◌, ◌-◌, Bool, ◌&&◌, List, length, drop, Option, Some, None}
 use Rattle.model.specs.Syntax.{Binding}
 use Rattle.model.specs.Encoding.{Read, fail, ok, then, read_condition, read_term}
 use Rattle.model.specs.Catalogue.{Shape}
 use Rattle.model.specs.Scope.{Scope, in_scope, in_scope_t}
-use Rattle.sizes.specs.declared.Size.{Size}
-use Rattle.sizes.specs.declared.Size.TheVariants as S
 use Rattle.sizes.specs.Measured.{Measured, store, children, measured}
 use Rattle.conditions.specs.Reach.{some_in_scope, aggregate_in_scope}
 use Rattle.conditions.specs.declared.Reading.{Reading}
-use Rattle.conditions.specs.declared.Reading.TheVariants.{Whole, Refused}
+
+-- so many bytes, in scope where s says so
+abbrev pub reading : ℕ → Bool → Option Reading
+reading n s = Some (record { length = n; inside = s })
 
 -- of what was read of q, by a test of scope
-abbrev pub answer : {A : Type 0} → List ℕ → (A → Bool) → Read A → Reading
-answer q s fail = Refused
-answer q s (ok a r) = Whole (length q - length r) (s a)
+abbrev pub answer : {A : Type 0} → List ℕ → (A → Bool) → Read A → Option Reading
+answer q s fail = None
+answer q s (ok a r) = reading (length q - length r) (s a)
 
 module _ (sh : Shape) (limit l : ℕ) where
-  unfoldable pub condition_reading : Scope → List ℕ → Reading
+  unfoldable pub condition_reading : Scope → List ℕ → Option Reading
   condition_reading σ q = answer q (λ c. in_scope sh limit c σ) (read_condition l q)
 
-  unfoldable pub term_reading : Scope → List ℕ → Reading
+  unfoldable pub term_reading : Scope → List ℕ → Option Reading
   term_reading σ q = answer q (λ t. in_scope_t sh limit t σ) (read_term l q)
 
   -- the condition under SOME, and under an aggregate of an attribute
-  unfoldable pub some_reading : Binding → Scope → List ℕ → Reading
+  unfoldable pub some_reading : Binding → Scope → List ℕ → Option Reading
   some_reading b σ q = answer q (λ c. some_in_scope sh limit b c σ) (read_condition l q)
 
-  unfoldable pub aggregate_reading : Binding → ℕ → List ℕ → Reading
+  unfoldable pub aggregate_reading : Binding → ℕ → List ℕ → Option Reading
   aggregate_reading b a q = answer q (λ c. aggregate_in_scope sh limit b a c) (read_condition l q)
 
 -- two, one after the other
@@ -42,10 +43,10 @@ abbrev pub both : {A : Type 0} → (A → Bool) → Pair A → Bool
 both s p = s p.left && s p.right
 
 module _ (sh : Shape) (limit l : ℕ) (σ : Scope) where
-  unfoldable pub conditions_reading : List ℕ → Reading
+  unfoldable pub conditions_reading : List ℕ → Option Reading
   conditions_reading q = answer q (both (λ c. in_scope sh limit c σ)) (two (λ x. read_condition l x) q)
 
-  unfoldable pub terms_reading : List ℕ → Reading
+  unfoldable pub terms_reading : List ℕ → Option Reading
   terms_reading q = answer q (both (λ t. in_scope_t sh limit t σ)) (two (λ x. read_term l x) q)
 
 -- what two conditions (false) or terms (true) from place p on leave: their bytes, and the table
@@ -53,24 +54,24 @@ unfoldable pub two_measured : Bool → ℕ → List ℕ → ℕ → List ℕ →
 two_measured t l q p z = children 2 0 (λ x m y. measured l t x m y) (drop p q) p z
 
 -- an answer by its parts
-abbrev pub size_of : Reading → Size
-size_of (Whole n b) = S.Bytes n
-size_of Refused = S.Refused
+abbrev pub size_of : Option Reading → Option ℕ
+size_of (Some r) = Some r.length
+size_of None = None
 
-abbrev pub bytes_of : Reading → ℕ
-bytes_of (Whole n b) = n
-bytes_of Refused = 0
+abbrev pub bytes_of : Option Reading → ℕ
+bytes_of (Some r) = r.length
+bytes_of None = 0
 
 -- in scope only where b holds too
-abbrev pub held : Bool → Reading → Reading
-held b (Whole n s) = Whole n (b && s)
-held b Refused = Refused
+abbrev pub held : Bool → Option Reading → Option Reading
+held b (Some r) = reading r.length (b && r.inside)
+held b None = None
 
 -- what a record of a bytes makes of its children, and the table with its size at p
-abbrev pub grown : ℕ → Reading → Reading
-grown a (Whole n s) = Whole (a + n) s
-grown a Refused = Refused
+abbrev pub grown : ℕ → Option Reading → Option Reading
+grown a (Some r) = reading (a + r.length) r.inside
+grown a None = None
 
-abbrev pub kept : ℕ → ℕ → Reading → List ℕ → List ℕ
-kept p a (Whole n s) z = store z p (a + n)
-kept p a Refused z = z
+abbrev pub kept : ℕ → ℕ → Option Reading → List ℕ → List ℕ
+kept p a (Some r) z = store z p (a + r.length)
+kept p a None z = z

@@ -4,67 +4,59 @@
 
 pub mod scope;
 
-ghost use Rattle.std.specs.Prelude.{◌≡◌, true, false, ◌+◌, ◌≤◌, ◌<◌, length, drop};
+ghost use Rattle.std.specs.Prelude.{◌≡◌, true, false, ◌&&◌, ◌+◌, ◌≤◌, ◌<◌, length, drop};
 ghost use Rattle.sizes.specs.Measured.{store, leaves, condition_table, term_table};
 ghost use Rattle.conditions.specs.Reach.{scope_of, shape_in};
-ghost use Rattle.conditions.specs.Answers.{held, grown, bytes_of, kept, condition_reading, term_reading};
+ghost use Rattle.conditions.specs.Answers.{reading, grown, bytes_of, kept, condition_reading, term_reading};
 ghost use Rattle.conditions.specs.Answers.{some_reading, aggregate_reading, conditions_reading, terms_reading, size_of, two_measured};
 
 use kinds::{ConditionRecord, TermRecord};
 
+// What was read: its bytes, and whether it is in scope. None where it is not well formed, or nested deeper.
 #[derive(Clone, Copy)]
-pub enum Reading {
-    // its bytes, and whether it is in scope
-    Whole(usize, bool),
-    // not well formed, or nested deeper
-    Refused,
+pub struct Reading {
+    pub length: usize,
+    pub inside: bool,
 }
 
-// The same, where something more must hold for it to be in scope.
-fn also(r: Reading, known: bool) -> Reading
-    ensures { result ≡ held known r }
-{
-    let Reading::Whole(n, inside) = r else {
-        return Reading::Refused;
-    };
-    if !known {
-        return Reading::Whole(n, false);
+impl Reading {
+    // The same, in scope only where something more holds too.
+    fn only_if(self, known: bool) -> Reading
+        ensures { result ≡ record { length = self.length; inside = known && self.inside } }
+    {
+        Reading {
+            length: self.length,
+            inside: known && self.inside,
+        }
     }
-    Reading::Whole(n, inside)
 }
 
 // Keeps a size in the table.
 fn put(z: &mut [u16], at: usize, n: usize)
     ensures { z.new ≡ store z.old at n }
 {
-    if 65536 <= n {
-        return;
+    if n < 65536 && at < z.len() {
+        z[at] = n as u16;
     }
-    if z.len() <= at {
-        return;
-    }
-    z[at] = n as u16;
 }
 
 // Keeps the size of a record with no child.
-fn leaf(z: &mut [u16], at: usize, n: usize, inside: bool) -> Reading
-    ensures value { result ≡ Reading.Whole n inside }
-    ensures z_after { z.new ≡ store z.old at n }
+fn leaf(z: &mut [u16], at: usize, length: usize, inside: bool) -> Option<Reading>
+    ensures value { result ≡ reading length inside }
+    ensures z_after { z.new ≡ store z.old at length }
 {
-    put(z, at, n);
-    Reading::Whole(n, inside)
+    put(z, at, length);
+    Some(Reading { length, inside })
 }
 
 // Keeps the size of a record of so many bytes with what was read of its children.
-fn parent(z: &mut [u16], at: usize, own: usize, children: Reading) -> Reading
+fn parent(z: &mut [u16], at: usize, own: usize, children: Option<Reading>) -> Option<Reading>
     requires { own + bytes_of children < 9223372036854775808 }
     ensures value { result ≡ grown own children }
     ensures z_after { z.new ≡ kept at own children z.old }
 {
-    let Reading::Whole(n, inside) = children else {
-        return Reading::Refused;
-    };
-    leaf(z, at, own + n, inside)
+    let r = children?;
+    leaf(z, at, own + r.length, r.inside)
 }
 
 // The condition at a place.
@@ -77,14 +69,14 @@ pub fn condition(
     catalogue: &[u8],
     limit: u8,
     reach: &mut [u16],
-) -> Reading
+) -> Option<Reading>
     requires { (at ≤ length q.now) × (limit ≤ length reach.old) }
     ensures value { result ≡ condition_reading (shape_in catalogue.now) limit level (scope_of reach.old) (drop at q.now) }
     ensures z_after { z.new ≡ condition_table level q.now at z.old }
     ensures reach_unchanged { reach.new ≡ reach.old }
 {
     if level == 0 {
-        return Reading::Refused;
+        return None;
     }
     let l = level - 1;
     match kinds::condition_record(kinds::tail(q, at)) {
@@ -106,7 +98,7 @@ pub fn condition(
         }
         ConditionRecord::Compare(o) => {
             if !kinds::is_code(false, o) {
-                return Reading::Refused;
+                return None;
             }
             let a = kinds::record_length(21);
             let inner = terms(q, z, at + a, l, catalogue, limit, reach);
@@ -122,7 +114,7 @@ pub fn condition(
             let inner = some(q, z, under, catalogue, limit, reach, r);
             parent(z, at, a, inner)
         }
-        ConditionRecord::Other => Reading::Refused,
+        ConditionRecord::Other => None,
     }
 }
 
@@ -136,19 +128,20 @@ fn conditions(
     catalogue: &[u8],
     limit: u8,
     reach: &mut [u16],
-) -> Reading
+) -> Option<Reading>
     requires { (at ≤ length q.now) × (limit ≤ length reach.old) }
     ensures value { result ≡ conditions_reading (shape_in catalogue.now) limit level (scope_of reach.old) (drop at q.now) }
     ensures z_after { leaves (size_of result) z.new ≡ two_measured false level q.now at z.old }
     ensures reach_unchanged { reach.new ≡ reach.old }
 {
-    let Reading::Whole(n, first) = condition(q, z, at, level, catalogue, limit, reach) else {
-        return Reading::Refused;
+    let first = condition(q, z, at, level, catalogue, limit, reach)?;
+    let second = condition(q, z, at + first.length, level, catalogue, limit, reach)?;
+    let length = first.length + second.length;
+    let both = Reading {
+        length,
+        inside: second.inside,
     };
-    let Reading::Whole(m, second) = condition(q, z, at + n, level, catalogue, limit, reach) else {
-        return Reading::Refused;
-    };
-    also(Reading::Whole(n + m, second), first)
+    Some(both.only_if(first.inside))
 }
 
 // Two terms, one after the other.
@@ -161,18 +154,19 @@ fn terms(
     catalogue: &[u8],
     limit: u8,
     reach: &[u16],
-) -> Reading
+) -> Option<Reading>
     requires { at ≤ length q.now }
     ensures value { result ≡ terms_reading (shape_in catalogue.now) limit level (scope_of reach.now) (drop at q.now) }
     ensures z_after { leaves (size_of result) z.new ≡ two_measured true level q.now at z.old }
 {
-    let Reading::Whole(n, first) = term(q, z, at, level, catalogue, limit, reach) else {
-        return Reading::Refused;
+    let first = term(q, z, at, level, catalogue, limit, reach)?;
+    let second = term(q, z, at + first.length, level, catalogue, limit, reach)?;
+    let length = first.length + second.length;
+    let both = Reading {
+        length,
+        inside: second.inside,
     };
-    let Reading::Whole(m, second) = term(q, z, at + n, level, catalogue, limit, reach) else {
-        return Reading::Refused;
-    };
-    also(Reading::Whole(n + m, second), first)
+    Some(both.only_if(first.inside))
 }
 
 // The condition under a SOME or an aggregate: where it stands, the level down to which it is read, and the variable that is bound.
@@ -193,7 +187,7 @@ fn some(
     limit: u8,
     reach: &mut [u16],
     relation: u8,
-) -> Reading
+) -> Option<Reading>
     requires { (under.at ≤ length q.now) × (limit ≤ length reach.old) }
     ensures value { result ≡ some_reading (shape_in catalogue.now) limit under.level (record { variable = under.variable; relation = relation })
         (scope_of reach.old) (drop under.at q.now) }
@@ -204,10 +198,8 @@ fn some(
     scope::bind(reach, under.variable, relation);
     let inner = condition(q, z, under.at, under.level, catalogue, limit, reach);
     scope::put(reach, under.variable, old);
-    also(
-        inner,
-        scope::known(catalogue, limit, under.variable, relation),
-    )
+    let known = scope::known(catalogue, limit, under.variable, relation);
+    Some(inner?.only_if(known))
 }
 
 // The condition under an aggregate: of the variables in reach only its own reaches it.
@@ -220,7 +212,7 @@ fn aggregate(
     limit: u8,
     relation: u8,
     attribute: u8,
-) -> Reading
+) -> Option<Reading>
     requires { (under.at ≤ length q.now) × (under.variable < 256) }
     ensures value { result ≡ aggregate_reading (shape_in catalogue.now) limit under.level (record { variable = under.variable; relation = relation })
         attribute (drop under.at q.now) }
@@ -228,12 +220,10 @@ fn aggregate(
 {
     let mut inner = [0u16; 256];
     scope::bind(&mut inner, under.variable, relation);
-    let r = condition(q, z, under.at, under.level, catalogue, limit, &mut inner);
-    let known = also(r, scope::has(catalogue, relation as usize, attribute));
-    also(
-        known,
-        scope::known(catalogue, limit, under.variable, relation),
-    )
+    let r = condition(q, z, under.at, under.level, catalogue, limit, &mut inner)?;
+    let has = scope::has(catalogue, usize::from(relation), attribute);
+    let known = scope::known(catalogue, limit, under.variable, relation);
+    Some(r.only_if(has).only_if(known))
 }
 
 // The term at a place.
@@ -246,13 +236,13 @@ pub fn term(
     catalogue: &[u8],
     limit: u8,
     reach: &[u16],
-) -> Reading
+) -> Option<Reading>
     requires { at ≤ length q.now }
     ensures value { result ≡ term_reading (shape_in catalogue.now) limit level (scope_of reach.now) (drop at q.now) }
     ensures z_after { z.new ≡ term_table level q.now at z.old }
 {
     if level == 0 {
-        return Reading::Refused;
+        return None;
     }
     match kinds::term_record(kinds::tail(q, at)) {
         TermRecord::Constant(_, _, _, _) => leaf(z, at, kinds::record_length(32), true),
@@ -262,7 +252,7 @@ pub fn term(
         }
         TermRecord::Aggregate(f, v, r, a) => {
             if !kinds::is_code(true, f) {
-                return Reading::Refused;
+                return None;
             }
             let k = kinds::record_length(34);
             let under = Under {
@@ -273,6 +263,6 @@ pub fn term(
             let inner = aggregate(q, z, under, catalogue, limit, r, a);
             parent(z, at, k, inner)
         }
-        TermRecord::Other => Reading::Refused,
+        TermRecord::Other => None,
     }
 }

@@ -8,6 +8,7 @@ use Rattle.quel.specs.Writing.{Written, Reaches, loop}
 use Rattle.kinds.specs.declared.Record.{Record}
 use Rattle.tokens.specs.Table.{Table}
 use Rattle.elaborate.specs.Places.{tokens_from, name_in}
+use Rattle.elaborate.specs.Modes.{mode_no}
 use Rattle.elaborate.specs.Puts.{frame_mode}
 use Rattle.elaborate.specs.Frames.{Stack}
 use Rattle.elaborate.specs.declared.turns.State.{State}
@@ -32,7 +33,7 @@ pub record Fits (a : ℕ) (it : Record) : Type 0 where
 module _ (text : List ℕ) (t : Table) (es : List Entry) (ids : List ℕ) where
   -- what is still to be done from token i on
   abbrev pub left : List ℕ → ℕ → State → Reaches → Written
-  left z i s σ = loop es z (tokens_from text t i) (mode_of s.mode) σ s.n
+  left z i s σ = loop es z (tokens_from text t i) (mode_of (mode_no s.mode)) σ s.n
 
   -- the reaches after a turn, which changes nothing of how the loop ends
   pub record Going (g : List ℕ → Written) (i : ℕ) (s : State) (fs known out : List ℕ) : Type 0 where
@@ -50,4 +51,4 @@ module _ (text : List ℕ) (t : Table) (es : List Entry) (ids : List ℕ) where
 -- a turn writes at most 8197 bytes, and opens at most one frame
 abbrev pub Within : State → Option State → Type 0
 Within s None = Unit
-Within s (Some r) = (r.mode ≤ 6) × (r.depth ≤ s.depth + 1) × (r.n ≤ s.n + 1) × (r.at ≤ s.at + 8197) × (r.crossing < 8192) × (r.i ≡ s.i + 1)
+Within s (Some r) = (r.depth ≤ s.depth + 1) × (r.n ≤ s.n + 1) × (r.at ≤ s.at + 8197) × (r.crossing < 8192) × (r.i ≡ s.i + 1)

@@ -8,6 +8,7 @@ pub mod Frames
 pub mod Lookup
 pub mod Places
 pub mod Numbers
+pub mod Modes
 pub mod Actions
 pub mod Puts
 pub mod Reach

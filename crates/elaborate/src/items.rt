@@ -10,8 +10,10 @@ ghost use Rattle.names.specs.Search.{Indexed};
 ghost use Rattle.elaborate.specs.Lookup.{chains_in, ids_in};
 ghost use Rattle.elaborate.specs.Reach.{known_of};
 ghost use Rattle.elaborate.specs.Tables.{code_at, Named, Holds};
+ghost use Rattle.elaborate.specs.Modes.{action_no};
 ghost use Rattle.elaborate.specs.Actions.{number_of, some_by, value_by, constant_by, use_item, head_item, item_of};
 
+use crate::modes::Action;
 use crate::reach::Known;
 use crate::{ahead, lookups, reach};
 use kinds::Record;
@@ -22,7 +24,7 @@ use names::{Found, Sort};
 pub struct Scope {
     pub i: usize,
     pub kind: u8,
-    pub action: u8,
+    pub action: Action,
     pub crossing: usize,
     pub n: usize,
 }
@@ -150,7 +152,8 @@ fn head_at(
     )
 }
 
-// The record of the token at hand (Short: none), unless a name is unknown or out of reach.
+// The record of the token at hand, unless a name is unknown or out of reach. A token with no record has Short, the record of no bytes: an Option in
+// the Option would be no plainer, and its writer and its frame would have a case more.
 pub(crate) fn item_at(
     lookup: &[u16],
     numbers: &[u64],
@@ -160,18 +163,18 @@ pub(crate) fn item_at(
 ) -> Option<Record>
     requires { (scope.i < 4000) × Indexed list.now (chains_in lookup.now) }
     ensures { (w : ℕ → Word) (ρ : List Symbol) (d : ℕ) → Named w (ids_in lookup.now) numbers.now
-        → Holds w (ids_in lookup.now) known.now d scope.crossing ρ → result ≡ item_of (entries list.now) scope.action
+        → Holds w (ids_in lookup.now) known.now d scope.crossing ρ → result ≡ item_of (entries list.now) (action_no scope.action)
         (scope.kind - 1) (get_or numbers.now scope.i 0) (w scope.i) (w (scope.i + 2)) (w (scope.i + 3)) (w (scope.i + 4)) ρ
         scope.n }
 {
     match scope.action {
-        1 => use_at(lookup, numbers, list, known, scope),
-        2 => value_item(list, lookup, code(lookup, numbers, scope.i)),
-        3 => Some(constant_item(numbers, scope.i)),
-        4 => head_at(lookup, numbers, list, known, scope),
-        5 => Some(Record::Not),
-        6 => some_item(list, lookup, scope.n, code(lookup, numbers, scope.i + 3)),
-        9 => Some(Record::True),
-        _ => Some(Record::Short),
+        Action::Use => use_at(lookup, numbers, list, known, scope),
+        Action::Value => value_item(list, lookup, code(lookup, numbers, scope.i)),
+        Action::Number => Some(constant_item(numbers, scope.i)),
+        Action::Aggregate => head_at(lookup, numbers, list, known, scope),
+        Action::Not => Some(Record::Not),
+        Action::Some => some_item(list, lookup, scope.n, code(lookup, numbers, scope.i + 3)),
+        Action::Finish => Some(Record::True),
+        Action::Nothing | Action::Open | Action::Close => Some(Record::Short),
     }
 }

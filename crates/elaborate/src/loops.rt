@@ -9,6 +9,7 @@ ghost use Rattle.elaborate.specs.Tables.{Named, Holds};
 ghost use Rattle.elaborate.specs.Counts.{Counted};
 ghost use Rattle.elaborate.specs.Ends.{Ends, Last};
 
+use crate::modes::Mode;
 use crate::turns;
 use crate::turns::State;
 
@@ -46,7 +47,7 @@ pub(crate) fn run(
     counts[0] = 0;
     let mut s = State {
         i: start.first,
-        mode: 3,
+        mode: Mode::Rest,
         depth: 1,
         crossing: 0,
         n: start.n,

@@ -7,7 +7,9 @@ ghost use Rattle.elaborate.specs.Tables.{Same};
 ghost use Rattle.elaborate.specs.Puts.{reach_after};
 ghost use Rattle.elaborate.specs.Frames.{Stack, Opened, framed_reach};
 ghost use Rattle.elaborate.specs.After.{Fits};
+ghost use Rattle.elaborate.specs.Modes.{action_no};
 
+use crate::modes::Action;
 use crate::{ahead, frames, lookups};
 use kinds::Record;
 
@@ -113,17 +115,17 @@ fn leave(known: &mut [u64], frames: &[u64], r: Reach) -> Reach
 }
 
 // An aggregate, SOME and ( open a frame.
-fn opening(a: u8) -> bool
-    ensures { result ≡ (eqb a 4 || (eqb a 6 || eqb a 7)) }
+fn opening(a: Action) -> bool
+    ensures { result ≡ (eqb (action_no a) 4 || (eqb (action_no a) 6 || eqb (action_no a) 7)) }
 {
-    matches!(a, 4 | 6 | 7)
+    matches!(a, Action::Aggregate | Action::Some | Action::Open)
 }
 
 // ) closes one.
-fn closing(a: u8) -> bool
-    ensures { result ≡ (eqb a 8 || eqb a 9) }
+fn closing(a: Action) -> bool
+    ensures { result ≡ (eqb (action_no a) 8 || eqb (action_no a) 9) }
 {
-    matches!(a, 8 | 9)
+    matches!(a, Action::Close | Action::Finish)
 }
 
 // The reaches after an action with this record at token i.
@@ -132,17 +134,17 @@ pub(crate) fn shift(
     known: &mut [u64],
     frames: &mut [u64],
     r: Reach,
-    a: u8,
+    a: Action,
     item: Record,
     i: usize,
 ) -> Reach
     requires { (r.depth < length frames.old) × (r.depth < 8191) × (r.crossing < 8192) × (i < 4000)
         × ((x : ℕ) → get_or (ids_in lookup.now) x 0 < 8192) × ((x : ℕ) → get_or (ids_in lookup.now) x 0 < length known.old)
         × ((y : ℕ) → get_or known.old y 0 < 68719476736) }
-    ensures stack { Fits a item → (w : ℕ → Word) (σ : Reaches) → Same w (ids_in lookup.now)
+    ensures stack { Fits (action_no a) item → (w : ℕ → Word) (σ : Reaches) → Same w (ids_in lookup.now)
         → Stack w (ids_in lookup.now) frames.old r.depth r.crossing known.old σ
         → Stack w (ids_in lookup.now) frames.new result.depth result.crossing known.new
-        (reach_after a (w (i + 1)) (w (i + 2)) item σ) }
+        (reach_after (action_no a) (w (i + 1)) (w (i + 2)) item σ) }
     ensures depth_bound { (result.depth ≤ r.depth + 1) × (result.crossing < 8192) × ((y : ℕ) → get_or known.new y 0 < 68719476736)
         × ((j : ℕ) → r.depth < j → get_or frames.new j 0 ≡ get_or frames.old j 0) }
 {

@@ -10,20 +10,22 @@ ghost use Rattle.copier.specs.Copied.{record_bytes};
 ghost use Rattle.elaborate.specs.Tables.{Named};
 ghost use Rattle.elaborate.specs.Puts.{number_after};
 ghost use Rattle.elaborate.specs.Counts.{ors_in, ands_in, sign_in, Counted};
+ghost use Rattle.elaborate.specs.Modes.{mode_no, action_no};
 ghost use Rattle.elaborate.specs.Opens.{open_bytes};
 ghost use Rattle.elaborate.specs.Frames.{Stack};
 ghost use Rattle.elaborate.specs.After.{Goes, Within};
 
 use crate::items::Scope;
+use crate::modes::{Action, Mode};
 use crate::reaches::Reach;
-use crate::{ahead, items, modes, opens, reaches};
+use crate::{ahead, items, opens, reaches};
 use kinds::Record;
 
 // The next token, the loop's mode, how many frames are open, the innermost aggregate's, the next variable's number, and where to write.
 #[derive(Clone, Copy)]
 pub struct State {
     pub i: usize,
-    pub mode: u8,
+    pub mode: Mode,
     pub depth: usize,
     pub crossing: usize,
     pub n: usize,
@@ -34,16 +36,16 @@ pub struct State {
 fn write(
     out: &mut [u8],
     at: usize,
-    mode: u8,
+    mode: Mode,
     kind: u8,
     counts: &[u64],
     i: usize,
     item: Record,
 ) -> usize
     requires { (at + 8197 < 9223372036854775808) × (i < 4000) × (i + 1 < length counts.now) }
-    ensures value { result ≡ at + length (open_bytes mode kind (ors_in (get_or counts.now i 0)) (ands_in (get_or counts.now i 0))
+    ensures value { result ≡ at + length (open_bytes (mode_no mode) kind (ors_in (get_or counts.now i 0)) (ands_in (get_or counts.now i 0))
         (1 + sign_in (get_or counts.now (i + 1) 0)) ++ record_bytes item) }
-    ensures out_after { out.new ≡ sets out.old at (open_bytes mode kind (ors_in (get_or counts.now i 0))
+    ensures out_after { out.new ≡ sets out.old at (open_bytes (mode_no mode) kind (ors_in (get_or counts.now i 0))
         (ands_in (get_or counts.now i 0)) (1 + sign_in (get_or counts.now (i + 1) 0)) ++ record_bytes item) }
     ensures upper_bound { result ≤ at + 8197 }
 {
@@ -60,22 +62,22 @@ fn write(
 }
 
 // The next variable's number after an action.
-fn number(a: u8, n: usize) -> usize
+fn number(a: Action, n: usize) -> usize
     requires { n < 8000 }
-    ensures value { result ≡ number_after a n }
+    ensures value { result ≡ number_after (action_no a) n }
     ensures upper_bound { result ≤ n + 1 }
 {
     match a {
-        4 | 6 => n + 1,
+        Action::Aggregate | Action::Some => n + 1,
         _ => n,
     }
 }
 
 // Whether a token writes nothing and changes no reach.
-fn quiet(mode: u8, a: u8) -> bool
-    ensures { result ≡ (leb 3 mode && eqb a 0) }
+fn quiet(mode: Mode, a: Action) -> bool
+    ensures { result ≡ (leb 3 (mode_no mode) && eqb (action_no a) 0) }
 {
-    3 <= mode && a == 0
+    !mode.begins() && matches!(a, Action::Nothing)
 }
 
 // A turn: the state after it, unless a name is unknown or out of reach. What was counted for the tokens behind is asked for no more: open frames are kept there.
@@ -88,7 +90,7 @@ pub(crate) fn turn(
     out: &mut [u8],
     s: State,
 ) -> Option<State>
-    requires i_bound { (s.i < 4000) × (s.i + 1 < length counts.old) × (s.mode ≤ 6) × (s.n < 8000) × (s.at + 8197 < 9223372036854775808) }
+    requires i_bound { (s.i < 4000) × (s.i + 1 < length counts.old) × (s.n < 8000) × (s.at + 8197 < 9223372036854775808) }
     requires depth_le_i { (s.depth ≤ s.i) × (s.crossing < 8192) × ((x : ℕ) → get_or (ids_in lookup.now) x 0 < 8192)
         × ((x : ℕ) → get_or (ids_in lookup.now) x 0 < length known.old) × ((y : ℕ) → get_or known.old y 0 < 68719476736)
         × Indexed list.now (chains_in lookup.now) }
@@ -104,8 +106,8 @@ pub(crate) fn turn(
     let i = s.i;
     let kind = ahead::kind(counts[i]);
     let point = 25 <= ahead::kind(counts[i + 1]);
-    let a = modes::action(s.mode, kind, point);
-    let mode = modes::next_mode(s.mode, kind, point);
+    let a = s.mode.action(kind, point);
+    let mode = s.mode.next(kind, point);
     if quiet(s.mode, a) {
         return Some(State {
             i: i + 1,

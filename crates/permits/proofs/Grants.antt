@@ -35,8 +35,8 @@ use Rattle.conditions.specs.Reach.{scope_of, shape_in, permit_scope}
 use Rattle.conditions.proofs.scope.Shapes.{shape_is}
 use Rattle.conditions.proofs.scope.Tables.{scope-one}
 use Rattle.conditions.specs.declared.Reading.{Reading}
-use Rattle.conditions.specs.declared.Reading.TheVariants as A
-use Rattle.conditions.specs.Answers.{condition_reading}
+use Rattle.std.specs.Prelude.{Option, None}
+use Rattle.conditions.specs.Answers.{reading, condition_reading}
 use Rattle.conditions.proofs.Found.{Found, found, unread, the-condition, same_read}
 use Rattle.permits.specs.Masks.{mask_in}
 use Rattle.permits.specs.declared.Grant.{Grant}
@@ -70,7 +70,7 @@ module _ (c : List ℕ) (n : ℕ) (en : n ≡ length (flat_bindings c)) where
     stored-none h e = stored-all h true (sym (ap (all (stored_in cb)) (nothing_left (flat_bindings c) (omega (arith, en, e)))))
 
 -- the condition's scope: variable 0 alone
-pub in-permit : (sh : Shape) (r : ℕ) (t q : List ℕ) (x : Reading) → t ≡ set (replicate 256 0) 0 (r + 1) → x ≡ condition_reading sh 4 16 (scope_of t) (drop 0 q) → x ≡ condition_reading sh 4 16 (permit_scope r) q
+pub in-permit : (sh : Shape) (r : ℕ) (t q : List ℕ) (x : Option Reading) → t ≡ set (replicate 256 0) 0 (r + 1) → x ≡ condition_reading sh 4 16 (scope_of t) (drop 0 q) → x ≡ condition_reading sh 4 16 (permit_scope r) q
 in-permit sh r t q x et ex = ex ∙ ap (λ (σ : Scope). condition_reading sh 4 16 σ q) (ap scope_of et ∙ scope-one 0 r (omega arith))
 
 four : record_length 64 ≡ 4
@@ -89,7 +89,7 @@ begins list x p ex k ek r m e = permit-bytes (drop p list) r m (sym (ap permit_a
 
 -- a permit's head at p, and what was read after it
 module _ (cb list : List ℕ) (h10 : fails10 cb ≡ false) (p : ℕ) (inside : p ≤ length list) (r m : ℕ) (head : Opened (drop p list) r m) (k : ℕ) (ek : k ≡ record_length 64)
-    (x y : List ℕ) (ex : x ≡ drop p list) (ey : y ≡ drop k x) (t : Reading) (et : t ≡ condition_reading (shape_in cb) 4 16 (permit_scope r) y) where
+    (x y : List ℕ) (ex : x ≡ drop p list) (ey : y ≡ drop k x) (t : Option Reading) (et : t ≡ condition_reading (shape_in cb) 4 16 (permit_scope r) y) where
   abbrev sh : Shape
   sh = shape_of (catalogue_of cb)
 
@@ -110,10 +110,10 @@ module _ (cb list : List ℕ) (h10 : fails10 cb ≡ false) (p : ℕ) (inside : p
       let a = and-inv _ _ h in let b = and-inv _ _ a.1 in
       (omega (arith, leb-true (length (encode_permit g [])) 256 a.0, size-encode g.condition []), leb-true _ 16 b.0, leb-true _ 3 b.1)
 
-  pub permit-unread : t ≡ A.Refused → Granted G.Refused sh list p
+  pub permit-unread : t ≡ None → Granted G.Refused sh list p
   permit-unread h g s e w f = unread (shape_in cb) 4 16 (permit_scope r) y 0 t et h g.condition s (body g s e) w (fitting g f).1
 
-  module _ (n : ℕ) (b : Bool) (en : t ≡ A.Whole n b) where
+  module _ (n : ℕ) (b : Bool) (en : t ≡ reading n b) where
     abbrev a : Found (shape_in cb) 4 16 (permit_scope r) y 0 n b
     a = found (shape_in cb) 4 16 (permit_scope r) y 0 t et n b en
 

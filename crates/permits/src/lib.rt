@@ -139,7 +139,7 @@ fn stored(catalogue: &[u8], relation: u8, condition: &[u8], bound: usize) -> boo
 }
 
 // The condition that bytes start with, variable 0 being a row of the relation.
-fn condition(bytes: &[u8], z: &mut [u16], catalogue: &[u8], relation: u8) -> Reading
+fn condition(bytes: &[u8], z: &mut [u16], catalogue: &[u8], relation: u8) -> Option<Reading>
     ensures { result ≡ condition_reading (shape_in catalogue.now) 4 16 (permit_scope relation) bytes.now }
 {
     let mut reach = [0u16; 256];
@@ -158,9 +158,10 @@ fn permit(permits: &[u8], at: usize, catalogue: &[u8], z: &mut [u16]) -> Grant
     };
     let own = kinds::record_length(64);
     let bytes = kinds::tail(here, own);
-    let Reading::Whole(n, inside) = condition(bytes, z, catalogue, relation) else {
+    let Some(r) = condition(bytes, z, catalogue, relation) else {
         return Grant::Refused;
     };
+    let n = r.length;
     if BYTES - own < n {
         return Grant::Refused;
     }
@@ -173,7 +174,7 @@ fn permit(permits: &[u8], at: usize, catalogue: &[u8], z: &mut [u16]) -> Grant
     if !named(catalogue, relation, mask) {
         return Grant::Whole(own + n, false, over);
     }
-    if !inside {
+    if !r.inside {
         return Grant::Whole(own + n, false, over);
     }
     Grant::Whole(own + n, bound.once, over)

@@ -9,8 +9,6 @@ use Rattle.model.specs.Syntax.{Term, CONSTANT, ATTRIBUTE, AGGREGATE, Binding, Qu
 use Rattle.model.specs.Encoding.{encode, encode_t, encode_targets, encode_ranges, encode_query, ok, read_condition, read_term}
 use Rattle.model.proofs.Reading.{read-encode, read-encode_t}
 use Rattle.model.proofs.Sizes.{size_t, size_ts, drop-encode_t, drop-ranges}
-use Rattle.sizes.specs.declared.Size.{Size}
-use Rattle.sizes.specs.declared.Size.TheVariants.{Bytes}
 use Rattle.sizes.specs.Decode.{decode}
 use Rattle.sizes.specs.Measured.{Measured, onward, condition_table, term_size, term_table}
 use Rattle.sizes.proofs.Sized.{SizedT, sized-head_t, Agree}
@@ -19,6 +17,7 @@ use Rattle.sizes.specs.Parts.{targets_at, ranges_at}
 use Rattle.model.specs.Kinds.{find, kind_of}
 use Rattle.kinds.specs.Tables.{record_length, of_kind}
 use Rattle.queries.specs.Tables.{targets_measured, condition_measured, query_measured}
+use Rattle.std.specs.Prelude.{Option, Some}
 
 pub target-well : (t : Term) (ts : List Term) → Targets (t ∷ ts) → WellFormedT t × Targets ts
 unfolding Targets WellFormed
@@ -42,7 +41,7 @@ targets-decoded l (t ∷ ts) r z h s =
 
 -- what measuring leaves behind
 record Fine (ts : List Term) (p : ℕ) (z : List ℕ) (m : Measured) : Type 0 where
-  place : m.size ≡ Bytes (p + size_ts ts)
+  place : m.size ≡ Some (p + size_ts ts)
   same_length : length m.table ≡ length z
   before : Agree p m.table z
   sized : TermsSized ts (drop p m.table)
@@ -50,16 +49,16 @@ record Fine (ts : List Term) (p : ℕ) (z : List ℕ) (m : Measured) : Type 0 wh
 module _ (l : ℕ) (q : List ℕ) (short : length q < 65536) where
   targets-fine : (ts : List Term) (p : ℕ) (r z : List ℕ) → drop p q ≡ encode_targets ts r → Targets ts → levels_ts ts ≤ l → length q ≤ length z → Fine ts p z (targets_measured (length ts) l q p z)
   unfolding targets_measured encode_targets levels_ts size_ts TermsSized
-  targets-fine [] p r z e w h k = record { place = ap Bytes (omega arith); same_length = refl; before = λ i a. refl; sized = tt }
+  targets-fine [] p r z e w h k = record { place = ap Some (omega arith); same_length = refl; before = λ i a. refl; sized = tt }
   targets-fine (t ∷ ts) p r z e w h k =
       let rest = encode_targets ts r in
       let v = target-well t ts w in
       let rd : read_term l (drop p q) ≡ ok t rest = ap (read_term l) e ∙ read-encode_t t l rest v.0 (omega arith) in
       let y = term_table l q p z in
       let i = targets-fine ts (p + size_t t) r y (term-rest l q p z t rest rd) v.1 (omega arith) (omega (arith, term-length l q p z t rest rd)) in
-      let s : onward (term_size l (drop p q)) y (λ m u. targets_measured (length ts) l q (p + m) u) ≡ targets_measured (length ts) l q (p + size_t t) y = ap (λ (x : Size). onward x y (λ m u. targets_measured (length ts) l q (p + m) u)) (term-size l q p z t rest rd) in
+      let s : onward (term_size l (drop p q)) y (λ m u. targets_measured (length ts) l q (p + m) u) ≡ targets_measured (length ts) l q (p + size_t t) y = ap (λ (x : Option ℕ). onward x y (λ m u. targets_measured (length ts) l q (p + m) u)) (term-size l q p z t rest rd) in
       subst (Fine (t ∷ ts) p z) (sym s) (record {
-        place = i.place ∙ ap Bytes (omega arith);
+        place = i.place ∙ ap Some (omega arith);
         same_length = i.same_length ∙ term-length l q p z t rest rd;
         before = λ j a. i.before j (omega arith) ∙ term-before l q p z t rest rd j a;
         sized = (
@@ -110,7 +109,7 @@ module _ (l : ℕ) (u : Query) (w : WellFormedQ u) (q : List ℕ) (e : q ≡ enc
       let rd : read_condition l (drop c q) ≡ ok u.condition [] = ap (read_condition l) at-condition ∙ read-encode u.condition l [] w.condition (omega arith) in
       let y = m.table in
       let x = condition_table l q c y in
-      let s : onward m.size y (λ c y. condition_measured l q c y) ≡ condition_measured l q c y = ap (λ (t : Size). onward t y (λ c y. condition_measured l q c y)) f.place in
+      let s : onward m.size y (λ c y. condition_measured l q c y) ≡ condition_measured l q c y = ap (λ (t : Option ℕ). onward t y (λ c y. condition_measured l q c y)) f.place in
       subst (λ (n : Measured). Prepared l u q n.table) (sym s) (record {
         ranges = ap (ranges_at (length u.ranges)) e ∙ ranges-decoded u.ranges _;
         targets = ap (λ (t : List ℕ). targets_at (length u.targets) l t (drop p x)) at-targets ∙ targets-decoded l u.targets (encode u.condition []) (drop p x) (omega arith) (terms-kept u.targets p c x y (omega arith) (condition-before l q c y u.condition [] rd) f.sized);

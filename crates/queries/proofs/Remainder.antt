@@ -13,11 +13,9 @@ use Rattle.model.specs.Scope.{Scope}
 use Rattle.model.proofs.Tests.{not_yes, not-no}
 use Rattle.model.proofs.ReadingQueries.{query-inverse}
 use Rattle.model.proofs.Sizes.{size_q, size-query, size-encode}
-use Rattle.sizes.specs.declared.Size.{Size}
 use Rattle.sizes.specs.Measured.{onward, condition_table}
 use Rattle.conditions.specs.declared.Reading.{Reading}
-use Rattle.conditions.specs.declared.Reading.TheVariants as A
-use Rattle.conditions.specs.Answers.{condition_reading}
+use Rattle.conditions.specs.Answers.{reading, condition_reading}
 use Rattle.conditions.proofs.Found.{Found as FoundC, found, unread, the-condition}
 use Rattle.queries.specs.Tables.{condition_measured, query_measured}
 use Rattle.grammar.specs.Shapes.{layout}
@@ -27,6 +25,8 @@ use Rattle.queries.specs.declared.Run.TheVariants as T
 use Rattle.queries.specs.declared.Found.TheVariants.{Refused}
 use Rattle.queries.specs.Found.{Targeted, Standing, Leads, TargetsFound, RestFound, Rest}
 use Rattle.queries.proofs.Targeting.{target-byte}
+use Rattle.std.specs.Prelude.{Option}
+use Rattle.std.specs.declared.option.Option.TheVariants as O
 
 module _ (sh : Shape) (limit l : ℕ) (σ : Scope) (q : List ℕ) (r : ℕ) (z w : List ℕ) where
   -- no query with so many RANGE records, at most 8 targets and l levels is there
@@ -68,12 +68,12 @@ module _ (sh : Shape) (limit l : ℕ) (σ : Scope) (q : List ℕ) (r : ℕ) (z w
           let i = query-inverse q u [] e in
           no_target run.targets u.targets (encode u.condition []) [] i.well.some-target i.well.targets (sym run.counted ∙ h) run.bytes (standing u e er et el).bytes
 
-      module _ (t : Reading) (et : t ≡ condition_reading sh limit l σ (drop c q)) where
-        pub rest-unread : t ≡ A.Refused → None
+      module _ (t : Option Reading) (et : t ≡ condition_reading sh limit l σ (drop c q)) where
+        pub rest-unread : t ≡ O.None → None
         unfolding levels_q
         rest-unread h u e er ft el = unread sh limit l σ q c t et h u.condition [] (place u e er ft el) (query-inverse q u [] e).well.condition (omega (arith, el))
 
-        module _ (k : ℕ) (d : Bool) (ek : t ≡ A.Whole k d) where
+        module _ (k : ℕ) (d : Bool) (ek : t ≡ reading k d) where
           abbrev last : FoundC sh limit l σ q c k d
           last = found sh limit l σ q c t et k d ek
 
@@ -101,7 +101,7 @@ module _ (sh : Shape) (limit l : ℕ) (σ : Scope) (q : List ℕ) (r : ℕ) (z w
             well = last.well;
             deep = last.deep;
             scope = eg ∙ ap (λ x. cond b x false) (sym last.scope);
-            table = ew ∙ sym (ap₂ (λ (x : Size) (v : List ℕ). (onward x v (λ j g. condition_measured l q j g)).table) run.measured (sym run.table));
+            table = ew ∙ sym (ap₂ (λ (x : Option ℕ) (v : List ℕ). (onward x v (λ j g. condition_measured l q j g)).table) run.measured (sym run.table));
           }
 
           module _ (hr : 3 * r ≤ length q) (hn : n ≡ 0 → ⊥) (hk : c + k ≡ length q) (ew : w ≡ condition_table l q c y) where

@@ -18,21 +18,19 @@ use Rattle.kinds.specs.Places.{head_at}
 use Rattle.kinds.specs.declared.HeadRecord.{HeadRecord}
 use Rattle.kinds.specs.declared.HeadRecord.TheVariants as H
 use Rattle.kinds.proofs.Heads.{range-bytes, range_at, no-range}
-use Rattle.sizes.specs.declared.Size.{Size}
-use Rattle.sizes.specs.declared.Size.TheVariants.{Bytes}
 use Rattle.sizes.specs.Measured.{Measured, onward, term_size, term_table}
 use Rattle.sizes.specs.Parts.{ranges_at}
 use Rattle.sizes.proofs.Decoding.{term-size}
 use Rattle.conditions.proofs.scope.Steps.{and-stop, and-go}
 use Rattle.conditions.specs.declared.Reading.{Reading}
-use Rattle.conditions.specs.declared.Reading.TheVariants as A
-use Rattle.conditions.specs.Answers.{term_reading}
+use Rattle.conditions.specs.Answers.{reading, term_reading}
 use Rattle.conditions.proofs.Found.{FoundT, found_t, unread_t, the_term}
 use Rattle.queries.specs.Tables.{targets_measured}
 use Rattle.queries.specs.declared.Run.{Run}
 use Rattle.queries.specs.declared.Run.TheVariants as T
 use Rattle.queries.specs.Found.{range_then, head_ranges, Targeted, Standing, Leads, TargetsFound}
 use Rattle.queries.proofs.Prepared.{target-well}
+use Rattle.std.specs.Prelude.{Option, Some, None}
 
 -- RANGE records that were read stand there
 pub ranged : (k : ℕ) (q : List ℕ) → q ≡ encode_ranges (head_ranges k q) (drop (3 * length (head_ranges k q)) q)
@@ -118,15 +116,15 @@ module _ (l : ℕ) (q : List ℕ) (p k b : ℕ) (eb : b ≡ get_or q p 0) where
     pub leads-full : k ≡ 0 → Leads T.Refused l q p k
     leads-full e ts c s st = starts ts c s st λ t us f. absurd (omega (arith, ap length f, st.few))
 
-    module _ (sh : Shape) (limit : ℕ) (σ : Scope) (r : Reading) (er : r ≡ term_reading sh limit l σ (drop p q)) where
-      pub leads-unread : r ≡ A.Refused → Leads T.Refused l q p k
+    module _ (sh : Shape) (limit : ℕ) (σ : Scope) (r : Option Reading) (er : r ≡ term_reading sh limit l σ (drop p q)) where
+      pub leads-unread : r ≡ None → Leads T.Refused l q p k
       unfolding encode_targets levels_ts
       leads-unread e ts c s st = starts ts c s st λ t us f.
           let v = subst (λ x. Standing l q p k x c s) f st in
           unread_t sh limit l σ q p r er e t (encode_targets us (encode c s)) v.bytes (target-well t us v.well).0 (omega (arith, v.deep))
 
       -- the others stand after it
-      module _ (n : ℕ) (d : Bool) (e : r ≡ A.Whole n d) where
+      module _ (n : ℕ) (d : Bool) (e : r ≡ reading n d) where
         one : FoundT sh limit l σ q p n d
         one = found_t sh limit l σ q p r er n d e
 
@@ -156,18 +154,18 @@ module _ (sh : Shape) (limit l : ℕ) (σ : Scope) (q : List ℕ) (p k : ℕ) (z
   target_first (ATTRIBUTE x a) ts r e h w v = v
   target_first (AGGREGATE f x s a c) ts r e h w v = (w, v)
 
-  targets-more : 33 ≤ b → (k ≡ 0 → ⊥) → (r : Reading) (n : ℕ) (d : Bool) (y w : List ℕ) → r ≡ term_reading sh limit l σ (drop p q) → r ≡ A.Whole n d → y ≡ term_table l q p z
+  targets-more : 33 ≤ b → (k ≡ 0 → ⊥) → (r : Option Reading) (n : ℕ) (d : Bool) (y w : List ℕ) → r ≡ term_reading sh limit l σ (drop p q) → r ≡ reading n d → y ≡ term_table l q p z
       → (m : Run) (c e : ℕ) (x : Bool) → m ≡ T.Whole c e x → TargetsFound m sh limit l σ q (p + n) (k - 1) y w → (g : Bool) → g ≡ (d && x) → Targeted sh limit l σ q p k (c + 1) e g z w
   unfolding encode_targets levels_ts all targets_measured
   targets-more hb nz r n d y w er en ey m c e x em h g eg =
       let a = found_t sh limit l σ q p r er n d en in
       let i : Targeted sh limit l σ q (p + n) (k - 1) c e x y w = subst (λ v. TargetsFound v sh limit l σ q (p + n) (k - 1) y w) em h in
       let t = a.term in let ts = i.targets in
-      let s : term_size l (drop p q) ≡ Bytes n = term-size l q p z t a.rest a.read ∙ ap Bytes (sym a.sized) in
+      let s : term_size l (drop p q) ≡ Some n = term-size l q p z t a.rest a.read ∙ ap Some (sym a.sized) in
       let suc-c : c + 1 ≡ suc c = omega arith in
       let f : targets_measured (c + 1) l q p z ≡ targets_measured c l q (p + n) y =
       ap (λ j. targets_measured j l q p z) suc-c
-      ∙ ap₂ (λ (x : Size) (u : List ℕ). onward x u (λ j v. targets_measured c l q (p + j) v)) s (sym ey) in
+      ∙ ap₂ (λ (x : Option ℕ) (u : List ℕ). onward x u (λ j v. targets_measured c l q (p + j) v)) s (sym ey) in
       record {
         targets = t ∷ ts;
         bytes = a.bytes ∙ ap (encode_t t) (sym a.after ∙ i.bytes);
@@ -182,11 +180,11 @@ module _ (sh : Shape) (limit l : ℕ) (σ : Scope) (q : List ℕ) (p k : ℕ) (z
         table = i.table ∙ ap (λ (x : Measured). x.table) (sym f);
       }
 
-  pub targets-out : 33 ≤ b → (k ≡ 0 → ⊥) → (r : Reading) (n : ℕ) (d : Bool) (y w : List ℕ) → r ≡ term_reading sh limit l σ (drop p q) → r ≡ A.Whole n d → y ≡ term_table l q p z
+  pub targets-out : 33 ≤ b → (k ≡ 0 → ⊥) → (r : Option Reading) (n : ℕ) (d : Bool) (y w : List ℕ) → r ≡ term_reading sh limit l σ (drop p q) → r ≡ reading n d → y ≡ term_table l q p z
       → (m : Run) (c e : ℕ) (x : Bool) → m ≡ T.Whole c e x → TargetsFound m sh limit l σ q (p + n) (k - 1) y w → not d ≡ true → Targeted sh limit l σ q p k (c + 1) e false z w
   targets-out hb nz r n d y w er en ey m c e x em h g = targets-more hb nz r n d y w er en ey m c e x em h false (and-stop d d x refl g)
 
-  pub targets-in : 33 ≤ b → (k ≡ 0 → ⊥) → (r : Reading) (n : ℕ) (d : Bool) (y w : List ℕ) → r ≡ term_reading sh limit l σ (drop p q) → r ≡ A.Whole n d → y ≡ term_table l q p z
+  pub targets-in : 33 ≤ b → (k ≡ 0 → ⊥) → (r : Option Reading) (n : ℕ) (d : Bool) (y w : List ℕ) → r ≡ term_reading sh limit l σ (drop p q) → r ≡ reading n d → y ≡ term_table l q p z
       → (m : Run) (c e : ℕ) (x : Bool) → m ≡ T.Whole c e x → TargetsFound m sh limit l σ q (p + n) (k - 1) y w → not d ≡ false → Targeted sh limit l σ q p k (c + 1) e x z w
   targets-in hb nz r n d y w er en ey m c e x em h g = targets-more hb nz r n d y w er en ey m c e x em h x (and-go d d x x refl g refl)
 

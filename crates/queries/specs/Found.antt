@@ -1,5 +1,5 @@
 -- What the reading of a query says: where it found one, and where it found none.
-use Rattle.std.specs.Prelude.{ℕ, zero, suc, ◌*◌, ◌≤◌, ◌<◌, Bool, true, false, not, cond, List, [], ◌∷◌, ◌≡◌, length, get_or, drop}
+use Rattle.std.specs.Prelude.{ℕ, zero, suc, ◌*◌, ◌≤◌, ◌<◌, Bool, true, false, not, cond, List, [], ◌∷◌, ◌≡◌, length, get_or, drop, Some}
 use Rattle.model.specs.Lists.{all}
 use Rattle.model.specs.Syntax.{Binding, Condition, Term, Query, Targets, WellFormed, levels, levels_ts, levels_q}
 use Rattle.model.specs.Encoding.{encode, encode_targets, ok, read_query, query_of}
@@ -10,7 +10,6 @@ use Rattle.kinds.specs.Tables.{record_length}
 use Rattle.kinds.specs.Places.{head_at}
 use Rattle.kinds.specs.declared.HeadRecord.{HeadRecord}
 use Rattle.kinds.specs.declared.HeadRecord.TheVariants as H
-use Rattle.sizes.specs.declared.Size.TheVariants.{Bytes}
 use Rattle.queries.specs.Tables.{targets_measured, query_measured}
 use Rattle.grammar.specs.declared.Layout.{Layout}
 use Rattle.queries.specs.declared.Limits.{Limits}
@@ -42,7 +41,7 @@ module _ (sh : Shape) (limit l : ℕ) (σ : Scope) (q : List ℕ) where
     pub few : n ≤ k
     pub inside : e ≤ length q
     pub stops : get_or q e 0 < 33
-    pub measured : (targets_measured n l q p z).size ≡ Bytes e
+    pub measured : (targets_measured n l q p z).size ≡ Some e
     pub table : w ≡ (targets_measured n l q p z).table
 
 -- targets and a condition that stand at p, within the limits

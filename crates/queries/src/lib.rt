@@ -14,7 +14,6 @@ ghost use Rattle.queries.specs.Parts.{reach_on, limits_of, Ready};
 ghost use Rattle.grammar.specs.Shapes.{fails30_at};
 ghost use Rattle.queries.specs.Found.{head_ranges, TargetsFound, Leads, Rest, Told};
 
-use conditions::Reading;
 use grammar::{Input, Layout};
 use kinds::HeadRecord;
 use model::Refusal;
@@ -113,16 +112,18 @@ fn targets(
     if left == 0 {
         return Run::Refused;
     }
-    let Reading::Whole(n, inside) = conditions::term(q, z, at, level, catalogue, limit, reach)
-    else {
+    let Some(first) = conditions::term(q, z, at, level, catalogue, limit, reach) else {
         return Run::Refused;
     };
-    let behind = Next { at: at + n, level };
+    let behind = Next {
+        at: at + first.length,
+        level,
+    };
     let Run::Whole(count, end, others) = targets(q, z, behind, left - 1, catalogue, limit, reach)
     else {
         return Run::Refused;
     };
-    if !inside {
+    if !first.inside {
         return Run::Whole(count + 1, end, false);
     }
     Run::Whole(count + 1, end, others)
@@ -170,12 +171,10 @@ fn rest(
     if targets == 0 {
         return Found::Refused;
     }
-    let Reading::Whole(n, last) = conditions::condition(
-        q, z, condition, level, catalogue, limit, reach,
-    ) else {
+    let Some(last) = conditions::condition(q, z, condition, level, catalogue, limit, reach) else {
         return Found::Refused;
     };
-    if condition + n != q.len() {
+    if condition + last.length != q.len() {
         return Found::Refused;
     }
     let layout = Layout {
@@ -187,7 +186,7 @@ fn rest(
     if !inside {
         return Found::Whole(layout, false);
     }
-    Found::Whole(layout, last)
+    Found::Whole(layout, last.inside)
 }
 
 // A query that passes 30 and 31, its table of sizes filled; whether it passes 32.

@@ -1,4 +1,4 @@
--- Bytes and their table stand for the condition that they were read as.
+-- Some and their table stand for the condition that they were read as.
 use mathlib.Core.Path.{◌≡◌, refl, sym, ap, ap₂, ◌∙◌}
 use mathlib.Core.Bool.{true, false}
 use mathlib.Core.List.{List, [], ◌∷◌}
@@ -6,7 +6,7 @@ use Prim.Native.Nat.{ℕ, zero, suc, ◌+◌, ◌-◌, ◌<◌, ◌≤◌}
 use native.Mathlib.Nat.{add-zero}
 use native.Mathlib.Numerals.{sub-one}
 use native.Mathlib.Omega.{arith}
-use lib.ListN.{length, get_or, drop, length-drop, drop_of_length-le}
+use lib.ListN.{length, get_or, drop, length-drop}
 use lib.Seq.{drop-drop, get_or-drop}
 use Rattle.model.specs.Kinds.{kind_of, find, k-true, k-false, k-not, k-and, k-or, k-compare, k-some, k-constant, k-attribute, k-aggregate}
 use Rattle.model.specs.Syntax.{Condition, Term, TRUE, FALSE, NOT, AND, OR, COMPARE, SOME, CONSTANT, ATTRIBUTE, AGGREGATE, levels, levels_t}
@@ -14,18 +14,16 @@ use Rattle.model.specs.Encoding.{encode, encode_t, Read, fail, ok, read_conditio
 use Rattle.model.proofs.Reading.{read-encode, read-encode_t, read-inverse, read-inverse_t}
 use Rattle.model.proofs.Sizes.{size, size_t, size-encode, size-encode_t, drop-encode, drop-encode_t}
 use Rattle.kinds.specs.Tables.{of_kind, record_length}
-use Rattle.kinds.specs.Record.{record_at}
 use Rattle.kinds.specs.Places.{condition_at, term_at}
 use Rattle.kinds.specs.declared.ConditionRecord.{ConditionRecord}
 use Rattle.kinds.specs.declared.TermRecord.{TermRecord}
 use Rattle.kinds.proofs.Records.{whole-record}
-use Rattle.sizes.specs.declared.Size.{Size}
-use Rattle.sizes.specs.declared.Size.TheVariants.{Bytes, Refused}
 use Rattle.sizes.specs.Measured.{Measured, leaves, measured, size_read, condition_size, term_size, condition_table, term_table}
-use Rattle.sizes.specs.Decode.{first, second, condition_by, term_by, nothing, decode, decode_t}
+use Rattle.sizes.specs.Decode.{condition_by, term_by, nothing, decode, decode_t}
 use Rattle.sizes.proofs.Reader.{agree}
 use Rattle.sizes.proofs.Marks.{marks, marks_t, measured-is, measured-is_t, drop-suc, drop-two}
 use Rattle.sizes.proofs.Sized.{Sized, SizedT, sized-head, sized-head_t, sized_same, sized-same_t, Agree, agree-drop, marks-length, marks-length_t, marks-before, marks-before_t, marks-after, marks-after_t, marks-sized, marks-sized_t}
+use Rattle.std.specs.Prelude.{Some, None}
 
 -- one level, by the record: for code that reads it
 pub decode-zero : (l : ℕ) (q z : List ℕ) → l ≡ 0 → decode l q z ≡ FALSE
@@ -134,10 +132,10 @@ module _ (l : ℕ) (q : List ℕ) (p : ℕ) (z : List ℕ) (c : Condition) (r : 
   pub condition-rest : drop (p + size c) q ≡ r
   condition-rest = sym (drop-drop (size c) p q) ∙ ap (drop (size c)) (read-inverse l (drop p q) c r h).bytes ∙ drop-encode c r
 
-  measured-at : measured l false (drop p q) p z ≡ leaves (Bytes (size c)) (marks c p z)
+  measured-at : measured l false (drop p q) p z ≡ leaves (Some (size c)) (marks c p z)
   measured-at = let i = read-inverse l (drop p q) c r h in ap (λ x. measured l false x p z) i.bytes ∙ measured-is c l r p z i.well i.deep
 
-  pub condition-size : condition_size l (drop p q) ≡ Bytes (size c)
+  pub condition-size : condition_size l (drop p q) ≡ Some (size c)
   unfolding condition_size
   condition-size = sym ((agree l).0 (drop p q) p z) ∙ ap (λ (m : Measured). m.size) measured-at
 
@@ -164,10 +162,10 @@ module _ (l : ℕ) (q : List ℕ) (p : ℕ) (z : List ℕ) (t : Term) (r : List 
   pub term-rest : drop (p + size_t t) q ≡ r
   term-rest = sym (drop-drop (size_t t) p q) ∙ ap (drop (size_t t)) (read-inverse_t l (drop p q) t r h).bytes ∙ drop-encode_t t r
 
-  measured-at_t : measured l true (drop p q) p z ≡ leaves (Bytes (size_t t)) (marks_t t p z)
+  measured-at_t : measured l true (drop p q) p z ≡ leaves (Some (size_t t)) (marks_t t p z)
   measured-at_t = let i = read-inverse_t l (drop p q) t r h in ap (λ x. measured l true x p z) i.bytes ∙ measured-is_t t l r p z i.well i.deep
 
-  pub term-size : term_size l (drop p q) ≡ Bytes (size_t t)
+  pub term-size : term_size l (drop p q) ≡ Some (size_t t)
   unfolding term_size
   term-size = sym ((agree l).1 (drop p q) p z) ∙ ap (λ (m : Measured). m.size) measured-at_t
 
@@ -195,22 +193,22 @@ pub sized-kept_t : (t : Term) (p m : ℕ) (y z : List ℕ) → p + size_t t ≤ 
 sized-kept_t t p m y z h e s = sized-same_t t (drop p y) (drop p z) (agree-drop p (size_t t) m y z h e) s
 
 -- from what `condition` and `term` answer to what the model reads
-never : {X : Type 0} (n : ℕ) → Refused ≡ Bytes n → X
+never : {X : Type 0} (n : ℕ) → None ≡ Some n → X
 never n h = let e : ◌≡◌ {A = ℕ} 0 1 = cc in absurd (omega arith)
 
-always : {X : Type 0} (n : ℕ) → Bytes n ≡ Refused → X
+always : {X : Type 0} (n : ℕ) → Some n ≡ None → X
 always n h = let e : ◌≡◌ {A = ℕ} 0 1 = cc in absurd (omega arith)
 
 module _ (l : ℕ) (q : List ℕ) (p : ℕ) where
-  pub condition-reads : {X : Type 0} (n : ℕ) → condition_size l (drop p q) ≡ Bytes n → ((c : Condition) (r : List ℕ) → read_condition l (drop p q) ≡ ok c r → size c ≡ n → X) → X
+  pub condition-reads : {X : Type 0} (n : ℕ) → condition_size l (drop p q) ≡ Some n → ((c : Condition) (r : List ℕ) → read_condition l (drop p q) ≡ ok c r → size c ≡ n → X) → X
   unfolding condition_size
   condition-reads {X} n h k = go (read_condition l (drop p q)) refl
     where
       go : (w : Read Condition) → read_condition l (drop p q) ≡ w → X
       go fail e = never n (sym (ap (size_read (drop p q)) e) ∙ h)
-      go (ok c r) e = let m : Bytes (size c) ≡ Bytes n = sym (condition-size l q p [] c r e) ∙ h in k c r e (cc)
+      go (ok c r) e = let m : Some (size c) ≡ Some n = sym (condition-size l q p [] c r e) ∙ h in k c r e (cc)
 
-  pub condition-fails : condition_size l (drop p q) ≡ Refused → read_condition l (drop p q) ≡ fail
+  pub condition-fails : condition_size l (drop p q) ≡ None → read_condition l (drop p q) ≡ fail
   unfolding condition_size
   condition-fails h = go (read_condition l (drop p q)) refl
     where
@@ -218,18 +216,18 @@ module _ (l : ℕ) (q : List ℕ) (p : ℕ) where
       go fail e = e
       go (ok c r) e = always (length (drop p q) - length r) (sym (ap (size_read (drop p q)) e) ∙ h)
 
-  pub condition-within : (n : ℕ) → condition_size l (drop p q) ≡ Bytes n → (1 ≤ n) × (p + n ≤ length q)
+  pub condition-within : (n : ℕ) → condition_size l (drop p q) ≡ Some n → (1 ≤ n) × (p + n ≤ length q)
   condition-within n h = condition-reads n h λ c r e m. (omega (arith, size-pos c), omega (arith, condition-fits l q p [] c r e))
 
-  pub term-reads : {X : Type 0} (n : ℕ) → term_size l (drop p q) ≡ Bytes n → ((t : Term) (r : List ℕ) → read_term l (drop p q) ≡ ok t r → size_t t ≡ n → X) → X
+  pub term-reads : {X : Type 0} (n : ℕ) → term_size l (drop p q) ≡ Some n → ((t : Term) (r : List ℕ) → read_term l (drop p q) ≡ ok t r → size_t t ≡ n → X) → X
   unfolding term_size
   term-reads {X} n h k = go (read_term l (drop p q)) refl
     where
       go : (w : Read Term) → read_term l (drop p q) ≡ w → X
       go fail e = never n (sym (ap (size_read (drop p q)) e) ∙ h)
-      go (ok t r) e = let m : Bytes (size_t t) ≡ Bytes n = sym (term-size l q p [] t r e) ∙ h in k t r e (cc)
+      go (ok t r) e = let m : Some (size_t t) ≡ Some n = sym (term-size l q p [] t r e) ∙ h in k t r e (cc)
 
-  pub term-fails : term_size l (drop p q) ≡ Refused → read_term l (drop p q) ≡ fail
+  pub term-fails : term_size l (drop p q) ≡ None → read_term l (drop p q) ≡ fail
   unfolding term_size
   term-fails h = go (read_term l (drop p q)) refl
     where
@@ -237,5 +235,5 @@ module _ (l : ℕ) (q : List ℕ) (p : ℕ) where
       go fail e = e
       go (ok t r) e = always (length (drop p q) - length r) (sym (ap (size_read (drop p q)) e) ∙ h)
 
-  pub term-within : (n : ℕ) → term_size l (drop p q) ≡ Bytes n → (1 ≤ n) × (p + n ≤ length q)
+  pub term-within : (n : ℕ) → term_size l (drop p q) ≡ Some n → (1 ≤ n) × (p + n ≤ length q)
   term-within n h = term-reads n h λ t r e m. (omega (arith, size-pos_t t), omega (arith, term_fits l q p [] t r e))

@@ -1,8 +1,9 @@
 -- What is measured is what the model reads.
-use mathlib.Core.Path.{◌≡◌, refl, sym, ap, ◌∙◌, subst}
-use mathlib.Core.Bool.{Bool, true, false, cond}
+use mathlib.Core.Path.{◌≡◌, refl, sym, ap, ◌∙◌}
+use mathlib.Core.Bool.{Bool, true, false}
 use mathlib.Core.List.{List, [], ◌∷◌}
-use mathlib.Core.Option.{Option, none, some}
+use mathlib.Core.Option.{none, some}
+use mathlib.Core.Option as M
 use Prim.Native.Nat.{ℕ, zero, suc, ◌+◌, ◌-◌, ◌<◌, ◌≤◌}
 use native.Mathlib.Nat.{le_of_lt}
 use native.Mathlib.Omega.{arith}
@@ -11,7 +12,7 @@ use lib.ListN.{length, get_or, drop, length-drop, drop_of_length-le}
 use lib.Seq.{drop-drop}
 use borrow.Author.Tests.{leb-true, leb-false}
 use Rattle.model.specs.Kinds.{Kind, k-range, k-true, k-false, k-not, k-and, k-or, k-compare, k-some, k-constant, k-attribute, k-aggregate, k-permit, code, find, kind_of, body_length}
-use Rattle.model.specs.Syntax.{Condition, Term, TRUE, FALSE, NOT, AND, OR, COMPARE, SOME, CONSTANT, ATTRIBUTE, AGGREGATE, is_operator, is_function}
+use Rattle.model.specs.Syntax.{Condition, Term, NOT, AND, OR, COMPARE, SOME, AGGREGATE, is_operator, is_function}
 use Rattle.model.specs.Encoding.{encode, encode_t, Read, fail, ok, then, byte, need, condition_body, term_body, on_kind, read_condition, read_term}
 use Rattle.model.proofs.Reading.{find-inv, read-inverse, read-inverse_t}
 use Rattle.model.proofs.Sizes.{size, size_t, size-encode, size-encode_t, drop-encode, drop-encode_t}
@@ -22,9 +23,8 @@ use Rattle.kinds.specs.declared.Record.TheVariants as R
 use Rattle.kinds.proofs.Entries.{of_none}
 use Rattle.kinds.proofs.Records.{whole-record, short-record}
 use Rattle.sizes.proofs.Steps.{none-accepted}
-use Rattle.sizes.specs.declared.Size.{Size}
-use Rattle.sizes.specs.declared.Size.TheVariants.{Bytes, Refused}
-use Rattle.sizes.specs.Measured.{size_read, condition_size, term_size, accepts, children_of, child_term, Measured, leaves, onward, children, stored, store, measured, condition_table, term_table}
+use Rattle.sizes.specs.Measured.{size_read, condition_size, accepts, children_of, child_term, Measured, leaves, onward, children, stored, measured, condition_table}
+use Rattle.std.specs.Prelude.{Option, Some, None}
 
 -- a reader takes its bytes from the front
 pub record Taken (q r : List ℕ) : Type 0 where
@@ -50,17 +50,17 @@ module _ {A : Type 0} (f : List ℕ → ℕ → List ℕ → Measured) (g : List
   unfolding children
   one-child k a q p z h = go (f (drop a q) (p + a) z).size (g (drop a q)) (agrees (drop a q) (p + a) z) (takes (drop a q))
     where
-      go : (s : Size) (w : Read A) → s ≡ size_read (drop a q) w → ((c : A) (r : List ℕ) → w ≡ ok c r → Taken (drop a q) r) → (onward s (f (drop a q) (p + a) z).table (λ n y. leaves (Bytes (a + n)) y)).size ≡ size_read q (then w λ c r. ok (k c) r)
+      go : (s : Option ℕ) (w : Read A) → s ≡ size_read (drop a q) w → ((c : A) (r : List ℕ) → w ≡ ok c r → Taken (drop a q) r) → (onward s (f (drop a q) (p + a) z).table (λ n y. leaves (Some (a + n)) y)).size ≡ size_read q (then w λ c r. ok (k c) r)
       go s fail e t = rw e
       go s (ok c r) e t =
           let i = t c r refl in
-          rw e (ap Bytes (omega (arith, length-drop a q)))
+          rw e (ap Some (omega (arith, length-drop a q)))
 
   two-children : {B : Type 0} (k : A → A → B) (a : ℕ) (q : List ℕ) (p : ℕ) (z : List ℕ) → a ≤ length q → (children 2 a f q p z).size ≡ size_read q (then (g (drop a q)) λ c r. then (g r) λ d r. ok (k c d) r)
   unfolding children
   two-children k a q p z h = go (f (drop a q) (p + a) z).size (g (drop a q)) (agrees (drop a q) (p + a) z) (takes (drop a q))
     where
-      go : (s : Size) (w : Read A) → s ≡ size_read (drop a q) w → ((c : A) (r : List ℕ) → w ≡ ok c r → Taken (drop a q) r) → (onward s (f (drop a q) (p + a) z).table (λ n y. children 1 (a + n) f q p y)).size ≡ size_read q (then w λ c r. then (g r) λ d r. ok (k c d) r)
+      go : (s : Option ℕ) (w : Read A) → s ≡ size_read (drop a q) w → ((c : A) (r : List ℕ) → w ≡ ok c r → Taken (drop a q) r) → (onward s (f (drop a q) (p + a) z).table (λ n y. children 1 (a + n) f q p y)).size ≡ size_read q (then w λ c r. then (g r) λ d r. ok (k c d) r)
       go s fail e t = rw e
       go s (ok c r) e t =
           let i = t c r refl in
@@ -69,9 +69,9 @@ module _ {A : Type 0} (f : List ℕ → ℕ → List ℕ → Measured) (g : List
           let d : drop (a + n) q ≡ r = sym (drop-drop n a q) ∙ sym i.rest in
           rw e (one-child (k c) (a + n) q p (f (drop a q) (p + a) z).table m ∙ ap (λ x. size_read q (then (g x) λ d r. ok (k c d) r)) d)
 
-stored-size : (p : ℕ) (s : Size) (z : List ℕ) → (stored p (leaves s z)).size ≡ s
-stored-size p (Bytes n) z = refl
-stored-size p Refused z = refl
+stored-size : (p : ℕ) (s : Option ℕ) (z : List ℕ) → (stored p (leaves s z)).size ≡ s
+stored-size p (Some n) z = refl
+stored-size p None z = refl
 
 -- one record
 module _ (l : ℕ) (t : Bool) (k : ℕ) (r : List ℕ) (p : ℕ) (z : List ℕ) (x : Record) (e : record_at (k ∷ r) ≡ x) where
@@ -80,22 +80,22 @@ module _ (l : ℕ) (t : Bool) (k : ℕ) (r : List ℕ) (p : ℕ) (z : List ℕ) 
   yes h = let w : accepts t (record_at (k ∷ r)) ≡ true = ap (accepts t) e ∙ h in
       rw w (stored-size p (children (children_of k) (record_length k) (λ x m y. measured l (child_term k) x m y) (k ∷ r) p z).size (children (children_of k) (record_length k) (λ x m y. measured l (child_term k) x m y) (k ∷ r) p z).table)
 
-  no : accepts t x ≡ false → measured (suc l) t (k ∷ r) p z ≡ leaves Refused z
+  no : accepts t x ≡ false → measured (suc l) t (k ∷ r) p z ≡ leaves None z
   unfolding measured
   no h = let w : accepts t (record_at (k ∷ r)) ≡ false = ap (accepts t) e ∙ h in rw w
 
-  refused : accepts t x ≡ false → (measured (suc l) t (k ∷ r) p z).size ≡ Refused
+  refused : accepts t x ≡ false → (measured (suc l) t (k ∷ r) p z).size ≡ None
   refused h = ap (λ (m : Measured). m.size) (no h)
 
 -- a record that is cut short, or of another sort
 module _ (l : ℕ) (t : Bool) (k : ℕ) (r : List ℕ) (p : ℕ) (z : List ℕ) (x : Kind) (e : kind_of k ≡ some x) where
-  cut : length r < body_length x → (measured (suc l) t (k ∷ r) p z).size ≡ Refused
+  cut : length r < body_length x → (measured (suc l) t (k ∷ r) p z).size ≡ None
   cut h = refused l t k r p z R.Short (short-record k r x e h) (none-accepted t)
 
-  other : ((a b c d : ℕ) → accepts t (filled a b c d x) ≡ false) → (measured (suc l) t (k ∷ r) p z).size ≡ Refused
+  other : ((a b c d : ℕ) → accepts t (filled a b c d x) ≡ false) → (measured (suc l) t (k ∷ r) p z).size ≡ None
   other h = go (leb (body_length x) (length r)) refl
     where
-      go : (b : Bool) → leb (body_length x) (length r) ≡ b → (measured (suc l) t (k ∷ r) p z).size ≡ Refused
+      go : (b : Bool) → leb (body_length x) (length r) ≡ b → (measured (suc l) t (k ∷ r) p z).size ≡ None
       go true w = refused l t k r p z _ (whole-record k r x e (leb-true (body_length x) (length r) w)) (h (get_or r 0 0) (get_or r 1 0) (get_or r 2 0) (get_or r 3 0))
       go false w = cut (leb-false (body_length x) (length r) w)
 
@@ -104,8 +104,8 @@ module _ (l : ℕ)
     (ht : (q : List ℕ) (p : ℕ) (z : List ℕ) → (measured l true q p z).size ≡ size_read q (read_term l q)) where
   condition-kind : (x : Kind) (r : List ℕ) (p : ℕ) (z : List ℕ) → (measured (suc l) false (code x ∷ r) p z).size ≡ size_read (code x ∷ r) (condition_body (λ x. read_condition l x) (λ x. read_term l x) x r)
   unfolding condition_body children_of child_term conditions_of terms_of record_length of_kind kind_of find children
-  condition-kind k-true r p z = yes l false 16 r p z R.True (whole-record 16 r k-true refl (omega arith)) refl ∙ ap Bytes (omega arith)
-  condition-kind k-false r p z = yes l false 17 r p z R.False (whole-record 17 r k-false refl (omega arith)) refl ∙ ap Bytes (omega arith)
+  condition-kind k-true r p z = yes l false 16 r p z R.True (whole-record 16 r k-true refl (omega arith)) refl ∙ ap Some (omega arith)
+  condition-kind k-false r p z = yes l false 17 r p z R.False (whole-record 17 r k-false refl (omega arith)) refl ∙ ap Some (omega arith)
   condition-kind k-not r p z =
       yes l false 18 r p z R.Not (whole-record 18 r k-not refl (omega arith)) refl
       ∙ one-child (λ x m y. measured l false x m y) (λ x. read_condition l x) hc (condition-taken l) NOT 1 (18 ∷ r) p z (omega arith)
@@ -142,12 +142,12 @@ module _ (l : ℕ)
   term-kind k-constant (a ∷ b ∷ c ∷ []) p z = cut l true 32 (a ∷ b ∷ c ∷ []) p z k-constant refl (omega arith)
   term-kind k-constant (a ∷ b ∷ c ∷ d ∷ r) p z =
       yes l true 32 (a ∷ b ∷ c ∷ d ∷ r) p z (R.Constant a b c d) (whole-record 32 (a ∷ b ∷ c ∷ d ∷ r) k-constant refl (omega arith)) refl
-      ∙ ap Bytes (omega arith)
+      ∙ ap Some (omega arith)
   term-kind k-attribute [] p z = cut l true 33 [] p z k-attribute refl (omega arith)
   term-kind k-attribute (v ∷ []) p z = cut l true 33 (v ∷ []) p z k-attribute refl (omega arith)
   term-kind k-attribute (v ∷ a ∷ r) p z =
       yes l true 33 (v ∷ a ∷ r) p z (R.Attribute v a) (whole-record 33 (v ∷ a ∷ r) k-attribute refl (omega arith)) refl
-      ∙ ap Bytes (omega arith)
+      ∙ ap Some (omega arith)
   term-kind k-aggregate [] p z = cut l true 34 [] p z k-aggregate refl (omega arith)
   term-kind k-aggregate (f ∷ r) p z = go (is_function f) refl r
     where
@@ -160,7 +160,7 @@ module _ (l : ℕ)
           ∙ one-child (λ x m y. measured l false x m y) (λ x. read_condition l x) hc (condition-taken l) (AGGREGATE f v q a) 5 (34 ∷ f ∷ v ∷ q ∷ a ∷ r) p z (omega arith)
       go false e r = unknown (leb 4 (suc (length r))) refl
         where
-          unknown : (b : Bool) → leb 4 (suc (length r)) ≡ b → (measured (suc l) true (34 ∷ f ∷ r) p z).size ≡ Refused
+          unknown : (b : Bool) → leb 4 (suc (length r)) ≡ b → (measured (suc l) true (34 ∷ f ∷ r) p z).size ≡ None
           unknown true w = refused l true 34 (f ∷ r) p z (R.Aggregate f (get_or r 0 0) (get_or r 1 0) (get_or r 2 0)) (whole-record 34 (f ∷ r) k-aggregate refl (leb-true 4 (suc (length r)) w)) e
           unknown false w = cut l true 34 (f ∷ r) p z k-aggregate refl (leb-false 4 (suc (length r)) w)
   term-kind k-true r p z = other l true 16 r p z k-true refl (λ a b c d. refl)
@@ -181,7 +181,7 @@ module _ {A : Type 0} (l : ℕ) (t : Bool) (g : Kind → List ℕ → Read A)
   any-kind [] p z = rw (none-accepted t)
   any-kind (k ∷ r) p z = go (kind_of k) refl
     where
-      go : (o : Option Kind) → kind_of k ≡ o → (measured (suc l) t (k ∷ r) p z).size ≡ size_read {A = A} (k ∷ r) (elim o as (λ _. Read A) [ none ↦ fail | some x ↦ g x r ])
+      go : (o : M.Option Kind) → kind_of k ≡ o → (measured (suc l) t (k ∷ r) p z).size ≡ size_read {A = A} (k ∷ r) (elim o as (λ _. Read A) [ none ↦ fail | some x ↦ g x r ])
       go none e = refused l t k r p z R.Unknown (of_none R.Unknown (λ x. within x r) k e) (none-accepted t)
       go (some x) e = let c : k ≡ code x = find-inv k _ x e in rw c (h x r p z)
 
@@ -196,21 +196,21 @@ agree (suc l) =
     )
 
 -- what `condition` and `term` promise, from what `measure` does
-pub is-condition : (l : ℕ) (q x : List ℕ) (p : ℕ) (z y : List ℕ) (r : Size) → x ≡ drop p q → leaves r y ≡ measured l false x p z → (r ≡ condition_size l (drop p q)) × (y ≡ condition_table l q p z)
+pub is-condition : (l : ℕ) (q x : List ℕ) (p : ℕ) (z y : List ℕ) (r : Option ℕ) → x ≡ drop p q → leaves r y ≡ measured l false x p z → (r ≡ condition_size l (drop p q)) × (y ≡ condition_table l q p z)
 unfolding condition_size condition_table
 is-condition l q x p z y r ex e =
     let w : leaves r y ≡ measured l false (drop p q) p z = e ∙ ap (λ v. measured l false v p z) ex in
     (ap (λ (m : Measured). m.size) w ∙ (agree l).0 (drop p q) p z, ap (λ (m : Measured). m.table) w)
 
 -- nothing stands past the end
-empty : (l : ℕ) (t : Bool) (p : ℕ) (z : List ℕ) → measured l t [] p z ≡ leaves Refused z
+empty : (l : ℕ) (t : Bool) (p : ℕ) (z : List ℕ) → measured l t [] p z ≡ leaves None z
 unfolding measured record_at
 empty zero t p z = refl
 empty (suc l) true p z = refl
 empty (suc l) false p z = refl
 
-pub past-condition : (l : ℕ) (q : List ℕ) (p : ℕ) (z : List ℕ) → length q < p → (Refused ≡ condition_size l (drop p q)) × (z ≡ condition_table l q p z)
-past-condition l q p z h = is-condition l q [] p z z Refused (sym (drop_of_length-le q (le_of_lt h))) (sym (empty l false p z))
+pub past-condition : (l : ℕ) (q : List ℕ) (p : ℕ) (z : List ℕ) → length q < p → (None ≡ condition_size l (drop p q)) × (z ≡ condition_table l q p z)
+past-condition l q p z h = is-condition l q [] p z z None (sym (drop_of_length-le q (le_of_lt h))) (sym (empty l false p z))
 
 -- a part and its place stay within the bytes
 pub part_room : (q x : List ℕ) (p : ℕ) → x ≡ drop p q → p ≤ length q → length q < 9223372036854775808 → p + length x < 9223372036854775808

@@ -1,14 +1,14 @@
 -- A table that holds the sizes of a condition's parts, and that a later measuring elsewhere leaves it so.
 use mathlib.Core.Path.{◌≡◌, refl, sym, ap, ◌∙◌}
 use mathlib.Core.Bool.{Bool, true, false, cond}
-use mathlib.Core.List.{List, [], ◌∷◌}
-use Prim.Native.Nat.{ℕ, zero, suc, ◌+◌, ◌-◌, ◌<◌, ◌≤◌}
+use mathlib.Core.List.{List}
+use Prim.Native.Nat.{ℕ, ◌+◌, ◌<◌, ◌≤◌}
 use native.Mathlib.Nat.{add-zero, add_assoc}
 use native.Mathlib.Omega.{arith}
 use borrow.Author.Tests.{lt-ltb}
 use lib.Dec.{ltb}
 use lib.ListN.{length, get_or, drop, set, length-set}
-use lib.Seq.{drop-drop, get_or-drop, get_or-set_same, get_or-set_other}
+use lib.Seq.{get_or-drop, get_or-set_same, get_or-set_other}
 use Rattle.model.specs.Syntax.{Condition, Term, TRUE, FALSE, NOT, AND, OR, COMPARE, SOME, CONSTANT, ATTRIBUTE, AGGREGATE}
 use Rattle.model.proofs.Sizes.{size, size_t}
 use Rattle.sizes.specs.Measured.{store}

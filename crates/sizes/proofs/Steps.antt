@@ -1,5 +1,5 @@
 -- One record of a measured condition or term: what the reader of conditions does.
-use mathlib.Core.Path.{◌≡◌, refl, sym, ap, ◌∙◌}
+use mathlib.Core.Path.{◌≡◌, refl, sym, ◌∙◌}
 use mathlib.Core.Bool.{Bool, true, false, not, cond}
 use mathlib.Core.List.{List}
 use Prim.Native.Nat.{ℕ, zero, suc, ◌-◌}
@@ -9,28 +9,28 @@ use lib.ListN.{get_or}
 use Rattle.kinds.specs.Tables.{record_length}
 use Rattle.kinds.specs.Record.{record_at}
 use Rattle.kinds.specs.declared.Record.TheVariants as R
-use Rattle.sizes.specs.declared.Size.TheVariants.{Refused}
 use Rattle.sizes.specs.Measured.{accepts, children_of, child_term, Measured, leaves, children, stored, measured}
+use Rattle.std.specs.Prelude.{None}
 
 -- no record is accepted where there is none
 pub none-accepted : (t : Bool) → accepts t R.Unknown ≡ false
 none-accepted true = refl
 none-accepted false = refl
 
-pub zero_is : (l : ℕ) (t : Bool) (q : List ℕ) (p : ℕ) (z : List ℕ) → l ≡ 0 → leaves Refused z ≡ measured l t q p z
+pub zero_is : (l : ℕ) (t : Bool) (q : List ℕ) (p : ℕ) (z : List ℕ) → l ≡ 0 → leaves None z ≡ measured l t q p z
 unfolding measured
 zero_is l t q p z h = rw h
 
 module _ (l : ℕ) (t : Bool) (q : List ℕ) (p : ℕ) (z : List ℕ) (h : l ≡ 0 → ⊥) where
   body : ℕ → ℕ → Measured
-  body m k = cond (accepts t (record_at q)) (stored p (children (children_of k) (record_length k) (λ x m' y. measured m (child_term k) x m' y) q p z)) (leaves Refused z)
+  body m k = cond (accepts t (record_at q)) (stored p (children (children_of k) (record_length k) (λ x m' y. measured m (child_term k) x m' y) q p z)) (leaves None z)
 
   level : (m : ℕ) → (m ≡ 0 → ⊥) → body (m - 1) (get_or q 0 0) ≡ measured m t q p z
   unfolding measured body
   level zero n = absurd (n refl)
   level (suc m) n = rw sub-one
 
-  pub wrong : (b : Bool) → b ≡ accepts t (record_at q) → not b ≡ true → leaves Refused z ≡ measured l t q p z
+  pub wrong : (b : Bool) → b ≡ accepts t (record_at q) → not b ≡ true → leaves None z ≡ measured l t q p z
   unfolding body
   wrong b eb e =
       let w : accepts t (record_at q) ≡ false = sym eb ∙ not-true b e in

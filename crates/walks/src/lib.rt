@@ -13,49 +13,30 @@ pub struct Walk {
     pub width: usize,
 }
 
-fn wide(x: u8) -> usize
-    ensures { result ≡ x }
-{
-    x as usize
-}
-
 // The walk of a variable.
 pub fn walk_of(walks: &[u16], variable: u8) -> Walk
     ensures value { result ≡ W.walk_of walks.now variable }
     ensures fits { W.Fits result }
 {
-    let i = 8 * wide(variable);
-    let start = kinds::size_at(walks, i);
-    let count = kinds::size_at(walks, i + 1);
-    let low = kinds::size_at(walks, i + 2);
-    let high = kinds::size_at(walks, i + 3);
-    let width = kinds::size_at(walks, i + 4);
+    let i = 8 * usize::from(variable);
     Walk {
-        start,
-        count,
-        base: low + 65536 * high,
-        width,
+        start: kinds::size_at(walks, i),
+        count: kinds::size_at(walks, i + 1),
+        base: kinds::size_at(walks, i + 2) + 65536 * kinds::size_at(walks, i + 3),
+        width: kinds::size_at(walks, i + 4),
     }
-}
-
-// Row i from the last one of n.
-fn from_last(n: usize, i: usize) -> usize
-    requires { n ≤ 65535 }
-    ensures { (result ≡ n - suc i) × (result ≤ 65535) }
-{
-    if i < n { n - 1 - i } else { 0 }
 }
 
 // The number of row i of a walk that does not go through all rows in order.
-fn row_at(walks: &[u16], start: usize, count: usize, i: usize) -> usize
-    requires { (start ≤ 65535) × (count ≤ 65535) × (i ≤ 65535) }
-    ensures value { result ≡ cond (eqb start 1) (count - suc i) (get_or walks.now (start + i) 0) }
+fn row_at(walks: &[u16], walk: Walk, i: usize) -> usize
+    requires { W.Fits walk × (i ≤ 65535) }
+    ensures value { result ≡ cond (eqb walk.start 1) (walk.count - suc i) (get_or walks.now (walk.start + i) 0) }
     ensures upper_bound { result ≤ 65535 }
 {
-    if start == 1 {
-        return from_last(count, i);
+    if walk.start == 1 {
+        return walk.count.saturating_sub(i + 1);
     }
-    kinds::size_at(walks, start + i)
+    kinds::size_at(walks, walk.start + i)
 }
 
 // The place of row i of a walk among the values. The usual walk is told apart first: it is in every loop over rows.
@@ -66,5 +47,5 @@ pub fn place(walks: &[u16], walk: Walk, i: usize) -> usize
     if walk.start == 0 {
         return walk.base + i * walk.width;
     }
-    walk.base + row_at(walks, walk.start, walk.count, i) * walk.width
+    walk.base + row_at(walks, walk, i) * walk.width
 }

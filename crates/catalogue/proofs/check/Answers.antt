@@ -1,7 +1,6 @@
 use Rattle.catalogue.proofs.Reading.{check-10, check-11, check-none}
 use native.Mathlib.Omega.{arith}
 use mathlib.Core.Path.{sym, ◌∙◌}
-use borrow.Author.Rules.{rules}
 use Rattle.catalogue.proofs.check.Goals as goal
 
 pub returns-then-fails_10 : goal.returns-then-fails_10

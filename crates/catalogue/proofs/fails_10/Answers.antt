@@ -2,12 +2,11 @@ use Rattle.model.specs.Checks.{fails10}
 use borrow.Author.Rules.{rules}
 use mathlib.Core.Path.{◌≡◌, sym, ◌∙◌}
 use mathlib.Core.Bool.{Bool, true, false}
-use Prim.Native.Nat.{ℕ, ◌-◌, ◌*◌, ◌≤◌, ◌<◌}
+use Prim.Native.Nat.{ℕ, ◌*◌, ◌≤◌, ◌<◌}
 use native.Mathlib.Omega.{arith}
 use mathlib.Core.List.{List}
 use lib.ListN.{length}
 use borrow.Author.Count.{below_more}
-use borrow.Author.Tests.{not-true, not-false}
 use Rattle.catalogue.specs.Layout as L
 use Rattle.catalogue.proofs.Reading.{valid-passes, refused}
 use Rattle.catalogue.proofs.fails_10.Goals as goal
@@ -28,10 +27,10 @@ pub returns-then-n-catalogue : goal.returns-then-n-catalogue
 returns-then-n-catalogue c = sym (refused c.args.catalogue.now (λ v. omega (arith, v.size, c.count-n.ensures)))
 
 pub returns-then-not-known : goal.returns-then-not-known
-returns-then-not-known c = unknown c.args.catalogue.now c.loop-i.i c.known.result (omega (arith, c.count-n.ensures)) c.known.ensures (not-true _ c.if-not-known.true-raw)
+returns-then-not-known c = unknown c.args.catalogue.now c.loop-i.i c.known.result (omega (arith, c.count-n.ensures)) c.known.ensures (search rules)
 
 pub loop-i-preserved : goal.loop-i-preserved
-loop-i-preserved c = (below_more (λ (r : ℕ). L.known_of c.args.catalogue.now r ≡ true) c.loop-i.i c.loop-i.invariant.0 (sym c.known.ensures ∙ not-false _ c.if-not-known.false-raw), omega arith)
+loop-i-preserved c = below_more (λ (r : ℕ). L.known_of c.args.catalogue.now r ≡ true) c.loop-i.i c.loop-i.invariant (sym c.known.ensures ∙ search rules)
 
 pub returns : goal.returns
-returns c = passes c.args.catalogue.now c.count-n.result c.loop-i.i c.count-n.ensures (omega arith) (omega arith) (omega arith) (omega arith) c.loop-i.invariant.0
+returns c = passes c.args.catalogue.now c.count-n.result c.loop-i.i c.count-n.ensures (omega arith) (omega arith) (omega arith) (omega arith) c.loop-i.invariant

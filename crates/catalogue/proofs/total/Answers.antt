@@ -1,6 +1,5 @@
 use mathlib.Core.Path.{refl}
 use Rattle.catalogue.proofs.Reading.{total-past}
-use borrow.Author.Rules.{rules}
 use Rattle.catalogue.proofs.total.Goals as goal
 
 pub returns-then-n-lt-RELATIONS : goal.returns-then-n-lt-RELATIONS

@@ -3,7 +3,8 @@ use mathlib.Core.Path.{refl, sym, ap, ◌∙◌}
 use lib.ListN.{length}
 use Rattle.conditions.specs.Reach.{shape_in, scope_of}
 use Rattle.conditions.proofs.scope.Steps.{put_back}
-use Rattle.conditions.specs.Answers.{bytes_of}
+use Rattle.std.specs.Prelude.{Some, None}
+use Rattle.conditions.specs.Answers.{bytes_of, held}
 use Rattle.conditions.proofs.Parts.{same-sized}
 use Rattle.conditions.proofs.Records.{not-room, both-room, compare-room, some-room, aggregate-room}
 use Rattle.conditions.proofs.Steps.{no-level, no-level_t, no-operator, no-function, no-condition, no-term, condition-ends, term-ends, some-ends, aggregate-ends, conditions-ends, terms-ends, conditions-fit, terms-fit, conditions-stop, conditions-go, terms-stop, terms-go, truth-is, not_is, both_is, compare-is, some_is, constant-is, attribute-is, aggregate-is, under-is, aggregated-is}
@@ -11,7 +12,7 @@ use borrow.Author.Rules.{rules}
 use Rattle.conditions.proofs.+aggregate_condition_conditions_some_term_terms.Goals as goal
 
 pub aggregate-returns : goal.aggregate-returns
-aggregate-returns t c = record { value = aggregated-is (shape_in c.args.catalogue.now) c.args.limit c.args.under.level c.args.under.variable c.args.relation c.known.result c.known.ensures _ _ _ c.args.attribute _ c.has.result c.also-known.result refl c.has.ensures c.requires.1 c.bind.new.reach c.bind.ensures c.condition-r.ensures.value c.also-known.ensures c.also.ensures; z_after = c.condition-r.ensures.z_after }
+aggregate-returns t c = record { value = aggregated-is (shape_in c.args.catalogue.now) c.args.limit c.args.under.level c.args.under.variable c.args.relation c.known-known.result c.known-known.ensures _ _ _ c.args.attribute _ c.has-has.result (Some c.only_if.result) c.from.ensures c.has-has.ensures c.requires.1 c.bind.new.reach c.bind.ensures c.condition.ensures.value (ap Some c.only_if.ensures ∙ ap (held c.has-has.result) (sym c.in_ok-r.was)) (ap Some c.only_if-2.ensures); z_after = c.condition.ensures.z_after }
 
 pub condition-returns-then-level-eq0 : goal.condition-returns-then-level-eq0
 condition-returns-then-level-eq0 t c = let h = no-level (shape_in c.args.catalogue.now) c.args.limit c.args.level (scope_of c.args.reach.now) c.args.q.now c.args.at c.args.z.now c.if-level-eq0.true in record { value = h.0; z_after = h.1; reach_unchanged = refl }
@@ -65,26 +66,17 @@ condition-returns-in-Some t c = let h = some_is (shape_in c.args.catalogue.now) 
 pub condition-returns-in-Other : goal.condition-returns-in-Other
 condition-returns-in-Other t c = let h = no-condition (shape_in c.args.catalogue.now) c.args.limit c.args.level (scope_of c.args.reach.now) c.args.q.now c.args.at c.args.z.now c.if-level-eq0.false c.tail.result.now c.tail.ensures c.condition_record.result c.condition_record.ensures c.in-Other.is in record { value = h.0; z_after = h.1; reach_unchanged = refl }
 
-pub conditions-returns-in_default : goal.conditions-returns-in_default
-conditions-returns-in_default t c = let h = conditions-stop (shape_in c.args.catalogue.now) c.args.limit c.args.level c.args.q.now c.args.at c.args.z.now c.condition.result _ c.args.reach.now c.condition.ensures.value c.condition.ensures.z_after c.in_default.is in record { value = h.0; z_after = h.1; reach_unchanged = c.condition.ensures.reach_unchanged }
-
 pub conditions-overflow_add-at : goal.conditions-overflow_add-at
-conditions-overflow_add-at t c = let good = c.well_formed in omega (arith, ap bytes_of c.in-Whole.is, condition-ends c.args.q.now _ c.requires.0 _ _ _ _ c.condition.result c.condition.ensures.value, good)
+conditions-overflow_add-at t c = let good = c.well_formed in omega (arith, ap bytes_of c.in_ok-first.was, condition-ends c.args.q.now _ c.requires.0 _ _ _ _ c.condition.result c.condition.ensures.value, good)
 
 pub conditions-condition-requires-2 : goal.conditions-condition-requires-2
-conditions-condition-requires-2 t c = (omega arith, (omega (arith, ap bytes_of c.in-Whole.is, condition-ends c.args.q.now _ c.requires.0 _ _ _ _ c.condition.result c.condition.ensures.value), omega (arith, ap length c.condition.ensures.reach_unchanged, c.requires.1)))
-
-pub conditions-returns-in_default-condition : goal.conditions-returns-in_default-condition
-conditions-returns-in_default-condition t c = let h = conditions-go (shape_in c.args.catalogue.now) c.args.limit c.args.level c.args.q.now c.args.at c.args.z.now c.condition.result _ c.args.reach.now c.condition.ensures.value c.condition.ensures.z_after _ _ c.in-Whole.is _ c.condition.ensures.reach_unchanged _ _ (sym c.in_default-condition.is ∙ c.condition-2.ensures.value) c.condition-2.ensures.z_after in record { value = h.0; z_after = h.1; reach_unchanged = c.condition-2.ensures.reach_unchanged ∙ c.condition.ensures.reach_unchanged }
-
-pub conditions-overflow_add-n : goal.conditions-overflow_add-n
-conditions-overflow_add-n t c = let good = c.well_formed in omega (arith, conditions-fit c.args.q.now _ c.requires.0 _ _ _ _ _ _ _ _ _ _ _ c.in-Whole.is c.in-Whole-condition.is c.condition.ensures.value c.condition-2.ensures.value, good)
+conditions-condition-requires-2 t c = (omega arith, (omega (arith, ap bytes_of c.in_ok-first.was, condition-ends c.args.q.now _ c.requires.0 _ _ _ _ c.condition.result c.condition.ensures.value), omega (arith, ap length c.condition.ensures.reach_unchanged, c.requires.1)))
 
 pub conditions-returns : goal.conditions-returns
-conditions-returns t c = let h = conditions-go (shape_in c.args.catalogue.now) c.args.limit c.args.level c.args.q.now c.args.at c.args.z.now c.condition.result _ c.args.reach.now c.condition.ensures.value c.condition.ensures.z_after _ _ c.in-Whole.is _ c.condition.ensures.reach_unchanged _ _ (sym c.in-Whole-condition.is ∙ c.condition-2.ensures.value) c.condition-2.ensures.z_after in record { value = c.also.ensures ∙ h.0; z_after = same-sized _ _ _ _ c.also.ensures h.1; reach_unchanged = c.condition-2.ensures.reach_unchanged ∙ c.condition.ensures.reach_unchanged }
+conditions-returns t c = let h = conditions-go (shape_in c.args.catalogue.now) c.args.limit c.args.level c.args.q.now c.args.at c.args.z.now c.condition.result _ c.args.reach.now c.condition.ensures.value c.condition.ensures.z_after c.in_ok-first.first.length c.in_ok-first.first.inside c.in_ok-first.was c.condition.new.reach c.condition.ensures.reach_unchanged (Some c.in_ok-second.second) _ (sym c.in_ok-second.was ∙ c.condition-2.ensures.value) c.condition-2.ensures.z_after in let e = ap Some c.only_if.ensures in record { value = e ∙ h.0; z_after = same-sized _ _ _ _ e h.1; reach_unchanged = c.condition-2.ensures.reach_unchanged ∙ c.condition.ensures.reach_unchanged }
 
 pub some-returns : goal.some-returns
-some-returns t c = let reach = c.args.reach.now in let variable = c.args.under.variable in record { value = under-is (shape_in c.args.catalogue.now) c.args.limit c.args.under.level variable c.args.relation c.known.result c.known.ensures _ _ _ reach c.bind.new.reach c.requires.1 c.bind.ensures c.condition-inner.ensures.value c.also.ensures; z_after = c.condition-inner.ensures.z_after; reach_unchanged = put_back reach _ c.put.new.reach variable _ _ (c.condition-inner.ensures.reach_unchanged ∙ c.bind.ensures) c.entry-old.ensures c.put.ensures }
+some-returns t c = let reach = c.args.reach.now in let variable = c.args.under.variable in record { value = under-is (shape_in c.args.catalogue.now) c.args.limit c.args.under.level variable c.args.relation c.known-known.result c.known-known.ensures _ _ _ reach c.bind.new.reach c.requires.1 c.bind.ensures c.condition-inner.ensures.value (ap Some c.only_if.ensures ∙ ap (held c.known-known.result) (sym c.in_ok-inner.was)); z_after = c.condition-inner.ensures.z_after; reach_unchanged = put_back reach _ c.put.new.reach variable _ _ (c.condition-inner.ensures.reach_unchanged ∙ c.bind.ensures) c.entry-old.ensures c.put.ensures }
 
 pub term-returns-then-level-eq0 : goal.term-returns-then-level-eq0
 term-returns-then-level-eq0 t c = let h = no-level_t (shape_in c.args.catalogue.now) c.args.limit c.args.level (scope_of c.args.reach.now) c.args.q.now c.args.at c.args.z.now c.if-level-eq0.true in record { value = h.0; z_after = h.1 }
@@ -111,20 +103,35 @@ term-returns-else-not-is_code t c = let h = aggregate-is (shape_in c.args.catalo
 pub term-returns-in-Other : goal.term-returns-in-Other
 term-returns-in-Other t c = let h = no-term (shape_in c.args.catalogue.now) c.args.limit c.args.level (scope_of c.args.reach.now) c.args.q.now c.args.at c.args.z.now c.if-level-eq0.false c.tail.result.now c.tail.ensures c.term_record.result c.term_record.ensures c.in-Other.is in record { value = h.0; z_after = h.1 }
 
-pub terms-returns-in_default : goal.terms-returns-in_default
-terms-returns-in_default t c = let h = terms-stop (shape_in c.args.catalogue.now) c.args.limit c.args.level c.args.q.now c.args.at c.args.z.now c.term.result _ (scope_of c.args.reach.now) c.term.ensures.value c.term.ensures.z_after c.in_default.is in record { value = h.0; z_after = h.1 }
-
 pub terms-overflow_add-at : goal.terms-overflow_add-at
-terms-overflow_add-at t c = let good = c.well_formed in omega (arith, ap bytes_of c.in-Whole.is, term-ends c.args.q.now _ c.requires _ _ _ _ c.term.result c.term.ensures.value, good)
+terms-overflow_add-at t c = let good = c.well_formed in omega (arith, ap bytes_of c.in_ok-first.was, term-ends c.args.q.now _ c.requires _ _ _ _ c.term.result c.term.ensures.value, good)
 
 pub terms-term-requires-2 : goal.terms-term-requires-2
-terms-term-requires-2 t c = (omega arith, omega (arith, ap bytes_of c.in-Whole.is, term-ends c.args.q.now _ c.requires _ _ _ _ c.term.result c.term.ensures.value))
-
-pub terms-returns-in_default-term : goal.terms-returns-in_default-term
-terms-returns-in_default-term t c = let h = terms-go (shape_in c.args.catalogue.now) c.args.limit c.args.level c.args.q.now c.args.at c.args.z.now c.term.result _ (scope_of c.args.reach.now) c.term.ensures.value c.term.ensures.z_after _ _ c.in-Whole.is _ _ (sym c.in_default-term.is ∙ c.term-2.ensures.value) c.term-2.ensures.z_after in record { value = h.0; z_after = h.1 }
-
-pub terms-overflow_add-n : goal.terms-overflow_add-n
-terms-overflow_add-n t c = let good = c.well_formed in omega (arith, terms-fit c.args.q.now _ c.requires _ _ _ _ _ _ _ _ _ _ _ c.in-Whole.is c.in-Whole-term.is c.term.ensures.value c.term-2.ensures.value, good)
+terms-term-requires-2 t c = (omega arith, omega (arith, ap bytes_of c.in_ok-first.was, term-ends c.args.q.now _ c.requires _ _ _ _ c.term.result c.term.ensures.value))
 
 pub terms-returns : goal.terms-returns
-terms-returns t c = let h = terms-go (shape_in c.args.catalogue.now) c.args.limit c.args.level c.args.q.now c.args.at c.args.z.now c.term.result _ (scope_of c.args.reach.now) c.term.ensures.value c.term.ensures.z_after _ _ c.in-Whole.is _ _ (sym c.in-Whole-term.is ∙ c.term-2.ensures.value) c.term-2.ensures.z_after in record { value = c.also.ensures ∙ h.0; z_after = same-sized _ _ _ _ c.also.ensures h.1 }
+terms-returns t c = let h = terms-go (shape_in c.args.catalogue.now) c.args.limit c.args.level c.args.q.now c.args.at c.args.z.now c.term.result _ (scope_of c.args.reach.now) c.term.ensures.value c.term.ensures.z_after c.in_ok-first.first.length c.in_ok-first.first.inside c.in_ok-first.was (Some c.in_ok-second.second) _ (sym c.in_ok-second.was ∙ c.term-2.ensures.value) c.term-2.ensures.z_after in let e = ap Some c.only_if.ensures in record { value = e ∙ h.0; z_after = same-sized _ _ _ _ e h.1 }
+
+pub conditions-returns-in_err-first : goal.conditions-returns-in_err-first
+conditions-returns-in_err-first t c = let h = conditions-stop (shape_in c.args.catalogue.now) c.args.limit c.args.level c.args.q.now c.args.at c.args.z.now c.condition.result _ c.args.reach.now c.condition.ensures.value c.condition.ensures.z_after c.in_err-first.was in record { value = c.from_residual.ensures ∙ h.0; z_after = same-sized _ None _ _ c.from_residual.ensures h.1; reach_unchanged = c.condition.ensures.reach_unchanged }
+
+pub conditions-returns-in_err-second : goal.conditions-returns-in_err-second
+conditions-returns-in_err-second t c = let h = conditions-go (shape_in c.args.catalogue.now) c.args.limit c.args.level c.args.q.now c.args.at c.args.z.now c.condition.result _ c.args.reach.now c.condition.ensures.value c.condition.ensures.z_after c.in_ok-first.first.length c.in_ok-first.first.inside c.in_ok-first.was c.condition.new.reach c.condition.ensures.reach_unchanged None _ (sym c.in_err-second.was ∙ c.condition-2.ensures.value) c.condition-2.ensures.z_after in record { value = c.from_residual-in_err-second.ensures ∙ h.0; z_after = same-sized _ None _ _ c.from_residual-in_err-second.ensures h.1; reach_unchanged = c.condition-2.ensures.reach_unchanged ∙ c.condition.ensures.reach_unchanged }
+
+pub conditions-overflow_add-length : goal.conditions-overflow_add-length
+conditions-overflow_add-length t c = let good = c.well_formed in omega (arith, conditions-fit c.args.q.now _ c.requires.0 _ _ _ _ _ _ _ _ _ _ _ c.in_ok-first.was c.in_ok-second.was c.condition.ensures.value c.condition-2.ensures.value, good)
+
+pub terms-returns-in_err-first : goal.terms-returns-in_err-first
+terms-returns-in_err-first t c = let h = terms-stop (shape_in c.args.catalogue.now) c.args.limit c.args.level c.args.q.now c.args.at c.args.z.now c.term.result _ (scope_of c.args.reach.now) c.term.ensures.value c.term.ensures.z_after c.in_err-first.was in record { value = c.from_residual.ensures ∙ h.0; z_after = same-sized _ None _ _ c.from_residual.ensures h.1 }
+
+pub terms-returns-in_err-second : goal.terms-returns-in_err-second
+terms-returns-in_err-second t c = let h = terms-go (shape_in c.args.catalogue.now) c.args.limit c.args.level c.args.q.now c.args.at c.args.z.now c.term.result _ (scope_of c.args.reach.now) c.term.ensures.value c.term.ensures.z_after c.in_ok-first.first.length c.in_ok-first.first.inside c.in_ok-first.was None _ (sym c.in_err-second.was ∙ c.term-2.ensures.value) c.term-2.ensures.z_after in record { value = c.from_residual-in_err-second.ensures ∙ h.0; z_after = same-sized _ None _ _ c.from_residual-in_err-second.ensures h.1 }
+
+pub terms-overflow_add-length : goal.terms-overflow_add-length
+terms-overflow_add-length t c = let good = c.well_formed in omega (arith, terms-fit c.args.q.now _ c.requires _ _ _ _ _ _ _ _ _ _ _ c.in_ok-first.was c.in_ok-second.was c.term.ensures.value c.term-2.ensures.value, good)
+
+pub some-returns-in_err-inner : goal.some-returns-in_err-inner
+some-returns-in_err-inner t c = let reach = c.args.reach.now in let variable = c.args.under.variable in record { value = under-is (shape_in c.args.catalogue.now) c.args.limit c.args.under.level variable c.args.relation c.known-known.result c.known-known.ensures _ _ _ reach c.bind.new.reach c.requires.1 c.bind.ensures c.condition-inner.ensures.value (c.from_residual.ensures ∙ ap (held c.known-known.result) (sym c.in_err-inner.was)); z_after = c.condition-inner.ensures.z_after; reach_unchanged = put_back reach _ c.put.new.reach variable _ _ (c.condition-inner.ensures.reach_unchanged ∙ c.bind.ensures) c.entry-old.ensures c.put.ensures }
+
+pub aggregate-returns-in_err-r : goal.aggregate-returns-in_err-r
+aggregate-returns-in_err-r t c = record { value = aggregated-is (shape_in c.args.catalogue.now) c.args.limit c.args.under.level c.args.under.variable c.args.relation _ refl _ _ _ c.args.attribute c.args.relation _ None refl refl c.requires.1 c.bind.new.reach c.bind.ensures c.condition.ensures.value (ap (held _) (sym c.in_err-r.was)) c.from_residual.ensures; z_after = c.condition.ensures.z_after }

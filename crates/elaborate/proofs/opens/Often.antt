@@ -8,6 +8,11 @@ use lib.ListN.{length, length-append}
 use lib.Seq.{sets}
 use Rattle.quel.specs.Writing.{often}
 use Rattle.copier.proofs.Sets.{sets_then}
+use mathlib.Core.Bool.{false}
+use lib.Dec.{eqb, leb}
+use Rattle.elaborate.specs.declared.modes.Mode.{Mode}
+use Rattle.elaborate.specs.declared.modes.Mode.TheVariants as M
+use Rattle.elaborate.specs.Modes.{mode_no}
 
 pub often-length : (n b : ℕ) → length (often n b []) ≡ n
 unfolding often
@@ -47,3 +52,13 @@ opened-all d x y r at p q s n o l a c en el ep ex eq ey es er =
     three d x y r at p q s (often o 20 []) (often a 19 []) c
     (omega (arith, ep, en, often-length o 20)) (ex ∙ ap (λ (m : ℕ). sets d at (often m 20 [])) en)
     (omega (arith, eq, el, often-length a 19)) (ey ∙ ap (λ (m : ℕ). sets x p (often m 19 [])) el) es er
+
+-- a mode in which neither V's nor ^'s are opened
+pub neither : (m : Mode) → (m ≡ M.Condition → ⊥) → (m ≡ M.Conjunct → ⊥) → (eqb (mode_no m) 0 ≡ false) × (leb (mode_no m) 1 ≡ false)
+neither M.Condition a b = absurd (a refl)
+neither M.Conjunct a b = absurd (b refl)
+neither M.Factor a b = (refl, refl)
+neither M.Rest a b = (refl, refl)
+neither M.InSome a b = (refl, refl)
+neither M.InAttribute a b = (refl, refl)
+neither M.InAggregate a b = (refl, refl)

@@ -12,15 +12,13 @@ use borrow.Author.Tests.{eqb-true, ne_eqb, leb-true, lt-leb, ltb-false}
 use native.Mathlib.Nat.{add-zero}
 use Rattle.model.proofs.Tests.{and-inv}
 use Rattle.quel.specs.Results.{fail, ok, Word}
-use Rattle.quel.specs.Tokens.{Token, key, point}
-use Rattle.quel.specs.Reader.{starts}
 use Rattle.quel.specs.Names.{Entry, relation_named, attribute_named}
 use Rattle.quel.specs.Elaboration.{Symbol, operator_of, symbol_in, as_byte}
 use Rattle.quel.specs.Ahead.{Mode, at-condition, at-conjunct, at-factor, at_rest, in_some, in-attribute, in-aggregate, Count, ahead, top, next, ors_at, ands_at, operator_at}
 use Rattle.quel.specs.Writing.{Written, before, often, Reaches, inner, loop}
 use Rattle.kinds.specs.declared.Record.{Record}
 use Rattle.kinds.specs.declared.Record.TheVariants as R
-use Rattle.tokens.specs.Table.{Table, token_of, token_at}
+use Rattle.tokens.specs.Table.{Table, token_at}
 use Rattle.elaborate.specs.Counts.{ors_in, ands_in, sign_in, kind_in, plain, Place, Counted}
 use Rattle.elaborate.proofs.ahead.Laws.{counted, tokens-ahead}
 use Rattle.elaborate.specs.Places.{tokens_from, point_in}
@@ -32,6 +30,9 @@ use Rattle.copier.proofs.Sets.{sets-append, wrote_then}
 use Rattle.std.specs.Prelude.{Some, None}
 use Rattle.std.specs.Prelude as P
 use Rattle.elaborate.specs.Actions.{mode_number, action_of, next_of, item_of, head_by, some_by, head_item}
+use Rattle.elaborate.specs.declared.modes.Mode as C
+use Rattle.elaborate.specs.declared.modes.Mode.TheVariants as M
+use Rattle.elaborate.specs.Modes.{mode_no}
 use Rattle.elaborate.specs.Puts.{frame_mode, putting, reach_after, number_after, written}
 use Rattle.elaborate.proofs.items.Turns.{opening, next-number}
 use Rattle.elaborate.proofs.items.Turn as T
@@ -94,24 +95,14 @@ number_of (suc (suc (suc (suc (suc zero))))) h = refl
 number_of (suc (suc (suc (suc (suc (suc zero)))))) h = refl
 number_of (suc (suc (suc (suc (suc (suc (suc n))))))) h = absurd (omega arith)
 
-number-most : (m : Mode) → mode_number m ≤ 6
-number-most at-condition = omega arith
-number-most at-conjunct = omega arith
-number-most at-factor = omega arith
-number-most at_rest = omega arith
-number-most in_some = omega arith
-number-most in-attribute = omega arith
-number-most in-aggregate = omega arith
-
-mode-by : (m k : ℕ) (b : Bool) (s : List Token) → m ≤ 6 → starts point s ≡ b → next_of m k b ≤ 6
-mode-by m k b s h e =
-    let q : mode_number (next (mode_of m) (token_of k [] 0) s) ≡ next_of m k b = next-number (mode_of m) k [] 0 s ∙ ap₂ (λ (x : ℕ) (y : Bool). next_of x k y) (number_of m h) e in
-    omega (arith, q, number-most (next (mode_of m) (token_of k [] 0) s))
-
-pub mode-most : (m k : ℕ) (b : Bool) → m ≤ 6 → next_of m k b ≤ 6
-unfolding starts
-mode-most m k true h = mode-by m k true (key point ∷ []) h refl
-mode-most m k false h = mode-by m k false [] h refl
+pub mode-low : (m : C.Mode) → mode_no m ≤ 6
+mode-low M.Condition = omega arith
+mode-low M.Conjunct = omega arith
+mode-low M.Factor = omega arith
+mode-low M.Rest = omega arith
+mode-low M.InSome = omega arith
+mode-low M.InAttribute = omega arith
+mode-low M.InAggregate = omega arith
 
 -- the lengths
 pub open-most : (m k o a s : ℕ) → length (open_bytes m k o a s) ≤ o + a + 2

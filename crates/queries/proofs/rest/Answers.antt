@@ -23,13 +23,13 @@ returns-in_default-condition c = let q = c.args.q.now in let level = c.args.leve
 
 pub overflow_add-condition : goal.overflow_add-condition
 overflow_add-condition c = let good = c.well_formed in let q = c.args.q.now in
-    omega (arith, ap bytes_of c.in-Whole-condition.is, condition-ends q _ (run_inside (shape_in c.args.catalogue.now) c.args.limit c.args.level (scope_of c.args.reach.now) q c.args.ranges c.args.z.now [] c.targets.result _ c.targets.ensures.leads c.targets.ensures.targets_found _ _ _ c.in-Whole.is) _ _ _ _ c.condition.result c.condition.ensures.value, good)
+    omega (arith, ap bytes_of c.in-Some.is, condition-ends q _ (run_inside (shape_in c.args.catalogue.now) c.args.limit c.args.level (scope_of c.args.reach.now) q c.args.ranges c.args.z.now [] c.targets.result _ c.targets.ensures.leads c.targets.ensures.targets_found _ _ _ c.in-Whole.is) _ _ _ _ c.condition.result c.condition.ensures.value, good)
 
-pub returns-then-condition-n : goal.returns-then-condition-n
-returns-then-condition-n c = let q = c.args.q.now in let level = c.args.level in record { rest = rest-longer (shape_in c.args.catalogue.now) c.args.limit level (scope_of c.args.reach.now) q c.args.ranges c.args.z.now [] c.targets.result _ c.targets.ensures.leads c.targets.ensures.targets_found _ _ _ c.in-Whole.is c.condition.result c.condition.ensures.value _ _ c.in-Whole-condition.is c.if-condition-n.true; z_unchanged = ap (drop (length q)) c.condition.ensures.z_after ∙ condition-past level q _ _ ∙ c.targets.ensures.z_unchanged }
+pub returns-then-condition-last : goal.returns-then-condition-last
+returns-then-condition-last c = let q = c.args.q.now in let level = c.args.level in record { rest = rest-longer (shape_in c.args.catalogue.now) c.args.limit level (scope_of c.args.reach.now) q c.args.ranges c.args.z.now [] c.targets.result _ c.targets.ensures.leads c.targets.ensures.targets_found _ _ _ c.in-Whole.is c.condition.result c.condition.ensures.value _ _ c.in-Some.is c.if-condition-last.true; z_unchanged = ap (drop (length q)) c.condition.ensures.z_after ∙ condition-past level q _ _ ∙ c.targets.ensures.z_unchanged }
 
 pub returns-then-not-inside : goal.returns-then-not-inside
-returns-then-not-inside c = let q = c.args.q.now in let level = c.args.level in record { rest = rest_out (shape_in c.args.catalogue.now) c.args.limit level (scope_of c.args.reach.now) q c.args.ranges c.args.z.now _ c.targets.result _ c.targets.ensures.leads c.targets.ensures.targets_found _ _ _ c.in-Whole.is c.condition.result c.condition.ensures.value _ _ c.in-Whole-condition.is c.if-q-first.false c.if-targets-eq0.false c.if-condition-n.false c.condition.ensures.z_after c.if-not-inside.true-raw; z_unchanged = ap (drop (length q)) c.condition.ensures.z_after ∙ condition-past level q _ _ ∙ c.targets.ensures.z_unchanged }
+returns-then-not-inside c = let q = c.args.q.now in let level = c.args.level in record { rest = rest_out (shape_in c.args.catalogue.now) c.args.limit level (scope_of c.args.reach.now) q c.args.ranges c.args.z.now _ c.targets.result _ c.targets.ensures.leads c.targets.ensures.targets_found _ _ _ c.in-Whole.is c.condition.result c.condition.ensures.value _ _ c.in-Some.is c.if-q-first.false c.if-targets-eq0.false c.if-condition-last.false c.condition.ensures.z_after c.if-not-inside.true-raw; z_unchanged = ap (drop (length q)) c.condition.ensures.z_after ∙ condition-past level q _ _ ∙ c.targets.ensures.z_unchanged }
 
 pub returns : goal.returns
-returns c = let q = c.args.q.now in let level = c.args.level in record { rest = rest_in (shape_in c.args.catalogue.now) c.args.limit level (scope_of c.args.reach.now) q c.args.ranges c.args.z.now _ c.targets.result _ c.targets.ensures.leads c.targets.ensures.targets_found _ _ _ c.in-Whole.is c.condition.result c.condition.ensures.value _ _ c.in-Whole-condition.is c.if-q-first.false c.if-targets-eq0.false c.if-condition-n.false c.condition.ensures.z_after c.if-not-inside.false-raw; z_unchanged = ap (drop (length q)) c.condition.ensures.z_after ∙ condition-past level q _ _ ∙ c.targets.ensures.z_unchanged }
+returns c = let q = c.args.q.now in let level = c.args.level in record { rest = rest_in (shape_in c.args.catalogue.now) c.args.limit level (scope_of c.args.reach.now) q c.args.ranges c.args.z.now _ c.targets.result _ c.targets.ensures.leads c.targets.ensures.targets_found _ _ _ c.in-Whole.is c.condition.result c.condition.ensures.value _ _ c.in-Some.is c.if-q-first.false c.if-targets-eq0.false c.if-condition-last.false c.condition.ensures.z_after c.if-not-inside.false-raw; z_unchanged = ap (drop (length q)) c.condition.ensures.z_after ∙ condition-past level q _ _ ∙ c.targets.ensures.z_unchanged }
