@@ -6,12 +6,12 @@ ghost use Rattle.quel.specs.Lexical.{first};
 ghost use Rattle.tokens.specs.Codes.{Spelt, Coded};
 ghost use Rattle.flat.specs.Flat.{binders, main_of, last_of};
 ghost use Rattle.flat.specs.Flat as F;
-ghost use Rattle.elaborate.specs.Lookup.{ids_in};
+ghost use Rattle.elaborate.specs.Lookup.{ids_of};
 ghost use Rattle.elaborate.specs.Places.{table, tokens_from, name_in, point_in, use_in, depth_kind, part_kind, bound_place, binds_kind};
 ghost use Rattle.elaborate.specs.Numbers.{Numbered, Numbering, Met, Seen, Told, Noted, Used};
 ghost use Rattle.elaborate.specs.Tables.{Clear};
 
-use crate::lookups;
+use crate::lookups::Lookup;
 
 // The code of every word of more than twelve letters.
 const LONG: u64 = 288_230_376_151_711_744;
@@ -196,21 +196,21 @@ fn is_use(kinds: &[u8], d: usize, i: usize) -> bool
 }
 
 // Marks the name at i, if it is used there.
-fn note(kinds: &[u8], lookup: &[u16], used: &mut [u64], d: usize, i: usize)
-    requires { (i < 4000) × (get_or (ids_in lookup.now) i 0 < length used.old) }
-    ensures { Noted (ids_in lookup.now) used.old i (use_in kinds.now d i) used.new }
+fn note(kinds: &[u8], lookup: &Lookup, used: &mut [u64], d: usize, i: usize)
+    requires { (i < 4000) × (get_or (ids_of lookup.now) i 0 < length used.old) }
+    ensures { Noted (ids_of lookup.now) used.old i (use_in kinds.now d i) used.new }
 {
     if is_use(kinds, d, i) {
-        used[lookups::id_at(lookup, i)] = 4;
+        used[lookup.id_at(i)] = 4;
     }
 }
 
 // Marks, by their numbers, the names that tokens from a place on use outside all aggregates, in the table of what they stand for: nothing yet.
-pub(crate) fn uses(kinds: &[u8], lookup: &[u16], from: usize, used: &mut [u64])
-    requires { (length kinds.now < 4000) × (length kinds.now < length used.old) × ((x : ℕ) → get_or (ids_in lookup.now) x 0 ≤ length kinds.now)
+pub(crate) fn uses(kinds: &[u8], lookup: &Lookup, from: usize, used: &mut [u64])
+    requires { (length kinds.now < 4000) × (length kinds.now < length used.old) × ((x : ℕ) → get_or (ids_of lookup.now) x 0 ≤ length kinds.now)
         × ((x : ℕ) → get_or used.old x 0 ≡ 0) }
-    ensures by_index { (text ss ns : List ℕ) → Numbered (name_in text kinds.now ss) (length kinds.now) (ids_in lookup.now)
-        → Used text (table kinds.now ss ns) (ids_in lookup.now) from used.new }
+    ensures by_index { (text ss ns : List ℕ) → Numbered (name_in text kinds.now ss) (length kinds.now) (ids_of lookup.now)
+        → Used text (table kinds.now ss ns) (ids_of lookup.now) from used.new }
     ensures clear { Clear used.new }
 {
     let mut d = 0;
@@ -260,15 +260,15 @@ fn binds(kind: u8, p: u8) -> bool
 }
 
 // Whether the token at i binds no name, or one that is not marked; it is marked then.
-fn once(kinds: &[u8], lookup: &[u16], seen: &mut [u8], p: u8, i: usize) -> bool
-    requires { (i < length kinds.now) × (i < 4000) × ((x : ℕ) → get_or (ids_in lookup.now) x 0 < length seen.old) }
-    ensures { Told kinds.now (ids_in lookup.now) seen.old i
+fn once(kinds: &[u8], lookup: &Lookup, seen: &mut [u8], p: u8, i: usize) -> bool
+    requires { (i < length kinds.now) × (i < 4000) × ((x : ℕ) → get_or (ids_of lookup.now) x 0 < length seen.old) }
+    ensures { Told kinds.now (ids_of lookup.now) seen.old i
         (binds_kind (get_or kinds.now i 0) p) seen.new result }
 {
     if !binds(kinds[i], p) {
         return true;
     }
-    let x = lookups::id_at(lookup, bound_place(kinds, i));
+    let x = lookup.id_at(bound_place(kinds, i));
     if seen[x] != 0 {
         return false;
     }
@@ -277,10 +277,10 @@ fn once(kinds: &[u8], lookup: &[u16], seen: &mut [u8], p: u8, i: usize) -> bool
 }
 
 // Whether no symbol is bound twice, with a table for the marks.
-fn unique_with(kinds: &[u8], lookup: &[u16], seen: &mut [u8]) -> bool
-    requires { (length kinds.now < 4000) × (length kinds.now < length seen.old) × ((x : ℕ) → get_or (ids_in lookup.now) x 0 ≤ length kinds.now)
+fn unique_with(kinds: &[u8], lookup: &Lookup, seen: &mut [u8]) -> bool
+    requires { (length kinds.now < 4000) × (length kinds.now < length seen.old) × ((x : ℕ) → get_or (ids_of lookup.now) x 0 ≤ length kinds.now)
         × ((x : ℕ) → get_or seen.old x 0 ≡ 0) }
-    ensures { (text ss ns : List ℕ) → Numbered (name_in text kinds.now ss) (length kinds.now) (ids_in lookup.now)
+    ensures { (text ss ns : List ℕ) → Numbered (name_in text kinds.now ss) (length kinds.now) (ids_of lookup.now)
         → result ≡ unique_words (binders 0 (tokens_from text (table kinds.now ss ns) 0)) }
 {
     let mut p = 0;
@@ -294,9 +294,9 @@ fn unique_with(kinds: &[u8], lookup: &[u16], seen: &mut [u8]) -> bool
 }
 
 // The same with a table of N marks of its own.
-fn unique_sized<const N: usize>(kinds: &[u8], lookup: &[u16]) -> bool
-    requires { (length kinds.now < N) × (N ≤ 4000) × ((x : ℕ) → get_or (ids_in lookup.now) x 0 ≤ length kinds.now) }
-    ensures { (text ss ns : List ℕ) → Numbered (name_in text kinds.now ss) (length kinds.now) (ids_in lookup.now)
+fn unique_sized<const N: usize>(kinds: &[u8], lookup: &Lookup) -> bool
+    requires { (length kinds.now < N) × (N ≤ 4000) × ((x : ℕ) → get_or (ids_of lookup.now) x 0 ≤ length kinds.now) }
+    ensures { (text ss ns : List ℕ) → Numbered (name_in text kinds.now ss) (length kinds.now) (ids_of lookup.now)
         → result ≡ unique_words (binders 0 (tokens_from text (table kinds.now ss ns) 0)) }
 {
     let mut seen = [0u8; N];
@@ -304,9 +304,9 @@ fn unique_sized<const N: usize>(kinds: &[u8], lookup: &[u16]) -> bool
 }
 
 // Whether no symbol is bound twice: the table is small where the tokens are few.
-pub(crate) fn unique(kinds: &[u8], lookup: &[u16]) -> bool
-    requires { (length kinds.now < 4000) × ((x : ℕ) → get_or (ids_in lookup.now) x 0 ≤ length kinds.now) }
-    ensures { (text ss ns : List ℕ) → Numbered (name_in text kinds.now ss) (length kinds.now) (ids_in lookup.now)
+pub(crate) fn unique(kinds: &[u8], lookup: &Lookup) -> bool
+    requires { (length kinds.now < 4000) × ((x : ℕ) → get_or (ids_of lookup.now) x 0 ≤ length kinds.now) }
+    ensures { (text ss ns : List ℕ) → Numbered (name_in text kinds.now ss) (length kinds.now) (ids_of lookup.now)
         → result ≡ unique_words (binders 0 (tokens_from text (table kinds.now ss ns) 0)) }
 {
     if kinds.len() <= 256 {
