@@ -18,7 +18,7 @@ use crate::modes::Action;
 use crate::reach;
 use crate::reach::Known;
 use kinds::Record;
-use names::{Found, Sort};
+use names::Sort;
 
 // The token at hand: its place, its kind and what is to be done there; the innermost aggregate's frame, and the next variable's number.
 #[derive(Clone, Copy)]
@@ -69,9 +69,7 @@ fn value_item(lookup: &Lookup, value: u64) -> Option<Record>
     requires { Listed lookup.now }
     ensures { (z : Word) → Spelt z value → result ≡ value_by (value_named (entries lookup.now.list.now) z) }
 {
-    let Found::Of(a, b, c, d) = lookup.meaning(Sort::Value, value) else {
-        return None;
-    };
+    let (a, b, c, d) = lookup.meaning(Sort::Value, value)?;
     Some(Record::Constant(a, b, c, d))
 }
 

@@ -8,7 +8,7 @@ ghost use Rattle.elaborate.specs.Lookup.{room_of, chains_in, ids_of, Listed};
 ghost use Rattle.elaborate.specs.Actions.{number_of};
 ghost use Rattle.elaborate.specs.Tables.{code_at};
 
-use names::{Found, Sort};
+use names::{Bytes, Sort};
 
 // The lent table, the number or code of each token, and the name list.
 #[derive(Clone, Copy)]
@@ -61,7 +61,7 @@ impl<'a> Lookup<'a> {
     }
 
     // What a name says.
-    pub(crate) fn meaning(&self, sort: Sort, name: u64) -> Found
+    pub(crate) fn meaning(&self, sort: Sort, name: u64) -> Option<Bytes>
         requires { Listed self.now }
         ensures { (z : Word) → Spelt z name → result ≡ said (entries self.now.list.now) z sort }
     {
@@ -73,9 +73,7 @@ impl<'a> Lookup<'a> {
         requires { Listed self.now }
         ensures { (z : Word) → Spelt z name → result ≡ number_of (said (entries self.now.list.now) z sort) }
     {
-        let Found::Of(number, _, _, _) = self.meaning(sort, name) else {
-            return None;
-        };
+        let (number, _, _, _) = self.meaning(sort, name)?;
         Some(number)
     }
 }
