@@ -29,6 +29,7 @@ ghost use Rattle.elaborate.specs.Whole.{Ready, outcome};
 
 use lookups::Lookup;
 use loops::Start;
+use marks::Tokens;
 
 // A name that is unknown, out of reach or bound twice; records longer than the buffer.
 const NAMES: u8 = 51;
@@ -145,53 +146,39 @@ fn resolve(kinds: &[u8], lookup: &Lookup, draft: &mut [u8], out: &mut [u8]) -> A
 }
 
 // Numbers the names, behind the chains; these stay.
-fn number_names(
-    text: &[u8],
-    kinds: &[u8],
-    starts: &[u16],
-    numbers: &[u64],
-    lookup: &mut [u16],
-    links: &mut [u16],
-)
-    requires kinds_len_bound { (length kinds.now < 4000) × (length kinds.now ≤ length numbers.now)
-        × Coded text.now (table kinds.now starts.now numbers.now) (length kinds.now) }
-    requires kinds_in_bounds { (512 + length kinds.now ≤ length links.old) × ((x : ℕ) → get_or links.old x 0 ≡ 0)
-        × (room_of (length lookup.old) + length kinds.now ≤ length lookup.old) × ((x : ℕ) → get_or (ids_in lookup.old) x 0 ≡ 0) }
-    ensures numbered { Numbered (name_in text.now kinds.now starts.now) (length kinds.now)
-        (ids_in lookup.new) }
+fn number_names(tokens: &Tokens, lookup: &mut [u16], links: &mut [u16])
+    requires { (512 + length tokens.now.kinds.now ≤ length links.old) × ((x : ℕ) → get_or links.old x 0 ≡ 0)
+        × (room_of (length lookup.old) + length tokens.now.kinds.now ≤ length lookup.old) × ((x : ℕ) → get_or (ids_in lookup.old) x 0 ≡ 0) }
+    ensures numbered { Numbered (name_in tokens.now.text.now tokens.now.kinds.now tokens.now.starts.now) (length tokens.now.kinds.now) (ids_in lookup.new) }
     ensures lookup_unchanged { chains_in lookup.new ≡ chains_in lookup.old }
 {
     let k = lookups::room(lookup.len());
-    marks::number(text, kinds, starts, numbers, links, &mut lookup[k..]);
+    tokens.number(links, &mut lookup[k..]);
 }
 
 // With a table of L links and a draft of D bytes.
 fn elaborate_sized<const L: usize, const D: usize>(
-    text: &[u8],
-    kinds: &[u8],
-    starts: &[u16],
-    numbers: &[u64],
+    tokens: &Tokens,
     list: &[u8],
     lookup: &mut [u16],
     out: &mut [u8],
 ) -> Answer
-    requires kinds_len_bound { (length kinds.now ≤ 2000) × (length kinds.now ≤ length numbers.now)
-        × Coded text.now (table kinds.now starts.now numbers.now) (length kinds.now) × Indexed list.now (chains_in lookup.old) }
-    requires kinds_in_bounds { (room_of (length lookup.old) + length kinds.now ≤ length lookup.old) × ((x : ℕ) → get_or (ids_in lookup.old) x 0 ≡ 0) }
-    requires sizes { (512 + length kinds.now ≤ L) × (L ≤ 2513) × (D ≤ 2048) }
-    ensures { answered result out.new ≡ writing (records_of text.now
-        (table kinds.now starts.now numbers.now) list.now)
+    requires lent { (length tokens.now.kinds.now ≤ 2000) × Indexed list.now (chains_in lookup.old)
+        × (room_of (length lookup.old) + length tokens.now.kinds.now ≤ length lookup.old) × ((x : ℕ) → get_or (ids_in lookup.old) x 0 ≡ 0) }
+    requires sizes { (512 + length tokens.now.kinds.now ≤ L) × (L ≤ 2513) × (D ≤ 2048) }
+    ensures { answered result out.new ≡ writing (records_of tokens.now.text.now
+        (table tokens.now.kinds.now tokens.now.starts.now tokens.now.numbers.now) list.now)
         out.old }
 {
     let mut links = [0u16; L];
-    number_names(text, kinds, starts, numbers, lookup, &mut links);
+    number_names(tokens, lookup, &mut links);
     let mut draft = [0u8; D];
     let lookup = Lookup {
         table: lookup,
-        numbers,
+        numbers: tokens.numbers,
         list,
     };
-    resolve(kinds, &lookup, &mut draft, out)
+    resolve(tokens.kinds, &lookup, &mut draft, out)
 }
 
 // The records of a text that the grammar has, or 51 for a name and 52 for their length; a refusal leaves the buffer as it was.
@@ -211,8 +198,14 @@ pub fn elaborate(
         (table kinds.now starts.now numbers.now) list.now)
         out.old }
 {
+    let tokens = Tokens {
+        text,
+        kinds,
+        starts,
+        numbers,
+    };
     if kinds.len() <= 255 {
-        return elaborate_sized::<768, 512>(text, kinds, starts, numbers, list, lookup, out);
+        return elaborate_sized::<768, 512>(&tokens, list, lookup, out);
     }
-    elaborate_sized::<2513, 2048>(text, kinds, starts, numbers, list, lookup, out)
+    elaborate_sized::<2513, 2048>(&tokens, list, lookup, out)
 }

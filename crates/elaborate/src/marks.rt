@@ -28,119 +28,95 @@ fn letters(q: &[u8]) -> &[u8]
     q
 }
 
-// The name at a place; no letters where there is none.
-fn word<'a>(text: &'a [u8], kinds: &[u8], starts: &[u16], i: usize) -> &'a [u8]
-    ensures { result.now ≡ name_in text.now kinds.now starts.now i }
-{
-    if kinds.len() <= i {
-        return &text[..0];
-    }
-    if kinds[i] != 0 {
-        return &text[..0];
-    }
-    letters(kinds::tail(text, kinds::size_at(starts, i)))
+// A text's tokens: their kinds, where they start, and the codes of the names.
+#[derive(Clone, Copy)]
+pub struct Tokens<'a> {
+    pub text: &'a [u8],
+    pub kinds: &'a [u8],
+    pub starts: &'a [u16],
+    pub numbers: &'a [u64],
+    ghost few: { length kinds.now < 4000 },
+    ghost numbered: { length kinds.now ≤ length numbers.now },
+    ghost coded: { Coded text.now (table kinds.now starts.now numbers.now) (length kinds.now) },
 }
 
-// Whether two places with names have one name.
-fn same_names(
-    text: &[u8],
-    kinds: &[u8],
-    starts: &[u16],
-    numbers: &[u64],
-    i: usize,
-    j: usize,
-) -> bool
-    requires { (i < length numbers.now) × (j < length numbers.now)
-        × Spelt (name_in text.now kinds.now starts.now i) (get_or numbers.now i 0)
-        × Spelt (name_in text.now kinds.now starts.now j) (get_or numbers.now j 0) }
-    ensures { result ≡ same_word (name_in text.now kinds.now starts.now i)
-        (name_in text.now kinds.now starts.now j) }
-{
-    let code = numbers[i];
-    if numbers[j] != code {
-        return false;
-    }
-    if code < LONG {
-        return true;
-    }
-    word(text, kinds, starts, i) == word(text, kinds, starts, j)
-}
+impl<'a> Tokens<'a> {
+    ghost use Rattle.elaborate.specs.Texts.{name_of};
 
-// The number of an earlier place with the name at i, 0 where there is none.
-fn earlier(
-    text: &[u8],
-    kinds: &[u8],
-    starts: &[u16],
-    numbers: &[u64],
-    index: &[u16],
-    ids: &[u16],
-    i: usize,
-) -> usize
-    requires { (i < length kinds.now) × (length kinds.now ≤ length numbers.now) × (get_or kinds.now i 0 ≡ 0)
-        × Coded text.now (table kinds.now starts.now numbers.now) (length kinds.now)
-        × Numbering (name_in text.now kinds.now starts.now) i (take 512 index.now) (drop 512 index.now) ids.now }
-    ensures { (f : Numbering (name_in text.now kinds.now starts.now) i
-        (take 512 index.now) (drop 512 index.now) ids.now)
-        → Met (name_in text.now kinds.now starts.now) ids.now i f.places result }
-{
-    let mut link = kinds::size_at(index, buckets::bucket(numbers[i]));
-    while 0 < link {
-        let at = link - 1;
-        if same_names(text, kinds, starts, numbers, at, i) {
-            return kinds::size_at(ids, at);
+    // The name at a place; no letters where there is none.
+    fn word(&self, i: usize) -> &'a [u8]
+        ensures { result.now ≡ name_of self.now i }
+    {
+        if self.kinds.len() <= i {
+            return &self.text[..0];
         }
-        link = kinds::size_at(index, 512 + at);
+        if self.kinds[i] != 0 {
+            return &self.text[..0];
+        }
+        letters(kinds::tail(self.text, kinds::size_at(self.starts, i)))
     }
-    0
-}
 
-// The number of the token at i, if it is a name: that of an earlier place with the name, or one more than its own place.
-fn enter(
-    text: &[u8],
-    kinds: &[u8],
-    starts: &[u16],
-    numbers: &[u64],
-    index: &mut [u16],
-    ids: &mut [u16],
-    i: usize,
-)
-    requires i_in_bounds { (i < length kinds.now) × (length kinds.now < 4000) × (length kinds.now ≤ length numbers.now)
-        × Coded text.now (table kinds.now starts.now numbers.now) (length kinds.now) }
-    requires i_in_bounds_2 { (512 + i < length index.old) × (i < length ids.old)
-        × Numbering (name_in text.now kinds.now starts.now) i (take 512 index.old) (drop 512 index.old) ids.old }
-    ensures { Numbering (name_in text.now kinds.now starts.now) (i + 1)
-        (take 512 index.new) (drop 512 index.new) ids.new }
-{
-    if kinds[i] != 0 {
-        return;
+    // Whether two places with names have one name.
+    fn same_names(&self, i: usize, j: usize) -> bool
+        requires { (i < length self.now.numbers.now) × (j < length self.now.numbers.now)
+            × Spelt (name_of self.now i) (get_or self.now.numbers.now i 0)
+            × Spelt (name_of self.now j) (get_or self.now.numbers.now j 0) }
+        ensures { result ≡ same_word (name_of self.now i) (name_of self.now j) }
+    {
+        let code = self.numbers[i];
+        if self.numbers[j] != code {
+            return false;
+        }
+        if code < LONG {
+            return true;
+        }
+        self.word(i) == self.word(j)
     }
-    let id = earlier(text, kinds, starts, numbers, index, ids, i);
-    if id != 0 {
-        ids[i] = id as u16;
-        return;
-    }
-    buckets::put(index, buckets::bucket(numbers[i]), i, i);
-    ids[i] = (i + 1) as u16;
-}
 
-// Numbers the names, with a table for the first place of each: two places have the same number where they have the same name, and 0 where they have none.
-pub(crate) fn number(
-    text: &[u8],
-    kinds: &[u8],
-    starts: &[u16],
-    numbers: &[u64],
-    index: &mut [u16],
-    ids: &mut [u16],
-)
-    requires kinds_len_bound { (length kinds.now < 4000) × (length kinds.now ≤ length numbers.now)
-        × Coded text.now (table kinds.now starts.now numbers.now) (length kinds.now) }
-    requires kinds_in_bounds { (512 + length kinds.now ≤ length index.old) × (length kinds.now ≤ length ids.old)
-        × ((h : ℕ) → get_or index.old h 0 ≡ 0) × ((h : ℕ) → get_or ids.old h 0 ≡ 0) }
-    ensures { Numbered (name_in text.now kinds.now starts.now)
-        (length kinds.now) ids.new }
-{
-    for i in 0..kinds.len() {
-        enter(text, kinds, starts, numbers, index, ids, i);
+    // The number of an earlier place with the name at i.
+    fn earlier(&self, index: &[u16], ids: &[u16], i: usize) -> Option<u16>
+        requires { (i < length self.now.kinds.now) × (i < length ids.now) × (get_or self.now.kinds.now i 0 ≡ 0)
+            × Numbering (name_of self.now) i (take 512 index.now) (drop 512 index.now) ids.now }
+        ensures { (f : Numbering (name_of self.now) i (take 512 index.now) (drop 512 index.now) ids.now) → Met (name_of self.now) ids.now i f.places result }
+    {
+        let mut link = kinds::size_at(index, buckets::bucket(self.numbers[i]));
+        while 0 < link {
+            let at = link - 1;
+            if self.same_names(at, i) {
+                return Some(ids[at]);
+            }
+            link = kinds::size_at(index, 512 + at);
+        }
+        None
+    }
+
+    // The number of the token at i, if it is a name: that of an earlier place with the name, or one more than its own place.
+    fn enter(&self, index: &mut [u16], ids: &mut [u16], i: usize)
+        requires { (i < length self.now.kinds.now) × (512 + i < length index.old) × (i < length ids.old)
+            × Numbering (name_of self.now) i (take 512 index.old) (drop 512 index.old) ids.old }
+        ensures { Numbering (name_of self.now) (i + 1) (take 512 index.new) (drop 512 index.new) ids.new }
+    {
+        if self.kinds[i] != 0 {
+            return;
+        }
+        if let Some(id) = self.earlier(index, ids, i) {
+            ids[i] = id;
+            return;
+        }
+        buckets::put(index, buckets::bucket(self.numbers[i]), i, i);
+        ids[i] = (i + 1) as u16;
+    }
+
+    // Numbers the names, with a table for the first place of each: two places have the same number where they have the same name, and 0 where they have
+    // none.
+    pub(crate) fn number(&self, index: &mut [u16], ids: &mut [u16])
+        requires { (512 + length self.now.kinds.now ≤ length index.old) × (length self.now.kinds.now ≤ length ids.old)
+            × ((h : ℕ) → get_or index.old h 0 ≡ 0) × ((h : ℕ) → get_or ids.old h 0 ≡ 0) }
+        ensures { Numbered (name_of self.now) (length self.now.kinds.now) ids.new }
+    {
+        for i in 0..self.kinds.len() {
+            self.enter(index, ids, i);
+        }
     }
 }
 
