@@ -1,7 +1,7 @@
 // The walks of the variables that some bytes bind: all rows of their relations.
 #![tactic(auto)]
 
-ghost use Rattle.std.specs.Prelude.{◌≡◌, ◌≤◌, set, cond};
+ghost use Rattle.std.specs.Prelude.{◌≡◌, ◌≤◌, set};
 ghost use Rattle.walks.specs.Walks.{Fits};
 ghost use Rattle.scans.specs.Flat.{bound_by, flat_bindings};
 ghost use Rattle.allrows.specs.Filled.{written, whole_of, filled_by};
@@ -9,25 +9,13 @@ ghost use Rattle.allrows.specs.Filled.{written, whole_of, filled_by};
 use scans::Bound;
 use walks::Walk;
 
-fn wide(x: u8) -> usize
-    ensures { result ≡ x }
-{
-    x as usize
-}
-
-fn narrow(x: usize) -> u16
-    requires { x ≤ 65535 }
-    ensures { result ≡ x }
-{
-    x as u16
-}
-
+// A cell of the table; past its end nothing. By index: what is written through get_mut is not known afterwards.
 fn store(walks: &mut [u16], i: usize, x: usize)
     requires { x ≤ 65535 }
     ensures { walks.new ≡ set walks.old i x }
 {
     if i < walks.len() {
-        walks[i] = narrow(x);
+        walks[i] = x as u16;
     }
 }
 
@@ -36,19 +24,12 @@ pub fn put(walks: &mut [u16], variable: u8, walk: Walk)
     requires { Fits walk }
     ensures { walks.new ≡ written walks.old variable walk }
 {
-    let i = 8 * wide(variable);
+    let i = 8 * usize::from(variable);
     store(walks, i, walk.start);
     store(walks, i + 1, walk.count);
     store(walks, i + 2, walk.base % 65536);
     store(walks, i + 3, walk.base / 65536);
     store(walks, i + 4, walk.width);
-}
-
-// Where the walk of all rows of a relation starts: 0 stands for the first row, 1 for the last.
-fn start_of(latest: bool) -> usize
-    ensures { (result ≡ cond latest 1 0) × (result ≤ 1) }
-{
-    if latest { 1 } else { 0 }
 }
 
 // All rows of a relation.
@@ -57,12 +38,11 @@ pub fn whole(catalogue: &[u8], relation: u8) -> Walk
     ensures fits { Fits result }
 {
     let known = catalogue::entry(catalogue, relation);
-    let base = catalogue::base(catalogue, relation);
-    let start = start_of(known.latest);
     Walk {
-        start,
+        // 0 stands for the first row, 1 for the last.
+        start: usize::from(known.latest),
         count: known.rows,
-        base,
+        base: catalogue::base(catalogue, relation),
         width: known.attributes,
     }
 }

@@ -11,13 +11,6 @@ pub fn bucket(code: u64) -> usize
     (code % 512) as usize
 }
 
-fn narrow(x: usize) -> u16
-    requires { x < 65536 }
-    ensures { result ≡ x }
-{
-    x as u16
-}
-
 // A place at the front of its bucket's chain; its slot leads to the place before it.
 pub fn put(index: &mut [u16], bucket: usize, slot: usize, place: usize)
     requires { (bucket < 512) × (512 + slot < length index.old) × (place < 65535) }
@@ -25,5 +18,5 @@ pub fn put(index: &mut [u16], bucket: usize, slot: usize, place: usize)
     ensures index_after_2 { drop 512 index.new ≡ set (drop 512 index.old) slot (get_or (take 512 index.old) bucket 0) }
 {
     index[512 + slot] = index[bucket];
-    index[bucket] = narrow(place + 1);
+    index[bucket] = (place + 1) as u16;
 }

@@ -4,7 +4,7 @@
 
 pub mod scope;
 
-ghost use Rattle.std.specs.Prelude.{◌≡◌, true, false, ◌&&◌, ◌+◌, ◌≤◌, ◌<◌, length, drop};
+ghost use Rattle.std.specs.Prelude.{◌≡◌, true, false, ◌+◌, ◌≤◌, ◌<◌, length, drop};
 ghost use Rattle.sizes.specs.Measured.{store, leaves, condition_table, term_table};
 ghost use Rattle.conditions.specs.Reach.{scope_of, shape_in};
 ghost use Rattle.conditions.specs.Answers.{reading, grown, bytes_of, kept, condition_reading, term_reading};
@@ -17,18 +17,6 @@ use kinds::{ConditionRecord, TermRecord};
 pub struct Reading {
     pub length: usize,
     pub inside: bool,
-}
-
-impl Reading {
-    // The same, in scope only where something more holds too.
-    fn only_if(self, known: bool) -> Reading
-        ensures { result ≡ record { length = self.length; inside = known && self.inside } }
-    {
-        Reading {
-            length: self.length,
-            inside: known && self.inside,
-        }
-    }
 }
 
 // Keeps a size in the table.
@@ -136,12 +124,10 @@ fn conditions(
 {
     let first = condition(q, z, at, level, catalogue, limit, reach)?;
     let second = condition(q, z, at + first.length, level, catalogue, limit, reach)?;
-    let length = first.length + second.length;
-    let both = Reading {
-        length,
-        inside: second.inside,
-    };
-    Some(both.only_if(first.inside))
+    Some(Reading {
+        length: first.length + second.length,
+        inside: first.inside & second.inside,
+    })
 }
 
 // Two terms, one after the other.
@@ -161,12 +147,10 @@ fn terms(
 {
     let first = term(q, z, at, level, catalogue, limit, reach)?;
     let second = term(q, z, at + first.length, level, catalogue, limit, reach)?;
-    let length = first.length + second.length;
-    let both = Reading {
-        length,
-        inside: second.inside,
-    };
-    Some(both.only_if(first.inside))
+    Some(Reading {
+        length: first.length + second.length,
+        inside: first.inside & second.inside,
+    })
 }
 
 // The condition under a SOME or an aggregate: where it stands, the level down to which it is read, and the variable that is bound.
@@ -199,7 +183,11 @@ fn some(
     let inner = condition(q, z, under.at, under.level, catalogue, limit, reach);
     scope::put(reach, under.variable, old);
     let known = scope::known(catalogue, limit, under.variable, relation);
-    Some(inner?.only_if(known))
+    let r = inner?;
+    Some(Reading {
+        length: r.length,
+        inside: known & r.inside,
+    })
 }
 
 // The condition under an aggregate: of the variables in reach only its own reaches it.
@@ -223,7 +211,10 @@ fn aggregate(
     let r = condition(q, z, under.at, under.level, catalogue, limit, &mut inner)?;
     let has = scope::has(catalogue, usize::from(relation), attribute);
     let known = scope::known(catalogue, limit, under.variable, relation);
-    Some(r.only_if(has).only_if(known))
+    Some(Reading {
+        length: r.length,
+        inside: known & (has & r.inside),
+    })
 }
 
 // The term at a place.

@@ -10,8 +10,7 @@ use Rattle.quel.specs.Elaboration.{Symbol, symbol_in, inside, as_byte, constant}
 use Rattle.quel.specs.Writing.{Written, before, Reaches, inner, around, use_of, value_of, some_of}
 use Rattle.kinds.specs.declared.Record.{Record}
 use Rattle.kinds.specs.declared.Record.TheVariants as R
-use Rattle.names.specs.declared.Found.{Found}
-use Rattle.names.specs.declared.Found.TheVariants as F
+use Rattle.names.specs.Answers.{Found}
 use Rattle.elaborate.specs.declared.reach.Known.{Known}
 use Rattle.elaborate.specs.Reach.{known_of}
 
@@ -69,8 +68,8 @@ module _ (es : List Entry) where
 
 -- the first number that an answer of the name list says
 abbrev pub number_of : Found → P.Option ℕ
-number_of F.Nothing = None
-number_of (F.Of n a b c) = Some n
+number_of None = None
+number_of (Some m) = Some m.0
 
 -- the record of a token, or a name that says nothing
 abbrev pub use_by : ℕ → Option ℕ → P.Option Record

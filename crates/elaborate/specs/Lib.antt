@@ -7,6 +7,7 @@ pub mod Tallies
 pub mod Frames
 pub mod Lookup
 pub mod Places
+pub mod Texts
 pub mod Numbers
 pub mod Modes
 pub mod Actions

@@ -1,5 +1,5 @@
 -- Names as numbers, 0 for none, and tables of marks by these numbers. w says the name at each place, no letters where there is none.
-use Rattle.std.specs.Prelude.{ℕ, ◌≤◌, ◌<◌, Bool, true, false, not, cond, List, ◌⊎◌, ◌≡◌, eqb, length, get_or, set}
+use Rattle.std.specs.Prelude.{ℕ, ◌≤◌, ◌<◌, Bool, true, false, not, cond, List, ◌≡◌, eqb, length, get_or, set, Option, Some, None}
 use Rattle.model.specs.Lists.{any, Every}
 use Rattle.quel.specs.Results.{Word, same_word, has_word}
 use Rattle.tokens.specs.Table.{Table}
@@ -32,8 +32,9 @@ pub record Earlier (w : ℕ → Word) (ids : List ℕ) (i r : ℕ) : Type 0 wher
   pub name : w place ≡ w i
   pub number : r ≡ get_or ids place 0
 
-abbrev pub Met : (ℕ → Word) → List ℕ → ℕ → List ℕ → ℕ → Type 0
-Met w ids i xs r = ((r ≡ 0) × (any (λ (x : ℕ). same_word (w x) (w i)) xs ≡ false)) ⊎ Earlier w ids i r
+abbrev pub Met : (ℕ → Word) → List ℕ → ℕ → List ℕ → Option ℕ → Type 0
+Met w ids i xs None = any (λ (x : ℕ). same_word (w x) (w i)) xs ≡ false
+Met w ids i xs (Some r) = Earlier w ids i r
 
 -- whether the name at x is marked
 abbrev pub marked : List ℕ → List ℕ → ℕ → Bool

@@ -3,12 +3,13 @@ ghost use Rattle.std.specs.Prelude.{◌≡◌, true, false, cond, List, ℕ, ◌
 ghost use Rattle.quel.specs.Names.{Entry};
 ghost use Rattle.names.specs.Entries.{entries};
 ghost use Rattle.names.specs.Search.{Indexed};
-ghost use Rattle.elaborate.specs.Lookup.{chains_in, ids_in};
+ghost use Rattle.elaborate.specs.Lookup.{ids_of, Listed};
 ghost use Rattle.elaborate.specs.Reach.{mode_in, used_in, Bound};
 ghost use Rattle.elaborate.specs.Tables.{Clear};
 ghost use Rattle.elaborate.specs.Tallies.{Adds, Fills, Counts, Most};
 
-use crate::{ahead, frames, items, lookups};
+use crate::lookups::Lookup;
+use crate::{ahead, frames};
 use names::Sort;
 
 // The relation whose parentheses are open, the next variable's number, and where to write.
@@ -49,13 +50,13 @@ fn settle(known: &mut [u64], x: usize, e: u64)
 }
 
 // A symbol of the relation r, at token i.
-fn symbol(lookup: &[u16], known: &mut [u64], out: &mut [u8], s: Tally, r: u8, i: usize) -> Tally
-    requires { (i < 4000) × (s.n < 4000) × (s.at < 4611686018427387904) × (s.relation ≡ Some r) × (get_or (ids_in lookup.now) i 0 < length known.old) }
-    ensures by_index { (marks codes : List ℕ) (es : List Entry) (cs : List Bound) → Adds (ids_in lookup.now) marks codes es i s cs
+fn symbol(lookup: &Lookup, known: &mut [u64], out: &mut [u8], s: Tally, r: u8, i: usize) -> Tally
+    requires { (i < 4000) × (s.n < 4000) × (s.at < 4611686018427387904) × (s.relation ≡ Some r) × (get_or (ids_of lookup.now) i 0 < length known.old) }
+    ensures by_index { (marks codes : List ℕ) (es : List Entry) (cs : List Bound) → Adds (ids_of lookup.now) marks codes es i s cs
         known.old out.old (Some result) known.new out.new }
     ensures counts { Counts s (Some result) }
 {
-    let x = lookups::id_at(lookup, i);
+    let x = lookup.id_at(i);
     let used = is_used(known, x);
     let v = (s.n % 256) as u8;
     settle(known, x, frames::pack(entered(used), r, v, 0));
@@ -71,26 +72,18 @@ fn symbol(lookup: &[u16], known: &mut [u64], out: &mut [u8], s: Tally, r: u8, i:
 }
 
 // A name: a relation's, or a symbol in its parentheses; none where the relation is unknown.
-fn name(
-    lookup: &[u16],
-    numbers: &[u64],
-    list: &[u8],
-    known: &mut [u64],
-    out: &mut [u8],
-    s: Tally,
-    i: usize,
-) -> Option<Tally>
-    requires { (i < 4000) × (s.n < 4000) × (s.at < 4611686018427387904) × (get_or (ids_in lookup.now) i 0 < length known.old)
-        × Indexed list.now (chains_in lookup.now) }
-    ensures by_index { (marks : List ℕ) (cs : List Bound) → Adds (ids_in lookup.now) marks numbers.now (entries list.now) i s cs
+fn name(lookup: &Lookup, known: &mut [u64], out: &mut [u8], s: Tally, i: usize) -> Option<Tally>
+    requires { (i < 4000) × (s.n < 4000) × (s.at < 4611686018427387904) × (get_or (ids_of lookup.now) i 0 < length known.old)
+        × Listed lookup.now }
+    ensures by_index { (marks : List ℕ) (cs : List Bound) → Adds (ids_of lookup.now) marks lookup.now.numbers.now (entries lookup.now.list.now) i s cs
         known.old out.old result known.new out.new }
     ensures counts { Counts s result }
 {
     if let Some(r) = s.relation {
         return Some(symbol(lookup, known, out, s, r, i));
     }
-    let code = items::code(lookup, numbers, i);
-    let relation = items::numbered(lookup, list, Sort::Relation, code)?;
+    let code = lookup.code(i);
+    let relation = lookup.numbered(Sort::Relation, code)?;
     Some(Tally {
         relation: Some(relation),
         ..s
@@ -114,15 +107,13 @@ fn passed(kind: u8, s: Tally) -> Tally
 // Enters the symbols of the RANGE list, and writes its records; names that are used are marked. None where a relation is unknown.
 pub(crate) fn bind(
     kinds: &[u8],
-    lookup: &[u16],
-    numbers: &[u64],
-    list: &[u8],
+    lookup: &Lookup,
     known: &mut [u64],
     out: &mut [u8],
 ) -> Option<Tally>
     requires { (length kinds.now < 4000) × (length kinds.now < length known.old)
-        × ((x : ℕ) → get_or (ids_in lookup.now) x 0 ≤ length kinds.now) × Clear known.old × Indexed list.now (chains_in lookup.now) }
-    ensures fills { Fills kinds.now (ids_in lookup.now) known.old numbers.now (entries list.now)
+        × ((x : ℕ) → get_or (ids_of lookup.now) x 0 ≤ length kinds.now) × Clear known.old × Listed lookup.now }
+    ensures fills { Fills kinds.now (ids_of lookup.now) known.old lookup.now.numbers.now (entries lookup.now.list.now)
         out.old result known.new out.new }
     ensures most { Most (length kinds.now) result }
 {
@@ -136,7 +127,7 @@ pub(crate) fn bind(
             return Some(s);
         }
         if kind == 0 {
-            s = name(lookup, numbers, list, known, out, s, i)?;
+            s = name(lookup, known, out, s, i)?;
             continue;
         }
         s = passed(kind, s);

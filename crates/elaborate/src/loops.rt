@@ -3,12 +3,13 @@ ghost use Rattle.std.specs.Prelude.{◌≡◌, List, ℕ, ◌+◌, ◌<◌, ◌�
 ghost use Rattle.quel.specs.Elaboration.{Symbol};
 ghost use Rattle.names.specs.Entries.{entries};
 ghost use Rattle.names.specs.Search.{Indexed};
-ghost use Rattle.elaborate.specs.Lookup.{chains_in, ids_in};
+ghost use Rattle.elaborate.specs.Lookup.{ids_of, Listed};
 ghost use Rattle.elaborate.specs.Places.{table, name_in};
 ghost use Rattle.elaborate.specs.Tables.{Named, Holds};
 ghost use Rattle.elaborate.specs.Counts.{Counted};
 ghost use Rattle.elaborate.specs.Ends.{Ends, Last};
 
+use crate::lookups::Lookup;
 use crate::modes::Mode;
 use crate::turns;
 use crate::turns::State;
@@ -25,9 +26,7 @@ pub struct Start {
 // Writes the records of the tokens from a place on, with the RANGE list's frame open, and returns the place after them, unless a name is unknown or
 // out of reach.
 pub(crate) fn run(
-    lookup: &[u16],
-    numbers: &[u64],
-    list: &[u8],
+    lookup: &Lookup,
     counts: &mut [u64],
     known: &mut [u64],
     out: &mut [u8],
@@ -35,12 +34,12 @@ pub(crate) fn run(
 ) -> Option<usize>
     requires end_bound { (start.end < 4000) × (start.end < length counts.old) × (0 < start.end → 1 ≤ start.first)
         × (start.first < 4003) × (start.n < 4000) × (start.at < 4611686018427387904) }
-    requires by_index { ((x : ℕ) → get_or (ids_in lookup.now) x 0 < 8192) × ((x : ℕ) → get_or (ids_in lookup.now) x 0 < length known.old)
-        × ((y : ℕ) → get_or known.old y 0 < 68719476736) × Indexed list.now (chains_in lookup.now) }
+    requires by_index { ((x : ℕ) → get_or (ids_of lookup.now) x 0 < 8192) × ((x : ℕ) → get_or (ids_of lookup.now) x 0 < length known.old)
+        × ((y : ℕ) → get_or known.old y 0 < 68719476736) × Listed lookup.now }
     ensures by_index_2 { (text ks ss : List ℕ) (ρ : List Symbol) → length ks ≡ start.end → Counted ks counts.old 0
-        → Named (name_in text ks ss) (ids_in lookup.now) numbers.now
-        → Holds (name_in text ks ss) (ids_in lookup.now) known.old 0 0 ρ
-        → Ends text (table ks ss numbers.now) (entries list.now) ρ start.first start.at start.n
+        → Named (name_in text ks ss) (ids_of lookup.now) lookup.now.numbers.now
+        → Holds (name_in text ks ss) (ids_of lookup.now) known.old 0 0 ρ
+        → Ends text (table ks ss lookup.now.numbers.now) (entries lookup.now.list.now) ρ start.first start.at start.n
         out.old result out.new }
     ensures last { Last start.at result }
 {
@@ -54,7 +53,7 @@ pub(crate) fn run(
         at: start.at,
     };
     while s.i < start.end {
-        s = turns::turn(lookup, numbers, list, counts, known, out, s)?;
+        s = turns::turn(lookup, counts, known, out, s)?;
     }
     Some(s.at)
 }

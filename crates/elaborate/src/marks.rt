@@ -6,12 +6,12 @@ ghost use Rattle.quel.specs.Lexical.{first};
 ghost use Rattle.tokens.specs.Codes.{Spelt, Coded};
 ghost use Rattle.flat.specs.Flat.{binders, main_of, last_of};
 ghost use Rattle.flat.specs.Flat as F;
-ghost use Rattle.elaborate.specs.Lookup.{ids_in};
+ghost use Rattle.elaborate.specs.Lookup.{ids_of};
 ghost use Rattle.elaborate.specs.Places.{table, tokens_from, name_in, point_in, use_in, depth_kind, part_kind, bound_place, binds_kind};
 ghost use Rattle.elaborate.specs.Numbers.{Numbered, Numbering, Met, Seen, Told, Noted, Used};
 ghost use Rattle.elaborate.specs.Tables.{Clear};
 
-use crate::lookups;
+use crate::lookups::Lookup;
 
 // The code of every word of more than twelve letters.
 const LONG: u64 = 288_230_376_151_711_744;
@@ -28,119 +28,95 @@ fn letters(q: &[u8]) -> &[u8]
     q
 }
 
-// The name at a place; no letters where there is none.
-fn word<'a>(text: &'a [u8], kinds: &[u8], starts: &[u16], i: usize) -> &'a [u8]
-    ensures { result.now ≡ name_in text.now kinds.now starts.now i }
-{
-    if kinds.len() <= i {
-        return &text[..0];
-    }
-    if kinds[i] != 0 {
-        return &text[..0];
-    }
-    letters(kinds::tail(text, kinds::size_at(starts, i)))
+// A text's tokens: their kinds, where they start, and the codes of the names.
+#[derive(Clone, Copy)]
+pub struct Tokens<'a> {
+    pub text: &'a [u8],
+    pub kinds: &'a [u8],
+    pub starts: &'a [u16],
+    pub numbers: &'a [u64],
+    ghost few: { length kinds.now < 4000 },
+    ghost numbered: { length kinds.now ≤ length numbers.now },
+    ghost coded: { Coded text.now (table kinds.now starts.now numbers.now) (length kinds.now) },
 }
 
-// Whether two places with names have one name.
-fn same_names(
-    text: &[u8],
-    kinds: &[u8],
-    starts: &[u16],
-    numbers: &[u64],
-    i: usize,
-    j: usize,
-) -> bool
-    requires { (i < length numbers.now) × (j < length numbers.now)
-        × Spelt (name_in text.now kinds.now starts.now i) (get_or numbers.now i 0)
-        × Spelt (name_in text.now kinds.now starts.now j) (get_or numbers.now j 0) }
-    ensures { result ≡ same_word (name_in text.now kinds.now starts.now i)
-        (name_in text.now kinds.now starts.now j) }
-{
-    let code = numbers[i];
-    if numbers[j] != code {
-        return false;
-    }
-    if code < LONG {
-        return true;
-    }
-    word(text, kinds, starts, i) == word(text, kinds, starts, j)
-}
+impl<'a> Tokens<'a> {
+    ghost use Rattle.elaborate.specs.Texts.{name_of};
 
-// The number of an earlier place with the name at i, 0 where there is none.
-fn earlier(
-    text: &[u8],
-    kinds: &[u8],
-    starts: &[u16],
-    numbers: &[u64],
-    index: &[u16],
-    ids: &[u16],
-    i: usize,
-) -> usize
-    requires { (i < length kinds.now) × (length kinds.now ≤ length numbers.now) × (get_or kinds.now i 0 ≡ 0)
-        × Coded text.now (table kinds.now starts.now numbers.now) (length kinds.now)
-        × Numbering (name_in text.now kinds.now starts.now) i (take 512 index.now) (drop 512 index.now) ids.now }
-    ensures { (f : Numbering (name_in text.now kinds.now starts.now) i
-        (take 512 index.now) (drop 512 index.now) ids.now)
-        → Met (name_in text.now kinds.now starts.now) ids.now i f.places result }
-{
-    let mut link = kinds::size_at(index, buckets::bucket(numbers[i]));
-    while 0 < link {
-        let at = link - 1;
-        if same_names(text, kinds, starts, numbers, at, i) {
-            return kinds::size_at(ids, at);
+    // The name at a place; no letters where there is none.
+    fn word(&self, i: usize) -> &'a [u8]
+        ensures { result.now ≡ name_of self.now i }
+    {
+        if self.kinds.len() <= i {
+            return &self.text[..0];
         }
-        link = kinds::size_at(index, 512 + at);
+        if self.kinds[i] != 0 {
+            return &self.text[..0];
+        }
+        letters(kinds::tail(self.text, kinds::size_at(self.starts, i)))
     }
-    0
-}
 
-// The number of the token at i, if it is a name: that of an earlier place with the name, or one more than its own place.
-fn enter(
-    text: &[u8],
-    kinds: &[u8],
-    starts: &[u16],
-    numbers: &[u64],
-    index: &mut [u16],
-    ids: &mut [u16],
-    i: usize,
-)
-    requires i_in_bounds { (i < length kinds.now) × (length kinds.now < 4000) × (length kinds.now ≤ length numbers.now)
-        × Coded text.now (table kinds.now starts.now numbers.now) (length kinds.now) }
-    requires i_in_bounds_2 { (512 + i < length index.old) × (i < length ids.old)
-        × Numbering (name_in text.now kinds.now starts.now) i (take 512 index.old) (drop 512 index.old) ids.old }
-    ensures { Numbering (name_in text.now kinds.now starts.now) (i + 1)
-        (take 512 index.new) (drop 512 index.new) ids.new }
-{
-    if kinds[i] != 0 {
-        return;
+    // Whether two places with names have one name.
+    fn same_names(&self, i: usize, j: usize) -> bool
+        requires { (i < length self.now.numbers.now) × (j < length self.now.numbers.now)
+            × Spelt (name_of self.now i) (get_or self.now.numbers.now i 0)
+            × Spelt (name_of self.now j) (get_or self.now.numbers.now j 0) }
+        ensures { result ≡ same_word (name_of self.now i) (name_of self.now j) }
+    {
+        let code = self.numbers[i];
+        if self.numbers[j] != code {
+            return false;
+        }
+        if code < LONG {
+            return true;
+        }
+        self.word(i) == self.word(j)
     }
-    let id = earlier(text, kinds, starts, numbers, index, ids, i);
-    if id != 0 {
-        ids[i] = id as u16;
-        return;
-    }
-    buckets::put(index, buckets::bucket(numbers[i]), i, i);
-    ids[i] = (i + 1) as u16;
-}
 
-// Numbers the names, with a table for the first place of each: two places have the same number where they have the same name, and 0 where they have none.
-pub(crate) fn number(
-    text: &[u8],
-    kinds: &[u8],
-    starts: &[u16],
-    numbers: &[u64],
-    index: &mut [u16],
-    ids: &mut [u16],
-)
-    requires kinds_len_bound { (length kinds.now < 4000) × (length kinds.now ≤ length numbers.now)
-        × Coded text.now (table kinds.now starts.now numbers.now) (length kinds.now) }
-    requires kinds_in_bounds { (512 + length kinds.now ≤ length index.old) × (length kinds.now ≤ length ids.old)
-        × ((h : ℕ) → get_or index.old h 0 ≡ 0) × ((h : ℕ) → get_or ids.old h 0 ≡ 0) }
-    ensures { Numbered (name_in text.now kinds.now starts.now)
-        (length kinds.now) ids.new }
-{
-    for i in 0..kinds.len() {
-        enter(text, kinds, starts, numbers, index, ids, i);
+    // The number of an earlier place with the name at i.
+    fn earlier(&self, index: &[u16], ids: &[u16], i: usize) -> Option<u16>
+        requires { (i < length self.now.kinds.now) × (i < length ids.now) × (get_or self.now.kinds.now i 0 ≡ 0)
+            × Numbering (name_of self.now) i (take 512 index.now) (drop 512 index.now) ids.now }
+        ensures { (f : Numbering (name_of self.now) i (take 512 index.now) (drop 512 index.now) ids.now) → Met (name_of self.now) ids.now i f.places result }
+    {
+        let mut link = kinds::size_at(index, buckets::bucket(self.numbers[i]));
+        while 0 < link {
+            let at = link - 1;
+            if self.same_names(at, i) {
+                return Some(ids[at]);
+            }
+            link = kinds::size_at(index, 512 + at);
+        }
+        None
+    }
+
+    // The number of the token at i, if it is a name: that of an earlier place with the name, or one more than its own place.
+    fn enter(&self, index: &mut [u16], ids: &mut [u16], i: usize)
+        requires { (i < length self.now.kinds.now) × (512 + i < length index.old) × (i < length ids.old)
+            × Numbering (name_of self.now) i (take 512 index.old) (drop 512 index.old) ids.old }
+        ensures { Numbering (name_of self.now) (i + 1) (take 512 index.new) (drop 512 index.new) ids.new }
+    {
+        if self.kinds[i] != 0 {
+            return;
+        }
+        if let Some(id) = self.earlier(index, ids, i) {
+            ids[i] = id;
+            return;
+        }
+        buckets::put(index, buckets::bucket(self.numbers[i]), i, i);
+        ids[i] = (i + 1) as u16;
+    }
+
+    // Numbers the names, with a table for the first place of each: two places have the same number where they have the same name, and 0 where they have
+    // none.
+    pub(crate) fn number(&self, index: &mut [u16], ids: &mut [u16])
+        requires { (512 + length self.now.kinds.now ≤ length index.old) × (length self.now.kinds.now ≤ length ids.old)
+            × ((h : ℕ) → get_or index.old h 0 ≡ 0) × ((h : ℕ) → get_or ids.old h 0 ≡ 0) }
+        ensures { Numbered (name_of self.now) (length self.now.kinds.now) ids.new }
+    {
+        for i in 0..self.kinds.len() {
+            self.enter(index, ids, i);
+        }
     }
 }
 
@@ -196,21 +172,21 @@ fn is_use(kinds: &[u8], d: usize, i: usize) -> bool
 }
 
 // Marks the name at i, if it is used there.
-fn note(kinds: &[u8], lookup: &[u16], used: &mut [u64], d: usize, i: usize)
-    requires { (i < 4000) × (get_or (ids_in lookup.now) i 0 < length used.old) }
-    ensures { Noted (ids_in lookup.now) used.old i (use_in kinds.now d i) used.new }
+fn note(kinds: &[u8], lookup: &Lookup, used: &mut [u64], d: usize, i: usize)
+    requires { (i < 4000) × (get_or (ids_of lookup.now) i 0 < length used.old) }
+    ensures { Noted (ids_of lookup.now) used.old i (use_in kinds.now d i) used.new }
 {
     if is_use(kinds, d, i) {
-        used[lookups::id_at(lookup, i)] = 4;
+        used[lookup.id_at(i)] = 4;
     }
 }
 
 // Marks, by their numbers, the names that tokens from a place on use outside all aggregates, in the table of what they stand for: nothing yet.
-pub(crate) fn uses(kinds: &[u8], lookup: &[u16], from: usize, used: &mut [u64])
-    requires { (length kinds.now < 4000) × (length kinds.now < length used.old) × ((x : ℕ) → get_or (ids_in lookup.now) x 0 ≤ length kinds.now)
+pub(crate) fn uses(kinds: &[u8], lookup: &Lookup, from: usize, used: &mut [u64])
+    requires { (length kinds.now < 4000) × (length kinds.now < length used.old) × ((x : ℕ) → get_or (ids_of lookup.now) x 0 ≤ length kinds.now)
         × ((x : ℕ) → get_or used.old x 0 ≡ 0) }
-    ensures by_index { (text ss ns : List ℕ) → Numbered (name_in text kinds.now ss) (length kinds.now) (ids_in lookup.now)
-        → Used text (table kinds.now ss ns) (ids_in lookup.now) from used.new }
+    ensures by_index { (text ss ns : List ℕ) → Numbered (name_in text kinds.now ss) (length kinds.now) (ids_of lookup.now)
+        → Used text (table kinds.now ss ns) (ids_of lookup.now) from used.new }
     ensures clear { Clear used.new }
 {
     let mut d = 0;
@@ -260,15 +236,15 @@ fn binds(kind: u8, p: u8) -> bool
 }
 
 // Whether the token at i binds no name, or one that is not marked; it is marked then.
-fn once(kinds: &[u8], lookup: &[u16], seen: &mut [u8], p: u8, i: usize) -> bool
-    requires { (i < length kinds.now) × (i < 4000) × ((x : ℕ) → get_or (ids_in lookup.now) x 0 < length seen.old) }
-    ensures { Told kinds.now (ids_in lookup.now) seen.old i
+fn once(kinds: &[u8], lookup: &Lookup, seen: &mut [u8], p: u8, i: usize) -> bool
+    requires { (i < length kinds.now) × (i < 4000) × ((x : ℕ) → get_or (ids_of lookup.now) x 0 < length seen.old) }
+    ensures { Told kinds.now (ids_of lookup.now) seen.old i
         (binds_kind (get_or kinds.now i 0) p) seen.new result }
 {
     if !binds(kinds[i], p) {
         return true;
     }
-    let x = lookups::id_at(lookup, bound_place(kinds, i));
+    let x = lookup.id_at(bound_place(kinds, i));
     if seen[x] != 0 {
         return false;
     }
@@ -277,10 +253,10 @@ fn once(kinds: &[u8], lookup: &[u16], seen: &mut [u8], p: u8, i: usize) -> bool
 }
 
 // Whether no symbol is bound twice, with a table for the marks.
-fn unique_with(kinds: &[u8], lookup: &[u16], seen: &mut [u8]) -> bool
-    requires { (length kinds.now < 4000) × (length kinds.now < length seen.old) × ((x : ℕ) → get_or (ids_in lookup.now) x 0 ≤ length kinds.now)
+fn unique_with(kinds: &[u8], lookup: &Lookup, seen: &mut [u8]) -> bool
+    requires { (length kinds.now < 4000) × (length kinds.now < length seen.old) × ((x : ℕ) → get_or (ids_of lookup.now) x 0 ≤ length kinds.now)
         × ((x : ℕ) → get_or seen.old x 0 ≡ 0) }
-    ensures { (text ss ns : List ℕ) → Numbered (name_in text kinds.now ss) (length kinds.now) (ids_in lookup.now)
+    ensures { (text ss ns : List ℕ) → Numbered (name_in text kinds.now ss) (length kinds.now) (ids_of lookup.now)
         → result ≡ unique_words (binders 0 (tokens_from text (table kinds.now ss ns) 0)) }
 {
     let mut p = 0;
@@ -294,9 +270,9 @@ fn unique_with(kinds: &[u8], lookup: &[u16], seen: &mut [u8]) -> bool
 }
 
 // The same with a table of N marks of its own.
-fn unique_sized<const N: usize>(kinds: &[u8], lookup: &[u16]) -> bool
-    requires { (length kinds.now < N) × (N ≤ 4000) × ((x : ℕ) → get_or (ids_in lookup.now) x 0 ≤ length kinds.now) }
-    ensures { (text ss ns : List ℕ) → Numbered (name_in text kinds.now ss) (length kinds.now) (ids_in lookup.now)
+fn unique_sized<const N: usize>(kinds: &[u8], lookup: &Lookup) -> bool
+    requires { (length kinds.now < N) × (N ≤ 4000) × ((x : ℕ) → get_or (ids_of lookup.now) x 0 ≤ length kinds.now) }
+    ensures { (text ss ns : List ℕ) → Numbered (name_in text kinds.now ss) (length kinds.now) (ids_of lookup.now)
         → result ≡ unique_words (binders 0 (tokens_from text (table kinds.now ss ns) 0)) }
 {
     let mut seen = [0u8; N];
@@ -304,9 +280,9 @@ fn unique_sized<const N: usize>(kinds: &[u8], lookup: &[u16]) -> bool
 }
 
 // Whether no symbol is bound twice: the table is small where the tokens are few.
-pub(crate) fn unique(kinds: &[u8], lookup: &[u16]) -> bool
-    requires { (length kinds.now < 4000) × ((x : ℕ) → get_or (ids_in lookup.now) x 0 ≤ length kinds.now) }
-    ensures { (text ss ns : List ℕ) → Numbered (name_in text kinds.now ss) (length kinds.now) (ids_in lookup.now)
+pub(crate) fn unique(kinds: &[u8], lookup: &Lookup) -> bool
+    requires { (length kinds.now < 4000) × ((x : ℕ) → get_or (ids_of lookup.now) x 0 ≤ length kinds.now) }
+    ensures { (text ss ns : List ℕ) → Numbered (name_in text kinds.now ss) (length kinds.now) (ids_of lookup.now)
         → result ≡ unique_words (binders 0 (tokens_from text (table kinds.now ss ns) 0)) }
 {
     if kinds.len() <= 256 {

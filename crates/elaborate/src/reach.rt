@@ -2,11 +2,12 @@
 ghost use Rattle.std.specs.Prelude.{◌≡◌, List, ℕ};
 ghost use Rattle.quel.specs.Results.{Word};
 ghost use Rattle.quel.specs.Elaboration.{Symbol, symbol_in};
-ghost use Rattle.elaborate.specs.Lookup.{ids_in};
+ghost use Rattle.elaborate.specs.Lookup.{ids_of};
 ghost use Rattle.elaborate.specs.Reach.{relation_in, variable_in, known_of, standing};
 ghost use Rattle.elaborate.specs.Tables.{Holds};
 
-use crate::{ahead, lookups};
+use crate::ahead;
+use crate::lookups::Lookup;
 
 // A symbol: its relation, and its variable where that is in reach.
 #[derive(Clone, Copy)]
@@ -34,9 +35,9 @@ fn decoded(c: u64, crossing: usize) -> Option<Known>
 }
 
 // What the name at x stands for.
-pub(crate) fn seek(lookup: &[u16], known: &[u64], crossing: usize, x: usize) -> Option<Known>
-    ensures { (w : ℕ → Word) (ρ : List Symbol) (d : ℕ) → Holds w (ids_in lookup.now) known.now d crossing ρ → result
+pub(crate) fn seek(lookup: &Lookup, known: &[u64], crossing: usize, x: usize) -> Option<Known>
+    ensures { (w : ℕ → Word) (ρ : List Symbol) (d : ℕ) → Holds w (ids_of lookup.now) known.now d crossing ρ → result
         ≡ known_of (symbol_in (w x) ρ) }
 {
-    decoded(ahead::entry(known, lookups::id_at(lookup, x)), crossing)
+    decoded(ahead::entry(known, lookup.id_at(x)), crossing)
 }

@@ -2,15 +2,16 @@
 ghost use Rattle.std.specs.Prelude.{◌≡◌, ◌||◌, List, ℕ, ◌+◌, ◌-◌, ◌<◌, ◌≤◌, eqb, length, get_or, set};
 ghost use Rattle.quel.specs.Results.{Word};
 ghost use Rattle.quel.specs.Writing.{Reaches, around};
-ghost use Rattle.elaborate.specs.Lookup.{ids_in};
+ghost use Rattle.elaborate.specs.Lookup.{ids_of};
 ghost use Rattle.elaborate.specs.Tables.{Same};
 ghost use Rattle.elaborate.specs.Puts.{reach_after};
 ghost use Rattle.elaborate.specs.Frames.{Stack, Opened, framed_reach};
 ghost use Rattle.elaborate.specs.After.{Fits};
 ghost use Rattle.elaborate.specs.Modes.{action_no};
 
+use crate::lookups::Lookup;
 use crate::modes::Action;
-use crate::{ahead, frames, lookups};
+use crate::{ahead, frames};
 use kinds::Record;
 
 // How many frames are open, and the innermost aggregate's.
@@ -40,7 +41,7 @@ fn push(known: &mut [u64], frames: &mut [u64], r: Reach, x: usize, e: u64)
 
 // The frame of a record at token i: SOME binds the name after it, an aggregate that two tokens on, ( none.
 fn enter(
-    lookup: &[u16],
+    lookup: &Lookup,
     known: &mut [u64],
     frames: &mut [u64],
     r: Reach,
@@ -48,11 +49,11 @@ fn enter(
     i: usize,
 ) -> Reach
     requires { (r.depth < length frames.old) × (r.depth < 8191) × (r.crossing < 8192) × (i < 4000)
-        × ((x : ℕ) → get_or (ids_in lookup.now) x 0 < 8192) × ((x : ℕ) → get_or (ids_in lookup.now) x 0 < length known.old)
+        × ((x : ℕ) → get_or (ids_of lookup.now) x 0 < 8192) × ((x : ℕ) → get_or (ids_of lookup.now) x 0 < length known.old)
         × ((y : ℕ) → get_or known.old y 0 < 68719476736) }
-    ensures by_index { (w : ℕ → Word) (σ : Reaches) → Same w (ids_in lookup.now)
-        → Stack w (ids_in lookup.now) frames.old r.depth r.crossing known.old σ
-        → Stack w (ids_in lookup.now) frames.new result.depth result.crossing known.new
+    ensures by_index { (w : ℕ → Word) (σ : Reaches) → Same w (ids_of lookup.now)
+        → Stack w (ids_of lookup.now) frames.old r.depth r.crossing known.old σ
+        → Stack w (ids_of lookup.now) frames.new result.depth result.crossing known.new
         (framed_reach (w (i + 1)) (w (i + 2)) item σ) }
     ensures depth_value { (result.depth ≡ r.depth + 1) × (result.crossing < 8192) × ((y : ℕ) → get_or known.new y 0 < 68719476736)
         × ((j : ℕ) → r.depth < j → get_or frames.new j 0 ≡ get_or frames.old j 0) }
@@ -60,7 +61,7 @@ fn enter(
     let depth = r.depth;
     match item {
         Record::Some(v, q) => {
-            let x = lookups::id_at(lookup, i + 1);
+            let x = lookup.id_at(i + 1);
             push(known, frames, r, x, frames::pack(1, q, v, depth + 1));
             Reach {
                 depth: depth + 1,
@@ -68,7 +69,7 @@ fn enter(
             }
         }
         Record::Aggregate(_, v, q, _) => {
-            let x = lookups::id_at(lookup, i + 2);
+            let x = lookup.id_at(i + 2);
             push(known, frames, r, x, frames::pack(1, q, v, depth + 1));
             Reach {
                 depth: depth + 1,
@@ -130,7 +131,7 @@ fn closing(a: Action) -> bool
 
 // The reaches after an action with this record at token i.
 pub(crate) fn shift(
-    lookup: &[u16],
+    lookup: &Lookup,
     known: &mut [u64],
     frames: &mut [u64],
     r: Reach,
@@ -139,11 +140,11 @@ pub(crate) fn shift(
     i: usize,
 ) -> Reach
     requires { (r.depth < length frames.old) × (r.depth < 8191) × (r.crossing < 8192) × (i < 4000)
-        × ((x : ℕ) → get_or (ids_in lookup.now) x 0 < 8192) × ((x : ℕ) → get_or (ids_in lookup.now) x 0 < length known.old)
+        × ((x : ℕ) → get_or (ids_of lookup.now) x 0 < 8192) × ((x : ℕ) → get_or (ids_of lookup.now) x 0 < length known.old)
         × ((y : ℕ) → get_or known.old y 0 < 68719476736) }
-    ensures stack { Fits (action_no a) item → (w : ℕ → Word) (σ : Reaches) → Same w (ids_in lookup.now)
-        → Stack w (ids_in lookup.now) frames.old r.depth r.crossing known.old σ
-        → Stack w (ids_in lookup.now) frames.new result.depth result.crossing known.new
+    ensures stack { Fits (action_no a) item → (w : ℕ → Word) (σ : Reaches) → Same w (ids_of lookup.now)
+        → Stack w (ids_of lookup.now) frames.old r.depth r.crossing known.old σ
+        → Stack w (ids_of lookup.now) frames.new result.depth result.crossing known.new
         (reach_after (action_no a) (w (i + 1)) (w (i + 2)) item σ) }
     ensures depth_bound { (result.depth ≤ r.depth + 1) × (result.crossing < 8192) × ((y : ℕ) → get_or known.new y 0 < 68719476736)
         × ((j : ℕ) → r.depth < j → get_or frames.new j 0 ≡ get_or frames.old j 0) }

@@ -4,7 +4,7 @@ ghost use Rattle.std.proofs.lemmas.List.Edits.{sets};
 ghost use Rattle.quel.specs.Writing.{Reaches};
 ghost use Rattle.names.specs.Entries.{entries};
 ghost use Rattle.names.specs.Search.{Indexed};
-ghost use Rattle.elaborate.specs.Lookup.{chains_in, ids_in};
+ghost use Rattle.elaborate.specs.Lookup.{ids_of, Listed};
 ghost use Rattle.elaborate.specs.Places.{table, name_in};
 ghost use Rattle.copier.specs.Copied.{record_bytes};
 ghost use Rattle.elaborate.specs.Tables.{Named};
@@ -16,6 +16,7 @@ ghost use Rattle.elaborate.specs.Frames.{Stack};
 ghost use Rattle.elaborate.specs.After.{Goes, Within};
 
 use crate::items::Scope;
+use crate::lookups::Lookup;
 use crate::modes::{Action, Mode};
 use crate::reaches::Reach;
 use crate::{ahead, items, opens, reaches};
@@ -82,22 +83,20 @@ fn quiet(mode: Mode, a: Action) -> bool
 
 // A turn: the state after it, unless a name is unknown or out of reach. What was counted for the tokens behind is asked for no more: open frames are kept there.
 pub(crate) fn turn(
-    lookup: &[u16],
-    numbers: &[u64],
-    list: &[u8],
+    lookup: &Lookup,
     counts: &mut [u64],
     known: &mut [u64],
     out: &mut [u8],
     s: State,
 ) -> Option<State>
     requires i_bound { (s.i < 4000) × (s.i + 1 < length counts.old) × (s.n < 8000) × (s.at + 8197 < 9223372036854775808) }
-    requires depth_le_i { (s.depth ≤ s.i) × (s.crossing < 8192) × ((x : ℕ) → get_or (ids_in lookup.now) x 0 < 8192)
-        × ((x : ℕ) → get_or (ids_in lookup.now) x 0 < length known.old) × ((y : ℕ) → get_or known.old y 0 < 68719476736)
-        × Indexed list.now (chains_in lookup.now) }
+    requires depth_le_i { (s.depth ≤ s.i) × (s.crossing < 8192) × ((x : ℕ) → get_or (ids_of lookup.now) x 0 < 8192)
+        × ((x : ℕ) → get_or (ids_of lookup.now) x 0 < length known.old) × ((y : ℕ) → get_or known.old y 0 < 68719476736)
+        × Listed lookup.now }
     ensures by_index { (text ks ss : List ℕ) (σ : Reaches) → s.i < length ks → Counted ks counts.old s.i
-        → Named (name_in text ks ss) (ids_in lookup.now) numbers.now
-        → Stack (name_in text ks ss) (ids_in lookup.now) counts.old s.depth s.crossing known.old σ
-        → Goes text (table ks ss numbers.now) (entries list.now) (ids_in lookup.now) s.i s σ
+        → Named (name_in text ks ss) (ids_of lookup.now) lookup.now.numbers.now
+        → Stack (name_in text ks ss) (ids_of lookup.now) counts.old s.depth s.crossing known.old σ
+        → Goes text (table ks ss lookup.now.numbers.now) (entries lookup.now.list.now) (ids_of lookup.now) s.i s σ
         out.old result counts.new known.new out.new }
     ensures within { Within s result }
     ensures by_index_2 { ((y : ℕ) → get_or known.new y 0 < 68719476736)
@@ -122,7 +121,7 @@ pub(crate) fn turn(
         crossing: s.crossing,
         n: s.n,
     };
-    let r = items::item_at(lookup, numbers, list, known, scope)?;
+    let r = items::item_at(lookup, known, scope)?;
     let at = write(out, s.at, s.mode, kind, counts, i, r);
     let held = Reach {
         depth: s.depth,

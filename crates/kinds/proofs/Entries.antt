@@ -1,22 +1,10 @@
 -- What the byte of a kind fixes agrees with the model's kinds.
-use mathlib.Core.Path.{◌≡◌, refl, sym, ap, subst, ◌∙◌}
-use mathlib.Core.Bool.{Bool, true, false, cond, ◌&&◌, ◌||◌}
-use mathlib.Core.List.{List, [], ◌∷◌}
+use mathlib.Core.Path.{◌≡◌, refl}
 use mathlib.Core.Option.{Option, none, some}
 use Prim.Native.Nat.{ℕ, suc, ◌+◌, ◌≤◌}
 use native.Mathlib.Omega.{arith}
-use lib.Dec.{T, eqb, eqb→eq}
-use borrow.Author.Tests.{eqb-true}
-use Rattle.model.specs.Kinds.{Kind, k-range, k-true, k-false, k-not, k-and, k-or, k-compare, k-some, k-constant, k-attribute, k-aggregate, k-permit, kinds, code, body_length, child_conditions, child_terms, find, kind_of}
+use Rattle.model.specs.Kinds.{Kind, k-range, k-true, k-false, k-not, k-and, k-or, k-compare, k-some, k-constant, k-attribute, k-aggregate, k-permit, body_length, child_conditions, child_terms, find, kind_of}
 use Rattle.kinds.specs.Tables.{of_kind, conditions_of, terms_of, record_length}
-
-and_left : (a b : Bool) → T (a && b) → T a
-and_left true b t = tt
-and_left false b t = t
-
-and_right : (a b : Bool) → T (a && b) → T b
-and_right true b t = t
-and_right false b t = absurd t
 
 -- what is said of a byte that names a kind, and of one that names none
 pub of_none : {A : Type 0} (d : A) (f : Kind → A) (b : ℕ) → kind_of b ≡ none → of_kind d f b ≡ d
@@ -26,31 +14,6 @@ of_none d f b e = rw (e, of_kind)
 pub of_some : {A : Type 0} (d : A) (f : Kind → A) (b : ℕ) (x : Kind) → kind_of b ≡ some x → of_kind d f b ≡ f x
 unfolding of_kind
 of_some d f b x e = rw (e, of_kind)
-
--- f says d of a byte that fails a test, where each kind passes the test or has d
-abbrev pub covered : (ℕ → Bool) → ℕ → (Kind → ℕ) → List Kind → Bool
-covered p d f [] = true
-covered p d f (x ∷ xs) = (p (code x) || eqb (f x) d) && covered p d f xs
-
-covered-some : (p : ℕ → Bool) (d : ℕ) (f : Kind → ℕ) (b : ℕ) → p b ≡ false → (xs : List Kind) (x : Kind) → T (covered p d f xs) → find b xs ≡ some x → f x ≡ d
-unfolding find
-covered-some p d f b h [] x t e = absurd (let z : ◌≡◌ {A = Bool} true false = cc in subst T z tt)
-covered-some p d f b h (y ∷ ys) x t e = go (eqb b (code y)) refl e (covered-some p d f b h ys x (and_right (p (code y) || eqb (f y) d) (covered p d f ys) t))
-  where
-    l : T (p (code y) || eqb (f y) d)
-    l = and_left (p (code y) || eqb (f y) d) (covered p d f ys) t
-
-    go : (c : Bool) → eqb b (code y) ≡ c → cond c (some y) (find b ys) ≡ some x → (find b ys ≡ some x → f x ≡ d) → f x ≡ d
-    go true q g k = let z : y ≡ x = cc in subst (λ (w : Kind). f w ≡ d) z (eqb→eq (f y) d (subst (λ (a : Bool). T (a || eqb (f y) d)) (ap p (sym (eqb-true b (code y) q)) ∙ h) l))
-    go false q g k = k g
-
-pub outside : (p : ℕ → Bool) (d : ℕ) (f : Kind → ℕ) (b : ℕ) → p b ≡ false → T (covered p d f kinds) → of_kind d f b ≡ d
-unfolding kind_of
-outside p d f b h t = go (kind_of b) refl
-  where
-    go : (o : Option Kind) → kind_of b ≡ o → of_kind d f b ≡ d
-    go none e = of_none d f b e
-    go (some x) e = of_some d f b x e ∙ covered-some p d f b h kinds x t e
 
 -- a body has at most four bytes
 pub body-small : (x : Kind) → body_length x ≤ 4

@@ -18,6 +18,7 @@ pub struct ChildCounts {
     pub terms: u8,
 }
 
+#[tactic(auto, unfolding(crate::specs::Tables::conditions_of, crate::specs::Tables::terms_of, crate::specs::Tables::of_kind, model::specs::Kinds::kind_of, model::specs::Kinds::find))]
 pub fn child_counts(kind: u8) -> ChildCounts
     ensures { (result.conditions ≡ conditions_of kind) × (result.terms ≡ terms_of kind) }
 {
@@ -31,6 +32,7 @@ pub fn child_counts(kind: u8) -> ChildCounts
 }
 
 // The kind byte and the body; 1 where no record has the kind.
+#[tactic(auto, unfolding(crate::specs::Tables::record_length, crate::specs::Tables::of_kind, model::specs::Kinds::kind_of, model::specs::Kinds::find))]
 pub fn record_length(kind: u8) -> usize
     ensures value { result ≡ record_length kind }
     ensures lower_bound { (1 ≤ result) × (result ≤ 5) }
@@ -118,6 +120,7 @@ fn cut(length: usize, kind: u8) -> bool
 }
 
 // The record that q starts with, for flat walks.
+#[tactic(auto, unfolding(crate::specs::Record::record_at, crate::specs::Tables::record_length, crate::specs::Tables::of_kind, model::specs::Kinds::kind_of, model::specs::Kinds::find))]
 pub fn read(q: &[u8]) -> Record
     ensures { result ≡ record_at q.now }
 {

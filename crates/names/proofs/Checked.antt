@@ -16,7 +16,7 @@ use Rattle.names.specs.Entries.{place_of, width_of, name_at}
 use Rattle.names.specs.Search.{is_named, seek, again, good_code, good_at}
 use Rattle.tokens.specs.Spans.{capped}
 use Rattle.tokens.specs.Kinds.{code_of}
-use Rattle.tokens.proofs.Values.{above}
+use Rattle.names.proofs.Words.{code-some}
 use Rattle.names.proofs.Walk.{name-at}
 use Rattle.names.proofs.Reading.{passes, passes-cons}
 
@@ -24,14 +24,6 @@ use Rattle.names.proofs.Reading.{passes, passes-cons}
 pub padded-room : (x w : List ℕ) (at : ℕ) → is_padded w (drop at x) ≡ true → at + 12 ≤ length x
 unfolding is_padded
 padded-room x w at h = omega (arith, leb-true 12 (length (drop at x)) (and-inv (leb 12 (length (drop at x))) _ h).0, length-drop at x)
-
--- a code is not 0
-code-some : (w : Word) → 1 ≤ capped (code_of w)
-code-some w = go (leb (code_of w) 288230376151711744)
-  where
-    go : (b : Bool) → 1 ≤ cond b (code_of w) 288230376151711744
-    go true = above 1 w
-    go false = omega arith
 
 module _ (x : List ℕ) (at n : ℕ) (en : n ≡ good_code x at) where
   pub letters-none : n ≡ 0 → false ≡ is_padded (name_at x at) (drop at x)

@@ -14,7 +14,7 @@ use Rattle.quel.specs.Names.{Entry, Bytes, relation_named, attribute_named, valu
 use Rattle.names.specs.Entries.{place_of, width_of, name_at, entry_at, entries_after, entries}
 use Rattle.names.specs.Search.{is_named, seek_after, seek}
 use Rattle.names.specs.Answers.{found, valued}
-use Rattle.names.specs.declared.Found.TheVariants.{Of, Nothing}
+use Rattle.std.specs.Prelude.{Some, None}
 
 -- a kind is one of the three, or none of them
 pub by_kind : {X : Type 0} (k : ℕ)
@@ -68,16 +68,19 @@ module _ {A : Type 0} (look : List Entry → Option A) (p : List ℕ → Bool) (
       go (b ∷ q) = lt-ltb 0 (length (b ∷ q)) (omega arith)
 
   -- what is found at a place
-  module _ (x : List ℕ) (at : ℕ) (e : drop at x ≡ seek p x) where
-    pub found_some : at < length x → look (entries x) ≡ some (says (drop at x))
-    found_some h = looked x ∙ ap first (sym e) ∙ go (drop at x) (simp length-drop (omega arith))
+  module _ (x : List ℕ) where
+    pub found_some : (at : ℕ) → drop at x ≡ seek p x → at < length x → look (entries x) ≡ some (says (drop at x))
+    found_some at e h = looked x ∙ ap first (sym e) ∙ go (drop at x) (simp length-drop (omega arith))
       where
         go : (y : List ℕ) → 0 < length y → first y ≡ some (says y)
         go [] l = absurd (omega arith)
         go (b ∷ q) l = refl
 
-    pub found_none : length x ≤ at → look (entries x) ≡ none
-    found_none h = looked x ∙ ap first (sym e ∙ drop_of_length-le x h)
+    pub not-found : [] ≡ seek p x → look (entries x) ≡ none
+    not-found e = looked x ∙ ap first (sym e)
+
+    pub found_none : (at : ℕ) → drop at x ≡ seek p x → length x ≤ at → look (entries x) ≡ none
+    found_none at e h = not-found (sym (drop_of_length-le x h) ∙ e)
 
 -- the test of the specification and of the search
 by-test : {A : Type 0} (t : Bool) (a b : A) → elim t as (λ _. A) [ true ↦ a | false ↦ b ] ≡ cond t a b
@@ -117,28 +120,28 @@ module _ (w : Word) (q : ℕ) (x : List ℕ) (es : List Entry) where
 
 -- the three answers, by the place that the search gives
 module _ (x : List ℕ) (w : Word) (q at : ℕ) where
-  pub relation-none : drop at x ≡ seek (is_named 80 q w) x → length x ≤ at → Nothing ≡ found (relation_named (entries x) w)
+  pub relation-none : [] ≡ seek (is_named 80 q w) x → None ≡ found (relation_named (entries x) w)
   unfolding relation_named
-  relation-none e h = sym (ap found (found_none (λ es. relation_named es w) (is_named 80 q w) (λ y. get_or y 1 0) refl (λ y es. relation-one w q y es) x at e h))
+  relation-none e = sym (ap found (not-found (λ es. relation_named es w) (is_named 80 q w) (λ y. get_or y 1 0) refl (λ y es. relation-one w q y es) x e))
 
-  pub relation-some : (a : ℕ) → drop at x ≡ seek (is_named 80 q w) x → at < length x → a ≡ get_or x (at + 1) 0 → Of a 0 0 0 ≡ found (relation_named (entries x) w)
+  pub relation-some : (a : ℕ) → drop at x ≡ seek (is_named 80 q w) x → at < length x → a ≡ get_or x (at + 1) 0 → Some (a, 0, 0, 0) ≡ found (relation_named (entries x) w)
   unfolding relation_named
-  relation-some a e h ea = ap (λ (n : ℕ). Of n 0 0 0) (ea ∙ sym (get_or-drop at x 1 0)) ∙ sym (ap found (found_some (λ es. relation_named es w) (is_named 80 q w) (λ y. get_or y 1 0) refl (λ y es. relation-one w q y es) x at e h))
+  relation-some a e h ea = ap (λ (n : ℕ). Some (n, 0, 0, 0)) (ea ∙ sym (get_or-drop at x 1 0)) ∙ sym (ap found (found_some (λ es. relation_named es w) (is_named 80 q w) (λ y. get_or y 1 0) refl (λ y es. relation-one w q y es) x at e h))
 
-  pub attribute-none : drop at x ≡ seek (is_named 81 q w) x → length x ≤ at → Nothing ≡ found (attribute_named (entries x) q w)
+  pub attribute-none : [] ≡ seek (is_named 81 q w) x → None ≡ found (attribute_named (entries x) q w)
   unfolding attribute_named
-  attribute-none e h = sym (ap found (found_none (λ es. attribute_named es q w) (is_named 81 q w) (λ y. get_or y 2 0) refl (λ y es. attribute-one w q y es) x at e h))
+  attribute-none e = sym (ap found (not-found (λ es. attribute_named es q w) (is_named 81 q w) (λ y. get_or y 2 0) refl (λ y es. attribute-one w q y es) x e))
 
-  pub attribute-some : (a : ℕ) → drop at x ≡ seek (is_named 81 q w) x → at < length x → a ≡ get_or x (at + 2) 0 → Of a 0 0 0 ≡ found (attribute_named (entries x) q w)
+  pub attribute-some : (a : ℕ) → drop at x ≡ seek (is_named 81 q w) x → at < length x → a ≡ get_or x (at + 2) 0 → Some (a, 0, 0, 0) ≡ found (attribute_named (entries x) q w)
   unfolding attribute_named
-  attribute-some a e h ea = ap (λ (n : ℕ). Of n 0 0 0) (ea ∙ sym (get_or-drop at x 2 0)) ∙ sym (ap found (found_some (λ es. attribute_named es q w) (is_named 81 q w) (λ y. get_or y 2 0) refl (λ y es. attribute-one w q y es) x at e h))
+  attribute-some a e h ea = ap (λ (n : ℕ). Some (n, 0, 0, 0)) (ea ∙ sym (get_or-drop at x 2 0)) ∙ sym (ap found (found_some (λ es. attribute_named es q w) (is_named 81 q w) (λ y. get_or y 2 0) refl (λ y es. attribute-one w q y es) x at e h))
 
-  pub value_none : drop at x ≡ seek (is_named 82 q w) x → length x ≤ at → Nothing ≡ valued (value_named (entries x) w)
+  pub value_none : [] ≡ seek (is_named 82 q w) x → None ≡ valued (value_named (entries x) w)
   unfolding value_named
-  value_none e h = sym (ap valued (found_none (λ es. value_named es w) (is_named 82 q w) bytes_at refl (λ y es. value-one w q y es) x at e h))
+  value_none e = sym (ap valued (not-found (λ es. value_named es w) (is_named 82 q w) bytes_at refl (λ y es. value-one w q y es) x e))
 
   pub value-some : (a b c d : ℕ) → drop at x ≡ seek (is_named 82 q w) x → at < length x → a ≡ get_or x (at + 1) 0 → b ≡ get_or x (at + 2) 0 → c ≡ get_or x (at + 3) 0 → d ≡ get_or x (at + 4) 0
-      → Of a b c d ≡ valued (value_named (entries x) w)
+      → Some (a, b, c, d) ≡ valued (value_named (entries x) w)
   unfolding value_named
   value-some a b c d e h ea eb ec ed =
       rw (ea, eb, ec, ed, sym (get_or-drop at x 1 0), sym (get_or-drop at x 2 0), sym (get_or-drop at x 3 0), sym (get_or-drop at x 4 0))

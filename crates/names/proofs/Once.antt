@@ -4,10 +4,11 @@ use mathlib.Core.Bool.{Bool, true, false, not, cond, ◌&&◌, ◌||◌}
 use mathlib.Core.List.{List, [], ◌∷◌}
 use mathlib.Core.Path.{◌≡◌, refl, sym, ap, ap₂, ◌∙◌, subst}
 use native.Mathlib.Omega.{arith}
+use Rattle.std.specs.Prelude.{zero, suc, Option, Some, None, IfSome, is_some, is_none}
 use lib.Dec.{eqb, leb, ltb}
 use lib.ListN.{length, get_or, set, take, drop, length-drop, drop_of_length-le}
 use lib.Seq.{get_or-drop}
-use borrow.Author.Tests.{eqb-true, le-leb, lt-leb, lt-ltb, le-ltb, leb-true, leb-false}
+use borrow.Author.Tests.{eqb-true, le-leb, lt-ltb, leb-true}
 use Rattle.model.specs.Lists.{any, all, Every}
 use Rattle.model.proofs.Tests.{and-true, and-inv, clash}
 use Rattle.quel.specs.Results.{Word, same_word}
@@ -16,26 +17,22 @@ use Rattle.buckets.specs.Chains.{bucket_of}
 use Rattle.buckets.proofs.Laws.{same_word_lem, every_map, held_low, held-put, held_up, held_none, none-again}
 use Rattle.tokens.specs.Codes.{Spelt}
 use Rattle.tokens.specs.Spans.{capped}
-use Rattle.tokens.specs.Kinds.{code_of}
+use Rattle.tokens.specs.Kinds.{code_of, nonzero}
 use Rattle.tokens.proofs.Places.{run-all}
 use Rattle.quel.specs.Tokens.{is_letter}
 use Rattle.model.proofs.Lists.{first-at}
 use Rattle.names.specs.Entries.{place_of, width_of, name_at}
-use Rattle.names.specs.Search.{good_code, is_named, seek_after, seek, name_of, record_code, like, HeldIn, ChainedIn, listed_before, later, apart, after, Index, Told, IndexedBy}
+use Rattle.names.specs.Search.{good_code, is_named, seek_after, seek, found_at, name_of, record_code, like, HeldIn, ChainedIn, listed_before, later, apart, after, Index, Told, IndexedBy}
 use Rattle.names.proofs.Same.{eqb-turned, same-turned}
 use Rattle.names.proofs.Walk.{place-small, named-of, name-at, rest_at, seek-some, seek-none}
 use Rattle.names.proofs.Reading.{passes, passes_none}
 use Rattle.names.proofs.Checked.{padded-room, letters-some, letters-none, good_of, passes-some}
 
--- a record's letters
+-- the code of a record's letters, by its kind
 module _ (x : List ℕ) (at k : ℕ) (ek : k ≡ get_or x at 0) where
-  pub letters-low : k < 80 → 0 ≡ record_code x at
+  pub letters-other : (leb 80 k && leb k 82) ≡ false → 0 ≡ record_code x at
   unfolding record_code
-  letters-low h = rw (sym ek, lt-leb 80 k h)
-
-  pub letters-high : 82 < k → 0 ≡ record_code x at
-  unfolding record_code
-  letters-high h = rw (sym ek, le-leb 80 k (omega arith), lt-leb k 82 h)
+  letters-other h = rw (sym ek, h)
 
   pub letters-between : (n o : ℕ) → 80 ≤ k → k ≤ 82 → o ≡ place_of k → n ≡ good_code x (at + o) → n ≡ record_code x at
   unfolding record_code
@@ -65,10 +62,28 @@ module _ (x : List ℕ) (at n : ℕ) (en : n ≡ record_code x at) where
           (sym s.0, (s.1, padded-room x (name_of x at) (at + place_of (get_or x at 0)) (sym s.0)))
       go false e = absurd (omega (arith, e))
 
+-- a code that is there
+pub code-there : (n m : ℕ) → Some n ≡ nonzero m → (n ≡ m) × (1 ≤ n)
+code-there n zero e = cc
+code-there n (suc m) e = let q : n ≡ suc m = cc in (q, omega arith)
+
+pub code-gone : (m : ℕ) → None ≡ nonzero m → 0 ≡ m
+code-gone zero e = refl
+code-gone (suc m) e = cc
+
+pub told_none : (o : Option ℕ) (b : Bool) → is_some o ≡ not b → b ≡ is_none o
+told_none None true e = refl
+told_none None false e = clash e
+told_none (Some n) true e = clash (sym e)
+told_none (Some n) false e = refl
+
 -- a good record has its code
 module _ (x : List ℕ) (at n : ℕ) (en : n ≡ record_code x at) (l : 1 ≤ n) where
   pub here-room : at + place_of (get_or x at 0) + 12 ≤ length x
   here-room = (is-well x at n en l).1.1
+
+  pub here-some : 1 ≤ get_or x at 0
+  here-some = omega (arith, leb-true 80 (get_or x at 0) (and-inv (leb 80 (get_or x at 0)) _ (and-inv (leb 80 (get_or x at 0) && leb (get_or x at 0) 82) _ (is-well x at n en l).0).0).0)
 
   pub here-spelt : Spelt (name_of x at) n
   unfolding name_at
@@ -223,15 +238,16 @@ module _ (x : List ℕ) where
         go false b d = refl
 
   -- a search after this record
-  pub past_is : (at k a o n : ℕ) (w : Word) → k ≡ get_or x at 0 → a ≡ get_or x (at + 1) 0 → o ≡ place_of k → w ≡ name_of x at → drop n x ≡ seek (is_named k a w) (drop (at + o + 12) x) → leb (length x) n ≡ not (later x at (after x at))
-  past_is at k a o n w ek ea eo ew e =
+  pub past_is : (at k a o : ℕ) (r : Option ℕ) (w : Word) → k ≡ get_or x at 0 → a ≡ get_or x (at + 1) 0 → o ≡ place_of k → w ≡ name_of x at → IfSome r (λ i. i < length x)
+      → found_at x r ≡ seek (is_named k a w) (drop (at + o + 12) x) → is_none r ≡ not (later x at (after x at))
+  past_is at k a o r w ek ea eo ew i e =
       let s : at + o + 12 ≡ at + (o + 12) = omega arith in
-      nothing (leb (length x) n) refl
+      nothing r i
       ∙ ap (λ (y : List ℕ). not (ltb 0 (length y))) (e ∙ ap (λ (i : ℕ). seek (is_named k a w) (drop i x)) (s ∙ ap (λ (i : ℕ). at + (i + 12)) (eo ∙ ap place_of ek)) ∙ ap (λ (i : ℕ). seek (is_named i a w) (drop (after x at) x)) ek ∙ ap₂ (λ (i : ℕ) (v : Word). seek (is_named (get_or x at 0) i v) (drop (after x at) x)) ea ew)
     where
-      nothing : (b : Bool) → leb (length x) n ≡ b → b ≡ not (ltb 0 (length (drop n x)))
-      nothing true h = sym (ap not (le-ltb 0 (length (drop n x)) (omega (arith, length-drop n x, leb-true (length x) n h))))
-      nothing false h = sym (ap not (lt-ltb 0 (length (drop n x)) (omega (arith, length-drop n x, leb-false (length x) n h))))
+      nothing : (r : Option ℕ) → IfSome r (λ i. i < length x) → is_none r ≡ not (ltb 0 (length (found_at x r)))
+      nothing None i = refl
+      nothing (Some n) i = sym (ap not (lt-ltb 0 (length (drop n x)) (omega (arith, length-drop n x))))
 
   -- the loop at a record: some records before are chained; m is the length of the table
   pub record Left (m at : ℕ) (heads nexts : List ℕ) : Type 0 where
@@ -297,10 +313,8 @@ module _ (x heads nexts : List ℕ) (f : IndexedBy x heads nexts) (l : length x 
       go [] a b = tt
       go (i ∷ xs) a b = (record { within = a.0; hit = b.0 }, go xs a.1 b.1)
 
-  pub index-none : (k q : ℕ) (w : Word) → any (λ (i : ℕ). is_named k q w (drop i x)) f.places ≡ false → drop (length x) x ≡ seek (is_named k q w) x
-  index-none k q w e =
-      drop_of_length-le x {i = length x} (omega arith)
-      ∙ sym ((f.index l).none k q w e ∙ ap (seek (is_named k q w)) (drop_of_length-le x {i = f.top} f.end) ∙ seek-none (is_named k q w))
+  pub index-none : (k q : ℕ) (w : Word) → any (λ (i : ℕ). is_named k q w (drop i x)) f.places ≡ false → [] ≡ seek (is_named k q w) x
+  index-none k q w e = sym ((f.index l).none k q w e ∙ ap (seek (is_named k q w)) (drop_of_length-le x {i = f.top} f.end) ∙ seek-none (is_named k q w))
 
 -- the whole list is in the table
 pub room_of : (x index : List ℕ) → length x + 7168 ≤ 14 * length index → length x ≤ 14 * length (drop 512 index)

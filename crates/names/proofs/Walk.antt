@@ -7,7 +7,7 @@ use native.Mathlib.Omega.{arith}
 use lib.Dec.{eqb}
 use lib.ListN.{length, get_or, drop, take, length-drop, drop_of_length-le}
 use lib.Seq.{drop-drop, get_or-drop}
-use borrow.Author.Tests.{eq-eqb, ne_eqb, not-true, not-false}
+use borrow.Author.Tests.{eq-eqb, ne_eqb}
 use Rattle.quel.specs.Results.{Word, same_word}
 use Rattle.quel.specs.Tokens.{is_letter, run}
 use Rattle.quel.specs.Names.{Entry}
@@ -91,8 +91,8 @@ seek_found x at p t y h et e f =
     ∙ sym (seek-some p (drop at x) (simp length-drop (omega arith)))
     ∙ e
 
-pub seek-end : (x : List ℕ) (at : ℕ) (p : List ℕ → Bool) (y : List ℕ) → length x ≤ at → seek p (drop at x) ≡ y → drop at x ≡ y
-seek-end x at p y h e = drop_of_length-le x h ∙ sym (seek-none p) ∙ sym (ap (seek p) (drop_of_length-le x h)) ∙ e
+pub seek-end : (x : List ℕ) (at : ℕ) (p : List ℕ → Bool) (y : List ℕ) → length x ≤ at → seek p (drop at x) ≡ y → [] ≡ y
+seek-end x at p y h e = sym (seek-none p) ∙ sym (ap (seek p) (drop_of_length-le x h)) ∙ e
 
 -- whether the record at a place has the name, by the outcomes of the tests
 module _ (x : List ℕ) (at b k q : ℕ) (w : Word) (eb : b ≡ get_or x at 0) where
@@ -109,18 +109,11 @@ module _ (x : List ℕ) (at b k q : ℕ) (w : Word) (eb : b ≡ get_or x at 0) w
     named-rest : is_named k q w (drop at x) ≡ (t && same_word (name_at x (at + place_of k)) w)
     named-rest = named-of ∙ ap₂ (λ (c d : Bool). c && (d && same_word (name_at x (at + place_of k)) w)) (eq-eqb b k h) (sym et)
 
-    pub named-apart : not t ≡ true → false ≡ is_named k q w (drop at x)
-    named-apart f = sym (named-rest ∙ ap (λ (c : Bool). c && same_word (name_at x (at + place_of k)) w) (not-true t f))
+    pub named-apart : t ≡ false → false ≡ is_named k q w (drop at x)
+    named-apart f = sym (named-rest ∙ ap (λ (c : Bool). c && same_word (name_at x (at + place_of k)) w) f)
 
-    pub named-is : (o : ℕ) (s : Bool) → not t ≡ false → o ≡ place_of k → s ≡ same_word (name_at x (at + o)) w → s ≡ is_named k q w (drop at x)
-    named-is o s f eo es = es ∙ ap (λ (i : ℕ). same_word (name_at x (at + i)) w) eo ∙ sym (named-rest ∙ ap (λ (c : Bool). c && same_word (name_at x (at + place_of k)) w) (not-false t f))
-
--- only attributes belong to a relation
-pub belongs-any : (k q a : ℕ) → (k ≡ 81 → ⊥) → true ≡ (not (eqb k 81) || eqb a q)
-belongs-any k q a ne = sym (rw (ne_eqb k 81 ne))
-
-pub belongs-is : (k q b a : ℕ) → k ≡ 81 → b ≡ a → eqb b q ≡ (not (eqb k 81) || eqb a q)
-belongs-is k q b a h e = ap (λ (c : ℕ). eqb c q) e ∙ sym (rw (eq-eqb k 81 h))
+    pub named-is : (o : ℕ) (s : Bool) → t ≡ true → o ≡ place_of k → s ≡ same_word (name_at x (at + o)) w → s ≡ is_named k q w (drop at x)
+    named-is o s f eo es = es ∙ ap (λ (i : ℕ). same_word (name_at x (at + i)) w) eo ∙ sym (named-rest ∙ ap (λ (c : Bool). c && same_word (name_at x (at + place_of k)) w) f)
 
 pub place-relation : (k : ℕ) → k ≡ 80 → 2 ≡ place_of k
 unfolding place_of
@@ -133,3 +126,9 @@ place-attribute k h = sym (ap place_of h)
 pub place_other : (k : ℕ) → (k ≡ 80 → ⊥) → (k ≡ 81 → ⊥) → 5 ≡ place_of k
 unfolding place_of
 place_other k h i = sym (rw (ne_eqb k 80 h, ne_eqb k 81 i))
+
+-- where a byte is not 0 the list goes on
+pub some-byte : (x : List ℕ) (at : ℕ) → 1 ≤ get_or x at 0 → at < length x
+some-byte [] at h = absurd (omega arith)
+some-byte (b ∷ x) zero h = omega arith
+some-byte (b ∷ x) (suc at) h = omega (arith, some-byte x at h)

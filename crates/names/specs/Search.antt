@@ -1,5 +1,5 @@
 -- How the code searches a name list: the bytes from the first record on that has a name.
-use Rattle.std.specs.Prelude.{ℕ, zero, suc, ◌+◌, ◌*◌, ◌-◌, ◌/◌, ◌≤◌, ◌<◌, ◌≡◌, Bool, true, false, not, cond, ◌&&◌, ◌||◌, List, [], ◌∷◌, eqb, leb, ltb, length, get_or, take, drop}
+use Rattle.std.specs.Prelude.{Option, Some, None, ℕ, zero, suc, ◌+◌, ◌*◌, ◌-◌, ◌/◌, ◌≤◌, ◌<◌, ◌≡◌, Bool, true, false, not, cond, ◌&&◌, ◌||◌, List, [], ◌∷◌, eqb, leb, ltb, length, get_or, take, drop}
 use Rattle.model.specs.Lists.{any, all, Every}
 use Rattle.quel.specs.Results.{Word, same_word}
 use Rattle.buckets.specs.Chains.{bucket_of, Held, Chained}
@@ -32,6 +32,11 @@ seek_after p zero (b ∷ q) = cond (p (b ∷ q)) (b ∷ q) (seek_after p (width_
 
 unfoldable pub seek : (List ℕ → Bool) → List ℕ → List ℕ
 seek p x = seek_after p 0 x
+
+-- the bytes from a place on, none where there is no place
+abbrev pub found_at : List ℕ → Option ℕ → List ℕ
+found_at x (Some i) = drop i x
+found_at x None = []
 
 -- whether a later record of its kind has the name of the first (an attribute: and its relation)
 unfoldable pub again : List ℕ → Bool

@@ -40,10 +40,9 @@ use Rattle.conditions.specs.Answers.{reading, condition_reading}
 use Rattle.conditions.proofs.Found.{Found, found, unread, the-condition, same_read}
 use Rattle.permits.specs.Masks.{mask_in}
 use Rattle.permits.specs.declared.Grant.{Grant}
-use Rattle.permits.specs.declared.Grant.TheVariants as G
 use Rattle.permits.specs.declared.Listing.{Listing}
 use Rattle.permits.specs.declared.Listing.TheVariants as L
-use Rattle.permits.specs.Granted.{PermitRead, Granted, ListRead, Listed}
+use Rattle.permits.specs.Granted.{grant, PermitRead, Granted, ListRead, Listed}
 use Rattle.permits.proofs.Reading.{take-encode, listed}
 use Rattle.permits.proofs.Model.{mask_is, stored-permit}
 
@@ -78,7 +77,7 @@ unfolding record_length of_kind kind_of find
 four = refl
 
 -- no permit starts at p, or one does
-pub no-permit : (sh : Shape) (list x : List ℕ) (p : ℕ) (k : PermitRecord) → x ≡ drop p list → k ≡ permit_at x → k ≡ P.Other → Granted G.Refused sh list p
+pub no-permit : (sh : Shape) (list x : List ℕ) (p : ℕ) (k : PermitRecord) → x ≡ drop p list → k ≡ permit_at x → k ≡ P.Other → Granted None sh list p
 unfolding encode_permit
 no-permit sh list x p k ex ek h g r e w f =
     let i : P.Permit g.relation (mask g) ≡ P.Other = sym (ap permit_at (ex ∙ e) ∙ permit-at g.relation g.low g.high (encode g.condition r)) ∙ sym ek ∙ h in
@@ -86,6 +85,10 @@ no-permit sh list x p k ex ek h g r e w f =
 
 pub begins : (list x : List ℕ) (p : ℕ) → x ≡ drop p list → (k : PermitRecord) → k ≡ permit_at x → (r m : ℕ) → k ≡ P.Permit r m → Opened (drop p list) r m
 begins list x p ex k ek r m e = permit-bytes (drop p list) r m (sym (ap permit_at ex) ∙ sym ek ∙ e)
+
+assoc : (a b c : Bool) → ((a && b) && c) ≡ (a && (b && c))
+assoc true b c = refl
+assoc false b c = refl
 
 -- a permit's head at p, and what was read after it
 module _ (cb list : List ℕ) (h10 : fails10 cb ≡ false) (p : ℕ) (inside : p ≤ length list) (r m : ℕ) (head : Opened (drop p list) r m) (k : ℕ) (ek : k ≡ record_length 64)
@@ -110,7 +113,7 @@ module _ (cb list : List ℕ) (h10 : fails10 cb ≡ false) (p : ℕ) (inside : p
       let a = and-inv _ _ h in let b = and-inv _ _ a.1 in
       (omega (arith, leb-true (length (encode_permit g [])) 256 a.0, size-encode g.condition []), leb-true _ 16 b.0, leb-true _ 3 b.1)
 
-  pub permit-unread : t ≡ None → Granted G.Refused sh list p
+  pub permit-unread : t ≡ None → Granted None sh list p
   permit-unread h g s e w f = unread (shape_in cb) 4 16 (permit_scope r) y 0 t et h g.condition s (body g s e) w (fitting g f).1
 
   module _ (n : ℕ) (b : Bool) (en : t ≡ reading n b) where
@@ -123,14 +126,14 @@ module _ (cb list : List ℕ) (h10 : fails10 cb ≡ false) (p : ℕ) (inside : p
     the : (g : Permit) (s : List ℕ) → drop p list ≡ encode_permit g s → WellFormed g.condition → permit_fits g ≡ true → c ≡ g.condition
     the g s e w f = (the-condition a g.condition s (body g s e) w (fitting g f).1).0
 
-    pub permit-long : 256 - k < n → Granted G.Refused sh list p
+    pub permit-long : 256 - k < n → Granted None sh list p
     permit-long h g s e w f = absurd (omega (arith, h, ek ∙ four, a.sized, ap size (the g s e w f), (fitting g f).0))
 
     module _ (u : List ℕ) (eu : u ≡ take n y) (d : ℕ) (ed : d ≡ length (flat_bindings u)) where
       bound : flat_bindings u ≡ bindings c
       bound = ap flat_bindings (eu ∙ ap₂ take a.sized a.bytes ∙ take-encode c a.rest) ∙ bindings-condition c
 
-      pub permit-binds : 3 < d → Granted G.Refused sh list p
+      pub permit-binds : 3 < d → Granted None sh list p
       permit-binds h g s e w f = absurd (omega (arith, h, ed, ap length bound, ap (λ x. length (bindings x)) (the g s e w f), (fitting g f).2))
 
       follows : drop (p + (k + n)) list ≡ a.rest
@@ -163,14 +166,8 @@ module _ (cb list : List ℕ) (h10 : fails10 cb ≡ false) (p : ℕ) (inside : p
               stored = sym (eo ∙ ap (λ (bs : List Binding). stored_of cb r && all (stored_in cb) bs) bound ∙ stored-permit cb h10 g);
             }
 
-        pub permit-unknown : not v ≡ true → PermitRead sh list p (k + n) false o
-        permit-unknown h = reads false (sym (ap (λ z. z && (b && unique (0 ∷ variables (flat_bindings u)))) (not_yes v h)))
-
-        pub permit_out : not v ≡ false → not b ≡ true → PermitRead sh list p (k + n) false o
-        permit_out h i = reads false (sym (ap₂ (λ z w. z && (w && unique (0 ∷ variables (flat_bindings u)))) (not-no v h) (not_yes b i)))
-
-        pub permit-all : not v ≡ false → not b ≡ false → (i : Bool) → i ≡ unique (0 ∷ variables (flat_bindings u)) → PermitRead sh list p (k + n) i o
-        permit-all h j i ei = reads i (ei ∙ sym (ap₂ (λ z w. z && (w && unique (0 ∷ variables (flat_bindings u)))) (not-no v h) (not-no b j)))
+        pub permit-all : (i : Bool) → i ≡ unique (0 ∷ variables (flat_bindings u)) → PermitRead sh list p (k + n) ((v && b) && i) o
+        permit-all i ei = reads ((v && b) && i) (assoc v b i ∙ ap (λ w. v && (b && w)) ei)
 
 -- bytes are one permit and what follows it
 permit-rest : (g h : Permit) (s u : List ℕ) → WellFormed g.condition → WellFormed h.condition → encode_permit g s ≡ encode_permit h u → s ≡ u
@@ -195,11 +192,11 @@ module _ (sh : Shape) (list : List ℕ) (p k : ℕ) where
     pub list_full : k ≡ 0 → Listed L.Refused sh list p k
     list_full h ps e w l f = first ps e w f l λ g qs e w f u v l. absurd (omega arith)
 
-    module _ (m : Grant) (gm : Granted m sh list p) where
-      pub list-unread : m ≡ G.Refused → Listed L.Refused sh list p k
+    module _ (m : Option Grant) (gm : Granted m sh list p) where
+      pub list-unread : m ≡ None → Listed L.Refused sh list p k
       list-unread h ps e w l f = first ps e w f l λ g qs e w f u v l. subst (λ x. Granted x sh list p) h gm g (encode_permits qs) e w f
 
-      module _ (n : ℕ) (b d : Bool) (em : m ≡ G.Whole n b d) where
+      module _ (n : ℕ) (b d : Bool) (em : m ≡ grant n b d) where
         abbrev one : PermitRead sh list p n b d
         one = subst (λ x. Granted x sh list p) em gm
 

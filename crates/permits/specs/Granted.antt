@@ -1,12 +1,11 @@
 -- What the reading of a permit, and of a list, says: where it found one, and where it found none.
-use Rattle.std.specs.Prelude.{ℕ, ◌+◌, ◌≤◌, Bool, true, List, ◌≡◌, length, drop}
+use Rattle.std.specs.Prelude.{ℕ, ◌+◌, ◌≤◌, Bool, true, List, ◌≡◌, length, drop, Option, Some, None}
 use Rattle.model.specs.Lists.{all}
 use Rattle.model.specs.Syntax.{Permit, WellFormed, WellFormedPs}
 use Rattle.model.specs.Encoding.{encode_permit, encode_permits}
 use Rattle.model.specs.Catalogue.{Shape}
 use Rattle.model.specs.Checks.{permit_fits, permit_known, permit_stored}
 use Rattle.permits.specs.declared.Grant.{Grant}
-use Rattle.permits.specs.declared.Grant.TheVariants as G
 use Rattle.permits.specs.declared.Listing.{Listing}
 use Rattle.permits.specs.declared.Listing.TheVariants as L
 
@@ -20,10 +19,14 @@ pub record PermitRead (sh : Shape) (list : List ℕ) (p n : ℕ) (b d : Bool) : 
   pub known : permit_known sh permit ≡ b
   pub stored : permit_stored sh permit ≡ d
 
+-- n bytes, with the two answers
+abbrev pub grant : ℕ → Bool → Bool → Option Grant
+grant n b d = Some (record { length = n; known = b; stored = d })
+
 -- or none that passes 21 stands there
-abbrev pub Granted : Grant → Shape → List ℕ → ℕ → Type 0
-Granted (G.Whole n b d) sh list p = PermitRead sh list p n b d
-Granted G.Refused sh list p = (g : Permit) (r : List ℕ) → drop p list ≡ encode_permit g r → WellFormed g.condition → permit_fits g ≡ true → ⊥
+abbrev pub Granted : Option Grant → Shape → List ℕ → ℕ → Type 0
+Granted (Some g) sh list p = PermitRead sh list p g.length g.known g.stored
+Granted None sh list p = (g : Permit) (r : List ℕ) → drop p list ≡ encode_permit g r → WellFormed g.condition → permit_fits g ≡ true → ⊥
 
 -- the permits from p on, at most k
 pub record ListRead (sh : Shape) (list : List ℕ) (p k : ℕ) (b d : Bool) : Type 0 where

@@ -30,7 +30,7 @@ const VARIABLES: u8 = model::PERMIT_VARIABLES;
 fn part(q: &[u8], n: usize) -> &[u8]
     ensures { result.now ≡ take n q.now }
 {
-    if n <= q.len() { &q[..n] } else { q }
+    &q[..n.min(q.len())]
 }
 
 // Whether an attribute is one that a relation of so many has, where the mask has its bit.
@@ -38,23 +38,17 @@ fn has_if_known(mask: u16, attribute: u16, attributes: usize) -> bool
     requires { attribute < 16 }
     ensures { result ≡ (not (bit mask attribute) || ltb attribute attributes) }
 {
-    if (mask >> attribute) & 1 == 1 {
-        (attribute as usize) < attributes
-    } else {
-        true
-    }
+    (mask >> attribute) & 1 != 1 || usize::from(attribute) < attributes
 }
 
 // Whether a mask has only attributes that a relation of so many has.
 fn attributes_in(mask: u16, attributes: usize) -> bool
     ensures { result ≡ Lim.attributes_in attributes mask }
 {
-    let mut a: u16 = 0;
-    while a < 16 {
+    for a in 0..16 {
         if !has_if_known(mask, a, attributes) {
             return false;
         }
-        a += 1;
     }
     true
 }
@@ -63,21 +57,15 @@ fn attributes_in(mask: u16, attributes: usize) -> bool
 fn mask_in(mask: u16, attributes: usize) -> bool
     ensures { result ≡ Lim.mask_in attributes mask }
 {
-    if mask == 0 {
-        return false;
-    }
-    if mask == 65535 {
-        return true;
-    }
-    attributes_in(mask, attributes)
+    mask != 0 && (mask == u16::MAX || attributes_in(mask, attributes))
 }
 
-// What stands at a place of a list.
+// A permit within the limits (21): its bytes, whether all that it names is known (22), and stored (23).
 #[derive(Clone, Copy)]
-enum Grant {
-    // a permit within the limits (21): its bytes, whether all that it names is known (22), and stored (23)
-    Whole(usize, bool, bool),
-    Refused,
+struct Grant {
+    length: usize,
+    known: bool,
+    stored: bool,
 }
 
 // What a list is.
@@ -93,10 +81,7 @@ fn named(catalogue: &[u8], relation: u8, mask: u16) -> bool
     ensures { result ≡ (ltb relation (count_of catalogue.now) && Lim.mask_in (attributes_of catalogue.now relation) mask) }
 {
     let known = catalogue::entry(catalogue, relation);
-    if !known.listed {
-        return false;
-    }
-    mask_in(mask, known.attributes)
+    known.listed && mask_in(mask, known.attributes)
 }
 
 fn over_stored(b: Bound, catalogue: &[u8]) -> bool
@@ -128,14 +113,7 @@ fn stored(catalogue: &[u8], relation: u8, condition: &[u8], bound: usize) -> boo
     requires { bound ≡ length (flat_bindings condition.now) }
     ensures { result ≡ (stored_of catalogue.now relation && all (stored_in catalogue.now) (flat_bindings condition.now)) }
 {
-    let known = catalogue::entry(catalogue, relation);
-    if !known.stored {
-        return false;
-    }
-    if bound == 0 {
-        return true;
-    }
-    all_stored(condition, catalogue)
+    catalogue::entry(catalogue, relation).stored && (bound == 0 || all_stored(condition, catalogue))
 }
 
 // The condition that bytes start with, variable 0 being a row of the relation.
@@ -148,36 +126,31 @@ fn condition(bytes: &[u8], z: &mut [u16], catalogue: &[u8], relation: u8) -> Opt
 }
 
 // The permit at a place.
-fn permit(permits: &[u8], at: usize, catalogue: &[u8], z: &mut [u16]) -> Grant
+fn permit(permits: &[u8], at: usize, catalogue: &[u8], z: &mut [u16]) -> Option<Grant>
     requires { (fails10 catalogue.now ≡ false) × (at ≤ length permits.now) }
     ensures { Granted result (shape_of (catalogue_of catalogue.now)) permits.now at }
 {
     let here = kinds::tail(permits, at);
     let PermitRecord::Permit(relation, mask) = kinds::permit_record(here) else {
-        return Grant::Refused;
+        return None;
     };
     let own = kinds::record_length(64);
     let bytes = kinds::tail(here, own);
-    let Some(r) = condition(bytes, z, catalogue, relation) else {
-        return Grant::Refused;
-    };
+    let r = condition(bytes, z, catalogue, relation)?;
     let n = r.length;
     if BYTES - own < n {
-        return Grant::Refused;
+        return None;
     }
     let c = part(bytes, n);
     let bound = scans::tally(c, true);
     if model::PERMIT_BOUND < bound.count {
-        return Grant::Refused;
+        return None;
     }
-    let over = stored(catalogue, relation, c, bound.count);
-    if !named(catalogue, relation, mask) {
-        return Grant::Whole(own + n, false, over);
-    }
-    if !r.inside {
-        return Grant::Whole(own + n, false, over);
-    }
-    Grant::Whole(own + n, bound.once, over)
+    Some(Grant {
+        length: own + n,
+        known: named(catalogue, relation, mask) & r.inside & bound.once,
+        stored: stored(catalogue, relation, c, bound.count),
+    })
 }
 
 // The permits from a place on, at most so many.
@@ -191,14 +164,22 @@ fn rest(permits: &[u8], at: usize, left: usize, catalogue: &[u8], z: &mut [u16])
     if left == 0 {
         return Listing::Refused;
     }
-    let Grant::Whole(n, known, over) = permit(permits, at, catalogue, z) else {
+    let Some(first) = permit(permits, at, catalogue, z) else {
         return Listing::Refused;
     };
-    let Listing::Whole(others_known, others_over) = rest(permits, at + n, left - 1, catalogue, z)
-    else {
+    let Listing::Whole(others_known, others_over) = rest(
+        permits,
+        at + first.length,
+        left - 1,
+        catalogue,
+        z,
+    ) else {
         return Listing::Refused;
     };
-    Listing::Whole(both(known, others_known), both(over, others_over))
+    Listing::Whole(
+        both(first.known, others_known),
+        both(first.stored, others_over),
+    )
 }
 
 fn both(a: bool, b: bool) -> bool

@@ -1,6 +1,6 @@
 -- The targets and the condition after the RANGE records: a law for each way to return.
 use mathlib.Core.Path.{◌≡◌, refl, sym, ap, ap₂, ◌∙◌, subst}
-use mathlib.Core.Bool.{Bool, true, false, not, cond}
+use mathlib.Core.Bool.{Bool, true, false, cond, ◌&&◌}
 use mathlib.Core.List.{List, [], ◌∷◌}
 use Prim.Native.Nat.{ℕ, ◌+◌, ◌*◌, ◌≤◌, ◌<◌}
 use native.Mathlib.Omega.{arith}
@@ -9,8 +9,7 @@ use Rattle.model.specs.Syntax.{Term, Query, Targets, levels_q}
 use Rattle.model.proofs.Lists.{nothing_left, first-at}
 use Rattle.model.specs.Encoding.{encode, encode_targets, ok, read_query}
 use Rattle.model.specs.Catalogue.{Shape}
-use Rattle.model.specs.Scope.{Scope}
-use Rattle.model.proofs.Tests.{not_yes, not-no}
+use Rattle.model.specs.Scope.{Scope, in_scope}
 use Rattle.model.proofs.ReadingQueries.{query-inverse}
 use Rattle.model.proofs.Sizes.{size_q, size-query, size-encode}
 use Rattle.sizes.specs.Measured.{onward, condition_table}
@@ -21,9 +20,8 @@ use Rattle.queries.specs.Tables.{condition_measured, query_measured}
 use Rattle.grammar.specs.Shapes.{layout}
 use Rattle.grammar.proofs.Whole.{targets-place}
 use Rattle.queries.specs.declared.Run.{Run}
-use Rattle.queries.specs.declared.Run.TheVariants as T
 use Rattle.queries.specs.declared.Found.TheVariants.{Refused}
-use Rattle.queries.specs.Found.{Targeted, Standing, Leads, TargetsFound, RestFound, Rest}
+use Rattle.queries.specs.Found.{run, Targeted, Standing, Leads, TargetsFound, RestFound, Rest}
 use Rattle.queries.proofs.Targeting.{target-byte}
 use Rattle.std.specs.Prelude.{Option}
 use Rattle.std.specs.declared.option.Option.TheVariants as O
@@ -41,16 +39,16 @@ module _ (sh : Shape) (limit l : ℕ) (σ : Scope) (q : List ℕ) (r : ℕ) (z w
   unfolding size_q
   rest-short h u e er et el = absurd (omega (arith, ap length (query-inverse q u [] e).bytes, size-query u, er))
 
-  module _ (m : Run) (y : List ℕ) (lm : Leads m l q (3 * r) 8) (fm : TargetsFound m sh limit l σ q (3 * r) 8 z y) where
-    pub rest-unrun : m ≡ T.Refused → None
+  module _ (m : Option Run) (y : List ℕ) (lm : Leads m l q (3 * r) 8) (fm : TargetsFound m sh limit l σ q (3 * r) 8 z y) where
+    pub rest-unrun : m ≡ O.None → None
     rest-unrun h u e er et el = subst (λ x. Leads x l q (3 * r) 8) h lm u.targets u.condition [] (standing u e er et el)
 
-    module _ (n c : ℕ) (b : Bool) (em : m ≡ T.Whole n c b) where
-      abbrev run : Targeted sh limit l σ q (3 * r) 8 n c b z y
-      run = subst (λ x. TargetsFound x sh limit l σ q (3 * r) 8 z y) em fm
+    module _ (n c : ℕ) (b : Bool) (em : m ≡ run n c b) where
+      abbrev reached : Targeted sh limit l σ q (3 * r) 8 n c b z y
+      reached = subst (λ x. TargetsFound x sh limit l σ q (3 * r) 8 z y) em fm
 
       pub run_inside : c ≤ length q
-      run_inside = run.inside
+      run_inside = reached.inside
 
       -- the condition is where the targets end
       place : (u : Query) → read_query q ≡ ok u [] → length u.ranges ≡ r → length u.targets ≤ 8 → levels_q u ≤ l → drop c q ≡ encode u.condition []
@@ -61,12 +59,12 @@ module _ (sh : Shape) (limit l : ℕ) (σ : Scope) (q : List ℕ) (r : ℕ) (z w
       no_target ts [] s v h w e f g = omega arith
       no_target (t ∷ ts) (u ∷ us) s v h w e f g = omega arith
       no_target [] (u ∷ us) s v h w e f g =
-          omega (arith, target-byte u us (encode_targets us s) w, ap (λ x. get_or x 0 0) g, ap (λ x. get_or x 0 0) f, first-at c q, run.stops)
+          omega (arith, target-byte u us (encode_targets us s) w, ap (λ x. get_or x 0 0) g, ap (λ x. get_or x 0 0) f, first-at c q, reached.stops)
 
       pub rest-none : n ≡ 0 → None
       rest-none h u e er et el =
           let i = query-inverse q u [] e in
-          no_target run.targets u.targets (encode u.condition []) [] i.well.some-target i.well.targets (sym run.counted ∙ h) run.bytes (standing u e er et el).bytes
+          no_target reached.targets u.targets (encode u.condition []) [] i.well.some-target i.well.targets (sym reached.counted ∙ h) reached.bytes (standing u e er et el).bytes
 
       module _ (t : Option Reading) (et : t ≡ condition_reading sh limit l σ (drop c q)) where
         pub rest-unread : t ≡ O.None → None
@@ -78,7 +76,7 @@ module _ (sh : Shape) (limit l : ℕ) (σ : Scope) (q : List ℕ) (r : ℕ) (z w
           last = found sh limit l σ q c t et k d ek
 
           last-ends : c + k + length last.rest ≡ length q
-          last-ends = omega (arith, ap length last.bytes, size-encode last.condition last.rest, last.sized, length-drop c q, run.inside)
+          last-ends = omega (arith, ap length last.bytes, size-encode last.condition last.rest, last.sized, length-drop c q, reached.inside)
 
           pub rest-longer : (c + k ≡ length q → ⊥) → None
           unfolding levels_q
@@ -86,9 +84,9 @@ module _ (sh : Shape) (limit l : ℕ) (σ : Scope) (q : List ℕ) (r : ℕ) (z w
               let i = the-condition last u.condition [] (place u e er ft el) (query-inverse q u [] e).well.condition (omega (arith, el)) in
               absurd (h (omega (arith, last-ends, ap length i.1)))
 
-          rest-whole : 3 * r ≤ length q → (n ≡ 0 → ⊥) → c + k ≡ length q → w ≡ condition_table l q c y → (g : Bool) → g ≡ cond b d false → RestFound sh limit l σ q r (record { ranges = r; targets = n; first = 3 * r; condition = c }) g z w
+          pub rest-whole : 3 * r ≤ length q → (n ≡ 0 → ⊥) → c + k ≡ length q → w ≡ condition_table l q c y → RestFound sh limit l σ q r (record { ranges = r; targets = n; first = 3 * r; condition = c }) (b && d) z w
           unfolding query_measured
-          rest-whole hr hn hk ew g eg = record {
+          rest-whole hr hn hk ew = record {
             between = y;
             condition = last.condition;
             first-in = b;
@@ -96,17 +94,14 @@ module _ (sh : Shape) (limit l : ℕ) (σ : Scope) (q : List ℕ) (r : ℕ) (z w
             first = refl;
             room = hr;
             some-target = omega (arith, hn);
-            targeted = run;
+            targeted = reached;
             bytes = last.bytes ∙ ap (encode last.condition) (nothing_left last.rest (omega (arith, last-ends, hk)));
             well = last.well;
             deep = last.deep;
-            scope = eg ∙ ap (λ x. cond b x false) (sym last.scope);
-            table = ew ∙ sym (ap₂ (λ (x : Option ℕ) (v : List ℕ). (onward x v (λ j g. condition_measured l q j g)).table) run.measured (sym run.table));
+            scope = scoped b;
+            table = ew ∙ sym (ap₂ (λ (x : Option ℕ) (v : List ℕ). (onward x v (λ j g. condition_measured l q j g)).table) reached.measured (sym reached.table));
           }
-
-          module _ (hr : 3 * r ≤ length q) (hn : n ≡ 0 → ⊥) (hk : c + k ≡ length q) (ew : w ≡ condition_table l q c y) where
-            pub rest_out : not b ≡ true → RestFound sh limit l σ q r (record { ranges = r; targets = n; first = 3 * r; condition = c }) false z w
-            rest_out h = rest-whole hr hn hk ew false (sym (ap (λ x. cond x d false) (not_yes b h)))
-
-            pub rest_in : not b ≡ false → RestFound sh limit l σ q r (record { ranges = r; targets = n; first = 3 * r; condition = c }) d z w
-            rest_in h = rest-whole hr hn hk ew d (sym (ap (λ x. cond x d false) (not-no b h)))
+            where
+              scoped : (b : Bool) → (b && d) ≡ cond b (in_scope sh limit last.condition σ) false
+              scoped true = sym last.scope
+              scoped false = refl

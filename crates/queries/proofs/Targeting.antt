@@ -1,6 +1,6 @@
 -- RANGE records and targets, read one at a time.
 use mathlib.Core.Path.{◌≡◌, refl, sym, ap, ap₂, ◌∙◌, subst}
-use mathlib.Core.Bool.{Bool, true, false, not, ◌&&◌}
+use mathlib.Core.Bool.{Bool, true, ◌&&◌}
 use mathlib.Core.List.{List, [], ◌∷◌}
 use Prim.Native.Nat.{ℕ, zero, suc, ◌+◌, ◌-◌, ◌*◌, ◌≤◌, ◌<◌}
 use native.Mathlib.Omega.{arith}
@@ -21,14 +21,12 @@ use Rattle.kinds.proofs.Heads.{range-bytes, range_at, no-range}
 use Rattle.sizes.specs.Measured.{Measured, onward, term_size, term_table}
 use Rattle.sizes.specs.Parts.{ranges_at}
 use Rattle.sizes.proofs.Decoding.{term-size}
-use Rattle.conditions.proofs.scope.Steps.{and-stop, and-go}
 use Rattle.conditions.specs.declared.Reading.{Reading}
 use Rattle.conditions.specs.Answers.{reading, term_reading}
 use Rattle.conditions.proofs.Found.{FoundT, found_t, unread_t, the_term}
 use Rattle.queries.specs.Tables.{targets_measured}
 use Rattle.queries.specs.declared.Run.{Run}
-use Rattle.queries.specs.declared.Run.TheVariants as T
-use Rattle.queries.specs.Found.{range_then, head_ranges, Targeted, Standing, Leads, TargetsFound}
+use Rattle.queries.specs.Found.{range_then, head_ranges, run, Targeted, Standing, Leads, TargetsFound}
 use Rattle.queries.proofs.Prepared.{target-well}
 use Rattle.std.specs.Prelude.{Option, Some, None}
 
@@ -101,7 +99,7 @@ condition-byte (SOME v s c) r = omega arith
 
 module _ (l : ℕ) (q : List ℕ) (p k b : ℕ) (eb : b ≡ get_or q p 0) where
   -- no target starts here
-  pub leads-end : b < 33 → Leads (T.Whole 0 p true) l q p k
+  pub leads-end : b < 33 → Leads (run 0 p true) l q p k
   unfolding encode_targets
   leads-end h [] c s st = st.bytes
   leads-end h (t ∷ ts) c s st = absurd (omega (arith, target-byte t ts (encode_targets ts (encode c s)) st.well, ap (λ x. get_or x 0 0) st.bytes, first-at p q, eb))
@@ -113,11 +111,11 @@ module _ (l : ℕ) (q : List ℕ) (p k b : ℕ) (eb : b ≡ get_or q p 0) where
     starts [] c s st f = absurd (omega (arith, condition-byte c s, ap (λ x. get_or x 0 0) st.bytes, first-at p q, eb))
     starts (t ∷ us) c s st f = f t us refl
 
-    pub leads-full : k ≡ 0 → Leads T.Refused l q p k
+    pub leads-full : k ≡ 0 → Leads None l q p k
     leads-full e ts c s st = starts ts c s st λ t us f. absurd (omega (arith, ap length f, st.few))
 
     module _ (sh : Shape) (limit : ℕ) (σ : Scope) (r : Option Reading) (er : r ≡ term_reading sh limit l σ (drop p q)) where
-      pub leads-unread : r ≡ None → Leads T.Refused l q p k
+      pub leads-unread : r ≡ None → Leads None l q p k
       unfolding encode_targets levels_ts
       leads-unread e ts c s st = starts ts c s st λ t us f.
           let v = subst (λ x. Standing l q p k x c s) f st in
@@ -136,10 +134,10 @@ module _ (l : ℕ) (q : List ℕ) (p k b : ℕ) (eb : b ≡ get_or q p 0) where
             let i = the_term one t (encode_targets us (encode c s)) v.bytes w.0 (omega (arith, v.deep)) in
             f us (record { bytes = one.after ∙ i.1; well = w.1; deep = omega (arith, v.deep); few = omega (arith, v.few) })
 
-        pub leads-refused : (m : Run) → m ≡ T.Refused → Leads m l q (p + n) (k - 1) → Leads T.Refused l q p k
+        pub leads-refused : (m : Option Run) → m ≡ None → Leads m l q (p + n) (k - 1) → Leads None l q p k
         leads-refused m em h ts c s st = others ts c s st λ us v. subst (λ x. Leads x l q (p + n) (k - 1)) em h us c s v
 
-        pub leads-more : (m : Run) (j i : ℕ) (x : Bool) → m ≡ T.Whole j i x → Leads m l q (p + n) (k - 1) → (j' : ℕ) (x' : Bool) → Leads (T.Whole j' i x') l q p k
+        pub leads-more : (m : Option Run) (j i : ℕ) (x : Bool) → m ≡ run j i x → Leads m l q (p + n) (k - 1) → (j' : ℕ) (x' : Bool) → Leads (run j' i x') l q p k
         leads-more m j i x em h j' x' ts c s st = others ts c s st λ us v. subst (λ x. Leads x l q (p + n) (k - 1)) em h us c s v
 
 -- targets, one at a time
@@ -154,10 +152,10 @@ module _ (sh : Shape) (limit l : ℕ) (σ : Scope) (q : List ℕ) (p k : ℕ) (z
   target_first (ATTRIBUTE x a) ts r e h w v = v
   target_first (AGGREGATE f x s a c) ts r e h w v = (w, v)
 
-  targets-more : 33 ≤ b → (k ≡ 0 → ⊥) → (r : Option Reading) (n : ℕ) (d : Bool) (y w : List ℕ) → r ≡ term_reading sh limit l σ (drop p q) → r ≡ reading n d → y ≡ term_table l q p z
-      → (m : Run) (c e : ℕ) (x : Bool) → m ≡ T.Whole c e x → TargetsFound m sh limit l σ q (p + n) (k - 1) y w → (g : Bool) → g ≡ (d && x) → Targeted sh limit l σ q p k (c + 1) e g z w
+  pub targets-more : 33 ≤ b → (k ≡ 0 → ⊥) → (r : Option Reading) (n : ℕ) (d : Bool) (y w : List ℕ) → r ≡ term_reading sh limit l σ (drop p q) → r ≡ reading n d → y ≡ term_table l q p z
+      → (m : Option Run) (c e : ℕ) (x : Bool) → m ≡ run c e x → TargetsFound m sh limit l σ q (p + n) (k - 1) y w → Targeted sh limit l σ q p k (c + 1) e (d && x) z w
   unfolding encode_targets levels_ts all targets_measured
-  targets-more hb nz r n d y w er en ey m c e x em h g eg =
+  targets-more hb nz r n d y w er en ey m c e x em h =
       let a = found_t sh limit l σ q p r er n d en in
       let i : Targeted sh limit l σ q (p + n) (k - 1) c e x y w = subst (λ v. TargetsFound v sh limit l σ q (p + n) (k - 1) y w) em h in
       let t = a.term in let ts = i.targets in
@@ -171,7 +169,7 @@ module _ (sh : Shape) (limit l : ℕ) (σ : Scope) (q : List ℕ) (p k : ℕ) (z
         bytes = a.bytes ∙ ap (encode_t t) (sym a.after ∙ i.bytes);
         well = target_first t ts a.rest a.bytes hb a.well i.well;
         deep = omega (arith, a.deep, i.deep);
-        scope = ap₂ ◌&&◌ a.scope i.scope ∙ sym eg;
+        scope = ap₂ ◌&&◌ a.scope i.scope;
         counted = omega (arith, i.counted);
         few = omega (arith, i.few, nz);
         inside = i.inside;
@@ -180,13 +178,5 @@ module _ (sh : Shape) (limit l : ℕ) (σ : Scope) (q : List ℕ) (p k : ℕ) (z
         table = i.table ∙ ap (λ (x : Measured). x.table) (sym f);
       }
 
-  pub targets-out : 33 ≤ b → (k ≡ 0 → ⊥) → (r : Option Reading) (n : ℕ) (d : Bool) (y w : List ℕ) → r ≡ term_reading sh limit l σ (drop p q) → r ≡ reading n d → y ≡ term_table l q p z
-      → (m : Run) (c e : ℕ) (x : Bool) → m ≡ T.Whole c e x → TargetsFound m sh limit l σ q (p + n) (k - 1) y w → not d ≡ true → Targeted sh limit l σ q p k (c + 1) e false z w
-  targets-out hb nz r n d y w er en ey m c e x em h g = targets-more hb nz r n d y w er en ey m c e x em h false (and-stop d d x refl g)
-
-  pub targets-in : 33 ≤ b → (k ≡ 0 → ⊥) → (r : Option Reading) (n : ℕ) (d : Bool) (y w : List ℕ) → r ≡ term_reading sh limit l σ (drop p q) → r ≡ reading n d → y ≡ term_table l q p z
-      → (m : Run) (c e : ℕ) (x : Bool) → m ≡ T.Whole c e x → TargetsFound m sh limit l σ q (p + n) (k - 1) y w → not d ≡ false → Targeted sh limit l σ q p k (c + 1) e x z w
-  targets-in hb nz r n d y w er en ey m c e x em h g = targets-more hb nz r n d y w er en ey m c e x em h x (and-go d d x x refl g refl)
-
-pub found-few : (sh : Shape) (limit l : ℕ) (σ : Scope) (q : List ℕ) (p k : ℕ) (z w : List ℕ) (m : Run) (c e : ℕ) (x : Bool) → m ≡ T.Whole c e x → TargetsFound m sh limit l σ q p k z w → c ≤ k
+pub found-few : (sh : Shape) (limit l : ℕ) (σ : Scope) (q : List ℕ) (p k : ℕ) (z w : List ℕ) (m : Option Run) (c e : ℕ) (x : Bool) → m ≡ run c e x → TargetsFound m sh limit l σ q p k z w → c ≤ k
 found-few sh limit l σ q p k z w m c e x em h = (subst (λ v. TargetsFound v sh limit l σ q p k z w) em h).few

@@ -1,5 +1,5 @@
 -- What the reading of a query says: where it found one, and where it found none.
-use Rattle.std.specs.Prelude.{ℕ, zero, suc, ◌*◌, ◌≤◌, ◌<◌, Bool, true, false, not, cond, List, [], ◌∷◌, ◌≡◌, length, get_or, drop, Some}
+use Rattle.std.specs.Prelude.{ℕ, zero, suc, ◌*◌, ◌≤◌, ◌<◌, Bool, true, false, not, cond, List, [], ◌∷◌, ◌≡◌, length, get_or, drop, Option, Some, None}
 use Rattle.model.specs.Lists.{all}
 use Rattle.model.specs.Syntax.{Binding, Condition, Term, Query, Targets, WellFormed, levels, levels_ts, levels_q}
 use Rattle.model.specs.Encoding.{encode, encode_targets, ok, read_query, query_of}
@@ -14,7 +14,6 @@ use Rattle.queries.specs.Tables.{targets_measured, query_measured}
 use Rattle.grammar.specs.declared.Layout.{Layout}
 use Rattle.queries.specs.declared.Limits.{Limits}
 use Rattle.queries.specs.declared.Run.{Run}
-use Rattle.queries.specs.declared.Run.TheVariants as T
 use Rattle.queries.specs.declared.Found.{Found}
 use Rattle.queries.specs.declared.Found.TheVariants.{Whole, Refused}
 use Rattle.queries.specs.Parts.{query_at, limits_of, Laid}
@@ -51,14 +50,18 @@ pub record Standing (l : ℕ) (q : List ℕ) (p k : ℕ) (ts : List Term) (c : C
   pub deep : levels_ts ts ≤ l
   pub few : length ts ≤ k
 
--- where targets and a condition stand at p, the targets are read, and the condition is where they end
-abbrev pub Leads : Run → ℕ → List ℕ → ℕ → ℕ → Type 0
-Leads (T.Whole n e b) l q p k = (ts : List Term) (c : Condition) (s : List ℕ) → Standing l q p k ts c s → drop e q ≡ encode c s
-Leads T.Refused l q p k = (ts : List Term) (c : Condition) (s : List ℕ) → Standing l q p k ts c s → ⊥
+-- n targets up to e, in scope where b says so
+abbrev pub run : ℕ → ℕ → Bool → Option Run
+run n e b = Some (record { count = n; end = e; inside = b })
 
-abbrev pub TargetsFound : Run → Shape → ℕ → ℕ → Scope → List ℕ → ℕ → ℕ → List ℕ → List ℕ → Type 0
-TargetsFound (T.Whole n e b) sh limit l σ q p k z w = Targeted sh limit l σ q p k n e b z w
-TargetsFound T.Refused sh limit l σ q p k z w = Unit
+-- where targets and a condition stand at p, the targets are read, and the condition is where they end
+abbrev pub Leads : Option Run → ℕ → List ℕ → ℕ → ℕ → Type 0
+Leads (Some r) l q p k = (ts : List Term) (c : Condition) (s : List ℕ) → Standing l q p k ts c s → drop r.end q ≡ encode c s
+Leads None l q p k = (ts : List Term) (c : Condition) (s : List ℕ) → Standing l q p k ts c s → ⊥
+
+abbrev pub TargetsFound : Option Run → Shape → ℕ → ℕ → Scope → List ℕ → ℕ → ℕ → List ℕ → List ℕ → Type 0
+TargetsFound (Some r) sh limit l σ q p k z w = Targeted sh limit l σ q p k r.count r.end r.inside z w
+TargetsFound None sh limit l σ q p k z w = Unit
 
 -- the targets and the condition after r RANGE records, to the last byte
 pub record RestFound (sh : Shape) (limit l : ℕ) (σ : Scope) (q : List ℕ) (r : ℕ) (y : Layout) (b : Bool) (z w : List ℕ) : Type 0 where

@@ -2,7 +2,7 @@
 // whether the query is ill formed or too large.
 #![tactic(auto)]
 
-ghost use Rattle.std.specs.Prelude.{◌≡◌, cond, true, false, ◌&&◌, ◌≤◌, ◌<◌, length, drop};
+ghost use Rattle.std.specs.Prelude.{◌≡◌, cond, true, false, ◌≤◌, ◌<◌, length, drop};
 ghost use Rattle.model.specs.Lists.{all};
 ghost use Rattle.model.specs.Syntax.{variables};
 ghost use Rattle.model.specs.Scope.{known_binding};
@@ -38,12 +38,6 @@ const NO_RANGES: Ranges = Ranges {
     known: true,
 };
 
-fn both(a: bool, b: bool) -> bool
-    ensures { result ≡ (a && b) }
-{
-    if a { b } else { false }
-}
-
 // Puts the variables of the RANGE records that q starts with in reach, of at most so many.
 fn bind_ranges(q: &[u8], left: usize, catalogue: &[u8], limit: u8, reach: &mut [u16]) -> Ranges
     requires { 256 ≤ length reach.old }
@@ -63,22 +57,16 @@ fn bind_ranges(q: &[u8], left: usize, catalogue: &[u8], limit: u8, reach: &mut [
     let known = conditions::scope::enter(catalogue, reach, limit, variable, relation);
     Ranges {
         count: 1 + others.count,
-        known: both(known, others.known),
+        known: known & others.known,
     }
 }
 
-fn wide(x: u8) -> usize
-    ensures { result ≡ x }
-{
-    x as usize
-}
-
-// Targets one after the other.
+// Targets one after the other: how many, the place after them, and whether they are in scope.
 #[derive(Clone, Copy)]
-enum Run {
-    // how many, the place after them, and whether they are in scope
-    Whole(usize, usize, bool),
-    Refused,
+struct Run {
+    count: usize,
+    end: usize,
+    inside: bool,
 }
 
 // Where the next target stands, and the level down to which it is read.
@@ -97,7 +85,7 @@ fn targets(
     catalogue: &[u8],
     limit: u8,
     reach: &[u16],
-) -> Run
+) -> Option<Run>
     requires { next.at ≤ length q.now }
     ensures targets_found { TargetsFound result (shape_in catalogue.now) limit next.level (scope_of reach.now) q.now next.at left
         z.old z.new }
@@ -107,26 +95,26 @@ fn targets(
     let at = next.at;
     let level = next.level;
     if kinds::byte(q, at) < 33 {
-        return Run::Whole(0, at, true);
+        return Some(Run {
+            count: 0,
+            end: at,
+            inside: true,
+        });
     }
     if left == 0 {
-        return Run::Refused;
+        return None;
     }
-    let Some(first) = conditions::term(q, z, at, level, catalogue, limit, reach) else {
-        return Run::Refused;
-    };
+    let first = conditions::term(q, z, at, level, catalogue, limit, reach)?;
     let behind = Next {
         at: at + first.length,
         level,
     };
-    let Run::Whole(count, end, others) = targets(q, z, behind, left - 1, catalogue, limit, reach)
-    else {
-        return Run::Refused;
-    };
-    if !first.inside {
-        return Run::Whole(count + 1, end, false);
-    }
-    Run::Whole(count + 1, end, others)
+    let others = targets(q, z, behind, left - 1, catalogue, limit, reach)?;
+    Some(Run {
+        count: others.count + 1,
+        end: others.end,
+        inside: first.inside & others.inside,
+    })
 }
 
 // A whole query, or that none was read.
@@ -157,20 +145,13 @@ fn rest(
         return Found::Refused;
     }
     let next = Next { at: first, level };
-    let Run::Whole(targets, condition, inside) = targets(
-        q,
-        z,
-        next,
-        model::TARGETS,
-        catalogue,
-        limit,
-        reach,
-    ) else {
+    let Some(run) = targets(q, z, next, model::TARGETS, catalogue, limit, reach) else {
         return Found::Refused;
     };
-    if targets == 0 {
+    if run.count == 0 {
         return Found::Refused;
     }
+    let condition = run.end;
     let Some(last) = conditions::condition(q, z, condition, level, catalogue, limit, reach) else {
         return Found::Refused;
     };
@@ -179,14 +160,11 @@ fn rest(
     }
     let layout = Layout {
         ranges,
-        targets,
+        targets: run.count,
         first,
         condition,
     };
-    if !inside {
-        return Found::Whole(layout, false);
-    }
-    Found::Whole(layout, last.inside)
+    Found::Whole(layout, run.inside & last.inside)
 }
 
 // A query that passes 30 and 31, its table of sizes filled; whether it passes 32.
@@ -202,7 +180,7 @@ fn read(q: &[u8], limits: Limits, catalogue: &[u8], z: &mut [u16]) -> Found
         return Found::Refused;
     }
     let bound = scans::tally(q, false);
-    if wide(variables) < bound.count {
+    if usize::from(variables) < bound.count {
         return Found::Refused;
     }
     let mut reach = [0u16; 256];

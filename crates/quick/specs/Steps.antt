@@ -13,12 +13,10 @@ use Rattle.parts.specs.Parts.{Copied}
 use Rattle.parts.specs.Places.{Named, WordAt, TokenAt, FunctionAt}
 use Rattle.parts.specs.Table.{level_at, level_now, next_number, how_many, word_at, seen, Ready, Slotted, Finds}
 use Rattle.parts.specs.Reads.{OperandAt, FormulaAt, ClosedAt}
-use Rattle.quick.specs.Lexis.{Ended}
 use Rattle.quick.specs.Index.{Indexed}
 
--- what is lent to a step
-pub record Lent (text list names symbols made : List ℕ) : Type 0 where
-  pub ended : Ended text
+-- what is lent to a step, with the name list and its table
+pub record Lent (list names symbols made : List ℕ) : Type 0 where
   pub indexed : Indexed list names
   pub long : length symbols ≡ 160
   pub wide : length made ≡ 1024

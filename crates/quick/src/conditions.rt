@@ -7,23 +7,21 @@ ghost use Rattle.quick.specs.Index.{Indexed};
 ghost use Rattle.quick.specs.Steps.{Lent, Went, Formed, FormedFrom, SomeAfter, Entered, SomePut};
 
 use crate::lexis::Span;
-use crate::{LOST, Pass, index, lexis, symbols, terms};
+use crate::{LOST, Pass, Source, index, lexis, symbols, terms};
 
 // A comparison whose first word is w.
 #[cycle(bracket_comparison_condition_factor_some_aggregate_closed_qualified_term)]
 fn comparison(
-    text: &[u8; 256],
-    list: &[u8],
-    names: &[u64; 256],
+    source: &Source<'_>,
     symbols: &mut [u64; 160],
     made: &mut [u8; 1024],
     s: Pass,
     w: Span,
 ) -> Pass
-    requires lent { Lent text.now list.now names.now symbols.old made.old }
+    requires lent { Lent source.now.list.now source.now.names.now symbols.old made.old }
     requires at_bound { (s.at ≤ 254) × (s.to ≤ 980) × (w.end ≤ 254) × (1 ≤ w.end → s.at < w.end) }
     ensures went { Went s.at s.to result.at result.to symbols.new made.new }
-    ensures formed_from { FormedFrom text.now list.now symbols.old symbols.new made.old made.new
+    ensures formed_from { FormedFrom source.now.text.bytes source.now.list.now symbols.old symbols.new made.old made.new
         s.at s.to result.at result.to w.end w.value }
 {
     let from = s.to;
@@ -31,48 +29,46 @@ fn comparison(
         at: s.at,
         to: from + 2,
     };
-    let a = terms::term(text, list, names, symbols, made, first, w);
+    let a = terms::term(source, symbols, made, first, w);
     if a.at == 0 {
         return LOST;
     }
-    let o = lexis::sign(text, a.at);
-    let at = o.end;
-    if at == 0 {
+    let Some(o) = source.text.sign(a.at) else {
         return LOST;
-    }
+    };
+    let at = o.end;
     let to = a.to;
     if 980 < to {
         return LOST;
     }
     made[from] = 21;
     made[from + 1] = o.number;
-    let v = lexis::word(text, at);
-    terms::term(text, list, names, symbols, made, Pass { at, to }, v)
+    let v = source.text.word(at);
+    terms::term(source, symbols, made, Pass { at, to }, v)
 }
 
 // A condition and the parenthesis after it.
 #[cycle(bracket_comparison_condition_factor_some_aggregate_closed_qualified_term)]
 pub(crate) fn bracket(
-    text: &[u8; 256],
-    list: &[u8],
-    names: &[u64; 256],
+    source: &Source<'_>,
     symbols: &mut [u64; 160],
     made: &mut [u8; 1024],
     s: Pass,
 ) -> Pass
-    requires lent { Lent text.now list.now names.now symbols.old made.old }
+    requires lent { Lent source.now.list.now source.now.names.now symbols.old made.old }
     requires at_bound { s.at ≤ 254 }
     ensures went { Went s.at s.to result.at result.to symbols.new made.new }
-    ensures formed { Formed text.now list.now symbols.old symbols.new made.old made.new
+    ensures formed { Formed source.now.text.bytes source.now.list.now symbols.old symbols.new made.old made.new
         s.at s.to result.at result.to IsBracket }
 {
-    let c = condition(text, list, names, symbols, made, s);
+    let c = condition(source, symbols, made, s);
     if c.at == 0 {
         return LOST;
     }
-    let to = c.to;
-    let at = lexis::past(text, c.at, 41);
-    Pass { at, to }
+    let Some(at) = source.text.past(c.at, 41) else {
+        return LOST;
+    };
+    Pass { at, to: c.to }
 }
 
 // SOME's symbol with a code and its relation: bound in the next slot, the head of the record written.
@@ -94,19 +90,18 @@ fn enter(symbols: &mut [u64; 160], made: &mut [u8; 1024], to: usize, x: u64, rel
 
 // SOME's symbol and relation, by their codes: looked up, bound, the record written. Whether it can be.
 fn opened(
-    list: &[u8],
-    names: &[u64; 256],
+    source: &Source<'_>,
     symbols: &mut [u64; 160],
     made: &mut [u8; 1024],
     to: usize,
     x: u64,
     r: u64,
 ) -> bool
-    requires indexed { Indexed list.now names.now × (length symbols.old ≡ 160) }
+    requires indexed { Indexed source.now.list.now source.now.names.now × (length symbols.old ≡ 160) }
     requires to_bound { (to ≤ 1000) × (length made.old ≡ 1024) }
     ensures symbols_len { (length symbols.new ≡ 160) × (length made.new ≡ 1024) }
     ensures some_put { result ≡ true
-        → SomePut list.now symbols.old symbols.new made.old made.new to x r }
+        → SomePut source.now.list.now symbols.old symbols.new made.old made.new to x r }
 {
     if 30 <= symbols[symbols::COUNT] {
         return false;
@@ -114,65 +109,49 @@ fn opened(
     if symbols::find(symbols, x).is_some() {
         return false;
     }
-    let Some(q) = index::relation_at(list, names, r) else {
+    let Some(q) = index::relation_at(source.list, source.names, r) else {
         return false;
     };
     if 199 < symbols[symbols::NEXT] {
         return false;
     }
-    enter(symbols, made, to, x, list[q + 1]);
+    enter(symbols, made, to, x, source.list[q + 1]);
     true
 }
 
 // SOME X IN R ( .. ), after SOME. Its symbol is closed behind it.
 #[cycle(bracket_comparison_condition_factor_some_aggregate_closed_qualified_term)]
-fn some(
-    text: &[u8; 256],
-    list: &[u8],
-    names: &[u64; 256],
-    symbols: &mut [u64; 160],
-    made: &mut [u8; 1024],
-    s: Pass,
-) -> Pass
-    requires lent { Lent text.now list.now names.now symbols.old made.old }
+fn some(source: &Source<'_>, symbols: &mut [u64; 160], made: &mut [u8; 1024], s: Pass) -> Pass
+    requires lent { Lent source.now.list.now source.now.names.now symbols.old made.old }
     requires at_bound { (s.at ≤ 254) × (s.to ≤ 980) }
     ensures went { Went s.at s.to result.at result.to symbols.new made.new }
-    ensures some_after { SomeAfter text.now list.now symbols.old symbols.new made.old made.new
+    ensures some_after { SomeAfter source.now.text.bytes source.now.list.now symbols.old symbols.new made.old made.new
         s.at s.to result.at result.to }
 {
-    let x = lexis::name(text, s.at);
-    if x.end == 0 {
+    let Some(x) = source.text.name(s.at) else {
         return LOST;
-    }
-    let r = lexis::relation(text, x.end);
+    };
+    let Some(r) = source.text.relation(x.end) else {
+        return LOST;
+    };
     let at = r.end;
-    if at == 0 {
-        return LOST;
-    }
     let from = s.to;
     let k = symbols[symbols::COUNT] as usize;
-    if !opened(list, names, symbols, made, from, x.value, r.value) {
+    if !opened(source, symbols, made, from, x.value, r.value) {
         return LOST;
     }
     let to = from + 3;
-    let c = bracket(text, list, names, symbols, made, Pass { at, to });
+    let c = bracket(source, symbols, made, Pass { at, to });
     symbols[4 * k + 3] = symbols::CLOSED;
     c
 }
 
 #[cycle(bracket_comparison_condition_factor_some_aggregate_closed_qualified_term)]
-fn factor(
-    text: &[u8; 256],
-    list: &[u8],
-    names: &[u64; 256],
-    symbols: &mut [u64; 160],
-    made: &mut [u8; 1024],
-    s: Pass,
-) -> Pass
-    requires lent { Lent text.now list.now names.now symbols.old made.old }
+fn factor(source: &Source<'_>, symbols: &mut [u64; 160], made: &mut [u8; 1024], s: Pass) -> Pass
+    requires lent { Lent source.now.list.now source.now.names.now symbols.old made.old }
     requires at_bound { s.at ≤ 254 }
     ensures went { Went s.at s.to result.at result.to symbols.new made.new }
-    ensures formed { Formed text.now list.now symbols.old symbols.new made.old made.new
+    ensures formed { Formed source.now.text.bytes source.now.list.now symbols.old symbols.new made.old made.new
         s.at s.to result.at result.to IsFactor }
 {
     let mut at = s.at;
@@ -181,18 +160,16 @@ fn factor(
         if 980 < to {
             return LOST;
         }
-        let p = lexis::past(text, at, 40);
-        if p != 0 {
-            at = p;
-            return bracket(text, list, names, symbols, made, Pass { at, to });
+        if let Some(at) = source.text.past(at, 40) {
+            return bracket(source, symbols, made, Pass { at, to });
         }
-        let w = lexis::word(text, at);
+        let w = source.text.word(at);
         if w.value == 783124 {
             at = w.end;
-            return some(text, list, names, symbols, made, Pass { at, to });
+            return some(source, symbols, made, Pass { at, to });
         }
         if w.value != 26747 {
-            return comparison(text, list, names, symbols, made, Pass { at, to }, w);
+            return comparison(source, symbols, made, Pass { at, to }, w);
         }
         made[to] = 18;
         to += 1;
@@ -213,25 +190,23 @@ fn insert(made: &mut [u8; 1024], from: usize, to: usize, b: u8)
 // A condition; each ^ and V is written in front of what it joins.
 #[cycle(bracket_comparison_condition_factor_some_aggregate_closed_qualified_term)]
 pub(crate) fn condition(
-    text: &[u8; 256],
-    list: &[u8],
-    names: &[u64; 256],
+    source: &Source<'_>,
     symbols: &mut [u64; 160],
     made: &mut [u8; 1024],
     s: Pass,
 ) -> Pass
-    requires lent { Lent text.now list.now names.now symbols.old made.old }
+    requires lent { Lent source.now.list.now source.now.names.now symbols.old made.old }
     requires at_bound { s.at ≤ 254 }
     ensures went { Went s.at s.to result.at result.to symbols.new made.new }
     ensures to_bound { 1 ≤ result.at → result.to ≤ 980 }
-    ensures formed { Formed text.now list.now symbols.old symbols.new made.old made.new
+    ensures formed { Formed source.now.text.bytes source.now.list.now symbols.old symbols.new made.old made.new
         s.at s.to result.at result.to IsCondition }
 {
     let start = s.to;
     let mut from = start;
     let mut c = s;
     loop {
-        c = factor(text, list, names, symbols, made, c);
+        c = factor(source, symbols, made, c);
         let end = c.at;
         let to = c.to;
         if end == 0 {
@@ -240,18 +215,16 @@ pub(crate) fn condition(
         if 980 < to {
             return LOST;
         }
-        let p = lexis::past(text, end, 94);
-        if p != 0 {
+        if let Some(at) = source.text.past(end, 94) {
             insert(made, from, to, 19);
-            c = Pass { at: p, to: to + 1 };
+            c = Pass { at, to: to + 1 };
             continue;
         }
-        let q = lexis::past_or(text, end);
-        if q == 0 {
+        let Some(at) = source.text.past_or(end) else {
             return c;
-        }
+        };
         insert(made, start, to, 20);
         from = to + 1;
-        c = Pass { at: q, to: from };
+        c = Pass { at, to: from };
     }
 }

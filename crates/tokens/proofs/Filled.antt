@@ -14,7 +14,7 @@ use Rattle.std.specs.List.{list_all}
 use Rattle.model.specs.Lists.{all}
 use Rattle.quel.specs.Tokens.{is_letter, run, reserved, is_reserved}
 use Rattle.tokens.specs.Spans.{capped}
-use Rattle.tokens.specs.Kinds.{number_of, code_of, kind_spelled, some_kind, is_name}
+use Rattle.tokens.specs.Kinds.{number_of, code_of, kind_spelled, nonzero, is_name}
 use Rattle.tokens.specs.declared.Kind.{Kind}
 use Rattle.tokens.proofs.Places.{run-all}
 use Rattle.tokens.proofs.Words.{reserved-kind}
@@ -70,13 +70,13 @@ module _ (x : List ℕ) (n : ℕ) (en : n ≡ length (run is_letter x)) where
     pub not-filled : s ≡ false → false ≡ is_name x
     not-filled f = sym (name-rest ∙ ap (λ (t : Bool). t && not (is_reserved (run is_letter x))) f)
 
-    pub filled : s ≡ true → (v : ℕ) (o : Option Kind) → v ≡ capped (code_of (run is_letter x)) → option_map number_of o ≡ some_kind (kind_spelled reserved v) → is_none o ≡ is_name x
+    pub filled : s ≡ true → (v : ℕ) (o : Option Kind) → v ≡ capped (code_of (run is_letter x)) → option_map number_of o ≡ nonzero (kind_spelled reserved v) → is_none o ≡ is_name x
     filled f v o ev eo =
         missing o (kind_spelled reserved v) eo
         ∙ ap not (ap (λ (u : ℕ). not (eqb (kind_spelled reserved u) 0)) ev ∙ reserved-kind (run is_letter x) (run-all is_letter x))
         ∙ sym (name-rest ∙ ap (λ (t : Bool). t && not (is_reserved (run is_letter x))) f)
       where
-        missing : (o : Option Kind) (n : ℕ) → option_map number_of o ≡ some_kind n → is_none o ≡ not (not (eqb n 0))
+        missing : (o : Option Kind) (n : ℕ) → option_map number_of o ≡ nonzero n → is_none o ≡ not (not (eqb n 0))
         missing None zero e = refl
         missing None (suc n) e = cc
         missing (Some k) zero e = cc

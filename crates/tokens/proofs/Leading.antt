@@ -15,7 +15,7 @@ use Rattle.quel.specs.Tokens.{Token, word_in, reserved, sign_in, signs, is_lette
 use Rattle.quel.specs.Lexical.{first}
 use Rattle.tokens.specs.Spans.{positional, capped}
 use Rattle.tokens.specs.Table.{token_of}
-use Rattle.tokens.specs.Kinds.{number_of, code_of, kind_spelled, sign_kind, some_kind}
+use Rattle.tokens.specs.Kinds.{number_of, code_of, kind_spelled, sign_kind, nonzero}
 use Rattle.tokens.specs.Pieces.{leading, Leads, Opens, Single}
 use Rattle.tokens.specs.declared.Piece.{Piece}
 use Rattle.tokens.specs.declared.Kind.{Kind}
@@ -38,8 +38,8 @@ unfolding token run past
 letter-leads [] h = clash h
 letter-leads (b ∷ r) h = rw h
 
-module _ (s : List ℕ) (o : Option Kind) (v n : ℕ) (h : first is_letter s ≡ true) (e₀ : v ≡ capped (code_of (run is_letter s))) (e₁ : option_map number_of o ≡ some_kind (kind_spelled reserved v)) (e₂ : n ≡ length (run is_letter s)) where
-  name-else : (o : Option Kind) (n : ℕ) → option_map number_of o ≡ some_kind n → number_of (unwrap_or o K.Name) ≡ n
+module _ (s : List ℕ) (o : Option Kind) (v n : ℕ) (h : first is_letter s ≡ true) (e₀ : v ≡ capped (code_of (run is_letter s))) (e₁ : option_map number_of o ≡ nonzero (kind_spelled reserved v)) (e₂ : n ≡ length (run is_letter s)) where
+  name-else : (o : Option Kind) (n : ℕ) → option_map number_of o ≡ nonzero n → number_of (unwrap_or o K.Name) ≡ n
   name-else None zero e = refl
   name-else None (suc n) e = cc
   name-else (Some k) zero e = cc
@@ -131,10 +131,10 @@ module _ (b : ℕ) (r : List ℕ) (s : Single b) where
   unfolding token
   single-leads = rw (s.no-letter, s.no_digit, s.no_minus, s.no_less, s.no_more)
 
-  pub single-reads : (o : Option Kind) → option_map number_of o ≡ some_kind (sign_kind signs b) → Leads (option_map (λ (k : Kind). record { kind = k; size = 1; value = 0 }) o) (b ∷ r)
+  pub single-reads : (o : Option Kind) → option_map number_of o ≡ nonzero (sign_kind signs b) → Leads (option_map (λ (k : Kind). record { kind = k; size = 1; value = 0 }) o) (b ∷ r)
   single-reads o e = go (sign_kind signs b) refl o e
     where
-      go : (n : ℕ) → sign_kind signs b ≡ n → (o : Option Kind) → option_map number_of o ≡ some_kind n → Leads (option_map (λ (k : Kind). record { kind = k; size = 1; value = 0 }) o) (b ∷ r)
+      go : (n : ℕ) → sign_kind signs b ≡ n → (o : Option Kind) → option_map number_of o ≡ nonzero n → Leads (option_map (λ (k : Kind). record { kind = k; size = 1; value = 0 }) o) (b ∷ r)
       go zero f None e = record { says = sym (single-leads ∙ (sym (sign-token b [] 0 r) ∙ rw f)); fits = tt; names = tt }
       go zero f (Some k) e = cc
       go (suc n) f None e = cc

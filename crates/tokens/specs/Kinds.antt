@@ -71,10 +71,10 @@ unfoldable pub sign_kind : List (ℕ × Token) → ℕ → ℕ
 sign_kind [] b = 0
 sign_kind (p ∷ ps) b = cond (eqb p.0 b) (kind_of p.1) (sign_kind ps b)
 
--- a kind that is not 0
-abbrev pub some_kind : ℕ → Option ℕ
-some_kind zero = None
-some_kind (suc k) = Some (suc k)
+-- a number that is not 0
+abbrev pub nonzero : ℕ → Option ℕ
+nonzero zero = None
+nonzero (suc k) = Some (suc k)
 
 -- the letters in front are a name, with nothing but spaces after them
 unfoldable pub is_name : List ℕ → Bool

@@ -6,7 +6,7 @@ ghost use Rattle.model.specs.Lists.{all};
 ghost use Rattle.quel.specs.Tokens.{reserved, signs, is_blank, is_letter, is_digit, run, tokens};
 ghost use Rattle.quel.specs.Lexical.{first};
 ghost use Rattle.tokens.specs.Spans.{within, positional, capped};
-ghost use Rattle.tokens.specs.Kinds.{number_of, code_of, kind_spelled, sign_kind, some_kind, is_name};
+ghost use Rattle.tokens.specs.Kinds.{number_of, code_of, kind_spelled, sign_kind, nonzero, is_name};
 ghost use Rattle.tokens.specs.Pieces.{Leads, Opens, Single, read_of, counted};
 ghost use Rattle.tokens.specs.Codes.{Coded};
 
@@ -128,7 +128,7 @@ impl From<Kind> for u8 {
 // The kind of the reserved word that spells a number. RANGE RETRIEVE NOT SOME IN V COUNT SUM AVE MAX MIN
 #[tactic(auto, unfolding(crate::specs::Kinds::kind_spelled, crate::specs::Spans::positional))]
 fn reserved_kind(value: u64) -> Option<Kind>
-    ensures { option_map number_of result ≡ some_kind (kind_spelled reserved value) }
+    ensures { option_map number_of result ≡ nonzero (kind_spelled reserved value) }
 {
     match value {
         19658916 => Some(Kind::Range),
@@ -182,7 +182,7 @@ pub fn spelling(word: &[u8]) -> Spelled
 // The kind of a sign of one byte.
 #[tactic(auto, unfolding(crate::specs::Kinds::sign_kind))]
 fn sign_kind(b: u8) -> Option<Kind>
-    ensures { option_map number_of result ≡ some_kind (sign_kind signs b) }
+    ensures { option_map number_of result ≡ nonzero (sign_kind signs b) }
 {
     match b {
         b'(' => Some(Kind::Left),

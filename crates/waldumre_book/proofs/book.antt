@@ -1,4 +1,3 @@
-pub mod Blank
 pub mod Entries
 pub mod Walk
 pub mod Size

@@ -1,43 +1,19 @@
 // The label book: whether an answer makes one, and if so its offers and its display.
 mod labels;
 
-ghost use Rattle.std.specs.Prelude.{◌≡◌, true, cond, ◌&&◌, [], eqb, negsuc, length, replicate};
+ghost use Rattle.std.specs.Prelude.{◌≡◌, true, cond, ◌&&◌, [], eqb};
 ghost use Rattle.model.specs.Lists.{all};
 ghost use Rattle.model.specs.Book.{rows_in, in_range, book_of, fits};
 
-// -1 for every label.
-fn blank_offers(offers: &mut [i64])
-    ensures { offers.new ≡ replicate (length offers.old) (negsuc 0) }
-{
-    let mut i = 0;
-    while i < offers.len() {
-        offers[i] = -1;
-        i += 1;
-    }
-}
-
-// Spaces for every label.
-fn blank_display(display: &mut [u8])
-    ensures { display.new ≡ replicate (length display.old) 32 }
-{
-    let mut i = 0;
-    while i < display.len() {
-        display[i] = 32;
-        i += 1;
-    }
-}
-
 // Each row's entry into a blank book, the last row first: so a label's first row stays.
-fn fill(cells: &[i64], offers: &mut [i64], display: &mut [u8])
+fn enter(cells: &[i64], offers: &mut [i64], display: &mut [u8])
     requires cells_value { all in_range (rows_in cells.now) ≡ true }
     requires display_value { record { offers = offers.old; display = display.old } ≡ book_of [] }
     ensures { record { offers = offers.new; display = display.new } ≡ book_of (rows_in cells.now) }
 {
     let rows = cells.len() / 3;
-    let mut i = 0;
-    while i < rows {
-        i += 1;
-        let at = 3 * (rows - i);
+    for i in (0..rows).rev() {
+        let at = 3 * i;
         let label = cells[at] as usize;
         let offer = cells[at + 1];
         let price = cells[at + 2] as u64;
@@ -50,16 +26,7 @@ fn fill(cells: &[i64], offers: &mut [i64], display: &mut [u8])
 fn suits(columns: usize, cells: &[i64], offers: usize, display: usize) -> bool
     ensures { result ≡ eqb columns 3 && eqb offers 500 && eqb display 3500 && all in_range (rows_in cells.now) }
 {
-    if columns != 3 {
-        return false;
-    }
-    if offers != 500 {
-        return false;
-    }
-    if display != 3500 {
-        return false;
-    }
-    labels::all_in_range(cells)
+    columns == 3 && offers == 500 && display == 3500 && labels::all_in_range(cells)
 }
 
 // Writes the book of an answer's cells, and returns whether there is one; where there is none the book is left as it was.
@@ -72,8 +39,8 @@ pub(crate) fn write(columns: usize, cells: &[i64], offers: &mut [i64], display: 
     if !good {
         return false;
     }
-    blank_offers(offers);
-    blank_display(display);
-    fill(cells, offers, display);
+    offers.fill(-1);
+    display.fill(32);
+    enter(cells, offers, display);
     good
 }

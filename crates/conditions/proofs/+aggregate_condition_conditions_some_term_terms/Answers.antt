@@ -12,7 +12,7 @@ use borrow.Author.Rules.{rules}
 use Rattle.conditions.proofs.+aggregate_condition_conditions_some_term_terms.Goals as goal
 
 pub aggregate-returns : goal.aggregate-returns
-aggregate-returns t c = record { value = aggregated-is (shape_in c.args.catalogue.now) c.args.limit c.args.under.level c.args.under.variable c.args.relation c.known-known.result c.known-known.ensures _ _ _ c.args.attribute _ c.has-has.result (Some c.only_if.result) c.from.ensures c.has-has.ensures c.requires.1 c.bind.new.reach c.bind.ensures c.condition.ensures.value (ap Some c.only_if.ensures ∙ ap (held c.has-has.result) (sym c.in_ok-r.was)) (ap Some c.only_if-2.ensures); z_after = c.condition.ensures.z_after }
+aggregate-returns t c = record { value = aggregated-is (shape_in c.args.catalogue.now) c.args.limit c.args.under.level c.args.under.variable c.args.relation c.known-known.result c.known-known.ensures _ _ _ c.args.attribute _ c.has-has.result _ c.from.ensures c.has-has.ensures c.requires.1 c.bind.new.reach c.bind.ensures c.condition.ensures.value (ap (held c.has-has.result) (sym c.in_ok-r.was)) refl; z_after = c.condition.ensures.z_after }
 
 pub condition-returns-then-level-eq0 : goal.condition-returns-then-level-eq0
 condition-returns-then-level-eq0 t c = let h = no-level (shape_in c.args.catalogue.now) c.args.limit c.args.level (scope_of c.args.reach.now) c.args.q.now c.args.at c.args.z.now c.if-level-eq0.true in record { value = h.0; z_after = h.1; reach_unchanged = refl }
@@ -73,10 +73,10 @@ pub conditions-condition-requires-2 : goal.conditions-condition-requires-2
 conditions-condition-requires-2 t c = (omega arith, (omega (arith, ap bytes_of c.in_ok-first.was, condition-ends c.args.q.now _ c.requires.0 _ _ _ _ c.condition.result c.condition.ensures.value), omega (arith, ap length c.condition.ensures.reach_unchanged, c.requires.1)))
 
 pub conditions-returns : goal.conditions-returns
-conditions-returns t c = let h = conditions-go (shape_in c.args.catalogue.now) c.args.limit c.args.level c.args.q.now c.args.at c.args.z.now c.condition.result _ c.args.reach.now c.condition.ensures.value c.condition.ensures.z_after c.in_ok-first.first.length c.in_ok-first.first.inside c.in_ok-first.was c.condition.new.reach c.condition.ensures.reach_unchanged (Some c.in_ok-second.second) _ (sym c.in_ok-second.was ∙ c.condition-2.ensures.value) c.condition-2.ensures.z_after in let e = ap Some c.only_if.ensures in record { value = e ∙ h.0; z_after = same-sized _ _ _ _ e h.1; reach_unchanged = c.condition-2.ensures.reach_unchanged ∙ c.condition.ensures.reach_unchanged }
+conditions-returns t c = let h = conditions-go (shape_in c.args.catalogue.now) c.args.limit c.args.level c.args.q.now c.args.at c.args.z.now c.condition.result _ c.args.reach.now c.condition.ensures.value c.condition.ensures.z_after c.in_ok-first.first.length c.in_ok-first.first.inside c.in_ok-first.was c.condition.new.reach c.condition.ensures.reach_unchanged (Some c.in_ok-second.second) _ (sym c.in_ok-second.was ∙ c.condition-2.ensures.value) c.condition-2.ensures.z_after in record { value = h.0; z_after = h.1; reach_unchanged = c.condition-2.ensures.reach_unchanged ∙ c.condition.ensures.reach_unchanged }
 
 pub some-returns : goal.some-returns
-some-returns t c = let reach = c.args.reach.now in let variable = c.args.under.variable in record { value = under-is (shape_in c.args.catalogue.now) c.args.limit c.args.under.level variable c.args.relation c.known-known.result c.known-known.ensures _ _ _ reach c.bind.new.reach c.requires.1 c.bind.ensures c.condition-inner.ensures.value (ap Some c.only_if.ensures ∙ ap (held c.known-known.result) (sym c.in_ok-inner.was)); z_after = c.condition-inner.ensures.z_after; reach_unchanged = put_back reach _ c.put.new.reach variable _ _ (c.condition-inner.ensures.reach_unchanged ∙ c.bind.ensures) c.entry-old.ensures c.put.ensures }
+some-returns t c = let reach = c.args.reach.now in let variable = c.args.under.variable in record { value = under-is (shape_in c.args.catalogue.now) c.args.limit c.args.under.level variable c.args.relation c.known-known.result c.known-known.ensures _ _ _ reach c.bind.new.reach c.requires.1 c.bind.ensures c.condition-inner.ensures.value (ap (held c.known-known.result) (sym c.in_ok-r.was)); z_after = c.condition-inner.ensures.z_after; reach_unchanged = put_back reach _ c.put.new.reach variable _ _ (c.condition-inner.ensures.reach_unchanged ∙ c.bind.ensures) c.entry-old.ensures c.put.ensures }
 
 pub term-returns-then-level-eq0 : goal.term-returns-then-level-eq0
 term-returns-then-level-eq0 t c = let h = no-level_t (shape_in c.args.catalogue.now) c.args.limit c.args.level (scope_of c.args.reach.now) c.args.q.now c.args.at c.args.z.now c.if-level-eq0.true in record { value = h.0; z_after = h.1 }
@@ -110,7 +110,7 @@ pub terms-term-requires-2 : goal.terms-term-requires-2
 terms-term-requires-2 t c = (omega arith, omega (arith, ap bytes_of c.in_ok-first.was, term-ends c.args.q.now _ c.requires _ _ _ _ c.term.result c.term.ensures.value))
 
 pub terms-returns : goal.terms-returns
-terms-returns t c = let h = terms-go (shape_in c.args.catalogue.now) c.args.limit c.args.level c.args.q.now c.args.at c.args.z.now c.term.result _ (scope_of c.args.reach.now) c.term.ensures.value c.term.ensures.z_after c.in_ok-first.first.length c.in_ok-first.first.inside c.in_ok-first.was (Some c.in_ok-second.second) _ (sym c.in_ok-second.was ∙ c.term-2.ensures.value) c.term-2.ensures.z_after in let e = ap Some c.only_if.ensures in record { value = e ∙ h.0; z_after = same-sized _ _ _ _ e h.1 }
+terms-returns t c = let h = terms-go (shape_in c.args.catalogue.now) c.args.limit c.args.level c.args.q.now c.args.at c.args.z.now c.term.result _ (scope_of c.args.reach.now) c.term.ensures.value c.term.ensures.z_after c.in_ok-first.first.length c.in_ok-first.first.inside c.in_ok-first.was (Some c.in_ok-second.second) _ (sym c.in_ok-second.was ∙ c.term-2.ensures.value) c.term-2.ensures.z_after in record { value = h.0; z_after = h.1 }
 
 pub conditions-returns-in_err-first : goal.conditions-returns-in_err-first
 conditions-returns-in_err-first t c = let h = conditions-stop (shape_in c.args.catalogue.now) c.args.limit c.args.level c.args.q.now c.args.at c.args.z.now c.condition.result _ c.args.reach.now c.condition.ensures.value c.condition.ensures.z_after c.in_err-first.was in record { value = c.from_residual.ensures ∙ h.0; z_after = same-sized _ None _ _ c.from_residual.ensures h.1; reach_unchanged = c.condition.ensures.reach_unchanged }
@@ -118,8 +118,8 @@ conditions-returns-in_err-first t c = let h = conditions-stop (shape_in c.args.c
 pub conditions-returns-in_err-second : goal.conditions-returns-in_err-second
 conditions-returns-in_err-second t c = let h = conditions-go (shape_in c.args.catalogue.now) c.args.limit c.args.level c.args.q.now c.args.at c.args.z.now c.condition.result _ c.args.reach.now c.condition.ensures.value c.condition.ensures.z_after c.in_ok-first.first.length c.in_ok-first.first.inside c.in_ok-first.was c.condition.new.reach c.condition.ensures.reach_unchanged None _ (sym c.in_err-second.was ∙ c.condition-2.ensures.value) c.condition-2.ensures.z_after in record { value = c.from_residual-in_err-second.ensures ∙ h.0; z_after = same-sized _ None _ _ c.from_residual-in_err-second.ensures h.1; reach_unchanged = c.condition-2.ensures.reach_unchanged ∙ c.condition.ensures.reach_unchanged }
 
-pub conditions-overflow_add-length : goal.conditions-overflow_add-length
-conditions-overflow_add-length t c = let good = c.well_formed in omega (arith, conditions-fit c.args.q.now _ c.requires.0 _ _ _ _ _ _ _ _ _ _ _ c.in_ok-first.was c.in_ok-second.was c.condition.ensures.value c.condition-2.ensures.value, good)
+pub conditions-overflow_add-result : goal.conditions-overflow_add-result
+conditions-overflow_add-result t c = let good = c.well_formed in omega (arith, conditions-fit c.args.q.now _ c.requires.0 _ _ _ _ _ _ _ _ _ _ _ c.in_ok-first.was c.in_ok-second.was c.condition.ensures.value c.condition-2.ensures.value, good)
 
 pub terms-returns-in_err-first : goal.terms-returns-in_err-first
 terms-returns-in_err-first t c = let h = terms-stop (shape_in c.args.catalogue.now) c.args.limit c.args.level c.args.q.now c.args.at c.args.z.now c.term.result _ (scope_of c.args.reach.now) c.term.ensures.value c.term.ensures.z_after c.in_err-first.was in record { value = c.from_residual.ensures ∙ h.0; z_after = same-sized _ None _ _ c.from_residual.ensures h.1 }
@@ -127,11 +127,11 @@ terms-returns-in_err-first t c = let h = terms-stop (shape_in c.args.catalogue.n
 pub terms-returns-in_err-second : goal.terms-returns-in_err-second
 terms-returns-in_err-second t c = let h = terms-go (shape_in c.args.catalogue.now) c.args.limit c.args.level c.args.q.now c.args.at c.args.z.now c.term.result _ (scope_of c.args.reach.now) c.term.ensures.value c.term.ensures.z_after c.in_ok-first.first.length c.in_ok-first.first.inside c.in_ok-first.was None _ (sym c.in_err-second.was ∙ c.term-2.ensures.value) c.term-2.ensures.z_after in record { value = c.from_residual-in_err-second.ensures ∙ h.0; z_after = same-sized _ None _ _ c.from_residual-in_err-second.ensures h.1 }
 
-pub terms-overflow_add-length : goal.terms-overflow_add-length
-terms-overflow_add-length t c = let good = c.well_formed in omega (arith, terms-fit c.args.q.now _ c.requires _ _ _ _ _ _ _ _ _ _ _ c.in_ok-first.was c.in_ok-second.was c.term.ensures.value c.term-2.ensures.value, good)
+pub terms-overflow_add-result : goal.terms-overflow_add-result
+terms-overflow_add-result t c = let good = c.well_formed in omega (arith, terms-fit c.args.q.now _ c.requires _ _ _ _ _ _ _ _ _ _ _ c.in_ok-first.was c.in_ok-second.was c.term.ensures.value c.term-2.ensures.value, good)
 
-pub some-returns-in_err-inner : goal.some-returns-in_err-inner
-some-returns-in_err-inner t c = let reach = c.args.reach.now in let variable = c.args.under.variable in record { value = under-is (shape_in c.args.catalogue.now) c.args.limit c.args.under.level variable c.args.relation c.known-known.result c.known-known.ensures _ _ _ reach c.bind.new.reach c.requires.1 c.bind.ensures c.condition-inner.ensures.value (c.from_residual.ensures ∙ ap (held c.known-known.result) (sym c.in_err-inner.was)); z_after = c.condition-inner.ensures.z_after; reach_unchanged = put_back reach _ c.put.new.reach variable _ _ (c.condition-inner.ensures.reach_unchanged ∙ c.bind.ensures) c.entry-old.ensures c.put.ensures }
+pub some-returns-in_err-r : goal.some-returns-in_err-r
+some-returns-in_err-r t c = let reach = c.args.reach.now in let variable = c.args.under.variable in record { value = under-is (shape_in c.args.catalogue.now) c.args.limit c.args.under.level variable c.args.relation c.known-known.result c.known-known.ensures _ _ _ reach c.bind.new.reach c.requires.1 c.bind.ensures c.condition-inner.ensures.value (c.from_residual.ensures ∙ ap (held c.known-known.result) (sym c.in_err-r.was)); z_after = c.condition-inner.ensures.z_after; reach_unchanged = put_back reach _ c.put.new.reach variable _ _ (c.condition-inner.ensures.reach_unchanged ∙ c.bind.ensures) c.entry-old.ensures c.put.ensures }
 
 pub aggregate-returns-in_err-r : goal.aggregate-returns-in_err-r
 aggregate-returns-in_err-r t c = record { value = aggregated-is (shape_in c.args.catalogue.now) c.args.limit c.args.under.level c.args.under.variable c.args.relation _ refl _ _ _ c.args.attribute c.args.relation _ None refl refl c.requires.1 c.bind.new.reach c.bind.ensures c.condition.ensures.value (ap (held _) (sym c.in_err-r.was)) c.from_residual.ensures; z_after = c.condition.ensures.z_after }

@@ -19,7 +19,7 @@ use Rattle.tokens.specs.Kinds.{code_of}
 use Rattle.tokens.proofs.Codes.{spelt-same, spelt-code}
 use Rattle.buckets.specs.Chains.{bucket_of, Held}
 use Rattle.buckets.proofs.Laws.{same_word_lem, every_map, held-put, held_up, held_none}
-use Rattle.elaborate.specs.Numbers.{Numbered, Numbering, Earlier, Met, marked}
+use Rattle.elaborate.specs.Numbers.{Numbered, Numbering, Earlier, marked}
 use Rattle.elaborate.proofs.marks.Walks.{here, here-is, same_word-length, name-past, name-other}
 
 same_self : (v : Word) → same_word v v ≡ true
@@ -198,29 +198,6 @@ module _ (w : ℕ → Word) where
           every : (y : ℕ) → (y ≡ i) ⊎ (y < i) → 1 ≤ length (w y) → (same_word (w i) (w y) || any (λ (x : ℕ). same_word (w x) (w y)) f.places) ≡ true
           every y (inl e) m = ap (λ (b : Bool). b || any (λ (x : ℕ). same_word (w x) (w y)) f.places) (ap (λ (z : ℕ). same_word (w i) (w z)) e ∙ same_self (w i))
           every y (inr l) m = ap (λ (b : Bool). same_word (w i) (w y) || b) (f.all y l m) ∙ or-true (same_word (w i) (w y))
-
-    -- by what a search for the name has met
-    module _ (s : 1 ≤ length (w i)) (room : i < length ids) (r : ℕ) (m : Met w ids i f.places r) where
-      pub met-small : r ≤ i
-      met-small = go m
-        where
-          go : Met w ids i f.places r → r ≤ i
-          go (inl p) = omega (arith, p.0)
-          go (inr p) = omega (arith, p.number, f.most p.place)
-
-      pub met-old : (r ≡ 0 → ⊥) → Numbering w (i + 1) heads nexts (set ids i r)
-      met-old h = go m
-        where
-          go : Met w ids i f.places r → Numbering w (i + 1) heads nexts (set ids i r)
-          go (inl p) = absurd (h p.0)
-          go (inr p) = number-old s room r p
-
-      pub met-none : r ≡ 0 → any (λ (x : ℕ). same_word (w x) (w i)) f.places ≡ false
-      met-none z = go m
-        where
-          go : Met w ids i f.places r → any (λ (x : ℕ). same_word (w x) (w i)) f.places ≡ false
-          go (inl p) = p.1
-          go (inr p) = absurd (omega (arith, z, p.number, f.some p.place p.before (omega (arith, s, ap length p.name))))
 
   -- all places
   pub number-end : (n : ℕ) (heads nexts ids : List ℕ) → Numbering w n heads nexts ids → ((y : ℕ) → n ≤ y → length (w y) ≡ 0) → Numbered w n ids

@@ -1,15 +1,23 @@
 use Rattle.buckets.proofs.Laws.{heads-room, nexts-room, nexts-full}
 use native.Mathlib.Omega.{arith}
-use mathlib.Core.Path.{refl, sym, ap, ◌∙◌}
+use mathlib.Core.Path.{refl, sym, ap, subst, ◌∙◌}
 use Prim.Native.Nat.{ℕ}
+use Rattle.tokens.specs.Codes.{Spelt}
 use Rattle.names.specs.Search.{name_of}
 use lib.ListN.{drop, take}
 use Prim.Native.Nat.{◌/◌, ◌%◌}
-use Rattle.names.proofs.Once.{here-room, here-spelt, told-twice, told_fresh, told-past, past_is}
+use Rattle.names.proofs.Once.{told_none, here-room, here-some, here-spelt, told-twice, told_fresh, told-past, past_is}
 use Rattle.names.proofs.fresh.Goals as goal
 
 pub known-requires : goal.known-requires
-known-requires c = (c.requires.0, here-spelt c.args.list.now c.args.at c.args.code c.requires.1 c.requires.2, c.requires.5)
+known-requires c = record {
+  here = (c.requires.0, here-some c.args.list.now c.args.at c.args.code c.requires.1 c.requires.2);
+  named = here-spelt c.args.list.now c.args.at c.args.code c.requires.1 c.requires.2;
+  chained = c.requires.5;
+}
+
+pub like-sought-requires-clause-some : goal.like-sought-requires-clause-some
+like-sought-requires-clause-some c = here-some c.args.list.now c.args.at c.args.code c.requires.1 c.requires.2
 
 pub returns-then-known : goal.returns-then-known
 returns-then-known c = let index = c.args.index.now in let list = c.args.list.now in
@@ -21,4 +29,4 @@ returns-then-slot-index c = let index = c.args.index.now in let list = c.args.li
 
 pub returns : goal.returns
 returns c = let index = c.args.index.now in let list = c.args.list.now in let code = c.args.code in
-    λ xs f. told-past list c.args.at (omega (arith, here-room list c.args.at code c.requires.1 c.requires.2)) xs (take 512 index) (drop 512 index) f _ (past_is list c.args.at c.byte-kind.result c.byte-relation.result c.place.result c.find.result (name_of list c.args.at) c.byte-kind.ensures c.byte-relation.ensures c.place.ensures.value refl (c.find.ensures (name_of list c.args.at) (here-spelt list c.args.at code c.requires.1 c.requires.2))) (nexts-full index (c.args.at / 14) c.if-slot-index.false) (sym (c.known.ensures xs f) ∙ c.if-known.false)
+    λ xs f. told-past list c.args.at (omega (arith, here-room list c.args.at code c.requires.1 c.requires.2)) xs (take 512 index) (drop 512 index) f _ (told_none _ _ c.is_none.ensures ∙ past_is list c.args.at c.like-sought.result.kind c.like-sought.result.relation c.place.result c.find.result (name_of list c.args.at) c.like-sought.ensures.kind c.like-sought.ensures.relation c.place.ensures.value refl c.find.ensures.inside (c.find.ensures.value (name_of list c.args.at) (subst (Spelt (name_of list c.args.at)) (sym c.like-sought.ensures.code) (here-spelt list c.args.at code c.requires.1 c.requires.2)))) (nexts-full index (c.args.at / 14) c.if-slot-index.false) (sym (c.known.ensures xs f) ∙ c.if-known.false)

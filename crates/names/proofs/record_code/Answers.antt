@@ -1,12 +1,11 @@
-use native.Mathlib.Omega.{arith}
-use Rattle.names.proofs.Once.{letters-low, letters-high, letters-between}
+use Rattle.names.specs.Search.{good_code}
+use Rattle.tokens.specs.Kinds.{nonzero}
+use Rattle.names.proofs.Once.{letters-other, letters-between}
+use Rattle.std.proofs.Common.{ap, refl, ◌+◌, ◌∙◌, rules}
 use Rattle.names.proofs.record_code.Goals as goal
 
-pub returns-then-kind-lt80 : goal.returns-then-kind-lt80
-returns-then-kind-lt80 c = letters-low c.args.list.now c.args.at c.byte-kind.result c.byte-kind.ensures c.if-kind-lt80.true
-
-pub returns-then-kind-gt82 : goal.returns-then-kind-gt82
-returns-then-kind-gt82 c = letters-high c.args.list.now c.args.at c.byte-kind.result c.byte-kind.ensures (omega arith)
+pub returns-then-not-contains : goal.returns-then-not-contains
+returns-then-not-contains c = ap nonzero (letters-other c.args.list.now c.args.at c.byte-kind.result c.byte-kind.ensures (search rules))
 
 pub returns : goal.returns
-returns c = letters-between c.args.list.now c.args.at c.byte-kind.result c.byte-kind.ensures _ _ c.if-kind-lt80.false (omega arith) c.place.ensures.value c.good_code.ensures
+returns c = c.good_code.ensures ∙ ap nonzero (letters-between c.args.list.now c.args.at c.byte-kind.result c.byte-kind.ensures (good_code c.args.list.now (c.args.at + c.place.result)) _ (search rules) (search rules) c.place.ensures.value refl)

@@ -1,8 +1,9 @@
+use Rattle.std.proofs.Common.{◌∙◌}
 use Rattle.names.proofs.Finds as finds
 use Rattle.names.proofs.value_named.Goals as goal
 
-pub returns-then-at-list : goal.returns-then-at-list
-returns-then-at-list c = λ w s. finds.value-some c.args.list.now w 0 c.look-at.result c.byte.result c.byte-then-at-list.result c.byte-then-at-list-2.result c.byte-then-at-list-3.result (c.look-at.ensures w s) c.if-at-list.true c.byte.ensures c.byte-then-at-list.ensures c.byte-then-at-list-2.ensures c.byte-then-at-list-3.ensures
-
 pub returns : goal.returns
-returns c = λ w s. finds.value_none c.args.list.now w 0 c.look-at.result (c.look-at.ensures w s) c.if-at-list.false
+returns c = λ w s. finds.value-some c.args.list.now w 0 c.in_ok-at.at c.byte.result c.byte-2.result c.byte-3.result c.byte-4.result (c.in_ok-at.ensures.value w s) c.in_ok-at.ensures.inside c.byte.ensures c.byte-2.ensures c.byte-3.ensures c.byte-4.ensures
+
+pub returns-in_err-at : goal.returns-in_err-at
+returns-in_err-at c = λ w s. c.from_residual.ensures ∙ finds.value_none c.args.list.now w 0 0 (c.in_err-at.ensures.value w s)

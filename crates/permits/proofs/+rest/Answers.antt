@@ -12,7 +12,7 @@ pub returns-in_default : goal.returns-in_default
 returns-in_default t c = list-unread _ c.args.permits.now c.args.at c.args.left c.if-permits-at.false c.permit.result c.permit.ensures c.in_default.is
 
 pub returns-in_default-rest : goal.returns-in_default-rest
-returns-in_default-rest t c = list-refused _ c.args.permits.now c.args.at c.args.left c.if-permits-at.false c.permit.result c.permit.ensures _ _ _ c.in-Whole.is c.rest.result c.rest.ensures c.in_default-rest.is
+returns-in_default-rest t c = list-refused _ c.args.permits.now c.args.at c.args.left c.if-permits-at.false c.permit.result c.permit.ensures _ _ _ c.in-Some.is c.rest.result c.rest.ensures c.in_default-rest.is
 
 pub returns : goal.returns
-returns t c = list-more _ c.args.permits.now c.args.at c.args.left c.if-permits-at.false c.permit.result c.permit.ensures _ _ _ c.in-Whole.is c.rest.result c.rest.ensures c.if-left-eq0.false _ _ c.in-Whole-rest.is _ _ c.both.ensures c.both-2.ensures
+returns t c = list-more _ c.args.permits.now c.args.at c.args.left c.if-permits-at.false c.permit.result c.permit.ensures _ _ _ c.in-Some.is c.rest.result c.rest.ensures c.if-left-eq0.false _ _ c.in-Whole.is _ _ c.both.ensures c.both-2.ensures

@@ -14,15 +14,15 @@ the_end a h k = omega arith
 
 pub loop-a-init : goal.loop-a-init
 unfolding all below
-loop-a-init c = (refl, omega arith)
+loop-a-init c = refl
 
 pub returns-then-not-has_if_known : goal.returns-then-not-has_if_known
 unfolding spec.attributes_in
 returns-then-not-has_if_known c = loops.below-stopped (λ (x : ℕ). not (bit c.args.mask x) || ltb x c.args.attributes) c.loop-a.a 16 c.has_if_known.result c.loop-a-test.true c.has_if_known.ensures c.if-not-has_if_known.true-raw
 
 pub loop-a-preserved : goal.loop-a-preserved
-loop-a-preserved c = (loops.below_on (λ (x : ℕ). not (bit c.args.mask x) || ltb x c.args.attributes) c.loop-a.a c.has_if_known.result c.loop-a.invariant.0 c.has_if_known.ensures c.if-not-has_if_known.false-raw, omega (arith, c.loop-a-test.true))
+loop-a-preserved c = loops.below_on (λ (x : ℕ). not (bit c.args.mask x) || ltb x c.args.attributes) c.loop-a.a c.has_if_known.result c.loop-a.invariant c.has_if_known.ensures c.if-not-has_if_known.false-raw
 
 pub returns : goal.returns
 unfolding spec.attributes_in
-returns c = sym (ap (λ (m : ℕ). all (λ (x : ℕ). not (bit c.args.mask x) || ltb x c.args.attributes) (below m)) (the_end c.loop-a.a c.loop-a.invariant.1 c.loop-a-test.false) ∙ c.loop-a.invariant.0)
+returns c = sym (ap (λ (m : ℕ). all (λ (x : ℕ). not (bit c.args.mask x) || ltb x c.args.attributes) (below m)) (the_end c.loop-a.a (omega arith) c.loop-a-test.false) ∙ c.loop-a.invariant)

@@ -1,5 +1,5 @@
 use mathlib.Core.Path.{◌≡◌}
-use Prim.Native.Nat.{ℕ, ◌-◌, ◌≤◌}
+use Prim.Native.Nat.{ℕ}
 use mathlib.Core.Bool.{true, not, ◌||◌}
 use Rattle.model.specs.Lists.{all, below}
 use Rattle.model.specs.Permits.{bit}
@@ -7,7 +7,4 @@ use lib.Dec.{ltb}
 use Rattle.permits.proofs.attributes_in.Given as goal
 
 abbrev pub invariant-loop-a : goal.invariant-loop-a
-invariant-loop-a l = (all (λ (x : ℕ). not (bit l.mask x) || ltb x l.attributes) (below l.a) ≡ true) × (l.a ≤ 16)
-
-abbrev pub decreases-loop-a : goal.decreases-loop-a
-decreases-loop-a l = 16 - l.a
+invariant-loop-a l = all (λ (x : ℕ). not (bit l.mask x) || ltb x l.attributes) (below l.a) ≡ true

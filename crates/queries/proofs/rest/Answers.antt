@@ -6,7 +6,7 @@ use Rattle.conditions.specs.Reach.{shape_in, scope_of}
 use Rattle.conditions.specs.Answers.{bytes_of}
 use Rattle.conditions.proofs.Steps.{condition-ends}
 use Rattle.conditions.proofs.Past.{condition-past}
-use Rattle.queries.proofs.Remainder.{rest-short, rest-unrun, run_inside, rest-none, rest-unread, rest-longer, rest_out, rest_in}
+use Rattle.queries.proofs.Remainder.{rest-short, rest-unrun, run_inside, rest-none, rest-unread, rest-longer, rest-whole}
 use Rattle.queries.proofs.rest.Goals as goal
 
 pub returns-then-q-first : goal.returns-then-q-first
@@ -15,21 +15,18 @@ returns-then-q-first c = record { rest = rest-short (shape_in c.args.catalogue.n
 pub returns-in_default : goal.returns-in_default
 returns-in_default c = record { rest = rest-unrun (shape_in c.args.catalogue.now) c.args.limit c.args.level (scope_of c.args.reach.now) c.args.q.now c.args.ranges c.args.z.now [] c.targets.result _ c.targets.ensures.leads c.targets.ensures.targets_found c.in_default.is; z_unchanged = c.targets.ensures.z_unchanged }
 
-pub returns-then-targets-eq0 : goal.returns-then-targets-eq0
-returns-then-targets-eq0 c = record { rest = rest-none (shape_in c.args.catalogue.now) c.args.limit c.args.level (scope_of c.args.reach.now) c.args.q.now c.args.ranges c.args.z.now [] c.targets.result _ c.targets.ensures.leads c.targets.ensures.targets_found _ _ _ c.in-Whole.is c.if-targets-eq0.true; z_unchanged = c.targets.ensures.z_unchanged }
+pub returns-then-run-eq0 : goal.returns-then-run-eq0
+returns-then-run-eq0 c = record { rest = rest-none (shape_in c.args.catalogue.now) c.args.limit c.args.level (scope_of c.args.reach.now) c.args.q.now c.args.ranges c.args.z.now [] c.targets.result _ c.targets.ensures.leads c.targets.ensures.targets_found _ _ _ c.in-Some.is c.if-run-eq0.true; z_unchanged = c.targets.ensures.z_unchanged }
 
 pub returns-in_default-condition : goal.returns-in_default-condition
-returns-in_default-condition c = let q = c.args.q.now in let level = c.args.level in record { rest = rest-unread (shape_in c.args.catalogue.now) c.args.limit level (scope_of c.args.reach.now) q c.args.ranges c.args.z.now [] c.targets.result _ c.targets.ensures.leads c.targets.ensures.targets_found _ _ _ c.in-Whole.is c.condition.result c.condition.ensures.value c.in_default-condition.is; z_unchanged = ap (drop (length q)) c.condition.ensures.z_after ∙ condition-past level q _ _ ∙ c.targets.ensures.z_unchanged }
+returns-in_default-condition c = let q = c.args.q.now in let level = c.args.level in record { rest = rest-unread (shape_in c.args.catalogue.now) c.args.limit level (scope_of c.args.reach.now) q c.args.ranges c.args.z.now [] c.targets.result _ c.targets.ensures.leads c.targets.ensures.targets_found _ _ _ c.in-Some.is c.condition.result c.condition.ensures.value c.in_default-condition.is; z_unchanged = ap (drop (length q)) c.condition.ensures.z_after ∙ condition-past level q _ _ ∙ c.targets.ensures.z_unchanged }
 
 pub overflow_add-condition : goal.overflow_add-condition
 overflow_add-condition c = let good = c.well_formed in let q = c.args.q.now in
-    omega (arith, ap bytes_of c.in-Some.is, condition-ends q _ (run_inside (shape_in c.args.catalogue.now) c.args.limit c.args.level (scope_of c.args.reach.now) q c.args.ranges c.args.z.now [] c.targets.result _ c.targets.ensures.leads c.targets.ensures.targets_found _ _ _ c.in-Whole.is) _ _ _ _ c.condition.result c.condition.ensures.value, good)
+    omega (arith, ap bytes_of c.in-Some-condition.is, condition-ends q _ (run_inside (shape_in c.args.catalogue.now) c.args.limit c.args.level (scope_of c.args.reach.now) q c.args.ranges c.args.z.now [] c.targets.result _ c.targets.ensures.leads c.targets.ensures.targets_found _ _ _ c.in-Some.is) _ _ _ _ c.condition.result c.condition.ensures.value, good)
 
 pub returns-then-condition-last : goal.returns-then-condition-last
-returns-then-condition-last c = let q = c.args.q.now in let level = c.args.level in record { rest = rest-longer (shape_in c.args.catalogue.now) c.args.limit level (scope_of c.args.reach.now) q c.args.ranges c.args.z.now [] c.targets.result _ c.targets.ensures.leads c.targets.ensures.targets_found _ _ _ c.in-Whole.is c.condition.result c.condition.ensures.value _ _ c.in-Some.is c.if-condition-last.true; z_unchanged = ap (drop (length q)) c.condition.ensures.z_after ∙ condition-past level q _ _ ∙ c.targets.ensures.z_unchanged }
-
-pub returns-then-not-inside : goal.returns-then-not-inside
-returns-then-not-inside c = let q = c.args.q.now in let level = c.args.level in record { rest = rest_out (shape_in c.args.catalogue.now) c.args.limit level (scope_of c.args.reach.now) q c.args.ranges c.args.z.now _ c.targets.result _ c.targets.ensures.leads c.targets.ensures.targets_found _ _ _ c.in-Whole.is c.condition.result c.condition.ensures.value _ _ c.in-Some.is c.if-q-first.false c.if-targets-eq0.false c.if-condition-last.false c.condition.ensures.z_after c.if-not-inside.true-raw; z_unchanged = ap (drop (length q)) c.condition.ensures.z_after ∙ condition-past level q _ _ ∙ c.targets.ensures.z_unchanged }
+returns-then-condition-last c = let q = c.args.q.now in let level = c.args.level in record { rest = rest-longer (shape_in c.args.catalogue.now) c.args.limit level (scope_of c.args.reach.now) q c.args.ranges c.args.z.now [] c.targets.result _ c.targets.ensures.leads c.targets.ensures.targets_found _ _ _ c.in-Some.is c.condition.result c.condition.ensures.value _ _ c.in-Some-condition.is c.if-condition-last.true; z_unchanged = ap (drop (length q)) c.condition.ensures.z_after ∙ condition-past level q _ _ ∙ c.targets.ensures.z_unchanged }
 
 pub returns : goal.returns
-returns c = let q = c.args.q.now in let level = c.args.level in record { rest = rest_in (shape_in c.args.catalogue.now) c.args.limit level (scope_of c.args.reach.now) q c.args.ranges c.args.z.now _ c.targets.result _ c.targets.ensures.leads c.targets.ensures.targets_found _ _ _ c.in-Whole.is c.condition.result c.condition.ensures.value _ _ c.in-Some.is c.if-q-first.false c.if-targets-eq0.false c.if-condition-last.false c.condition.ensures.z_after c.if-not-inside.false-raw; z_unchanged = ap (drop (length q)) c.condition.ensures.z_after ∙ condition-past level q _ _ ∙ c.targets.ensures.z_unchanged }
+returns c = let q = c.args.q.now in let level = c.args.level in record { rest = rest-whole (shape_in c.args.catalogue.now) c.args.limit level (scope_of c.args.reach.now) q c.args.ranges c.args.z.now _ c.targets.result _ c.targets.ensures.leads c.targets.ensures.targets_found _ _ _ c.in-Some.is c.condition.result c.condition.ensures.value _ _ c.in-Some-condition.is c.if-q-first.false c.if-run-eq0.false c.if-condition-last.false c.condition.ensures.z_after; z_unchanged = ap (drop (length q)) c.condition.ensures.z_after ∙ condition-past level q _ _ ∙ c.targets.ensures.z_unchanged }

@@ -13,16 +13,19 @@ use Rattle.quick.proofs.+bracket_comparison_condition_factor_some_aggregate_clos
 pub conditions::bracket-returns-then-c-eq0 : goal.conditions::bracket-returns-then-c-eq0
 conditions::bracket-returns-then-c-eq0 t c = record { went = lost c.args.s.at c.args.s.to _ _ c.condition-c.ensures.went.long c.condition-c.ensures.went.wide; formed = record { reads = λ given ρ ws k t h. absurd (omega (arith, h)) } }
 
+pub conditions::bracket-returns-in_default : goal.conditions::bracket-returns-in_default
+conditions::bracket-returns-in_default t c = record { went = lost c.args.s.at c.args.s.to _ _ c.condition-c.ensures.went.long c.condition-c.ensures.went.wide; formed = record { reads = λ given ρ ws k t h. absurd (omega (arith, h)) } }
+
 pub conditions::bracket-returns : goal.conditions::bracket-returns
 conditions::bracket-returns t c = let one = some _ c.if-c-eq0.false in record {
   went = record {
-    inside = c.past-at.ensures.upper_bound.0;
-    on = λ h. omega (arith, c.past-at.ensures.upper_bound.1 h, c.condition-c.ensures.went.on one);
+    inside = c.in-Some.ensures.1;
+    on = λ h. omega (arith, c.in-Some.ensures.0, c.condition-c.ensures.went.on one);
     more = λ h. c.condition-c.ensures.went.more one;
     long = c.condition-c.ensures.went.long;
     wide = c.condition-c.ensures.went.wide;
   };
-  formed = bracket-reads c.args.text.now c.args.list.now c.args.symbols.now _ c.args.made.now _ c.args.s.at c.args.s.to c.condition-c.result.at c.past-at.result c.condition-c.result.to c.condition-c.ensures.formed one c.past-at.ensures.by_index;
+  formed = bracket-reads c.args.source.now.text.bytes c.args.source.now.list.now c.args.symbols.now _ c.args.made.now _ c.args.s.at c.args.s.to c.condition-c.result.at c.in-Some.at c.condition-c.result.to c.condition-c.ensures.formed one c.in-Some.ensures.2;
 }
 
 pub conditions::comparison-term-a-requires : goal.conditions::comparison-term-a-requires
@@ -31,30 +34,30 @@ conditions::comparison-term-a-requires t c = (omega (arith, c.decreases), (c.req
 pub conditions::comparison-returns-then-a-eq0 : goal.conditions::comparison-returns-then-a-eq0
 conditions::comparison-returns-then-a-eq0 t c = record { went = lost c.args.s.at c.args.s.to _ _ c.term-a.ensures.went.long c.term-a.ensures.went.wide; formed_from = record { reads = λ given ρ ws k t w h. absurd (omega (arith, h)) } }
 
-pub conditions::comparison-returns-then-at-eq0 : goal.conditions::comparison-returns-then-at-eq0
-conditions::comparison-returns-then-at-eq0 t c = record { went = lost c.args.s.at c.args.s.to _ _ c.term-a.ensures.went.long c.term-a.ensures.went.wide; formed_from = record { reads = λ given ρ ws k t w h. absurd (omega (arith, h)) } }
+pub conditions::comparison-returns-in_default : goal.conditions::comparison-returns-in_default
+conditions::comparison-returns-in_default t c = record { went = lost c.args.s.at c.args.s.to _ _ c.term-a.ensures.went.long c.term-a.ensures.went.wide; formed_from = record { reads = λ given ρ ws k t w h. absurd (omega (arith, h)) } }
 
 pub conditions::comparison-returns-then-to-gt980 : goal.conditions::comparison-returns-then-to-gt980
 conditions::comparison-returns-then-to-gt980 t c = record { went = lost c.args.s.at c.args.s.to _ _ c.term-a.ensures.went.long c.term-a.ensures.went.wide; formed_from = record { reads = λ given ρ ws k t w h. absurd (omega (arith, h)) } }
 
 pub conditions::comparison-term-requires : goal.conditions::comparison-term-requires
-conditions::comparison-term-requires t c = (omega (arith, c.decreases, c.sign-o.ensures.end_bound.0, c.sign-o.ensures.end_bound.1 (some _ c.if-at-eq0.false), c.term-a.ensures.went.on (some _ c.if-a-eq0.false)), (record { ended = c.requires.lent.ended; indexed = c.requires.lent.indexed; long = c.term-a.ensures.went.long; wide = two-long c.term-a.new.made c.args.s.to 21 (c.args.s.to + 1) c.sign-o.result.number c.term-a.ensures.went.wide }, (c.sign-o.ensures.end_bound.0, omega (arith, c.if-to-gt980.false), c.word-v.ensures.end_bound.0, c.word-v.ensures.end_bound.1)))
+conditions::comparison-term-requires t c = (omega (arith, c.decreases, c.in-Some.ensures.1, c.in-Some.ensures.0, c.term-a.ensures.went.on (some _ c.if-a-eq0.false)), (record { indexed = c.requires.lent.indexed; long = c.term-a.ensures.went.long; wide = two-long c.term-a.new.made c.args.s.to 21 (c.args.s.to + 1) c.in-Some.o.number c.term-a.ensures.went.wide }, (c.in-Some.ensures.1, omega (arith, c.if-to-gt980.false), c.word-v.ensures.end_bound.0, c.word-v.ensures.end_bound.1)))
 
 pub conditions::comparison-returns : goal.conditions::comparison-returns
-conditions::comparison-returns t c = let one = some _ c.if-a-eq0.false in let two = some _ c.if-at-eq0.false in record {
+conditions::comparison-returns t c = let one = some _ c.if-a-eq0.false in record {
   went = record {
     inside = c.term.ensures.went.inside;
-    on = λ h. omega (arith, c.term.ensures.went.on h, c.sign-o.ensures.end_bound.1 two, c.term-a.ensures.went.on one);
+    on = λ h. omega (arith, c.term.ensures.went.on h, c.in-Some.ensures.0, c.term-a.ensures.went.on one);
     more = λ h. omega (arith, c.term.ensures.went.more h, c.term-a.ensures.went.more one);
     long = c.term.ensures.went.long;
     wide = c.term.ensures.went.wide;
   };
-  formed_from = compared-reads c.args.text.now c.args.list.now c.args.symbols.now _ _ c.args.made.now _ _ c.args.s.at c.args.s.to c.term-a.result.at c.term-a.result.to c.sign-o.result.end c.term.result.at c.term.result.to c.args.w.end c.args.w.value c.word-v.result.end c.word-v.result.value c.sign-o.result.number
-      c.term-a.ensures.termed_from one c.sign-o.ensures.by_index two c.term.ensures.termed_from c.word-v.ensures.by_index c.requires.lent.wide c.requires.at_bound.1;
+  formed_from = compared-reads c.args.source.now.text.bytes c.args.source.now.list.now c.args.symbols.now _ _ c.args.made.now _ _ c.args.s.at c.args.s.to c.term-a.result.at c.term-a.result.to c.in-Some.o.end c.term.result.at c.term.result.to c.args.w.end c.args.w.value c.word-v.result.end c.word-v.result.value c.in-Some.o.number
+      c.term-a.ensures.termed_from one c.in-Some.ensures.2 c.term.ensures.termed_from c.word-v.ensures.by_index c.requires.lent.wide c.requires.at_bound.1;
 }
 
 pub conditions::condition-loop-c-init : goal.conditions::condition-loop-c-init
-conditions::condition-loop-c-init t c = (c.requires.at_bound, omega arith, c.requires.lent.long, c.requires.lent.wide, omega arith, omega arith, pended-first c.args.text.now c.args.list.now c.args.symbols.now c.args.made.now c.args.s.at c.args.s.to)
+conditions::condition-loop-c-init t c = (c.requires.at_bound, omega arith, c.requires.lent.long, c.requires.lent.wide, omega arith, omega arith, pended-first c.args.source.now.text.bytes c.args.source.now.list.now c.args.symbols.now c.args.made.now c.args.s.at c.args.s.to)
 
 pub conditions::condition-returns-then-end-eq0 : goal.conditions::condition-returns-then-end-eq0
 conditions::condition-returns-then-end-eq0 t c = record { went = lost c.args.s.at c.args.s.to _ _ c.factor-c.ensures.went.long c.factor-c.ensures.went.wide; to_bound = λ h. absurd (omega (arith, h)); formed = record { reads = λ given ρ ws k t h. absurd (omega (arith, h)) } }
@@ -65,23 +68,23 @@ conditions::condition-returns-then-to-gt980 t c = record { went = lost c.args.s.
 pub conditions::condition-insert-requires : goal.conditions::condition-insert-requires
 conditions::condition-insert-requires t c = (omega (arith, c.loop-c.invariant.5, c.factor-c.ensures.went.more (some _ c.if-end-eq0.false)), omega (arith, c.if-to-gt980.false), c.factor-c.ensures.went.wide)
 
-pub conditions::condition-loop-c-smaller-then-p-ne0 : goal.conditions::condition-loop-c-smaller-then-p-ne0
-conditions::condition-loop-c-smaller-then-p-ne0 t c = omega (arith, c.past-p.ensures.upper_bound.0, c.past-p.ensures.upper_bound.1 (some _ c.if-p-ne0.true), c.factor-c.ensures.went.on (some _ c.if-end-eq0.false))
+pub conditions::condition-loop-c-smaller-in-Some : goal.conditions::condition-loop-c-smaller-in-Some
+conditions::condition-loop-c-smaller-in-Some t c = omega (arith, c.in-Some.ensures.1, c.in-Some.ensures.0, c.factor-c.ensures.went.on (some _ c.if-end-eq0.false))
 
-pub conditions::condition-loop-c-preserved-then-p-ne0 : goal.conditions::condition-loop-c-preserved-then-p-ne0
-conditions::condition-loop-c-preserved-then-p-ne0 t c = let one = some _ c.if-end-eq0.false in let two = (some _ c.if-p-ne0.true) in (
-  c.past-p.ensures.upper_bound.0,
-  omega (arith, c.loop-c.invariant.1, c.factor-c.ensures.went.on one, c.past-p.ensures.upper_bound.1 two),
+pub conditions::condition-loop-c-preserved-in-Some : goal.conditions::condition-loop-c-preserved-in-Some
+conditions::condition-loop-c-preserved-in-Some t c = let one = some _ c.if-end-eq0.false in (
+  c.in-Some.ensures.1,
+  omega (arith, c.loop-c.invariant.1, c.factor-c.ensures.went.on one, c.in-Some.ensures.0),
   c.factor-c.ensures.went.long,
   c.insert.ensures.made_len,
   c.loop-c.invariant.4,
   omega (arith, c.loop-c.invariant.5, c.factor-c.ensures.went.more one),
-  pended-and c.args.text.now c.args.list.now c.args.symbols.now c.loop-c.symbols _ c.args.made.now c.loop-c.made _ c.args.s.at c.loop-c.c.at c.args.s.to c.loop-c.from c.loop-c.c.to c.factor-c.result.at c.factor-c.result.to c.loop-c.invariant.6 c.factor-c.ensures.formed one
-      (omega (arith, c.requires.lent.wide, c.loop-c.invariant.4, c.loop-c.invariant.5, c.factor-c.ensures.went.more one, c.if-to-gt980.false)) c.past-p.result _ c.past-p.ensures.by_index two c.insert.ensures.made_after,
+  pended-and c.args.source.now.text.bytes c.args.source.now.list.now c.args.symbols.now c.loop-c.symbols _ c.args.made.now c.loop-c.made _ c.args.s.at c.loop-c.c.at c.args.s.to c.loop-c.from c.loop-c.c.to c.factor-c.result.at c.factor-c.result.to c.loop-c.invariant.6 c.factor-c.ensures.formed one
+      (omega (arith, c.requires.lent.wide, c.loop-c.invariant.4, c.loop-c.invariant.5, c.factor-c.ensures.went.more one, c.if-to-gt980.false)) c.in-Some.at _ c.in-Some.ensures.2 c.insert.ensures.made_after,
 )
 
-pub conditions::condition-returns-then-q-eq0 : goal.conditions::condition-returns-then-q-eq0
-conditions::condition-returns-then-q-eq0 t c = let one = some _ c.if-end-eq0.false in record {
+pub conditions::condition-returns-in_default-past_or : goal.conditions::condition-returns-in_default-past_or
+conditions::condition-returns-in_default-past_or t c = let one = some _ c.if-end-eq0.false in record {
   went = record {
     inside = c.factor-c.ensures.went.inside;
     on = λ h. omega (arith, c.loop-c.invariant.1, c.factor-c.ensures.went.on one);
@@ -90,53 +93,53 @@ conditions::condition-returns-then-q-eq0 t c = let one = some _ c.if-end-eq0.fal
     wide = c.factor-c.ensures.went.wide;
   };
   to_bound = (λ h. c.if-to-gt980.false);
-  formed = pended-end c.args.text.now c.args.list.now c.args.symbols.now c.loop-c.symbols _ c.args.made.now c.loop-c.made _ c.args.s.at c.loop-c.c.at c.args.s.to c.loop-c.from c.loop-c.c.to c.factor-c.result.at c.factor-c.result.to c.loop-c.invariant.6 c.factor-c.ensures.formed one;
+  formed = pended-end c.args.source.now.text.bytes c.args.source.now.list.now c.args.symbols.now c.loop-c.symbols _ c.args.made.now c.loop-c.made _ c.args.s.at c.loop-c.c.at c.args.s.to c.loop-c.from c.loop-c.c.to c.factor-c.result.at c.factor-c.result.to c.loop-c.invariant.6 c.factor-c.ensures.formed one;
 }
 
 pub conditions::condition-insert-requires-in-loop-c : goal.conditions::condition-insert-requires-in-loop-c
 conditions::condition-insert-requires-in-loop-c t c = (omega (arith, c.loop-c.invariant.4, c.loop-c.invariant.5, c.factor-c.ensures.went.more (some _ c.if-end-eq0.false)), omega (arith, c.if-to-gt980.false), c.factor-c.ensures.went.wide)
 
 pub conditions::condition-loop-c-smaller : goal.conditions::condition-loop-c-smaller
-conditions::condition-loop-c-smaller t c = omega (arith, c.past_or-q.ensures.upper_bound.0, c.past_or-q.ensures.upper_bound.1 (some _ c.if-q-eq0.false), c.factor-c.ensures.went.on (some _ c.if-end-eq0.false))
+conditions::condition-loop-c-smaller t c = omega (arith, c.in-Some-past_or.ensures.1, c.in-Some-past_or.ensures.0, c.factor-c.ensures.went.on (some _ c.if-end-eq0.false))
 
 pub conditions::condition-loop-c-preserved : goal.conditions::condition-loop-c-preserved
-conditions::condition-loop-c-preserved t c = let one = some _ c.if-end-eq0.false in let two = some _ c.if-q-eq0.false in (
-  c.past_or-q.ensures.upper_bound.0,
-  omega (arith, c.loop-c.invariant.1, c.factor-c.ensures.went.on one, c.past_or-q.ensures.upper_bound.1 two),
+conditions::condition-loop-c-preserved t c = let one = some _ c.if-end-eq0.false in (
+  c.in-Some-past_or.ensures.1,
+  omega (arith, c.loop-c.invariant.1, c.factor-c.ensures.went.on one, c.in-Some-past_or.ensures.0),
   c.factor-c.ensures.went.long,
   c.insert-in-loop-c.ensures.made_len,
   omega (arith, c.loop-c.invariant.4, c.loop-c.invariant.5, c.factor-c.ensures.went.more one),
   omega arith,
-  pended-or c.args.text.now c.args.list.now c.args.symbols.now c.loop-c.symbols _ c.args.made.now c.loop-c.made _ c.args.s.at c.loop-c.c.at c.args.s.to c.loop-c.from c.loop-c.c.to c.factor-c.result.at c.factor-c.result.to c.loop-c.invariant.6 c.factor-c.ensures.formed one
-      (omega (arith, c.requires.lent.wide, c.loop-c.invariant.4, c.loop-c.invariant.5, c.factor-c.ensures.went.more one, c.if-to-gt980.false)) c.past_or-q.result _ c.past_or-q.ensures.by_index two c.insert-in-loop-c.ensures.made_after,
+  pended-or c.args.source.now.text.bytes c.args.source.now.list.now c.args.symbols.now c.loop-c.symbols _ c.args.made.now c.loop-c.made _ c.args.s.at c.loop-c.c.at c.args.s.to c.loop-c.from c.loop-c.c.to c.factor-c.result.at c.factor-c.result.to c.loop-c.invariant.6 c.factor-c.ensures.formed one
+      (omega (arith, c.requires.lent.wide, c.loop-c.invariant.4, c.loop-c.invariant.5, c.factor-c.ensures.went.more one, c.if-to-gt980.false)) c.in-Some-past_or.at _ c.in-Some-past_or.ensures.2 c.insert-in-loop-c.ensures.made_after,
 )
 
 pub conditions::factor-loop-to-init : goal.conditions::factor-loop-to-init
-conditions::factor-loop-to-init t c = (c.requires.at_bound, omega arith, omega arith, refl, c.requires.lent.wide, negs-none c.args.text.now c.args.list.now c.args.symbols.now c.args.made.now c.args.s.at c.args.s.to)
+conditions::factor-loop-to-init t c = (c.requires.at_bound, omega arith, omega arith, refl, c.requires.lent.wide, negs-none c.args.source.now.text.bytes c.args.source.now.list.now c.args.symbols.now c.args.made.now c.args.s.at c.args.s.to)
 
 pub conditions::factor-returns-then-to-gt980 : goal.conditions::factor-returns-then-to-gt980
 conditions::factor-returns-then-to-gt980 t c = record { went = lost c.args.s.at c.args.s.to _ _ (ap length c.loop-to.invariant.3 ∙ c.requires.lent.long) c.loop-to.invariant.4; formed = record { reads = λ given ρ ws k t h. absurd (omega (arith, h)) } }
 
 pub conditions::factor-bracket-requires : goal.conditions::factor-bracket-requires
-conditions::factor-bracket-requires t c = (omega (arith, c.decreases, c.loop-to.invariant.1, c.past-p.ensures.upper_bound.0, c.past-p.ensures.upper_bound.1 (some _ c.if-p-ne0.true)), (record { ended = c.requires.lent.ended; indexed = c.requires.lent.indexed; long = ap length c.loop-to.invariant.3 ∙ c.requires.lent.long; wide = c.loop-to.invariant.4 }, c.past-p.ensures.upper_bound.0))
+conditions::factor-bracket-requires t c = (omega (arith, c.decreases, c.loop-to.invariant.1, c.in-Some.ensures.1, c.in-Some.ensures.0), (record { indexed = c.requires.lent.indexed; long = ap length c.loop-to.invariant.3 ∙ c.requires.lent.long; wide = c.loop-to.invariant.4 }, c.in-Some.ensures.1))
 
-pub conditions::factor-returns-then-p-ne0 : goal.conditions::factor-returns-then-p-ne0
-conditions::factor-returns-then-p-ne0 t c = record {
+pub conditions::factor-returns-in-Some : goal.conditions::factor-returns-in-Some
+conditions::factor-returns-in-Some t c = record {
   went = record {
     inside = c.bracket.ensures.went.inside;
-    on = λ h. omega (arith, c.loop-to.invariant.1, c.bracket.ensures.went.on h, c.past-p.ensures.upper_bound.1 (some _ c.if-p-ne0.true));
+    on = λ h. omega (arith, c.loop-to.invariant.1, c.bracket.ensures.went.on h, c.in-Some.ensures.0);
     more = λ h. omega (arith, c.loop-to.invariant.2, c.bracket.ensures.went.more h);
     long = c.bracket.ensures.went.long;
     wide = c.bracket.ensures.went.wide;
   };
-  formed = negs-within c.args.text.now c.args.list.now c.args.symbols.now c.args.made.now c.loop-to.made c.args.s.at c.loop-to.at c.args.s.to c.loop-to.to c.loop-to.invariant.5 c.loop-to.symbols _ _ c.past-p.result c.bracket.result.at c.bracket.result.to c.loop-to.invariant.3 c.past-p.ensures.by_index (some _ c.if-p-ne0.true) c.bracket.ensures.formed;
+  formed = negs-within c.args.source.now.text.bytes c.args.source.now.list.now c.args.symbols.now c.args.made.now c.loop-to.made c.args.s.at c.loop-to.at c.args.s.to c.loop-to.to c.loop-to.invariant.5 c.loop-to.symbols _ _ c.in-Some.at c.bracket.result.at c.bracket.result.to c.loop-to.invariant.3 c.in-Some.ensures.2 c.bracket.ensures.formed;
 }
 
 pub conditions::factor-some-requires : goal.conditions::factor-some-requires
-conditions::factor-some-requires t c = (let one = some_word c.args.text.now c.args.list.now c.args.symbols.now c.args.made.now c.loop-to.made c.args.s.at c.loop-to.at c.args.s.to c.loop-to.to c.loop-to.invariant.5 c.word-w.result.end c.word-w.result.value c.word-w.ensures.by_index c.word-w.ensures.end_bound.2 c.if-w-eq783124.true in omega (arith, c.decreases, c.loop-to.invariant.1, c.word-w.ensures.end_bound.0, c.word-w.ensures.end_bound.1 one), (record { ended = c.requires.lent.ended; indexed = c.requires.lent.indexed; long = ap length c.loop-to.invariant.3 ∙ c.requires.lent.long; wide = c.loop-to.invariant.4 }, (c.word-w.ensures.end_bound.0, c.if-to-gt980.false)))
+conditions::factor-some-requires t c = (let one = some_word c.args.source.now.text.bytes c.args.source.now.list.now c.args.symbols.now c.args.made.now c.loop-to.made c.args.s.at c.loop-to.at c.args.s.to c.loop-to.to c.loop-to.invariant.5 c.word-w.result.end c.word-w.result.value c.word-w.ensures.by_index c.word-w.ensures.end_bound.2 c.if-w-eq783124.true in omega (arith, c.decreases, c.loop-to.invariant.1, c.word-w.ensures.end_bound.0, c.word-w.ensures.end_bound.1 one), (record { indexed = c.requires.lent.indexed; long = ap length c.loop-to.invariant.3 ∙ c.requires.lent.long; wide = c.loop-to.invariant.4 }, (c.word-w.ensures.end_bound.0, c.if-to-gt980.false)))
 
 pub conditions::factor-returns-then-w-eq783124 : goal.conditions::factor-returns-then-w-eq783124
-conditions::factor-returns-then-w-eq783124 t c = let list = c.args.list.now in let made = c.args.made.now in let symbols = c.args.symbols.now in let text = c.args.text.now in record {
+conditions::factor-returns-then-w-eq783124 t c = let list = c.args.source.now.list.now in let made = c.args.made.now in let symbols = c.args.symbols.now in let text = c.args.source.now.text.bytes in record {
   went = record {
     inside = c.some.ensures.went.inside;
     on = λ h. omega (arith, c.loop-to.invariant.1, c.some.ensures.went.on h, c.word-w.ensures.end_bound.1 (some_word text list symbols made c.loop-to.made c.args.s.at c.loop-to.at c.args.s.to c.loop-to.to c.loop-to.invariant.5 c.word-w.result.end c.word-w.result.value c.word-w.ensures.by_index c.word-w.ensures.end_bound.2 c.if-w-eq783124.true));
@@ -148,7 +151,7 @@ conditions::factor-returns-then-w-eq783124 t c = let list = c.args.list.now in l
 }
 
 pub conditions::factor-comparison-requires : goal.conditions::factor-comparison-requires
-conditions::factor-comparison-requires t c = (omega (arith, c.decreases, c.loop-to.invariant.0, c.loop-to.invariant.1), (record { ended = c.requires.lent.ended; indexed = c.requires.lent.indexed; long = ap length c.loop-to.invariant.3 ∙ c.requires.lent.long; wide = c.loop-to.invariant.4 }, (c.loop-to.invariant.0, c.if-to-gt980.false, c.word-w.ensures.end_bound.0, c.word-w.ensures.end_bound.1)))
+conditions::factor-comparison-requires t c = (omega (arith, c.decreases, c.loop-to.invariant.0, c.loop-to.invariant.1), (record { indexed = c.requires.lent.indexed; long = ap length c.loop-to.invariant.3 ∙ c.requires.lent.long; wide = c.loop-to.invariant.4 }, (c.loop-to.invariant.0, c.if-to-gt980.false, c.word-w.ensures.end_bound.0, c.word-w.ensures.end_bound.1)))
 
 pub conditions::factor-returns-then-w-ne26747 : goal.conditions::factor-returns-then-w-ne26747
 conditions::factor-returns-then-w-ne26747 t c = record {
@@ -159,14 +162,14 @@ conditions::factor-returns-then-w-ne26747 t c = record {
     long = c.comparison.ensures.went.long;
     wide = c.comparison.ensures.went.wide;
   };
-  formed = negs-compared c.args.text.now c.args.list.now c.args.symbols.now c.args.made.now c.loop-to.made c.args.s.at c.loop-to.at c.args.s.to c.loop-to.to c.loop-to.invariant.5 c.word-w.result.end c.word-w.result.value c.word-w.ensures.by_index c.word-w.ensures.end_bound.2 c.loop-to.symbols _ _ c.comparison.result.at c.comparison.result.to c.loop-to.invariant.3 c.comparison.ensures.formed_from;
+  formed = negs-compared c.args.source.now.text.bytes c.args.source.now.list.now c.args.symbols.now c.args.made.now c.loop-to.made c.args.s.at c.loop-to.at c.args.s.to c.loop-to.to c.loop-to.invariant.5 c.word-w.result.end c.word-w.result.value c.word-w.ensures.by_index c.word-w.ensures.end_bound.2 c.loop-to.symbols _ _ c.comparison.result.at c.comparison.result.to c.loop-to.invariant.3 c.comparison.ensures.formed_from;
 }
 
 pub conditions::factor-loop-to-smaller : goal.conditions::factor-loop-to-smaller
-conditions::factor-loop-to-smaller t c = omega (arith, c.word-w.ensures.end_bound.0, c.word-w.ensures.end_bound.1 (not_there c.args.text.now c.args.list.now c.args.symbols.now c.args.made.now c.loop-to.made c.args.s.at c.loop-to.at c.args.s.to c.loop-to.to c.loop-to.invariant.5 c.word-w.result.end c.word-w.result.value c.word-w.ensures.by_index c.word-w.ensures.end_bound.2 c.if-w-ne26747.false))
+conditions::factor-loop-to-smaller t c = omega (arith, c.word-w.ensures.end_bound.0, c.word-w.ensures.end_bound.1 (not_there c.args.source.now.text.bytes c.args.source.now.list.now c.args.symbols.now c.args.made.now c.loop-to.made c.args.s.at c.loop-to.at c.args.s.to c.loop-to.to c.loop-to.invariant.5 c.word-w.result.end c.word-w.result.value c.word-w.ensures.by_index c.word-w.ensures.end_bound.2 c.if-w-ne26747.false))
 
 pub conditions::factor-loop-to-preserved : goal.conditions::factor-loop-to-preserved
-conditions::factor-loop-to-preserved t c = let list = c.args.list.now in let made = c.args.made.now in let symbols = c.args.symbols.now in let text = c.args.text.now in
+conditions::factor-loop-to-preserved t c = let list = c.args.source.now.list.now in let made = c.args.made.now in let symbols = c.args.symbols.now in let text = c.args.source.now.text.bytes in
     let one = not_there text list symbols made c.loop-to.made c.args.s.at c.loop-to.at c.args.s.to c.loop-to.to c.loop-to.invariant.5 c.word-w.result.end c.word-w.result.value c.word-w.ensures.by_index c.word-w.ensures.end_bound.2 c.if-w-ne26747.false in (
       c.word-w.ensures.end_bound.0,
       omega (arith, c.loop-to.invariant.1, c.word-w.ensures.end_bound.1 one),
@@ -176,17 +179,17 @@ conditions::factor-loop-to-preserved t c = let list = c.args.list.now in let mad
       negs-more text list symbols made c.loop-to.made c.args.s.at c.loop-to.at c.args.s.to c.loop-to.to c.loop-to.invariant.5 c.word-w.result.end c.word-w.result.value c.word-w.ensures.by_index c.word-w.ensures.end_bound.2 c.if-w-ne26747.false (omega (arith, c.loop-to.invariant.4, c.if-to-gt980.false)),
     )
 
-pub conditions::some-returns-then-x-eq0 : goal.conditions::some-returns-then-x-eq0
-conditions::some-returns-then-x-eq0 t c = record { went = lost c.args.s.at c.args.s.to _ _ c.requires.lent.long c.requires.lent.wide; some_after = record { reads = λ given ρ ws n k t s z. absurd (omega (arith, z)) } }
+pub conditions::some-returns-in_default : goal.conditions::some-returns-in_default
+conditions::some-returns-in_default t c = record { went = lost c.args.s.at c.args.s.to _ _ c.requires.lent.long c.requires.lent.wide; some_after = record { reads = λ given ρ ws n k t s z. absurd (omega (arith, z)) } }
 
-pub conditions::some-returns-then-at-eq0 : goal.conditions::some-returns-then-at-eq0
-conditions::some-returns-then-at-eq0 t c = record { went = lost c.args.s.at c.args.s.to _ _ c.requires.lent.long c.requires.lent.wide; some_after = record { reads = λ given ρ ws n k t s z. absurd (omega (arith, z)) } }
+pub conditions::some-returns-in_default-relation : goal.conditions::some-returns-in_default-relation
+conditions::some-returns-in_default-relation t c = record { went = lost c.args.s.at c.args.s.to _ _ c.requires.lent.long c.requires.lent.wide; some_after = record { reads = λ given ρ ws n k t s z. absurd (omega (arith, z)) } }
 
 pub conditions::some-returns-then-not-opened : goal.conditions::some-returns-then-not-opened
 conditions::some-returns-then-not-opened t c = record { went = lost c.args.s.at c.args.s.to _ _ c.opened.ensures.symbols_len.0 c.opened.ensures.symbols_len.1; some_after = record { reads = λ given ρ ws n k t s z. absurd (omega (arith, z)) } }
 
 pub conditions::some-bracket-c-requires : goal.conditions::some-bracket-c-requires
-conditions::some-bracket-c-requires t c = (omega (arith, c.decreases, c.relation-r.ensures.end_bound.0, c.relation-r.ensures.end_bound.1 (some _ c.if-at-eq0.false), c.name-x.ensures.end_bound.1 (some _ c.if-x-eq0.false)), (record { ended = c.requires.lent.ended; indexed = c.requires.lent.indexed; long = c.opened.ensures.symbols_len.0; wide = c.opened.ensures.symbols_len.1 }, c.relation-r.ensures.end_bound.0))
+conditions::some-bracket-c-requires t c = (omega (arith, c.decreases, c.in-Some-relation.ensures.1, c.in-Some-relation.ensures.0, c.in-Some.ensures.0), (record { indexed = c.requires.lent.indexed; long = c.opened.ensures.symbols_len.0; wide = c.opened.ensures.symbols_len.1 }, c.in-Some-relation.ensures.1))
 
 pub conditions::some-overflow_mul-symbols : goal.conditions::some-overflow_mul-symbols
 conditions::some-overflow_mul-symbols t c = omega (arith, (c.opened.ensures.some_put (not-no _ c.if-not-opened.false-raw)).few)
@@ -202,23 +205,23 @@ conditions::some-bounds-symbols-k t c = omega (arith, (c.opened.ensures.some_put
 
 pub conditions::some-returns : goal.conditions::some-returns
 conditions::some-returns t c = let symbols = c.args.symbols.now in
-    let one = some _ c.if-x-eq0.false in let two = some _ c.if-at-eq0.false in record {
+    record {
       went = record {
         inside = c.bracket-c.ensures.went.inside;
-        on = λ h. omega (arith, c.bracket-c.ensures.went.on h, c.relation-r.ensures.end_bound.1 two, c.name-x.ensures.end_bound.1 one);
+        on = λ h. omega (arith, c.bracket-c.ensures.went.on h, c.in-Some-relation.ensures.0, c.in-Some.ensures.0);
         more = λ h. omega (arith, c.bracket-c.ensures.went.more h);
         long = length-set c.bracket-c.new.symbols (4 * get_or symbols 157 0 + 3) 255 ∙ c.bracket-c.ensures.went.long;
         wide = c.bracket-c.ensures.went.wide;
       };
-      some_after = some-reads c.args.text.now c.args.list.now symbols _ _ c.args.made.now _ _ c.args.s.at c.args.s.to c.name-x.result.end c.relation-r.result.end c.bracket-c.result.at c.bracket-c.result.to c.name-x.result.value c.relation-r.result.value
-          c.requires.lent.wide c.requires.at_bound.1 c.name-x.ensures.by_index one c.relation-r.ensures.by_index two (c.opened.ensures.some_put (not-no _ c.if-not-opened.false-raw)) c.bracket-c.ensures.formed;
+      some_after = some-reads c.args.source.now.text.bytes c.args.source.now.list.now symbols _ _ c.args.made.now _ _ c.args.s.at c.args.s.to c.in-Some.x.end c.in-Some-relation.r.end c.bracket-c.result.at c.bracket-c.result.to c.in-Some.x.value c.in-Some-relation.r.value
+          c.requires.lent.wide c.requires.at_bound.1 c.in-Some.ensures.2 c.in-Some-relation.ensures.2 (c.opened.ensures.some_put (not-no _ c.if-not-opened.false-raw)) c.bracket-c.ensures.formed;
     }
-
-pub terms::aggregate-returns-then-at-eq0 : goal.terms::aggregate-returns-then-at-eq0
-terms::aggregate-returns-then-at-eq0 t c = record { went = lost c.args.s.at c.args.s.to _ _ c.requires.lent.long c.requires.lent.wide; aggregate_after = record { reads = λ given ρ ws x p k t f l z. absurd (omega (arith, z)) } }
 
 pub terms::aggregate-returns-in_default : goal.terms::aggregate-returns-in_default
 terms::aggregate-returns-in_default t c = record { went = lost c.args.s.at c.args.s.to _ _ c.requires.lent.long c.requires.lent.wide; aggregate_after = record { reads = λ given ρ ws x p k t f l z. absurd (omega (arith, z)) } }
+
+pub terms::aggregate-returns-in_default-bound : goal.terms::aggregate-returns-in_default-bound
+terms::aggregate-returns-in_default-bound t c = record { went = lost c.args.s.at c.args.s.to _ _ c.requires.lent.long c.requires.lent.wide; aggregate_after = record { reads = λ given ρ ws x p k t f l z. absurd (omega (arith, z)) } }
 
 pub terms::aggregate-returns-in_default-attribute_at : goal.terms::aggregate-returns-in_default-attribute_at
 terms::aggregate-returns-in_default-attribute_at t c = record { went = lost c.args.s.at c.args.s.to _ _ c.requires.lent.long c.requires.lent.wide; aggregate_after = record { reads = λ given ρ ws x p k t f l z. absurd (omega (arith, z)) } }
@@ -226,45 +229,45 @@ terms::aggregate-returns-in_default-attribute_at t c = record { went = lost c.ar
 pub terms::aggregate-returns-then-next-gt199 : goal.terms::aggregate-returns-then-next-gt199
 terms::aggregate-returns-then-next-gt199 t c = record { went = lost c.args.s.at c.args.s.to _ _ c.requires.lent.long c.requires.lent.wide; aggregate_after = record { reads = λ given ρ ws x p k t f l z. absurd (omega (arith, z)) } }
 
-pub terms::aggregate-bounds-list-q : goal.terms::aggregate-bounds-list-q
-terms::aggregate-bounds-list-q t c = omega (arith, c.in-Some-attribute_at.ensures.0)
+pub terms::aggregate-bounds-source-q : goal.terms::aggregate-bounds-source-q
+terms::aggregate-bounds-source-q t c = omega (arith, c.in-Some-attribute_at.ensures.0)
 
 pub terms::aggregate-closed-requires : goal.terms::aggregate-closed-requires
 terms::aggregate-closed-requires t c = let symbols = c.args.symbols.now in
-    (omega (arith, c.decreases, c.attribute-x.ensures.end_bound.0, c.attribute-x.ensures.end_bound.1 (some _ c.if-at-eq0.false)), (record { ended = c.requires.lent.ended; indexed = c.requires.lent.indexed; long = length-set symbols 156 (next_number symbols + 1) ∙ c.requires.lent.long; wide = five-wide c.args.made.now _ c.args.s.to 34 c.args.f c.low.result c.low-relation.result (get_or c.args.list.now (c.in-Some-attribute_at.q + 2) 0) c.put.ensures c.requires.lent.wide }, (c.attribute-x.ensures.end_bound.0, omega (arith, c.requires.at_bound.1), c.in-Some.ensures.0, omega (arith, get_or-set_same symbols 156 (next_number symbols + 1) 0 (omega (arith, c.requires.lent.long))))))
+    (omega (arith, c.decreases, c.in-Some.ensures.1, c.in-Some.ensures.0), (record { indexed = c.requires.lent.indexed; long = length-set symbols 156 (next_number symbols + 1) ∙ c.requires.lent.long; wide = five-wide c.args.made.now _ c.args.s.to 34 c.args.f c.low.result c.low-relation.result (get_or c.args.source.now.list.now (c.in-Some-attribute_at.q + 2) 0) c.put.ensures c.requires.lent.wide }, (c.in-Some.ensures.1, omega (arith, c.requires.at_bound.1), c.in-Some-bound.ensures.0, omega (arith, get_or-set_same symbols 156 (next_number symbols + 1) 0 (omega (arith, c.requires.lent.long))))))
 
 pub terms::aggregate-returns : goal.terms::aggregate-returns
-terms::aggregate-returns t c = let one = some _ c.if-at-eq0.false in record {
+terms::aggregate-returns t c = record {
   went = record {
     inside = c.closed.ensures.went.inside;
-    on = λ h. omega (arith, c.closed.ensures.went.on h, c.attribute-x.ensures.end_bound.1 one);
+    on = λ h. omega (arith, c.closed.ensures.went.on h, c.in-Some.ensures.0);
     more = λ h. omega (arith, c.closed.ensures.went.more h);
     long = c.closed.ensures.went.long;
     wide = c.closed.ensures.went.wide;
   };
-  aggregate_after = aggregate-reads c.args.text.now c.args.list.now c.args.symbols.now _ c.args.made.now _ _ c.args.s.at c.args.s.to c.attribute-x.result.end c.closed.result.at c.closed.result.to c.args.f c.attribute-x.result.owner c.attribute-x.result.value c.in-Some.i c.in-Some-attribute_at.q c.low-relation.result c.low.result
-      c.requires.lent.long c.requires.lent.wide c.requires.at_bound.1 c.in-Some.ensures.0 c.in-Some.ensures.1 c.in-Some.ensures.2 (omega (arith, c.in-Some-attribute_at.ensures.0)) c.attribute-x.ensures.by_index one c.low-relation.ensures c.in-Some-attribute_at.ensures.1 c.if-next-gt199.false c.low.ensures c.put.ensures c.closed.ensures.closed;
+  aggregate_after = aggregate-reads c.args.source.now.text.bytes c.args.source.now.list.now c.args.symbols.now _ c.args.made.now _ _ c.args.s.at c.args.s.to c.in-Some.x.end c.closed.result.at c.closed.result.to c.args.f c.in-Some.x.owner c.in-Some.x.value c.in-Some-bound.i c.in-Some-attribute_at.q c.low-relation.result c.low.result
+      c.requires.lent.long c.requires.lent.wide c.requires.at_bound.1 c.in-Some-bound.ensures.0 c.in-Some-bound.ensures.1 c.in-Some-bound.ensures.2 (omega (arith, c.in-Some-attribute_at.ensures.0)) c.in-Some.ensures.2 c.low-relation.ensures c.in-Some-attribute_at.ensures.1 c.if-next-gt199.false c.low.ensures c.put.ensures c.closed.ensures.closed;
 }
 
-pub terms::closed-returns-then-e-ne0 : goal.terms::closed-returns-then-e-ne0
-terms::closed-returns-then-e-ne0 t c = let made = c.args.made.now in record { went = record { inside = c.past-e.ensures.upper_bound.0; on = c.past-e.ensures.upper_bound.1; more = λ h. omega arith; long = c.requires.lent.long; wide = length-set made c.args.s.to 16 ∙ c.requires.lent.wide }; closed = closed-reads c.args.text.now c.args.list.now c.args.symbols.now made c.args.s.at c.args.s.to c.past-e.result c.args.i c.requires.lent.wide c.requires.at_bound.1 c.past-e.ensures.by_index }
+pub terms::closed-returns-in-Some : goal.terms::closed-returns-in-Some
+terms::closed-returns-in-Some t c = let made = c.args.made.now in record { went = record { inside = c.in-Some.ensures.1; on = λ _. c.in-Some.ensures.0; more = λ h. omega arith; long = c.requires.lent.long; wide = length-set made c.args.s.to 16 ∙ c.requires.lent.wide }; closed = closed-reads c.args.source.now.text.bytes c.args.source.now.list.now c.args.symbols.now made c.args.s.at c.args.s.to c.in-Some.at c.args.i c.requires.lent.wide c.requires.at_bound.1 c.in-Some.ensures.2 }
 
-pub terms::closed-returns-then-at-eq0 : goal.terms::closed-returns-then-at-eq0
-terms::closed-returns-then-at-eq0 t c = record { went = lost c.args.s.at c.args.s.to _ _ c.requires.lent.long c.requires.lent.wide; closed = record { reads = λ given ρ ws n k t l o next z. absurd (omega (arith, z)) } }
+pub terms::closed-returns-in_default-past : goal.terms::closed-returns-in_default-past
+terms::closed-returns-in_default-past t c = record { went = lost c.args.s.at c.args.s.to _ _ c.requires.lent.long c.requires.lent.wide; closed = record { reads = λ given ρ ws n k t l o next z. absurd (omega (arith, z)) } }
 
 pub terms::closed-qualified-requires : goal.terms::closed-qualified-requires
-terms::closed-qualified-requires t c = (omega (arith, c.decreases, c.past-at.ensures.upper_bound.0, c.past-at.ensures.upper_bound.1 (some _ c.if-at-eq0.false)), (c.requires.lent, (c.past-at.ensures.upper_bound.0, c.requires.at_bound.2, c.requires.at_bound.3)))
+terms::closed-qualified-requires t c = (omega (arith, c.decreases, c.in-Some-past.ensures.1, c.in-Some-past.ensures.0), (c.requires.lent, (c.in-Some-past.ensures.1, c.requires.at_bound.2, c.requires.at_bound.3)))
 
 pub terms::closed-returns : goal.terms::closed-returns
-terms::closed-returns t c = let one = some _ c.if-at-eq0.false in record {
+terms::closed-returns t c = record {
   went = record {
     inside = c.qualified.ensures.went.inside;
-    on = λ h. omega (arith, c.qualified.ensures.went.on h, c.past-at.ensures.upper_bound.1 one);
+    on = λ h. omega (arith, c.qualified.ensures.went.on h, c.in-Some-past.ensures.0);
     more = c.qualified.ensures.went.more;
     long = c.qualified.ensures.went.long;
     wide = c.qualified.ensures.went.wide;
   };
-  closed = after-reads c.args.text.now c.args.list.now c.args.symbols.now _ c.args.made.now _ c.args.s.at c.args.s.to c.past-at.result c.qualified.result.at c.qualified.result.to c.args.i c.past-at.ensures.by_index one c.qualified.ensures.closed_after;
+  closed = after-reads c.args.source.now.text.bytes c.args.source.now.list.now c.args.symbols.now _ c.args.made.now _ c.args.s.at c.args.s.to c.in-Some-past.at c.qualified.result.at c.qualified.result.to c.args.i c.in-Some-past.ensures.2 c.qualified.ensures.closed_after;
 }
 
 pub terms::qualified-returns-then-outer-gt99 : goal.terms::qualified-returns-then-outer-gt99
@@ -272,7 +275,7 @@ terms::qualified-returns-then-outer-gt99 t c = record { went = lost c.args.s.at 
 
 pub terms::qualified-bracket-c-requires : goal.terms::qualified-bracket-c-requires
 terms::qualified-bracket-c-requires t c = let symbols = c.args.symbols.now in
-    (omega (arith, c.decreases, c.requires.at_bound.0), (record { ended = c.requires.lent.ended; indexed = c.requires.lent.indexed; long = placed-long symbols c.args.i (next_number symbols - 1) (level_now symbols + 1) (level_now symbols + 1) c.requires.lent.long c.requires.at_bound.1; wide = c.requires.lent.wide }, c.requires.at_bound.0))
+    (omega (arith, c.decreases, c.requires.at_bound.0), (record { indexed = c.requires.lent.indexed; long = placed-long symbols c.args.i (next_number symbols - 1) (level_now symbols + 1) (level_now symbols + 1) c.requires.lent.long c.requires.at_bound.1; wide = c.requires.lent.wide }, c.requires.at_bound.0))
 
 pub terms::qualified-returns : goal.terms::qualified-returns
 terms::qualified-returns t c = let symbols = c.args.symbols.now in let i = c.args.i in record {
@@ -283,24 +286,24 @@ terms::qualified-returns t c = let symbols = c.args.symbols.now in let i = c.arg
     long = placed-long c.bracket-c.new.symbols i (number_at symbols i) (level_at symbols i) (level_now symbols) c.bracket-c.ensures.went.long c.requires.at_bound.1;
     wide = c.bracket-c.ensures.went.wide;
   };
-  closed_after = qualified-reads c.args.text.now c.args.list.now symbols _ c.args.made.now _ c.args.s.at c.args.s.to c.bracket-c.result.at c.bracket-c.result.to i c.requires.lent.long c.bracket-c.ensures.went.long c.requires.at_bound.1 c.if-outer-gt99.false c.bracket-c.ensures.formed;
+  closed_after = qualified-reads c.args.source.now.text.bytes c.args.source.now.list.now symbols _ c.args.made.now _ c.args.s.at c.args.s.to c.bracket-c.result.at c.bracket-c.result.to i c.requires.lent.long c.bracket-c.ensures.went.long c.requires.at_bound.1 c.if-outer-gt99.false c.bracket-c.ensures.formed;
 }
 
 pub terms::term-returns-then-end-eq0 : goal.terms::term-returns-then-end-eq0
-terms::term-returns-then-end-eq0 t c = let list = c.args.list.now in let symbols = c.args.symbols.now in record { went = record { inside = c.number.ensures.at_bound.0; on = λ h. (c.number.ensures.at_bound.1 h).0; more = λ h. (c.number.ensures.at_bound.1 h).1; long = c.requires.lent.long; wide = c.number.ensures.at_bound.2 }; termed_from = term-number c.args.text.now list symbols symbols c.args.made.now _ c.args.s.at c.args.s.to c.number.result.at c.number.result.to c.args.w.end c.args.w.value c.if-end-eq0.true (c.number.ensures.by_index list) }
+terms::term-returns-then-end-eq0 t c = let list = c.args.source.now.list.now in let symbols = c.args.symbols.now in record { went = record { inside = c.number.ensures.at_bound.0; on = λ h. (c.number.ensures.at_bound.1 h).0; more = λ h. (c.number.ensures.at_bound.1 h).1; long = c.requires.lent.long; wide = c.number.ensures.at_bound.2 }; termed_from = term-number c.args.source.now.text.bytes list symbols symbols c.args.made.now _ c.args.s.at c.args.s.to c.number.result.at c.number.result.to c.args.w.end c.args.w.value c.if-end-eq0.true (c.number.ensures.by_index list) }
 
-pub terms::term-returns-then-at-ne0 : goal.terms::term-returns-then-at-ne0
-terms::term-returns-then-at-ne0 t c = let one = some _ c.if-end-eq0.false in let two = (some _ c.if-at-ne0.true) in record { went = record { inside = c.used.ensures.went.inside; on = λ h. omega (arith, c.used.ensures.went.on h, c.past-at.ensures.upper_bound.1 two, c.requires.at_bound.3 one); more = c.used.ensures.went.more; long = c.used.ensures.went.long; wide = c.used.ensures.went.wide }; termed_from = term-use c.args.text.now c.args.list.now c.args.symbols.now _ c.args.made.now _ c.args.s.at c.args.s.to c.used.result.at c.used.result.to c.args.w.end c.args.w.value c.past-at.result one c.past-at.ensures.by_index two c.used.ensures.use_after }
+pub terms::term-returns-in-Some : goal.terms::term-returns-in-Some
+terms::term-returns-in-Some t c = let one = some _ c.if-end-eq0.false in record { went = record { inside = c.used.ensures.went.inside; on = λ h. omega (arith, c.used.ensures.went.on h, c.in-Some.ensures.0, c.requires.at_bound.3 one); more = c.used.ensures.went.more; long = c.used.ensures.went.long; wide = c.used.ensures.went.wide }; termed_from = term-use c.args.source.now.text.bytes c.args.source.now.list.now c.args.symbols.now _ c.args.made.now _ c.args.s.at c.args.s.to c.used.result.at c.used.result.to c.args.w.end c.args.w.value c.in-Some.at one c.in-Some.ensures.2 c.used.ensures.use_after }
 
-pub terms::term-returns-then-f-eq0 : goal.terms::term-returns-then-f-eq0
-terms::term-returns-then-f-eq0 t c = record { went = lost c.args.s.at c.args.s.to _ _ c.requires.lent.long c.requires.lent.wide; termed_from = record { reads = λ given ρ ws k t w h. absurd (omega (arith, h)) } }
+pub terms::term-returns-in_default-function : goal.terms::term-returns-in_default-function
+terms::term-returns-in_default-function t c = record { went = lost c.args.s.at c.args.s.to _ _ c.requires.lent.long c.requires.lent.wide; termed_from = record { reads = λ given ρ ws k t w h. absurd (omega (arith, h)) } }
 
 pub terms::term-aggregate-requires : goal.terms::term-aggregate-requires
-terms::term-aggregate-requires t c = (omega (arith, c.decreases, c.past-at-2.ensures.upper_bound.0, c.past-at-2.ensures.upper_bound.1 (some _ c.if-at-ne0-2.true), c.requires.at_bound.3 (some _ c.if-end-eq0.false)), (c.requires.lent, (c.past-at-2.ensures.upper_bound.0, c.requires.at_bound.1)))
+terms::term-aggregate-requires t c = (omega (arith, c.decreases, c.in-Some-past.ensures.1, c.in-Some-past.ensures.0, c.requires.at_bound.3 (some _ c.if-end-eq0.false)), (c.requires.lent, (c.in-Some-past.ensures.1, c.requires.at_bound.1)))
 
-pub terms::term-returns-then-at-ne0-2 : goal.terms::term-returns-then-at-ne0-2
-terms::term-returns-then-at-ne0-2 t c = let one = some _ c.if-end-eq0.false in let two = (some _ c.if-at-ne0-2.true) in record { went = record { inside = c.aggregate.ensures.went.inside; on = λ h. omega (arith, c.aggregate.ensures.went.on h, c.past-at-2.ensures.upper_bound.1 two, c.requires.at_bound.3 one); more = c.aggregate.ensures.went.more; long = c.aggregate.ensures.went.long; wide = c.aggregate.ensures.went.wide }; termed_from = term-aggregate c.args.text.now c.args.list.now c.args.symbols.now _ c.args.made.now _ c.args.s.at c.args.s.to c.aggregate.result.at c.aggregate.result.to c.args.w.end c.args.w.value c.past-at-2.result c.function-f.result one c.past-at-2.ensures.by_index two c.function-f.ensures (some _ c.if-f-eq0.false) c.aggregate.ensures.aggregate_after }
+pub terms::term-returns-in-Some-past : goal.terms::term-returns-in-Some-past
+terms::term-returns-in-Some-past t c = let one = some _ c.if-end-eq0.false in record { went = record { inside = c.aggregate.ensures.went.inside; on = λ h. omega (arith, c.aggregate.ensures.went.on h, c.in-Some-past.ensures.0, c.requires.at_bound.3 one); more = c.aggregate.ensures.went.more; long = c.aggregate.ensures.went.long; wide = c.aggregate.ensures.went.wide }; termed_from = term-aggregate c.args.source.now.text.bytes c.args.source.now.list.now c.args.symbols.now _ c.args.made.now _ c.args.s.at c.args.s.to c.aggregate.result.at c.aggregate.result.to c.args.w.end c.args.w.value c.in-Some-past.at c.in-Some-function.f one c.in-Some-past.ensures.2 c.in-Some-function.ensures c.aggregate.ensures.aggregate_after }
 
 pub terms::term-returns : goal.terms::term-returns
 terms::term-returns t c = let symbols = c.args.symbols.now in
-    let one = some _ c.if-end-eq0.false in record { went = record { inside = omega (arith, c.value.ensures.at_le_end.0, c.requires.at_bound.2); on = λ h. omega (arith, (c.value.ensures.at_le_end.1 h).0, c.requires.at_bound.3 one); more = λ h. (c.value.ensures.at_le_end.1 h).1; long = c.requires.lent.long; wide = c.value.ensures.at_le_end.2 }; termed_from = term-value c.args.text.now c.args.list.now symbols symbols c.args.made.now _ c.args.s.at c.args.s.to c.value.result.at c.value.result.to c.args.w.end c.args.w.value one (λ h. (c.value.ensures.at_le_end.1 h).0) c.value.ensures.value_at }
+    let one = some _ c.if-end-eq0.false in record { went = record { inside = omega (arith, c.value.ensures.at_le_end.0, c.requires.at_bound.2); on = λ h. omega (arith, (c.value.ensures.at_le_end.1 h).0, c.requires.at_bound.3 one); more = λ h. (c.value.ensures.at_le_end.1 h).1; long = c.requires.lent.long; wide = c.value.ensures.at_le_end.2 }; termed_from = term-value c.args.source.now.text.bytes c.args.source.now.list.now symbols symbols c.args.made.now _ c.args.s.at c.args.s.to c.value.result.at c.value.result.to c.args.w.end c.args.w.value one (λ h. (c.value.ensures.at_le_end.1 h).0) c.value.ensures.value_at }

@@ -32,13 +32,13 @@ abbrev pub decreases-terms::term : goal.decreases-terms::term
 decreases-terms::term l = 16 * (255 - l.s.at) + 4
 
 abbrev pub invariant-conditions::condition-loop-c : goal.invariant-conditions::condition-loop-c
-invariant-conditions::condition-loop-c l = (l.c.at ≤ 254) × (l.initial.c.at ≤ l.c.at) × (length l.symbols ≡ 160) × (length l.made ≡ 1024) × (l.start ≤ l.from) × (l.from ≤ l.c.to) × Pended l.text l.list l.initial.symbols l.symbols l.initial.made l.made l.initial.c.at l.c.at l.start l.from l.c.to
+invariant-conditions::condition-loop-c l = (l.c.at ≤ 254) × (l.initial.c.at ≤ l.c.at) × (length l.symbols ≡ 160) × (length l.made ≡ 1024) × (l.start ≤ l.from) × (l.from ≤ l.c.to) × Pended l.source.text.bytes l.source.list.now l.initial.symbols l.symbols l.initial.made l.made l.initial.c.at l.c.at l.start l.from l.c.to
 
 abbrev pub decreases-conditions::condition-loop-c : goal.decreases-conditions::condition-loop-c
 decreases-conditions::condition-loop-c l = 255 - l.c.at
 
 abbrev pub invariant-conditions::factor-loop-to : goal.invariant-conditions::factor-loop-to
-invariant-conditions::factor-loop-to l = (l.at ≤ 254) × (l.initial.at ≤ l.at) × (l.initial.to ≤ l.to) × (l.symbols ≡ l.initial.symbols) × (length l.made ≡ 1024) × Negs l.text l.list l.initial.symbols l.initial.made l.made l.initial.at l.at l.initial.to l.to
+invariant-conditions::factor-loop-to l = (l.at ≤ 254) × (l.initial.at ≤ l.at) × (l.initial.to ≤ l.to) × (l.symbols ≡ l.initial.symbols) × (length l.made ≡ 1024) × Negs l.source.text.bytes l.source.list.now l.initial.symbols l.initial.made l.made l.initial.at l.at l.initial.to l.to
 
 abbrev pub decreases-conditions::factor-loop-to : goal.decreases-conditions::factor-loop-to
 decreases-conditions::factor-loop-to l = 255 - l.at

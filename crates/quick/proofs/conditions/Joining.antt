@@ -57,32 +57,32 @@ entered S T made to x n q r long few small wide en er byte slot rest = record {
 
 -- a condition and its parenthesis
 pub bracket-reads : (text list S T made out : List ℕ) (i to m j end : ℕ) → Formed text list S T made out i to m end IsCondition → 1 ≤ m
-    → ((given : List ℕ) (t : Token) → Copied text given → ((x : List ℕ) → token 41 x ≡ ok t x) → 1 ≤ j → TokenAt given m j t) → Formed text list S T made out i to j end IsBracket
+    → ((given : List ℕ) (t : Token) → Copied text given → ((x : List ℕ) → token 41 x ≡ ok t x) → TokenAt given m j t) → Formed text list S T made out i to j end IsBracket
 unfolding token sign_in
 bracket-reads text list S T made out i to m j end f l p = record {
-  reads = λ given ρ ws c t h. bracket-read (entries list) ρ ws given i m j S T made out to end (f.reads given ρ ws c t l) (p given (key right) c (λ x. refl) h);
+  reads = λ given ρ ws c t h. bracket-read (entries list) ρ ws given i m j S T made out to end (f.reads given ρ ws c t l) (p given (key right) c (λ x. refl));
 }
 
 -- a comparison
 pub compared-reads : (text list S S₁ T made out last : List ℕ) (i to a x o j y e v e₂ v₂ k : ℕ) → TermedFrom text list S S₁ made out i (to + 2) a x e v → 1 ≤ a
-    → ((given : List ℕ) → Copied text given → 1 ≤ o → SignAt given a o k) → 1 ≤ o → TermedFrom text list S₁ T (set (set out to 21) (to + 1) k) last o x j y e₂ v₂
+    → ((given : List ℕ) → Copied text given → SignAt given a o k) → TermedFrom text list S₁ T (set (set out to 21) (to + 1) k) last o x j y e₂ v₂
     → ((given : List ℕ) → Copied text given → 1 ≤ e₂ → WordAt given o e₂ v₂) → length made ≡ 1024 → to ≤ 980 → FormedFrom text list S T made last i to j y e v
-compared-reads text list S S₁ T made out last i to a x o j y e v e₂ v₂ k first one sign two second word wide room = record {
+compared-reads text list S S₁ T made out last i to a x o j y e v e₂ v₂ k first one sign second word wide room = record {
   reads = λ given ρ ws c t w h.
       let p = first.reads given ρ ws c t w one in
-      compared-read (entries list) ρ ws given i a o j k S S₁ T made out last to x y p (sign given c two) (second.reads given ρ (ws ++ somes_o p.is) c (ready-grown t p.grown) (word given c) h) (omega (arith, wide, room));
+      compared-read (entries list) ρ ws given i a o j k S S₁ T made out last to x y p (sign given c) (second.reads given ρ (ws ++ somes_o p.is) c (ready-grown t p.grown) (word given c) h) (omega (arith, wide, room));
 }
 
 -- SOME X IN R ( .. ), after SOME
-pub some-reads : (text list S T U made out₁ out : List ℕ) (i to n m j end v u : ℕ) → length made ≡ 1024 → to ≤ 980 → ((given : List ℕ) → Copied text given → 1 ≤ n → NameAt given i n v) → 1 ≤ n
-    → ((given : List ℕ) → Copied text given → 1 ≤ m → RelationAt given n m u) → 1 ≤ m → SomePut list S T made out₁ to v u → Formed text list T U out₁ out m (to + 3) j end IsBracket
+pub some-reads : (text list S T U made out₁ out : List ℕ) (i to n m j end v u : ℕ) → length made ≡ 1024 → to ≤ 980 → ((given : List ℕ) → Copied text given → NameAt given i n v)
+    → ((given : List ℕ) → Copied text given → RelationAt given n m u) → SomePut list S T made out₁ to v u → Formed text list T U out₁ out m (to + 3) j end IsBracket
     → SomeAfter text list S (set U (4 * how_many S + 3) 255) made out i to j end
-some-reads text list S T U made out₁ out i to n m j end v u wide room name one relation two p f = record { reads = go }
+some-reads text list S T U made out₁ out i to n m j end v u wide room name relation p f = record { reads = go }
   where
     go : (given : List ℕ) (ρ : List Symbol) (ws : List Word) (h : ℕ) → Copied text given → Ready S ws ρ → TokenAt given h i (key SOME) → 1 ≤ j → FormulaAt (entries list) ρ ws given h j S (set U (4 * how_many S + 3) 255) made out to end IsFactor
     go given ρ ws h c t s z =
-        let x = name given c one in
-        let r = relation given c two in
+        let x = name given c in
+        let r = relation given c in
         let e = p.entered in
         let absent = not_found t.tabled.words x.word v p.slot x.spelt p.free p.none-there in
         let few : length ws < 30 = omega (arith, p.few, t.size) in
@@ -131,12 +131,12 @@ module _ (text list S made out : List ℕ) (i at start to : ℕ) (n : Negs text 
     negs-compared S' T last j end q f' =
         let f = subst (λ (z : List ℕ). FormedFrom text list z T out last at to j end w v) q f' in record { reads = λ given ρ ws c t h. (n.reads given ρ ws c).then j T last end (f.reads given ρ ws c t (word given c) h) }
 
-  pub negs-within : (S' T last : List ℕ) (p j end : ℕ) → S' ≡ S → ((given : List ℕ) (t : Token) → Copied text given → ((x : List ℕ) → token 40 x ≡ ok t x) → 1 ≤ p → TokenAt given at p t) → 1 ≤ p
+  pub negs-within : (S' T last : List ℕ) (p j end : ℕ) → S' ≡ S → ((given : List ℕ) (t : Token) → Copied text given → ((x : List ℕ) → token 40 x ≡ ok t x) → TokenAt given at p t)
       → Formed text list S' T out last p to j end IsBracket → Formed text list S T made last i start j end IsFactor
   unfolding token sign_in
-  negs-within S' T last p j end z q l f' =
+  negs-within S' T last p j end z q f' =
       let f = subst (λ (y : List ℕ). Formed text list y T out last p to j end IsBracket) z f' in record {
-        reads = λ given ρ ws c t h. (n.reads given ρ ws c).then j T last end (within-read (entries list) ρ ws given at p j S T out last to end (q given (key left) c (λ x. refl) l) (f.reads given ρ ws c t h));
+        reads = λ given ρ ws c t h. (n.reads given ρ ws c).then j T last end (within-read (entries list) ρ ws given at p j S T out last to end (q given (key left) c (λ x. refl)) (f.reads given ρ ws c t h));
       }
 
 -- where a factor is to come, in a condition
@@ -154,13 +154,13 @@ module _ (text list S T U made out last : List ℕ) (i at start from to j end : 
   pended-end = record { reads = λ given ρ ws c t h. sofar-end (entries list) ρ ws given i S made start j U last from end (sofar given ρ ws c t) }
 
   module _ (room : start ≤ length made) (m : ℕ) (put : List ℕ) where
-    pub pended-and : ((given : List ℕ) (t : Token) → Copied text given → ((x : List ℕ) → token 94 x ≡ ok t x) → 1 ≤ m → TokenAt given j m t) → 1 ≤ m → take (end + 1) put ≡ take from last ++ (19 ∷ drop from (take end last))
+    pub pended-and : ((given : List ℕ) (t : Token) → Copied text given → ((x : List ℕ) → token 94 x ≡ ok t x) → TokenAt given j m t) → take (end + 1) put ≡ take from last ++ (19 ∷ drop from (take end last))
         → Pended text list S U made put i m start from (end + 1)
     unfolding token sign_in
-    pended-and q l w = record { reads = λ given ρ ws c t. pending-and (entries list) ρ ws given i S made start t room j U last from end (sofar given ρ ws c t) m put (q given (key and) c (λ x. refl) l) w }
+    pended-and q w = record { reads = λ given ρ ws c t. pending-and (entries list) ρ ws given i S made start t room j U last from end (sofar given ρ ws c t) m put (q given (key and) c (λ x. refl)) w }
 
-    pub pended-or : ((given : List ℕ) → Copied text given → 1 ≤ m → TokenAt given j m (key or)) → 1 ≤ m → take (end + 1) put ≡ take start last ++ (20 ∷ drop start (take end last)) → Pended text list S U made put i m start (end + 1) (end + 1)
-    pended-or q l w = record { reads = λ given ρ ws c t. pending-or (entries list) ρ ws given i S made start t room j U last from end (sofar given ρ ws c t) m put (q given c l) w }
+    pub pended-or : ((given : List ℕ) → Copied text given → TokenAt given j m (key or)) → take (end + 1) put ≡ take start last ++ (20 ∷ drop start (take end last)) → Pended text list S U made put i m start (end + 1) (end + 1)
+    pended-or q w = record { reads = λ given ρ ws c t. pending-or (entries list) ρ ws given i S made start t room j U last from end (sofar given ρ ws c t) m put (q given c) w }
 
 pub two-long : (m : List ℕ) (i a j b : ℕ) → length m ≡ 1024 → length (set (set m i a) j b) ≡ 1024
 two-long m i a j b l = length-set (set m i a) j b ∙ length-set m i a ∙ l

@@ -3,6 +3,7 @@ use Prim.Native.Nat.{ℕ, ◌<◌}
 use mathlib.Core.List.{List}
 use mathlib.Core.Path.{◌≡◌, refl, ◌∙◌}
 use native.Mathlib.Omega.{arith}
+use Rattle.std.specs.Prelude.{Option, Some, None, IfSome}
 use lib.ListN.{length, get_or, set, length-set}
 use lib.Seq.{get_or-set_same, get_or-set_other}
 use Rattle.quel.specs.Results.{ok}
@@ -40,3 +41,8 @@ module _ (S : List ℕ) (n : ℕ) where
 
   pub counted-many : length S ≡ 160 → get_or counted 157 0 ≡ n
   counted-many e = get_or-set_other (set S 157 n) 156 157 n 0 (λ z. omega (arith, z)) ∙ get_or-set_same S 157 n 0 (omega (arith, e))
+
+-- what follows from a place that was found
+pub mapped : {P Q : ℕ → Type 0} (r : Option ℕ) → ((j : ℕ) → P j → Q j) → IfSome r P → IfSome r Q
+mapped None f h = tt
+mapped (Some j) f h = f j h

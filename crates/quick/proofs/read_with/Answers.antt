@@ -14,14 +14,21 @@ use Rattle.quick.proofs.read_with.Goals as goal
 pub listed-requires : goal.listed-requires
 listed-requires c = c.requires.names_value
 
-pub head-at-requires : goal.head-at-requires
-head-at-requires c = (c.requires.ended.0, c.requires.ended.2, (c.listed.ensures (not-false c.listed.result c.if-not-listed.false-raw)).1)
+pub head-requires : goal.head-requires
+head-requires c = (c.requires.ended.1, (c.listed.ensures (not-false c.listed.result c.if-not-listed.false-raw)).1)
 
 pub rest-s-requires : goal.rest-s-requires
-rest-s-requires c = record { lent = record { ended = c.requires.ended.0; indexed = (c.listed.ensures (not-false c.listed.result c.if-not-listed.false-raw)).1; long = c.head-at.ensures.upper_bound.1; wide = c.requires.ended.3 }; start_bound = c.head-at.ensures.upper_bound.0 }
+rest-s-requires c = record { lent = record { indexed = (c.listed.ensures (not-false c.listed.result c.if-not-listed.false-raw)).1; long = c.in_ok-at.ensures.1; wide = c.requires.ended.2 }; start_bound = c.in_ok-at.ensures.0 }
 
 pub finish-requires : goal.finish-requires
-finish-requires c = (c.rest-s.ensures.went.long, c.head-at.ensures.upper_bound.2 (omega (arith, c.if-at-eq0.false)), c.rest-s.ensures.went.wide, omega (arith, c.rest-s.ensures.to_bound (omega (arith, c.if-end-length.false, c.requires.ended.1))))
+finish-requires c = (c.rest-s.ensures.went.long, c.in_ok-at.ensures.2, c.rest-s.ensures.went.wide, omega (arith, c.rest-s.ensures.to_bound (omega (arith, c.if-end-length.false, c.requires.ended.0))))
 
 pub returns : goal.returns
-returns c = let list = c.args.list.now in let out = c.args.out.now in λ given k e. c.finish.ensures ∙ ap (λ (m : ℕ). written (records_of c.rest-s.new.symbols m (take c.rest-s.result.to c.rest-s.new.made)) out) (c.head-at.ensures.by_index given k (omega (arith, c.if-at-eq0.false))).size ∙ sym (whole-text (entries list) list given out (c.listed.ensures (not-false c.listed.result c.if-not-listed.false-raw)).0 (omega (arith, k.room)) c.head-at.result c.rest-s.result.at c.head-at.new.symbols c.rest-s.new.symbols c.args.made.now c.rest-s.new.made c.rest-s.result.to (c.head-at.ensures.by_index given k (omega (arith, c.if-at-eq0.false))) (c.rest-s.ensures.by_index given (in_order 0 (c.head-at.ensures.by_index given k (omega (arith, c.if-at-eq0.false))).symbols) (words_of (c.head-at.ensures.by_index given k (omega (arith, c.if-at-eq0.false))).symbols) k (head-ready (c.head-at.ensures.by_index given k (omega (arith, c.if-at-eq0.false)))) (omega (arith, c.if-end-length.false, c.requires.ended.1))) (omega (arith, e, c.if-end-length.false)))
+returns c =
+    let list = c.args.list.now in
+    let out = c.args.out.now in
+    λ given k e.
+    let head = c.in_ok-at.ensures.3 given k in
+    c.finish.ensures ∙ ap (λ (m : ℕ). written (records_of c.rest-s.new.symbols m (take c.rest-s.result.to c.rest-s.new.made)) out) head.size
+    ∙ sym (whole-text (entries list) list given out (c.listed.ensures (not-false c.listed.result c.if-not-listed.false-raw)).0 (omega (arith, k.room)) c.in_ok-at.at c.rest-s.result.at c.head.new.symbols c.rest-s.new.symbols c.args.made.now c.rest-s.new.made c.rest-s.result.to head
+    (c.rest-s.ensures.by_index given (in_order 0 head.symbols) (words_of head.symbols) k (head-ready head) (omega (arith, c.if-end-length.false, c.requires.ended.0))) (omega (arith, e, c.if-end-length.false)))

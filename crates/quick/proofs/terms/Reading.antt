@@ -38,10 +38,10 @@ pub three-long : (m : List ℕ) (to k a b : ℕ) → length (three_at m to k a b
 three-long m to k a b = length-set (set (set m to k) (to + 1) a) (to + 2) b ∙ length-set (set m to k) (to + 1) a ∙ length-set m to k
 
 -- a constant
-pub constant-read : (text list made out : List ℕ) (i to j k a b c d : ℕ) → a ≡ k % 256 → b ≡ k / 256 % 256 → c ≡ k / 65536 % 256 → d ≡ k / 16777216 % 256 → length made ≡ 1024 → to ≤ 1000 → ((given : List ℕ) → Copied text given → 1 ≤ j → TokenAt given i j (number k))
+pub constant-read : (text list made out : List ℕ) (i to j k a b c d : ℕ) → a ≡ k % 256 → b ≡ k / 256 % 256 → c ≡ k / 65536 % 256 → d ≡ k / 16777216 % 256 → length made ≡ 1024 → to ≤ 1000 → ((given : List ℕ) → Copied text given → TokenAt given i j (number k))
     → out ≡ five_at made to 32 a b c d → Constant text list made out i to j (to + 5)
 constant-read text list made out i to j k a b c d ea eb ec ed l m f e = record {
-  reads = λ given S ρ ws c t h. subst (λ (o : List ℕ). OperandAt (entries list) ρ ws given i j S S made o to (to + 5)) (sym (e ∙ rw (ea, eb, ec, ed))) (number_read (entries list) ρ ws given i j S made to t k (f given c h) (omega (arith, l, m)));
+  reads = λ given S ρ ws c t h. subst (λ (o : List ℕ). OperandAt (entries list) ρ ws given i j S S made o to (to + 5)) (sym (e ∙ rw (ea, eb, ec, ed))) (number_read (entries list) ρ ws given i j S made to t k (f given c) (omega (arith, l, m)));
 }
 
 pub value-reads : (list made out : List ℕ) (to j v p : ℕ) → length made ≡ 1024 → to ≤ 1000 → p < length list → ((w : Word) → Spelt w v → Told list w p (value_named (entries list) w) (bytes_at list p))
@@ -81,19 +81,19 @@ use-reads text list S T made out i to j v y k p r n l m few f o q word er en tol
 }
 
 -- what follows X.A in an aggregate: the end
-pub closed-reads : (text list S made : List ℕ) (i to j k : ℕ) → length made ≡ 1024 → to ≤ 1005 → ((given : List ℕ) (t : Token) → Copied text given → ((x : List ℕ) → token 41 x ≡ ok t x) → 1 ≤ j → TokenAt given i j t)
+pub closed-reads : (text list S made : List ℕ) (i to j k : ℕ) → length made ≡ 1024 → to ≤ 1005 → ((given : List ℕ) (t : Token) → Copied text given → ((x : List ℕ) → token 41 x ≡ ok t x) → TokenAt given i j t)
     → Closed text list S S made (set made to 16) i to j (to + 1) k
 unfolding token sign_in
 closed-reads text list S made i to j k l m p = record {
-  reads = λ given ρ ws n c t h o next z. closed-plain (entries list) ρ ws given i i j S made to t n next (omega (arith, next, t.next)) (seen S k (word_at ws k)) (p given (key right) c (λ x. refl) z) (omega (arith, l, m));
+  reads = λ given ρ ws n c t h o next z. closed-plain (entries list) ρ ws given i i j S made to t n next (omega (arith, next, t.next)) (seen S k (word_at ws k)) (p given (key right) c (λ x. refl)) (omega (arith, l, m));
 }
 
 -- or a semicolon, a condition and the end
-pub after-reads : (text list S T made out : List ℕ) (i to b j end k : ℕ) → ((given : List ℕ) (t : Token) → Copied text given → ((x : List ℕ) → token 59 x ≡ ok t x) → 1 ≤ b → TokenAt given i b t) → 1 ≤ b
+pub after-reads : (text list S T made out : List ℕ) (i to b j end k : ℕ) → ((given : List ℕ) (t : Token) → Copied text given → ((x : List ℕ) → token 59 x ≡ ok t x) → TokenAt given i b t)
     → ClosedAfter text list S T made out b to j end k → Closed text list S T made out i to j end k
 unfolding token sign_in
-after-reads text list S T made out i to b j end k p l a = record {
-  reads = λ given ρ ws n c t h o next z. a.reads given ρ ws n i c t h o next (p given (key semicolon) c (λ x. refl) l) z;
+after-reads text list S T made out i to b j end k p a = record {
+  reads = λ given ρ ws n c t h o next z. a.reads given ρ ws n i c t h o next (p given (key semicolon) c (λ x. refl)) z;
 }
 
 -- the symbol k, its number and level put in and put back, and the level now
@@ -157,10 +157,10 @@ qualified-reads text list S U made out i to j end k long long_u few deep f = rec
 
 -- an aggregate after its parenthesis: S' has the next number
 pub aggregate-reads : (text list S T made out₁ out : List ℕ) (i to p j end f v u k q r n : ℕ) → length S ≡ 160 → length made ≡ 1024 → to ≤ 1000 → k < 30 → code_at S k ≡ v → (level_at S k ≡ 255 → ⊥) → q < length list
-    → ((given : List ℕ) → Copied text given → 1 ≤ p → AttributeAt given i p v u) → 1 ≤ p → r ≡ relation_at S k % 256
+    → ((given : List ℕ) → Copied text given → AttributeAt given i p v u) → r ≡ relation_at S k % 256
     → ((w : Word) → Spelt w u → Told list w q (attribute_named (entries list) r w) (get_or list (q + 2) 0)) → next_number S ≤ 199 → n ≡ next_number S % 256
     → out₁ ≡ five_at made to 34 f n r (get_or list (q + 2) 0) → Closed text list (set S 156 (next_number S + 1)) T out₁ out p (to + 5) j end k → AggregateAfter text list S T made out i to j end f
-aggregate-reads text list S T made out₁ out i to p j end f v u k q r n long wide room few code open-slot there at one er told small en eo c = record { reads = go }
+aggregate-reads text list S T made out₁ out i to p j end f v u k q r n long wide room few code open-slot there at er told small en eo c = record { reads = go }
   where
     S' : List ℕ
     S' = set S 156 (next_number S + 1)
@@ -176,7 +176,7 @@ aggregate-reads text list S T made out₁ out i to p j end f v u k q r n long wi
 
     go : (given : List ℕ) (ρ : List Symbol) (ws : List Word) (h x : ℕ) → Copied text given → Ready S ws ρ → FunctionAt given h x f → TokenAt given x i (key left) → 1 ≤ j → OperandAt (entries list) ρ ws given h j S T made out to end
     go given ρ ws h x cp t fn l z =
-        let a = at given cp one in
+        let a = at given cp in
         let t' : Ready S' ws ρ = ready-next t same other (omega (arith, next, small)) in
         let slot : k < length ws = found-slot t.tabled.words a.owner.word v k a.owner.spelt code few in
         let b = t.tabled.words.bytes k slot in
@@ -197,15 +197,15 @@ module _ (text list S T made out : List ℕ) (i to j end e v : ℕ) where
   pub term-number : e ≡ 0 → Constant text list made out i to j end → TermedFrom text list S S made out i to j end e v
   term-number z c = record { reads = λ given ρ ws k t w h. c.reads given S ρ ws k t h }
 
-  pub term-use : (p : ℕ) → 1 ≤ e → ((given : List ℕ) (t : Token) → Copied text given → ((x : List ℕ) → token 46 x ≡ ok t x) → 1 ≤ p → TokenAt given e p t) → 1 ≤ p → UseAfter text list S T made out p to j end v
+  pub term-use : (p : ℕ) → 1 ≤ e → ((given : List ℕ) (t : Token) → Copied text given → ((x : List ℕ) → token 46 x ≡ ok t x) → TokenAt given e p t) → UseAfter text list S T made out p to j end v
       → TermedFrom text list S T made out i to j end e v
   unfolding token sign_in
-  term-use p l q m u = record { reads = λ given ρ ws k t w h. u.reads given ρ ws i e k t (w l) (q given (key point) k (λ x. refl) m) h }
+  term-use p l q u = record { reads = λ given ρ ws k t w h. u.reads given ρ ws i e k t (w l) (q given (key point) k (λ x. refl)) h }
 
-  pub term-aggregate : (p f : ℕ) → 1 ≤ e → ((given : List ℕ) (t : Token) → Copied text given → ((x : List ℕ) → token 40 x ≡ ok t x) → 1 ≤ p → TokenAt given e p t) → 1 ≤ p
-      → ((text : List ℕ) (i j : ℕ) → WordAt text i j v → 1 ≤ f → FunctionAt text i j f) → 1 ≤ f → AggregateAfter text list S T made out p to j end f → TermedFrom text list S T made out i to j end e v
+  pub term-aggregate : (p f : ℕ) → 1 ≤ e → ((given : List ℕ) (t : Token) → Copied text given → ((x : List ℕ) → token 40 x ≡ ok t x) → TokenAt given e p t)
+      → ((text : List ℕ) (i j : ℕ) → WordAt text i j v → FunctionAt text i j f) → AggregateAfter text list S T made out p to j end f → TermedFrom text list S T made out i to j end e v
   unfolding token sign_in
-  term-aggregate p f l q m g n u = record { reads = λ given ρ ws k t w h. u.reads given ρ ws i e k t (g given i e (w l) n) (q given (key left) k (λ x. refl) m) h }
+  term-aggregate p f l q g u = record { reads = λ given ρ ws k t w h. u.reads given ρ ws i e k t (g given i e (w l)) (q given (key left) k (λ x. refl)) h }
 
   pub term-value : 1 ≤ e → (1 ≤ j → j ≡ e) → (1 ≤ j → ValueAt list made out to e end v) → TermedFrom text list S S made out i to j end e v
   term-value l z u = record { reads = λ given ρ ws k t w h. subst (λ (x : ℕ). OperandAt (entries list) ρ ws given i x S S made out to end) (sym (z h)) ((u h).reads given i S ρ ws t (w l)) }

@@ -38,42 +38,26 @@ pub(crate) fn put_price(display: &mut [u8], at: usize, cents: u64)
     copier::copy(display, at, &price);
 }
 
-// From 0 to the last.
-fn up_to(z: i64, last: i64) -> bool
-    ensures { result ≡ le_z (pos 0) z && le_z z last }
-{
-    if z < 0 {
-        return false;
-    }
-    z <= last
-}
-
 // Whether a row is in range.
+#[tactic(auto, unfolding(model::specs::Book::in_range))]
 fn in_range(label: i64, offer: i64, price: i64) -> bool
     ensures { result ≡ in_range (record { label = label; offer = offer; price = price }) }
 {
-    if !up_to(label, 499) {
-        return false;
-    }
-    if offer < 0 {
-        return false;
-    }
-    up_to(price, 999999)
+    (0..=499).contains(&label) && 0 <= offer && (0..=999999).contains(&price)
 }
 
 // Whether every row of three cells is in range; ends at the first that is not.
 pub(crate) fn all_in_range(cells: &[i64]) -> bool
     ensures { result ≡ all in_range (rows_in cells.now) }
 {
-    let mut at = 0;
-    while 3 <= cells.len() - at {
+    for i in 0..cells.len() / 3 {
+        let at = 3 * i;
         let label = cells[at];
         let offer = cells[at + 1];
         let price = cells[at + 2];
         if !in_range(label, offer, price) {
             return false;
         }
-        at += 3;
     }
     true
 }

@@ -12,7 +12,7 @@ pub returns-in_err-variable : goal.returns-in_err-variable
 returns-in_err-variable c = λ z s. rw (c.in_ok-known.was, c.in_err-variable.was) c.from_residual-in_err-variable.ensures
 
 pub returns-in_err-a : goal.returns-in_err-a
-returns-in_err-a c = λ z s. rw (c.in_ok-known.was, c.in_ok-variable.was) (c.from_residual-in_err-a.ensures ∙ sym (ap (use_by c.in_ok-variable.variable) (found_none (attribute_named (entries c.args.list.now) c.in_ok-known.known.relation z) _ (c.numbered.ensures z s) c.in_err-a.was)))
+returns-in_err-a c = λ z s. rw (c.in_ok-known.was, c.in_ok-variable.was) (c.from_residual-in_err-a.ensures ∙ sym (ap (use_by c.in_ok-variable.variable) (found_none (attribute_named (entries c.args.lookup.now.list.now) c.in_ok-known.known.relation z) _ (c.numbered.ensures z s) c.in_err-a.was)))
 
 pub returns : goal.returns
-returns c = λ z s. rw (c.in_ok-known.was, c.in_ok-variable.was) (sym (ap (use_by c.in_ok-variable.variable) (found_some (attribute_named (entries c.args.list.now) c.in_ok-known.known.relation z) _ _ (c.numbered.ensures z s) c.in_ok-a.was)))
+returns c = λ z s. rw (c.in_ok-known.was, c.in_ok-variable.was) (sym (ap (use_by c.in_ok-variable.variable) (found_some (attribute_named (entries c.args.lookup.now.list.now) c.in_ok-known.known.relation z) _ _ (c.numbered.ensures z s) c.in_ok-a.was)))

@@ -1,15 +1,11 @@
-use mathlib.Core.Path.{sym, subst}
-use Rattle.names.specs.Search.{Indexed}
+use Rattle.std.proofs.Common.{◌∙◌}
 use Rattle.elaborate.proofs.items.Tests.{value_none, value-some}
 use Rattle.names.specs.Entries.{entries}
 use Rattle.quel.specs.Names.{value_named}
 use Rattle.elaborate.proofs.items.value_item.Goals as goal
 
-pub meaning-requires : goal.meaning-requires
-meaning-requires c = subst (Indexed c.args.list.now) (sym c.chains.ensures) c.requires
-
-pub returns-in_default : goal.returns-in_default
-returns-in_default c = λ z s. value_none (value_named (entries c.args.list.now) z) _ (c.meaning.ensures z s) c.in_default.is
+pub returns-in_err-a : goal.returns-in_err-a
+returns-in_err-a c = λ z s. c.from_residual.ensures ∙ value_none (value_named (entries c.args.lookup.now.list.now) z) _ (c.meaning.ensures z s) c.in_err-a.was
 
 pub returns : goal.returns
-returns c = λ z s. value-some (value_named (entries c.args.list.now) z) _ _ _ _ _ (c.meaning.ensures z s) c.in-Of.is
+returns c = λ z s. value-some (value_named (entries c.args.lookup.now.list.now) z) _ _ _ _ _ (c.meaning.ensures z s) c.in_ok-a.was

@@ -9,4 +9,4 @@ use Rattle.elaborate.proofs.marks.Bound.{Left}
 use Rattle.elaborate.proofs.marks.unique_with.Given as goal
 
 abbrev pub invariant-loop-i : goal.invariant-loop-i
-invariant-loop-i l = ((text ss ns : List ℕ) → Numbered (name_in text l.kinds ss) (length l.kinds) (ids_in l.lookup) → Left text l.kinds ss ns (ids_in l.lookup) l.p l.i l.seen) × (l.p ≤ 2) × (length l.seen ≡ length l.initial.seen)
+invariant-loop-i l = ((text ss ns : List ℕ) → Numbered (name_in text l.kinds ss) (length l.kinds) (ids_in l.lookup.table.now) → Left text l.kinds ss ns (ids_in l.lookup.table.now) l.p l.i l.seen) × (l.p ≤ 2) × (length l.seen ≡ length l.initial.seen)

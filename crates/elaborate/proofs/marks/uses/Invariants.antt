@@ -10,4 +10,4 @@ use Rattle.elaborate.specs.Tables.{Clear}
 use Rattle.elaborate.proofs.marks.uses.Given as goal
 
 abbrev pub invariant-loop-i : goal.invariant-loop-i
-invariant-loop-i l = ((text ss ns : List ℕ) → Numbered (name_in text l.kinds ss) (length l.kinds) (ids_in l.lookup) → Left text (table l.kinds ss ns) (ids_in l.lookup) l.from l.d l.i l.used) × (l.d ≤ l.i) × (length l.used ≡ length l.initial.used) × Clear l.used
+invariant-loop-i l = ((text ss ns : List ℕ) → Numbered (name_in text l.kinds ss) (length l.kinds) (ids_in l.lookup.table.now) → Left text (table l.kinds ss ns) (ids_in l.lookup.table.now) l.from l.d l.i l.used) × (l.d ≤ l.i) × (length l.used ≡ length l.initial.used) × Clear l.used

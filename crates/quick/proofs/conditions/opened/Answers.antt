@@ -17,14 +17,14 @@ returns-in_default c = record { symbols_len = (c.requires.indexed.1, c.requires.
 pub returns-then-symbols-gt199 : goal.returns-then-symbols-gt199
 returns-then-symbols-gt199 c = record { symbols_len = (c.requires.indexed.1, c.requires.to_bound.1); some_put = λ h. clash h }
 
-pub bounds-list-q : goal.bounds-list-q
-bounds-list-q c = omega (arith, c.in-Some.ensures.0)
+pub bounds-source-q : goal.bounds-source-q
+bounds-source-q c = omega (arith, c.in-Some.ensures.0)
 
 pub returns : goal.returns
 returns c = record {
   symbols_len = (c.enter.ensures.long, c.enter.ensures.wide);
   some_put = λ _. record {
-    relation = get_or c.args.list.now (c.in-Some.q + 1) 0;
+    relation = get_or c.args.source.now.list.now (c.in-Some.q + 1) 0;
     slot = 30;
     few = c.if-symbols-ge30.false;
     less = omega (arith, c.if-symbols-gt199.false);

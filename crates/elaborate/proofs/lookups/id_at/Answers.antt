@@ -1,6 +1,0 @@
-use mathlib.Core.Path.{◌∙◌}
-use Rattle.elaborate.proofs.Lookup.{id-is}
-use Rattle.elaborate.proofs.lookups.id_at.Goals as goal
-
-pub returns : goal.returns
-returns c = record { value = c.size_at.ensures.value ∙ id-is c.args.lookup.now c.room.result c.room.ensures _ c.tail_sizes.ensures c.args.x; upper_bound = c.size_at.ensures.upper_bound }
