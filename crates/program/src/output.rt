@@ -1,10 +1,12 @@
 // What the program prints, of the bytes of its four files: text in a lent buffer.
 ghost use Rattle.std.specs.Prelude.{◌≡◌, false, ℕ, ◌+◌, ◌*◌, ◌/◌, ◌≤◌, ◌<◌, ltb, length, take, pos, replicate};
 ghost use Rattle.std.proofs.lemmas.List.Edits.{sets};
+ghost use Rattle.model.specs.Refusals.{number_of};
 ghost use Rattle.program.specs.Counts.{IsPrefixLen};
 ghost use Rattle.program.specs.Output as O;
 
 use crate::text;
+use model::Refusal;
 
 // Whether a values file is over its limit, or no multiple of 4 bytes.
 fn unreadable(file: &[u8]) -> bool
@@ -31,11 +33,11 @@ fn read_values(file: &[u8], values: &mut [i32])
     }
 }
 
-fn refused(number: u64, out: &mut [u8]) -> usize
-    ensures value { result ≡ length (O.refused number) }
-    ensures out_after { out.new ≡ sets out.old 0 (O.refused number) }
+fn refused(refusal: Refusal, out: &mut [u8]) -> usize
+    ensures value { result ≡ length (O.refused (number_of refusal)) }
+    ensures out_after { out.new ≡ sets out.old 0 (O.refused (number_of refusal)) }
 {
-    text::labelled(b"refused ", number, out, 0)
+    text::labelled(b"refused ", u64::from(u8::from(refusal)), out, 0)
 }
 
 // The lines of an accepted call.
@@ -60,21 +62,13 @@ fn accepted(
     text::table(rows, columns, answer, out, d)
 }
 
-fn wide(x: u8) -> u64
-    ensures { result ≡ x }
-{
-    x as u64
-}
-
 // The refusal of an unreadable values file: 10 goes first.
-fn unread(catalogue: &[u8]) -> u64
-    ensures { result ≡ O.unread catalogue.now }
+fn unread(catalogue: &[u8]) -> Refusal
+    ensures { number_of result ≡ O.unread catalogue.now }
 {
-    let none = [0i32; 1];
-    if catalogue::check(catalogue, &none) == 10 {
-        10
-    } else {
-        11
+    match catalogue::check(catalogue, &[0i32; 1]) {
+        Err(refusal) => refusal,
+        Ok(()) => Refusal::Values,
     }
 }
 
@@ -102,18 +96,29 @@ fn respond_with(
     }
     read_values(file, values);
     let n = file.len() / 4;
-    let r = guarded::ask(
+    match guarded::ask(
         catalogue,
         &values[..n],
         permits,
         question,
         rewritten,
         answer,
-    );
-    if r.number != 0 {
-        return refused(wide(r.number), out);
+    ) {
+        Err(refusal) => refused(refusal, out),
+        Ok(r) => {
+            if r.answer.full {
+                return refused(Refusal::AnswerRoom, out);
+            }
+            accepted(
+                r.answer.rows,
+                r.answer.columns,
+                r.length,
+                rewritten,
+                answer,
+                out,
+            )
+        }
     }
-    accepted(r.rows, r.columns, r.length, rewritten, answer, out)
 }
 
 // The program as a function: the text that it prints of its files, at the start of the lent buffer, and its length. Past it the buffer is as it was.

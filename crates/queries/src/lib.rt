@@ -211,12 +211,7 @@ fn unread(q: &[u8], bytes: usize) -> Refusal
 
 // The checks of a query, by rising number, from one reading. Where it passes its table of sizes is left filled; where it does not, what stands in
 // the table at the query's places is free. Past the query the table is as it was.
-pub fn check(
-    q: &[u8],
-    limits: Limits,
-    catalogue: &[u8],
-    z: &mut [u16],
-) -> Result<Layout, Refusal>
+pub fn check(q: &[u8], limits: Limits, catalogue: &[u8], z: &mut [u16]) -> Result<Layout, Refusal>
     requires { (fails10 catalogue.now ≡ false) × (length q.now ≤ limits.bytes → length q.now ≤ length z.old) × (limits.bytes < 65536) }
     ensures result_value { code_of result ≡ refusal (query_checks (limits_of limits) (shape_of (catalogue_of catalogue.now)) q.now) }
     ensures ready { Ready result limits.levels q.now z.new }

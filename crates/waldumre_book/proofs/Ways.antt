@@ -24,8 +24,8 @@ counted r answer = take (r.answer.rows * r.answer.columns) answer
 
 -- r is what ask returned, answer and bytes are the buffers after it
 module _ (r : Reply) {answer : List ℤ} {bytes : List ℕ} where
-  pub rows_in_lem : (cb : List ℕ) (vs : List ℤ) (pb qb rewritten : List ℕ) (cells : List ℤ) → G.outcome_of r answer bytes ≡ M.ask cb vs pb qb rewritten cells → r.answer.rows * r.answer.columns ≤ length cells
-  rows_in_lem cb vs pb qb rewritten cells e = subst (λ (o : M.Outcome). o.answer.rows * o.answer.columns ≤ length cells) (sym e) (rows_fit cb vs pb qb rewritten cells)
+  pub rows_in_lem : (cb : List ℕ) (vs : List ℤ) (pb qb rewritten : List ℕ) (cells : List ℤ) → G.outcome_of r answer bytes ≡ M.ask cb vs pb qb rewritten cells → length answer ≡ length cells → r.answer.rows * r.answer.columns ≤ length answer
+  rows_in_lem cb vs pb qb rewritten cells e l = let h : r.answer.rows * r.answer.columns ≤ length cells = subst (λ (o : M.Outcome). o.answer.rows * o.answer.columns ≤ length cells) (sym e) (rows_fit cb vs pb qb rewritten cells) in omega (arith, h, l)
 
 -- b is the book as lent
 module _ (r : Reply) (answer : List ℤ) (bytes : List ℕ) (b : Book) where

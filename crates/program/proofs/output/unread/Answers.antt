@@ -1,8 +1,11 @@
-use Rattle.program.proofs.output.Outcomes.{unread-10, unread-11}
+use native.Mathlib.Omega.{arith}
+use mathlib.Core.Path.{refl}
+use Rattle.model.proofs.Refusals.{number-positive}
+use Rattle.program.proofs.output.Outcomes.{unread_as, unread-none}
 use Rattle.program.proofs.output.unread.Goals as goal
 
-pub returns-then-check-eq10 : goal.returns-then-check-eq10
-returns-then-check-eq10 c = unread-10 c.args.catalogue.now _ _ c.check.ensures c.if-check-eq10.true
+pub returns-in-Err : goal.returns-in-Err
+returns-in-Err c = unread_as c.args.catalogue.now _ _ c.in-Err.ensures (number-positive _)
 
-pub returns-else-check-eq10 : goal.returns-else-check-eq10
-returns-else-check-eq10 c = unread-11 c.args.catalogue.now _ _ c.check.ensures c.if-check-eq10.false
+pub returns-in-Ok : goal.returns-in-Ok
+returns-in-Ok c = unread-none c.args.catalogue.now _ _ c.in-Ok.ensures refl
