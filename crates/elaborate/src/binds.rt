@@ -1,8 +1,7 @@
 // The RANGE list: its symbols, with relations looked up, and a record for each symbol that is used.
-ghost use Rattle.std.specs.Prelude.{◌≡◌, true, false, cond, List, ℕ, ◌+◌, ◌<◌, ◌≤◌, eqb, length, get_or, set, Some, None};
+ghost use Rattle.std.specs.Prelude.{◌≡◌, cond, List, ℕ, ◌+◌, ◌<◌, ◌≤◌, eqb, length, get_or, set, Some, None};
 ghost use Rattle.quel.specs.Names.{Entry};
 ghost use Rattle.names.specs.Entries.{entries};
-ghost use Rattle.names.specs.Search.{Indexed};
 ghost use Rattle.elaborate.specs.Lookup.{ids_of, Listed};
 ghost use Rattle.elaborate.specs.Reach.{mode_in, used_in, Bound};
 ghost use Rattle.elaborate.specs.Tables.{Clear};

@@ -1,8 +1,7 @@
 // The loop over a text's tokens: turn after turn, up to the last token or a refusal.
-ghost use Rattle.std.specs.Prelude.{◌≡◌, List, ℕ, ◌+◌, ◌<◌, ◌≤◌, length, get_or};
+ghost use Rattle.std.specs.Prelude.{◌≡◌, List, ℕ, ◌<◌, ◌≤◌, length, get_or};
 ghost use Rattle.quel.specs.Elaboration.{Symbol};
 ghost use Rattle.names.specs.Entries.{entries};
-ghost use Rattle.names.specs.Search.{Indexed};
 ghost use Rattle.elaborate.specs.Lookup.{ids_of, Listed};
 ghost use Rattle.elaborate.specs.Places.{table, name_in};
 ghost use Rattle.elaborate.specs.Tables.{Named, Holds};
@@ -11,6 +10,7 @@ ghost use Rattle.elaborate.specs.Ends.{Ends, Last};
 
 use crate::lookups::Lookup;
 use crate::modes::Mode;
+use crate::reaches::Reach;
 use crate::turns;
 use crate::turns::State;
 
@@ -45,15 +45,16 @@ pub(crate) fn run(
 {
     counts[0] = 0;
     let mut s = State {
-        i: start.first,
         mode: Mode::Rest,
-        depth: 1,
-        crossing: 0,
+        reach: Reach {
+            depth: 1,
+            crossing: 0,
+        },
         n: start.n,
         at: start.at,
     };
-    while s.i < start.end {
-        s = turns::turn(lookup, counts, known, out, s)?;
+    for i in start.first..start.end {
+        s = turns::turn(lookup, counts, known, out, s, i)?;
     }
     Some(s.at)
 }

@@ -1,14 +1,13 @@
 // A text's tokens by their places: a number for each name, which symbols are used and bound, where the targets begin.
-ghost use Rattle.std.specs.Prelude.{◌≡◌, cond, ◌&&◌, List, [], ◌∷◌, ℕ, ◌+◌, ◌<◌, ◌≤◌, leb, length, get_or, take, drop};
-ghost use Rattle.quel.specs.Results.{Word, same_word, unique_words};
+ghost use Rattle.std.specs.Prelude.{◌≡◌, cond, ◌&&◌, List, [], ◌∷◌, ℕ, ◌+◌, ◌<◌, ◌≤◌, length, get_or, take, drop};
+ghost use Rattle.quel.specs.Results.{same_word, unique_words};
 ghost use Rattle.quel.specs.Tokens.{is_letter, run};
-ghost use Rattle.quel.specs.Lexical.{first};
 ghost use Rattle.tokens.specs.Codes.{Spelt, Coded};
 ghost use Rattle.flat.specs.Flat.{binders, main_of, last_of};
 ghost use Rattle.flat.specs.Flat as F;
 ghost use Rattle.elaborate.specs.Lookup.{ids_of};
 ghost use Rattle.elaborate.specs.Places.{table, tokens_from, name_in, point_in, use_in, depth_kind, part_kind, bound_place, binds_kind};
-ghost use Rattle.elaborate.specs.Numbers.{Numbered, Numbering, Met, Seen, Told, Noted, Used};
+ghost use Rattle.elaborate.specs.Numbers.{Numbered, Numbering, Met, Told, Noted, Used};
 ghost use Rattle.elaborate.specs.Tables.{Clear};
 
 use crate::lookups::Lookup;
