@@ -3,7 +3,7 @@ ghost use Rattle.std.specs.Prelude.{◌≡◌, ◌&&◌, List, ◌++◌, ℕ, �
 ghost use Rattle.std.proofs.lemmas.List.Edits.{sets};
 ghost use Rattle.quel.specs.Writing.{Reaches};
 ghost use Rattle.names.specs.Entries.{entries};
-ghost use Rattle.elaborate.specs.Lookup.{ids_of, Listed};
+ghost use Rattle.elaborate.specs.Lookup.{ids_of, Listed, NamesBelow};
 ghost use Rattle.elaborate.specs.Places.{table, name_in};
 ghost use Rattle.copier.specs.Copied.{record_bytes};
 ghost use Rattle.elaborate.specs.Tables.{Named};
@@ -11,7 +11,7 @@ ghost use Rattle.elaborate.specs.Puts.{number_after};
 ghost use Rattle.elaborate.specs.Counts.{ors_in, ands_in, sign_in, Counted};
 ghost use Rattle.elaborate.specs.Modes.{mode_no, action_no};
 ghost use Rattle.elaborate.specs.Opens.{open_bytes};
-ghost use Rattle.elaborate.specs.Frames.{Stack};
+ghost use Rattle.elaborate.specs.Frames.{Stack, Small};
 ghost use Rattle.elaborate.specs.After.{Goes, Within};
 
 use crate::items::Scope;
@@ -88,8 +88,8 @@ pub(crate) fn turn(
     i: usize,
 ) -> Option<State>
     requires i_bound { (i < 4000) × (i + 1 < length counts.old) × (s.n < 8000) × (s.at + 8197 < 9223372036854775808) }
-    requires depth_le_i { (s.reach.depth ≤ i) × (s.reach.crossing < 8192) × ((x : ℕ) → get_or (ids_of lookup.now) x 0 < 8192)
-        × ((x : ℕ) → get_or (ids_of lookup.now) x 0 < length known.old) × ((y : ℕ) → get_or known.old y 0 < 68719476736)
+    requires depth_le_i { (s.reach.depth ≤ i) × (s.reach.crossing < 8192) × NamesBelow lookup.now 8192
+        × NamesBelow lookup.now (length known.old) × Small known.old
         × Listed lookup.now }
     ensures by_index { (text ks ss : List ℕ) (σ : Reaches) → i < length ks → Counted ks counts.old i
         → Named (name_in text ks ss) (ids_of lookup.now) lookup.now.numbers.now
@@ -97,7 +97,7 @@ pub(crate) fn turn(
         → Goes text (table ks ss lookup.now.numbers.now) (entries lookup.now.list.now) (ids_of lookup.now) i s σ
         out.old result counts.new known.new out.new }
     ensures within { Within s result }
-    ensures by_index_2 { ((y : ℕ) → get_or known.new y 0 < 68719476736)
+    ensures by_index_2 { Small known.new
         × ((ks : List ℕ) → Counted ks counts.old i → Counted ks counts.new (i + 1)) }
 {
     let kind = ahead::kind(counts[i]);
