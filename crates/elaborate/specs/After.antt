@@ -38,7 +38,7 @@ module _ (text : List ℕ) (t : Table) (es : List Entry) (ids : List ℕ) where
   -- the reaches after a turn, which changes nothing of how the loop ends
   pub record Going (g : List ℕ → Written) (i : ℕ) (s : State) (fs known out : List ℕ) : Type 0 where
     pub reaches : Reaches
-    pub stack : Stack (name_in text t.kinds t.starts) ids fs s.depth s.crossing known reaches
+    pub stack : Stack (name_in text t.kinds t.starts) ids fs s.reach.depth s.reach.crossing known reaches
     pub ends : (z : List ℕ) → g z ≡ ended out s.at (left z i s reaches)
 
   abbrev pub GoesOn : (List ℕ → Written) → ℕ → Option State → List ℕ → List ℕ → List ℕ → Type 0
@@ -51,4 +51,4 @@ module _ (text : List ℕ) (t : Table) (es : List Entry) (ids : List ℕ) where
 -- a turn writes at most 8197 bytes, and opens at most one frame
 abbrev pub Within : State → Option State → Type 0
 Within s None = Unit
-Within s (Some r) = (r.depth ≤ s.depth + 1) × (r.n ≤ s.n + 1) × (r.at ≤ s.at + 8197) × (r.crossing < 8192) × (r.i ≡ s.i + 1)
+Within s (Some r) = (r.reach.depth ≤ s.reach.depth + 1) × (r.n ≤ s.n + 1) × (r.at ≤ s.at + 8197) × (r.reach.crossing < 8192)

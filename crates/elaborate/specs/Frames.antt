@@ -1,5 +1,5 @@
 -- The open parentheses: what each one keeps, so that what names stood for before it comes back where it closes.
-use Rattle.std.specs.Prelude.{ℕ, zero, suc, ◌/◌, ◌%◌, cond, List, [], ◌∷◌, map, ◌≡◌, eqb, get_or, set}
+use Rattle.std.specs.Prelude.{ℕ, zero, suc, ◌<◌, ◌/◌, ◌%◌, cond, List, [], ◌∷◌, map, ◌≡◌, eqb, get_or, set}
 use Rattle.quel.specs.Results.{Word}
 use Rattle.quel.specs.Elaboration.{head_only}
 use Rattle.quel.specs.Writing.{Reaches, inner}
@@ -43,3 +43,7 @@ pub record Opened (p crossing x e : ℕ) (fs known gs after : List ℕ) : Type 0
   pub old : old_in frame ≡ get_or known x 0
   pub there : gs ≡ set fs p frame
   pub stands : after ≡ set known x e
+
+-- the entries of a table are small enough to be kept in a frame
+abbrev pub Small : List ℕ → Type 0
+Small known = (y : ℕ) → get_or known y 0 < 68719476736

@@ -1,5 +1,5 @@
 -- One lent table by which names are looked up: the chains of the name list, and behind them the number of each token's name.
-use Rattle.std.specs.Prelude.{ℕ, cond, List, leb, length, take, drop}
+use Rattle.std.specs.Prelude.{ℕ, ◌≤◌, ◌<◌, cond, List, leb, length, get_or, take, drop}
 use Rattle.names.specs.Search.{Indexed}
 use Rattle.elaborate.specs.declared.lookups.Lookup.{Lookup}
 
@@ -20,3 +20,10 @@ ids_of l = ids_in l.table.now
 -- the chains are those of the name list
 abbrev pub Listed : Lookup → Type 0
 Listed l = Indexed l.list.now (chains_in l.table.now)
+
+-- every name's number is at most n, or below it
+abbrev pub NamesWithin : Lookup → ℕ → Type 0
+NamesWithin l n = (x : ℕ) → get_or (ids_of l) x 0 ≤ n
+
+abbrev pub NamesBelow : Lookup → ℕ → Type 0
+NamesBelow l n = (x : ℕ) → get_or (ids_of l) x 0 < n

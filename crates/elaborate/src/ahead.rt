@@ -1,6 +1,6 @@
 // The V's, the ^'s and the sign ahead of each token, counted by one loop from the right, so that a writer can put operators before their operands. A
 // token's kind stands beside them.
-ghost use Rattle.std.specs.Prelude.{◌≡◌, ◌+◌, suc, ◌<◌, ◌≤◌, ◌&&◌, leb, length, get_or};
+ghost use Rattle.std.specs.Prelude.{◌≡◌, ◌+◌, suc, ◌<◌, length, get_or};
 ghost use Rattle.elaborate.specs.Counts.{ors_in, ands_in, sign_in, skip_in, kind_in, Stepped, Counted};
 
 // Five numbers as one, and no struct: the table holds the frames too, behind the token at hand.

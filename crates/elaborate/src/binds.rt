@@ -1,9 +1,8 @@
 // The RANGE list: its symbols, with relations looked up, and a record for each symbol that is used.
-ghost use Rattle.std.specs.Prelude.{◌≡◌, true, false, cond, List, ℕ, ◌+◌, ◌<◌, ◌≤◌, eqb, length, get_or, set, Some, None};
+ghost use Rattle.std.specs.Prelude.{◌≡◌, cond, List, ℕ, ◌+◌, ◌<◌, ◌≤◌, eqb, length, get_or, set, Some, None};
 ghost use Rattle.quel.specs.Names.{Entry};
 ghost use Rattle.names.specs.Entries.{entries};
-ghost use Rattle.names.specs.Search.{Indexed};
-ghost use Rattle.elaborate.specs.Lookup.{ids_of, Listed};
+ghost use Rattle.elaborate.specs.Lookup.{ids_of, Listed, NamesWithin};
 ghost use Rattle.elaborate.specs.Reach.{mode_in, used_in, Bound};
 ghost use Rattle.elaborate.specs.Tables.{Clear};
 ghost use Rattle.elaborate.specs.Tallies.{Adds, Fills, Counts, Most};
@@ -112,7 +111,7 @@ pub(crate) fn bind(
     out: &mut [u8],
 ) -> Option<Tally>
     requires { (length kinds.now < 4000) × (length kinds.now < length known.old)
-        × ((x : ℕ) → get_or (ids_of lookup.now) x 0 ≤ length kinds.now) × Clear known.old × Listed lookup.now }
+        × NamesWithin lookup.now (length kinds.now) × Clear known.old × Listed lookup.now }
     ensures fills { Fills kinds.now (ids_of lookup.now) known.old lookup.now.numbers.now (entries lookup.now.list.now)
         out.old result known.new out.new }
     ensures most { Most (length kinds.now) result }

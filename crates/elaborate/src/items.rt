@@ -2,16 +2,14 @@
 ghost use Rattle.std.specs.Prelude.{◌≡◌, List, ℕ, ◌+◌, ◌-◌, ◌<◌, get_or, Some};
 ghost use Rattle.quel.specs.Elaboration.{Symbol, as_byte, symbol_in};
 ghost use Rattle.quel.specs.Names.{relation_named, value_named};
-ghost use Rattle.names.specs.Answers.{said};
 ghost use Rattle.names.specs.Entries.{entries};
 ghost use Rattle.quel.specs.Results.{Word};
 ghost use Rattle.tokens.specs.Codes.{Spelt};
-ghost use Rattle.names.specs.Search.{Indexed};
 ghost use Rattle.elaborate.specs.Lookup.{ids_of, Listed};
 ghost use Rattle.elaborate.specs.Reach.{known_of};
-ghost use Rattle.elaborate.specs.Tables.{code_at, Named, Holds};
+ghost use Rattle.elaborate.specs.Tables.{Named, Holds};
 ghost use Rattle.elaborate.specs.Modes.{action_no};
-ghost use Rattle.elaborate.specs.Actions.{number_of, some_by, value_by, constant_by, use_item, head_item, item_of};
+ghost use Rattle.elaborate.specs.Actions.{some_by, value_by, constant_by, use_item, head_item, item_of};
 
 use crate::lookups::Lookup;
 use crate::modes::Action;

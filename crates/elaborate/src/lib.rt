@@ -14,12 +14,12 @@ mod reach;
 mod reaches;
 mod turns;
 
-ghost use Rattle.std.specs.Prelude.{◌≡◌, true, List, ℕ, ◌+◌, ◌≤◌, ◌<◌, length, get_or};
+ghost use Rattle.std.specs.Prelude.{◌≡◌, List, ℕ, ◌+◌, ◌≤◌, ◌<◌, length, get_or};
 ghost use Rattle.flat.specs.Flat.{flat_text};
 ghost use Rattle.names.specs.Entries.{entries};
 ghost use Rattle.names.specs.Search.{Indexed};
 ghost use Rattle.tokens.specs.Codes.{Coded};
-ghost use Rattle.elaborate.specs.Lookup.{room_of, chains_in, ids_in, ids_of, Listed};
+ghost use Rattle.elaborate.specs.Lookup.{room_of, chains_in, ids_in, ids_of, Listed, NamesWithin};
 ghost use Rattle.elaborate.specs.Places.{table, tokens_from, name_in};
 ghost use Rattle.elaborate.specs.Numbers.{Numbered};
 ghost use Rattle.elaborate.specs.Tables.{Named};
@@ -59,7 +59,7 @@ fn records_with(
     out: &mut [u8],
 ) -> Option<usize>
     requires { (length kinds.now < 4000) × (length kinds.now < length counts.old) × (length kinds.now < length known.old)
-        × ((x : ℕ) → get_or (ids_of lookup.now) x 0 ≤ length kinds.now) × ((x : ℕ) → get_or known.old x 0 ≡ 0)
+        × NamesWithin lookup.now (length kinds.now) × ((x : ℕ) → get_or known.old x 0 ≡ 0)
         × Listed lookup.now }
     ensures { (text ss : List ℕ) → Ready text (table kinds.now ss lookup.now.numbers.now) (ids_of lookup.now)
         → ended out.old 0 (flat_text (entries lookup.now.list.now)
@@ -84,7 +84,7 @@ fn records_with(
 
 // The same, with tables of N places of its own.
 fn records_sized<const N: usize>(kinds: &[u8], lookup: &Lookup, out: &mut [u8]) -> Option<usize>
-    requires { (length kinds.now < N) × (N ≤ 2001) × ((x : ℕ) → get_or (ids_of lookup.now) x 0 ≤ length kinds.now) × Listed lookup.now }
+    requires { (length kinds.now < N) × (N ≤ 2001) × NamesWithin lookup.now (length kinds.now) × Listed lookup.now }
     ensures { (text ss : List ℕ) → Ready text (table kinds.now ss lookup.now.numbers.now) (ids_of lookup.now)
         → ended out.old 0 (flat_text (entries lookup.now.list.now)
         (tokens_from text (table kinds.now ss lookup.now.numbers.now) 0)) ≡ outcome result out.new }
@@ -97,7 +97,7 @@ fn records_sized<const N: usize>(kinds: &[u8], lookup: &Lookup, out: &mut [u8]) 
 // Writes the records of all tokens, and says where they end, unless a name is refused. What does not fit the buffer is not written. Few tokens take
 // small tables, none over 2,048 bytes, and soon cleared; the large ones are for as many as a text can have.
 fn records(kinds: &[u8], lookup: &Lookup, out: &mut [u8]) -> Option<usize>
-    requires { (length kinds.now ≤ 2000) × ((x : ℕ) → get_or (ids_of lookup.now) x 0 ≤ length kinds.now) × Listed lookup.now }
+    requires { (length kinds.now ≤ 2000) × NamesWithin lookup.now (length kinds.now) × Listed lookup.now }
     ensures { (text ss : List ℕ) → Ready text (table kinds.now ss lookup.now.numbers.now) (ids_of lookup.now)
         → ended out.old 0 (flat_text (entries lookup.now.list.now)
         (tokens_from text (table kinds.now ss lookup.now.numbers.now) 0)) ≡ outcome result out.new }
@@ -111,7 +111,7 @@ fn records(kinds: &[u8], lookup: &Lookup, out: &mut [u8]) -> Option<usize>
 // The records of all tokens, or 51 for a name and 52 for their length. They are written into a draft first, so that a buffer that is too short is not
 // touched; where they are longer than that they are made twice.
 fn write(kinds: &[u8], lookup: &Lookup, draft: &mut [u8], out: &mut [u8]) -> Answer
-    requires { (length kinds.now ≤ 2000) × (length draft.old ≤ 2048) × ((x : ℕ) → get_or (ids_of lookup.now) x 0 ≤ length kinds.now)
+    requires { (length kinds.now ≤ 2000) × (length draft.old ≤ 2048) × NamesWithin lookup.now (length kinds.now)
         × Listed lookup.now }
     ensures { (text ss : List ℕ) → Ready text (table kinds.now ss lookup.now.numbers.now) (ids_of lookup.now)
         → answered result out.new ≡ writing
@@ -133,7 +133,7 @@ fn write(kinds: &[u8], lookup: &Lookup, draft: &mut [u8], out: &mut [u8]) -> Ans
 
 // A text whose names are numbered: bound once, and its records.
 fn resolve(kinds: &[u8], lookup: &Lookup, draft: &mut [u8], out: &mut [u8]) -> Answer
-    requires { (length kinds.now ≤ 2000) × (length draft.old ≤ 2048) × ((x : ℕ) → get_or (ids_of lookup.now) x 0 ≤ length kinds.now)
+    requires { (length kinds.now ≤ 2000) × (length draft.old ≤ 2048) × NamesWithin lookup.now (length kinds.now)
         × Listed lookup.now }
     ensures { (text ss : List ℕ) → Numbered (name_in text kinds.now ss) (length kinds.now) (ids_of lookup.now)
         → Named (name_in text kinds.now ss) (ids_of lookup.now) lookup.now.numbers.now → answered result out.new

@@ -1,9 +1,9 @@
 // The loop over a text's tokens: turn after turn, up to the last token or a refusal.
-ghost use Rattle.std.specs.Prelude.{◌≡◌, List, ℕ, ◌+◌, ◌<◌, ◌≤◌, length, get_or};
+ghost use Rattle.std.specs.Prelude.{◌≡◌, List, ℕ, ◌<◌, ◌≤◌, length, get_or};
 ghost use Rattle.quel.specs.Elaboration.{Symbol};
 ghost use Rattle.names.specs.Entries.{entries};
-ghost use Rattle.names.specs.Search.{Indexed};
-ghost use Rattle.elaborate.specs.Lookup.{ids_of, Listed};
+ghost use Rattle.elaborate.specs.Lookup.{ids_of, Listed, NamesBelow};
+ghost use Rattle.elaborate.specs.Frames.{Small};
 ghost use Rattle.elaborate.specs.Places.{table, name_in};
 ghost use Rattle.elaborate.specs.Tables.{Named, Holds};
 ghost use Rattle.elaborate.specs.Counts.{Counted};
@@ -11,6 +11,7 @@ ghost use Rattle.elaborate.specs.Ends.{Ends, Last};
 
 use crate::lookups::Lookup;
 use crate::modes::Mode;
+use crate::reaches::Reach;
 use crate::turns;
 use crate::turns::State;
 
@@ -34,8 +35,8 @@ pub(crate) fn run(
 ) -> Option<usize>
     requires end_bound { (start.end < 4000) × (start.end < length counts.old) × (0 < start.end → 1 ≤ start.first)
         × (start.first < 4003) × (start.n < 4000) × (start.at < 4611686018427387904) }
-    requires by_index { ((x : ℕ) → get_or (ids_of lookup.now) x 0 < 8192) × ((x : ℕ) → get_or (ids_of lookup.now) x 0 < length known.old)
-        × ((y : ℕ) → get_or known.old y 0 < 68719476736) × Listed lookup.now }
+    requires by_index { NamesBelow lookup.now 8192 × NamesBelow lookup.now (length known.old)
+        × Small known.old × Listed lookup.now }
     ensures by_index_2 { (text ks ss : List ℕ) (ρ : List Symbol) → length ks ≡ start.end → Counted ks counts.old 0
         → Named (name_in text ks ss) (ids_of lookup.now) lookup.now.numbers.now
         → Holds (name_in text ks ss) (ids_of lookup.now) known.old 0 0 ρ
@@ -45,15 +46,16 @@ pub(crate) fn run(
 {
     counts[0] = 0;
     let mut s = State {
-        i: start.first,
         mode: Mode::Rest,
-        depth: 1,
-        crossing: 0,
+        reach: Reach {
+            depth: 1,
+            crossing: 0,
+        },
         n: start.n,
         at: start.at,
     };
-    while s.i < start.end {
-        s = turns::turn(lookup, counts, known, out, s)?;
+    for i in start.first..start.end {
+        s = turns::turn(lookup, counts, known, out, s, i)?;
     }
     Some(s.at)
 }

@@ -1,14 +1,13 @@
 // A text's tokens by their places: a number for each name, which symbols are used and bound, where the targets begin.
-ghost use Rattle.std.specs.Prelude.{◌≡◌, cond, ◌&&◌, List, [], ◌∷◌, ℕ, ◌+◌, ◌<◌, ◌≤◌, leb, length, get_or, take, drop};
-ghost use Rattle.quel.specs.Results.{Word, same_word, unique_words};
+ghost use Rattle.std.specs.Prelude.{◌≡◌, cond, ◌&&◌, List, [], ◌∷◌, ℕ, ◌+◌, ◌<◌, ◌≤◌, length, get_or, take, drop};
+ghost use Rattle.quel.specs.Results.{same_word, unique_words};
 ghost use Rattle.quel.specs.Tokens.{is_letter, run};
-ghost use Rattle.quel.specs.Lexical.{first};
 ghost use Rattle.tokens.specs.Codes.{Spelt, Coded};
 ghost use Rattle.flat.specs.Flat.{binders, main_of, last_of};
 ghost use Rattle.flat.specs.Flat as F;
-ghost use Rattle.elaborate.specs.Lookup.{ids_of};
+ghost use Rattle.elaborate.specs.Lookup.{ids_of, NamesWithin, NamesBelow};
 ghost use Rattle.elaborate.specs.Places.{table, tokens_from, name_in, point_in, use_in, depth_kind, part_kind, bound_place, binds_kind};
-ghost use Rattle.elaborate.specs.Numbers.{Numbered, Numbering, Met, Seen, Told, Noted, Used};
+ghost use Rattle.elaborate.specs.Numbers.{Numbered, Numbering, Met, Told, Noted, Used};
 ghost use Rattle.elaborate.specs.Tables.{Clear};
 
 use crate::lookups::Lookup;
@@ -183,7 +182,7 @@ fn note(kinds: &[u8], lookup: &Lookup, used: &mut [u64], d: usize, i: usize)
 
 // Marks, by their numbers, the names that tokens from a place on use outside all aggregates, in the table of what they stand for: nothing yet.
 pub(crate) fn uses(kinds: &[u8], lookup: &Lookup, from: usize, used: &mut [u64])
-    requires { (length kinds.now < 4000) × (length kinds.now < length used.old) × ((x : ℕ) → get_or (ids_of lookup.now) x 0 ≤ length kinds.now)
+    requires { (length kinds.now < 4000) × (length kinds.now < length used.old) × NamesWithin lookup.now (length kinds.now)
         × ((x : ℕ) → get_or used.old x 0 ≡ 0) }
     ensures by_index { (text ss ns : List ℕ) → Numbered (name_in text kinds.now ss) (length kinds.now) (ids_of lookup.now)
         → Used text (table kinds.now ss ns) (ids_of lookup.now) from used.new }
@@ -237,7 +236,7 @@ fn binds(kind: u8, p: u8) -> bool
 
 // Whether the token at i binds no name, or one that is not marked; it is marked then.
 fn once(kinds: &[u8], lookup: &Lookup, seen: &mut [u8], p: u8, i: usize) -> bool
-    requires { (i < length kinds.now) × (i < 4000) × ((x : ℕ) → get_or (ids_of lookup.now) x 0 < length seen.old) }
+    requires { (i < length kinds.now) × (i < 4000) × NamesBelow lookup.now (length seen.old) }
     ensures { Told kinds.now (ids_of lookup.now) seen.old i
         (binds_kind (get_or kinds.now i 0) p) seen.new result }
 {
@@ -254,7 +253,7 @@ fn once(kinds: &[u8], lookup: &Lookup, seen: &mut [u8], p: u8, i: usize) -> bool
 
 // Whether no symbol is bound twice, with a table for the marks.
 fn unique_with(kinds: &[u8], lookup: &Lookup, seen: &mut [u8]) -> bool
-    requires { (length kinds.now < 4000) × (length kinds.now < length seen.old) × ((x : ℕ) → get_or (ids_of lookup.now) x 0 ≤ length kinds.now)
+    requires { (length kinds.now < 4000) × (length kinds.now < length seen.old) × NamesWithin lookup.now (length kinds.now)
         × ((x : ℕ) → get_or seen.old x 0 ≡ 0) }
     ensures { (text ss ns : List ℕ) → Numbered (name_in text kinds.now ss) (length kinds.now) (ids_of lookup.now)
         → result ≡ unique_words (binders 0 (tokens_from text (table kinds.now ss ns) 0)) }
@@ -271,7 +270,7 @@ fn unique_with(kinds: &[u8], lookup: &Lookup, seen: &mut [u8]) -> bool
 
 // The same with a table of N marks of its own.
 fn unique_sized<const N: usize>(kinds: &[u8], lookup: &Lookup) -> bool
-    requires { (length kinds.now < N) × (N ≤ 4000) × ((x : ℕ) → get_or (ids_of lookup.now) x 0 ≤ length kinds.now) }
+    requires { (length kinds.now < N) × (N ≤ 4000) × NamesWithin lookup.now (length kinds.now) }
     ensures { (text ss ns : List ℕ) → Numbered (name_in text kinds.now ss) (length kinds.now) (ids_of lookup.now)
         → result ≡ unique_words (binders 0 (tokens_from text (table kinds.now ss ns) 0)) }
 {
@@ -281,7 +280,7 @@ fn unique_sized<const N: usize>(kinds: &[u8], lookup: &Lookup) -> bool
 
 // Whether no symbol is bound twice: the table is small where the tokens are few.
 pub(crate) fn unique(kinds: &[u8], lookup: &Lookup) -> bool
-    requires { (length kinds.now < 4000) × ((x : ℕ) → get_or (ids_of lookup.now) x 0 ≤ length kinds.now) }
+    requires { (length kinds.now < 4000) × NamesWithin lookup.now (length kinds.now) }
     ensures { (text ss ns : List ℕ) → Numbered (name_in text kinds.now ss) (length kinds.now) (ids_of lookup.now)
         → result ≡ unique_words (binders 0 (tokens_from text (table kinds.now ss ns) 0)) }
 {

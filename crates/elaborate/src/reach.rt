@@ -3,7 +3,7 @@ ghost use Rattle.std.specs.Prelude.{◌≡◌, List, ℕ};
 ghost use Rattle.quel.specs.Results.{Word};
 ghost use Rattle.quel.specs.Elaboration.{Symbol, symbol_in};
 ghost use Rattle.elaborate.specs.Lookup.{ids_of};
-ghost use Rattle.elaborate.specs.Reach.{relation_in, variable_in, known_of, standing};
+ghost use Rattle.elaborate.specs.Reach.{known_of, standing};
 ghost use Rattle.elaborate.specs.Tables.{Holds};
 
 use crate::ahead;

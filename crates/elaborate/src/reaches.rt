@@ -2,10 +2,10 @@
 ghost use Rattle.std.specs.Prelude.{◌≡◌, ◌||◌, List, ℕ, ◌+◌, ◌-◌, ◌<◌, ◌≤◌, eqb, length, get_or, set};
 ghost use Rattle.quel.specs.Results.{Word};
 ghost use Rattle.quel.specs.Writing.{Reaches, around};
-ghost use Rattle.elaborate.specs.Lookup.{ids_of};
+ghost use Rattle.elaborate.specs.Lookup.{ids_of, NamesBelow};
 ghost use Rattle.elaborate.specs.Tables.{Same};
 ghost use Rattle.elaborate.specs.Puts.{reach_after};
-ghost use Rattle.elaborate.specs.Frames.{Stack, Opened, framed_reach};
+ghost use Rattle.elaborate.specs.Frames.{Stack, Opened, framed_reach, Small};
 ghost use Rattle.elaborate.specs.After.{Fits};
 ghost use Rattle.elaborate.specs.Modes.{action_no};
 
@@ -31,7 +31,7 @@ fn store(known: &mut [u64], x: usize, e: u64)
 
 // A frame more, in which the name x stands for e.
 fn push(known: &mut [u64], frames: &mut [u64], r: Reach, x: usize, e: u64)
-    requires { (r.depth < length frames.old) × (r.crossing < 8192) × (x < 8192) × ((y : ℕ) → get_or known.old y 0 < 68719476736) }
+    requires { (r.depth < length frames.old) × (r.crossing < 8192) × (x < 8192) × Small known.old }
     ensures { Opened r.depth r.crossing x e frames.old known.old frames.new known.new }
 {
     let depth = r.depth;
@@ -49,13 +49,13 @@ fn enter(
     i: usize,
 ) -> Reach
     requires { (r.depth < length frames.old) × (r.depth < 8191) × (r.crossing < 8192) × (i < 4000)
-        × ((x : ℕ) → get_or (ids_of lookup.now) x 0 < 8192) × ((x : ℕ) → get_or (ids_of lookup.now) x 0 < length known.old)
-        × ((y : ℕ) → get_or known.old y 0 < 68719476736) }
+        × NamesBelow lookup.now 8192 × NamesBelow lookup.now (length known.old)
+        × Small known.old }
     ensures by_index { (w : ℕ → Word) (σ : Reaches) → Same w (ids_of lookup.now)
         → Stack w (ids_of lookup.now) frames.old r.depth r.crossing known.old σ
         → Stack w (ids_of lookup.now) frames.new result.depth result.crossing known.new
         (framed_reach (w (i + 1)) (w (i + 2)) item σ) }
-    ensures depth_value { (result.depth ≡ r.depth + 1) × (result.crossing < 8192) × ((y : ℕ) → get_or known.new y 0 < 68719476736)
+    ensures depth_value { (result.depth ≡ r.depth + 1) × (result.crossing < 8192) × Small known.new
         × ((j : ℕ) → r.depth < j → get_or frames.new j 0 ≡ get_or frames.old j 0) }
 {
     let depth = r.depth;
@@ -89,11 +89,11 @@ fn enter(
 
 // A frame less: what it kept is put back.
 fn leave(known: &mut [u64], frames: &[u64], r: Reach) -> Reach
-    requires { (r.crossing < 8192) × ((y : ℕ) → get_or known.old y 0 < 68719476736) }
+    requires { (r.crossing < 8192) × Small known.old }
     ensures by_index { (w : ℕ → Word) (ids : List ℕ) (σ : Reaches)
         → Stack w ids frames.now r.depth r.crossing known.old σ
         → Stack w ids frames.now result.depth result.crossing known.new (around σ) }
-    ensures depth_le_depth { (result.depth ≤ r.depth) × (result.crossing < 8192) × ((y : ℕ) → get_or known.new y 0 < 68719476736) }
+    ensures depth_le_depth { (result.depth ≤ r.depth) × (result.crossing < 8192) × Small known.new }
 {
     let depth = r.depth;
     if depth == 0 {
@@ -140,13 +140,13 @@ pub(crate) fn shift(
     i: usize,
 ) -> Reach
     requires { (r.depth < length frames.old) × (r.depth < 8191) × (r.crossing < 8192) × (i < 4000)
-        × ((x : ℕ) → get_or (ids_of lookup.now) x 0 < 8192) × ((x : ℕ) → get_or (ids_of lookup.now) x 0 < length known.old)
-        × ((y : ℕ) → get_or known.old y 0 < 68719476736) }
+        × NamesBelow lookup.now 8192 × NamesBelow lookup.now (length known.old)
+        × Small known.old }
     ensures stack { Fits (action_no a) item → (w : ℕ → Word) (σ : Reaches) → Same w (ids_of lookup.now)
         → Stack w (ids_of lookup.now) frames.old r.depth r.crossing known.old σ
         → Stack w (ids_of lookup.now) frames.new result.depth result.crossing known.new
         (reach_after (action_no a) (w (i + 1)) (w (i + 2)) item σ) }
-    ensures depth_bound { (result.depth ≤ r.depth + 1) × (result.crossing < 8192) × ((y : ℕ) → get_or known.new y 0 < 68719476736)
+    ensures depth_bound { (result.depth ≤ r.depth + 1) × (result.crossing < 8192) × Small known.new
         × ((j : ℕ) → r.depth < j → get_or frames.new j 0 ≡ get_or frames.old j 0) }
 {
     if opening(a) {

@@ -3,8 +3,7 @@ ghost use Rattle.std.specs.Prelude.{◌≡◌, ◌&&◌, List, ◌++◌, ℕ, �
 ghost use Rattle.std.proofs.lemmas.List.Edits.{sets};
 ghost use Rattle.quel.specs.Writing.{Reaches};
 ghost use Rattle.names.specs.Entries.{entries};
-ghost use Rattle.names.specs.Search.{Indexed};
-ghost use Rattle.elaborate.specs.Lookup.{ids_of, Listed};
+ghost use Rattle.elaborate.specs.Lookup.{ids_of, Listed, NamesBelow};
 ghost use Rattle.elaborate.specs.Places.{table, name_in};
 ghost use Rattle.copier.specs.Copied.{record_bytes};
 ghost use Rattle.elaborate.specs.Tables.{Named};
@@ -12,7 +11,7 @@ ghost use Rattle.elaborate.specs.Puts.{number_after};
 ghost use Rattle.elaborate.specs.Counts.{ors_in, ands_in, sign_in, Counted};
 ghost use Rattle.elaborate.specs.Modes.{mode_no, action_no};
 ghost use Rattle.elaborate.specs.Opens.{open_bytes};
-ghost use Rattle.elaborate.specs.Frames.{Stack};
+ghost use Rattle.elaborate.specs.Frames.{Stack, Small};
 ghost use Rattle.elaborate.specs.After.{Goes, Within};
 
 use crate::items::Scope;
@@ -22,13 +21,11 @@ use crate::reaches::Reach;
 use crate::{ahead, items, opens, reaches};
 use kinds::Record;
 
-// The next token, the loop's mode, how many frames are open, the innermost aggregate's, the next variable's number, and where to write.
+// The loop's mode, the frames that are open, the next variable's number, and where to write.
 #[derive(Clone, Copy)]
 pub struct State {
-    pub i: usize,
     pub mode: Mode,
-    pub depth: usize,
-    pub crossing: usize,
+    pub reach: Reach,
     pub n: usize,
     pub at: usize,
 }
@@ -81,60 +78,45 @@ fn quiet(mode: Mode, a: Action) -> bool
     !mode.begins() && matches!(a, Action::Nothing)
 }
 
-// A turn: the state after it, unless a name is unknown or out of reach. What was counted for the tokens behind is asked for no more: open frames are kept there.
+// The turn of token i: the state after it, unless a name is unknown or out of reach. What was counted for the tokens behind is asked for no more: open frames are kept there.
 pub(crate) fn turn(
     lookup: &Lookup,
     counts: &mut [u64],
     known: &mut [u64],
     out: &mut [u8],
     s: State,
+    i: usize,
 ) -> Option<State>
-    requires i_bound { (s.i < 4000) × (s.i + 1 < length counts.old) × (s.n < 8000) × (s.at + 8197 < 9223372036854775808) }
-    requires depth_le_i { (s.depth ≤ s.i) × (s.crossing < 8192) × ((x : ℕ) → get_or (ids_of lookup.now) x 0 < 8192)
-        × ((x : ℕ) → get_or (ids_of lookup.now) x 0 < length known.old) × ((y : ℕ) → get_or known.old y 0 < 68719476736)
+    requires i_bound { (i < 4000) × (i + 1 < length counts.old) × (s.n < 8000) × (s.at + 8197 < 9223372036854775808) }
+    requires depth_le_i { (s.reach.depth ≤ i) × (s.reach.crossing < 8192) × NamesBelow lookup.now 8192
+        × NamesBelow lookup.now (length known.old) × Small known.old
         × Listed lookup.now }
-    ensures by_index { (text ks ss : List ℕ) (σ : Reaches) → s.i < length ks → Counted ks counts.old s.i
+    ensures by_index { (text ks ss : List ℕ) (σ : Reaches) → i < length ks → Counted ks counts.old i
         → Named (name_in text ks ss) (ids_of lookup.now) lookup.now.numbers.now
-        → Stack (name_in text ks ss) (ids_of lookup.now) counts.old s.depth s.crossing known.old σ
-        → Goes text (table ks ss lookup.now.numbers.now) (entries lookup.now.list.now) (ids_of lookup.now) s.i s σ
+        → Stack (name_in text ks ss) (ids_of lookup.now) counts.old s.reach.depth s.reach.crossing known.old σ
+        → Goes text (table ks ss lookup.now.numbers.now) (entries lookup.now.list.now) (ids_of lookup.now) i s σ
         out.old result counts.new known.new out.new }
     ensures within { Within s result }
-    ensures by_index_2 { ((y : ℕ) → get_or known.new y 0 < 68719476736)
-        × ((ks : List ℕ) → Counted ks counts.old s.i → Counted ks counts.new (s.i + 1)) }
+    ensures by_index_2 { Small known.new
+        × ((ks : List ℕ) → Counted ks counts.old i → Counted ks counts.new (i + 1)) }
 {
-    let i = s.i;
     let kind = ahead::kind(counts[i]);
     let point = 25 <= ahead::kind(counts[i + 1]);
     let a = s.mode.action(kind, point);
     let mode = s.mode.next(kind, point);
     if quiet(s.mode, a) {
-        return Some(State {
-            i: i + 1,
-            mode,
-            ..s
-        });
+        return Some(State { mode, ..s });
     }
     let scope = Scope {
         i,
         kind,
         action: a,
-        crossing: s.crossing,
+        crossing: s.reach.crossing,
         n: s.n,
     };
     let r = items::item_at(lookup, known, scope)?;
     let at = write(out, s.at, s.mode, kind, counts, i, r);
-    let held = Reach {
-        depth: s.depth,
-        crossing: s.crossing,
-    };
-    let reach = reaches::shift(lookup, known, counts, held, a, r, i);
+    let reach = reaches::shift(lookup, known, counts, s.reach, a, r, i);
     let n = number(a, s.n);
-    Some(State {
-        i: i + 1,
-        mode,
-        depth: reach.depth,
-        crossing: reach.crossing,
-        n,
-        at,
-    })
+    Some(State { mode, reach, n, at })
 }

@@ -47,7 +47,7 @@ module _ (text : List ℕ) (t : Table) (es : List Entry) (ids : List ℕ) (g : L
   pub off : r ≡ None → (z : List ℕ) → g z ≡ fail
   off e z = v.ends z ∙ subst (λ (x : Option State). GoesOn text t es ids (λ z. ended out s.at (left text t es ids z i s v.reaches)) (i + 1) x gs after to) e k z
 
-pub within : (s u : State) (r : Option State) → Within s r → r ≡ Some u → (u.depth ≤ s.depth + 1) × (u.n ≤ s.n + 1) × (u.at ≤ s.at + 8197) × (u.crossing < 8192) × (u.i ≡ s.i + 1)
+pub within : (s u : State) (r : Option State) → Within s r → r ≡ Some u → (u.reach.depth ≤ s.reach.depth + 1) × (u.n ≤ s.n + 1) × (u.at ≤ s.at + 8197) × (u.reach.crossing < 8192)
 within s u r w e = subst (Within s) e w
 
 -- the RANGE list's frame stands in place of what was counted for the first token

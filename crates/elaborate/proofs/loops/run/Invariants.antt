@@ -1,5 +1,5 @@
 use mathlib.Core.Path.{◌≡◌}
-use Prim.Native.Nat.{ℕ, ◌+◌, ◌-◌, ◌*◌, ◌≤◌, ◌<◌}
+use Prim.Native.Nat.{ℕ, ◌+◌, ◌*◌, ◌≤◌, ◌<◌}
 use mathlib.Core.List.{List, [], ◌∷◌}
 use lib.ListN.{length, get_or}
 use Rattle.elaborate.specs.Places.{table, name_in, tokens_from}
@@ -14,10 +14,7 @@ use Rattle.elaborate.specs.Lookup.{ids_in}
 use Rattle.elaborate.proofs.loops.Laws.{Begun}
 use Rattle.elaborate.proofs.loops.run.Given as goal
 
-abbrev pub invariant-loop-s : goal.invariant-loop-s
-invariant-loop-s l = ((text ks ss : List ℕ) (ρ : List Symbol) → Begun ks l.initial.counts l.initial.s.i l.start.end → Named (name_in text ks ss) (ids_in l.lookup.table.now) l.lookup.numbers.now → Holds (name_in text ks ss) (ids_in l.lookup.table.now) l.initial.known 0 0 ρ → Going text (table ks ss l.lookup.numbers.now) (entries l.lookup.list.now) (ids_in l.lookup.table.now) (λ z. ended l.initial.out l.initial.s.at (loop (entries l.lookup.list.now) z (tokens_from text (table ks ss l.lookup.numbers.now) l.initial.s.i) at_rest (ρ ∷ []) l.initial.s.n)) l.s.i l.s l.counts l.known l.out)
-    × (length l.counts ≡ length l.initial.counts) × (length l.out ≡ length l.initial.out) × (length l.known ≡ length l.initial.known) × (l.s.i < l.start.end → l.s.depth ≤ l.s.i) × (l.s.n ≤ l.initial.s.n + l.s.i) × (l.s.at ≤ l.initial.s.at + 8197 * l.s.i) × (l.s.i ≤ 4003) × (l.s.crossing < 8192) × ((y : ℕ) → get_or l.known y 0 < 68719476736)
-    × ((ks : List ℕ) → Begun ks l.initial.counts l.initial.s.i l.start.end → l.s.i < l.start.end → Counted ks l.counts l.s.i) × (l.initial.s.i ≤ l.s.i)
-
-abbrev pub decreases-loop-s : goal.decreases-loop-s
-decreases-loop-s l = l.start.end - l.s.i
+abbrev pub invariant-loop-i : goal.invariant-loop-i
+invariant-loop-i l = ((text ks ss : List ℕ) (ρ : List Symbol) → Begun ks l.initial.counts l.initial.i l.i-end → Named (name_in text ks ss) (ids_in l.lookup.table.now) l.lookup.numbers.now → Holds (name_in text ks ss) (ids_in l.lookup.table.now) l.initial.known 0 0 ρ → Going text (table ks ss l.lookup.numbers.now) (entries l.lookup.list.now) (ids_in l.lookup.table.now) (λ z. ended l.initial.out l.initial.s.at (loop (entries l.lookup.list.now) z (tokens_from text (table ks ss l.lookup.numbers.now) l.initial.i) at_rest (ρ ∷ []) l.initial.s.n)) l.i l.s l.counts l.known l.out)
+    × (length l.counts ≡ length l.initial.counts) × (length l.out ≡ length l.initial.out) × (length l.known ≡ length l.initial.known) × (l.i < l.i-end → l.s.reach.depth ≤ l.i) × (l.s.n ≤ l.initial.s.n + l.i) × (l.s.at ≤ l.initial.s.at + 8197 * l.i) × (l.i ≤ 4003) × (l.s.reach.crossing < 8192) × ((y : ℕ) → get_or l.known y 0 < 68719476736)
+    × ((ks : List ℕ) → Begun ks l.initial.counts l.initial.i l.i-end → l.i < l.i-end → Counted ks l.counts l.i)
