@@ -13,6 +13,7 @@ ghost use Rattle.decide.specs.Keys.{Faithful};
 ghost use Rattle.aggregates.specs.Taken.{both_from, taken_by};
 ghost use Rattle.aggregates.specs.Filled.{filled_c, filled_t, filled_ts};
 
+use decide::chains::Rows;
 use kinds::{ConditionRecord, TermRecord};
 use numbers::{Accumulator, Ratio};
 
@@ -28,13 +29,7 @@ struct Column {
 fn compiled(level: usize) -> bool
     ensures { result ≡ true → (1 ≤ level) × (level ≤ 65535) }
 {
-    if level == 0 {
-        return false;
-    }
-    if 65535 < level {
-        return false;
-    }
-    true
+    (1..=65535).contains(&level)
 }
 
 // Whether the conjuncts hold of a table with no ranges, comparisons first, of which those before branch `next` do.
@@ -79,26 +74,30 @@ fn take(
     ensures count_bound { result.count ≤ 65535 }
     ensures env_unchanged { env.new ≡ env.old }
 {
-    let own = column.variable;
-    let walk = walks::walk_of(walks, own);
+    let walk = walks::walk_of(walks, column.variable);
+    let rows = Rows {
+        values,
+        walks,
+        walk,
+    };
     let n = walk.count;
-    let old = env[own as usize];
+    let own = usize::from(column.variable);
+    let old = env[own];
     let start = kinds::size_at(t, 0);
     let none = [0u16; 1];
-    let cursor = decide::seeks::prepare(t, start, own, &none, values, memo, env);
+    let cursor = decide::seeks::prepare(t, start, column.variable, &none, values, memo, env);
     let next = cursor.next;
     let mut taken = numbers::EMPTY;
     let mut i = 0;
     loop {
-        let variable = column.variable;
-        let j = decide::seeks::next_row(cursor, values, walks, walk, &none, i);
+        let j = cursor.next_row(&rows, &none, i);
         if n <= j {
-            env[variable as usize] = old;
+            env[own] = old;
             return taken;
         }
         i = j + 1;
         let row = walks::place(walks, walk, j);
-        env[variable as usize] = row;
+        env[own] = row;
         if !both(t, next, q, z, walks, chains, values, memo, env) {
             continue;
         }
@@ -130,15 +129,13 @@ fn take_linked(
 
 // Whether a branch asks for a row. It promises nothing: it only tells whether chains can be of use.
 fn asks(t: &[u16]) -> bool {
-    let mut p = 16;
-    while p < 512 {
-        if kinds::size_at(t, p) == 256 {
+    for i in 2..64 {
+        if kinds::size_at(t, 8 * i) == 256 {
             return true;
         }
-        if kinds::size_at(t, p + 5) == kinds::size_at(t, p + 6) {
+        if kinds::size_at(t, 8 * i + 5) == kinds::size_at(t, 8 * i + 6) {
             return false;
         }
-        p += 8;
     }
     false
 }
@@ -197,11 +194,10 @@ fn value(
     let n = kinds::record_length(kinds::byte(q, 0));
     let x = kinds::tail(q, n);
     let y = kinds::tail_sizes(z, n);
-    let l = level - 1;
     let column = Column {
         variable,
-        attribute: attribute as usize,
-        level: l,
+        attribute: usize::from(attribute),
+        level: level - 1,
     };
     let taken = gather(x, y, walks, values, memo, env, column);
     numbers::finish(function, taken)
@@ -220,17 +216,14 @@ fn numerator(x: Ratio) -> i64
     requires { Small x }
     ensures { result ≡ Memo.numerator_of (value_of x) }
 {
-    let n = x.numerator;
-    let d = x.denominator;
-    if d <= 0 { 0 } else { n }
+    if x.denominator <= 0 { 0 } else { x.numerator }
 }
 
 fn mark(x: Ratio) -> i64
     requires { Small x }
     ensures { result ≡ Memo.mark_of (value_of x) }
 {
-    let d = x.denominator;
-    d + 1
+    x.denominator + 1
 }
 
 // Keeps a variable's value in the memo.
@@ -238,7 +231,7 @@ fn remember(memo: &mut [i64], variable: u8, x: Ratio)
     requires { Small x }
     ensures { memo.new ≡ Memo.remembered memo.old variable (value_of x) }
 {
-    let i = 2 * (variable as usize);
+    let i = 2 * usize::from(variable);
     store(memo, i, numerator(x));
     store(memo, i + 1, mark(x));
 }

@@ -1,6 +1,6 @@
 -- One branch tried, and the branches followed to their end.
 use Prim.Native.Nat.{ℕ, zero, suc, ◌+◌, ◌*◌, ◌≤◌, ◌<◌}
-use mathlib.Core.Bool.{Bool, true, false, cond}
+use mathlib.Core.Bool.{Bool, false}
 use mathlib.Core.List.{List}
 use mathlib.Core.Path.{◌≡◌, sym, ap, ◌∙◌, subst}
 use native.Mathlib.Omega.{arith}
@@ -36,14 +36,6 @@ module _ (t q z ws : List ℕ) (vs m : List ℤ) (e : List ℕ) (i : ℕ) where
         let k : 8 * i + 4 ≡ 8 * i + 3 + 1 = omega arith in
         er ∙ rw (ea, eb) (sym (rw (n, p, own, j, k)))
 
-  -- where it leads
-  module _ (b : Bool) (r : ℕ) (eb : b ≡ branch_holds t q z ws vs m i (assigned vs e)) where
-    pub leads-met : b ≡ true → r ≡ get_or t (8 * i + 5) 0 → r ≡ next t q z ws vs m i (assigned vs e)
-    leads-met h er = er ∙ sym (rw (sym eb ∙ h))
-
-    pub leads-unmet : b ≡ false → r ≡ get_or t (8 * i + 6) 0 → r ≡ next t q z ws vs m i (assigned vs e)
-    leads-unmet h er = er ∙ sym (rw (sym eb ∙ h))
-
   -- one step of the loop, from branch i of those that start at s
   module _ (s to : ℕ) (e₁ : List ℕ) (ee : e₁ ≡ e) (h : 2 ≤ i) (et : to ≡ next t q z ws vs m i (assigned vs e₁)) (is : runs t q z ws vs m i (assigned vs e) ≡ runs t q z ws vs m s (assigned vs e)) where
     to_is : to ≡ next t q z ws vs m i (assigned vs e)
@@ -63,9 +55,3 @@ module _ (t q z ws : List ℕ) (vs m : List ℤ) (e : List ℕ) (i : ℕ) where
       go zero g = runs-0 t q z ws vs m (assigned vs e)
       go (suc zero) g = runs-1 t q z ws vs m (assigned vs e)
       go (suc (suc n)) g = absurd (omega arith)
-
-pub way-met : (b : Bool) (r x y : ℕ) → b ≡ true → r ≡ x → r ≡ cond b x y
-way-met b r x y h e = e ∙ sym (rw h)
-
-pub way-unmet : (b : Bool) (r x y : ℕ) → b ≡ false → r ≡ y → r ≡ cond b x y
-way-unmet b r x y h e = e ∙ sym (rw h)

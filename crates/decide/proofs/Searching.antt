@@ -9,7 +9,7 @@ use lib.IntN.{ℤ}
 use lib.ListN.{length, get_or, set}
 use borrow.Author.Tests.{lt-ltb, le-ltb}
 use Rattle.model.specs.Lists.{update}
-use Rattle.model.specs.Search.{Search, search}
+use Rattle.model.specs.Search.{search}
 use Rattle.model.proofs.Search.{none_over, search-found}
 use Rattle.model.specs.Meaning.{Tuple}
 use Rattle.catalogue.specs.Layout.{tuple_at}
@@ -50,9 +50,9 @@ module _ (t q z ws : List ℕ) (vs m : List ℤ) (inner v : ℕ) (e : List ℕ) 
     unfolding branch_holds holds_in
     some-high w ew l h = let g : 256 ≤ w = omega arith in sym (rw (add-zero (8 * i), eo, sym en, lt-ltb inner i l, sym ew, le-ltb w 256 g))
 
-    pub some_is : (b : Bool) (k : ℕ) → v ≡ get_or t (8 * i + 1) 0 → inner < i → v < 256 → record { found = b; tried = k } ≡ search asks (walked ws vs v) → b ≡ branch_holds t q z ws vs m i (assigned vs e)
+    pub some_is : (b : Bool) → v ≡ get_or t (8 * i + 1) 0 → inner < i → v < 256 → b ≡ (search asks (walked ws vs v)).found → b ≡ branch_holds t q z ws vs m i (assigned vs e)
     unfolding branch_holds holds_in
-    some_is b k ev l h eb = ap (λ (s : Search). s.found) eb ∙ search-found asks (walked ws vs v) ∙ sym (rw (add-zero (8 * i), eo, sym en, lt-ltb inner i l, sym ev, lt-ltb v 256 h))
+    some_is b ev l h eb = eb ∙ search-found asks (walked ws vs v) ∙ sym (rw (add-zero (8 * i), eo, sym en, lt-ltb inner i l, sym ev, lt-ltb v 256 h))
 
 -- the branches followed, with the places as they were
 module _ (t q z ws : List ℕ) (vs m : List ℤ) where

@@ -2,5 +2,4 @@ pub mod Steps
 pub mod Keys
 pub mod Filling
 pub mod Places
-pub mod Tests
 pub mod Cursors

@@ -2,7 +2,7 @@
 -- has the variable whose rows it chains, the place of the side that they are compared with, its number and 256 times the branch that a row which is not
 -- equal may still lead from to 0, the attribute, heads and links. Of an OR of two equalities that branch is the second, and has a chain too; 0 times 256
 -- stands for branch 1, from which nothing leads to 0.
-use Rattle.std.specs.Prelude.{ℕ, ◌+◌, ◌/◌, ◌%◌, ◌≤◌, ◌<◌, ◌≡◌, Bool, true, false, cond, ltb, List, ℤ, get_or}
+use Rattle.std.specs.Prelude.{ℕ, ◌+◌, ◌/◌, ◌%◌, ◌≤◌, ◌<◌, ◌≡◌, Bool, true, false, cond, ltb, List, ℤ, nat_abs, get_or}
 use Rattle.std.proofs.Math.Option.{some}
 use Rattle.model.specs.Lists.{update}
 use Rattle.model.specs.Meaning.{Tuple, Assignment, whole, compare}
@@ -45,6 +45,20 @@ pub record Enters (x : Entry) (t : List ℕ) (s o v : ℕ) (ws : List ℕ) (vs m
   pub entered : Entered x vs ws (walk_of ws v) chains
   pub fails : (q z us : List ℕ) (row : Tuple) → (same (row x.attribute) x.value ≡ true → ⊥) → runs t q z us vs m o (update (assigned vs env) v row) ≡ false
       → runs t q z us vs m s (update (assigned vs env) v row) ≡ false
+
+-- the chain of branch s for variable v stands at place r
+pub record Stands (chains : List ℕ) (s v r : ℕ) : Type 0 where
+  pub low : s < 64
+  pub some : r ≡ 0 → ⊥
+  pub place : r ≡ get_or chains s 0
+  pub variable : get_or chains r 0 ≡ v
+
+-- how the chain at place r is entered: a row has that value where it has the chain's equality
+pub record Entering (x : Entry) (r : ℕ) (t : List ℕ) (vs m : List ℤ) (env chains : List ℕ) : Type 0 where
+  pub at : x.at ≡ r + 4
+  pub attribute : x.attribute ≡ get_or chains (r + 3) 0
+  pub small : nat_abs x.value ≤ 140735340871680
+  pub equals : (row : Tuple) → equality t (get_or chains (r + 1) 0) (get_or chains (r + 2) 0 % 256) x.attribute m (assigned vs env) row ≡ same (row x.attribute) x.value
 
 -- every chain of the table serves its branch; so does a table with none
 abbrev pub Faithful : List ℕ → List ℕ → List ℤ → List ℕ → Type 0

@@ -24,8 +24,7 @@ use Rattle.walks.proofs.Assigned.{assigned-set}
 use Rattle.catalogue.specs.Layout.{tuple_at}
 use Rattle.walks.specs.declared.Walk.{Walk}
 use Rattle.walks.proofs.Loops.{concat-to}
-use Rattle.rows.specs.Buffer.{Buffer, added, added_all, start}
-use Rattle.rows.specs.declared.Filled.{Filled}
+use Rattle.rows.specs.Buffer.{Buffer, added, added_all}
 use Rattle.rows.specs.Chains.{Linked}
 use Rattle.rows.proofs.Laws.{added-append, full-stays}
 use Rattle.sizes.specs.Parts.{ranges_at, targets_at}
@@ -106,10 +105,6 @@ module _ (b : Bool) (n : ℕ) (row : List ℤ) (s : Buffer) where
   pub write-row : (cells : Option (List ℤ)) → Cells b n row cells → (r : Buffer) → not b ≡ false → r ≡ added s (take n row) → r ≡ added_row s cells
   write-row none k r h e = clash (sym k ∙ not-no b h)
   write-row (some x) k r h e = e ∙ ap (added s) k.1
-
--- the state before the first row
-pub no_row : (r : Filled) (c : List ℤ) → r ≡ record { rows = 0; full = false } → record { rows = r.rows; full = r.full; cells = c } ≡ start c
-no_row r c e = ap (λ (s : Filled). record { rows = s.rows; full = s.full; cells = c }) e
 
 -- the row handed on has as many cells as the plan says
 module _ (n : ℕ) (row : List ℤ) (k : ℕ) (cells : List ℤ) (t : List ℕ) (h : n ≤ length row) where

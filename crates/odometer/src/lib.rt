@@ -43,11 +43,11 @@ pub struct Plan {
     pub full: bool,
 }
 
-fn wide(x: u8) -> u16
-    ensures { result ≡ x }
-{
-    x as u16
-}
+// The answer before the first row.
+const NONE: Filled = Filled {
+    rows: 0,
+    full: false,
+};
 
 // Target i of the list.
 fn put(list: &mut [u16], i: usize, variable: u16, attribute: u16)
@@ -71,14 +71,14 @@ fn list_target(q: &[u8], level: usize, memo: &[i64], list: &mut [u16], i: usize)
     }
     match kinds::term_record(q) {
         TermRecord::Attribute(variable, attribute) => {
-            put(list, i, wide(variable), wide(attribute));
+            put(list, i, u16::from(variable), u16::from(attribute));
             true
         }
         TermRecord::Aggregate(_, variable, _, _) => {
             if !numbers::knows(memo, variable) {
                 return false;
             }
-            put(list, i, wide(variable) + 256, 0);
+            put(list, i, u16::from(variable) + 256, 0);
             true
         }
         TermRecord::Constant(_, _, _, _) | TermRecord::Other => false,
@@ -147,13 +147,11 @@ fn listed_cell(
     let at = 2 * i;
     let v = kinds::size_at(list, at);
     if v < 256 {
-        let place = env[v];
-        row[i] = catalogue::value(values, place, kinds::size_at(list, at + 1)) as i64;
+        row[i] = i64::from(catalogue::value(values, env[v], kinds::size_at(list, at + 1)));
         return true;
     }
     let x = branches::side(list, at, 0, values, memo, env);
-    let d = x.denominator;
-    if d <= 0 {
+    if x.denominator <= 0 {
         return false;
     }
     row[i] = cell(x);
@@ -173,12 +171,10 @@ fn listed_cells(
     ensures { Written result row.old 0 row.new (cells_in memo.now list.now n 0
         (assigned values.now env.now)) }
 {
-    let mut i = 0;
-    while i < n {
+    for i in 0..n {
         if !listed_cell(list, i, values, memo, env, row) {
             return false;
         }
-        i += 1;
     }
     true
 }
@@ -208,28 +204,21 @@ fn targets(
         (assigned values.now env.old)) }
     ensures env_unchanged { env.new ≡ env.old }
 {
-    let left = ahead.left;
-    let level = ahead.level;
-    let at = ahead.at;
-    if left == 0 {
+    if ahead.left == 0 {
         return true;
     }
-    let x = evaluator::term(q, z, level, walks, values, memo, env);
-    let d = x.denominator;
-    if d <= 0 {
+    let x = evaluator::term(q, z, ahead.level, walks, values, memo, env);
+    if x.denominator <= 0 {
         return false;
     }
-    let cell = cell(x);
-    row[at] = cell;
+    row[ahead.at] = cell(x);
     let n = kinds::size_at(z, 0);
     let u = kinds::tail(q, n);
     let v = kinds::tail_sizes(z, n);
-    let fewer = left - 1;
-    let next = at + 1;
     let rest = Ahead {
-        left: fewer,
-        level,
-        at: next,
+        left: ahead.left - 1,
+        level: ahead.level,
+        at: ahead.at + 1,
     };
     targets(u, v, rest, walks, values, memo, env, row)
 }
@@ -252,16 +241,13 @@ fn cells(
         memo.now (assigned values.now env.old)) }
     ensures env_unchanged { env.new ≡ env.old }
 {
-    let n = plan.columns;
-    let listed = plan.listed;
-    if listed {
-        return listed_cells(list, n, values, memo, env, row);
+    if plan.listed {
+        return listed_cells(list, plan.columns, values, memo, env, row);
     }
-    let t = plan.targets;
-    let x = kinds::tail(q, t);
-    let y = kinds::tail_sizes(z, t);
+    let x = kinds::tail(q, plan.targets);
+    let y = kinds::tail_sizes(z, plan.targets);
     let ahead = Ahead {
-        left: n,
+        left: plan.columns,
         level: plan.level,
         at: 0,
     };
@@ -343,13 +329,18 @@ fn each_row(
     inner.depth = plan.depth + 1;
     let left = inner.left;
     let walk = walks::walk_of(walks, variable);
+    let rows = decide::chains::Rows {
+        values,
+        walks,
+        walk,
+    };
     let n = walk.count;
     let old = env[variable as usize];
     let mut i = 0;
     loop {
         let all = &work[..];
         let chains = &all[BRANCHES..front];
-        let j = decide::seeks::next_row(cursor, values, walks, walk, chains, i);
+        let j = cursor.next_row(&rows, chains, i);
         if n <= j {
             env[variable as usize] = old;
             return Filled {
@@ -410,19 +401,9 @@ fn only(
         at: 0,
     };
     if !targets(x, y, ahead, walks, values, memo, env, &mut row) {
-        return none();
+        return NONE;
     }
     rows::only_row(answer, &row[..n])
-}
-
-// The answer before the first row.
-fn none() -> Filled
-    ensures { result ≡ record { rows = 0; full = false } }
-{
-    Filled {
-        rows: 0,
-        full: false,
-    }
 }
 
 // All assignments of the RANGE records. The targets are listed once it is known that there may be a row.
@@ -450,11 +431,11 @@ pub fn run(
     let chains = &all[BRANCHES..front];
     let first = kinds::size_at(t, 2 * d);
     if !decide::leads(t, first, q, z, walks, chains, values, memo, env) {
-        return none();
+        return NONE;
     }
     let second = kinds::size_at(t, 2 * d + 1);
     if !decide::leads(t, second, q, z, walks, chains, values, memo, env) {
-        return none();
+        return NONE;
     }
     let left = plan.left;
     if left == 0 {

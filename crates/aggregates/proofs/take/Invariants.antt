@@ -9,8 +9,8 @@ use mathlib.Core.Bool.{true}
 use mathlib.Core.Path.{◌≡◌}
 use Rattle.aggregates.proofs.take.Given as goal
 
-abbrev pub invariant-loop-column : goal.invariant-loop-column
-invariant-loop-column l = (set l.env l.column.variable l.old ≡ l.initial.env) × Accumulates l.taken (kept l.values (meets l.t l.q l.z l.walks l.values l.memo l.initial.env l.column.variable) l.column.attribute (place_at l.walks l.walk) l.i) × (l.i ≤ l.n) × (length l.env ≡ length l.initial.env) × (0 < l.i → stops l.cursor (tuple_at l.values (place_at l.walks l.walk (l.i - 1))) ≡ true)
+abbrev pub invariant-loop-rows : goal.invariant-loop-rows
+invariant-loop-rows l = (set l.env l.own l.old ≡ l.initial.env) × Accumulates l.taken (kept l.values (meets l.t l.q l.z l.walks l.values l.memo l.initial.env l.column.variable) l.column.attribute (place_at l.walks l.walk) l.i) × (l.i ≤ l.n) × (length l.env ≡ length l.initial.env) × (0 < l.i → stops l.cursor (tuple_at l.values (place_at l.walks l.walk (l.i - 1))) ≡ true)
 
-abbrev pub decreases-loop-column : goal.decreases-loop-column
-decreases-loop-column l = l.n - l.i
+abbrev pub decreases-loop-rows : goal.decreases-loop-rows
+decreases-loop-rows l = l.n - l.i

@@ -34,14 +34,6 @@ chain-kept t ws vs c c' s r k x =
       built = rw (k₀, k₃) (built-kept (bucket_at vs ws (walk_of ws (get_or c r 0)) (get_or c (r + 3) 0)) (walk_of ws (get_or c r 0)).count (r + 4) c c' (λ i a b. k i (omega arith) (omega arith)) x.built);
     }
 
--- four stores one after the other
-pub four : (t : List ℕ) (i a b c d x y z w : ℕ) → x ≡ a → y ≡ b → z ≡ c → w ≡ d → set (set (set (set t i x) (i + 1) y) (i + 2) z) (i + 3) w ≡ sets t i (a ∷ b ∷ c ∷ d ∷ [])
-four t i a b c d x y z w ex ey ez ew =
-    let i₁ : i + 1 ≡ suc i = omega arith in
-    let i₂ : i + 2 ≡ suc (suc i) = omega arith in
-    let i₃ : i + 3 ≡ suc (suc (suc i)) = omega arith in
-    rw (ex, ey, ez, ew, i₁, i₂, i₃)
-
 module _ (free end start f v p n a other w : ℕ) (t ws : List ℕ) (vs : List ℤ) (c h b : List ℕ) (walk : Walk)
     (filling : Filling free t ws vs c) (eh : h ≡ sets c free (v ∷ p ∷ w ∷ a ∷ [])) (room : free + 4 ≤ length c) (ew : walk ≡ walk_of ws v)
     (built : Built (bucket_at vs ws walk a) walk.count (free + 4) b) (out : Outside (free + 4) (free + 4 + 1024 + walk.count) h b)

@@ -10,7 +10,7 @@ use Rattle.walks.specs.Assigned.{assigned}
 use Rattle.odometer.specs.Plan.{code_in, Listed, rows_below}
 use Rattle.odometer.proofs.Listing.{marked, targets-listed, rows-marked}
 use Rattle.odometer.proofs.Parts.{sixteen-long, code-still, faithful-still, list-is, table-still}
-use Rattle.odometer.proofs.Steps.{stage-start, first-fails, second-fails, both_hold, no_row, run-no, run_row, run-rows}
+use Rattle.odometer.proofs.Steps.{stage-start, first-fails, second-fails, both_hold, run-no, run_row, run-rows}
 use Rattle.odometer.proofs.run.Goals as goal
 
 pub slice_bounds-t-end : goal.slice_bounds-t-end
@@ -19,11 +19,11 @@ slice_bounds-t-end c = let work = c.args.work.now in
 
 pub returns-then-not-leads : goal.returns-then-not-leads
 returns-then-not-leads c = let answer = c.args.answer.now in let env = c.args.env.now in let memo = c.args.memo.now in let q = c.args.q.now in let values = c.args.values.now in let walks = c.args.walks.now in let work = c.args.work.now in let z = c.args.z.now in let plan = c.args.plan in
-    no_row c.none.result answer c.none.ensures ∙ run-no plan (code_in work) q z walks values memo env (start answer) (first-fails (code_in work) q z walks values memo env plan.depth c.size_at-first.result (stage-start (code_in work) q z walks values memo (2 * plan.depth) (2 * plan.depth) c.size_at-first.result (assigned values env) c.size_at-first.ensures.value refl) c.leads.result c.leads.ensures.value c.if-not-leads.true-raw)
+    run-no plan (code_in work) q z walks values memo env (start answer) (first-fails (code_in work) q z walks values memo env plan.depth c.size_at-first.result (stage-start (code_in work) q z walks values memo (2 * plan.depth) (2 * plan.depth) c.size_at-first.result (assigned values env) c.size_at-first.ensures.value refl) c.leads.result c.leads.ensures.value c.if-not-leads.true-raw)
 
 pub returns-then-not-leads-2 : goal.returns-then-not-leads-2
 returns-then-not-leads-2 c = let answer = c.args.answer.now in let env = c.args.env.now in let memo = c.args.memo.now in let q = c.args.q.now in let values = c.args.values.now in let walks = c.args.walks.now in let work = c.args.work.now in let z = c.args.z.now in let plan = c.args.plan in
-    no_row c.none-then-not-leads-2.result answer c.none-then-not-leads-2.ensures ∙ run-no plan (code_in work) q z walks values memo env (start answer) (second-fails (code_in work) q z walks values memo env plan.depth c.size_at-first.result (stage-start (code_in work) q z walks values memo (2 * plan.depth) (2 * plan.depth) c.size_at-first.result (assigned values env) c.size_at-first.ensures.value refl) c.leads.result c.leads.ensures.value c.if-not-leads.false-raw c.size_at-second.result (stage-start (code_in work) q z walks values memo (2 * plan.depth + 1) (2 * plan.depth + 1) c.size_at-second.result (assigned values env) c.size_at-second.ensures.value refl) c.leads-2.result c.leads.new.env c.leads.ensures.env_unchanged c.leads-2.ensures.value c.if-not-leads-2.true-raw)
+    run-no plan (code_in work) q z walks values memo env (start answer) (second-fails (code_in work) q z walks values memo env plan.depth c.size_at-first.result (stage-start (code_in work) q z walks values memo (2 * plan.depth) (2 * plan.depth) c.size_at-first.result (assigned values env) c.size_at-first.ensures.value refl) c.leads.result c.leads.ensures.value c.if-not-leads.false-raw c.size_at-second.result (stage-start (code_in work) q z walks values memo (2 * plan.depth + 1) (2 * plan.depth + 1) c.size_at-second.result (assigned values env) c.size_at-second.ensures.value refl) c.leads-2.result c.leads.new.env c.leads.ensures.env_unchanged c.leads-2.ensures.value c.if-not-leads-2.true-raw)
 
 pub only-requires : goal.only-requires
 only-requires c = (omega (arith, c.requires.0, ap length (c.leads-2.ensures.env_unchanged ∙ c.leads.ensures.env_unchanged)), c.requires.1.columns)

@@ -1,9 +1,0 @@
-use mathlib.Core.Path.{refl}
-use native.Mathlib.Omega.{arith}
-use mathlib.Core.Bool.{true}
-use lib.IntN.{pos}
-use Rattle.decide.proofs.seeks.Tests.{equal-bounded}
-use Rattle.decide.proofs.seeks.every.Goals as goal
-
-pub returns : goal.returns
-returns c = (refl, refl, (equal-bounded 0 (pos 0) (pos 0) (omega arith) (omega arith) (omega arith) _ true c.equal_to.ensures).0)
