@@ -103,28 +103,11 @@ fn answer_few(
     plain::answer_query(query, z, layout, LEVELS, &walks, values, answer)
 }
 
-fn fits(catalogue: &[u8], b: scans::Bound) -> bool
-    ensures { result ≡ all (tiny catalogue.now) (bound_by b) }
-{
-    let scans::Bound::To(_, relation) = b else {
-        return true;
-    };
-    let known = catalogue::entry(catalogue, relation);
-    known.rows <= 16
-}
-
 // Whether each bound relation has at most 16 rows.
 fn few(query: &[u8], catalogue: &[u8]) -> bool
     ensures { result ≡ all (tiny catalogue.now) (flat_bindings query.now) }
 {
-    let mut at = 0;
-    while at < query.len() {
-        if !fits(catalogue, scans::binding(query, at)) {
-            return false;
-        }
-        at += scans::step(query, at);
-    }
-    true
+    BoundVariables::of(query).all(|b| catalogue::entry(catalogue, b.relation).rows <= 16)
 }
 
 fn answer_permitted(

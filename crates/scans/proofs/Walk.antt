@@ -52,10 +52,13 @@ parts-cons (b ∷ q) h = ap (λ (l : List (List ℕ)). (b ∷ q) ∷ l) (part_af
     go zero l = absurd (omega arith)
     go (suc n) l = let e : suc n - 1 ≡ n = omega arith in ap (λ (m : ℕ). parts_of (drop m q)) e
 
+parts-nil : parts_of [] ≡ []
+unfolding parts_after parts_of
+parts-nil = refl
+
 -- one call of the walk's `next`
 pub left-none : (q : List ℕ) → None ≡ slice_get q 0 → parts_of q ≡ []
-unfolding parts_after parts_of
-left-none [] h = refl
+left-none [] h = parts-nil
 left-none (b ∷ q) h = cc
 
 pub left-some : (q t : List ℕ) (b n : ℕ) → Some b ≡ slice_get q 0 → n ≡ record_length b → t ≡ drop n q → parts_of q ≡ q ∷ parts_of t
@@ -149,3 +152,21 @@ module _ (s t x : List ℕ) where
 
   pub no_binding-on : parts_of s ≡ x ∷ parts_of t → found_in None ≡ binding_of (record_at x) → flat_bindings t ≡ flat_bindings s
   no_binding-on e k = sym (flat-on binding_of s t x e ∙ ap (λ (l : List Binding). l ++ flat_bindings t) (sym k))
+
+-- where a walk stands before and after one of its records
+parts-head : (s x : List ℕ) (xs : List (List ℕ)) → parts_of s ≡ x ∷ xs → (0 < length s) × (x ≡ s) × (parts_of (drop (record_length (get_or s 0 0)) s) ≡ xs)
+parts-head [] x xs e = let n = parts-nil in cc
+parts-head (b ∷ s) x xs e = let c = parts-cons (b ∷ s) (omega arith) in (omega arith, cc, cc)
+
+parts-same : (s t : List ℕ) → parts_of s ≡ parts_of t → s ≡ t
+parts-same [] [] e = refl
+parts-same [] (c ∷ t) e = let n = parts-nil in let k = parts-cons (c ∷ t) (omega arith) in cc
+parts-same (b ∷ s) [] e = let n = parts-nil in let k = parts-cons (b ∷ s) (omega arith) in cc
+parts-same (b ∷ s) (c ∷ t) e = let n = parts-cons (b ∷ s) (omega arith) in let k = parts-cons (c ∷ t) (omega arith) in cc
+
+pub parts-on : (s t x : List ℕ) → parts_of s ≡ x ∷ parts_of t → (0 < length s) × (x ≡ s) × (t ≡ drop (record_length (get_or s 0 0)) s)
+parts-on s t x e = let h = parts-head s x (parts_of t) e in (h.0, h.1, sym (parts-same _ t h.2))
+
+pub parts-over : (s : List ℕ) → parts_of s ≡ [] → length s ≡ 0
+parts-over [] e = refl
+parts-over (b ∷ s) e = let k = parts-cons (b ∷ s) (omega arith) in cc
