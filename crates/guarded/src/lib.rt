@@ -8,7 +8,7 @@ ghost use Rattle.model.specs.Encoding.{query_of};
 ghost use Rattle.model.specs.Meaning.{answers};
 ghost use Rattle.model.specs.Calls.{give, ask};
 ghost use Rattle.model.specs.Lists.{all};
-ghost use Rattle.scans.specs.Flat.{bound_by, flat_bindings};
+ghost use Rattle.scans.specs.Flat.{flat_bindings};
 ghost use Rattle.plain.specs.Reply.{answer_of, Answerable};
 ghost use Rattle.permitted.specs.Given.{tiny, Bytes};
 ghost use Rattle.rewriter.specs.Rewritten.{places_in, masks_in};
@@ -17,6 +17,7 @@ ghost use Rattle.guarded.specs.Outcome.{outcome_of, given_rows, Bound, Checks32}
 use grammar::Layout;
 use guards::Check33;
 use queries::{Checked, Limits};
+use scans::BoundVariables;
 
 const LEVELS: usize = model::ASKED_LEVELS;
 
