@@ -20,12 +20,7 @@ use Rattle.model.proofs.Lists.{total-append}
 use Rattle.kinds.specs.Record.{record_at}
 use Rattle.kinds.specs.Tables.{record_length}
 use Rattle.catalogue.specs.Layout.{stored_of}
-use Rattle.scans.specs.Flat.{binding_of, bound_by, flat_bindings, flat_uses, used_in}
-use Rattle.scans.specs.declared.Bound.{Bound}
-use Rattle.scans.specs.declared.Bound.TheVariants.{To, Nothing}
-use Rattle.scans.proofs.Walk.{flat-end}
-use Rattle.scans.proofs.Loops.{bindings-on}
-use Rattle.scans.proofs.Lists.{all_join}
+use Rattle.scans.specs.Flat.{flat_uses, used_in}
 use Rattle.permits.specs.Applying.{applies_to, bars_from, used_bytes}
 use Rattle.guards.proofs.applying.Finds.{applies-same, bars-same}
 use Rattle.guards.specs.Filled.{placed_from, verdict_of, mask_unless_barred, mask_for, masked, bit_of}

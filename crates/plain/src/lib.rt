@@ -15,6 +15,7 @@ use grammar::Layout;
 use odometer::Plan;
 use queries::{Checked, Limits};
 use rows::Filled;
+use scans::Records;
 
 const LEVELS: usize = model::PLAIN_LEVELS;
 
@@ -274,10 +275,8 @@ fn holding(q: &[u8]) -> usize
     ensures { result ≤ 1001 }
 {
     let mut n = 0;
-    let mut at = 0;
-    while at < q.len() {
-        n = counted(n, kinds::byte(q, at));
-        at += scans::step(q, at);
+    for record in Records::of(q) {
+        n = counted(n, kinds::byte(record, 0));
     }
     n
 }

@@ -3,18 +3,16 @@ use mathlib.Core.Path.{◌≡◌, refl, sym, ap, ◌∙◌}
 use mathlib.Core.List.{List, [], ◌∷◌, ◌++◌}
 use Rattle.std.specs.Prelude.{None, Some}
 use Rattle.std.specs.List.{slice_get}
-use Prim.Native.Nat.{ℕ, zero, suc, ◌+◌, ◌-◌, ◌<◌, ◌≤◌}
+use Prim.Native.Nat.{ℕ, zero, suc, ◌-◌, ◌<◌, ◌≤◌}
 use native.Mathlib.Omega.{arith}
-use lib.ListN.{length, get_or, drop, length-drop, length-append, drop_of_length-le}
-use lib.Seq.{drop-drop}
+use lib.ListN.{length, get_or, drop, length-append}
 use Rattle.model.specs.Lists.{concat_map}
-use Rattle.model.proofs.Lists.{first-at}
 use Rattle.kinds.specs.Tables.{record_length}
 use Rattle.kinds.specs.Record.{record_at}
 use Rattle.kinds.specs.declared.Record.{Record}
 use Rattle.kinds.specs.declared.Record.TheVariants as R
 use Rattle.kinds.proofs.Entries.{length-small}
-use Rattle.scans.specs.Flat.{records_after, records_of, parts_after, parts_of, flat, binding_of, flat_bindings, is_binding, found_in}
+use Rattle.scans.specs.Flat.{records_after, records_of, parts_after, parts_of, flat, binding_of, flat_bindings, is_binding, bound_by}
 use Rattle.scans.specs.declared.BoundVariable.{BoundVariable}
 use Rattle.model.specs.Syntax.{Binding}
 
@@ -91,24 +89,7 @@ module _ {A : Type 0} (f : Record → List A) where
   unfolding concat_map
   flat-over s e = flat_parts s ∙ ap (concat_map (λ y. f (record_at y))) e
 
-module _ {A : Type 0} (f : Record → List A) (q : List ℕ) (at : ℕ) where
-  pub flat_step : (n : ℕ) → at < length q → n ≡ record_length (get_or q at 0) → flat f (drop at q) ≡ f (record_at (drop at q)) ++ flat f (drop (at + n) q)
-  unfolding flat concat_map
-  flat_step n h e =
-      let l : 0 < length (drop at q) = simp length-drop (omega arith) in
-      let p = first-at at q in
-      ap (concat_map f) (records-cons (drop at q) l)
-      ∙ ap (λ (x : List ℕ). f (record_at (drop at q)) ++ concat_map f (records_of x)) (drop-drop (record_length (get_or (drop at q) 0 0)) at q ∙ ap (λ (m : ℕ). drop (at + m) q) (ap record_length p ∙ sym e))
-
-  pub flat-end : length q ≤ at → flat f (drop at q) ≡ []
-  unfolding flat concat_map records_of records_after
-  flat-end h = ap (flat f) (drop_of_length-le q h)
-
--- what was read at a place, taken apart
-pub found : {A : Type 0} (f : Record → List A) (q x : List ℕ) (at : ℕ) (r y : Record) → x ≡ drop at q → r ≡ record_at x → r ≡ y → f y ≡ f (record_at (drop at q))
-found f q x at r y p e h = ap f (sym h ∙ e ∙ ap record_at p)
-
--- the walk over the records after a part of one
+-- no more records than bytes
 records-few : (n : ℕ) (q : List ℕ) → length (parts_after n q) ≤ length q
 unfolding parts_after
 records-few zero [] = omega arith
@@ -147,10 +128,10 @@ bindings-few q = omega (arith, ap length (flat_parts binding_of q), few-each bin
 
 -- a record that binds a variable, and one that binds none
 module _ (s t x : List ℕ) where
-  pub binding-on : (b : BoundVariable) → parts_of s ≡ x ∷ parts_of t → found_in (Some b) ≡ binding_of (record_at x) → flat_bindings s ≡ is_binding b ∷ flat_bindings t
+  pub binding-on : (b : BoundVariable) → parts_of s ≡ x ∷ parts_of t → bound_by (Some b) ≡ binding_of (record_at x) → flat_bindings s ≡ is_binding b ∷ flat_bindings t
   binding-on b e k = flat-on binding_of s t x e ∙ ap (λ (l : List Binding). l ++ flat_bindings t) (sym k)
 
-  pub no_binding-on : parts_of s ≡ x ∷ parts_of t → found_in None ≡ binding_of (record_at x) → flat_bindings t ≡ flat_bindings s
+  pub no_binding-on : parts_of s ≡ x ∷ parts_of t → bound_by None ≡ binding_of (record_at x) → flat_bindings t ≡ flat_bindings s
   no_binding-on e k = sym (flat-on binding_of s t x e ∙ ap (λ (l : List Binding). l ++ flat_bindings t) (sym k))
 
 -- where a walk stands before and after one of its records

@@ -15,8 +15,6 @@ use Rattle.scans.specs.declared.Bindings.{Bindings}
 use Rattle.scans.specs.declared.Records.{Records}
 use Rattle.scans.specs.declared.BoundVariable.{BoundVariable}
 use Rattle.scans.specs.declared.BoundVariables.{BoundVariables}
-use Rattle.scans.specs.declared.Bound.{Bound}
-use Rattle.scans.specs.declared.Bound.TheVariants as B
 
 -- the records, after so many bytes that belong to the one before
 unfoldable pub records_after : ℕ → List ℕ → List Record
@@ -86,16 +84,12 @@ unfoldable pub used_in : List Use → ℕ → ℕ → Bool
 used_in us v a = any (λ (u : Use). eqb u.variable v && eqb u.attribute a) us
 
 -- what the code finds in one record
-abbrev pub bound_by : Bound → List Binding
-bound_by (B.To v r) = record { variable = v; relation = r } ∷ []
-bound_by B.Nothing = []
-
 abbrev pub is_binding : BoundVariable → Binding
 is_binding b = record { variable = b.variable; relation = b.relation }
 
-abbrev pub found_in : Option BoundVariable → List Binding
-found_in None = []
-found_in (Some b) = is_binding b ∷ []
+abbrev pub bound_by : Option BoundVariable → List Binding
+bound_by None = []
+bound_by (Some b) = is_binding b ∷ []
 
 -- what is still to come of a walk
 abbrev pub left_of : Records → List (List ℕ)

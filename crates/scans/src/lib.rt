@@ -8,16 +8,9 @@ ghost use Rattle.model.specs.Lists.{unique, cons_if};
 ghost use Rattle.model.specs.Syntax.{variables};
 ghost use Rattle.kinds.specs.Record.{record_at};
 ghost use Rattle.kinds.specs.Tables.{record_length};
-ghost use Rattle.scans.specs.Flat.{left_of, binding_of, flat_bindings, bindings_left, is_binding, bindings_of, bound_by, found_in, fresh};
+ghost use Rattle.scans.specs.Flat.{left_of, binding_of, flat_bindings, bindings_left, is_binding, bindings_of, bound_by, fresh};
 
 use kinds::Record;
-
-#[derive(Clone, Copy)]
-pub enum Bound {
-    // variable, relation
-    To(u8, u8),
-    Nothing,
-}
 
 // The records of a query or a condition, one after the other, each as the bytes from it on.
 #[derive(Clone, Copy)]
@@ -58,7 +51,7 @@ pub struct BoundVariable {
 impl BoundVariable {
     // What a record binds.
     fn read(bytes: &[u8]) -> Option<BoundVariable>
-        ensures { found_in result ≡ binding_of (record_at bytes.now) }
+        ensures { bound_by result ≡ binding_of (record_at bytes.now) }
     {
         if !may_bind(kinds::byte(bytes, 0)) {
             return None;
@@ -119,35 +112,7 @@ pub struct Bindings {
 fn may_bind(kind: u8) -> bool
     ensures { result ≡ false → (kind ≡ 1 → ⊥) × (kind ≡ 22 → ⊥) × (kind ≡ 34 → ⊥) }
 {
-    match kind {
-        1 => true,
-        22 => true,
-        34 => true,
-        _ => false,
-    }
-}
-
-// What the record at a place binds.
-pub fn binding(q: &[u8], at: usize) -> Bound
-    ensures { bound_by result ≡ binding_of (record_at (drop at q.now)) }
-{
-    if !may_bind(kinds::byte(q, at)) {
-        return Bound::Nothing;
-    }
-    match kinds::read(kinds::tail(q, at)) {
-        Record::Range(v, r) => Bound::To(v, r),
-        Record::Some(v, r) => Bound::To(v, r),
-        Record::Aggregate(_, v, r, _) => Bound::To(v, r),
-        _ => Bound::Nothing,
-    }
-}
-
-// How long the record at a place is.
-pub fn step(q: &[u8], at: usize) -> usize
-    ensures value { result ≡ record_length (get_or q.now at 0) }
-    ensures lower_bound { (1 ≤ result) × (result ≤ 5) }
-{
-    kinds::record_length(kinds::byte(q, at))
+    matches!(kind, 1 | 22 | 34)
 }
 
 // How many variables are bound.

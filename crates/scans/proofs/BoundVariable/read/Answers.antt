@@ -27,4 +27,4 @@ other R.Unknown h = refl
 other R.Short h = refl
 
 pub returns-then-not-may_bind : goal.returns-then-not-may_bind
-returns-then-not-may_bind c = binds-nothing c.args.bytes.now 0 c.byte.result c.byte.ensures (c.may_bind.ensures (not_yes c.may_bind.result c.if-not-may_bind.true-raw))
+returns-then-not-may_bind c = binds-nothing c.args.bytes.now c.byte.result c.byte.ensures (c.may_bind.ensures (not_yes c.may_bind.result c.if-not-may_bind.true-raw))
