@@ -1,9 +1,9 @@
 -- One step of each function as an equation over plain variables.
 use mathlib.Core.Path.{◌≡◌, refl, sym, ap, ap₂, subst, ◌∙◌}
-use mathlib.Core.Bool.{Bool, true, false, not, cond, ◌&&◌, ◌||◌}
-use mathlib.Core.List.{List, [], ◌∷◌, ◌++◌}
+use mathlib.Core.Bool.{Bool, true, false, not, cond, ◌||◌}
+use mathlib.Core.List.{List, [], ◌∷◌}
 use Prim.Native.Nat.{ℕ, zero, suc, ◌+◌, ◌*◌, ◌-◌, ◌/◌, ◌%◌, ◌^◌, ◌≤◌, ◌<◌}
-use native.Mathlib.Nat.{pow-suc, add-zero}
+use native.Mathlib.Nat.{pow-suc}
 use native.Mathlib.Omega.{arith}
 use native.Mathlib.Numerals.{add-one, sub-one}
 use lib.Dec.{eqb}
@@ -12,20 +12,16 @@ use borrow.Author.Tests.{lt-ltb, le-ltb, eq-eqb, ne_eqb, not-true, not-false}
 use Rattle.permits.specs.Entries.{Entry, size_of, entry_at, entries}
 use Rattle.permits.proofs.Walk.{entries-cons, entries_none}
 use Rattle.copier.specs.Guard.{bits_of}
-use Rattle.model.specs.Lists.{any, all, total}
-use Rattle.model.specs.Syntax.{Binding}
+use Rattle.model.specs.Lists.{any}
 use Rattle.model.specs.Permits.{bit}
-use Rattle.model.proofs.Tests.{or_right, or-false, and-true}
-use Rattle.model.proofs.Lists.{total-append}
-use Rattle.kinds.specs.Record.{record_at}
-use Rattle.kinds.specs.Tables.{record_length}
+use Rattle.model.proofs.Tests.{or_right, or-false}
 use Rattle.catalogue.specs.Layout.{stored_of}
 use Rattle.scans.specs.Flat.{flat_uses, used_in}
 use Rattle.permits.specs.Applying.{applies_to, bars_from, used_bytes}
 use Rattle.guards.proofs.applying.Finds.{applies-same, bars-same}
-use Rattle.guards.specs.Filled.{placed_from, verdict_of, mask_unless_barred, mask_for, masked, bit_of}
+use Rattle.guards.specs.Filled.{placed_from, verdict_of, mask_unless_barred, mask_for, bit_of}
 use Rattle.guards.specs.declared.Verdict.{Verdict}
-use Rattle.guards.specs.Counted.{served_by, turn_length, length_from, length_by, tally_all, passed_if, check33}
+use Rattle.guards.specs.Counted.{turn_length, length_from, tally_all, passed_if, check33}
 use Rattle.guards.specs.declared.Tally.{Tally}
 use Rattle.guards.specs.declared.Check33.TheVariants as C
 

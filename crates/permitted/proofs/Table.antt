@@ -1,19 +1,19 @@
 -- The table: a step gives one variable its rows, and what the others have stays theirs.
 use mathlib.Core.Path.{◌≡◌, refl, sym, ap, ap₂, ◌∙◌, subst, fun_ext}
-use mathlib.Core.Bool.{Bool, true, false, not, cond, ◌&&◌}
+use mathlib.Core.Bool.{Bool, true, false, not, cond}
 use mathlib.Core.List.{List, [], ◌∷◌, ◌++◌, map, map-map, map-append}
 use Prim.Native.Nat.{ℕ, zero, suc, ◌+◌, ◌-◌, ◌*◌, ◌/◌, ◌≤◌, ◌<◌}
 use native.Mathlib.Nat.{mul-le-mul, le_refl}
 use native.Mathlib.Omega.{arith}
-use lib.Dec.{eqb, leb}
+use lib.Dec.{eqb}
 use lib.IntN.{ℤ}
 use lib.ListN.{length, get_or, replicate, length-replicate, length-set}
 use lib.Seq.{get_or-set_same, get_or-set_other}
 use borrow.Author.Tests.{eqb-true, eqb-false, eq-eqb, ne_eqb}
-use Rattle.model.specs.Lists.{all, contains, any, filter, below, unique, Every}
+use Rattle.model.specs.Lists.{contains, any, filter, below, unique, Every}
 use Rattle.model.specs.Syntax.{Binding, variables}
 use Rattle.model.specs.Meaning.{Tuple}
-use Rattle.model.proofs.Tests.{and-inv, or_no, not_yes, clash}
+use Rattle.model.proofs.Tests.{and-inv, or_no, not_yes}
 use Rattle.model.proofs.Lists.{every_map, every-both, every_append, every-join, filter_map, get_or-same}
 use Rattle.catalogue.specs.Layout.{tuple_at, tuples_in, attributes_of, rows_of, latest_of, base_of}
 use Rattle.walks.specs.declared.Walk.{Walk}
@@ -22,7 +22,7 @@ use Rattle.allrows.specs.Filled.{written, whole_of}
 use Rattle.allrows.proofs.Table.{written-length, written-outside, written-other, written-here}
 use Rattle.allrows.proofs.All.{walked_whole}
 use Rattle.permitted.specs.Meets.{row_of}
-use Rattle.permitted.specs.Given.{meets_any, rows_for, number_at, numbers_for, Listed, key_of, entered, Has, Keyed, Given, Low, Stepped, tiny}
+use Rattle.permitted.specs.Given.{meets_any, rows_for, number_at, numbers_for, Listed, key_of, entered, Has, Keyed, Given, Low, Stepped}
 
 -- walks that lead to the same rows
 places_same : (P Q : ℕ → ℕ) (k n : ℕ) → ((j : ℕ) → j < k + n → P j ≡ Q j) → places P k n ≡ places Q k n

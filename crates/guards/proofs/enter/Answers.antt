@@ -1,6 +1,6 @@
 use Rattle.std.proofs.Common.{ℕ, List, set, sym, subst, ap, ◌∙◌}
 use mathlib.Core.Path.{ap₂}
-use Rattle.rewriter.specs.Rewritten.{places_in, masks_in}
+use Rattle.rewriter.specs.Rewritten.{masks_in}
 use Rattle.guards.specs.Counted.{Short, length_from}
 use Rattle.guards.proofs.Parts.{mask-put}
 use Rattle.guards.proofs.enter.Goals as goal

@@ -2,18 +2,16 @@
 use mathlib.Core.Path.{◌≡◌, refl, sym, ap, ◌∙◌}
 use mathlib.Core.Bool.{Bool, true, false, ◌&&◌, ◌||◌}
 use mathlib.Core.List.{List, [], ◌∷◌, ◌++◌}
-use Prim.Native.Nat.{ℕ, ◌+◌, ◌*◌, ◌%◌, ◌^◌, ◌<◌, ◌≤◌}
+use Prim.Native.Nat.{ℕ, ◌*◌, ◌%◌, ◌^◌, ◌<◌, ◌≤◌}
 use native.Mathlib.Nat.{zero-div}
 use native.Mathlib.Omega.{arith}
 use lib.Dec.{eqb}
 use lib.Bits.{bit_or}
-use lib.ListN.{length, get_or, drop}
 use borrow.Author.Tests.{eq-eqb, ne_eqb}
 use Rattle.model.specs.Lists.{any}
 use Rattle.model.specs.Syntax.{Use}
 use Rattle.model.specs.Permits.{bit}
 use Rattle.model.proofs.Tests.{or-false, any_append}
-use Rattle.kinds.specs.Tables.{record_length}
 use Rattle.kinds.specs.Record.{record_at}
 use Rattle.scans.specs.Flat.{parts_of, use_of, flat_uses, used_in}
 use Rattle.scans.proofs.Walk.{flat-on, flat-over}

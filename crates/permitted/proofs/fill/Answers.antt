@@ -19,7 +19,8 @@ fill_one-next-requires c = let walks = c.args.walks.now in
       rows = most-low _ (length walks) a.0.1 c.requires.3.1;
       mask = c.requires.5 _;
       room = record { list = omega (arith, a.1.0, a.0.1); table = omega (arith, c.loop-b.invariant.0, c.requires.3.1) };
-      keyed = a.1.1 }
+      keyed = a.1.1;
+    }
 
 pub loop-b-preserved : goal.loop-b-preserved
 loop-b-preserved c =

@@ -1,4 +1,4 @@
-use Rattle.std.proofs.Common.{length, arith}
+use Rattle.std.proofs.Common.{length}
 use Rattle.permits.proofs.Walk.{span-on, span-found, span-within, span-end}
 use Rattle.guards.proofs.applying.span.Goals as goal
 

@@ -1,10 +1,3 @@
-use Rattle.std.proofs.Common.{◌≡◌, [], ◌∷◌, refl}
-use denote.Enum.Declared.{tag_of, declared}
-use types.Run.{OneOf, miss}
-use Rattle.kinds.specs.declared.TermRecord.{TermRecord}
-use Rattle.kinds.specs.declared.TermRecord.TheVariants as T
-use Rattle.kinds.specs.contracts.TermRecord.{enum}
-use Rattle.scans.specs.Flat.{term_use}
 use Rattle.model.proofs.Tests.{not_yes}
 use Rattle.scans.proofs.Silent.{uses-nothing}
 use Rattle.guards.proofs.uses.usage.Goals as goal
