@@ -5,7 +5,7 @@
 mod applying;
 mod uses;
 
-ghost use Rattle.std.specs.Prelude.{◌≡◌, not, ◌&&◌, ◌||◌, ◌+◌, ◌*◌, ◌^◌, ◌≤◌, ◌<◌, eqb, length, get_or, set, take};
+ghost use Rattle.std.specs.Prelude.{◌≡◌, not, ◌||◌, ◌+◌, ◌*◌, ◌^◌, ◌≤◌, ◌<◌, eqb, length, get_or, set, take};
 ghost use Rattle.model.specs.Permits.{bit};
 ghost use Rattle.catalogue.specs.Layout.{stored_of};
 ghost use Rattle.scans.specs.Flat.{is_binding, flat_bindings};

@@ -1,7 +1,7 @@
 // A variable's guard: the conditions of the permits that apply, each copied with its variables renamed.
 ghost use Rattle.std.specs.Prelude.{◌≡◌, [], ◌∷◌, ℕ, ◌+◌, ◌/◌, ◌≤◌, ◌<◌, length, drop, take, get_or};
 ghost use Rattle.std.proofs.lemmas.List.Edits.{sets};
-ghost use Rattle.model.specs.Lists.{index_of, contains};
+ghost use Rattle.model.specs.Lists.{index_of};
 ghost use Rattle.model.specs.Syntax.{variables};
 ghost use Rattle.kinds.specs.Record.{record_at};
 ghost use Rattle.scans.specs.Flat.{flat_bindings};

@@ -2,12 +2,11 @@
 // so that a walk from record to record meets them all, at any depth, with no recursion.
 #![tactic(auto)]
 
-ghost use Rattle.std.specs.Prelude.{◌≡◌, true, false, ◌&&◌, List, ◌∷◌, ℕ, ◌≤◌, length, drop, get_or};
+ghost use Rattle.std.specs.Prelude.{◌≡◌, true, false, ◌&&◌, List, ◌∷◌, ℕ, ◌≤◌, length};
 ghost use Rattle.std.specs.Iterator.{YieldsFirstRef, YieldsFirstBy, item_count};
 ghost use Rattle.model.specs.Lists.{unique, cons_if};
 ghost use Rattle.model.specs.Syntax.{variables};
 ghost use Rattle.kinds.specs.Record.{record_at};
-ghost use Rattle.kinds.specs.Tables.{record_length};
 ghost use Rattle.scans.specs.Flat.{left_of, binding_of, flat_bindings, bindings_left, is_binding, bindings_of, bound_by, fresh};
 
 use kinds::Record;
