@@ -3,10 +3,10 @@
 
 ghost use Rattle.std.specs.Prelude.{◌≡◌, ◌≤◌, set};
 ghost use Rattle.walks.specs.Walks.{Fits};
-ghost use Rattle.scans.specs.Flat.{bound_by, flat_bindings};
+ghost use Rattle.scans.specs.Flat.{flat_bindings};
 ghost use Rattle.allrows.specs.Filled.{written, whole_of, filled_by};
 
-use scans::Bound;
+use scans::BoundVariables;
 use walks::Walk;
 
 // A cell of the table; past its end nothing. By index: what is written through get_mut is not known afterwards.
@@ -47,22 +47,12 @@ pub fn whole(catalogue: &[u8], relation: u8) -> Walk
     }
 }
 
-fn fill_one(catalogue: &[u8], b: Bound, walks: &mut [u16])
-    ensures { walks.new ≡ filled_by catalogue.now (bound_by b) walks.old }
-{
-    let Bound::To(variable, relation) = b else {
-        return;
-    };
-    put(walks, variable, whole(catalogue, relation));
-}
-
 // The walks of all variables that the bytes bind.
+#[tactic(auto, unfolding(crate::specs::Filled::filled_by))]
 pub fn fill(query: &[u8], catalogue: &[u8], walks: &mut [u16])
     ensures { walks.new ≡ filled_by catalogue.now (flat_bindings query.now) walks.old }
 {
-    let mut at = 0;
-    while at < query.len() {
-        fill_one(catalogue, scans::binding(query, at), walks);
-        at += scans::step(query, at);
+    for b in BoundVariables::of(query) {
+        put(walks, b.variable, whole(catalogue, b.relation));
     }
 }

@@ -6,7 +6,7 @@ ghost use Rattle.model.specs.Encoding.{query_of};
 ghost use Rattle.model.specs.Meaning.{answers};
 ghost use Rattle.model.specs.Calls.{give, ask};
 ghost use Rattle.model.specs.Lists.{all};
-ghost use Rattle.scans.specs.Flat.{bound_by, flat_bindings};
+ghost use Rattle.scans.specs.Flat.{flat_bindings};
 ghost use Rattle.plain.specs.Reply.{answer_of, Answerable};
 ghost use Rattle.permitted.specs.Given.{tiny, Bytes};
 ghost use Rattle.rewriter.specs.Rewritten.{places_in, masks_in};
@@ -15,6 +15,7 @@ ghost use Rattle.guarded.specs.Outcome.{result_of, given_rows, Bound, Checks32};
 use grammar::Layout;
 use model::Refusal;
 use queries::Limits;
+use scans::BoundVariables;
 
 const LEVELS: usize = model::ASKED_LEVELS;
 
@@ -79,28 +80,11 @@ fn answer_few(
     plain::answer_query(query, z, layout, LEVELS, &walks, values, answer)
 }
 
-fn fits(catalogue: &[u8], b: scans::Bound) -> bool
-    ensures { result ≡ all (tiny catalogue.now) (bound_by b) }
-{
-    let scans::Bound::To(_, relation) = b else {
-        return true;
-    };
-    let known = catalogue::entry(catalogue, relation);
-    known.rows <= 16
-}
-
 // Whether each bound relation has at most 16 rows.
 fn few(query: &[u8], catalogue: &[u8]) -> bool
     ensures { result ≡ all (tiny catalogue.now) (flat_bindings query.now) }
 {
-    let mut at = 0;
-    while at < query.len() {
-        if !fits(catalogue, scans::binding(query, at)) {
-            return false;
-        }
-        at += scans::step(query, at);
-    }
-    true
+    BoundVariables::of(query).all(|b| catalogue::entry(catalogue, b.relation).rows <= 16)
 }
 
 fn answer_permitted(

@@ -1,9 +1,9 @@
 -- One step of each function as an equation over plain variables.
 use mathlib.Core.Path.{◌≡◌, refl, sym, ap, ap₂, subst, ◌∙◌}
-use mathlib.Core.Bool.{Bool, true, false, not, cond, ◌&&◌, ◌||◌}
-use mathlib.Core.List.{List, [], ◌∷◌, ◌++◌}
+use mathlib.Core.Bool.{Bool, true, false, not, cond, ◌||◌}
+use mathlib.Core.List.{List, [], ◌∷◌}
 use Prim.Native.Nat.{ℕ, zero, suc, ◌+◌, ◌*◌, ◌-◌, ◌/◌, ◌%◌, ◌^◌, ◌≤◌, ◌<◌}
-use native.Mathlib.Nat.{pow-suc, add-zero}
+use native.Mathlib.Nat.{pow-suc}
 use native.Mathlib.Omega.{arith}
 use native.Mathlib.Numerals.{add-one, sub-one}
 use lib.Dec.{eqb}
@@ -12,25 +12,16 @@ use borrow.Author.Tests.{lt-ltb, le-ltb, eq-eqb, ne_eqb, not-true, not-false}
 use Rattle.permits.specs.Entries.{Entry, size_of, entry_at, entries}
 use Rattle.permits.proofs.Walk.{entries-cons, entries_none}
 use Rattle.copier.specs.Guard.{bits_of}
-use Rattle.model.specs.Lists.{any, all, total}
-use Rattle.model.specs.Syntax.{Binding}
+use Rattle.model.specs.Lists.{any}
 use Rattle.model.specs.Permits.{bit}
-use Rattle.model.proofs.Tests.{or_right, or-false, and-true}
-use Rattle.model.proofs.Lists.{total-append}
-use Rattle.kinds.specs.Record.{record_at}
-use Rattle.kinds.specs.Tables.{record_length}
+use Rattle.model.proofs.Tests.{or_right, or-false}
 use Rattle.catalogue.specs.Layout.{stored_of}
-use Rattle.scans.specs.Flat.{binding_of, bound_by, flat_bindings, flat_uses, used_in}
-use Rattle.scans.specs.declared.Bound.{Bound}
-use Rattle.scans.specs.declared.Bound.TheVariants.{To, Nothing}
-use Rattle.scans.proofs.Walk.{flat-end}
-use Rattle.scans.proofs.Loops.{bindings-on}
-use Rattle.scans.proofs.Lists.{all_join}
+use Rattle.scans.specs.Flat.{flat_uses, used_in}
 use Rattle.permits.specs.Applying.{applies_to, bars_from, used_bytes}
 use Rattle.guards.proofs.applying.Finds.{applies-same, bars-same}
-use Rattle.guards.specs.Filled.{placed_from, verdict_of, mask_unless_barred, mask_for, masked, bit_of}
+use Rattle.guards.specs.Filled.{placed_from, verdict_of, mask_unless_barred, mask_for, bit_of}
 use Rattle.guards.specs.declared.Verdict.{Verdict}
-use Rattle.guards.specs.Counted.{served_by, turn_length, length_from, length_by, tally_of, tally_all, passed_if, check33}
+use Rattle.guards.specs.Counted.{turn_length, length_from, tally_all, passed_if, check33}
 use Rattle.guards.specs.declared.Tally.{Tally}
 use Rattle.std.specs.Prelude.{Ok, Err}
 use Rattle.model.specs.declared.refusal.Refusal.TheVariants.{NoPermit}
@@ -130,30 +121,6 @@ module _ (q list cb : List ℕ) (v r : ℕ) (s : Bool) (es : s ≡ stored_of cb 
     pub mask_is : x.barred ≡ false → x.mask ≡ mask_for q list cb (record { variable = v; relation = r })
     mask_is e = sym (mask-of ∙ ap (λ (y : Bool). cond y 0 x.mask) e)
 
-module _ (q list cb : List ℕ) where
-  pub masked-none : (b : Bound) (m : List ℕ) → b ≡ Nothing → m ≡ masked q list cb (bound_by b) m
-  unfolding masked
-  masked-none b m e = rw e
-
-  pub masked-one : (b : Bound) (m : List ℕ) (v r : ℕ) → b ≡ To v r → (x : ℕ) (w : List ℕ) → x ≡ mask_for q list cb (record { variable = v; relation = r }) → w ≡ set m v x → w ≡ masked q list cb (bound_by b) m
-  unfolding masked
-  masked-one b m v r eb x w ex ew = ew ∙ rw (eb, ex)
-
-  pub masked-append : (xs ys : List Binding) (m : List ℕ) → masked q list cb (xs ++ ys) m ≡ masked q list cb ys (masked q list cb xs m)
-  unfolding masked
-  masked-append [] ys m = refl
-  masked-append (x ∷ xs) ys m = masked-append xs ys (set m x.variable (mask_for q list cb x))
-
-  pub masked_on : (at n : ℕ) → at < length q → n ≡ record_length (get_or q at 0) → (b : Bound) → bound_by b ≡ binding_of (record_at (drop at q)) → (m k w : List ℕ) → k ≡ masked q list cb (bound_by b) m
-      → masked q list cb (flat_bindings (drop at q)) m ≡ w → masked q list cb (flat_bindings (drop (at + n) q)) k ≡ w
-  masked_on at n h en b eb m k w ek e =
-      ap (masked q list cb (flat_bindings (drop (at + n) q))) ek ∙ sym (masked-append (bound_by b) (flat_bindings (drop (at + n) q)) m)
-      ∙ sym (ap (λ (bs : List Binding). masked q list cb bs m) (bindings-on q at n h en b eb)) ∙ e
-
-  pub masked-end : (at : ℕ) → length q ≤ at → (m w : List ℕ) → masked q list cb (flat_bindings (drop at q)) m ≡ w → m ≡ w
-  unfolding masked
-  masked-end at h m w e = sym (ap (λ (bs : List Binding). masked q list cb bs m) (flat-end binding_of q at h)) ∙ e
-
 -- 33 of a variable with a mask
 module _ (s : Bool) (m : ℕ) where
   pub served-some : (m ≡ 0 → ⊥) → true ≡ (not s || not (eqb m 0))
@@ -189,50 +156,8 @@ module _ (places : List ℕ) (m k : ℕ) where
         let s : length_from places (8 - k) m k ≡ 0 = ap (λ (x : ℕ). length_from places x m k) l in
         omega (arith, e, s)
 
--- what a record binds, entered
-module _ (q list cb places : List ℕ) (b : Bound) where
-  pub tally-none : b ≡ Nothing → record { served = true; length = 0 } ≡ tally_of q list cb places (bound_by b)
-  unfolding all total
-  tally-none e = rw e
-
-  pub tally-one : (v r : ℕ) → b ≡ To v r → (m : ℕ) → m ≡ mask_for q list cb (record { variable = v; relation = r }) → (d : Bool) → d ≡ (not (stored_of cb r) || not (eqb m 0)) → (n : ℕ) → n ≡ length_from places 8 m 0
-      → record { served = d; length = n } ≡ tally_of q list cb places (bound_by b)
-  unfolding all total served_by
-  tally-one v r e m em d ed n en =
-      let x = mask_for q list cb (record { variable = v; relation = r }) in
-      ap₂ (λ (y : Bool) (k : ℕ). record { served = y; length = k })
-      (ed ∙ ap (λ (k : ℕ). not (stored_of cb r) || not (eqb k 0)) em ∙ sym (and-true (not (stored_of cb r) || not (eqb x 0))))
-      (en ∙ ap (λ (k : ℕ). length_from places 8 k 0) em ∙ sym (add-zero (length_from places 8 x 0)))
-      ∙ sym (ap (λ (y : Bound). tally_of q list cb places (bound_by y)) e)
-
--- what was entered before, with what is left
-abbrev pub joined : Bool → ℕ → Tally → Tally
-joined p m t = record { served = p && t.served; length = m + t.length }
-
-and_assoc : (a b c : Bool) → (a && b) && c ≡ a && (b && c)
-and_assoc true b c = refl
-and_assoc false b c = refl
-
+-- the outcome
 module _ (q list cb places : List ℕ) where
-  pub tally-on : (at n : ℕ) → at < length q → n ≡ record_length (get_or q at 0) → (b : Bound) → bound_by b ≡ binding_of (record_at (drop at q)) → (p : Bool) (m : ℕ) (w t : Tally) → t ≡ tally_of q list cb places (bound_by b) → (s : Bool) → s ≡ (p && t.served)
-      → joined p m (tally_of q list cb places (flat_bindings (drop at q))) ≡ w → joined s (m + t.length) (tally_of q list cb places (flat_bindings (drop (at + n) q))) ≡ w
-  tally-on at n h en b eb p m w t et s es e =
-      let f = served_by q list cb in
-      let g = length_by q list cb places in
-      let rest = flat_bindings (drop (at + n) q) in
-      let on = bindings-on q at n h en b eb in
-      ap₂ (λ (y : Bool) (k : ℕ). record { served = y; length = k })
-      (ap (λ (y : Bool). y && all f rest) (es ∙ ap (λ (y : Tally). p && y.served) et) ∙ and_assoc p (all f (bound_by b)) (all f rest) ∙ ap (λ (y : Bool). p && y) (sym (ap (all f) on ∙ all_join f (bound_by b) rest)))
-      (omega (arith, ap (λ (y : Tally). y.length) et, ap (total g) on, total-append g (bound_by b) rest))
-      ∙ e
-
-  pub tally-end : (at : ℕ) → length q ≤ at → (p : Bool) (m : ℕ) (w : Tally) → joined p m (tally_of q list cb places (flat_bindings (drop at q))) ≡ w → record { served = p; length = m } ≡ w
-  unfolding all total
-  tally-end at h p m w e =
-      ap₂ (λ (y : Bool) (k : ℕ). record { served = y; length = k }) (sym (and-true p)) (sym (add-zero m))
-      ∙ sym (ap (λ (bs : List Binding). joined p m (tally_of q list cb places bs)) (flat-end binding_of q at h)) ∙ e
-
-  -- the outcome
   module _ (t : Tally) (et : t ≡ tally_all q list cb places) where
     outcome-of : check33 q list cb places ≡ passed_if t.served t.length
     outcome-of = sym (ap (λ (y : Tally). passed_if y.served y.length) et)

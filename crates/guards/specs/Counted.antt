@@ -29,10 +29,6 @@ length_by qb pb cb places b = length_from places 8 (mask_for qb pb cb b) 0
 unfoldable pub rewritten_length : List ℕ → List ℕ → List ℕ → List ℕ → ℕ
 rewritten_length qb pb cb places = length qb + total (length_by qb pb cb places) (flat_bindings qb)
 
--- both, of bound variables
-abbrev pub tally_of : List ℕ → List ℕ → List ℕ → List ℕ → List Binding → Tally
-tally_of qb pb cb places bs = record { served = all (served_by qb pb cb) bs; length = total (length_by qb pb cb places) bs }
-
 abbrev pub passed_if : Bool → ℕ → Result ℕ Refusal
 passed_if true n = Ok n
 passed_if false n = Err NoPermit

@@ -1,9 +1,8 @@
 -- What the code finds in one record of the uses of variables.
-use Rattle.std.specs.Prelude.{List, [], ◌∷◌}
+use Rattle.std.specs.Prelude.{List, [], ◌∷◌, Option, None, Some}
 use Rattle.model.specs.Syntax.{Use}
 use Rattle.guards.specs.declared.uses.Used.{Used}
-use Rattle.guards.specs.declared.uses.Used.TheVariants as U
 
-abbrev pub used_by : Used → List Use
-used_by (U.Of v a) = record { variable = v; attribute = a } ∷ []
-used_by U.Nothing = []
+abbrev pub used_by : Option Used → List Use
+used_by None = []
+used_by (Some u) = record { variable = u.variable; attribute = u.attribute } ∷ []

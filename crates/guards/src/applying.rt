@@ -5,6 +5,7 @@ ghost use Rattle.permits.specs.Entries.{span_of, size_of, entry_at};
 ghost use Rattle.permits.specs.Applying as App;
 
 use kinds::PermitRecord;
+use scans::Records;
 
 // How many bytes come before the next permit.
 fn span(q: &[u8]) -> usize
@@ -12,11 +13,12 @@ fn span(q: &[u8]) -> usize
     ensures upper_bound { result ≤ length q.now + 4 }
 {
     let mut at = 0;
-    while at < q.len() {
-        if kinds::byte(q, at) == 64 {
+    for record in Records::of(q) {
+        let kind = kinds::byte(record, 0);
+        if kind == 64 {
             return at;
         }
-        at += scans::step(q, at);
+        at += kinds::record_length(kind);
     }
     at
 }

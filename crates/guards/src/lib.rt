@@ -5,17 +5,17 @@
 mod applying;
 mod uses;
 
-ghost use Rattle.std.specs.Prelude.{◌≡◌, not, ◌&&◌, ◌||◌, ◌+◌, ◌*◌, ◌^◌, ◌≤◌, ◌<◌, eqb, length, get_or, set, take};
+ghost use Rattle.std.specs.Prelude.{◌≡◌, not, ◌||◌, ◌+◌, ◌*◌, ◌^◌, ◌≤◌, ◌<◌, eqb, length, get_or, set, take};
 ghost use Rattle.model.specs.Permits.{bit};
 ghost use Rattle.catalogue.specs.Layout.{stored_of};
-ghost use Rattle.scans.specs.Flat.{bound_by, flat_bindings};
+ghost use Rattle.scans.specs.Flat.{is_binding, flat_bindings};
 ghost use Rattle.permits.specs.Entries.{entries};
 ghost use Rattle.rewriter.specs.Rewritten.{places_in, masks_in};
 ghost use Rattle.guards.specs.Filled.{placed_from, verdict_of, mask_for, masked, bit_of};
-ghost use Rattle.guards.specs.Counted.{Short, turn_length, length_from, tally_of, tally_all, check33};
+ghost use Rattle.guards.specs.Counted.{Short, turn_length, length_from, served_by, length_by, tally_all, check33};
 
 use model::Refusal;
-use scans::Bound;
+use scans::{BoundVariable, BoundVariables};
 
 const PERMITS: u8 = model::PERMITS as u8;
 
@@ -105,12 +105,6 @@ fn standing(permits: &[u8], left: u8, relation: u8, used: u16) -> Verdict
     }
 }
 
-fn wide(x: u8) -> usize
-    ensures { (result ≡ x) × (result < 256) }
-{
-    x as usize
-}
-
 // The mask of a variable over a relation; 0 over a workspace, and where the variable is barred: 33 is then due.
 fn mask_for(query: &[u8], permits: &[u8], catalogue: &[u8], variable: u8, relation: u8) -> u8
     ensures { result ≡ mask_for query.now permits.now catalogue.now (record { variable = variable; relation = relation }) }
@@ -161,12 +155,6 @@ fn guard_length(table: &[u16], mask: u8) -> usize
     n
 }
 
-fn both(a: bool, b: bool) -> bool
-    ensures { result ≡ (a && b) }
-{
-    if a { b } else { false }
-}
-
 // 33 of a variable with this mask: over a stored relation it has a permit.
 fn served(catalogue: &[u8], relation: u8, mask: u8) -> bool
     ensures { result ≡ (not (stored_of catalogue.now relation) || not (eqb mask 0)) }
@@ -178,48 +166,50 @@ fn served(catalogue: &[u8], relation: u8, mask: u8) -> bool
     !known.stored
 }
 
-// Enters what a record binds into the table.
-fn enter(query: &[u8], permits: &[u8], catalogue: &[u8], b: Bound, table: &mut [u16]) -> Tally
+// Enters a bound variable into the table.
+#[tactic(auto, unfolding(crate::specs::Counted::served_by))]
+fn enter(
+    query: &[u8],
+    permits: &[u8],
+    catalogue: &[u8],
+    b: BoundVariable,
+    table: &mut [u16],
+) -> Tally
     requires { Short (places_in table.old) }
-    ensures value { result ≡ tally_of query.now permits.now catalogue.now (places_in table.old) (bound_by b) }
+    ensures served { result.served ≡ served_by query.now permits.now catalogue.now (is_binding b) }
+    ensures length { result.length ≡ length_by query.now permits.now catalogue.now (places_in table.old) (is_binding b) }
     ensures length_bound { result.length ≤ 32776 }
-    ensures table_after { (masks_in table.new ≡ masked query.now permits.now catalogue.now (bound_by b)
-        (masks_in table.old)) × (places_in table.new ≡ places_in table.old) }
+    ensures table_after { (masks_in table.new ≡ set (masks_in table.old) b.variable (mask_for query.now permits.now
+        catalogue.now (is_binding b))) × (places_in table.new ≡ places_in table.old) }
 {
-    let Bound::To(variable, relation) = b else {
-        return Tally {
-            served: true,
-            length: 0,
-        };
-    };
-    let mask = mask_for(query, permits, catalogue, variable, relation);
-    put(table, rewriter::PLACES + wide(variable), wide(mask));
+    let mask = mask_for(query, permits, catalogue, b.variable, b.relation);
+    put(
+        table,
+        rewriter::PLACES + usize::from(b.variable),
+        usize::from(mask),
+    );
     Tally {
-        served: served(catalogue, relation, mask),
+        served: served(catalogue, b.relation, mask),
         length: guard_length(table, mask),
     }
 }
 
 // Enters all variables that the query binds; to the bytes of their guards the query's own are added.
+#[tactic(auto, unfolding(model::specs::Lists::all, model::specs::Lists::total, crate::specs::Filled::masked, crate::specs::Counted::rewritten_length))]
 fn enter_all(query: &[u8], permits: &[u8], catalogue: &[u8], table: &mut [u16]) -> Tally
     requires { (length query.now ≤ 1024) × Short (places_in table.old) }
     ensures value { result ≡ tally_all query.now permits.now catalogue.now (places_in table.old) }
     ensures table_after { (masks_in table.new ≡ masked query.now permits.now catalogue.now
         (flat_bindings query.now) (masks_in table.old)) × (places_in table.new ≡ places_in table.old) }
 {
-    let mut passed = true;
-    let mut n = query.len();
-    let mut at = 0;
-    while at < query.len() {
-        let t = enter(query, permits, catalogue, scans::binding(query, at), table);
-        passed = both(passed, t.served);
-        n += t.length;
-        at += scans::step(query, at);
+    let mut served = true;
+    let mut length = query.len();
+    for b in BoundVariables::of(query) {
+        let t = enter(query, permits, catalogue, b, table);
+        served &= t.served;
+        length += t.length;
     }
-    Tally {
-        served: passed,
-        length: n,
-    }
+    Tally { served, length }
 }
 
 // Fills the table: check 33, and where it passes how many bytes the rewritten query has. A variable without a permit does not end the walk: a refusal

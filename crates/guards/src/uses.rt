@@ -1,69 +1,67 @@
 // S of a variable, the attributes that a query uses of it, by a flat walk.
-ghost use Rattle.std.specs.Prelude.{◌≡◌, false, ◌||◌, ℕ, ◌<◌, drop};
+ghost use Rattle.std.specs.Prelude.{◌≡◌, false, ◌||◌, ℕ, ◌<◌};
 ghost use Rattle.model.specs.Permits.{bit};
 ghost use Rattle.kinds.specs.Record.{record_at};
 ghost use Rattle.scans.specs.Flat.{use_of, flat_uses, used_in};
 ghost use Rattle.guards.specs.Uses.{used_by};
 
 use kinds::TermRecord;
+use scans::Records;
 
+// An attribute of a variable that a record uses.
 #[derive(Clone, Copy)]
-enum Used {
-    // variable, attribute
-    Of(u8, u8),
-    Nothing,
+struct Used {
+    variable: u8,
+    attribute: u8,
 }
 
 // The kinds that use a variable: most records need not be read.
 fn may_use(kind: u8) -> bool
     ensures { result ≡ false → (kind ≡ 33 → ⊥) × (kind ≡ 34 → ⊥) }
 {
-    match kind {
-        33 => true,
-        34 => true,
-        _ => false,
-    }
+    matches!(kind, 33 | 34)
 }
 
-// What the record at a place uses.
-fn usage(q: &[u8], at: usize) -> Used
-    ensures { used_by result ≡ use_of (record_at (drop at q.now)) }
+// What a record uses.
+fn usage(bytes: &[u8]) -> Option<Used>
+    ensures { used_by result ≡ use_of (record_at bytes.now) }
 {
-    if !may_use(kinds::byte(q, at)) {
-        return Used::Nothing;
+    if !may_use(kinds::byte(bytes, 0)) {
+        return None;
     }
-    match kinds::term_record(kinds::tail(q, at)) {
-        TermRecord::Attribute(v, a) => Used::Of(v, a),
-        TermRecord::Aggregate(_, v, _, a) => Used::Of(v, a),
-        TermRecord::Constant(_, _, _, _) | TermRecord::Other => Used::Nothing,
+    match kinds::term_record(bytes) {
+        TermRecord::Attribute(variable, attribute)
+        | TermRecord::Aggregate(_, variable, _, attribute) => Some(Used {
+            variable,
+            attribute,
+        }),
+        TermRecord::Constant(_, _, _, _) | TermRecord::Other => None,
     }
 }
 
 // The mask with a use of the variable added.
-fn add(mask: u16, u: Used, variable: u8) -> u16
-    ensures { (a : ℕ) → a < 16 → bit result a ≡ (bit mask a || used_in (used_by u) variable a) }
+fn add(mask: u16, used: Option<Used>, variable: u8) -> u16
+    ensures { (a : ℕ) → a < 16 → bit result a ≡ (bit mask a || used_in (used_by used) variable a) }
 {
-    let Used::Of(v, a) = u else {
+    let Some(used) = used else {
         return mask;
     };
-    if v != variable {
+    if used.variable != variable {
         return mask;
     }
-    if 16 <= a {
+    if 16 <= used.attribute {
         return mask;
     }
-    mask | (1 << (a as u16))
+    mask | (1 << u16::from(used.attribute))
 }
 
 // S of a variable: bit a is set where attribute a is used of it.
 pub(crate) fn used_mask(q: &[u8], variable: u8) -> u16
     ensures { (a : ℕ) → a < 16 → bit result a ≡ used_in (flat_uses q.now) variable a }
 {
-    let mut mask: u16 = 0;
-    let mut at = 0;
-    while at < q.len() {
-        mask = add(mask, usage(q, at), variable);
-        at += scans::step(q, at);
+    let mut mask = 0;
+    for record in Records::of(q) {
+        mask = add(mask, usage(record), variable);
     }
     mask
 }

@@ -5,12 +5,12 @@ use mathlib.Core.List.{List, [], ◌∷◌}
 use Prim.Native.Nat.{ℕ, zero, suc, ◌+◌, ◌-◌, ◌<◌, ◌≤◌, max}
 use native.Mathlib.Omega.{arith}
 use lib.Dec.{eqb}
-use lib.ListN.{length, get_or, drop, length-drop, drop_of_length-le}
-use lib.Seq.{drop-drop}
+use lib.ListN.{length, get_or, drop, length-drop}
 use borrow.Author.Tests.{eq-eqb, ne_eqb}
-use Rattle.model.proofs.Lists.{first-at}
 use Rattle.kinds.specs.Tables.{record_length}
 use Rattle.kinds.proofs.Entries.{length-small}
+use Rattle.scans.specs.Flat.{parts_of}
+use Rattle.scans.proofs.Walk.{parts-on, parts-over}
 use Rattle.permits.specs.Entries.{span_after, span_of, Entry, size_of, entry_at, entries_after, entries}
 
 span-after : (n : ℕ) (q : List ℕ) → span_after n q ≡ n + span_of (drop n q)
@@ -40,25 +40,31 @@ unfolding span_after span_of
 span-permit [] l h = absurd (omega arith)
 span-permit (b ∷ q) l h = ap (λ (t : Bool). cond t 0 (suc (span_after (record_length b - 1) q))) h
 
--- one turn of the loop over the records of a condition
-module _ (q : List ℕ) (at b : ℕ) (h : at < length q) (eb : b ≡ get_or q at 0) where
-  left-some : 0 < length (drop at q)
-  left-some = simp length-drop (omega arith)
+-- one turn of the walk over the records of a condition, from s to t
+module _ (s t x : List ℕ) (b : ℕ) (h : parts_of s ≡ x ∷ parts_of t) (eb : b ≡ get_or x 0 0) (at w : ℕ) (e : at + span_of s ≡ w) where
+  first : b ≡ get_or s 0 0
+  first = eb ∙ ap (λ (y : List ℕ). get_or y 0 0) (parts-on s t x h).1
 
-  pub span-on : (n w : ℕ) → (b ≡ 64 → ⊥) → n ≡ record_length (get_or q at 0) → at + span_of (drop at q) ≡ w → at + n + span_of (drop (at + n) q) ≡ w
-  span-on n w ne en e =
-      let s : span_of (drop at q) ≡ record_length (get_or (drop at q) 0 0) + span_of (drop (record_length (get_or (drop at q) 0 0)) (drop at q)) = span_head (drop at q) left-some (ap (λ (x : ℕ). eqb x 64) (first-at at q ∙ sym eb) ∙ ne_eqb b 64 ne) in
-      let d : span_of (drop (record_length (get_or (drop at q) 0 0)) (drop at q)) ≡ span_of (drop (at + n) q) = ap span_of (drop-drop (record_length (get_or (drop at q) 0 0)) at q ∙ ap (λ (m : ℕ). drop (at + m) q) (ap record_length (first-at at q) ∙ sym en)) in
-      omega (arith, s, d, ap record_length (first-at at q), en, e)
+  pub span-on : (n : ℕ) → (b ≡ 64 → ⊥) → n ≡ record_length b → at + n + span_of t ≡ w
+  span-on n ne en =
+      let p = parts-on s t x h in
+      let k : span_of s ≡ record_length (get_or s 0 0) + span_of (drop (record_length (get_or s 0 0)) s) = span_head s p.0 (ap (λ (y : ℕ). eqb y 64) (sym first) ∙ ne_eqb b 64 ne) in
+      omega (arith, k, ap span_of p.2, en, ap record_length first, e)
 
-  pub span-found : (w : ℕ) → b ≡ 64 → at + span_of (drop at q) ≡ w → at ≡ w
-  span-found w eq e = omega (arith, span-permit (drop at q) left-some (ap (λ (x : ℕ). eqb x 64) (first-at at q ∙ sym eb) ∙ eq-eqb b 64 eq), e)
+  pub span-found : b ≡ 64 → at ≡ w
+  span-found eq = omega (arith, span-permit s (parts-on s t x h).0 (ap (λ (y : ℕ). eqb y 64) (sym first) ∙ eq-eqb b 64 eq), e)
 
-pub span-end : (q : List ℕ) (at w : ℕ) → length q ≤ at → at + span_of (drop at q) ≡ w → at ≡ w
+  -- a record that ends past the bytes is the last one
+  pub span-within : (n l : ℕ) → n ≡ record_length b → n ≤ 5 → (0 < length s → at + length s ≡ l) → (at + n ≤ l + 4) × (0 < length t → at + n + length t ≡ l)
+  span-within n l en k m =
+      let p = parts-on s t x h in
+      let f = m p.0 in
+      (omega (arith, p.0), λ q. omega (arith, q, ap length p.2, length-drop (record_length (get_or s 0 0)) s, en, ap record_length first))
+
+pub span-end : (s : List ℕ) (at w : ℕ) → parts_of s ≡ [] → at + span_of s ≡ w → at ≡ w
 unfolding span_after span_of
-span-end q at w h e =
-    let s : span_of (drop at q) ≡ 0 = ap span_of (drop_of_length-le q h) in
-    omega (arith, s, e)
+span-end [] at w h e = omega arith
+span-end (b ∷ s) at w h e = absurd (omega (arith, parts-over (b ∷ s) h))
 
 after_is : (n : ℕ) (x : List ℕ) → entries_after n x ≡ entries (drop n x)
 unfolding entries_after entries

@@ -9,7 +9,7 @@ ghost use Rattle.model.specs.Catalogue.{catalogue_of, shape_of};
 ghost use Rattle.model.specs.Checks.{fails10, fails20, permit_checks, refusal};
 ghost use Rattle.model.specs.Refusals.{number_of, code_of};
 ghost use Rattle.catalogue.specs.Layout.{count_of, stored_of, attributes_of};
-ghost use Rattle.scans.specs.Flat.{flat_bindings, stored_in, bound_by};
+ghost use Rattle.scans.specs.Flat.{flat_bindings, stored_in};
 ghost use Rattle.conditions.specs.Reach.{shape_in, permit_scope};
 ghost use Rattle.conditions.specs.Answers.{condition_reading};
 ghost use Rattle.permits.specs.Masks as Lim;
@@ -19,7 +19,7 @@ use conditions::Reading;
 use grammar::Input;
 use kinds::PermitRecord;
 use model::Refusal;
-use scans::Bound;
+use scans::BoundVariables;
 
 const BYTES: usize = model::PERMIT_BYTES;
 
@@ -84,28 +84,11 @@ fn named(catalogue: &[u8], relation: u8, mask: u16) -> bool
     known.listed && mask_in(mask, known.attributes)
 }
 
-fn over_stored(b: Bound, catalogue: &[u8]) -> bool
-    ensures { result ≡ all (stored_in catalogue.now) (bound_by b) }
-{
-    let Bound::To(_, r) = b else {
-        return true;
-    };
-    let known = catalogue::entry(catalogue, r);
-    known.stored
-}
-
 // Whether all variables are bound to stored relations.
 fn all_stored(q: &[u8], catalogue: &[u8]) -> bool
     ensures { result ≡ all (stored_in catalogue.now) (flat_bindings q.now) }
 {
-    let mut at = 0;
-    while at < q.len() {
-        if !over_stored(scans::binding(q, at), catalogue) {
-            return false;
-        }
-        at += scans::step(q, at);
-    }
-    true
+    BoundVariables::of(q).all(|b| catalogue::entry(catalogue, b.relation).stored)
 }
 
 // Whether a relation, and those that a condition binds, are stored; so many are bound.

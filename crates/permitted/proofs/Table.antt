@@ -1,31 +1,28 @@
 -- The table: a step gives one variable its rows, and what the others have stays theirs.
 use mathlib.Core.Path.{◌≡◌, refl, sym, ap, ap₂, ◌∙◌, subst, fun_ext}
-use mathlib.Core.Bool.{Bool, true, false, not, cond, ◌&&◌}
+use mathlib.Core.Bool.{Bool, true, false, not, cond}
 use mathlib.Core.List.{List, [], ◌∷◌, ◌++◌, map, map-map, map-append}
 use Prim.Native.Nat.{ℕ, zero, suc, ◌+◌, ◌-◌, ◌*◌, ◌/◌, ◌≤◌, ◌<◌}
 use native.Mathlib.Nat.{mul-le-mul, le_refl}
 use native.Mathlib.Omega.{arith}
-use lib.Dec.{eqb, leb}
+use lib.Dec.{eqb}
 use lib.IntN.{ℤ}
 use lib.ListN.{length, get_or, replicate, length-replicate, length-set}
 use lib.Seq.{get_or-set_same, get_or-set_other}
 use borrow.Author.Tests.{eqb-true, eqb-false, eq-eqb, ne_eqb}
-use Rattle.model.specs.Lists.{all, contains, any, filter, below, unique, Every}
+use Rattle.model.specs.Lists.{contains, any, filter, below, unique, Every}
 use Rattle.model.specs.Syntax.{Binding, variables}
 use Rattle.model.specs.Meaning.{Tuple}
-use Rattle.model.proofs.Tests.{and-inv, or_no, not_yes, clash}
+use Rattle.model.proofs.Tests.{and-inv, or_no, not_yes}
 use Rattle.model.proofs.Lists.{every_map, every-both, every_append, every-join, filter_map, get_or-same}
 use Rattle.catalogue.specs.Layout.{tuple_at, tuples_in, attributes_of, rows_of, latest_of, base_of}
-use Rattle.scans.specs.Flat.{bound_by}
-use Rattle.scans.specs.declared.Bound.{Bound}
-use Rattle.scans.specs.declared.Bound.TheVariants.{To, Nothing}
 use Rattle.walks.specs.declared.Walk.{Walk}
 use Rattle.walks.specs.Walks.{walk_of, place_at, places, walked}
 use Rattle.allrows.specs.Filled.{written, whole_of}
 use Rattle.allrows.proofs.Table.{written-length, written-outside, written-other, written-here}
 use Rattle.allrows.proofs.All.{walked_whole}
 use Rattle.permitted.specs.Meets.{row_of}
-use Rattle.permitted.specs.Given.{meets_any, rows_for, number_at, numbers_for, Listed, key_of, entered, Has, Keyed, Given, Low, Stepped, tiny}
+use Rattle.permitted.specs.Given.{meets_any, rows_for, number_at, numbers_for, Listed, key_of, entered, Has, Keyed, Given, Low, Stepped}
 
 -- walks that lead to the same rows
 places_same : (P Q : ℕ → ℕ) (k n : ℕ) → ((j : ℕ) → j < k + n → P j ≡ Q j) → places P k n ≡ places Q k n
@@ -234,17 +231,10 @@ module _ (cb : List ℕ) (vs : List ℤ) (f : ℕ → List ℕ) (masks : List �
   snoc [] es b = refl
   snoc (d ∷ ds) es b = ap (λ (l : List Binding). d ∷ l) (snoc ds es b)
 
-  pub filling-none : (left rest : List Binding) (b : Bound) (next next' : ℕ) (ws ws' : List ℕ) → b ≡ Nothing → left ≡ bound_by b ++ rest → next' ≡ next → ws' ≡ ws → Filling left next ws → Filling rest next' ws'
-  filling-none left rest b next next' ws ws' eb el en ew h =
-      let e : left ≡ rest = el ∙ ap (λ (x : Bound). bound_by x ++ rest) eb in
-      subst (λ (k : ℕ). Filling rest k ws') (sym en) (subst (λ (u : List ℕ). Filling rest next u) (sym ew) (subst (λ (l : List Binding). Filling l next ws) e h))
-
   -- what a step may ask of a bound variable
-  pub asked : (left rest : List Binding) (b : Bound) (v r next : ℕ) (ws : List ℕ) → Every (Low cb most) bs → b ≡ To v r → left ≡ bound_by b ++ rest → Filling left next ws → ((v < 8) × (rows_of cb r ≤ most)) × ((next + most ≤ length ws) × Keyed cb vs f ws next)
+  pub asked : (left rest : List Binding) (c : Binding) (next : ℕ) (ws : List ℕ) → Every (Low cb most) bs → left ≡ c ∷ rest → Filling left next ws → ((c.variable < 8) × (rows_of cb c.relation ≤ most)) × ((next + most ≤ length ws) × Keyed cb vs f ws next)
   unfolding Every
-  asked left rest b v r next ws lows eb el h =
-      let c : Binding = record { variable = v; relation = r } in
-      let e : left ≡ c ∷ rest = el ∙ ap (λ (x : Bound). bound_by x ++ rest) eb in
+  asked left rest c next ws lows e h =
       let l = (every_append (Low cb most) h.done left (subst (Every (Low cb most)) (sym h.split) lows)).1 in
       let i = (subst (Every (Low cb most)) e l).0 in
       let n : length left ≡ suc (length rest) = ap length e in
@@ -254,35 +244,28 @@ module _ (cb : List ℕ) (vs : List ℤ) (f : ℕ → List ℕ) (masks : List �
       times : (a n : ℕ) → a * suc n ≡ a * n + a
       times a n = omega arith
 
-  pub filling-on : (left rest : List Binding) (b : Bound) (v r next next' : ℕ) (ws ws' : List ℕ) → unique (variables bs) ≡ true → Every (Low cb most) bs → b ≡ To v r → left ≡ bound_by b ++ rest → Filling left next ws
-      → Stepped cb vs f v (rows_for cb vs f (get_or masks v 0) r) (rows_of cb r) next next' ws ws' → Filling rest next' ws'
+  -- one bound variable of the query
+  pub filling-on : (left rest : List Binding) (c : Binding) (next next' : ℕ) (ws ws' : List ℕ) → unique (variables bs) ≡ true → Every (Low cb most) bs → left ≡ c ∷ rest → Filling left next ws
+      → Stepped cb vs f c.variable (rows_for cb vs f (get_or masks c.variable 0) c.relation) (rows_of cb c.relation) next next' ws ws' → Filling rest next' ws'
   unfolding Every
-  filling-on left rest b v r next next' ws ws' once lows eb el h s =
-      let c : Binding = record { variable = v; relation = r } in
+  filling-on left rest c next next' ws ws' once lows e h s =
       let ds = h.done in
-      let e : left ≡ c ∷ rest = el ∙ ap (λ (x : Bound). bound_by x ++ rest) eb in
       let whole : ds ++ (c ∷ rest) ≡ bs = ap (λ (l : List Binding). ds ++ l) (sym e) ∙ h.split in
-      let a = asked left rest b v r next ws lows eb el h in
+      let a = asked left rest c next ws lows e h in
       let d = apart ds rest c (subst (λ (l : List Binding). unique (variables l) ≡ true) (sym whole) once) in
       let l = (every_append (Low cb most) ds (c ∷ rest) (subst (Every (Low cb most)) (sym whole) lows)).0 in
-      let all = every-both (Given cb vs f masks ws next) (λ (x : Binding). (x.variable ≡ v → ⊥) × Low cb most x) ds h.given (every-both (λ (x : Binding). x.variable ≡ v → ⊥) (Low cb most) ds d l) in
+      let all = every-both (Given cb vs f masks ws next) (λ (x : Binding). (x.variable ≡ c.variable → ⊥) × Low cb most x) ds h.given (every-both (λ (x : Binding). x.variable ≡ c.variable → ⊥) (Low cb most) ds d l) in
       let n : most * length left ≡ most * length rest + most = ap (λ k. most * k) (ap length e) ∙ times most (length rest) in
       record {
         done = ds ++ (c ∷ []);
         split = snoc ds rest c ∙ whole;
-        given = every-join (Given cb vs f masks ws' next') ds (c ∷ []) (every_map (λ (x : Binding). Given cb vs f masks ws next x × ((x.variable ≡ v → ⊥) × Low cb most x)) (Given cb vs f masks ws' next') (λ x g. s.kept x.variable _ g.1.1.variable g.1.0 g.0) ds all) (s.given, tt);
+        given = every-join (Given cb vs f masks ws' next') ds (c ∷ []) (every_map (λ (x : Binding). Given cb vs f masks ws next x × ((x.variable ≡ c.variable → ⊥) × Low cb most x)) (Given cb vs f masks ws' next') (λ x g. s.kept x.variable _ g.1.1.variable g.1.0 g.0) ds all) (s.given, tt);
         keyed = s.keyed;
         room = omega (arith, h.room, n, s.high, a.0.1, s.size);
       }
     where
       times : (a n : ℕ) → a * suc n ≡ a * n + a
       times a n = omega arith
-
-  -- one record of the query
-  pub filling_step : (left rest : List Binding) (b : Bound) (next next' : ℕ) (ws ws' : List ℕ) → unique (variables bs) ≡ true → Every (Low cb most) bs → left ≡ bound_by b ++ rest → (b ≡ Nothing → (next' ≡ next) × (ws' ≡ ws))
-      → ((v r : ℕ) → b ≡ To v r → Stepped cb vs f v (rows_for cb vs f (get_or masks v 0) r) (rows_of cb r) next next' ws ws') → Filling left next ws → Filling rest next' ws'
-  filling_step left rest Nothing next next' ws ws' once lows el en es h = let e = en refl in filling-none left rest Nothing next next' ws ws' refl el e.0 e.1 h
-  filling_step left rest (To v r) next next' ws ws' once lows el en es h = filling-on left rest (To v r) v r next next' ws ws' once lows refl el h (es v r refl)
 
   pub filling-end : (next : ℕ) (ws : List ℕ) → Filling [] next ws → Every (λ (b : Binding). walked ws vs b.variable ≡ rows_for cb vs f (get_or masks b.variable 0) b.relation) bs
   filling-end next ws h =
@@ -308,42 +291,6 @@ room-enough l n h k = let e : ((l - 64) / 8) * 8 ≤ l - 64 = omega arith in ome
 
 pub most-low : (r l : ℕ) → r ≤ (l - 64) / 8 → l ≤ 8256 → r ≤ 1024
 most-low r l h k = omega (arith, h, k)
-
--- what a record binds
-abbrev variable_of : Bound → ℕ
-variable_of (To v r) = v
-variable_of Nothing = 0
-
-abbrev relation_of : Bound → ℕ
-relation_of (To v r) = r
-relation_of Nothing = 0
-
-abbrev binds : Bound → Bool
-binds (To v r) = true
-binds Nothing = false
-
-pub binds-nothing : {A : Type 0} (b : Bound) (v r : ℕ) → b ≡ Nothing → b ≡ To v r → A
-binds-nothing b v r e h = clash (sym (ap binds (sym h ∙ e)))
-
-pub binds-this : (P : ℕ → ℕ → Type 0) (b : Bound) (v r : ℕ) → b ≡ To v r → P v r → (u s : ℕ) → b ≡ To u s → P u s
-binds-this P b v r e p u s h = let k = sym e ∙ h in subst (λ x. P x s) (ap variable_of k) (subst (λ x. P v x) (ap relation_of k) p)
-
-pub tiny-none : (cb : List ℕ) (b : Bound) → b ≡ Nothing → true ≡ all (tiny cb) (bound_by b)
-unfolding all
-tiny-none cb b e = sym (ap (λ (x : Bound). all (tiny cb) (bound_by x)) e)
-
-pub tiny-one : (cb : List ℕ) (b : Bound) (v r n : ℕ) → b ≡ To v r → n ≡ rows_of cb r → leb n 16 ≡ all (tiny cb) (bound_by b)
-unfolding all
-tiny-one cb b v r n e en = ap (λ k. leb k 16) en ∙ sym (ap (λ (x : Bound). all (tiny cb) (bound_by x)) e ∙ and_yes (leb (rows_of cb r) 16))
-  where
-    and_yes : (a : Bool) → a && true ≡ a
-    and_yes true = refl
-    and_yes false = refl
-
-pub bound-stepped : (cb : List ℕ) (vs : List ℤ) (f : ℕ → List ℕ) (masks : List ℕ) (b : Bound) (v r k m next next' : ℕ) (ws w : List ℕ) → b ≡ To v r → k ≡ v → m ≡ get_or masks k 0 → Stepped cb vs f v (rows_for cb vs f m r) (rows_of cb r) next next' ws w
-    → (u s : ℕ) → b ≡ To u s → Stepped cb vs f u (rows_for cb vs f (get_or masks u 0) s) (rows_of cb s) next next' ws w
-bound-stepped cb vs f masks b v r k m next next' ws w e ek em h =
-    binds-this (λ u s. Stepped cb vs f u (rows_for cb vs f (get_or masks u 0) s) (rows_of cb s) next next' ws w) b v r e (subst (λ n. Stepped cb vs f v (rows_for cb vs f n r) (rows_of cb r) next next' ws w) (em ∙ ap (λ n. get_or masks n 0) ek) h)
 
 -- a cleared table
 pub cleared : (n i : ℕ) → get_or (replicate {A = ℕ} n 0) i 0 ≡ 0

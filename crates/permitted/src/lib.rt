@@ -8,8 +8,7 @@ ghost use Rattle.std.specs.Prelude.{◌≡◌, true, ◌&&◌, map, ℕ, ◌+◌
 ghost use Rattle.model.specs.Lists.{all, unique, filter, below, Every};
 ghost use Rattle.model.specs.Syntax.{Binding, variables};
 ghost use Rattle.catalogue.specs.Layout.{rows_of};
-ghost use Rattle.scans.specs.Flat.{bound_by, flat_bindings};
-ghost use Rattle.scans.specs.declared.Bound.TheVariants.{To, Nothing};
+ghost use Rattle.scans.specs.Flat.{flat_bindings};
 ghost use Rattle.rewriter.specs.Rewritten.{masks_in, part_in};
 ghost use Rattle.rewriter.specs.Applying.{masks_by, conditions_by};
 ghost use Rattle.walks.specs.Walks.{walked, Fits};
@@ -18,7 +17,7 @@ ghost use Rattle.permitted.specs.Meets.{meets_bytes, row_of};
 ghost use Rattle.permitted.specs.Given as G;
 
 use rewriter::Applying;
-use scans::Bound;
+use scans::{BoundVariable, BoundVariables};
 use walks::Walk;
 
 // Where the lists of rows begin in a table of walks.
@@ -216,25 +215,22 @@ impl Granting<'_> {
         grant.next
     }
 
-    // One record of the query: what it binds is given its rows.
-    fn fill_one(&self, b: Bound, next: usize, walks: &mut [u16]) -> usize
-        requires { (v r : ℕ) → b ≡ To v r → ((v < 8) × (rows_of self.now.catalogue.now r ≤ 1024)
-            × (get_or (masks_by self.now.applying) v 0 < 256))
-            × G.Room (rows_of self.now.catalogue.now r) next walks.old
-            × G.Keyed self.now.catalogue.now self.now.values.now (conditions_by self.now.applying) walks.old next }
-        ensures value { b ≡ Nothing → (result ≡ next) × (walks.new ≡ walks.old) }
-        ensures by_index { (v r : ℕ) → b ≡ To v r → G.Stepped self.now.catalogue.now self.now.values.now
-            (conditions_by self.now.applying) v (G.rows_for self.now.catalogue.now self.now.values.now
-            (conditions_by self.now.applying) (get_or (masks_by self.now.applying) v 0) r)
-            (rows_of self.now.catalogue.now r) next result walks.old walks.new }
+    // A bound variable of the query is given its rows.
+    fn fill_one(&self, b: BoundVariable, next: usize, walks: &mut [u16]) -> usize
+        requires low { b.variable < 8 }
+        requires rows { rows_of self.now.catalogue.now b.relation ≤ 1024 }
+        requires mask { get_or (masks_by self.now.applying) b.variable 0 < 256 }
+        requires room { G.Room (rows_of self.now.catalogue.now b.relation) next walks.old }
+        requires keyed { G.Keyed self.now.catalogue.now self.now.values.now (conditions_by self.now.applying) walks.old next }
+        ensures { G.Stepped self.now.catalogue.now self.now.values.now (conditions_by self.now.applying) b.variable
+            (G.rows_for self.now.catalogue.now self.now.values.now (conditions_by self.now.applying)
+            (get_or (masks_by self.now.applying) b.variable 0) b.relation) (rows_of self.now.catalogue.now b.relation) next
+            result walks.old walks.new }
     {
-        let Bound::To(variable, relation) = b else {
-            return next;
-        };
-        let mask = self.applying.mask(variable) as u8;
+        let mask = self.applying.mask(b.variable) as u8;
         let grant = Grant {
-            variable,
-            relation,
+            variable: b.variable,
+            relation: b.relation,
             mask,
             next,
         };
@@ -265,10 +261,7 @@ pub fn fill(
         values,
     };
     let mut next = LISTS;
-    let mut at = 0;
-    while at < query.len() {
-        let b = scans::binding(query, at);
+    for b in BoundVariables::of(query) {
         next = granting.fill_one(b, next, walks);
-        at += scans::step(query, at);
     }
 }

@@ -16,6 +16,7 @@ use model::Refusal;
 use odometer::Plan;
 use queries::Limits;
 use rows::Filled;
+use scans::Records;
 
 const LEVELS: usize = model::PLAIN_LEVELS;
 
@@ -271,10 +272,8 @@ fn holding(q: &[u8]) -> usize
     ensures { result ≤ 1001 }
 {
     let mut n = 0;
-    let mut at = 0;
-    while at < q.len() {
-        n = counted(n, kinds::byte(q, at));
-        at += scans::step(q, at);
+    for record in Records::of(q) {
+        n = counted(n, kinds::byte(record, 0));
     }
     n
 }

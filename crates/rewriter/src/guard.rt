@@ -1,17 +1,17 @@
 // A variable's guard: the conditions of the permits that apply, each copied with its variables renamed.
 ghost use Rattle.std.specs.Prelude.{◌≡◌, [], ◌∷◌, ℕ, ◌+◌, ◌/◌, ◌≤◌, ◌<◌, length, drop, take, get_or};
 ghost use Rattle.std.proofs.lemmas.List.Edits.{sets};
-ghost use Rattle.model.specs.Lists.{index_of, contains};
+ghost use Rattle.model.specs.Lists.{index_of};
 ghost use Rattle.model.specs.Syntax.{variables};
 ghost use Rattle.kinds.specs.Record.{record_at};
-ghost use Rattle.scans.specs.Flat.{flat_bindings, bound_by};
+ghost use Rattle.scans.specs.Flat.{flat_bindings};
 ghost use Rattle.copier.specs.Copied.{record_bytes, renamed_record, number_in, copied_record, copied_bytes};
 ghost use Rattle.rewriter.specs.Applying.{conditions_by};
 ghost use Rattle.copier.specs.Guard.{or_nothing, opening, turn_bytes, turn_new, guard_bytes, guard_new};
 
 use crate::Applying;
 use kinds::Record;
-use scans::Bound;
+use scans::{BoundVariables, Records};
 
 // The place after what was written, and the next number for a new variable.
 #[derive(Clone, Copy)]
@@ -20,41 +20,13 @@ pub struct Written {
     pub next: usize,
 }
 
-// How many variables one record binds.
-fn one(b: Bound) -> usize
-    ensures value { result ≡ length (bound_by b) }
-    ensures upper_bound { result ≤ 1 }
-{
-    match b {
-        Bound::To(_, _) => 1,
-        Bound::Nothing => 0,
-    }
-}
-
-// Whether one record binds variable w.
-fn binds(b: Bound, w: u8) -> bool
-    ensures { result ≡ contains w (variables (bound_by b)) }
-{
-    let Bound::To(v, _) = b else {
-        return false;
-    };
-    w == v
-}
-
 // The place of w among the variables that a condition binds, in byte order; how many there are if it is none of them.
 fn index_of(q: &[u8], w: u8) -> usize
     ensures { result ≡ index_of w (variables (flat_bindings q.now)) }
 {
-    let mut i: usize = 0;
-    let mut at = 0;
-    while at < q.len() {
-        if binds(scans::binding(q, at), w) {
-            return i;
-        }
-        i += one(scans::binding(q, at));
-        at += scans::step(q, at);
-    }
-    i
+    BoundVariables::of(q)
+        .take_while(|b| b.variable != w)
+        .count()
 }
 
 // The number that variable w of a permit's condition takes.
@@ -87,12 +59,10 @@ fn copy_condition(out: &mut [u8], at: usize, condition: &[u8], variable: u8, nex
     ensures value { result ≡ at + length (copied_bytes condition.now variable next) }
     ensures out_after { out.new ≡ sets out.old at (copied_bytes condition.now variable next) }
 {
-    let mut i = 0;
     let mut to = at;
-    while i < condition.len() {
-        let item = kinds::read(kinds::tail(condition, i));
+    for bytes in Records::of(condition) {
+        let item = kinds::read(bytes);
         to = copier::put_record(out, to, renamed(condition, variable, next, item));
-        i += scans::step(condition, i);
     }
     to
 }

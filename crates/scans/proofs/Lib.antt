@@ -2,5 +2,3 @@ pub mod Walk
 pub mod Silent
 pub mod Whole
 pub mod Lists
-pub mod Finds
-pub mod Loops

@@ -7,12 +7,20 @@ use native.Mathlib.Omega.{arith}
 use lib.Dec.{eqb}
 use lib.ListN.{length, get_or, set, replicate}
 use lib.Seq.{get_or-set_same, get_or-set_other}
-use borrow.Author.Tests.{eqb-true, eqb-false}
+use borrow.Author.Tests.{eqb-true, eqb-false, ne_eqb}
 use mir.Val.{bool_byte}
 use Rattle.model.specs.Lists.{all, any, contains, unique, cons_if}
 use Rattle.model.specs.Syntax.{Binding, variables}
 use Rattle.model.proofs.Lists.{get_or-same}
-use Rattle.scans.specs.Flat.{seen_in, fresh}
+use Rattle.std.specs.List.{list_all}
+use Rattle.std.specs.Fn.{Called}
+use Rattle.std.specs.Iterator.{YieldsFirstBy, ChecksAll}
+use Rattle.std.proofs.lemmas.Iterator.Consumers.{YieldsList-from_first}
+use Rattle.std.proofs.lemmas.Iterator.Search.{all_from_yields_List}
+use denote.Param.Members.{Mut}
+use Rattle.scans.specs.declared.BoundVariable.{BoundVariable}
+use Rattle.scans.specs.declared.BoundVariables.{BoundVariables}
+use Rattle.scans.specs.Flat.{seen_in, fresh, is_binding, bindings_left}
 
 pub all_join : {A : Type 0} (t : A → Bool) (xs ys : List A) → all t (xs ++ ys) ≡ all t xs && all t ys
 unfolding all
@@ -22,6 +30,17 @@ all_join t (x ∷ xs) ys = go (t x) (all_join t xs ys)
     go : (b : Bool) → all t (xs ++ ys) ≡ all t xs && all t ys → b && all t (xs ++ ys) ≡ (b && all t xs) && all t ys
     go true h = h
     go false h = refl
+
+pub list_all-all : {A : Type 0} (t : A → Bool) (xs : List A) → list_all t xs ≡ all t xs
+unfolding all
+list_all-all t [] = refl
+list_all-all t (x ∷ xs) = ap (λ (b : Bool). t x && b) (list_all-all t xs)
+
+-- `all` over the variables that are bound
+module _ {F : Type 0} {g : Mut F (BoundVariable × Unit {0}) Bool} (t : Binding → Bool) (s : BoundVariables) (bs : List Binding) (e : bindings_left s ≡ bs) where
+  pub all_bound : (u : BoundVariables) (f : F) (r : Bool) → ChecksAll (YieldsFirstBy is_binding bindings_left) g s f r u
+      → ((x : BoundVariable) (b : Bool) (q : F) → Called g f (x, tt) b q → (q ≡ f) × (b ≡ t (is_binding x))) → r ≡ all t bs
+  all_bound u f r h k = all_from_yields_List t u f r h (YieldsList-from_first is_binding bindings_left bs e) k ∙ list_all-all t bs
 
 -- a number is marked after it was marked, and another as before
 marked : (s : List ℕ) (v w : ℕ) → v < length s → not (seen_in (set s v 1) w) ≡ not (seen_in s w) && not (eqb v w)
@@ -64,6 +83,21 @@ fresh_step s v xs h =
     go true true c d = refl
     go true false c d = refl
     go false b c d = refl
+
+-- a number that is marked already, and one that is not
+module _ (s : List ℕ) (v i : ℕ) (e : i ≡ v) where
+  pub fresh-marked : get_or s i 0 ≡ 1 → (xs : List ℕ) → fresh s (v ∷ xs) ≡ false
+  unfolding fresh all
+  fresh-marked h xs = rw (sym (ap (λ (j : ℕ). get_or s j 0) e) ∙ h)
+
+  pub fresh-first : (get_or s i 0 ≡ 1 → ⊥) → i < length s → (xs : List ℕ) → fresh s (v ∷ xs) ≡ fresh (set s i 1) xs
+  fresh-first h l xs =
+      fresh_step s v xs (omega arith)
+      ∙ ap₂ (λ (t : Bool) (j : ℕ). not t && fresh (set s j 1) xs) (ne_eqb (get_or s v 0) 1 (λ k. h (ap (λ (j : ℕ). get_or s j 0) e ∙ k))) (sym e)
+
+pub fresh-none : (s : List ℕ) → true ≡ fresh s []
+unfolding fresh all unique
+fresh-none s = refl
 
 -- nothing is marked at first
 pub fresh-blank : (n : ℕ) (xs : List ℕ) → fresh (replicate n 0) xs ≡ unique xs

@@ -6,10 +6,9 @@ use mathlib.Core.Option.{Option, none, some}
 use Prim.Native.Nat.{ℕ}
 use native.Mathlib.Omega.{arith}
 use lib.Dec.{eqb, leb}
-use lib.ListN.{length, get_or, drop}
+use lib.ListN.{length, get_or}
 use borrow.Author.Tests.{eqb-true}
 use Rattle.model.specs.Kinds.{Kind, k-range, k-true, k-false, k-not, k-and, k-or, k-compare, k-some, k-constant, k-attribute, k-aggregate, k-permit, kinds, code, body_length, find, kind_of}
-use Rattle.model.proofs.Lists.{first-at}
 use Rattle.kinds.specs.Record.{filled, within, record_at}
 use Rattle.kinds.specs.declared.Record.{Record}
 use Rattle.kinds.specs.declared.Record.TheVariants as R
@@ -39,8 +38,8 @@ module _ {A : Type 0} (f : Record → List A) (short : f R.Short ≡ []) (unknow
       go none e = ap f (of_none R.Unknown (λ x. within x r) b e) ∙ unknown
       go (some x) e = ap f (of_some R.Unknown (λ x. within x r) b x e) ∙ cut x (leb (body_length x) (length r)) (find-code b kinds x e)
 
-pub binds-nothing : (q : List ℕ) (at k : ℕ) → k ≡ get_or q at 0 → (k ≡ 1 → ⊥) × (k ≡ 22 → ⊥) × (k ≡ 34 → ⊥) → [] ≡ binding_of (record_at (drop at q))
-binds-nothing q at k ek (range, exists, aggregate) = sym (silent binding_of refl refl (drop at q) λ x e. go x (ek ∙ sym (first-at at q) ∙ e))
+pub binds-nothing : (q : List ℕ) (k : ℕ) → k ≡ get_or q 0 0 → (k ≡ 1 → ⊥) × (k ≡ 22 → ⊥) × (k ≡ 34 → ⊥) → [] ≡ binding_of (record_at q)
+binds-nothing q k ek (range, exists, aggregate) = sym (silent binding_of refl refl q λ x e. go x (ek ∙ e))
   where
     go : (x : Kind) → k ≡ code x → (a b c d : ℕ) → binding_of (filled a b c d x) ≡ []
     go k-range e a b c d = absurd (range e)
@@ -56,8 +55,8 @@ binds-nothing q at k ek (range, exists, aggregate) = sym (silent binding_of refl
     go k-aggregate e a b c d = absurd (aggregate e)
     go k-permit e a b c d = refl
 
-pub uses-nothing : (q : List ℕ) (at k : ℕ) → k ≡ get_or q at 0 → (k ≡ 33 → ⊥) × (k ≡ 34 → ⊥) → [] ≡ use_of (record_at (drop at q))
-uses-nothing q at k ek (attribute, aggregate) = sym (silent use_of refl refl (drop at q) λ x e. go x (ek ∙ sym (first-at at q) ∙ e))
+pub uses-nothing : (q : List ℕ) (k : ℕ) → k ≡ get_or q 0 0 → (k ≡ 33 → ⊥) × (k ≡ 34 → ⊥) → [] ≡ use_of (record_at q)
+uses-nothing q k ek (attribute, aggregate) = sym (silent use_of refl refl q λ x e. go x (ek ∙ e))
   where
     go : (x : Kind) → k ≡ code x → (a b c d : ℕ) → use_of (filled a b c d x) ≡ []
     go k-range e a b c d = refl

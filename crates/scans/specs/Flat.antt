@@ -1,6 +1,6 @@
 -- The records of bytes one after the other, with no regard to what is a child of what: each kind fixes how long its record is,
 -- and children follow their parent, so that a loop meets them all. Total: for any bytes.
-use Rattle.std.specs.Prelude.{ℕ, zero, suc, ◌-◌, Bool, not, ◌&&◌, List, [], ◌∷◌, eqb, length, get_or}
+use Rattle.std.specs.Prelude.{ℕ, zero, suc, ◌-◌, Bool, not, ◌&&◌, List, [], ◌∷◌, Option, None, Some, eqb, length, get_or}
 use Rattle.model.specs.Lists.{any, all, unique, cons_if, concat_map}
 use Rattle.model.specs.Syntax.{Binding, Use, variables}
 use Rattle.catalogue.specs.Layout.{stored_of}
@@ -12,14 +12,24 @@ use Rattle.kinds.specs.Places.{term_of}
 use Rattle.kinds.specs.declared.TermRecord.{TermRecord}
 use Rattle.kinds.specs.declared.TermRecord.TheVariants as T
 use Rattle.scans.specs.declared.Bindings.{Bindings}
-use Rattle.scans.specs.declared.Bound.{Bound}
-use Rattle.scans.specs.declared.Bound.TheVariants as B
+use Rattle.scans.specs.declared.Records.{Records}
+use Rattle.scans.specs.declared.BoundVariable.{BoundVariable}
+use Rattle.scans.specs.declared.BoundVariables.{BoundVariables}
 
 -- the records, after so many bytes that belong to the one before
 unfoldable pub records_after : ℕ → List ℕ → List Record
 records_after n [] = []
 records_after (suc n) (b ∷ q) = records_after n q
 records_after zero (b ∷ q) = record_at (b ∷ q) ∷ records_after (record_length b - 1) q
+
+-- the bytes from each record on
+unfoldable pub parts_after : ℕ → List ℕ → List (List ℕ)
+parts_after n [] = []
+parts_after (suc n) (b ∷ q) = parts_after n q
+parts_after zero (b ∷ q) = (b ∷ q) ∷ parts_after (record_length b - 1) q
+
+unfoldable pub parts_of : List ℕ → List (List ℕ)
+parts_of q = parts_after 0 q
 
 unfoldable pub records_of : List ℕ → List Record
 records_of q = records_after 0 q
@@ -74,9 +84,19 @@ unfoldable pub used_in : List Use → ℕ → ℕ → Bool
 used_in us v a = any (λ (u : Use). eqb u.variable v && eqb u.attribute a) us
 
 -- what the code finds in one record
-abbrev pub bound_by : Bound → List Binding
-bound_by (B.To v r) = record { variable = v; relation = r } ∷ []
-bound_by B.Nothing = []
+abbrev pub is_binding : BoundVariable → Binding
+is_binding b = record { variable = b.variable; relation = b.relation }
+
+abbrev pub bound_by : Option BoundVariable → List Binding
+bound_by None = []
+bound_by (Some b) = is_binding b ∷ []
+
+-- what is still to come of a walk
+abbrev pub left_of : Records → List (List ℕ)
+left_of s = parts_of s.rest.now
+
+abbrev pub bindings_left : BoundVariables → List Binding
+bindings_left s = flat_bindings s.records.rest.now
 
 -- a table of marked numbers
 abbrev pub seen_in : List ℕ → ℕ → Bool

@@ -2,20 +2,102 @@
 // so that a walk from record to record meets them all, at any depth, with no recursion.
 #![tactic(auto)]
 
-ghost use Rattle.std.specs.Prelude.{◌≡◌, true, false, ◌&&◌, List, ◌++◌, ℕ, ◌≤◌, length, drop, get_or};
+ghost use Rattle.std.specs.Prelude.{◌≡◌, true, false, ◌&&◌, List, ◌∷◌, ℕ, ◌≤◌, length};
+ghost use Rattle.std.specs.Iterator.{YieldsFirstRef, YieldsFirstBy, item_count};
 ghost use Rattle.model.specs.Lists.{unique, cons_if};
 ghost use Rattle.model.specs.Syntax.{variables};
 ghost use Rattle.kinds.specs.Record.{record_at};
-ghost use Rattle.kinds.specs.Tables.{record_length};
-ghost use Rattle.scans.specs.Flat.{binding_of, flat_bindings, bindings_of, bound_by, fresh};
+ghost use Rattle.scans.specs.Flat.{left_of, binding_of, flat_bindings, bindings_left, is_binding, bindings_of, bound_by, fresh};
 
 use kinds::Record;
 
+// The records of a query or a condition, one after the other, each as the bytes from it on.
 #[derive(Clone, Copy)]
-pub enum Bound {
-    // variable, relation
-    To(u8, u8),
-    Nothing,
+pub struct Records<'a> {
+    rest: &'a [u8],
+}
+
+impl<'a> Records<'a> {
+    pub fn of(q: &'a [u8]) -> Records<'a>
+        ensures { result.rest.now ≡ q.now }
+    {
+        Records { rest: q }
+    }
+}
+
+impl<'a> Iterator for Records<'a> {
+    type Item = &'a [u8];
+
+    ghost next_gives = { YieldsFirstRef left_of };
+
+    ghost remaining = { item_count left_of };
+
+    fn next(&mut self) -> Option<&'a [u8]> {
+        let record = self.rest;
+        let kind = *record.first()?;
+        self.rest = kinds::tail(record, kinds::record_length(kind));
+        Some(record)
+    }
+}
+
+// A variable that a record binds, and the relation it is over.
+#[derive(Clone, Copy)]
+pub struct BoundVariable {
+    pub variable: u8,
+    pub relation: u8,
+}
+
+impl BoundVariable {
+    // What a record binds.
+    fn read(bytes: &[u8]) -> Option<BoundVariable>
+        ensures { bound_by result ≡ binding_of (record_at bytes.now) }
+    {
+        if !may_bind(kinds::byte(bytes, 0)) {
+            return None;
+        }
+        match kinds::read(bytes) {
+            Record::Range(variable, relation)
+            | Record::Some(variable, relation)
+            | Record::Aggregate(_, variable, relation, _) => Some(BoundVariable {
+                variable,
+                relation,
+            }),
+            _ => None,
+        }
+    }
+}
+
+// What the records of a query or a condition bind, in byte order.
+#[derive(Clone, Copy)]
+pub struct BoundVariables<'a> {
+    records: Records<'a>,
+}
+
+impl<'a> BoundVariables<'a> {
+    pub fn of(q: &'a [u8]) -> BoundVariables<'a>
+        ensures { bindings_left result ≡ flat_bindings q.now }
+    {
+        BoundVariables {
+            records: Records::of(q),
+        }
+    }
+}
+
+impl<'a> Iterator for BoundVariables<'a> {
+    type Item = BoundVariable;
+
+    ghost next_gives = { YieldsFirstBy is_binding bindings_left };
+
+    ghost remaining = { item_count bindings_left };
+
+    fn next(&mut self) -> Option<BoundVariable> {
+        while let Some(bytes) = self.records.next() {
+            if let Some(bound) = BoundVariable::read(bytes) {
+                return Some(bound);
+            }
+        }
+        None
+    }
 }
 
 // How many variables are bound, and whether no number is bound twice.
@@ -29,75 +111,22 @@ pub struct Bindings {
 fn may_bind(kind: u8) -> bool
     ensures { result ≡ false → (kind ≡ 1 → ⊥) × (kind ≡ 22 → ⊥) × (kind ≡ 34 → ⊥) }
 {
-    match kind {
-        1 => true,
-        22 => true,
-        34 => true,
-        _ => false,
-    }
-}
-
-// What the record at a place binds.
-pub fn binding(q: &[u8], at: usize) -> Bound
-    ensures { bound_by result ≡ binding_of (record_at (drop at q.now)) }
-{
-    if !may_bind(kinds::byte(q, at)) {
-        return Bound::Nothing;
-    }
-    match kinds::read(kinds::tail(q, at)) {
-        Record::Range(v, r) => Bound::To(v, r),
-        Record::Some(v, r) => Bound::To(v, r),
-        Record::Aggregate(_, v, r, _) => Bound::To(v, r),
-        _ => Bound::Nothing,
-    }
-}
-
-// How long the record at a place is.
-pub fn step(q: &[u8], at: usize) -> usize
-    ensures value { result ≡ record_length (get_or q.now at 0) }
-    ensures lower_bound { (1 ≤ result) × (result ≤ 5) }
-{
-    kinds::record_length(kinds::byte(q, at))
-}
-
-fn one(b: Bound) -> usize
-    ensures value { result ≡ length (bound_by b) }
-    ensures upper_bound { result ≤ 1 }
-{
-    match b {
-        Bound::To(_, _) => 1,
-        Bound::Nothing => 0,
-    }
+    matches!(kind, 1 | 22 | 34)
 }
 
 // How many variables are bound.
 fn count_bindings(q: &[u8]) -> usize
     ensures { result ≡ length (flat_bindings q.now) }
 {
-    let mut n: usize = 0;
-    let mut at = 0;
-    while at < q.len() {
-        n += one(binding(q, at));
-        at += step(q, at);
-    }
-    n
-}
-
-fn wide(x: u8) -> usize
-    ensures { result ≡ x }
-{
-    x as usize
+    BoundVariables::of(q).count()
 }
 
 // Marks a bound variable, unless it is marked already.
-fn mark(seen: &mut [u8], b: Bound) -> bool
+fn mark(seen: &mut [u8], variable: u8) -> bool
     requires { length seen.old ≡ 256 }
-    ensures { (xs : List ℕ) → fresh seen.old (variables (bound_by b) ++ xs) ≡ (result && fresh seen.new xs) }
+    ensures { (xs : List ℕ) → fresh seen.old (variable ∷ xs) ≡ (result && fresh seen.new xs) }
 {
-    let Bound::To(v, _) = b else {
-        return true;
-    };
-    let i = wide(v);
+    let i = usize::from(variable);
     if seen[i] == 1 {
         return false;
     }
@@ -110,12 +139,10 @@ fn all_fresh(q: &[u8], seen: &mut [u8]) -> bool
     requires { length seen.old ≡ 256 }
     ensures { result ≡ fresh seen.old (variables (flat_bindings q.now)) }
 {
-    let mut at = 0;
-    while at < q.len() {
-        if !mark(seen, binding(q, at)) {
+    for b in BoundVariables::of(q) {
+        if !mark(seen, b.variable) {
             return false;
         }
-        at += step(q, at);
     }
     true
 }

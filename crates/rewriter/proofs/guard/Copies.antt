@@ -1,20 +1,19 @@
 -- What is copied of one record of a permit's condition, as the code tells the records apart.
 use mathlib.Core.Path.{◌≡◌, refl, sym, ap, ◌∙◌}
 use mathlib.Core.List.{List, [], ◌∷◌, ◌++◌}
-use Prim.Native.Nat.{ℕ, ◌+◌, ◌<◌, ◌≤◌}
-use lib.ListN.{length, get_or, drop}
+use Prim.Native.Nat.{ℕ, ◌+◌, ◌<◌}
+use lib.ListN.{length}
 use borrow.Author.Tests.{eq-eqb, ne_eqb}
 use denote.Enum.Declared.{tag_of, declared}
 use types.Run.{OneOf, miss}
 use Rattle.model.specs.Lists.{index_of}
 use Rattle.model.specs.Syntax.{variables}
-use Rattle.kinds.specs.Tables.{record_length}
 use Rattle.kinds.specs.Record.{record_at}
 use Rattle.kinds.specs.declared.Record.{Record}
 use Rattle.kinds.specs.declared.Record.TheVariants as R
 use Rattle.kinds.specs.contracts.Record.{enum}
-use Rattle.scans.specs.Flat.{flat, flat_bindings}
-use Rattle.scans.proofs.Walk.{flat_step, flat-end}
+use Rattle.scans.specs.Flat.{parts_of, flat, flat_bindings}
+use Rattle.scans.proofs.Walk.{flat-on}
 use Rattle.copier.specs.Copied.{record_bytes, renamed_record, number_in, copied_record, copied_bytes}
 use Rattle.copier.proofs.Sets.{Wrote, Left, left-then, left-room}
 
@@ -55,21 +54,18 @@ pub number-other : (q : List ℕ) (v n w i : ℕ) → (w ≡ 0 → ⊥) → i �
 unfolding number_in
 number-other q v n w i h e = rw (ne_eqb w 0 h, e)
 
--- a turn of the loop over a condition's records: what is still to be written
-module _ (q : List ℕ) (v n i k : ℕ) (h : i < length q) (ek : k ≡ record_length (get_or q i 0)) (x : List ℕ) (ex : x ≡ drop i q) (r y : Record) (er : r ≡ record_at x) (ey : y ≡ renamed_record (number_in q v n) r) where
-  copy-left : flat (copied_record q v n) (drop i q) ≡ record_bytes y ++ flat (copied_record q v n) (drop (i + k) q)
+-- a turn of the walk over a condition's records, from s to t: what is still to be written
+module _ (q : List ℕ) (v n : ℕ) (s t x : List ℕ) (h : parts_of s ≡ x ∷ parts_of t) (r y : Record) (er : r ≡ record_at x) (ey : y ≡ renamed_record (number_in q v n) r) where
+  copy-left : flat (copied_record q v n) s ≡ record_bytes y ++ flat (copied_record q v n) t
   copy-left =
-      flat_step (copied_record q v n) q i k h ek
-      ∙ ap (λ (b : List ℕ). b ++ flat (copied_record q v n) (drop (i + k) q)) (sym (ap record_bytes (ey ∙ ap (renamed_record (number_in q v n)) (er ∙ ap record_at ex))))
+      flat-on (copied_record q v n) s t x h
+      ∙ ap (λ (b : List ℕ). b ++ flat (copied_record q v n) t) (sym (ap record_bytes (ey ∙ ap (renamed_record (number_in q v n)) er)))
 
-  pub copy-room : (d : List ℕ) (at : ℕ) (o : List ℕ) (to : ℕ) → Left d at (copied_bytes q v n) o to (flat (copied_record q v n) (drop i q)) → at + length (copied_bytes q v n) < 9223372036854775808 → to + length (record_bytes y) < 9223372036854775808
-  copy-room d at o to l m = left-room d at (copied_bytes q v n) o to (flat (copied_record q v n) (drop i q)) (record_bytes y) (flat (copied_record q v n) (drop (i + k) q)) copy-left l m
+  pub copy-room : (d : List ℕ) (at : ℕ) (o : List ℕ) (to : ℕ) → Left d at (copied_bytes q v n) o to (flat (copied_record q v n) s) → at + length (copied_bytes q v n) < 9223372036854775808 → to + length (record_bytes y) < 9223372036854775808
+  copy-room d at o to l m = left-room d at (copied_bytes q v n) o to (flat (copied_record q v n) s) (record_bytes y) (flat (copied_record q v n) t) copy-left l m
 
-  pub copy-turn : (d : List ℕ) (at : ℕ) (o : List ℕ) (to : ℕ) → Left d at (copied_bytes q v n) o to (flat (copied_record q v n) (drop i q)) → (z : List ℕ) (p : ℕ) → Wrote o to (record_bytes y) z p → Left d at (copied_bytes q v n) z p (flat (copied_record q v n) (drop (i + k) q))
-  copy-turn d at o to l z p w = left-then d at (copied_bytes q v n) o to (flat (copied_record q v n) (drop i q)) (record_bytes y) (flat (copied_record q v n) (drop (i + k) q)) z p copy-left l w
-
-pub copy-end : (q : List ℕ) (v n i : ℕ) → length q ≤ i → flat (copied_record q v n) (drop i q) ≡ []
-copy-end q v n i h = flat-end (copied_record q v n) q i h
+  pub copy-turn : (d : List ℕ) (at : ℕ) (o : List ℕ) (to : ℕ) → Left d at (copied_bytes q v n) o to (flat (copied_record q v n) s) → (z : List ℕ) (p : ℕ) → Wrote o to (record_bytes y) z p → Left d at (copied_bytes q v n) z p (flat (copied_record q v n) t)
+  copy-turn d at o to l z p w = left-then d at (copied_bytes q v n) o to (flat (copied_record q v n) s) (record_bytes y) (flat (copied_record q v n) t) z p copy-left l w
 
 pub copy_start : (d q : List ℕ) (v n at : ℕ) → Left d at (copied_bytes q v n) d at (flat (copied_record q v n) q)
 unfolding copied_bytes

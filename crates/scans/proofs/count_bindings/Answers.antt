@@ -1,9 +1,6 @@
-use native.Mathlib.Omega.{arith}
-use Rattle.scans.proofs.Loops.{count-on, count-end}
+use Rattle.std.proofs.Common.{length, ap, inl, arith}
+use Rattle.scans.proofs.Walk.{bindings-few}
 use Rattle.scans.proofs.count_bindings.Goals as goal
 
-pub loop-at-preserved : goal.loop-at-preserved
-loop-at-preserved c = (count-on c.args.q.now c.loop-at.at _ c.loop-at-test.true c.step-at.ensures.value c.binding.result c.binding.ensures _ c.loop-at.n _ c.one-n.ensures.value c.loop-at.invariant.0, omega arith)
-
-pub returns : goal.returns
-returns c = count-end c.args.q.now c.loop-at.at c.loop-at-test.false _ _ c.loop-at.invariant.0
+pub count-requires-clause-fits : goal.count-requires-clause-fits
+count-requires-clause-fits c = inl (omega (arith, ap length c.of.ensures, bindings-few c.args.q.now))

@@ -1,16 +1,21 @@
-use native.Mathlib.Omega.{arith}
-use native.Mathlib.Nat.{zero-add}
-use Rattle.permits.proofs.Walk.{span-on, span-found, span-end}
+use Rattle.std.proofs.Common.{length}
+use Rattle.permits.proofs.Walk.{span-on, span-found, span-within, span-end}
 use Rattle.guards.proofs.applying.span.Goals as goal
 
-pub loop-at-init : goal.loop-at-init
-loop-at-init c = (zero-add _, omega arith)
+pub returns-then-kind-eq64 : goal.returns-then-kind-eq64
+returns-then-kind-eq64 c = record {
+  value = span-found c.loop-record.record-iterator.rest.now c.next.new.self.rest.now c.in-Some.record.now c.byte-kind.result c.in-Some.ensures.steps c.byte-kind.ensures c.loop-record.at _ c.loop-record.invariant.left c.if-kind-eq64.true;
+  upper_bound = c.loop-record.invariant.within;
+}
 
-pub returns-then-byte-eq64 : goal.returns-then-byte-eq64
-returns-then-byte-eq64 c = record { value = span-found c.args.q.now c.loop-at.at c.byte.result c.loop-at-test.true c.byte.ensures _ c.if-byte-eq64.true c.loop-at.invariant.0; upper_bound = c.loop-at.invariant.1 }
-
-pub loop-at-preserved : goal.loop-at-preserved
-loop-at-preserved c = (span-on c.args.q.now c.loop-at.at c.byte.result c.loop-at-test.true c.byte.ensures c.step-at.result _ c.if-byte-eq64.false c.step-at.ensures.value c.loop-at.invariant.0, omega (arith, c.step-at.ensures.lower_bound.1, c.loop-at-test.true))
+pub loop-record-preserved : goal.loop-record-preserved
+loop-record-preserved c =
+    let w = span-within c.loop-record.record-iterator.rest.now c.next.new.self.rest.now c.in-Some.record.now c.byte-kind.result c.in-Some.ensures.steps c.byte-kind.ensures c.loop-record.at _ c.loop-record.invariant.left c.record_length-at.result (length c.args.q.now) c.record_length-at.ensures.value c.record_length-at.ensures.lower_bound.1 c.loop-record.invariant.met in
+    record {
+      left = span-on c.loop-record.record-iterator.rest.now c.next.new.self.rest.now c.in-Some.record.now c.byte-kind.result c.in-Some.ensures.steps c.byte-kind.ensures c.loop-record.at _ c.loop-record.invariant.left c.record_length-at.result c.if-kind-eq64.false c.record_length-at.ensures.value;
+      within = w.0;
+      met = w.1;
+    }
 
 pub returns : goal.returns
-returns c = record { value = span-end c.args.q.now c.loop-at.at _ c.loop-at-test.false c.loop-at.invariant.0; upper_bound = c.loop-at.invariant.1 }
+returns c = record { value = span-end c.loop-record.record-iterator.rest.now c.loop-record.at _ c.in-None.ensures.steps.0 c.loop-record.invariant.left; upper_bound = c.loop-record.invariant.within }

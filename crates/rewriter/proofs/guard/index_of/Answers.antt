@@ -1,15 +1,22 @@
-use native.Mathlib.Omega.{arith}
-use Rattle.rewriter.proofs.guard.Index.{index_on, index-found, index-end}
+use Rattle.std.proofs.Common.{rules, inl, not, length, ap, ◌∙◌, arith}
+use borrow.Author.Tests.{tests}
+use lib.Dec.{eqb}
+use Rattle.std.proofs.lemmas.Iterator.Consumers.{YieldsList-from_first, count_from_yields_List}
+use Rattle.std.proofs.lemmas.Iterator.Search.{YieldsList-from_take_while}
+use Rattle.std.proofs.lemmas.List.Folds.{length-prefix_len}
+use Rattle.model.specs.Syntax.{Binding}
+use Rattle.scans.specs.Flat.{flat_bindings, is_binding, bindings_left}
+use Rattle.scans.proofs.Walk.{bindings-few}
+use Rattle.rewriter.proofs.guard.Index.{prefix-index}
 use Rattle.rewriter.proofs.guard.index_of.Goals as goal
 
-pub loop-at-init : goal.loop-at-init
-loop-at-init c = (omega arith, omega arith)
-
-pub returns-then-binds : goal.returns-then-binds
-returns-then-binds c = index-found c.args.q.now c.loop-at.at c.loop-at-test.true c.binding.result c.binding.ensures c.args.w _ c.if-binds.true c.binds.ensures _ _ c.loop-at.invariant.0
-
-pub loop-at-preserved : goal.loop-at-preserved
-loop-at-preserved c = (index_on c.args.q.now c.loop-at.at _ c.loop-at-test.true c.step-at.ensures.value c.binding.result c.binding.ensures c.args.w _ c.if-binds.false c.binds.ensures c.binding-in-loop-at.result c.binding-in-loop-at.ensures _ c.loop-at.i _ c.one-i.ensures.value c.loop-at.invariant.0, omega arith)
+pub count-requires-clause-fits : goal.count-requires-clause-fits
+count-requires-clause-fits c = inl (omega (arith, ap length (ap bindings_left c.take_while.ensures.source ∙ c.of.ensures), bindings-few c.args.q.now))
 
 pub returns : goal.returns
-returns c = index-end c.args.q.now c.loop-at.at c.loop-at-test.false c.args.w _ _ c.loop-at.invariant.0
+returns c =
+    count_from_yields_List c.take_while.result c.count.result c.count.ensures.ran
+    (YieldsList-from_take_while _ (λ (b : Binding). not (eqb b.variable c.args.w)) (YieldsList-from_first is_binding bindings_left (flat_bindings c.args.q.now) (ap bindings_left c.take_while.ensures.source ∙ c.of.ensures)) c.take_while.ensures.closure c.take_while.ensures.done
+    (λ x b q k. search (rules, tests)))
+    ∙ length-prefix_len (λ (b : Binding). not (eqb b.variable c.args.w)) (flat_bindings c.args.q.now)
+    ∙ prefix-index c.args.w (flat_bindings c.args.q.now)

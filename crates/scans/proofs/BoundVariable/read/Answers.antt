@@ -8,7 +8,7 @@ use Rattle.kinds.specs.contracts.Record.{enum}
 use Rattle.scans.specs.Flat.{binding_of}
 use Rattle.model.proofs.Tests.{not_yes}
 use Rattle.scans.proofs.Silent.{binds-nothing}
-use Rattle.scans.proofs.binding.Goals as goal
+use Rattle.scans.proofs.BoundVariable.read.Goals as goal
 
 other : (r : Record) → OneOf (1 ∷ 2 ∷ 3 ∷ 4 ∷ 5 ∷ 6 ∷ 8 ∷ 9 ∷ 11 ∷ 12 ∷ 13 ∷ []) (tag_of (declared enum) r) → [] ≡ binding_of r
 other (R.Range v r) h = absurd (miss (1 ∷ 2 ∷ 3 ∷ 4 ∷ 5 ∷ 6 ∷ 8 ∷ 9 ∷ 11 ∷ 12 ∷ 13 ∷ []) 0 tt h)
@@ -27,4 +27,4 @@ other R.Unknown h = refl
 other R.Short h = refl
 
 pub returns-then-not-may_bind : goal.returns-then-not-may_bind
-returns-then-not-may_bind c = binds-nothing c.args.q.now c.args.at c.byte.result c.byte.ensures (c.may_bind.ensures (not_yes c.may_bind.result c.if-not-may_bind.true-raw))
+returns-then-not-may_bind c = binds-nothing c.args.bytes.now c.byte.result c.byte.ensures (c.may_bind.ensures (not_yes c.may_bind.result c.if-not-may_bind.true-raw))
