@@ -41,8 +41,7 @@ use Rattle.conditions.proofs.Found.{Found, found, unread, the-condition, same_re
 use Rattle.permits.specs.Masks.{mask_in}
 use Rattle.permits.specs.declared.Grant.{Grant}
 use Rattle.permits.specs.declared.Listing.{Listing}
-use Rattle.permits.specs.declared.Listing.TheVariants as L
-use Rattle.permits.specs.Granted.{grant, PermitRead, Granted, ListRead, Listed}
+use Rattle.permits.specs.Granted.{grant, listing, PermitRead, Granted, ListRead, Listed}
 use Rattle.permits.proofs.Reading.{take-encode, listed}
 use Rattle.permits.proofs.Model.{mask_is, stored-permit}
 
@@ -189,11 +188,11 @@ module _ (sh : Shape) (list : List ℕ) (p k : ℕ) where
     first [] e w f l h = absurd (omega (arith, ap length e, length-drop p list))
     first (g ∷ qs) e w f l h = let i = all_cons permit_fits g qs f in h g qs e w.0 i.0 w.1 i.1 l
 
-    pub list_full : k ≡ 0 → Listed L.Refused sh list p k
+    pub list_full : k ≡ 0 → Listed None sh list p k
     list_full h ps e w l f = first ps e w f l λ g qs e w f u v l. absurd (omega arith)
 
     module _ (m : Option Grant) (gm : Granted m sh list p) where
-      pub list-unread : m ≡ None → Listed L.Refused sh list p k
+      pub list-unread : m ≡ None → Listed None sh list p k
       list-unread h ps e w l f = first ps e w f l λ g qs e w f u v l. subst (λ x. Granted x sh list p) h gm g (encode_permits qs) e w f
 
       module _ (n : ℕ) (b d : Bool) (em : m ≡ grant n b d) where
@@ -207,12 +206,12 @@ module _ (sh : Shape) (list : List ℕ) (p k : ℕ) where
         same : (g : Permit) (s : List ℕ) → drop p list ≡ encode_permit g s → WellFormed g.condition → drop (p + n) list ≡ s
         same g s e w = permit-rest one.permit g (drop (p + n) list) s one.well w (sym one.bytes ∙ e)
 
-        module _ (q : Listing) (hq : Listed q sh list (p + n) (k - 1)) where
-          pub list-refused : q ≡ L.Refused → Listed L.Refused sh list p k
+        module _ (q : Option Listing) (hq : Listed q sh list (p + n) (k - 1)) where
+          pub list-refused : q ≡ None → Listed None sh list p k
           list-refused h ps e w l f = first ps e w f l λ g qs e w f u v l.
               subst (λ x. Listed x sh list (p + n) (k - 1)) h hq qs (same g (encode_permits qs) e w) u (omega (arith, l)) v
 
-          pub list-more : (k ≡ 0 → ⊥) → (c i : Bool) → q ≡ L.Whole c i → (x y : Bool) → x ≡ (b && c) → y ≡ (d && i) → ListRead sh list p k x y
+          pub list-more : (k ≡ 0 → ⊥) → (c i : Bool) → q ≡ listing c i → (x y : Bool) → x ≡ (b && c) → y ≡ (d && i) → ListRead sh list p k x y
           unfolding encode_permits WellFormedPs all
           list-more nz c i eq x y ex ey =
               let o : ListRead sh list (p + n) (k - 1) c i = subst (λ x. Listed x sh list (p + n) (k - 1)) eq hq in
@@ -232,7 +231,7 @@ module _ (sh : Shape) (list : List ℕ) where
   unfolding permit_checks refusal fails20
   number-long h = sym (rw (lt-ltb 2048 (length list) h))
 
-  pub number-unread : (q : Listing) → q ≡ L.Refused → Listed q sh list 0 8 → (n : ℕ) → n ≡ cond (fails20 list) 20 21 → n ≡ refusal (permit_checks sh list)
+  pub number-unread : (q : Option Listing) → q ≡ None → Listed q sh list 0 8 → (n : ℕ) → n ≡ cond (fails20 list) 20 21 → n ≡ refusal (permit_checks sh list)
   unfolding permit_checks refusal fails21
   number-unread q eq h n en = en ∙ go (fails20 list) refl
     where
@@ -246,7 +245,7 @@ module _ (sh : Shape) (list : List ℕ) where
       go true e = refl
       go false e = let f : fails21 (permits_of list) ≡ true = over e (fails21 (permits_of list)) refl in sym (ap (λ b. cond {A = ℕ} b 21 (cond (fails22 sh (permits_of list)) 22 (cond (fails23 sh (permits_of list)) 23 0))) f)
 
-  module _ (short : length list ≤ 2048) (q : Listing) (b d : Bool) (eq : q ≡ L.Whole b d) (h : Listed q sh list 0 8) where
+  module _ (short : length list ≤ 2048) (q : Option Listing) (b d : Bool) (eq : q ≡ listing b d) (h : Listed q sh list 0 8) where
     abbrev l : ListRead sh list 0 8 b d
     l = subst (λ x. Listed x sh list 0 8) eq h
 

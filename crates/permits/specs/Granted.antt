@@ -7,7 +7,6 @@ use Rattle.model.specs.Catalogue.{Shape}
 use Rattle.model.specs.Checks.{permit_fits, permit_known, permit_stored}
 use Rattle.permits.specs.declared.Grant.{Grant}
 use Rattle.permits.specs.declared.Listing.{Listing}
-use Rattle.permits.specs.declared.Listing.TheVariants as L
 
 -- the permit of n bytes at p passes 20 and 21; b: it passes 22, d: it passes 23
 pub record PermitRead (sh : Shape) (list : List ℕ) (p n : ℕ) (b d : Bool) : Type 0 where
@@ -38,6 +37,10 @@ pub record ListRead (sh : Shape) (list : List ℕ) (p k : ℕ) (b d : Bool) : Ty
   pub known : all (permit_known sh) permits ≡ b
   pub stored : all (permit_stored sh) permits ≡ d
 
-abbrev pub Listed : Listing → Shape → List ℕ → ℕ → ℕ → Type 0
-Listed (L.Whole b d) sh list p k = ListRead sh list p k b d
-Listed L.Refused sh list p k = (ps : List Permit) → drop p list ≡ encode_permits ps → WellFormedPs ps → length ps ≤ k → all permit_fits ps ≡ true → ⊥
+abbrev pub listing : Bool → Bool → Option Listing
+listing b d = Some (record { known = b; stored = d })
+
+-- or none that keeps to the limits stands there
+abbrev pub Listed : Option Listing → Shape → List ℕ → ℕ → ℕ → Type 0
+Listed (Some l) sh list p k = ListRead sh list p k l.known l.stored
+Listed None sh list p k = (ps : List Permit) → drop p list ≡ encode_permits ps → WellFormedPs ps → length ps ≤ k → all permit_fits ps ≡ true → ⊥

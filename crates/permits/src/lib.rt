@@ -68,12 +68,11 @@ struct Grant {
     stored: bool,
 }
 
-// What a list is.
+// A list of permits within the limits: whether all that they name is known (22), and stored (23).
 #[derive(Clone, Copy)]
-enum Listing {
-    // permits within the limits, and whether all pass 22, and 23
-    Whole(bool, bool),
-    Refused,
+struct Listing {
+    known: bool,
+    stored: bool,
 }
 
 // Whether a relation is known and a mask names attributes of it.
@@ -137,38 +136,25 @@ fn permit(permits: &[u8], at: usize, catalogue: &[u8], z: &mut [u16]) -> Option<
 }
 
 // The permits from a place on, at most so many.
-fn rest(permits: &[u8], at: usize, left: usize, catalogue: &[u8], z: &mut [u16]) -> Listing
+fn rest(permits: &[u8], at: usize, left: usize, catalogue: &[u8], z: &mut [u16]) -> Option<Listing>
     requires { (fails10 catalogue.now ≡ false) × (at ≤ length permits.now) }
     ensures { Listed result (shape_of (catalogue_of catalogue.now)) permits.now at left }
 {
     if permits.len() <= at {
-        return Listing::Whole(true, true);
+        return Some(Listing {
+            known: true,
+            stored: true,
+        });
     }
     if left == 0 {
-        return Listing::Refused;
+        return None;
     }
-    let Some(first) = permit(permits, at, catalogue, z) else {
-        return Listing::Refused;
-    };
-    let Listing::Whole(others_known, others_over) = rest(
-        permits,
-        at + first.length,
-        left - 1,
-        catalogue,
-        z,
-    ) else {
-        return Listing::Refused;
-    };
-    Listing::Whole(
-        both(first.known, others_known),
-        both(first.stored, others_over),
-    )
-}
-
-fn both(a: bool, b: bool) -> bool
-    ensures { result ≡ (a && b) }
-{
-    if a { b } else { false }
+    let first = permit(permits, at, catalogue, z)?;
+    let others = rest(permits, at + first.length, left - 1, catalogue, z)?;
+    Some(Listing {
+        known: first.known & others.known,
+        stored: first.stored & others.stored,
+    })
 }
 
 // Why a list was not read: it is not well formed at any depth (20), or else over a limit (21).
@@ -191,13 +177,13 @@ pub fn check(permits: &[u8], catalogue: &[u8]) -> Result<(), Refusal>
         return Err(Refusal::PermitSyntax);
     }
     let mut z = [0u16; BYTES];
-    let Listing::Whole(known, over) = rest(permits, 0, model::PERMITS, catalogue, &mut z) else {
+    let Some(list) = rest(permits, 0, model::PERMITS, catalogue, &mut z) else {
         return Err(unread(permits));
     };
-    if !known {
+    if !list.known {
         return Err(Refusal::PermitScope);
     }
-    if !over {
+    if !list.stored {
         return Err(Refusal::PermitWorkspace);
     }
     Ok(())

@@ -20,27 +20,25 @@ use Rattle.queries.specs.Tables.{condition_measured, query_measured}
 use Rattle.grammar.specs.Shapes.{layout}
 use Rattle.grammar.proofs.Whole.{targets-place}
 use Rattle.queries.specs.declared.Run.{Run}
-use Rattle.queries.specs.declared.Found.TheVariants.{Refused}
 use Rattle.queries.specs.Found.{run, Targeted, Standing, Leads, TargetsFound, RestFound, Rest}
 use Rattle.queries.proofs.Targeting.{target-byte}
-use Rattle.std.specs.Prelude.{Option}
-use Rattle.std.specs.declared.option.Option.TheVariants as O
+use Rattle.std.specs.Prelude.{Option, Some, None}
 
 module _ (sh : Shape) (limit l : ℕ) (σ : Scope) (q : List ℕ) (r : ℕ) (z w : List ℕ) where
   -- no query with so many RANGE records, at most 8 targets and l levels is there
-  abbrev None : Type 0
-  None = Rest Refused sh limit l σ q r z w
+  abbrev Missing : Type 0
+  Missing = Rest None sh limit l σ q r z w
 
   standing : (u : Query) → read_query q ≡ ok u [] → length u.ranges ≡ r → length u.targets ≤ 8 → levels_q u ≤ l → Standing l q (3 * r) 8 u.targets u.condition []
   unfolding layout levels_q
   standing u e er et el = record { bytes = ap (λ n. drop (3 * n) q) (sym er) ∙ targets-place q u e; well = (query-inverse q u [] e).well.targets; deep = omega (arith, el); few = et }
 
-  pub rest-short : length q < 3 * r → None
+  pub rest-short : length q < 3 * r → Missing
   unfolding size_q
   rest-short h u e er et el = absurd (omega (arith, ap length (query-inverse q u [] e).bytes, size-query u, er))
 
   module _ (m : Option Run) (y : List ℕ) (lm : Leads m l q (3 * r) 8) (fm : TargetsFound m sh limit l σ q (3 * r) 8 z y) where
-    pub rest-unrun : m ≡ O.None → None
+    pub rest-unrun : m ≡ None → Missing
     rest-unrun h u e er et el = subst (λ x. Leads x l q (3 * r) 8) h lm u.targets u.condition [] (standing u e er et el)
 
     module _ (n c : ℕ) (b : Bool) (em : m ≡ run n c b) where
@@ -61,13 +59,13 @@ module _ (sh : Shape) (limit l : ℕ) (σ : Scope) (q : List ℕ) (r : ℕ) (z w
       no_target [] (u ∷ us) s v h w e f g =
           omega (arith, target-byte u us (encode_targets us s) w, ap (λ x. get_or x 0 0) g, ap (λ x. get_or x 0 0) f, first-at c q, reached.stops)
 
-      pub rest-none : n ≡ 0 → None
+      pub rest-none : n ≡ 0 → Missing
       rest-none h u e er et el =
           let i = query-inverse q u [] e in
           no_target reached.targets u.targets (encode u.condition []) [] i.well.some-target i.well.targets (sym reached.counted ∙ h) reached.bytes (standing u e er et el).bytes
 
       module _ (t : Option Reading) (et : t ≡ condition_reading sh limit l σ (drop c q)) where
-        pub rest-unread : t ≡ O.None → None
+        pub rest-unread : t ≡ None → Missing
         unfolding levels_q
         rest-unread h u e er ft el = unread sh limit l σ q c t et h u.condition [] (place u e er ft el) (query-inverse q u [] e).well.condition (omega (arith, el))
 
@@ -78,7 +76,7 @@ module _ (sh : Shape) (limit l : ℕ) (σ : Scope) (q : List ℕ) (r : ℕ) (z w
           last-ends : c + k + length last.rest ≡ length q
           last-ends = omega (arith, ap length last.bytes, size-encode last.condition last.rest, last.sized, length-drop c q, reached.inside)
 
-          pub rest-longer : (c + k ≡ length q → ⊥) → None
+          pub rest-longer : (c + k ≡ length q → ⊥) → Missing
           unfolding levels_q
           rest-longer h u e er ft el =
               let i = the-condition last u.condition [] (place u e er ft el) (query-inverse q u [] e).well.condition (omega (arith, el)) in

@@ -28,9 +28,9 @@ use Rattle.grammar.proofs.Whole.{at-limit}
 use Rattle.queries.specs.Tables.{query_measured}
 use Rattle.queries.specs.declared.Limits.{Limits}
 use Rattle.queries.specs.declared.Found.{Found}
-use Rattle.queries.specs.declared.Found.TheVariants.{Whole, Refused}
+use Rattle.std.specs.Prelude.{Option, Some, None}
 use Rattle.queries.specs.Parts.{query_at, reach_on, limits_of, Laid, Room}
-use Rattle.queries.specs.Found.{head_ranges, Targeted, RestFound, Rest, Read, Told}
+use Rattle.queries.specs.Found.{whole, head_ranges, Targeted, RestFound, Rest, Read, Told}
 use Rattle.queries.proofs.Numbers.{ready-is}
 use Rattle.queries.proofs.Steps.{scope-ranges}
 use Rattle.queries.proofs.Targeting.{ranged, ranges-are, all_read, ranges-length, target-byte}
@@ -78,7 +78,7 @@ module _ (l : Limits) (q : List ℕ) where
   first-target [] s h w e = omega arith
   first-target (t ∷ ts) s h w e = omega (arith, target-byte t ts (encode_targets ts s) w)
 
-  pub over-rest : (sh : Shape) (limit : ℕ) (σ : Scope) (z w : List ℕ) (n : ℕ) → n ≡ length (head_ranges 4 q) → (m : Found) → m ≡ Refused → Rest m sh limit l.levels σ q n z w → fails30 (limits_of l) q ≡ false → fails31 (limits_of l) (query_of q) ≡ true
+  pub over-rest : (sh : Shape) (limit : ℕ) (σ : Scope) (z w : List ℕ) (n : ℕ) → n ≡ length (head_ranges 4 q) → (m : Option Found) → m ≡ None → Rest m sh limit l.levels σ q n z w → fails30 (limits_of l) q ≡ false → fails31 (limits_of l) (query_of q) ≡ true
   unfolding fails31 encode_query
   over-rest sh limit σ z w n en m em h f = go (fails31 (limits_of l) (query_of q)) refl
     where
@@ -190,30 +190,16 @@ module _ (l : Limits) (cb q : List ℕ) (h10 : fails10 cb ≡ false) (short : le
         twice false = refl
 
   -- the code's tests
-  module _ (m : Found) (em : m ≡ Whole y i) (h : Rest m (shape_in cb) l.variables l.levels (scope_of s) q n z w) where
+  module _ (m : Option Found) (em : m ≡ whole y i) (h : Rest m (shape_in cb) l.variables l.levels (scope_of s) q n z w) where
     abbrev a : RestFound (shape_in cb) l.variables l.levels (scope_of s) q n y i z w
     a = subst (λ x. Rest x (shape_in cb) l.variables l.levels (scope_of s) q n z w) em h
 
-    pub read_out : not i ≡ true → Read y false l (shape_of (catalogue_of cb)) q w
-    read_out g = reads a false (sym (ap (λ x. (all (known_binding (shape_in cb) l.variables) (ranges_at n q) && x) && unique (variables (flat_bindings q))) (not_yes i g) ∙ none (all (known_binding (shape_in cb) l.variables) (ranges_at n q)) _))
-      where
-        none : (x d : Bool) → ((x && false) && d) ≡ false
-        none true d = refl
-        none false d = refl
-
-    module _ (g : not i ≡ false) (b : Bool) (eb : b ≡ all (known_binding (shape_in cb) l.variables) (head_ranges 4 q)) where
-      known : all (known_binding (shape_in cb) l.variables) (ranges_at n q) ≡ b
-      known = ap (all (known_binding (shape_in cb) l.variables)) (sym heads) ∙ sym eb
-
-      pub read-unknown : not b ≡ true → Read y false l (shape_of (catalogue_of cb)) q w
-      read-unknown f = reads a false (sym (ap (λ x. (x && i) && unique (variables (flat_bindings q))) (known ∙ not_yes b f)))
-
-      pub read_all : not b ≡ false → (d : Bool) → d ≡ unique (variables (flat_bindings q)) → Read y d l (shape_of (catalogue_of cb)) q w
-      read_all f d ed = reads a d (ed ∙ sym (ap₂ (λ x y. (x && y) && unique (variables (flat_bindings q))) (known ∙ not-no b f) (not-no i g)))
+    pub read_all : (b : Bool) → b ≡ all (known_binding (shape_in cb) l.variables) (head_ranges 4 q) → (d : Bool) → d ≡ unique (variables (flat_bindings q)) → Read y ((b && i) && d) l (shape_of (catalogue_of cb)) q w
+    read_all b eb d ed = reads a ((b && i) && d) (ap₂ (λ x y. (x && i) && y) (eb ∙ ap (all (known_binding (shape_in cb) l.variables)) heads) ed)
 
 -- the number
-module _ (l : Limits) (sh : Shape) (q w : List ℕ) (m : Found) (h : Told m l sh q w) where
-  pub number-refused : m ≡ Refused → (k b : ℕ) → b ≡ l.bytes → k ≡ cond (fails30_at b q) 30 31 → k ≡ refusal (query_checks (limits_of l) sh q)
+module _ (l : Limits) (sh : Shape) (q w : List ℕ) (m : Option Found) (h : Told m l sh q w) where
+  pub number-refused : m ≡ None → (k b : ℕ) → b ≡ l.bytes → k ≡ cond (fails30_at b q) 30 31 → k ≡ refusal (query_checks (limits_of l) sh q)
   unfolding query_checks refusal
   number-refused em k b eb en = en ∙ ap (λ x. cond {A = ℕ} (fails30_at x q) 30 31) eb ∙ ap (λ x. cond {A = ℕ} x 30 31) (sym (at-limit (limits_of l) q)) ∙ go (fails30 (limits_of l) q) refl
     where
@@ -221,7 +207,7 @@ module _ (l : Limits) (sh : Shape) (q w : List ℕ) (m : Found) (h : Told m l sh
       go true e = refl
       go false e = let f : fails31 (limits_of l) (query_of q) ≡ true = subst (λ x. Told x l sh q w) em h e in sym (rw f)
 
-  module _ (y : Layout) (b : Bool) (em : m ≡ Whole y b) where
+  module _ (y : Layout) (b : Bool) (em : m ≡ whole y b) where
     abbrev r : Read y b l sh q w
     r = subst (λ x. Told x l sh q w) em h
 

@@ -15,7 +15,6 @@ use Rattle.grammar.specs.declared.Layout.{Layout}
 use Rattle.queries.specs.declared.Limits.{Limits}
 use Rattle.queries.specs.declared.Run.{Run}
 use Rattle.queries.specs.declared.Found.{Found}
-use Rattle.queries.specs.declared.Found.TheVariants.{Whole, Refused}
 use Rattle.queries.specs.Parts.{query_at, limits_of, Laid}
 
 -- a RANGE and those after it, none where another record stands
@@ -79,10 +78,14 @@ pub record RestFound (sh : Shape) (limit l : ℕ) (σ : Scope) (q : List ℕ) (r
   pub scope : b ≡ cond first-in (in_scope sh limit condition σ) false
   pub table : w ≡ (query_measured y.targets l q (3 * r) z).table
 
+-- a query with its layout, in scope where b says so
+abbrev pub whole : Layout → Bool → Option Found
+whole y b = Some (record { layout = y; inside = b })
+
 -- or there is no query with so many RANGE records that keeps to the limits
-abbrev pub Rest : Found → Shape → ℕ → ℕ → Scope → List ℕ → ℕ → List ℕ → List ℕ → Type 0
-Rest (Whole y b) sh limit l σ q r z w = RestFound sh limit l σ q r y b z w
-Rest Refused sh limit l σ q r z w = (u : Query) → read_query q ≡ ok u [] → length u.ranges ≡ r → length u.targets ≤ 8 → levels_q u ≤ l → ⊥
+abbrev pub Rest : Option Found → Shape → ℕ → ℕ → Scope → List ℕ → ℕ → List ℕ → List ℕ → Type 0
+Rest (Some f) sh limit l σ q r z w = RestFound sh limit l σ q r f.layout f.inside z w
+Rest None sh limit l σ q r z w = (u : Query) → read_query q ≡ ok u [] → length u.ranges ≡ r → length u.targets ≤ 8 → levels_q u ≤ l → ⊥
 
 -- a query that passes 30 and 31, its layout and its table; b: it passes 32 too
 pub record Read (y : Layout) (b : Bool) (l : Limits) (sh : Shape) (q w : List ℕ) : Type 0 where
@@ -92,6 +95,6 @@ pub record Read (y : Layout) (b : Bool) (l : Limits) (sh : Shape) (q w : List �
   pub laid : Laid y q
   pub ready : query_at y l.levels q w ≡ query_of q
 
-abbrev pub Told : Found → Limits → Shape → List ℕ → List ℕ → Type 0
-Told (Whole y b) l sh q w = Read y b l sh q w
-Told Refused l sh q w = fails30 (limits_of l) q ≡ false → fails31 (limits_of l) (query_of q) ≡ true
+abbrev pub Told : Option Found → Limits → Shape → List ℕ → List ℕ → Type 0
+Told (Some f) l sh q w = Read f.layout f.inside l sh q w
+Told None l sh q w = fails30 (limits_of l) q ≡ false → fails31 (limits_of l) (query_of q) ≡ true

@@ -117,12 +117,11 @@ fn targets(
     })
 }
 
-// A whole query, or that none was read.
+// A whole query: where its parts stand, and whether it is in scope.
 #[derive(Clone, Copy)]
-enum Found {
-    // where its parts stand, and whether it is in scope
-    Whole(Layout, bool),
-    Refused,
+struct Found {
+    layout: Layout,
+    inside: bool,
 }
 
 // The targets and the condition after so many RANGE records, whose variables are in reach.
@@ -134,7 +133,7 @@ fn rest(
     catalogue: &[u8],
     limit: u8,
     reach: &mut [u16],
-) -> Found
+) -> Option<Found>
     requires { (ranges ≤ 4) × (limit ≤ length reach.old) }
     ensures rest { Rest result (shape_in catalogue.now) limit level (scope_of reach.old) q.now ranges z.old
         z.new }
@@ -142,21 +141,17 @@ fn rest(
 {
     let first = kinds::RANGE * ranges;
     if q.len() < first {
-        return Found::Refused;
+        return None;
     }
     let next = Next { at: first, level };
-    let Some(run) = targets(q, z, next, model::TARGETS, catalogue, limit, reach) else {
-        return Found::Refused;
-    };
+    let run = targets(q, z, next, model::TARGETS, catalogue, limit, reach)?;
     if run.count == 0 {
-        return Found::Refused;
+        return None;
     }
     let condition = run.end;
-    let Some(last) = conditions::condition(q, z, condition, level, catalogue, limit, reach) else {
-        return Found::Refused;
-    };
+    let last = conditions::condition(q, z, condition, level, catalogue, limit, reach)?;
     if condition + last.length != q.len() {
-        return Found::Refused;
+        return None;
     }
     let layout = Layout {
         ranges,
@@ -164,11 +159,14 @@ fn rest(
         first,
         condition,
     };
-    Found::Whole(layout, run.inside & last.inside)
+    Some(Found {
+        layout,
+        inside: run.inside & last.inside,
+    })
 }
 
 // A query that passes 30 and 31, its table of sizes filled; whether it passes 32.
-fn read(q: &[u8], limits: Limits, catalogue: &[u8], z: &mut [u16]) -> Found
+fn read(q: &[u8], limits: Limits, catalogue: &[u8], z: &mut [u16]) -> Option<Found>
     requires { (fails10 catalogue.now ≡ false) × (length q.now ≤ limits.bytes → length q.now ≤ length z.old) × (limits.bytes < 65536) }
     ensures told { Told result limits (shape_of (catalogue_of catalogue.now)) q.now z.new }
     ensures z_unchanged { drop (length q.now) z.new ≡ drop (length q.now) z.old }
@@ -177,25 +175,20 @@ fn read(q: &[u8], limits: Limits, catalogue: &[u8], z: &mut [u16]) -> Found
     let variables = limits.variables;
     let level = limits.levels;
     if bytes < q.len() {
-        return Found::Refused;
+        return None;
     }
     let bound = scans::tally(q, false);
     if usize::from(variables) < bound.count {
-        return Found::Refused;
+        return None;
     }
     let mut reach = [0u16; 256];
     let heads = bind_ranges(q, model::RANGES, catalogue, variables, &mut reach);
     let n = heads.count;
-    let Found::Whole(layout, inside) = rest(q, z, n, level, catalogue, variables, &mut reach) else {
-        return Found::Refused;
-    };
-    if !inside {
-        return Found::Whole(layout, false);
-    }
-    if !heads.known {
-        return Found::Whole(layout, false);
-    }
-    Found::Whole(layout, bound.once)
+    let found = rest(q, z, n, level, catalogue, variables, &mut reach)?;
+    Some(Found {
+        layout: found.layout,
+        inside: heads.known & found.inside & bound.once,
+    })
 }
 
 // Why a query was not read: it is not well formed at any depth (30), or else over a limit (31).
@@ -218,11 +211,11 @@ pub fn check(q: &[u8], limits: Limits, catalogue: &[u8], z: &mut [u16]) -> Resul
     ensures z_unchanged { drop (length q.now) z.new ≡ drop (length q.now) z.old }
 {
     let bytes = limits.bytes;
-    let Found::Whole(layout, inside) = read(q, limits, catalogue, z) else {
+    let Some(found) = read(q, limits, catalogue, z) else {
         return Err(unread(q, bytes));
     };
-    if !inside {
+    if !found.inside {
         return Err(Refusal::QueryScope);
     }
-    Ok(layout)
+    Ok(found.layout)
 }

@@ -8,11 +8,11 @@ returns-then-permits-gt-LIST_BYTES c = number-long (shape_of (catalogue_of c.arg
 pub returns-in_default : goal.returns-in_default
 returns-in_default c = number-unread (shape_of (catalogue_of c.args.catalogue.now)) c.args.permits.now c.rest.result c.in_default.is c.rest.ensures _ c.unread.ensures
 
-pub returns-then-not-known : goal.returns-then-not-known
-returns-then-not-known c = number-22 (shape_of (catalogue_of c.args.catalogue.now)) c.args.permits.now c.if-permits-gt-LIST_BYTES.false c.rest.result _ _ c.in-Whole.is c.rest.ensures c.if-not-known.true-raw
+pub returns-then-not-list : goal.returns-then-not-list
+returns-then-not-list c = number-22 (shape_of (catalogue_of c.args.catalogue.now)) c.args.permits.now c.if-permits-gt-LIST_BYTES.false c.rest.result _ _ c.in-Some.is c.rest.ensures c.if-not-list.true
 
-pub returns-then-not-over : goal.returns-then-not-over
-returns-then-not-over c = number-23 (shape_of (catalogue_of c.args.catalogue.now)) c.args.permits.now c.if-permits-gt-LIST_BYTES.false c.rest.result _ _ c.in-Whole.is c.rest.ensures c.if-not-known.false-raw c.if-not-over.true-raw
+pub returns-then-not-list-2 : goal.returns-then-not-list-2
+returns-then-not-list-2 c = number-23 (shape_of (catalogue_of c.args.catalogue.now)) c.args.permits.now c.if-permits-gt-LIST_BYTES.false c.rest.result _ _ c.in-Some.is c.rest.ensures c.if-not-list.false c.if-not-list-2.true
 
 pub returns : goal.returns
-returns c = number-none (shape_of (catalogue_of c.args.catalogue.now)) c.args.permits.now c.if-permits-gt-LIST_BYTES.false c.rest.result _ _ c.in-Whole.is c.rest.ensures c.if-not-known.false-raw c.if-not-over.false-raw
+returns c = number-none (shape_of (catalogue_of c.args.catalogue.now)) c.args.permits.now c.if-permits-gt-LIST_BYTES.false c.rest.result _ _ c.in-Some.is c.rest.ensures c.if-not-list.false c.if-not-list-2.false

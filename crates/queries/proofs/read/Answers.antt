@@ -1,6 +1,6 @@
 use native.Mathlib.Omega.{arith}
 use mathlib.Core.Path.{refl, ap}
-use Rattle.queries.proofs.Telling.{over-bytes, over-bound, over-rest, read_out, read-unknown, read_all}
+use Rattle.queries.proofs.Telling.{over-bytes, over-bound, over-rest, read_all}
 use Rattle.scans.specs.declared.Bindings.{Bindings}
 use Rattle.queries.proofs.read.Goals as goal
 
@@ -10,14 +10,8 @@ returns-then-bytes-q c = record { told = over-bytes c.args.limits c.args.q.now c
 pub returns-then-from-bound : goal.returns-then-from-bound
 returns-then-from-bound c = record { told = over-bound c.args.limits c.args.q.now c.tally-bound.result.count (ap (λ (x : Bindings). x.count) c.tally-bound.ensures) (omega (arith, c.from.ensures, c.if-from-bound.true)); z_unchanged = refl }
 
-pub returns-in_default : goal.returns-in_default
-returns-in_default c = record { told = over-rest c.args.limits c.args.q.now _ _ _ _ _ c.bind_ranges-heads.result.count c.bind_ranges-heads.ensures.count_value.0 c.rest.result c.in_default.is c.rest.ensures.rest; z_unchanged = c.rest.ensures.z_unchanged }
-
-pub returns-then-not-inside : goal.returns-then-not-inside
-returns-then-not-inside c = record { told = read_out c.args.limits c.args.catalogue.now c.args.q.now c.requires.0 c.if-bytes-q.false c.bind_ranges-heads.result.count c.bind_ranges-heads.ensures.count_value.0 c.bind_ranges-heads.ensures.count_le_left c.tally-bound.result.count (ap (λ (x : Bindings). x.count) c.tally-bound.ensures) (omega (arith, c.from.ensures, c.if-from-bound.false)) c.bind_ranges-heads.new.reach c.bind_ranges-heads.ensures.reach_after c.args.z.now (record { room = c.requires.1 c.if-bytes-q.false; short = omega (arith, c.requires.2, c.if-bytes-q.false) }) _ _ _ c.rest.result c.in-Whole.is c.rest.ensures.rest c.if-not-inside.true-raw; z_unchanged = c.rest.ensures.z_unchanged }
-
-pub returns-then-not-heads : goal.returns-then-not-heads
-returns-then-not-heads c = record { told = read-unknown c.args.limits c.args.catalogue.now c.args.q.now c.requires.0 c.if-bytes-q.false c.bind_ranges-heads.result.count c.bind_ranges-heads.ensures.count_value.0 c.bind_ranges-heads.ensures.count_le_left c.tally-bound.result.count (ap (λ (x : Bindings). x.count) c.tally-bound.ensures) (omega (arith, c.from.ensures, c.if-from-bound.false)) c.bind_ranges-heads.new.reach c.bind_ranges-heads.ensures.reach_after c.args.z.now (record { room = c.requires.1 c.if-bytes-q.false; short = omega (arith, c.requires.2, c.if-bytes-q.false) }) _ _ _ c.rest.result c.in-Whole.is c.rest.ensures.rest c.if-not-inside.false-raw c.bind_ranges-heads.result.known c.bind_ranges-heads.ensures.count_value.1 c.if-not-heads.true; z_unchanged = c.rest.ensures.z_unchanged }
+pub returns-in_err-found : goal.returns-in_err-found
+returns-in_err-found c = record { told = rw c.from_residual.ensures (over-rest c.args.limits c.args.q.now _ _ _ _ _ c.bind_ranges-heads.result.count c.bind_ranges-heads.ensures.count_value.0 c.rest.result c.in_err-found.was c.rest.ensures.rest); z_unchanged = c.rest.ensures.z_unchanged }
 
 pub returns : goal.returns
-returns c = record { told = read_all c.args.limits c.args.catalogue.now c.args.q.now c.requires.0 c.if-bytes-q.false c.bind_ranges-heads.result.count c.bind_ranges-heads.ensures.count_value.0 c.bind_ranges-heads.ensures.count_le_left c.tally-bound.result.count (ap (λ (x : Bindings). x.count) c.tally-bound.ensures) (omega (arith, c.from.ensures, c.if-from-bound.false)) c.bind_ranges-heads.new.reach c.bind_ranges-heads.ensures.reach_after c.args.z.now (record { room = c.requires.1 c.if-bytes-q.false; short = omega (arith, c.requires.2, c.if-bytes-q.false) }) _ _ _ c.rest.result c.in-Whole.is c.rest.ensures.rest c.if-not-inside.false-raw c.bind_ranges-heads.result.known c.bind_ranges-heads.ensures.count_value.1 c.if-not-heads.false c.tally-bound.result.once (ap (λ (x : Bindings). x.once) c.tally-bound.ensures); z_unchanged = c.rest.ensures.z_unchanged }
+returns c = record { told = read_all c.args.limits c.args.catalogue.now c.args.q.now c.requires.0 c.if-bytes-q.false c.bind_ranges-heads.result.count c.bind_ranges-heads.ensures.count_value.0 c.bind_ranges-heads.ensures.count_le_left c.tally-bound.result.count (ap (λ (x : Bindings). x.count) c.tally-bound.ensures) (omega (arith, c.from.ensures, c.if-from-bound.false)) c.bind_ranges-heads.new.reach c.bind_ranges-heads.ensures.reach_after c.args.z.now (record { room = c.requires.1 c.if-bytes-q.false; short = omega (arith, c.requires.2, c.if-bytes-q.false) }) _ _ _ c.rest.result c.in_ok-found.was c.rest.ensures.rest c.bind_ranges-heads.result.known c.bind_ranges-heads.ensures.count_value.1 c.tally-bound.result.once (ap (λ (x : Bindings). x.once) c.tally-bound.ensures); z_unchanged = c.rest.ensures.z_unchanged }

@@ -12,21 +12,21 @@ use Rattle.queries.proofs.rest.Goals as goal
 pub returns-then-q-first : goal.returns-then-q-first
 returns-then-q-first c = record { rest = rest-short (shape_in c.args.catalogue.now) c.args.limit c.args.level (scope_of c.args.reach.now) c.args.q.now c.args.ranges c.args.z.now [] c.if-q-first.true; z_unchanged = refl }
 
-pub returns-in_default : goal.returns-in_default
-returns-in_default c = record { rest = rest-unrun (shape_in c.args.catalogue.now) c.args.limit c.args.level (scope_of c.args.reach.now) c.args.q.now c.args.ranges c.args.z.now [] c.targets.result _ c.targets.ensures.leads c.targets.ensures.targets_found c.in_default.is; z_unchanged = c.targets.ensures.z_unchanged }
+pub returns-in_err-run : goal.returns-in_err-run
+returns-in_err-run c = record { rest = rw c.from_residual.ensures (rest-unrun (shape_in c.args.catalogue.now) c.args.limit c.args.level (scope_of c.args.reach.now) c.args.q.now c.args.ranges c.args.z.now [] c.targets.result _ c.targets.ensures.leads c.targets.ensures.targets_found c.in_err-run.was); z_unchanged = c.targets.ensures.z_unchanged }
 
 pub returns-then-run-eq0 : goal.returns-then-run-eq0
-returns-then-run-eq0 c = record { rest = rest-none (shape_in c.args.catalogue.now) c.args.limit c.args.level (scope_of c.args.reach.now) c.args.q.now c.args.ranges c.args.z.now [] c.targets.result _ c.targets.ensures.leads c.targets.ensures.targets_found _ _ _ c.in-Some.is c.if-run-eq0.true; z_unchanged = c.targets.ensures.z_unchanged }
+returns-then-run-eq0 c = record { rest = rest-none (shape_in c.args.catalogue.now) c.args.limit c.args.level (scope_of c.args.reach.now) c.args.q.now c.args.ranges c.args.z.now [] c.targets.result _ c.targets.ensures.leads c.targets.ensures.targets_found _ _ _ c.in_ok-run.was c.if-run-eq0.true; z_unchanged = c.targets.ensures.z_unchanged }
 
-pub returns-in_default-condition : goal.returns-in_default-condition
-returns-in_default-condition c = let q = c.args.q.now in let level = c.args.level in record { rest = rest-unread (shape_in c.args.catalogue.now) c.args.limit level (scope_of c.args.reach.now) q c.args.ranges c.args.z.now [] c.targets.result _ c.targets.ensures.leads c.targets.ensures.targets_found _ _ _ c.in-Some.is c.condition.result c.condition.ensures.value c.in_default-condition.is; z_unchanged = ap (drop (length q)) c.condition.ensures.z_after ∙ condition-past level q _ _ ∙ c.targets.ensures.z_unchanged }
+pub returns-in_err-last : goal.returns-in_err-last
+returns-in_err-last c = let q = c.args.q.now in let level = c.args.level in record { rest = rw c.from_residual-in_err-last.ensures (rest-unread (shape_in c.args.catalogue.now) c.args.limit level (scope_of c.args.reach.now) q c.args.ranges c.args.z.now [] c.targets.result _ c.targets.ensures.leads c.targets.ensures.targets_found _ _ _ c.in_ok-run.was c.condition.result c.condition.ensures.value c.in_err-last.was); z_unchanged = ap (drop (length q)) c.condition.ensures.z_after ∙ condition-past level q _ _ ∙ c.targets.ensures.z_unchanged }
 
 pub overflow_add-condition : goal.overflow_add-condition
 overflow_add-condition c = let good = c.well_formed in let q = c.args.q.now in
-    omega (arith, ap bytes_of c.in-Some-condition.is, condition-ends q _ (run_inside (shape_in c.args.catalogue.now) c.args.limit c.args.level (scope_of c.args.reach.now) q c.args.ranges c.args.z.now [] c.targets.result _ c.targets.ensures.leads c.targets.ensures.targets_found _ _ _ c.in-Some.is) _ _ _ _ c.condition.result c.condition.ensures.value, good)
+    omega (arith, ap bytes_of c.in_ok-last.was, condition-ends q _ (run_inside (shape_in c.args.catalogue.now) c.args.limit c.args.level (scope_of c.args.reach.now) q c.args.ranges c.args.z.now [] c.targets.result _ c.targets.ensures.leads c.targets.ensures.targets_found _ _ _ c.in_ok-run.was) _ _ _ _ c.condition.result c.condition.ensures.value, good)
 
 pub returns-then-condition-last : goal.returns-then-condition-last
-returns-then-condition-last c = let q = c.args.q.now in let level = c.args.level in record { rest = rest-longer (shape_in c.args.catalogue.now) c.args.limit level (scope_of c.args.reach.now) q c.args.ranges c.args.z.now [] c.targets.result _ c.targets.ensures.leads c.targets.ensures.targets_found _ _ _ c.in-Some.is c.condition.result c.condition.ensures.value _ _ c.in-Some-condition.is c.if-condition-last.true; z_unchanged = ap (drop (length q)) c.condition.ensures.z_after ∙ condition-past level q _ _ ∙ c.targets.ensures.z_unchanged }
+returns-then-condition-last c = let q = c.args.q.now in let level = c.args.level in record { rest = rest-longer (shape_in c.args.catalogue.now) c.args.limit level (scope_of c.args.reach.now) q c.args.ranges c.args.z.now [] c.targets.result _ c.targets.ensures.leads c.targets.ensures.targets_found _ _ _ c.in_ok-run.was c.condition.result c.condition.ensures.value _ _ c.in_ok-last.was c.if-condition-last.true; z_unchanged = ap (drop (length q)) c.condition.ensures.z_after ∙ condition-past level q _ _ ∙ c.targets.ensures.z_unchanged }
 
 pub returns : goal.returns
-returns c = let q = c.args.q.now in let level = c.args.level in record { rest = rest-whole (shape_in c.args.catalogue.now) c.args.limit level (scope_of c.args.reach.now) q c.args.ranges c.args.z.now _ c.targets.result _ c.targets.ensures.leads c.targets.ensures.targets_found _ _ _ c.in-Some.is c.condition.result c.condition.ensures.value _ _ c.in-Some-condition.is c.if-q-first.false c.if-run-eq0.false c.if-condition-last.false c.condition.ensures.z_after; z_unchanged = ap (drop (length q)) c.condition.ensures.z_after ∙ condition-past level q _ _ ∙ c.targets.ensures.z_unchanged }
+returns c = let q = c.args.q.now in let level = c.args.level in record { rest = rest-whole (shape_in c.args.catalogue.now) c.args.limit level (scope_of c.args.reach.now) q c.args.ranges c.args.z.now _ c.targets.result _ c.targets.ensures.leads c.targets.ensures.targets_found _ _ _ c.in_ok-run.was c.condition.result c.condition.ensures.value _ _ c.in_ok-last.was c.if-q-first.false c.if-run-eq0.false c.if-condition-last.false c.condition.ensures.z_after; z_unchanged = ap (drop (length q)) c.condition.ensures.z_after ∙ condition-past level q _ _ ∙ c.targets.ensures.z_unchanged }
