@@ -11,9 +11,9 @@ use Rattle.quel.specs.Writing.{Written}
 use Rattle.quel.specs.ReadText.{refused, written}
 use Rattle.quel.proofs.Results.{never, ok-value, ok-left}
 use Rattle.elaborate.specs.After.{ended}
-use Rattle.std.specs.Prelude.{Option, Some, None}
+use Rattle.std.specs.Prelude.{Option, Some, None, Ok, Err}
+use Rattle.model.specs.declared.refusal.Refusal.TheVariants.{Name, RecordRoom}
 use Rattle.elaborate.specs.Whole.{outcome}
-use Rattle.elaborate.specs.declared.Answer.{Answer}
 use Rattle.elaborate.specs.Answers.{answered, writing}
 
 -- where bytes that are written from the first place on end
@@ -36,7 +36,7 @@ whole : (bs d : List ℕ) → length bs ≤ length d → written bs d ≡ record
 unfolding written
 whole bs d h = rw (le-leb (length bs) (length d) h, written)
 
-in_place : (bs d x : List ℕ) (n : ℕ) → n ≡ length bs → n ≤ length d → x ≡ sets d 0 bs → answered (record { number = 0; length = n }) x ≡ written bs d
+in_place : (bs d x : List ℕ) (n : ℕ) → n ≡ length bs → n ≤ length d → x ≡ sets d 0 bs → answered (Ok n) x ≡ written bs d
 in_place bs d x n j k e =
     let y : length bs ≤ length d = omega (arith, k, j) in
     let z : 0 + length bs ≡ length bs = omega arith in
@@ -44,26 +44,26 @@ in_place bs d x n j k e =
 
 module _ (r : Option ℕ) (w : Written) (d : List ℕ) (e : r ≡ measured w) where
   -- a name that is unknown, out of reach or bound twice
-  pub no_name : r ≡ None → (a : Answer) → a ≡ record { number = 51; length = 0 } → answered a d ≡ writing w d
-  no_name h a ea = ap (λ (x : Answer). answered x d) ea ∙ go w (sym h ∙ e)
+  pub no_name : r ≡ None → answered (Err Name) d ≡ writing w d
+  no_name h = go w (sym h ∙ e)
     where
       go : (w : Written) → None ≡ measured w → refused 51 d ≡ writing w d
       go fail i = refl
       go (ok bs m) i = let z : ◌≡◌ {A = ℕ} 0 1 = cc in absurd (omega arith)
 
   module _ (n : ℕ) (h : r ≡ Some n) where
-    pub too_long : length d < n → (a : Answer) → a ≡ record { number = 52; length = 0 } → answered a d ≡ writing w d
-    too_long l a ea = ap (λ (x : Answer). answered x d) ea ∙ go w (sym h ∙ e)
+    pub too_long : length d < n → answered (Err RecordRoom) d ≡ writing w d
+    too_long l = go w (sym h ∙ e)
       where
         go : (w : Written) → Some n ≡ measured w → refused 52 d ≡ writing w d
         go fail i = let z : ◌≡◌ {A = ℕ} 0 1 = cc in absurd (omega arith)
         go (ok bs m) i = let j : n ≡ length bs = cc in sym (long bs d (omega (arith, l, j)))
 
     -- made elsewhere, and copied
-    pub copied : n ≤ length d → (s y : List ℕ) → n ≤ length s → ended s 0 w ≡ outcome r y → (x : List ℕ) → x ≡ sets d 0 (take n y) → answered (record { number = 0; length = n }) x ≡ writing w d
+    pub copied : n ≤ length d → (s y : List ℕ) → n ≤ length s → ended s 0 w ≡ outcome r y → (x : List ℕ) → x ≡ sets d 0 (take n y) → answered (Ok n) x ≡ writing w d
     copied k s y l o x c = go w (sym h ∙ e) (o ∙ ap (λ (z : Option ℕ). outcome z y) h)
       where
-        go : (w : Written) → Some n ≡ measured w → ended s 0 w ≡ ok y n → answered (record { number = 0; length = n }) x ≡ writing w d
+        go : (w : Written) → Some n ≡ measured w → ended s 0 w ≡ ok y n → answered (Ok n) x ≡ writing w d
         go fail i o = never y n o
         go (ok bs m) i o =
             let j : n ≡ length bs = cc in
@@ -71,15 +71,15 @@ module _ (r : Option ℕ) (w : Written) (d : List ℕ) (e : r ≡ measured w) wh
             let g : take n y ≡ bs = ap₂ (λ (c : ℕ) (z : List ℕ). take c z) j f ∙ take-append_seam bs (drop (0 + length bs) s) in
             in_place bs d x n j k (c ∙ ap (λ (z : List ℕ). sets d 0 z) g)
 
-    pub fits : n ≤ length d → (l : Option ℕ) (x : List ℕ) → ended d 0 w ≡ outcome l x → answered (record { number = 0; length = n }) x ≡ writing w d
+    pub fits : n ≤ length d → (l : Option ℕ) (x : List ℕ) → ended d 0 w ≡ outcome l x → answered (Ok n) x ≡ writing w d
     fits k l x o = go w l (sym h ∙ e) o
       where
-        go : (w : Written) (l : Option ℕ) → Some n ≡ measured w → ended d 0 w ≡ outcome l x → answered (record { number = 0; length = n }) x ≡ writing w d
+        go : (w : Written) (l : Option ℕ) → Some n ≡ measured w → ended d 0 w ≡ outcome l x → answered (Ok n) x ≡ writing w d
         go fail l i o = let z : ◌≡◌ {A = ℕ} 0 1 = cc in absurd (omega arith)
         go (ok bs m) None i o = never (sets d 0 bs) (0 + length bs) (sym o)
         go (ok bs m) (Some at) i o = let j : n ≡ length bs = cc in in_place bs d x n j k (sym (ok-value o))
 
 -- a symbol that is bound twice
-pub twice-refused : (w : Written) (d out : List ℕ) → ended d 0 w ≡ fail → (a : Answer) → a ≡ record { number = 51; length = 0 } → answered a out ≡ writing w out
-twice-refused fail d out e a ea = ap (λ (x : Answer). answered x out) ea
-twice-refused (ok bs n) d out e a ea = never (sets d 0 bs) (0 + length bs) (sym e)
+pub twice-refused : (w : Written) (d out : List ℕ) → ended d 0 w ≡ fail → answered (Err Name) out ≡ writing w out
+twice-refused fail d out e = refl
+twice-refused (ok bs n) d out e = never (sets d 0 bs) (0 + length bs) (sym e)

@@ -30,24 +30,7 @@ ghost use Rattle.elaborate.specs.Whole.{Ready, outcome};
 use lookups::Lookup;
 use loops::Start;
 use marks::Tokens;
-
-// A name that is unknown, out of reach or bound twice; records longer than the buffer.
-const NAMES: u8 = 51;
-
-const LENGTH: u8 = 52;
-
-// The number of a refusal, 0 where there is none, and the length of the records.
-#[derive(Clone, Copy)]
-pub struct Answer {
-    pub number: u8,
-    pub length: usize,
-}
-
-fn refused(number: u8) -> Answer
-    ensures { result ≡ record { number = number; length = 0 } }
-{
-    Answer { number, length: 0 }
-}
+use model::Refusal;
 
 // Writes the records of all tokens, with tables for what stands ahead of them and for what names stand for: the place after them, unless a name is
 // unknown or out of reach.
@@ -108,9 +91,9 @@ fn records(kinds: &[u8], lookup: &Lookup, out: &mut [u8]) -> Option<usize>
     records_sized::<2001>(kinds, lookup, out)
 }
 
-// The records of all tokens, or 51 for a name and 52 for their length. They are written into a draft first, so that a buffer that is too short is not
+// The length of the records of all tokens, or a name (51) or their length (52) as what refuses them. They are written into a draft first, so that a buffer that is too short is not
 // touched; where they are longer than that they are made twice.
-fn write(kinds: &[u8], lookup: &Lookup, draft: &mut [u8], out: &mut [u8]) -> Answer
+fn write(kinds: &[u8], lookup: &Lookup, draft: &mut [u8], out: &mut [u8]) -> Result<usize, Refusal>
     requires { (length kinds.now ≤ 2000) × (length draft.old ≤ 2048) × NamesWithin lookup.now (length kinds.now)
         × Listed lookup.now }
     ensures { (text ss : List ℕ) → Ready text (table kinds.now ss lookup.now.numbers.now) (ids_of lookup.now)
@@ -118,21 +101,26 @@ fn write(kinds: &[u8], lookup: &Lookup, draft: &mut [u8], out: &mut [u8]) -> Ans
         (records_of text (table kinds.now ss lookup.now.numbers.now) lookup.now.list.now) out.old }
 {
     let Some(length) = records(kinds, lookup, draft) else {
-        return refused(NAMES);
+        return Err(Refusal::Name);
     };
     if out.len() < length {
-        return refused(LENGTH);
+        return Err(Refusal::RecordRoom);
     }
     if length <= draft.len() {
         copier::copy(out, 0, &draft[..length]);
-        return Answer { number: 0, length };
+        return Ok(length);
     }
     records(kinds, lookup, out);
-    Answer { number: 0, length }
+    Ok(length)
 }
 
 // A text whose names are numbered: bound once, and its records.
-fn resolve(kinds: &[u8], lookup: &Lookup, draft: &mut [u8], out: &mut [u8]) -> Answer
+fn resolve(
+    kinds: &[u8],
+    lookup: &Lookup,
+    draft: &mut [u8],
+    out: &mut [u8],
+) -> Result<usize, Refusal>
     requires { (length kinds.now ≤ 2000) × (length draft.old ≤ 2048) × NamesWithin lookup.now (length kinds.now)
         × Listed lookup.now }
     ensures { (text ss : List ℕ) → Numbered (name_in text kinds.now ss) (length kinds.now) (ids_of lookup.now)
@@ -140,7 +128,7 @@ fn resolve(kinds: &[u8], lookup: &Lookup, draft: &mut [u8], out: &mut [u8]) -> A
         ≡ writing (records_of text (table kinds.now ss lookup.now.numbers.now) lookup.now.list.now) out.old }
 {
     if !marks::unique(kinds, lookup) {
-        return refused(NAMES);
+        return Err(Refusal::Name);
     }
     write(kinds, lookup, draft, out)
 }
@@ -162,7 +150,7 @@ fn elaborate_sized<const L: usize, const D: usize>(
     list: &[u8],
     lookup: &mut [u16],
     out: &mut [u8],
-) -> Answer
+) -> Result<usize, Refusal>
     requires lent { (length tokens.now.kinds.now ≤ 2000) × Indexed list.now (chains_in lookup.old)
         × (room_of (length lookup.old) + length tokens.now.kinds.now ≤ length lookup.old) × ((x : ℕ) → get_or (ids_in lookup.old) x 0 ≡ 0) }
     requires sizes { (512 + length tokens.now.kinds.now ≤ L) × (L ≤ 2513) × (D ≤ 2048) }
@@ -181,7 +169,7 @@ fn elaborate_sized<const L: usize, const D: usize>(
     resolve(tokens.kinds, &lookup, &mut draft, out)
 }
 
-// The records of a text that the grammar has, or 51 for a name and 52 for their length; a refusal leaves the buffer as it was.
+// The length of the records of a text that the grammar has; a name (51) or their length (52) may refuse it. A refusal leaves the buffer as it was.
 pub fn elaborate(
     text: &[u8],
     kinds: &[u8],
@@ -190,7 +178,7 @@ pub fn elaborate(
     list: &[u8],
     lookup: &mut [u16],
     out: &mut [u8],
-) -> Answer
+) -> Result<usize, Refusal>
     requires kinds_len_bound { (length kinds.now ≤ 2000) × (length kinds.now ≤ length numbers.now)
         × Coded text.now (table kinds.now starts.now numbers.now) (length kinds.now) × Indexed list.now (chains_in lookup.old) }
     requires kinds_in_bounds { (room_of (length lookup.old) + length kinds.now ≤ length lookup.old) × ((x : ℕ) → get_or (ids_in lookup.old) x 0 ≡ 0) }

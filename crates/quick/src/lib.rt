@@ -22,7 +22,7 @@ ghost use Rattle.parts.specs.Reads.{Heads, RestAt};
 ghost use Rattle.quick.specs.Steps.{Lent, Went};
 
 use lexis::Text;
-use reader::Reading;
+use model::Refusal;
 
 // Where the pass stands in the text, 0 where it gave up, and how many bytes are written.
 #[derive(Clone, Copy)]
@@ -77,7 +77,7 @@ fn read_with(
     symbols: &mut [u64; 160],
     made: &mut [u8; 1024],
     out: &mut [u8],
-) -> Option<Reading>
+) -> Option<Result<usize, Refusal>>
     requires ended { (1 ≤ length) × Heads symbols.old [] × (L.length made.old ≡ 1024) }
     requires names_value { (L.length names.old ≡ 256) × ((h : ℕ) → get_or names.old h 0 ≡ 0) }
     ensures { (given : List ℕ) → Copied text.bytes given → length ≡ L.length given
@@ -98,7 +98,7 @@ fn read_with(
 }
 
 // What the definition gives, of a text that the pass reads whole; nothing, and the buffer as it was, of any other.
-fn one_pass(given: &[u8], list: &[u8], out: &mut [u8]) -> Option<Reading>
+fn one_pass(given: &[u8], list: &[u8], out: &mut [u8]) -> Option<Result<usize, Refusal>>
     ensures { MatchOption result (out.new ≡ out.old) (λ r. reading_of r out.new ≡ read_text list.now given.now out.old) }
 {
     let length = given.len();
@@ -113,7 +113,7 @@ fn one_pass(given: &[u8], list: &[u8], out: &mut [u8]) -> Option<Reading>
 }
 
 // Reads a text: for every input what the definition gives. A refusal leaves the buffer as it was.
-pub fn read(text: &[u8], list: &[u8], out: &mut [u8]) -> Reading
+pub fn read(text: &[u8], list: &[u8], out: &mut [u8]) -> Result<usize, Refusal>
     ensures { reading_of result out.new ≡ read_text list.now text.now out.old }
 {
     match one_pass(text, list, out) {

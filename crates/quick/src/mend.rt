@@ -6,7 +6,7 @@ ghost use Rattle.reader.specs.Readings.{reading_of};
 ghost use Rattle.parts.specs.Renumber as Renumber;
 ghost use Rattle.quick.specs.Mend.{Renumbered, new_number, table_ranges};
 
-use reader::Reading;
+use model::Refusal;
 
 // How many of n RANGE symbols are used; each gets as its number how many before it are.
 fn renumber(symbols: &mut [u64; 160], n: usize) -> usize
@@ -96,7 +96,7 @@ pub(crate) fn finish(
     n: usize,
     to: usize,
     out: &mut [u8],
-) -> Reading
+) -> Result<usize, Refusal>
     requires { (length symbols.old ≡ 160) × (n ≤ 30) × (length made.old ≡ 1024) × (to ≤ 1021) }
     ensures { reading_of result out.new
         ≡ written (Renumber.records_of symbols.old n (take to made.old)) out.old }
@@ -104,13 +104,10 @@ pub(crate) fn finish(
     let used = renumber(symbols, n);
     let length = 3 * used + to;
     if out.len() < length {
-        return Reading {
-            number: 52,
-            length: 0,
-        };
+        return Err(Refusal::RecordRoom);
     }
     mend_records(symbols, made, n, (n - used) as u8, to);
     let at = put_ranges(symbols, n, out);
     out[at..at + to].copy_from_slice(&made[..to]);
-    Reading { number: 0, length }
+    Ok(length)
 }

@@ -26,9 +26,10 @@ use Rattle.names.specs.Answers.{failed}
 use Rattle.names.proofs.Callers.{good-list, bad-list}
 use Rattle.tokens.specs.Table.{Table, tokens_at}
 use Rattle.tokens.specs.Pieces.{read_of, counted}
-use Rattle.std.specs.Prelude.{Option, Some, None}
+use Rattle.std.specs.Prelude.{Option, Some, None, Result, Err}
+use Rattle.model.specs.declared.refusal.Refusal.{Refusal}
+use Rattle.model.specs.declared.refusal.Refusal.TheVariants.{Grammar, Name}
 use Rattle.reader.specs.Verdict.{given, is_text}
-use Rattle.reader.specs.declared.Reading.{Reading}
 use Rattle.reader.specs.Readings.{reading_of}
 use Rattle.elaborate.specs.Answers.{writing}
 
@@ -38,21 +39,19 @@ resolved-writing fail d = refl
 resolved-writing (ok q n) d = refl
 
 module _ (list text d : List ℕ) (t : Table) (c : Option ℕ) (e : read_of c text t ≡ tokens text) where
-  pub no-tokens : c ≡ None → (a : Reading) → a ≡ record { number = 50; length = 0 } → reading_of a d ≡ read_text list text d
+  pub no-tokens : c ≡ None → reading_of (Err Grammar) d ≡ read_text list text d
   unfolding read_text
-  no-tokens h a ea =
-      ap (λ (x : Reading). reading_of x d) ea
-      ∙ ap (λ (g : Read (List ℕ) (List Token)). parsed (parse g) list d) (ap (λ (o : Option ℕ). read_of o text t) (sym h) ∙ e)
+  no-tokens h =
+      ap (λ (g : Read (List ℕ) (List Token)). parsed (parse g) list d) (ap (λ (o : Option ℕ). read_of o text t) (sym h) ∙ e)
 
   module _ (n : ℕ) (h : c ≡ Some n) where
     cut : ok (tokens_at text t 0 n) [] ≡ tokens text
     cut = ap (λ (o : Option ℕ). read_of o text t) (sym h) ∙ e
 
-    pub no_text : (b : Bool) → b ≡ is_text (tokens_at text t 0 n) → b ≡ false → (a : Reading) → a ≡ record { number = 50; length = 0 } → reading_of a d ≡ read_text list text d
+    pub no_text : (b : Bool) → b ≡ is_text (tokens_at text t 0 n) → b ≡ false → reading_of (Err Grammar) d ≡ read_text list text d
     unfolding read_text
-    no_text b i j a ea =
-        ap (λ (x : Reading). reading_of x d) ea
-        ∙ go (read_tree (tokens_at text t 0 n)) b i j
+    no_text b i j =
+        go (read_tree (tokens_at text t 0 n)) b i j
         ∙ ap (λ (g : Read (List ℕ) (List Token)). parsed (parse g) list d) cut
       where
         go : (g : Read (List Token) Text) (b : Bool) → b ≡ given g → b ≡ false → refused 50 d ≡ parsed g list d
@@ -73,10 +72,10 @@ module _ (list text d : List ℕ) (t : Table) (c : Option ℕ) (e : read_of c te
           go (ok u r) o b i j = f u r o
 
       module _ (g : Bool) (k : g ≡ not (failed (names list))) where
-        pub bad-names : g ≡ false → (a : Reading) → a ≡ record { number = 51; length = 0 } → reading_of a d ≡ read_text list text d
-        bad-names l a ea = derived (λ x. reading_of a d ≡ x) λ u r o. ap (λ (x : Reading). reading_of x d) ea ∙ ap (λ (y : Read (List ℕ) (List Entry)). resolved (resolve y u) d) (sym (bad-list list (sym l ∙ k)))
+        pub bad-names : g ≡ false → reading_of (Err Name) d ≡ read_text list text d
+        bad-names l = derived (λ x. reading_of (Err Name) d ≡ x) λ u r o. ap (λ (y : Read (List ℕ) (List Entry)). resolved (resolve y u) d) (sym (bad-list list (sym l ∙ k)))
 
-        pub read_names : g ≡ true → (ts : List Token) → tokens_at text t 0 n ≡ ts → (a : Reading) (x : List ℕ) → reading_of a x ≡ writing (flat_text (entries list) ts) d → reading_of a x ≡ read_text list text d
+        pub read_names : g ≡ true → (ts : List Token) → tokens_at text t 0 n ≡ ts → (a : Result ℕ Refusal) (x : List ℕ) → reading_of a x ≡ writing (flat_text (entries list) ts) d → reading_of a x ≡ read_text list text d
         read_names l ts f a x o =
             derived (λ z. reading_of a x ≡ z) λ u r p.
             o

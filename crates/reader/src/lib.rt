@@ -11,23 +11,10 @@ ghost use Rattle.names.specs.Search.{Indexed};
 ghost use Rattle.elaborate.specs.Lookup.{room_of, chains_in, ids_in};
 ghost use Rattle.reader.specs.Readings.{reading_of};
 
-// A text outside the grammar; the name list.
-const GRAMMAR: u8 = 50;
+use model::Refusal;
 
-const NAMES: u8 = 51;
-
-// The number of a refusal, 0 where there is none, and the length of the records.
-#[derive(Clone, Copy)]
-pub struct Reading {
-    pub number: u8,
-    pub length: usize,
-}
-
-fn refused(number: u8) -> Reading
-    ensures { result ≡ record { number = number; length = 0 } }
-{
-    Reading { number, length: 0 }
-}
+// A text outside the grammar.
+const GRAMMAR: Refusal = Refusal::Grammar;
 
 // What the chains of the name list take of the table by which names are looked up.
 #[tactic(auto, unfolding(elaborate::specs::Lookup::room_of))]
@@ -57,27 +44,23 @@ fn read_with(
     numbers: &mut [u64],
     lookup: &mut [u16],
     out: &mut [u8],
-) -> Reading
+) -> Result<usize, Refusal>
     requires text_in_bounds { length text.now ≤ 2000 → (length text.now ≤ length kinds.old) × (length text.now ≤ length starts.old)
         × (length text.now ≤ length numbers.old) × (room_of (length lookup.old) + length text.now ≤ length lookup.old) }
     requires by_index { (x : ℕ) → get_or lookup.old x 0 ≡ 0 }
     ensures { reading_of result out.new ≡ read_text list.now text.now out.old }
 {
     let Some(n) = tokens::cut(text, kinds, starts, numbers) else {
-        return refused(GRAMMAR);
+        return Err(GRAMMAR);
     };
     let kinds = &kinds[..n];
     if !syntax::accepted(kinds) {
-        return refused(GRAMMAR);
+        return Err(GRAMMAR);
     }
     if !chained(list, lookup) {
-        return refused(NAMES);
+        return Err(Refusal::Name);
     }
-    let r = elaborate::elaborate(text, kinds, starts, numbers, list, lookup, out);
-    Reading {
-        number: r.number,
-        length: r.length,
-    }
+    elaborate::elaborate(text, kinds, starts, numbers, list, lookup, out)
 }
 
 // Over tables of its own: for TEXT tokens, and of NAMES places for the names.
@@ -85,7 +68,7 @@ fn read_in<const TEXT: usize, const NAMES: usize>(
     text: &[u8],
     list: &[u8],
     out: &mut [u8],
-) -> Reading
+) -> Result<usize, Refusal>
     requires tokens { length text.now ≤ 2000 → length text.now ≤ TEXT }
     requires names { room_of NAMES + TEXT ≤ NAMES }
     requires small { (TEXT ≤ 2000) × (NAMES ≤ 6608) }
@@ -106,8 +89,8 @@ fn read_in<const TEXT: usize, const NAMES: usize>(
     )
 }
 
-// Reads a text: for every input what the definition gives. A refusal leaves the buffer as it was.
-pub fn read(text: &[u8], list: &[u8], out: &mut [u8]) -> Reading
+// Reads a text: for every input what the definition gives, the length of the records or a refusal. A refusal leaves the buffer as it was.
+pub fn read(text: &[u8], list: &[u8], out: &mut [u8]) -> Result<usize, Refusal>
     ensures { reading_of result out.new ≡ read_text list.now text.now out.old }
 {
     // For a short text and a short list the tables are small, none over 2,048 bytes, and soon cleared.

@@ -25,6 +25,11 @@ abbrev pub asked_as : Result G.Reply Refusal → Outcome
 asked_as (Ok r) = record { number = number_in r.answer; rows = r.answer.rows; columns = r.answer.columns; length = r.length }
 asked_as (Err e) = refused_as e
 
+-- what the reader returned, for C
+abbrev pub read_as : Result ℕ Refusal → Reading
+read_as (Ok n) = record { number = 0; length = n }
+read_as (Err e) = record { number = number_of e; length = 0 }
+
 abbrev pub answer_of : Outcome → List ℤ → M.Answer
 answer_of r cells = record { number = r.number; rows = r.rows; columns = r.columns; cells = cells }
 

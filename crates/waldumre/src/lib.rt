@@ -5,7 +5,7 @@ ghost use Rattle.std.specs.Prelude.{◌≡◌};
 ghost use Rattle.model.specs.Calls.{evaluate, ask};
 ghost use Rattle.quel.specs.ReadText.{read_text};
 ghost use Rattle.waldumre.specs.Outcome.{answer_of, outcome_of, reading_of, text_outcome_of};
-ghost use Rattle.waldumre.specs.Outcome.{refused_as, answered_as, asked_as};
+ghost use Rattle.waldumre.specs.Outcome.{refused_as, answered_as, asked_as, read_as};
 ghost use Rattle.waldumre.specs.AskText.{ask_text};
 
 use model::Refusal;
@@ -104,16 +104,29 @@ pub struct Reading {
     pub length: u64,
 }
 
+impl From<Result<usize, Refusal>> for Reading {
+    ghost from_gives = { λ r o. o ≡ read_as r };
+
+    fn from(read: Result<usize, Refusal>) -> Reading {
+        match read {
+            Ok(length) => Reading {
+                number: 0,
+                length: length as u64,
+            },
+            Err(refusal) => Reading {
+                number: u64::from(u8::from(refusal)),
+                length: 0,
+            },
+        }
+    }
+}
+
 // A text of QUEL to a question's records, which waldumre_evaluate and waldumre_ask take.
 #[unsafe(no_mangle)]
 pub extern "C" fn waldumre_read_query(text: &[u8], names: &[u8], records: &mut [u8]) -> Reading
     ensures { reading_of result records.new ≡ read_text names.now text.now records.old }
 {
-    let reading = quick::read(text, names, records);
-    Reading {
-        number: u64::from(reading.number),
-        length: reading.length as u64,
-    }
+    Reading::from(quick::read(text, names, records))
 }
 
 // The guarded call by text: 50, 51, 52 before all of ask's numbers.
@@ -132,17 +145,8 @@ pub extern "C" fn waldumre_ask_text(
         ≡ ask_text catalogue.now values.now permits.now text.now names.now
         records.old rewritten.old answer.old }
 {
-    let read = quick::read(text, names, records);
-    let number = read.number;
-    let n = read.length;
-    if number != 0 {
-        let none = 0;
-        return Outcome {
-            number: u64::from(number),
-            rows: none,
-            columns: none,
-            length: none,
-        };
+    match quick::read(text, names, records) {
+        Ok(n) => waldumre_ask(catalogue, values, permits, &records[..n], rewritten, answer),
+        Err(unread) => refused(unread),
     }
-    waldumre_ask(catalogue, values, permits, &records[..n], rewritten, answer)
 }

@@ -8,7 +8,7 @@ use borrow.Author.Tests.{not-false}
 use Rattle.elaborate.proofs.resolve.Goals as goal
 
 pub returns-then-not-unique : goal.returns-then-not-unique
-returns-then-not-unique c = let kinds = c.args.kinds.now in let list = c.args.lookup.now.list.now in let numbers = c.args.lookup.now.numbers.now in let out = c.args.out.now in λ text ss f g. twice-refused (records_of text (table kinds ss numbers) list) out out (twice text (table kinds ss numbers) (entries list) out c.unique.result (c.unique.ensures text ss numbers f) c.if-not-unique.true-raw) _ c.refused.ensures
+returns-then-not-unique c = let kinds = c.args.kinds.now in let list = c.args.lookup.now.list.now in let numbers = c.args.lookup.now.numbers.now in let out = c.args.out.now in λ text ss f g. twice-refused (records_of text (table kinds ss numbers) list) out out (twice text (table kinds ss numbers) (entries list) out c.unique.result (c.unique.ensures text ss numbers f) c.if-not-unique.true-raw)
 
 pub write-requires : goal.write-requires
 write-requires c = (c.requires.0, c.requires.1, c.requires.2, c.requires.3)

@@ -10,10 +10,10 @@ pub records-requires : goal.records-requires
 records-requires c = (c.requires.0, c.requires.2, c.requires.3)
 
 pub returns-in_default : goal.returns-in_default
-returns-in_default c = let kinds = c.args.kinds.now in let list = c.args.lookup.now.list.now in let numbers = c.args.lookup.now.numbers.now in let draft = c.args.draft.now in λ text ss rd. no_name c.records.result (records_of text (table kinds ss numbers) list) c.args.out.now (measures draft c.records.new.out (records_of text (table kinds ss numbers) list) c.records.result (c.records.ensures text ss rd)) c.in_default.is _ c.refused.ensures
+returns-in_default c = let kinds = c.args.kinds.now in let list = c.args.lookup.now.list.now in let numbers = c.args.lookup.now.numbers.now in let draft = c.args.draft.now in λ text ss rd. no_name c.records.result (records_of text (table kinds ss numbers) list) c.args.out.now (measures draft c.records.new.out (records_of text (table kinds ss numbers) list) c.records.result (c.records.ensures text ss rd)) c.in_default.is
 
 pub returns-then-out-length : goal.returns-then-out-length
-returns-then-out-length c = let kinds = c.args.kinds.now in let list = c.args.lookup.now.list.now in let numbers = c.args.lookup.now.numbers.now in let draft = c.args.draft.now in λ text ss rd. too_long c.records.result (records_of text (table kinds ss numbers) list) c.args.out.now (measures draft c.records.new.out (records_of text (table kinds ss numbers) list) c.records.result (c.records.ensures text ss rd)) c.in-Some.length c.in-Some.is (omega arith) _ c.refused-then-out-length.ensures
+returns-then-out-length c = let kinds = c.args.kinds.now in let list = c.args.lookup.now.list.now in let numbers = c.args.lookup.now.numbers.now in let draft = c.args.draft.now in λ text ss rd. too_long c.records.result (records_of text (table kinds ss numbers) list) c.args.out.now (measures draft c.records.new.out (records_of text (table kinds ss numbers) list) c.records.result (c.records.ensures text ss rd)) c.in-Some.length c.in-Some.is (omega arith)
 
 pub slice_bounds-copy-end-then-length-draft : goal.slice_bounds-copy-end-then-length-draft
 slice_bounds-copy-end-then-length-draft c = sym (length-take-le c.in-Some.length c.records.new.out c.if-length-draft.true)
