@@ -1,9 +1,8 @@
 // Which rows of a relation meet a permit's condition: a mark for each row, and the condition taken apart once for all rows. NOT, AND and OR are
 // marks upon marks, a comparison with something known is one short loop that takes the same way for every row; only what is left, as SOME, is asked row by row,
 // the rows that it may find chained before the first.
-ghost use Rattle.std.specs.Prelude.{◌≡◌, true, false, not, cond, ◌&&◌, ◌||◌, List, ℕ, ◌+◌, ◌*◌, ◌≤◌, ◌<◌, eqb, ℤ, pos, nat_abs, ◌*ℤ◌, length, get_or, set, drop};
+ghost use Rattle.std.specs.Prelude.{◌≡◌, true, false, not, cond, ◌&&◌, ◌||◌, List, ℕ, ◌+◌, ◌*◌, ◌≤◌, ◌<◌, eqb, ℤ, pos, nat_abs, ◌*ℤ◌, length, get_or, drop, IfSome};
 ghost use Rattle.std.proofs.Math.Option.{some};
-ghost use Rattle.std.specs.Int.Signed.{le_z};
 ghost use Rattle.model.specs.Lists.{update};
 ghost use Rattle.model.specs.Meaning.{Rows, Assignment, signed};
 ghost use Rattle.model.specs.Meaning as M;
@@ -37,43 +36,19 @@ struct Test {
     scale: i64,
 }
 
-fn turned(wanted: bool, b: bool) -> bool
-    ensures { result ≡ J.turned wanted b }
-{
-    if wanted { b } else { !b }
-}
-
-fn at_most(free: bool, a: i64, b: i64) -> bool
-    ensures { result ≡ free || le_z a b }
-{
-    if free { true } else { a <= b }
-}
-
-fn both(a: bool, b: bool) -> bool
-    ensures { result ≡ a && b }
-{
-    if a { b } else { false }
-}
-
 fn between(above: bool, below: bool, wanted: bool, n: i64, v: i64) -> bool
     ensures { result ≡ J.between above below wanted n v }
 {
-    let low = at_most(above, n, v);
-    let high = at_most(below, v, n);
-    turned(wanted, both(low, high))
-}
-
-fn flag(b: bool) -> u8
-    ensures { result ≡ cond b 1 0 }
-{
-    if b { 1 } else { 0 }
+    let low = above || n <= v;
+    let high = below || v <= n;
+    (low && high) == wanted
 }
 
 fn joined(old: u8, b: bool) -> u8
     requires { old ≤ 1 }
     ensures { result ≡ cond b 1 old }
 {
-    old | flag(b)
+    old | u8::from(b)
 }
 
 // The cross product of a value with a denominator.
@@ -81,7 +56,7 @@ fn scaled(a: i32, d: i64) -> i64
     requires { nat_abs d ≤ 65535 }
     ensures { result ≡ a *ℤ d }
 {
-    a as i64 * d
+    i64::from(a) * d
 }
 
 // Marks the rows whose value passes a test; values are `width` apart.
@@ -95,13 +70,11 @@ fn mark_passing(values: &[i32], from: usize, width: usize, n: usize, test: Test,
     let wanted = test.wanted;
     let number = test.number;
     let scale = test.scale;
-    let mut i = 0;
     let mut at = from;
-    while i < n {
+    for i in 0..n {
         let v = scaled(values[at], scale);
         marks[i] = joined(marks[i], between(above, below, wanted, number, v));
         at += width;
-        i += 1;
     }
 }
 
@@ -134,30 +107,13 @@ fn test_of(operator: u8, x: Ratio, wanted: bool) -> Test
     }
 }
 
-fn wide(x: u8) -> usize
-    ensures { result ≡ x }
-{
-    x as usize
-}
-
-// Marks the first n rows.
-fn mark_all(n: usize, marks: &mut [u8])
-    requires { n ≤ length marks.old }
-    ensures { J.Marked (λ i. true) n marks.old marks.new }
-{
-    let mut i = 0;
-    while i < n {
-        marks[i] = 1;
-        i += 1;
-    }
-}
-
+// Marks the first n rows if they are to be marked.
 fn mark_if(b: bool, n: usize, marks: &mut [u8])
     requires { n ≤ length marks.old }
     ensures { J.Marked (λ i. b) n marks.old marks.new }
 {
     if b {
-        mark_all(n, marks);
+        marks[..n].fill(1);
     }
 }
 
@@ -184,7 +140,7 @@ fn mark_against(
         mark_if(!wanted, n, marks);
         return true;
     }
-    let a = wide(attribute);
+    let a = usize::from(attribute);
     if width <= a {
         return false;
     }
@@ -196,63 +152,37 @@ fn mark_against(
     true
 }
 
-// A term whose value is known before the first row.
-#[derive(Clone, Copy)]
-struct Known {
-    known: bool,
-    value: Ratio,
-}
-
-fn found(value: Ratio) -> Known
-    ensures { result ≡ record { known = true; value = value } }
-{
-    Known { known: true, value }
-}
-
-fn unknown() -> Known
-    ensures { (result.known ≡ false) × Small result.value }
-{
-    let value = numbers::whole(0);
-    Known {
-        known: false,
-        value,
-    }
-}
-
 // An aggregate, where the memo knows it.
-fn recalled(memo: &[i64], variable: u8) -> Known
-    ensures variable_value { result.known ≡ true → (Memo.knows memo.now variable ≡ true)
-        × (value_of result.value ≡ Memo.recalled memo.now variable) }
-    ensures small { Small result.value }
+fn recalled(memo: &[i64], variable: u8) -> Option<Ratio>
+    ensures { IfSome result (λ x. (Memo.knows memo.now variable ≡ true)
+        × (value_of x ≡ Memo.recalled memo.now variable) × Small x) }
 {
     if !numbers::knows(memo, variable) {
-        return unknown();
+        return None;
     }
-    found(numbers::recall(memo, variable))
+    Some(numbers::recall(memo, variable))
 }
 
-// The term that q starts with: a number, or an aggregate.
-fn known_at(q: &[u8], level: usize, memo: &[i64]) -> Known
-    ensures value_value { result.known ≡ true → (z : List ℕ) (R : Rows) (e : Assignment) → value_of result.value
-        ≡ value_by memo.now (decode_t level q.now z) R e }
-    ensures small { Small result.value }
+// The value of the term that q starts with, where it is known before the first row: a number, or an aggregate.
+fn known_at(q: &[u8], level: usize, memo: &[i64]) -> Option<Ratio>
+    ensures { IfSome result (λ x. ((z : List ℕ) (R : Rows) (e : Assignment) → value_of x
+        ≡ value_by memo.now (decode_t level q.now z) R e) × Small x) }
 {
     if level == 0 {
-        return unknown();
+        return None;
     }
     match kinds::term_record(q) {
-        TermRecord::Constant(a, b, c, d) => found(numbers::whole(kinds::constant(a, b, c, d))),
+        TermRecord::Constant(a, b, c, d) => Some(numbers::whole(kinds::constant(a, b, c, d))),
         TermRecord::Aggregate(_, variable, _, _) => recalled(memo, variable),
-        TermRecord::Attribute(_, _) | TermRecord::Other => unknown(),
+        TermRecord::Attribute(_, _) | TermRecord::Other => None,
     }
 }
 
-// What is asked of a condition: at which level it is read, on which rows, and the end that it is to lead to, 0 where it is to hold. A number, since a
-// flag that is read from a struct costs an instruction for each row.
+// What is asked of a condition: at which level it is read, and the end that it is to lead to, 0 where it is to hold. A number, since a flag that is read
+// from a struct costs an instruction for each row.
 #[derive(Clone, Copy)]
 struct Task {
     level: usize,
-    walk: Walk,
     end: usize,
 }
 
@@ -263,134 +193,14 @@ fn other(end: usize) -> usize
     if end == 0 { 1 } else { 0 }
 }
 
-// Marks by the condition that q starts with, where it is a comparison of an attribute of variable 0 with a known term; whether it is.
-fn mark_compared(
-    q: &[u8],
-    z: &[u16],
-    values: &[i32],
-    memo: &[i64],
-    marks: &mut [u8],
-    task: Task,
-) -> bool
-    requires { (task.walk.count ≤ length marks.old) × Fits task.walk × J.Bits marks.old }
-    ensures marked { result ≡ true → (ws : List ℕ) → J.Marked (J.judged_on task.level q.now z.now ws values.now
-        memo.now task.walk (eqb task.end 0)) task.walk.count marks.old marks.new }
-    ensures marks_unchanged { result ≡ false → marks.new ≡ marks.old }
-{
-    if task.level < 2 {
-        return false;
-    }
-    let ConditionRecord::Compare(operator) = kinds::condition_record(q) else {
-        return false;
-    };
-    let a = kinds::record_length(kinds::byte(q, 0));
-    let TermRecord::Attribute(variable, attribute) = kinds::term_record(kinds::tail(q, a)) else {
-        return false;
-    };
-    if variable != 0 {
-        return false;
-    }
-    let b = a + kinds::size_at(z, a);
-    let k = known_at(kinds::tail(q, b), task.level - 1, memo);
-    let known = k.known;
-    if !known {
-        return false;
-    }
-    let x = k.value;
-    let wanted = task.end == 0;
-    mark_against(operator, attribute, x, task.walk, values, wanted, marks)
-}
-
 // Marks the rows that other marks leave out.
 fn mark_others(others: &[u8], n: usize, marks: &mut [u8])
     requires { (n ≤ length others.now) × (n ≤ length marks.old) × J.Bits marks.old }
     ensures { J.Marked (λ i. eqb (get_or others.now i 0) 0) n marks.old marks.new }
 {
-    let mut i = 0;
-    while i < n {
+    for i in 0..n {
         marks[i] = joined(marks[i], others[i] == 0);
-        i += 1;
     }
-}
-
-// The first row, from one on, that is not marked; where all are, n.
-fn unmarked(marks: &[u8], n: usize, from: usize) -> usize
-    requires { (n ≤ length marks.now) × (from ≤ n) }
-    ensures lower_bound { (from ≤ result) × (result ≤ n) }
-    ensures by_index { (j : ℕ) → from ≤ j → j < result → get_or marks.now j 0 ≡ 0 → ⊥ }
-{
-    let mut i = from;
-    while i < n {
-        if marks[i] == 0 {
-            return i;
-        }
-        i += 1;
-    }
-    i
-}
-
-fn place_of(walk: Walk, i: usize) -> usize
-    requires { Fits walk × (i ≤ 65535) }
-    ensures { result ≡ walk.base + i * walk.width }
-{
-    walk.base + i * walk.width
-}
-
-// A walk, and the branch that each of its rows is to lead from to 0.
-#[derive(Clone, Copy)]
-struct Trial {
-    walk: Walk,
-    start: usize,
-}
-
-// Marks the rows of a trial that do, row by row. A row that is marked is not tried.
-fn mark_rows(
-    t: &[u16],
-    trial: Trial,
-    q: &[u8],
-    z: &[u16],
-    walks: &[u16],
-    chains: &[u16],
-    values: &[i32],
-    memo: &[i64],
-    marks: &mut [u8],
-)
-    requires { (trial.start ≤ 65535) × Fits trial.walk × (trial.walk.count ≤ length marks.old) × J.Bits marks.old
-        × Faithful t.now walks.now values.now chains.now }
-    ensures { J.Marked (J.ran_on t.now trial.start q.now z.now walks.now
-        values.now memo.now trial.walk) trial.walk.count marks.old marks.new }
-{
-    let walk = trial.walk;
-    let start = trial.start;
-    let n = walk.count;
-    let mut env = [values.len(); 256];
-    let mut i = unmarked(marks, n, 0);
-    while i < n {
-        env[0] = place_of(walk, i);
-        let met = decide::leads(t, start, q, z, walks, chains, values, memo, &mut env);
-        marks[i] = joined(marks[i], met);
-        i = unmarked(marks, n, i + 1);
-    }
-}
-
-// The same where the table asks for rows of other variables: those are chained once for all rows of the walk, up to three of 1,024 rows.
-fn mark_linked(
-    t: &[u16],
-    trial: Trial,
-    q: &[u8],
-    z: &[u16],
-    walks: &[u16],
-    values: &[i32],
-    memo: &[i64],
-    marks: &mut [u8],
-)
-    requires { (trial.start ≤ 65535) × Fits trial.walk × (trial.walk.count ≤ length marks.old) × J.Bits marks.old }
-    ensures { J.Marked (J.ran_on t.now trial.start q.now z.now walks.now
-        values.now memo.now trial.walk) trial.walk.count marks.old marks.new }
-{
-    let mut chains = [0u16; 6220];
-    decide::seeks::link(q, 0, t, walks, values, &mut chains);
-    mark_rows(t, trial, q, z, walks, &chains, values, memo, marks);
 }
 
 // The end that a condition leads to where it is as wanted.
@@ -400,165 +210,215 @@ fn end_of(wanted: bool) -> usize
     if wanted { 0 } else { 1 }
 }
 
-// Marks by the condition that q starts with, row by row.
-fn judge_each(
-    q: &[u8],
-    z: &[u16],
-    walks: &[u16],
-    values: &[i32],
-    memo: &[i64],
-    marks: &mut [u8],
-    task: Task,
-)
-    requires { (task.level ≤ 65535) × Fits task.walk × (task.walk.count ≤ length marks.old) × J.Bits marks.old }
-    ensures { J.Marked (J.judged_on task.level q.now z.now walks.now values.now memo.now
-        task.walk (eqb task.end 0)) task.walk.count marks.old marks.new }
-{
-    let wanted = task.end == 0;
-    let mut t = [0u16; branches::ENTRIES];
-    let met = end_of(wanted);
-    let unmet = end_of(!wanted);
-    let room = Room { next: 2, end: 64 };
-    let ways = Ways { met, unmet };
-    let level = task.level;
-    let spot = Spot { place: 0, level };
-    let start = branches::compile(q, z, spot, memo, &mut t, room, ways);
-    let walk = task.walk;
-    let trial = Trial { walk, start };
-    if kinds::byte(q, 0) == 22 {
-        mark_linked(&t, trial, q, z, walks, values, memo, marks);
-        return;
-    }
-    let chains = [0u16; 1];
-    mark_rows(&t, trial, q, z, walks, &chains, values, memo, marks);
+// What decides which rows of a walk meet a condition: the walks of its other variables, the values, and the memo of its aggregates.
+#[derive(Clone, Copy)]
+struct Judging<'a> {
+    walk: Walk,
+    walks: &'a [u16],
+    values: &'a [i32],
+    memo: &'a [i64],
+    ghost fits: { Fits walk },
+    ghost few: { walk.count ≤ 1024 },
 }
 
-// What is no AND, OR or NOT: a comparison with something known in one loop, else row by row.
-fn judge_leaf(
-    q: &[u8],
-    z: &[u16],
-    walks: &[u16],
-    values: &[i32],
-    memo: &[i64],
-    marks: &mut [u8],
-    task: Task,
-)
-    requires { (task.level ≤ 65535) × Fits task.walk × (task.walk.count ≤ length marks.old) × J.Bits marks.old }
-    ensures { J.Marked (J.judged_on task.level q.now z.now walks.now values.now memo.now
-        task.walk (eqb task.end 0)) task.walk.count marks.old marks.new }
-{
-    if mark_compared(q, z, values, memo, marks, task) {
-        return;
-    }
-    judge_each(q, z, walks, values, memo, marks, task);
-}
-
-// Where two conditions are both as wanted: what either leaves out is marked apart, and the others are marked.
-#[cycle(judge_at_judge_both_judge_two)]
-fn judge_both(
-    q: &[u8],
-    z: &[u16],
-    walks: &[u16],
-    values: &[i32],
-    memo: &[i64],
-    marks: &mut [u8],
-    task: Task,
-)
-    requires { (task.level ≤ 65534) × Fits task.walk × (task.walk.count ≤ 1024) × (task.walk.count ≤ length marks.old) × J.Bits marks.old }
-    ensures { J.Marked (λ i. J.judged_on task.level (drop (first q.now) q.now)
-        (drop (first q.now) z.now) walks.now values.now memo.now task.walk (eqb task.end 0) i
-        && J.judged_on task.level (drop (second q.now z.now) q.now)
-        (drop (second q.now z.now) z.now) walks.now values.now memo.now
-        task.walk (eqb task.end 0) i) task.walk.count marks.old marks.new }
-{
-    let mut others = [0u8; model::ROWS];
-    let mut left_out = task;
-    left_out.end = other(task.end);
-    judge_two(q, z, walks, values, memo, &mut others, left_out);
-    mark_others(&others, task.walk.count, marks);
-}
-
-// Where one of two conditions is as wanted: comparisons first, since a row that is marked is not tried again.
-#[cycle(judge_at_judge_both_judge_two)]
-fn judge_two(
-    q: &[u8],
-    z: &[u16],
-    walks: &[u16],
-    values: &[i32],
-    memo: &[i64],
-    marks: &mut [u8],
-    task: Task,
-)
-    requires { (task.level ≤ 65534) × Fits task.walk × (task.walk.count ≤ 1024) × (task.walk.count ≤ length marks.old) × J.Bits marks.old }
-    ensures { J.Marked (λ i. J.judged_on task.level (drop (first q.now) q.now)
-        (drop (first q.now) z.now) walks.now values.now memo.now task.walk (eqb task.end 0) i
-        || J.judged_on task.level (drop (second q.now z.now) q.now)
-        (drop (second q.now z.now) z.now) walks.now values.now memo.now
-        task.walk (eqb task.end 0) i) task.walk.count marks.old marks.new }
-{
-    let a = kinds::record_length(kinds::byte(q, 0));
-    let b = a + kinds::size_at(z, a);
-    let x = kinds::tail(q, a);
-    let y = kinds::tail_sizes(z, a);
-    let u = kinds::tail(q, b);
-    let v = kinds::tail_sizes(z, b);
-    if kinds::byte(q, b) == 21 {
-        judge_at(u, v, walks, values, memo, marks, task);
-        judge_at(x, y, walks, values, memo, marks, task);
-        return;
-    }
-    judge_at(x, y, walks, values, memo, marks, task);
-    judge_at(u, v, walks, values, memo, marks, task);
-}
-
-// Marks the rows with which the condition that q starts with is as wanted.
-#[cycle(judge_at_judge_both_judge_two)]
-fn judge_at(
-    q: &[u8],
-    z: &[u16],
-    walks: &[u16],
-    values: &[i32],
-    memo: &[i64],
-    marks: &mut [u8],
-    task: Task,
-)
-    requires { (task.level ≤ 65535) × Fits task.walk × (task.walk.count ≤ 1024) × (task.walk.count ≤ length marks.old) × J.Bits marks.old }
-    ensures { J.Marked (J.judged_on task.level q.now z.now walks.now values.now memo.now
-        task.walk (eqb task.end 0)) task.walk.count marks.old marks.new }
-{
-    if task.level == 0 {
-        judge_leaf(q, z, walks, values, memo, marks, task);
-        return;
-    }
-    let mut under = task;
-    under.level = task.level - 1;
-    match kinds::condition_record(q) {
-        ConditionRecord::True => mark_if(task.end == 0, task.walk.count, marks),
-        ConditionRecord::Not => {
-            let a = kinds::record_length(kinds::byte(q, 0));
-            let x = kinds::tail(q, a);
-            let y = kinds::tail_sizes(z, a);
-            under.end = other(task.end);
-            judge_at(x, y, walks, values, memo, marks, under);
+impl Judging<'_> {
+    // Marks by the condition that q starts with, where it is a comparison of an attribute of variable 0 with a known term; whether it is.
+    fn mark_compared(&self, q: &[u8], z: &[u16], task: Task, marks: &mut [u8]) -> bool
+        requires { (self.now.walk.count ≤ length marks.old) × J.Bits marks.old }
+        ensures marked { result ≡ true → (ws : List ℕ) → J.Marked (J.judged_on task.level q.now z.now ws
+            self.now.values.now self.now.memo.now self.now.walk (eqb task.end 0)) self.now.walk.count marks.old marks.new }
+        ensures marks_unchanged { result ≡ false → marks.new ≡ marks.old }
+    {
+        if task.level < 2 {
+            return false;
         }
-        ConditionRecord::And => {
-            if task.end == 0 {
-                judge_both(q, z, walks, values, memo, marks, under);
-            } else {
-                judge_two(q, z, walks, values, memo, marks, under);
+        let ConditionRecord::Compare(operator) = kinds::condition_record(q) else {
+            return false;
+        };
+        let a = kinds::record_length(kinds::byte(q, 0));
+        let TermRecord::Attribute(variable, attribute) = kinds::term_record(kinds::tail(q, a))
+        else {
+            return false;
+        };
+        if variable != 0 {
+            return false;
+        }
+        let b = a + kinds::size_at(z, a);
+        let Some(x) = known_at(kinds::tail(q, b), task.level - 1, self.memo) else {
+            return false;
+        };
+        let wanted = task.end == 0;
+        mark_against(
+            operator,
+            attribute,
+            x,
+            self.walk,
+            self.values,
+            wanted,
+            marks,
+        )
+    }
+
+    // Marks the rows that lead from a branch to 0, row by row. A row that is marked is not tried.
+    fn mark_rows(
+        &self,
+        q: &[u8],
+        z: &[u16],
+        t: &[u16],
+        start: usize,
+        chains: &[u16],
+        marks: &mut [u8],
+    )
+        requires { (start ≤ 65535) × (self.now.walk.count ≤ length marks.old) × J.Bits marks.old
+            × Faithful t.now self.now.walks.now self.now.values.now chains.now }
+        ensures { J.Marked (J.ran_on t.now start q.now z.now self.now.walks.now self.now.values.now self.now.memo.now self.now.walk)
+            self.now.walk.count marks.old marks.new }
+    {
+        let walk = self.walk;
+        let values = self.values;
+        let mut env = [values.len(); 256];
+        for i in 0..walk.count {
+            if marks[i] != 0 {
+                continue;
             }
+            env[0] = walk.base + i * walk.width;
+            let met = decide::leads(
+                t, start, q, z, self.walks, chains, values, self.memo, &mut env,
+            );
+            marks[i] = u8::from(met);
         }
-        ConditionRecord::Or => {
-            if task.end == 0 {
-                judge_two(q, z, walks, values, memo, marks, under);
-            } else {
-                judge_both(q, z, walks, values, memo, marks, under);
+    }
+
+    // The same where the table asks for rows of other variables: those are chained once for all rows of the walk, up to three of 1,024 rows.
+    fn mark_linked(&self, q: &[u8], z: &[u16], t: &[u16], start: usize, marks: &mut [u8])
+        requires { (start ≤ 65535) × (self.now.walk.count ≤ length marks.old) × J.Bits marks.old }
+        ensures { J.Marked (J.ran_on t.now start q.now z.now self.now.walks.now self.now.values.now self.now.memo.now self.now.walk)
+            self.now.walk.count marks.old marks.new }
+    {
+        let mut chains = [0u16; 6220];
+        decide::seeks::link(q, 0, t, self.walks, self.values, &mut chains);
+        self.mark_rows(q, z, t, start, &chains, marks);
+    }
+
+    // Marks by the condition that q starts with, row by row.
+    fn judge_each(&self, q: &[u8], z: &[u16], task: Task, marks: &mut [u8])
+        requires { (task.level ≤ 65535) × (self.now.walk.count ≤ length marks.old) × J.Bits marks.old }
+        ensures { J.Marked (J.judged_on task.level q.now z.now self.now.walks.now self.now.values.now self.now.memo.now self.now.walk
+            (eqb task.end 0)) self.now.walk.count marks.old marks.new }
+    {
+        let wanted = task.end == 0;
+        let mut t = [0u16; branches::ENTRIES];
+        let met = end_of(wanted);
+        let unmet = end_of(!wanted);
+        let room = Room { next: 2, end: 64 };
+        let ways = Ways { met, unmet };
+        let level = task.level;
+        let spot = Spot { place: 0, level };
+        let start = branches::compile(q, z, spot, self.memo, &mut t, room, ways);
+        if kinds::byte(q, 0) == 22 {
+            self.mark_linked(q, z, &t, start, marks);
+            return;
+        }
+        let chains = [0u16; 1];
+        self.mark_rows(q, z, &t, start, &chains, marks);
+    }
+
+    // What is no AND, OR or NOT: a comparison with something known in one loop, else row by row.
+    fn judge_leaf(&self, q: &[u8], z: &[u16], task: Task, marks: &mut [u8])
+        requires { (task.level ≤ 65535) × (self.now.walk.count ≤ length marks.old) × J.Bits marks.old }
+        ensures { J.Marked (J.judged_on task.level q.now z.now self.now.walks.now self.now.values.now self.now.memo.now self.now.walk
+            (eqb task.end 0)) self.now.walk.count marks.old marks.new }
+    {
+        if self.mark_compared(q, z, task, marks) {
+            return;
+        }
+        self.judge_each(q, z, task, marks);
+    }
+
+    // Where two conditions are both as wanted: what either leaves out is marked apart, and the others are marked.
+    #[cycle(judge_at_judge_both_judge_two)]
+    fn judge_both(&self, q: &[u8], z: &[u16], task: Task, marks: &mut [u8])
+        requires { (task.level ≤ 65534) × (self.now.walk.count ≤ length marks.old) × J.Bits marks.old }
+        ensures { J.Marked (λ i. J.judged_on task.level (drop (first q.now) q.now)
+            (drop (first q.now) z.now) self.now.walks.now self.now.values.now self.now.memo.now self.now.walk (eqb task.end 0) i
+            && J.judged_on task.level (drop (second q.now z.now) q.now)
+            (drop (second q.now z.now) z.now) self.now.walks.now self.now.values.now self.now.memo.now self.now.walk
+            (eqb task.end 0) i) self.now.walk.count marks.old marks.new }
+    {
+        let mut others = [0u8; model::ROWS];
+        let end = other(task.end);
+        self.judge_two(q, z, Task { end, ..task }, &mut others);
+        mark_others(&others, self.walk.count, marks);
+    }
+
+    // Where one of two conditions is as wanted: comparisons first, since a row that is marked is not tried again.
+    #[cycle(judge_at_judge_both_judge_two)]
+    fn judge_two(&self, q: &[u8], z: &[u16], task: Task, marks: &mut [u8])
+        requires { (task.level ≤ 65534) × (self.now.walk.count ≤ length marks.old) × J.Bits marks.old }
+        ensures { J.Marked (λ i. J.judged_on task.level (drop (first q.now) q.now)
+            (drop (first q.now) z.now) self.now.walks.now self.now.values.now self.now.memo.now self.now.walk (eqb task.end 0) i
+            || J.judged_on task.level (drop (second q.now z.now) q.now)
+            (drop (second q.now z.now) z.now) self.now.walks.now self.now.values.now self.now.memo.now self.now.walk
+            (eqb task.end 0) i) self.now.walk.count marks.old marks.new }
+    {
+        let a = kinds::record_length(kinds::byte(q, 0));
+        let b = a + kinds::size_at(z, a);
+        let x = kinds::tail(q, a);
+        let y = kinds::tail_sizes(z, a);
+        let u = kinds::tail(q, b);
+        let v = kinds::tail_sizes(z, b);
+        if kinds::byte(q, b) == 21 {
+            self.judge_at(u, v, task, marks);
+            self.judge_at(x, y, task, marks);
+            return;
+        }
+        self.judge_at(x, y, task, marks);
+        self.judge_at(u, v, task, marks);
+    }
+
+    // Marks the rows with which the condition that q starts with is as wanted.
+    #[cycle(judge_at_judge_both_judge_two)]
+    fn judge_at(&self, q: &[u8], z: &[u16], task: Task, marks: &mut [u8])
+        requires { (task.level ≤ 65535) × (self.now.walk.count ≤ length marks.old) × J.Bits marks.old }
+        ensures { J.Marked (J.judged_on task.level q.now z.now self.now.walks.now self.now.values.now self.now.memo.now self.now.walk
+            (eqb task.end 0)) self.now.walk.count marks.old marks.new }
+    {
+        if task.level == 0 {
+            self.judge_leaf(q, z, task, marks);
+            return;
+        }
+        let under = Task {
+            level: task.level - 1,
+            ..task
+        };
+        match kinds::condition_record(q) {
+            ConditionRecord::True => mark_if(task.end == 0, self.walk.count, marks),
+            ConditionRecord::Not => {
+                let a = kinds::record_length(kinds::byte(q, 0));
+                let x = kinds::tail(q, a);
+                let y = kinds::tail_sizes(z, a);
+                let end = other(task.end);
+                self.judge_at(x, y, Task { end, ..under }, marks);
             }
+            ConditionRecord::And => {
+                if task.end == 0 {
+                    self.judge_both(q, z, under, marks);
+                } else {
+                    self.judge_two(q, z, under, marks);
+                }
+            }
+            ConditionRecord::Or => {
+                if task.end == 0 {
+                    self.judge_two(q, z, under, marks);
+                } else {
+                    self.judge_both(q, z, under, marks);
+                }
+            }
+            ConditionRecord::False
+            | ConditionRecord::Compare(_)
+            | ConditionRecord::Some(_, _)
+            | ConditionRecord::Other => self.judge_leaf(q, z, task, marks),
         }
-        ConditionRecord::False
-        | ConditionRecord::Compare(_)
-        | ConditionRecord::Some(_, _)
-        | ConditionRecord::Other => judge_leaf(q, z, walks, values, memo, marks, task),
     }
 }
 
@@ -618,12 +478,17 @@ fn judge_long(q: &[u8], catalogue: &[u8], values: &[i32], walk: Walk, marks: &mu
     let mut env = [values.len(); 256];
     let mut memo = [0i64; 2 * VARIABLES];
     aggregates::condition(q, &z, LEVELS, &walks, values, &mut env, &mut memo);
+    let judging = Judging {
+        walk,
+        walks: &walks,
+        values,
+        memo: &memo,
+    };
     let task = Task {
         level: LEVELS,
-        walk,
         end: 0,
     };
-    judge_at(q, &z, &walks, values, &memo, marks, task);
+    judging.judge_at(q, &z, task, marks);
 }
 
 // Marks the rows of a relation that meet the condition of a permit.

@@ -1,14 +1,16 @@
 -- One step of each function over plain variables.
 use mathlib.Core.Path.{◌≡◌, refl, sym, ap, ◌∙◌, subst}
 use mathlib.Core.Bool.{Bool, true, false, cond, ◌||◌}
-use mathlib.Core.List.{List}
-use Prim.Native.Nat.{ℕ, ◌+◌, ◌*◌, ◌≤◌, ◌<◌}
+use mathlib.Core.List.{List, ◌++◌}
+use Prim.Native.Nat.{ℕ, ◌+◌, ◌-◌, ◌*◌, ◌≤◌, ◌<◌}
 use native.Mathlib.Omega.{arith}
 use lib.Bits.{bit_or, or_zero_r, or_zero_l, or_self}
 use lib.Dec.{eqb, ltb}
 use lib.IntN.{ℤ, pos, ◌*ℤ◌}
-use lib.ListN.{length, get_or, set, replicate, length-set}
-use lib.Seq.{get_or-set_same, get_or-set_other}
+use lib.ListN.{length, get_or, set, drop, replicate, length-set, length-append, length-replicate, length-drop, get_or-append}
+use mir.Val.{bool_byte}
+use lib.Seq.{get_or-set_same, get_or-set_other, get_or-append_right, get_or-drop}
+use Rattle.std.proofs.lemmas.List.{get_or-replicate}
 use borrow.Author.Tests.{eqb-true, eqb-false, ltb-true, ltb-false}
 use Rattle.model.specs.Lists.{update}
 use Rattle.catalogue.specs.Layout.{tuple_at}
@@ -23,6 +25,11 @@ use Rattle.permitted.specs.Marked.{Bits, Marked, between, tuple_of, ran_on}
 
 abbrev pub tested : List ℤ → ℕ → ℕ → Bool → Bool → Bool → ℤ → ℤ → ℕ → Bool
 tested vs from width above below wanted number scale i = between above below wanted number (get_or vs (from + i * width) (pos 0) *ℤ scale)
+
+-- a mark as a number
+pub byte-is : (b : Bool) → bool_byte b ≡ cond b 1 0
+byte-is true = refl
+byte-is false = refl
 
 pub joined_is : (old r : ℕ) (b : Bool) → old ≤ 1 → r ≡ cond b 1 0 → bit_or old r ≡ cond b 1 old
 joined_is old r false h e = ap (bit_or old) e ∙ or_zero_r old
@@ -61,6 +68,18 @@ marked_next f i ms x y l m ey = record {
         ap (λ n. get_or (set x i y) n 0) e ∙ get_or-set_same x i y 0 (omega (arith, l, m.size)) ∙ ey ∙ ap (λ n. cond (f i) 1 n) (m.rest i (omega arith)) ∙ sym (ap (λ n. cond (f n) 1 (get_or ms n 0)) e)
     go j h false k = let d = eqb-false j i k in get_or-set_other x i j y 0 d ∙ m.row j (omega (arith, d, h))
 
+-- the first n rows, all marked
+pub marked-filled : (n : ℕ) (ms : List ℕ) → n ≤ length ms → Marked (λ i. true) n ms (replicate n 1 ++ drop n ms)
+marked-filled n ms h =
+    let l = length-replicate {A = ℕ} n 1 in
+    record {
+      size = omega (arith, length-append (replicate n 1) (drop n ms), l, length-drop n ms);
+      row = λ i k. get_or-append (replicate n 1) (drop n ms) 0 i (omega (arith, l)) ∙ get_or-replicate n i 1 0 k;
+      rest = λ i k.
+          let e : n + (i - length (replicate {A = ℕ} n 1)) ≡ i = omega (arith, l) in
+          get_or-append_right (replicate n 1) (drop n ms) i 0 (omega (arith, l)) ∙ get_or-drop n ms (i - length (replicate {A = ℕ} n 1)) 0 ∙ ap (λ (j : ℕ). get_or ms j 0) e;
+    }
+
 -- the same test
 pub marked-same : {f g : ℕ → Bool} {n m : ℕ} {ms ms' : List ℕ} → Marked f n ms ms' → n ≡ m → ((i : ℕ) → i < n → f i ≡ g i) → Marked g m ms ms'
 marked-same {f = f} {g = g} {n = n} {m = m} {ms = ms} {ms' = ms'} h e k = record {
@@ -92,34 +111,6 @@ row-joined vs from w i at r m above below wanted b n d v a er eb ev ea e = er �
 
 pub marked-nothing : (f : ℕ → Bool) (ms : List ℕ) → ((i : ℕ) → i < length ms → f i ≡ false) → {n : ℕ} → n ≤ length ms → Marked f n ms ms
 marked-nothing f ms h {n = n} k = record { size = refl; row = λ i l. sym (ap (λ b. cond b 1 (get_or ms i 0)) (h i (omega (arith, l, k)))); rest = λ i l. refl }
-
--- a marked row more
-pub passed-next : (ms : List ℕ) (from i : ℕ) → ((j : ℕ) → from ≤ j → j < i → get_or ms j 0 ≡ 0 → ⊥) → (get_or ms i 0 ≡ 0 → ⊥) → (j : ℕ) → from ≤ j → j < i + 1 → get_or ms j 0 ≡ 0 → ⊥
-passed-next ms from i h d j a b e = go (eqb j i) refl
-  where
-    go : (c : Bool) → eqb j i ≡ c → ⊥
-    go true k = d (sym (ap (λ n. get_or ms n 0) (eqb-true j i k)) ∙ e)
-    go false k = h j a (omega (arith, eqb-false j i k, b)) e
-
--- rows that are marked can be passed over
-pub marked-over : {f : ℕ → Bool} {i r : ℕ} {ms x : List ℕ} → Bits ms → Marked f i ms x → i ≤ r → ((j : ℕ) → i ≤ j → j < r → get_or x j 0 ≡ 0 → ⊥) → Marked f r ms x
-marked-over {f = f} {i = i} {r = r} {ms = ms} {x = x} h m l k = record {
-  size = m.size;
-  row = λ j o. go j o (ltb j i) refl;
-  rest = λ j o. m.rest j (omega arith);
-}
-  where
-    same : (b : Bool) (j : ℕ) → get_or ms j 0 ≡ 1 → get_or ms j 0 ≡ cond b 1 (get_or ms j 0)
-    same true j e = e
-    same false j e = refl
-
-    go : (j : ℕ) → j < r → (b : Bool) → ltb j i ≡ b → get_or x j 0 ≡ cond (f j) 1 (get_or ms j 0)
-    go j o true e = m.row j (ltb-true j i e)
-    go j o false e =
-        let n = ltb-false j i e in
-        let old = m.rest j n in
-        let one : get_or ms j 0 ≡ 1 = omega (arith, h j, k j n o, old) in
-        old ∙ same (f j) j one
 
 -- one row is tried
 pub row-marked : (t : List ℕ) (s : ℕ) (q z ws : List ℕ) (vs m : List ℤ) (d u : List ℕ) (x : Walk) (ms y : List ℕ) (i p r : ℕ) (b : Bool) → 256 ≤ length d → i < length ms → set d 0 (length vs) ≡ no_places vs → p ≡ x.base + i * x.width → u ≡ set d 0 p → b ≡ runs t q z ws vs m s (assigned vs u) → r ≡ cond b 1 (get_or y i 0)

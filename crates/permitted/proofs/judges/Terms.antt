@@ -37,7 +37,6 @@ use Rattle.walks.specs.Assigned.{assigned}
 use Rattle.permitted.specs.Marked.{between, passes, turned, tuple_of, judged_on}
 use Rattle.permitted.specs.Meets.{no_places}
 use Rattle.permitted.specs.declared.judges.Test.{Test}
-use Rattle.permitted.specs.declared.judges.Known.{Known}
 
 below-is : (a b : ℕ) → ltb a b ≡ not (leb b a)
 below-is a b = go (ltb a b) refl
@@ -135,15 +134,12 @@ not-one l h e = omega arith
 pub eq-zero : (v : ℕ) → v ≡ 0 → v ≡ 0
 eq-zero v h = h
 
--- what is not known promises nothing
-pub nothing_known : {A : Type 0} (k : Known) → k.known ≡ false → k.known ≡ true → A
-nothing_known k h e = clash (sym h ∙ e)
-
+-- a term whose value is known
 module _ (m : List ℤ) (q : List ℕ) (l : ℕ) (r : TermRecord) (nz : l ≡ 0 → ⊥) (er : r ≡ term_at q) where
-  pub constant-known : (k : Known) (x : Ratio) (y : ℤ) (a b c d : ℕ) → r ≡ T.Constant a b c d → y ≡ signed a b c d → value_of x ≡ some (whole y) → k ≡ record { known = true; value = x } → (z : List ℕ) (R : Rows) (e : Assignment) → value_of k.value ≡ value_by m (decode_t l q z) R e
+  pub constant-known : (x : Ratio) (y : ℤ) (a b c d : ℕ) → r ≡ T.Constant a b c d → y ≡ signed a b c d → value_of x ≡ some (whole y) → (z : List ℕ) (R : Rows) (e : Assignment) → value_of x ≡ value_by m (decode_t l q z) R e
   unfolding holds_with
-  constant-known k x y a b c d h ey ex ek z R e =
-      ap (λ (u : Known). value_of u.value) ek ∙ ex ∙ ap (λ n. some (whole n)) ey ∙ sym (ap (λ (t : Term). value_by m t R e) (decode_t-step l q z _ nz (sym er ∙ h)))
+  constant-known x y a b c d h ey ex z R e =
+      ex ∙ ap (λ n. some (whole n)) ey ∙ sym (ap (λ (t : Term). value_by m t R e) (decode_t-step l q z _ nz (sym er ∙ h)))
 
   pub aggregate-known : (x : Ratio) (f v s a : ℕ) → r ≡ T.Aggregate f v s a → knows m v ≡ true → value_of x ≡ recalled m v → (z : List ℕ) (R : Rows) (e : Assignment) → value_of x ≡ value_by m (decode_t l q z) R e
   unfolding holds_with

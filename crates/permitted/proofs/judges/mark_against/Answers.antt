@@ -30,7 +30,7 @@ returns-then-values-base c = record { marked = λ h. clash h; marks_unchanged = 
 
 pub mark_passing-requires : goal.mark_passing-requires
 mark_passing-requires c = let good = c.well_formed in let walk = c.args.walk in
-    (c.requires.0, (λ i h. reach walk.base c.wide-a.result walk.width walk.count i (length c.args.values.now) c.if-width-a.false c.if-values-base.false h), omega (arith, c.requires.1.base, c.wide-a.ensures, good), c.requires.1.width, c.requires.1.count, omega (arith, ap nat_abs c.test_of-t.ensures.number_value.1, c.requires.2.denominator), omega (arith, ap nat_abs c.test_of-t.ensures.number_value.0, c.requires.2.numerator), c.requires.3)
+    (c.requires.0, (λ i h. reach walk.base c.from-a.result walk.width walk.count i (length c.args.values.now) c.if-width-a.false c.if-values-base.false h), omega (arith, c.requires.1.base, c.from-a.ensures, good), c.requires.1.width, c.requires.1.count, omega (arith, ap nat_abs c.test_of-t.ensures.number_value.1, c.requires.2.denominator), omega (arith, ap nat_abs c.test_of-t.ensures.number_value.0, c.requires.2.numerator), c.requires.3)
 
 pub returns : goal.returns
-returns c = let values = c.args.values.now in let walk = c.args.walk in let x = c.args.x in record { marked = (λ h. marked-same c.mark_passing.ensures refl (λ i l. c.test_of-t.ensures.a_value c.requires.2 (is_number x c.requires.2 c.if-d-le0.false) (get_or values (walk.base + c.wide-a.result + i * walk.width) (pos 0)) ∙ ap (λ (y : ℤ). turned c.args.wanted (compare c.args.operator (some (whole y)) (value_of x))) (row-place values walk c.args.attribute c.wide-a.result i c.wide-a.ensures))); marks_unchanged = λ h. clash (sym h) }
+returns c = let values = c.args.values.now in let walk = c.args.walk in let x = c.args.x in record { marked = (λ h. marked-same c.mark_passing.ensures refl (λ i l. c.test_of-t.ensures.a_value c.requires.2 (is_number x c.requires.2 c.if-d-le0.false) (get_or values (walk.base + c.from-a.result + i * walk.width) (pos 0)) ∙ ap (λ (y : ℤ). turned c.args.wanted (compare c.args.operator (some (whole y)) (value_of x))) (row-place values walk c.args.attribute c.from-a.result i c.from-a.ensures))); marks_unchanged = λ h. clash (sym h) }

@@ -1,11 +1,7 @@
-use Prim.Native.Nat.{◌-◌, ◌≤◌}
 use lib.ListN.{get_or}
 use lib.Dec.{eqb}
 use Rattle.permitted.specs.Marked.{Marked}
 use Rattle.permitted.proofs.judges.mark_others.Given as goal
 
 abbrev pub invariant-loop-i : goal.invariant-loop-i
-invariant-loop-i l = (l.i ≤ l.n) × Marked (λ i. eqb (get_or l.others i 0) 0) l.i l.initial.marks l.marks
-
-abbrev pub decreases-loop-i : goal.decreases-loop-i
-decreases-loop-i l = l.n - l.i
+invariant-loop-i l = Marked (λ i. eqb (get_or l.others i 0) 0) l.i l.initial.marks l.marks

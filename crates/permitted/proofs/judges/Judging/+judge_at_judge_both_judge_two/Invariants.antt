@@ -1,5 +1,5 @@
 use Prim.Native.Nat.{◌+◌, ◌*◌}
-use Rattle.permitted.proofs.judges.+judge_at_judge_both_judge_two.Given as goal
+use Rattle.permitted.proofs.judges.Judging.+judge_at_judge_both_judge_two.Given as goal
 
 abbrev pub decreases-judge_at : goal.decreases-judge_at
 decreases-judge_at l = 3 * l.task.level
