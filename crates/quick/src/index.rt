@@ -63,7 +63,7 @@ fn is_free(code: u64) -> bool
     if 19658916 < code {
         return code != 346837159270;
     }
-    lexis::word_kind(code) == 0
+    !lexis::is_reserved(code)
 }
 
 // The code of the good name that ends at a place: 1 to 12 capitals, then spaces; not reserved.

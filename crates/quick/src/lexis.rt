@@ -1,5 +1,5 @@
 // Blanks, words, numbers and signs of a text that ends in zeros. A place that is handed on is one where no blank stands, so each is passed over once.
-ghost use Rattle.std.specs.Prelude.{◌≡◌, false, List, ℕ, ◌+◌, ◌%◌, ◌≤◌, ◌<◌, length, get_or, IfSome};
+ghost use Rattle.std.specs.Prelude.{◌≡◌, false, not, eqb, List, ℕ, ◌+◌, ◌%◌, ◌≤◌, ◌<◌, length, get_or, IfSome};
 ghost use Rattle.quel.specs.Results.{ok};
 ghost use Rattle.quel.specs.Tokens.{Token, Sign, number, sign, key, or, reserved, is_blank, is_letter, is_digit, token, with_equal};
 ghost use Rattle.quel.specs.Elaboration.{operator_of};
@@ -59,36 +59,39 @@ fn is_digit(b: u64) -> bool
     (48..=57).contains(&b)
 }
 
-// The kind of the word that spells a number, 0 for a name. RANGE RETRIEVE NOT SOME IN V COUNT SUM AVE MAX MIN
+// Whether the word that spells a number is reserved. RANGE RETRIEVE NOT SOME IN V COUNT SUM AVE MAX MIN
 #[tactic(auto, unfolding(tokens::specs::Kinds::kind_spelled, tokens::specs::Spans::positional))]
-pub(crate) fn word_kind(value: u64) -> u8
-    ensures { result ≡ kind_spelled reserved value }
+pub(crate) fn is_reserved(value: u64) -> bool
+    ensures { result ≡ not (eqb (kind_spelled reserved value) 0) }
 {
-    match value {
-        19658916 => 13,
-        346837159270 => 14,
-        26747 => 15,
-        783124 => 16,
-        897 => 17,
-        47 => 18,
-        13055269 => 2,
-        30276 => 3,
-        18126 => 4,
-        25711 => 5,
-        25909 => 6,
-        _ => 0,
-    }
+    matches!(
+        value,
+        19658916
+            | 346837159270
+            | 26747
+            | 783124
+            | 897
+            | 47
+            | 13055269
+            | 30276
+            | 18126
+            | 25711
+            | 25909
+    )
 }
 
-// The function of an aggregate, if the word is one.
+// The function of an aggregate, if the word is one. COUNT SUM AVE MAX MIN
 pub(crate) fn function(value: u64) -> Option<u8>
     ensures { IfSome result (λ f. (text : List ℕ) (i j : ℕ) → WordAt text i j value → FunctionAt text i j f) }
 {
-    let kind = word_kind(value);
-    if kind < 2 || 6 < kind {
-        return None;
+    match value {
+        13055269 => Some(1),
+        30276 => Some(2),
+        18126 => Some(3),
+        25711 => Some(4),
+        25909 => Some(5),
+        _ => None,
     }
-    Some(kind - 1)
 }
 
 // A text of at most 254 bytes with zeros behind it: every loop over letters, digits or blanks ends there.
@@ -173,7 +176,7 @@ impl Text {
         if s.end == 0 {
             return None;
         }
-        if word_kind(s.value) != 0 {
+        if is_reserved(s.value) {
             return None;
         }
         Some(s)
@@ -259,7 +262,7 @@ impl Text {
         })
     }
 
-    // Digits from a place on: where they end and their number. Of more than ten, the first ten.
+    // Digits from a place on: where they end and their number. Of more than ten, the first ten. As one function with `letters`, by five numbers, it would be no plainer.
     fn digits(&self, at: usize) -> Span
         requires { at ≤ 254 }
         ensures at_le_end { (at ≤ result.end) × (result.end ≤ 254) × (result.value < 10000000000) }

@@ -1,12 +1,12 @@
 -- Words, signs and numbers, with the blanks behind them.
 use Prim.Native.Nat.{ℕ, zero, suc, ◌+◌, ◌-◌, ◌%◌, ◌≤◌, ◌<◌}
-use mathlib.Core.Bool.{Bool, true, false, cond}
+use mathlib.Core.Bool.{Bool, true, false, cond, not}
 use mathlib.Core.List.{List, [], ◌∷◌}
 use mathlib.Core.Path.{◌≡◌, refl, sym, ◌∙◌, ap, ap₂, subst}
 use native.Mathlib.Omega.{arith}
 use lib.Dec.{eqb, leb}
 use lib.ListN.{length, get_or, drop, length-drop}
-use borrow.Author.Tests.{le-leb, eq-eqb, ne_eqb}
+use borrow.Author.Tests.{le-leb, eq-eqb, ne_eqb, eqb-true, not-false}
 use Rattle.quel.specs.Results.{ok, Word}
 use Rattle.quel.specs.Tokens.{Sign, Token, name, number, function, sign, key, RANGE, RETRIEVE, NOT, SOME, IN, or, COUNT, SUM, AVE, MAX, MIN, equal, unequal, less, at_most, more, at_least, is_letter, reserved, word_in, sign_in, run, with_equal, token}
 use Rattle.quel.specs.Lexical.{first}
@@ -34,6 +34,9 @@ some_first p (b ∷ s) h = go (p b) refl h
 
 pub some : (n : ℕ) → (n ≡ 0 → ⊥) → 1 ≤ n
 some n h = omega (arith, h)
+
+pub unreserved : (k : ℕ) → not (eqb k 0) ≡ false → k ≡ 0
+unreserved k e = eqb-true k 0 (not-false (eqb k 0) e)
 
 -- only what stands there has a code
 pub some-code : (n v : ℕ) → (n ≡ 0 → v ≡ 0) → 1 ≤ v → 1 ≤ n
