@@ -65,12 +65,10 @@ fn as_wanted(used: u16, mask: u16, wanted: bool, attribute: u16) -> bool
 fn all_used(used: u16, mask: u16, wanted: bool) -> bool
     ensures { result ≡ App.all_used (λ a. bit used a) mask wanted }
 {
-    let mut a: u16 = 0;
-    while a < 16 {
+    for a in 0..16 {
         if !as_wanted(used, mask, wanted, a) {
             return false;
         }
-        a += 1;
     }
     true
 }

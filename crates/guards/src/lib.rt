@@ -146,11 +146,9 @@ fn guard_length(table: &[u16], mask: u8) -> usize
 {
     let mut n: usize = 0;
     let mut m = mask;
-    let mut k: usize = 0;
-    while k < model::PERMITS {
+    for k in 0..model::PERMITS {
         n += turn_length(table, m, k);
-        m = m / 2;
-        k += 1;
+        m /= 2;
     }
     n
 }

@@ -5,7 +5,4 @@ use Rattle.guards.specs.Counted.{length_from}
 use Rattle.guards.proofs.guard_length.Given as goal
 
 abbrev pub invariant-loop-k : goal.invariant-loop-k
-invariant-loop-k l = (l.n + length_from (places_in l.table) (8 - l.k) l.m l.k ≡ length_from (places_in l.table) 8 l.mask 0) × (l.k ≤ 8) × (l.n ≤ 4097 * l.k)
-
-abbrev pub decreases-loop-k : goal.decreases-loop-k
-decreases-loop-k l = 8 - l.k
+invariant-loop-k l = (l.n + length_from (places_in l.table) (8 - l.k) l.m l.k ≡ length_from (places_in l.table) 8 l.mask 0) × (l.n ≤ 4097 * l.k)

@@ -13,15 +13,15 @@ the_end a h k = omega arith
 
 pub loop-a-init : goal.loop-a-init
 unfolding all below
-loop-a-init c = (refl, omega arith)
+loop-a-init c = refl
 
 pub returns-then-not-as_wanted : goal.returns-then-not-as_wanted
 unfolding spec.all_used
 returns-then-not-as_wanted c = loops.below-stopped (λ (x : ℕ). not (bit c.args.used x) || spec.agree c.args.wanted (bit c.args.mask x)) c.loop-a.a 16 c.as_wanted.result c.loop-a-test.true c.as_wanted.ensures c.if-not-as_wanted.true-raw
 
 pub loop-a-preserved : goal.loop-a-preserved
-loop-a-preserved c = (loops.below_on (λ (x : ℕ). not (bit c.args.used x) || spec.agree c.args.wanted (bit c.args.mask x)) c.loop-a.a c.as_wanted.result c.loop-a.invariant.0 c.as_wanted.ensures c.if-not-as_wanted.false-raw, omega (arith, c.loop-a-test.true))
+loop-a-preserved c = loops.below_on (λ (x : ℕ). not (bit c.args.used x) || spec.agree c.args.wanted (bit c.args.mask x)) c.loop-a.a c.as_wanted.result c.loop-a.invariant c.as_wanted.ensures c.if-not-as_wanted.false-raw
 
 pub returns : goal.returns
 unfolding spec.all_used
-returns c = sym (ap (λ (m : ℕ). all (λ (x : ℕ). not (bit c.args.used x) || spec.agree c.args.wanted (bit c.args.mask x)) (below m)) (the_end c.loop-a.a c.loop-a.invariant.1 c.loop-a-test.false) ∙ c.loop-a.invariant.0)
+returns c = sym (ap (λ (m : ℕ). all (λ (x : ℕ). not (bit c.args.used x) || spec.agree c.args.wanted (bit c.args.mask x)) (below m)) (the_end c.loop-a.a (omega arith) c.loop-a-test.false) ∙ c.loop-a.invariant)
