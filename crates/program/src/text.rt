@@ -3,12 +3,6 @@ ghost use Rattle.std.specs.Prelude.{◌≡◌, ℕ, suc, ◌+◌, ◌*◌, ◌�
 ghost use Rattle.std.proofs.lemmas.List.Edits.{sets};
 ghost use Rattle.program.specs.Text as T;
 
-fn wide(x: u8) -> u64
-    ensures { result ≡ x }
-{
-    x as u64
-}
-
 // The last digit of a number.
 fn digit(n: u64) -> u8
     ensures { result ≡ T.digit n }
@@ -82,11 +76,9 @@ pub(crate) fn bytes(items: &[u8], out: &mut [u8], at: usize) -> usize
     ensures out_after { out.new ≡ sets out.old at (T.line T.decimal items.now) }
 {
     let mut to = at;
-    let mut i = 0;
-    while i < items.len() {
-        to = decimal(wide(items[i]), out, to);
-        i += 1;
-        to = copier::put(out, to, gap(items.len() - i));
+    for i in 0..items.len() {
+        to = decimal(u64::from(items[i]), out, to);
+        to = copier::put(out, to, gap(items.len() - (i + 1)));
     }
     to
 }
@@ -98,12 +90,10 @@ fn cells(items: &[i64], out: &mut [u8], at: usize) -> usize
     ensures out_after { out.new ≡ sets out.old at (T.line T.signed items.now) }
 {
     let mut to = at;
-    let mut i = 0;
-    while i < items.len() {
+    for i in 0..items.len() {
         let item = items[i];
         to = signed(item, out, to);
-        i += 1;
-        to = copier::put(out, to, gap(items.len() - i));
+        to = copier::put(out, to, gap(items.len() - (i + 1)));
     }
     to
 }

@@ -1,5 +1,4 @@
 use mathlib.Core.Path.{◌≡◌}
-use Prim.Native.Nat.{◌-◌}
 use lib.ListN.{length, drop}
 use Rattle.copier.proofs.Sets.{Left}
 use Rattle.program.specs.Text as T
@@ -7,6 +6,3 @@ use Rattle.program.proofs.text.bytes.Given as goal
 
 abbrev pub invariant-loop-i : goal.invariant-loop-i
 invariant-loop-i l = Left l.initial.out l.at (T.line T.decimal l.items) l.out l.to (T.line T.decimal (drop l.i l.items)) × (length l.out ≡ length l.initial.out)
-
-abbrev pub decreases-loop-i : goal.decreases-loop-i
-decreases-loop-i l = length l.items - l.i
