@@ -1,14 +1,14 @@
 // The guarded call: the permits written into the query, and the query answered over the permitted rows.
 #![tactic(auto)]
 
-ghost use Rattle.std.specs.Prelude.{◌≡◌, true, ◌≤◌, length};
+ghost use Rattle.std.specs.Prelude.{◌≡◌, ◌-◌, ◌/◌, ◌≤◌, length};
 ghost use Rattle.model.specs.Encoding.{query_of};
 ghost use Rattle.model.specs.Meaning.{answers};
 ghost use Rattle.model.specs.Calls.{give, ask};
-ghost use Rattle.model.specs.Lists.{all};
+ghost use Rattle.model.specs.Lists.{all, Every};
 ghost use Rattle.scans.specs.Flat.{flat_bindings};
 ghost use Rattle.plain.specs.Reply.{answer_of, Answerable};
-ghost use Rattle.permitted.specs.Given.{tiny, Bytes};
+ghost use Rattle.permitted.specs.Given.{tiny, Low, Bytes};
 ghost use Rattle.rewriter.specs.Rewritten.{places_in, masks_in};
 ghost use Rattle.guarded.specs.Outcome.{result_of, given_rows, Bound, Checks32};
 
@@ -36,8 +36,9 @@ pub struct Reply {
     pub length: usize,
 }
 
-// The asker's own query over the permitted rows of its variables, which are found first: nothing of it runs on another row.
-fn answer_many(
+// The asker's own query over the permitted rows of its variables, which are found first: nothing of it runs on another row. The table of walks has N
+// numbers: a large one is not cleared where each bound relation has few rows.
+fn answer_sized<const N: usize>(
     query: &[u8],
     z: &[u16],
     layout: Layout,
@@ -47,35 +48,14 @@ fn answer_many(
     table: &[u16],
     answer: &mut [i64],
 ) -> plain::Reply
-    requires { Answerable layout 32 query.now z.now catalogue.now × Bound catalogue.now query.now
+    requires passed { Answerable layout 32 query.now z.now catalogue.now × Bound catalogue.now query.now
         × Bytes (masks_in table.now) }
+    requires room { (64 ≤ N) × (N ≤ 8256) × Every (Low catalogue.now ((N - 64) / 8)) (flat_bindings query.now) }
     ensures { answer_of result answer.new ≡ give (length (query_of query.now).targets)
         (answers (query_of query.now) (given_rows catalogue.now values.now permits.now
         (places_in table.now) (masks_in table.now))) answer.old }
 {
-    let mut walks = [0u16; WALKS];
-    permitted::fill(query, permits, table, catalogue, values, &mut walks);
-    plain::answer_query(query, z, layout, LEVELS, &walks, values, answer)
-}
-
-// The same where each bound relation has at most 16 rows: a large table is not cleared for it.
-fn answer_few(
-    query: &[u8],
-    z: &[u16],
-    layout: Layout,
-    catalogue: &[u8],
-    values: &[i32],
-    permits: &[u8],
-    table: &[u16],
-    answer: &mut [i64],
-) -> plain::Reply
-    requires { Answerable layout 32 query.now z.now catalogue.now × Bound catalogue.now query.now
-        × (all (tiny catalogue.now) (flat_bindings query.now) ≡ true) × Bytes (masks_in table.now) }
-    ensures { answer_of result answer.new ≡ give (length (query_of query.now).targets)
-        (answers (query_of query.now) (given_rows catalogue.now values.now permits.now
-        (places_in table.now) (masks_in table.now))) answer.old }
-{
-    let mut walks = [0u16; FEW_WALKS];
+    let mut walks = [0u16; N];
     permitted::fill(query, permits, table, catalogue, values, &mut walks);
     plain::answer_query(query, z, layout, LEVELS, &walks, values, answer)
 }
@@ -104,9 +84,11 @@ fn answer_permitted(
         (places_in table.now) (masks_in table.now))) answer.old }
 {
     if few(query, catalogue) {
-        return answer_few(query, z, layout, catalogue, values, permits, table, answer);
+        return answer_sized::<FEW_WALKS>(
+            query, z, layout, catalogue, values, permits, table, answer,
+        );
     }
-    answer_many(query, z, layout, catalogue, values, permits, table, answer)
+    answer_sized::<WALKS>(query, z, layout, catalogue, values, permits, table, answer)
 }
 
 // 33 and 40, then the rewritten query, byte by byte, and the answer: the query over the permitted rows gives what the rewritten one gives (demand 2).

@@ -67,12 +67,6 @@ fn one_if(b: bool) -> u8
     if b { 1 } else { 0 }
 }
 
-fn either(a: bool, b: bool) -> bool
-    ensures { result ≡ (a || b) }
-{
-    if a { true } else { b }
-}
-
 // Of the first so many permits: which apply to a variable, and whether one bars it.
 fn standing(permits: &[u8], left: u8, relation: u8, used: u16) -> Verdict
     requires { left ≤ 8 }
@@ -101,7 +95,7 @@ fn standing(permits: &[u8], left: u8, relation: u8, used: u16) -> Verdict
     );
     Verdict {
         mask: first + 2 * rest.mask,
-        barred: either(bars, rest.barred),
+        barred: bars | rest.barred,
     }
 }
 

@@ -107,12 +107,10 @@ pub(crate) fn table(rows: usize, columns: usize, answer: &[i64], out: &mut [u8],
 {
     let mut to = at;
     let mut from = 0;
-    let mut left = rows;
-    while left > 0 {
+    for _ in 0..rows {
         let end = from + columns;
         to = cells(&answer[from..end], out, to);
         from = end;
-        left -= 1;
     }
     to
 }
