@@ -19,9 +19,7 @@ use Rattle.model.specs.Meaning.{same_row}
 use Rattle.model.specs.Search.{Search}
 use Rattle.model.proofs.Tests.{clash, and-inv}
 use Rattle.model.proofs.Search.{NoneBelow, search-hit, search-none, search-found, search-missed, tried-most}
-use Rattle.rows.specs.Buffer.{stored, stored_rows, sought, place_of}
-use Rattle.std.proofs.Common.{Option, Some, None, cond}
-use Rattle.std.specs.Option.{is_some}
+use Rattle.rows.specs.Buffer.{stored, stored_rows, sought}
 use Rattle.rows.specs.Chains.{row_at}
 
 -- equal rows have as many cells
@@ -80,41 +78,19 @@ module _ (x : List ℤ) where
       search-none (same_row x) (stored_rows (length x) n c) [] (λ i k. let l : i < n = omega (arith, row_count n c) in ap (same_row x) (row_is n i c l) ∙ h i l)
       ∙ ap (λ (m : ℕ). record { found = false; tried = m }) (row_count n c)
 
-  -- the same of the number that the code hands back
-  pub found-at : (n j : ℕ) (c : List ℤ) → j < n → NoneBelow (same_at c) j → same_at c j ≡ true → Some j ≡ place_of (sought n c x)
-  found-at n j c l h e = let k : j ≡ j + 1 - 1 = omega arith in ap Some k ∙ sym (ap place_of (sought-hit n j c l h e))
+  pub sought-most : (n : ℕ) (c : List ℤ) → (sought n c x).tried ≤ n
+  sought-most n c = omega (arith, tried-most (same_row x) (stored_rows (length x) n c), row_count n c)
 
-  pub found_none : (n : ℕ) (c : List ℤ) → NoneBelow (same_at c) n → None ≡ place_of (sought n c x)
-  found_none n c h = sym (ap place_of (sought-none n c h))
-
-  -- o is the number that a search gave
-  module _ (n : ℕ) (c : List ℤ) (o : Option ℕ) (eo : o ≡ place_of (sought n c x)) where
-    pub found-is : (b : Bool) → is_some o ≡ b → (sought n c x).found ≡ b
-    found-is b h = go (sought n c x) (sym (ap is_some eo) ∙ h)
-      where
-        go : (s : Search) → is_some (place_of s) ≡ b → s.found ≡ b
-        go s = pick s.found (s.tried - 1)
-          where
-            pick : (f : Bool) (t : ℕ) → is_some (cond f (Some t) None) ≡ b → f ≡ b
-            pick true t e = e
-            pick false t e = e
-
-    pub sought-stored : (b : Bool) → is_some o ≡ b → stored n c x ≡ b
-    sought-stored b h = sym (search-found (same_row x) (stored_rows (length x) n c)) ∙ found-is b h
+  -- s is what a search gave
+  module _ (n : ℕ) (c : List ℤ) (s : Search) (es : s ≡ sought n c x) where
+    pub sought-stored : (b : Bool) → s.found ≡ b → stored n c x ≡ b
+    sought-stored b h = sym (search-found (same_row x) (stored_rows (length x) n c)) ∙ ap (λ (r : Search). r.found) (sym es) ∙ h
 
     -- a row that is not found differs from all
-    pub sought-missed : is_some o ≡ false → NoneBelow (same_at c) n
+    pub sought-missed : s.found ≡ false → NoneBelow (same_at c) n
     sought-missed h j l =
         ap (same_row x) (sym (row_is n j c l))
-        ∙ search-missed (same_row x) (stored_rows (length x) n c) [] (found-is false h) j (omega (arith, row_count n c))
-
-  -- its number is below that of the rows
-  pub found-below : (n i : ℕ) (c : List ℤ) → Some i ≡ place_of (sought n c x) → i ≤ n
-  found-below n i c e = go (sought n c x).found (sought n c x).tried (omega (arith, tried-most (same_row x) (stored_rows (length x) n c), row_count n c)) e
-    where
-      go : (f : Bool) (t : ℕ) → t ≤ n → Some i ≡ cond f (Some (t - 1)) None → i ≤ n
-      go true t l q = let k : i ≡ t - 1 = cc in omega arith
-      go false t l q = absurd (let z : ◌≡◌ {A = ℕ} 0 1 = cc in omega arith)
+        ∙ search-missed (same_row x) (stored_rows (length x) n c) [] (ap (λ (r : Search). r.found) (sym es) ∙ h) j (omega (arith, row_count n c))
 
   -- past the end no row is whole
   pub rows_short : (c : List ℤ) (at i j : ℕ) → at ≡ i * length x → length c - at < length x → i ≤ j → same_at c j ≡ false

@@ -15,14 +15,12 @@ use Rattle.model.specs.Search.{Search, search}
 use Rattle.model.proofs.Monotone.{same-equal, same_refl}
 use Rattle.model.proofs.Search.{NoneBelow, search-before, search-after}
 use Rattle.model.proofs.Tests.{clash}
-use Rattle.rows.specs.Buffer.{stored_rows, sought, place_of, over}
+use Rattle.rows.specs.Buffer.{stored_rows, sought, over}
 use Rattle.rows.specs.Chains.{heads_of, nexts_of, bucket_of, row_at, bucket_at, Last, LastOf, Chained, Linked}
-use Rattle.std.proofs.Common.{Option, Some, None}
-use Rattle.std.specs.Option.{option_map}
 use lib.Pointwise.{pointwise}
 use Rattle.std.specs.Ordering.{int_eq}
 use Rattle.std.specs.List.{slice_range}
-use Rattle.rows.proofs.Compared.{same_at, same_slices, found-is, row_count, sought-hit, sought-none, rows_split}
+use Rattle.rows.proofs.Compared.{same_at, same_slices, row_count, sought-hit, sought-none, rows_split}
 use Rattle.rows.proofs.Laws.{row_room, over-length}
 
 -- a walk along the chain of a row: no row equal to it from the link on
@@ -147,47 +145,28 @@ row-part c at j x s r b ea es e f =
     let k : at + length x - at ≡ length x = omega arith in
     ap (λ (m : ℕ). same_row x (take (length x) (drop m c))) (sym ea) ∙ ap (λ (m : ℕ). same_row x (take m (drop at c))) (sym k) ∙ ap (same_row x) (sym es) ∙ sym (same_slices x s) ∙ sym e ∙ f
 
--- a number further on
-found-tried : {A : Type 0} (p : A → Bool) (xs : List A) → (search p xs).found ≡ true → 1 ≤ (search p xs).tried
-unfolding search
-found-tried p [] h = clash h
-found-tried p (y ∷ xs) h = go (p y) h
-  where
-    go : (b : Bool) → (cond {A = Search} b (record { found = true; tried = 1 }) (record { found = (search p xs).found; tried = suc (search p xs).tried })).found ≡ true → 1 ≤ (cond {A = Search} b (record { found = true; tried = 1 }) (record { found = (search p xs).found; tried = suc (search p xs).tried })).tried
-    go true e = omega arith
-    go false e = omega arith
+-- s is what the search among the first of n rows gave, as many as a table can link
+module _ (x c : List ℤ) (n k : ℕ) (s : Search) (es : s ≡ sought (min n k) c x) where
+  pub known-linked : s.found ≡ true → s ≡ sought n c x
+  known-linked h =
+      let l = min n k in
+      let after = stored_rows (length x) (n - l) (drop (l * length x) c) in
+      es
+      ∙ sym (search-before (same_row x) (stored_rows (length x) l c) after (ap (λ (r : Search). r.found) (sym es) ∙ h))
+      ∙ ap (search (same_row x)) (sym (rows_split x l (n - l) n c (omega arith)))
 
-shifted : (m : ℕ) (s : Search) → (s.found ≡ true → 1 ≤ s.tried) → option_map (λ i. m + i) (place_of s) ≡ place_of (record { found = s.found; tried = m + s.tried })
-shifted m s = go s.found s.tried
-  where
-    go : (f : Bool) (t : ℕ) → (f ≡ true → 1 ≤ t) → option_map (λ i. m + i) (cond f (Some (t - 1)) None) ≡ cond f (Some (m + t - 1)) None
-    go true t h = let l = h refl in ap Some (omega arith)
-    go false t h = refl
+  pub known-all : n ≤ k → s ≡ sought n c x
+  known-all h = let e : min n k ≡ n = omega arith in es ∙ ap (λ (i : ℕ). sought i c x) e
 
--- the search among the first of n rows, as many as a table can link, and then among those after them
-module _ (x c : List ℤ) (n k : ℕ) where
-  abbrev linked : Search
-  linked = sought (min n k) c x
-
-  abbrev others : List (List ℤ)
-  others = stored_rows (length x) (n - min n k) (drop (min n k * length x) c)
-
-  all_rows : sought n c x ≡ search (same_row x) (stored_rows (length x) (min n k) c ++ others)
-  all_rows = ap (search (same_row x)) (rows_split x (min n k) (n - min n k) n c (omega arith))
-
-  pub known-linked : (i : ℕ) → Some i ≡ place_of linked → Some i ≡ place_of (sought n c x)
-  known-linked i e = e ∙ ap place_of (sym (all_rows ∙ search-before (same_row x) (stored_rows (length x) (min n k) c) others (found-is x (min n k) c (Some i) e true refl)))
-
-  -- r is the number among the rows after them
-  pub known-rest : (m : ℕ) → m ≡ k → m < n → None ≡ place_of linked → (at : ℕ) → at ≡ m * length x → (r : Option ℕ) → r ≡ place_of (sought (n - m) (take (length c - at) (drop at c)) x) → option_map (λ i. m + i) r ≡ place_of (sought n c x)
+  -- r is what the search among the rows after them gave
+  pub known-rest : (m : ℕ) → m ≡ k → m < n → s.found ≡ false → (at : ℕ) → at ≡ m * length x → (r : Search) → r ≡ sought (n - m) (take (length c - at) (drop at c)) x → record { found = r.found; tried = m + r.tried } ≡ sought n c x
   known-rest m em h none at ea r er =
-      let e : m ≡ min n k = omega arith in
-      let part : take (length c - at) (drop at c) ≡ drop (m * length x) c = take_all (length c - at) (drop at c) (rw (length-drop at c) (omega arith)) ∙ ap (λ (i : ℕ). drop i c) ea in
-      let s = search (same_row x) others in
-      ap (option_map (λ i. m + i)) (er ∙ ap (λ (d : List ℤ). place_of (sought (n - m) d x)) part ∙ ap (λ (i : ℕ). place_of (sought (n - i) (drop (i * length x) c) x)) e)
-      ∙ shifted m s (found-tried (same_row x) others)
-      ∙ ap (λ (i : ℕ). place_of (record { found = s.found; tried = i + s.tried })) (e ∙ sym (row_count x (min n k) c))
-      ∙ ap place_of (sym (all_rows ∙ search-after (same_row x) (stored_rows (length x) (min n k) c) others (found-is x (min n k) c None none false refl)))
+      let e : min n k ≡ m = omega arith in
+      let after = stored_rows (length x) (n - m) (drop (m * length x) c) in
+      ap (λ (y : Search). record { found = y.found; tried = m + y.tried }) (er ∙ ap (λ (d : List ℤ). sought (n - m) d x) (take_all (length c - at) (drop at c) (rw (length-drop at c) (omega arith)) ∙ ap (λ (i : ℕ). drop i c) ea))
+      ∙ ap (λ (i : ℕ). record { found = (search (same_row x) after).found; tried = i + (search (same_row x) after).tried }) (sym (row_count x m c))
+      ∙ sym (search-after (same_row x) (stored_rows (length x) m c) after (ap (λ (i : ℕ). (sought i c x).found) (sym e) ∙ ap (λ (y : Search). y.found) (sym es) ∙ none))
+      ∙ ap (search (same_row x)) (sym (rows_split x m (n - m) n c (omega arith)))
 
 pub rest-within : (k n w l : ℕ) → k < n → n * w ≤ l → k * w ≤ l
 rest-within k n w l h room =

@@ -1,6 +1,6 @@
 -- The answer buffer while a query runs: row after row, a row equal to an earlier one dropped, and 41
 -- (document 01, "Meaning" and "Who can cause a refusal").
-use Rattle.std.specs.Prelude.{ℕ, zero, suc, ◌+◌, ◌-◌, ◌*◌, ◌/◌, Option, Some, None, Bool, true, false, cond, List, [], ◌∷◌, ◌++◌, ltb, ℤ, length, take, drop}
+use Rattle.std.specs.Prelude.{ℕ, zero, suc, ◌+◌, ◌*◌, ◌/◌, Bool, true, false, cond, List, [], ◌∷◌, ◌++◌, ltb, ℤ, length, take, drop}
 use Rattle.model.specs.Lists.{any}
 use Rattle.model.specs.Meaning.{same_row}
 use Rattle.model.specs.Search.{Search, search}
@@ -24,10 +24,6 @@ stored n cells x = any (same_row x) (stored_rows (length x) n cells)
 -- the search for a row equal to it among the first n (document 02, change 5); `stored` is whether it finds one
 abbrev pub sought : ℕ → List ℤ → List ℤ → Search
 sought n cells x = search (same_row x) (stored_rows (length x) n cells)
-
--- the number of the row that a search found
-abbrev pub place_of : Search → Option ℕ
-place_of s = cond s.found (Some (s.tried - 1)) None
 
 -- the cells from `at` on are those of the row
 abbrev pub over : List ℤ → ℕ → List ℤ → List ℤ

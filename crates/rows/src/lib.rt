@@ -3,7 +3,7 @@
 
 ghost use Rattle.std.specs.Prelude.{◌≡◌, ℕ, ◌+◌, ◌/◌, ◌≤◌, ◌<◌, min, length};
 ghost use Rattle.std.specs.Int.Signed.{mag};
-ghost use Rattle.rows.specs.Buffer.{sought, place_of, added, start};
+ghost use Rattle.rows.specs.Buffer.{sought, added, start};
 ghost use Rattle.rows.specs.Chains.{mixed, hashed, heads_of, nexts_of, bucket_of, Chained, Linked};
 
 // How many rows are stored, and whether a distinct row did not fit.
@@ -13,19 +13,36 @@ pub struct Filled {
     pub full: bool,
 }
 
-// The number of the first row that equals the given one, among the first rows of the answer.
-fn find(answer: &[i64], rows: usize, row: &[i64]) -> Option<usize>
-    ensures { result ≡ place_of (sought rows answer.now row.now) }
+// Whether an equal row was found, and how many rows were tried: in their order up to that row, or all. It is no Option, since a search that finds none
+// counts its rows too.
+#[derive(Clone, Copy)]
+struct Search {
+    found: bool,
+    tried: usize,
+}
+
+// The search for the row among the first rows of the answer; ends at the first that equals it.
+fn find(answer: &[i64], rows: usize, row: &[i64]) -> Search
+    ensures { record { found = result.found; tried = result.tried } ≡ sought rows answer.now row.now }
 {
+    let none = Search {
+        found: false,
+        tried: rows,
+    };
     let mut at = 0;
     for i in 0..rows {
-        let stored = answer.get(at..at + row.len())?;
+        let Some(stored) = answer.get(at..at + row.len()) else {
+            return none;
+        };
         if row == stored {
-            return Some(i);
+            return Search {
+                found: true,
+                tried: i + 1,
+            };
         }
         at += row.len();
     }
-    None
+    none
 }
 
 // How many rows of `columns` cells fit; none of no cells.
@@ -84,11 +101,12 @@ fn bucket(row: &[i64], length: usize) -> usize
     hash(row) / 1024 % heads(length)
 }
 
-// The number of the row that equals the given one, among those that the table links, along the chain of its bucket from the last row back: none of
-// them equals another, so the one that is found is the first.
-fn chained(answer: &[i64], table: &[u16], rows: usize, row: &[i64], bucket: usize) -> Option<usize>
+// The search for the row among those that the table links, along the chain of its bucket from the last row back: none of them equals another, so the
+// one that is found is the first, and its number tells how many a walk would have tried.
+fn chained(answer: &[i64], table: &[u16], rows: usize, row: &[i64], bucket: usize) -> Search
     requires { Linked (length row.now) rows answer.now table.now × (bucket ≡ bucket_of (length table.now) row.now) }
-    ensures { result ≡ place_of (sought (min rows (nexts_of (length table.now))) answer.now row.now) }
+    ensures { record { found = result.found; tried = result.tried } ≡ sought (min rows (nexts_of (length table.now))) answer.now
+        row.now }
 {
     let first = heads(table.len());
     let mut link = kinds::size_at(table, bucket);
@@ -96,28 +114,38 @@ fn chained(answer: &[i64], table: &[u16], rows: usize, row: &[i64], bucket: usiz
         let at = (link - 1) * row.len();
         let end = at + row.len();
         if row == &answer[at..end] {
-            return Some(link - 1);
+            return Search {
+                found: true,
+                tried: link,
+            };
         }
         link = kinds::size_at(table, first + (link - 1));
     }
-    None
+    Search {
+        found: false,
+        tried: rows.min(nexts(table.len())),
+    }
 }
 
 // The same among all rows that are stored: on its chain, then among those that found no room in the table.
-fn known(answer: &[i64], table: &[u16], rows: usize, row: &[i64], bucket: usize) -> Option<usize>
+fn known(answer: &[i64], table: &[u16], rows: usize, row: &[i64], bucket: usize) -> Search
     requires { Linked (length row.now) rows answer.now table.now × (bucket ≡ bucket_of (length table.now) row.now) }
-    ensures { result ≡ place_of (sought rows answer.now row.now) }
+    ensures { record { found = result.found; tried = result.tried } ≡ sought rows answer.now row.now }
 {
-    if let Some(i) = chained(answer, table, rows, row, bucket) {
-        return Some(i);
+    let linked = chained(answer, table, rows, row, bucket);
+    if linked.found {
+        return linked;
     }
     let n = nexts(table.len());
     if rows <= n {
-        return None;
+        return linked;
     }
     let at = n * row.len();
-    let i = find(&answer[at..], rows - n, row)?;
-    Some(n + i)
+    let rest = find(&answer[at..], rows - n, row);
+    Search {
+        found: rest.found,
+        tried: n + rest.tried,
+    }
 }
 
 // Row n at the front of its bucket's chain, where the table has room for it.
@@ -148,7 +176,7 @@ pub fn add_row(answer: &mut [i64], table: &mut [u16], state: Filled, row: &[i64]
         return state;
     }
     let h = bucket(row, table.len());
-    if known(answer, table, rows, row, h).is_some() {
+    if known(answer, table, rows, row, h).found {
         return state;
     }
     if capacity(answer.len(), row.len()) <= rows {
