@@ -16,6 +16,13 @@ ghost use Rattle.model.specs.Search as M;
 
 use chains::Rows;
 
+// Whether a row was a hit, and how many rows were tried: up to the first hit, or all. It is no Option, since a search that finds none counts its rows too.
+#[derive(Clone, Copy)]
+struct Search {
+    found: bool,
+    tried: usize,
+}
+
 // What a table of branches is decided with: the query's bytes and their sizes, the rows that are walked, the chains, the values, and the memo.
 #[derive(Clone, Copy)]
 struct Decider<'a> {
@@ -105,12 +112,13 @@ impl Decider<'_> {
         }
     }
 
-    // Whether some row of a variable leads from branch `start` to 0: the search ends at the first; rows that fail are passed over.
+    // The search for a row of a variable that leads from branch `start` to 0: it ends at the first; rows that fail are passed over.
     #[cycle(first_row_holds_some_row)]
-    fn first_row(&self, start: usize, variable: u8, env: &mut [usize]) -> bool
+    fn first_row(&self, start: usize, variable: u8, env: &mut [usize]) -> Search
         requires { (256 ≤ length env.old) × (start ≤ 65535) }
-        ensures found { result ≡ (M.search (λ x. D.runs self.now start (update (assigned self.now.values.now env.old) variable x))
-            (walked self.now.walks.now self.now.values.now variable)).found }
+        ensures value { record { found = result.found; tried = result.tried }
+            ≡ M.search (λ x. D.runs self.now start (update (assigned self.now.values.now env.old) variable x))
+            (walked self.now.walks.now self.now.values.now variable) }
         ensures env_unchanged { env.new ≡ env.old }
     {
         let walk = walks::walk_of(self.walks, variable);
@@ -137,12 +145,18 @@ impl Decider<'_> {
             let j = cursor.next_row(&rows, self.chains, i);
             if n <= j {
                 env[own] = old;
-                return false;
+                return Search {
+                    found: false,
+                    tried: n,
+                };
             }
             env[own] = walks::place(self.walks, walk, j);
             if self.holds(next, env) {
                 env[own] = old;
-                return true;
+                return Search {
+                    found: true,
+                    tried: j + 1,
+                };
             }
             i = j + 1;
         }
@@ -162,7 +176,7 @@ impl Decider<'_> {
         let Ok(variable) = u8::try_from(kinds::size_at(self.t, 8 * i + 1)) else {
             return false;
         };
-        self.first_row(inner, variable, env)
+        self.first_row(inner, variable, env).found
     }
 }
 

@@ -31,7 +31,7 @@ first_row-bounds-env-own-then-n-j t c =
 pub first_row-returns-then-n-j : goal.first_row-returns-then-n-j
 first_row-returns-then-n-j t c =
     let s = c.args.self.now in let env = c.args.env.now in let start = c.args.start in let variable = c.args.variable in let walk = c.walk_of-walk.result in let own = c.from-own.result in let old = get_or env own 0 in
-    record { found = ap (λ (r : Search). r.found) (sym (walked_none (S.asks s.t.now s.q.now s.z.now s.walks.now s.values.now s.memo.now start variable env) s.walks.now s.values.now variable walk c.walk_of-walk.ensures.value (let e : c.next_row-j.result ≡ walk.count = omega (arith, c.if-n-j.true, c.next_row-j.ensures.lower_bound.1) in subst (Failed (place_at s.walks.now walk) s.values.now (S.asks s.t.now s.q.now s.z.now s.walks.now s.values.now s.memo.now start variable env)) e (S.over s.t.now s.q.now s.z.now s.walks.now s.values.now s.memo.now start variable env c.prepare-cursor.result s.chains.now (c.prepare-cursor.ensures s.walks.now s.faithful) (place_at s.walks.now walk) c.loop-rows.i c.next_row-j.result c.next_row-j.ensures.by_index c.loop-rows.invariant.1)))); env_unchanged = c.loop-rows.invariant.0 }
+    record { value = (sym (walked_none (S.asks s.t.now s.q.now s.z.now s.walks.now s.values.now s.memo.now start variable env) s.walks.now s.values.now variable walk c.walk_of-walk.ensures.value (let e : c.next_row-j.result ≡ walk.count = omega (arith, c.if-n-j.true, c.next_row-j.ensures.lower_bound.1) in subst (Failed (place_at s.walks.now walk) s.values.now (S.asks s.t.now s.q.now s.z.now s.walks.now s.values.now s.memo.now start variable env)) e (S.over s.t.now s.q.now s.z.now s.walks.now s.values.now s.memo.now start variable env c.prepare-cursor.result s.chains.now (c.prepare-cursor.ensures s.walks.now s.faithful) (place_at s.walks.now walk) c.loop-rows.i c.next_row-j.result c.next_row-j.ensures.by_index c.loop-rows.invariant.1)))); env_unchanged = c.loop-rows.invariant.0 }
 
 pub first_row-holds-requires : goal.first_row-holds-requires
 first_row-holds-requires t c =
@@ -41,7 +41,7 @@ first_row-holds-requires t c =
 pub first_row-returns-then-holds : goal.first_row-returns-then-holds
 first_row-returns-then-holds t c =
     let s = c.args.self.now in let env = c.args.env.now in let start = c.args.start in let variable = c.args.variable in let walk = c.walk_of-walk.result in let own = c.from-own.result in let old = get_or env own 0 in
-    record { found = ap (λ (r : Search). r.found) (sym (walked-hit (S.asks s.t.now s.q.now s.z.now s.walks.now s.values.now s.memo.now start variable env) s.walks.now s.values.now variable walk c.walk_of-walk.ensures.value c.next_row-j.result c.if-n-j.false (S.over s.t.now s.q.now s.z.now s.walks.now s.values.now s.memo.now start variable env c.prepare-cursor.result s.chains.now (c.prepare-cursor.ensures s.walks.now s.faithful) (place_at s.walks.now walk) c.loop-rows.i c.next_row-j.result c.next_row-j.ensures.by_index c.loop-rows.invariant.1) (S.tried s.t.now s.q.now s.z.now s.walks.now s.values.now s.memo.now start variable env c.prepare-cursor.result s.chains.now (c.prepare-cursor.ensures s.walks.now s.faithful) (place_at s.walks.now walk) _ c.place.result c.next_row-j.result c.holds.result (c.next_row-j.ensures.result_value c.if-n-j.false) c.place.ensures (places-on c.loop-rows.env env _ own old c.place.result c.loop-rows.invariant.0 refl ∙ ap (λ (v : ℕ). set env v c.place.result) c.from-own.ensures) (omega (arith, c.requires.0, c.ranges.variable)) c.holds.ensures.value ∙ c.if-holds.true))); env_unchanged = places-back c.loop-rows.env env _ own old c.place.result c.loop-rows.invariant.0 refl _ c.holds.ensures.env_unchanged }
+    record { value = (sym (walked-hit (S.asks s.t.now s.q.now s.z.now s.walks.now s.values.now s.memo.now start variable env) s.walks.now s.values.now variable walk c.walk_of-walk.ensures.value c.next_row-j.result c.if-n-j.false (S.over s.t.now s.q.now s.z.now s.walks.now s.values.now s.memo.now start variable env c.prepare-cursor.result s.chains.now (c.prepare-cursor.ensures s.walks.now s.faithful) (place_at s.walks.now walk) c.loop-rows.i c.next_row-j.result c.next_row-j.ensures.by_index c.loop-rows.invariant.1) (S.tried s.t.now s.q.now s.z.now s.walks.now s.values.now s.memo.now start variable env c.prepare-cursor.result s.chains.now (c.prepare-cursor.ensures s.walks.now s.faithful) (place_at s.walks.now walk) _ c.place.result c.next_row-j.result c.holds.result (c.next_row-j.ensures.result_value c.if-n-j.false) c.place.ensures (places-on c.loop-rows.env env _ own old c.place.result c.loop-rows.invariant.0 refl ∙ ap (λ (v : ℕ). set env v c.place.result) c.from-own.ensures) (omega (arith, c.requires.0, c.ranges.variable)) c.holds.ensures.value ∙ c.if-holds.true))); env_unchanged = places-back c.loop-rows.env env _ own old c.place.result c.loop-rows.invariant.0 refl _ c.holds.ensures.env_unchanged }
 
 pub first_row-loop-rows-smaller : goal.first_row-loop-rows-smaller
 first_row-loop-rows-smaller t c =
@@ -84,4 +84,4 @@ pub some_row-returns-in_default-clause-value : goal.some_row-returns-in_default-
 some_row-returns-in_default-clause-value t c = let s = c.args.self.now in S.some-high s.t.now s.q.now s.z.now s.walks.now s.values.now s.memo.now c.size_at-inner.result 0 c.args.env.now c.args.i c.requires.2 c.size_at-inner.ensures.value c.size_at.result c.size_at.ensures.value (omega (arith, c.if-i-inner.false)) (omega (arith, c.in_default.ensures))
 
 pub some_row-returns-clause-value : goal.some_row-returns-clause-value
-some_row-returns-clause-value t c = let s = c.args.self.now in S.some_is s.t.now s.q.now s.z.now s.walks.now s.values.now s.memo.now c.size_at-inner.result c.in-Ok.variable c.args.env.now c.args.i c.requires.2 c.size_at-inner.ensures.value _ (c.in-Ok.ensures.1 ∙ c.size_at.ensures.value) (omega (arith, c.if-i-inner.false)) (omega (arith, c.in-Ok.ensures)) c.first_row.ensures.found
+some_row-returns-clause-value t c = let s = c.args.self.now in S.some_is s.t.now s.q.now s.z.now s.walks.now s.values.now s.memo.now c.size_at-inner.result c.in-Ok.variable c.args.env.now c.args.i c.requires.2 c.size_at-inner.ensures.value _ (c.in-Ok.ensures.1 ∙ c.size_at.ensures.value) (omega (arith, c.if-i-inner.false)) (omega (arith, c.in-Ok.ensures)) (ap (λ (r : Search). r.found) c.first_row.ensures.value)
