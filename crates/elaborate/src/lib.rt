@@ -91,8 +91,8 @@ fn records(kinds: &[u8], lookup: &Lookup, out: &mut [u8]) -> Option<usize>
     records_sized::<2001>(kinds, lookup, out)
 }
 
-// The length of the records of all tokens, or a name (51) or their length (52) as what refuses them. They are written into a draft first, so that a buffer that is too short is not
-// touched; where they are longer than that they are made twice.
+// The length of the records of all tokens; a name (51) or their length (52) may refuse them. They are written into a draft first, so that a buffer that is
+// too short is not touched; where they are longer than that they are made twice.
 fn write(kinds: &[u8], lookup: &Lookup, draft: &mut [u8], out: &mut [u8]) -> Result<usize, Refusal>
     requires { (length kinds.now ≤ 2000) × (length draft.old ≤ 2048) × NamesWithin lookup.now (length kinds.now)
         × Listed lookup.now }

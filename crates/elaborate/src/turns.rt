@@ -78,7 +78,8 @@ fn quiet(mode: Mode, a: Action) -> bool
     !mode.begins() && matches!(a, Action::Nothing)
 }
 
-// The turn of token i: the state after it, unless a name is unknown or out of reach. What was counted for the tokens behind is asked for no more: open frames are kept there.
+// The turn of token i: the state after it, unless a name is unknown or out of reach. What was counted for the tokens behind is asked for no more: open
+// frames are kept there.
 pub(crate) fn turn(
     lookup: &Lookup,
     counts: &mut [u64],

@@ -252,7 +252,7 @@ impl<'a> Asked<'a> {
     }
 }
 
-// The same with one record more; no more than 1,000 are counted.
+// What `holding` says, with one record more; no more than 1,000 are counted.
 fn counted(n: usize, kind: u8) -> usize
     ensures { n ≤ 1001 → result ≤ 1001 }
 {

@@ -262,7 +262,8 @@ impl Text {
         })
     }
 
-    // Digits from a place on: where they end and their number. Of more than ten, the first ten. As one function with `letters`, by five numbers, it would be no plainer.
+    // Digits from a place on: where they end and their number. Of more than ten, the first ten. As one function with `letters`, by five numbers, it would be
+    // no plainer.
     fn digits(&self, at: usize) -> Span
         requires { at ≤ 254 }
         ensures at_le_end { (at ≤ result.end) × (result.end ≤ 254) × (result.value < 10000000000) }

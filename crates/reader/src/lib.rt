@@ -13,7 +13,7 @@ ghost use Rattle.reader.specs.Readings.{reading_of};
 
 use model::Refusal;
 
-// A text outside the grammar.
+// A text outside the grammar, by its tokens or by their order.
 const GRAMMAR: Refusal = Refusal::Grammar;
 
 // What the chains of the name list take of the table by which names are looked up.

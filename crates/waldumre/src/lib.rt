@@ -32,7 +32,6 @@ fn refused(refusal: Refusal) -> Outcome
     }
 }
 
-// The plain evaluator rewrites nothing, so its third count is 0.
 impl From<Result<plain::Reply, Refusal>> for Outcome {
     ghost from_gives = { λ r o. o ≡ answered_as r };
 
