@@ -1,4 +1,5 @@
 pub mod Entries
+pub mod Parts
 pub mod Signed
 pub mod Records
 pub mod Heads

@@ -1,15 +1,83 @@
 // Records: one byte of kind, then a body whose length the kind fixes. Getters that are total, so that their callers need no bounds.
 #![tactic(auto)]
 
-ghost use Rattle.std.specs.Prelude.{◌≡◌, ◌≤◌, cond, ltb, get_or, drop, nat_abs};
+ghost use Rattle.std.specs.Prelude.{◌≡◌, ◌%◌, ◌≤◌, cond, ltb, get_or, drop, nat_abs};
 ghost use Rattle.model.specs.Syntax.{is_operator, is_function};
 ghost use Rattle.model.specs.Meaning.{signed};
-ghost use Rattle.kinds.specs.Tables.{conditions_of, terms_of, record_length};
+ghost use Rattle.kinds.specs.Tables.{byte_in, body_of, conditions_of, terms_of, record_length};
 ghost use Rattle.kinds.specs.Record.{record_at};
 ghost use Rattle.kinds.specs.Places.{condition_at, term_at, head_at, permit_at};
 
-// The length of a RANGE record, as the table has it (proofs/Entries: range_length): range i of a query that has passed stands at i times that.
+// Tables by kind: a word for each sixteen kinds that have any, of which only the first eight are in use, and in it a byte for each kind, the first
+// one lowest. Words and no array: the compiler writes an array to the stack wherever it is read.
+// The length of the body, 255 where no record has the kind.
+const BODY_0: u64 = 0xffff_ffff_ffff_02ff;
+
+const BODY_16: u64 = 0xff02_0100_0000_0000;
+
+const BODY_32: u64 = 0xffff_ffff_ff04_0204;
+
+const BODY_64: u64 = 0xffff_ffff_ffff_ff03;
+
+// The length of a RANGE record, by the table (proofs/Entries: range_length): range i of a query that has passed stands at i times that.
 pub const RANGE: usize = 3;
+
+// How many conditions follow as children, and how many terms.
+const CONDITIONS_16: u64 = 0x0001_0002_0201_0000;
+
+const CONDITIONS_32: u64 = 0x0001_0000;
+
+const CONDITIONS_64: u64 = 1;
+
+const TERMS_16: u64 = 0x0200_0000_0000;
+
+// The byte of a kind in its word.
+fn entry(word: u64, kind: u8) -> u8
+    ensures { result ≡ byte_in word (kind % 8) }
+{
+    ((word >> (8 * u64::from(kind % 8))) % 256) as u8
+}
+
+fn body_length(kind: u8) -> u8
+    ensures { result ≡ body_of kind }
+{
+    if 8 <= kind % 16 {
+        return 255;
+    }
+    match kind / 16 {
+        0 => entry(BODY_0, kind),
+        1 => entry(BODY_16, kind),
+        2 => entry(BODY_32, kind),
+        4 => entry(BODY_64, kind),
+        _ => 255,
+    }
+}
+
+fn child_conditions(kind: u8) -> u8
+    ensures { result ≡ conditions_of kind }
+{
+    if 8 <= kind % 16 {
+        return 0;
+    }
+    match kind / 16 {
+        1 => entry(CONDITIONS_16, kind),
+        2 => entry(CONDITIONS_32, kind),
+        4 => entry(CONDITIONS_64, kind),
+        _ => 0,
+    }
+}
+
+fn child_terms(kind: u8) -> u8
+    ensures { result ≡ terms_of kind }
+{
+    if 8 <= kind % 16 {
+        return 0;
+    }
+    match kind / 16 {
+        1 => entry(TERMS_16, kind),
+        _ => 0,
+    }
+}
 
 // How many conditions and how many terms follow a record of the kind as its children.
 #[derive(Clone, Copy)]
@@ -18,32 +86,21 @@ pub struct ChildCounts {
     pub terms: u8,
 }
 
-#[tactic(auto, unfolding(crate::specs::Tables::conditions_of, crate::specs::Tables::terms_of, crate::specs::Tables::of_kind, model::specs::Kinds::kind_of, model::specs::Kinds::find))]
 pub fn child_counts(kind: u8) -> ChildCounts
     ensures { (result.conditions ≡ conditions_of kind) × (result.terms ≡ terms_of kind) }
 {
-    let (conditions, terms) = match kind {
-        18 | 22 | 34 | 64 => (1, 0),
-        19 | 20 => (2, 0),
-        21 => (0, 2),
-        _ => (0, 0),
-    };
+    let conditions = child_conditions(kind);
+    let terms = child_terms(kind);
     ChildCounts { conditions, terms }
 }
 
 // The kind byte and the body; 1 where no record has the kind.
-#[tactic(auto, unfolding(crate::specs::Tables::record_length, crate::specs::Tables::of_kind, model::specs::Kinds::kind_of, model::specs::Kinds::find))]
 pub fn record_length(kind: u8) -> usize
     ensures value { result ≡ record_length kind }
     ensures lower_bound { (1 ≤ result) × (result ≤ 5) }
 {
-    match kind {
-        1 | 22 | 33 => 3,
-        21 => 2,
-        32 | 34 => 5,
-        64 => 4,
-        _ => 1,
-    }
+    let n = body_length(kind);
+    if n == 255 { 1 } else { 1 + usize::from(n) }
 }
 
 // The byte at i, 0 past the end.
