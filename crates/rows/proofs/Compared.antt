@@ -5,15 +5,13 @@ use mathlib.Core.List.{List, [], ◌∷◌, ◌++◌}
 use Prim.Native.Nat.{ℕ, zero, suc, ◌+◌, ◌-◌, ◌*◌, ◌≤◌, ◌<◌}
 use native.Mathlib.Nat.{mul-le-mul, le_refl}
 use native.Mathlib.Omega.{arith}
-use lib.IntN.{ℤ}
+use lib.IntN.{ℤ, pos}
 use lib.ListN.{length, get_or, take, drop, length-take, length-drop}
 use lib.Seq.{drop-drop}
 use lib.Signed.{le_z}
-use lib.Pointwise.{pointwise}
-use Rattle.std.specs.Ordering.{int_eq}
-use Rattle.std.specs.Bool.{Decides, one_answer}
-use Rattle.std.proofs.lemmas.Bool.Decides.{Decides-int_eq}
-use Rattle.std.proofs.lemmas.Slice.Eq.{slice_eq-Decides}
+use lib.Dec.{eqb}
+use borrow.Author.Tests.{eqb-true, eqb-false}
+use Rattle.std.proofs.lemmas.List.{ext_get_or}
 use Rattle.model.proofs.Monotone.{same-equal, same_refl}
 use Rattle.model.specs.Meaning.{same_row}
 use Rattle.model.specs.Search.{Search}
@@ -30,11 +28,25 @@ same_length [] (b ∷ y) h = clash h
 same_length (a ∷ x) [] h = clash h
 same_length (a ∷ x) (b ∷ y) h = ap suc (same_length x y (and-inv (le_z a b && le_z b a) (same_row x y) h).1)
 
--- the equality of slices
-pub same_slices : (x y : List ℤ) → pointwise int_eq x y ≡ same_row x y
-same_slices x y =
-    let d : Decides (pointwise int_eq x y) (x ≡ y) = slice_eq-Decides Decides-int_eq x y _ refl in
-    one_answer _ _ d (same-equal x y, λ (e : x ≡ y). subst (λ (l : List ℤ). same_row x l ≡ true) e (same_refl x))
+-- one cell more that agrees
+pub agree-on : (x y : List ℤ) (i : ℕ) → ((j : ℕ) → j < i → get_or x j (pos 0) ≡ get_or y j (pos 0)) → get_or x i (pos 0) ≡ get_or y i (pos 0) → (j : ℕ) → j < i + 1 → get_or x j (pos 0) ≡ get_or y j (pos 0)
+agree-on x y i h e j l = go (eqb j i) refl
+  where
+    go : (b : Bool) → eqb j i ≡ b → get_or x j (pos 0) ≡ get_or y j (pos 0)
+    go true k = let n : j ≡ i = eqb-true j i k in ap (λ (m : ℕ). get_or x m (pos 0)) n ∙ e ∙ ap (λ (m : ℕ). get_or y m (pos 0)) (sym n)
+    go false k = h j (omega (arith, l, eqb-false j i k))
+
+-- rows of as many cells, compared one after the other: the first i agree
+module _ (x y : List ℤ) (l : length x ≡ length y) where
+  pub same-cells : ((j : ℕ) → j < length x → get_or x j (pos 0) ≡ get_or y j (pos 0)) → true ≡ same_row x y
+  same-cells h = let e : x ≡ y = ext_get_or (pos 0) x y l h in sym (subst (λ (z : List ℤ). same_row x z ≡ true) e (same_refl x))
+
+  pub same-differs : (i : ℕ) → (get_or x i (pos 0) ≡ get_or y i (pos 0) → ⊥) → false ≡ same_row x y
+  same-differs i h = go (same_row x y) refl
+    where
+      go : (b : Bool) → same_row x y ≡ b → false ≡ b
+      go true e = absurd (h (ap (λ (z : List ℤ). get_or z i (pos 0)) (same-equal x y e)))
+      go false e = refl
 
 pub same-lengths : (x y : List ℤ) → (length x ≡ length y → ⊥) → false ≡ same_row x y
 same-lengths x y h = go (same_row x y) refl

@@ -1,7 +1,7 @@
 -- Chains through the stored rows: one row more at the front, and one link further back.
 use mathlib.Core.Path.{◌≡◌, refl, sym, ap, ◌∙◌, subst}
 use mathlib.Core.Bool.{Bool, true, false, cond}
-use mathlib.Core.List.{List, [], ◌∷◌, ◌++◌}
+use mathlib.Core.List.{List, ◌++◌}
 use Prim.Native.Nat.{ℕ, suc, ◌+◌, ◌-◌, ◌*◌, ◌/◌, ◌≤◌, ◌<◌, min}
 use native.Mathlib.Nat.{mul-le-mul, le_refl}
 use native.Mathlib.Omega.{arith}
@@ -17,10 +17,8 @@ use Rattle.model.proofs.Search.{NoneBelow, search-before, search-after}
 use Rattle.model.proofs.Tests.{clash}
 use Rattle.rows.specs.Buffer.{stored_rows, sought, over}
 use Rattle.rows.specs.Chains.{heads_of, nexts_of, bucket_of, row_at, bucket_at, Last, LastOf, Chained, Linked}
-use lib.Pointwise.{pointwise}
-use Rattle.std.specs.Ordering.{int_eq}
 use Rattle.std.specs.List.{slice_range}
-use Rattle.rows.proofs.Compared.{same_at, same_slices, row_count, sought-hit, sought-none, rows_split}
+use Rattle.rows.proofs.Compared.{same_at, row_count, sought-hit, sought-none, rows_split}
 use Rattle.rows.proofs.Laws.{row_room, over-length}
 
 -- a walk along the chain of a row: no row equal to it from the link on
@@ -140,10 +138,10 @@ heads-most l = go (ltb l 8192)
     go false = omega arith
 
 -- row j, read as a part of the cells and compared
-pub row-part : (c : List ℤ) (at j : ℕ) (x s : List ℤ) (r b : Bool) → at ≡ j * length x → s ≡ slice_range c at (at + length x) → r ≡ pointwise int_eq x s → r ≡ b → same_at x c j ≡ b
+pub row-part : (c : List ℤ) (at j : ℕ) (x s : List ℤ) (r b : Bool) → at ≡ j * length x → s ≡ slice_range c at (at + length x) → r ≡ same_row x s → r ≡ b → same_at x c j ≡ b
 row-part c at j x s r b ea es e f =
     let k : at + length x - at ≡ length x = omega arith in
-    ap (λ (m : ℕ). same_row x (take (length x) (drop m c))) (sym ea) ∙ ap (λ (m : ℕ). same_row x (take m (drop at c))) (sym k) ∙ ap (same_row x) (sym es) ∙ sym (same_slices x s) ∙ sym e ∙ f
+    ap (λ (m : ℕ). same_row x (take (length x) (drop m c))) (sym ea) ∙ ap (λ (m : ℕ). same_row x (take m (drop at c))) (sym k) ∙ ap (same_row x) (sym es) ∙ sym e ∙ f
 
 -- s is what the search among the first of n rows gave, as many as a table can link
 module _ (x c : List ℤ) (n k : ℕ) (s : Search) (es : s ≡ sought (min n k) c x) where

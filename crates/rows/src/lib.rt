@@ -3,6 +3,7 @@
 
 ghost use Rattle.std.specs.Prelude.{◌≡◌, ℕ, ◌+◌, ◌/◌, ◌≤◌, ◌<◌, min, length};
 ghost use Rattle.std.specs.Int.Signed.{mag};
+ghost use Rattle.model.specs.Meaning.{same_row};
 ghost use Rattle.rows.specs.Buffer.{sought, added, start};
 ghost use Rattle.rows.specs.Chains.{mixed, hashed, heads_of, nexts_of, bucket_of, Chained, Linked};
 
@@ -21,6 +22,23 @@ struct Search {
     tried: usize,
 }
 
+// Whether two rows are equal: one short loop that ends at the first cell that differs. The library's `==` takes four cells at a time, which for rows of
+// four cells and more made a search twice as dear.
+fn same(x: &[i64], y: &[i64]) -> bool
+    ensures { result ≡ same_row x.now y.now }
+{
+    if x.len() != y.len() {
+        return false;
+    }
+    for i in 0..x.len() {
+        let (a, b) = (x[i], y[i]);
+        if a != b {
+            return false;
+        }
+    }
+    true
+}
+
 // The search for the row among the first rows of the answer; ends at the first that equals it.
 fn find(answer: &[i64], rows: usize, row: &[i64]) -> Search
     ensures { record { found = result.found; tried = result.tried } ≡ sought rows answer.now row.now }
@@ -34,7 +52,7 @@ fn find(answer: &[i64], rows: usize, row: &[i64]) -> Search
         let Some(stored) = answer.get(at..at + row.len()) else {
             return none;
         };
-        if row == stored {
+        if same(row, stored) {
             return Search {
                 found: true,
                 tried: i + 1,
@@ -113,7 +131,7 @@ fn chained(answer: &[i64], table: &[u16], rows: usize, row: &[i64], bucket: usiz
     while 0 < link {
         let at = (link - 1) * row.len();
         let end = at + row.len();
-        if row == &answer[at..end] {
+        if same(row, &answer[at..end]) {
             return Search {
                 found: true,
                 tried: link,

@@ -1,4 +1,4 @@
-use Rattle.std.proofs.Common.{arith, ap, sym, ◌∙◌, ◌+◌, ◌*◌, false, ℤ, List, length}
+use Rattle.std.proofs.Common.{arith, ap, ◌∙◌, ◌+◌, ◌*◌, false, ℤ, List, length}
 use Rattle.rows.proofs.Laws.{added_full, added-stored, added-over, added-laid, copied}
 use Rattle.rows.proofs.Compared.{sought-stored, sought-missed}
 use Rattle.rows.proofs.Links.{linked-laid}
