@@ -4,11 +4,11 @@ use mathlib.Core.Bool.{Bool, true, false, cond}
 use mathlib.Core.List.{List, [], ◌∷◌}
 use Prim.Native.Nat.{ℕ, zero, suc, ◌+◌, ◌<◌, ◌≤◌}
 use native.Mathlib.Omega.{arith}
-use Rattle.std.specs.Prelude.{Some, min}
+use Rattle.std.specs.Prelude.{Some}
 use lib.Dec.{eqb, leb}
 use lib.ListN.{length, take, drop, length-drop}
 use lib.Seq.{take_all}
-use borrow.Author.Tests.{le-leb, lt-leb, leb-true, leb-false}
+use borrow.Author.Tests.{le-leb, lt-leb}
 use Rattle.model.specs.Lists.{all}
 use Rattle.quel.specs.Results.{Word, same_word}
 use Rattle.quel.specs.Tokens.{is_letter, run}
@@ -91,14 +91,11 @@ module _ (x : List ℕ) (at : ℕ) where
       let l = code-small (name_at x at) name-letters name-short in
       ap₂ eqb (ev ∙ capped-low (code_of (name_at x at)) (omega arith)) s.code ∙ same_number (name_at x at) w name-letters l s.letters
 
-  -- the name in the first twelve of the bytes that are left
-  pub name-run : (y : List ℕ) → y ≡ drop at x → (n : ℕ) → n ≡ min (length y) 12 → run is_letter (take n y) ≡ name_at x at
+  -- the name in the part of twelve bytes, and in what is left where there are fewer
+  pub name-run : (n : ℕ) → n ≡ 12 → run is_letter (take n (drop at x)) ≡ name_at x at
   unfolding name_at
-  name-run y e n m = ap (run is_letter) (first y n m ∙ ap (take 12) e)
-    where
-      first : (y : List ℕ) (n : ℕ) → n ≡ min (length y) 12 → take n y ≡ take 12 y
-      first y n m = go (leb 12 (length y)) refl
-        where
-          go : (b : Bool) → leb 12 (length y) ≡ b → take n y ≡ take 12 y
-          go true h = let l = leb-true 12 (length y) h in let e : n ≡ 12 = omega arith in ap (λ (k : ℕ). take k y) e
-          go false h = let l = leb-false 12 (length y) h in take_all n y (omega arith) ∙ sym (take_all 12 y (omega arith))
+  name-run n e = ap (λ (m : ℕ). run is_letter (take m (drop at x))) e
+
+  pub name-tail : (y : List ℕ) → y ≡ drop at x → length x < at + 12 → run is_letter y ≡ name_at x at
+  unfolding name_at
+  name-tail y e h = ap (run is_letter) (e ∙ sym (take_all 12 (drop at x) (omega (arith, length-drop at x, h))))

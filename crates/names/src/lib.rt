@@ -29,12 +29,16 @@ const ATTRIBUTE: u8 = 81;
 
 const VALUE: u8 = 82;
 
-// The code of the letters at a place, at most twelve.
+// The code of the letters at a place, at most twelve. Where the list has twelve bytes the compiler is told so, and unrolls what reads them.
 fn letters(list: &[u8], at: usize) -> u64
+    requires { at ≤ length list.now + 5 }
     ensures { result ≡ capped (code_of (name_at list.now at)) }
 {
-    let rest = kinds::tail(list, at);
-    tokens::spelling(&rest[..rest.len().min(12)]).code
+    let end = at + 12;
+    if end <= list.len() {
+        return tokens::spelling(&list[at..end]).code;
+    }
+    tokens::spelling(kinds::tail(list, at)).code
 }
 
 // The code of a good name at a place: 1 to 12 capitals, then spaces; not reserved.
@@ -42,7 +46,11 @@ fn good_code(list: &[u8], at: usize) -> Option<u64>
     requires { at ≤ length list.now + 5 }
     ensures { result ≡ nonzero (good_code list.now at) }
 {
-    let s = tokens::spelling(list.get(at..at + 12)?);
+    let end = at + 12;
+    if list.len() < end {
+        return None;
+    }
+    let s = tokens::spelling(&list[at..end]);
     if s.name { Some(s.code) } else { None }
 }
 
@@ -77,7 +85,8 @@ impl Sought {
         self.kind != ATTRIBUTE || kinds::byte(list, at + 1) == self.relation
     }
 
-    // Whether the record at a place is such a one.
+    // Whether the record at a place is such a one. Compiled into the walks along a chain, which ask it for each link.
+    #[inline(always)]
     fn is_at(self, list: &[u8], at: usize) -> bool
         requires { at ≤ length list.now }
         ensures value { (w : Word) → Spelt w self.code → result ≡ is_named self.kind self.relation w (drop at list.now) }

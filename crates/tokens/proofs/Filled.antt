@@ -36,6 +36,26 @@ module _ (y : List ℕ) (p : ℕ → Bool) where
   unfolding all
   no_more i h = sym (ap (all p) (drop_of_length-le y h))
 
+  and-assoc : (s b r : Bool) → (s && b) && r ≡ s && (b && r)
+  and-assoc true b r = refl
+  and-assoc false b r = refl
+
+  -- every byte looked at: one more behind the letters, and the end
+  pub spaces-met : (n i : ℕ) (s b : Bool) → i < length y → s && all p (drop i y) ≡ all p (drop n y) → b ≡ p (get_or y i 0) → (s && b) && all p (drop (i + 1) y) ≡ all p (drop n y)
+  unfolding all
+  spaces-met n i s b h e k = and-assoc s b (all p (drop (i + 1) y)) ∙ ap (λ (t : Bool). s && (t && all p (drop (i + 1) y))) k ∙ ap (λ (t : Bool). s && t) (sym (ap (all p) (here i (all p (drop i y)) h refl))) ∙ e
+
+  pub spaces-seen : (n i : ℕ) (s : Bool) → length y ≤ i → (i ≤ n → s ≡ true) → (n ≤ i → s && all p (drop i y) ≡ all p (drop n y)) → s ≡ all p (drop n y)
+  spaces-seen n i s h l e = go (leb n i) refl
+    where
+      whole : (s : Bool) → s ≡ s && true
+      whole true = refl
+      whole false = refl
+
+      go : (t : Bool) → leb n i ≡ t → s ≡ all p (drop n y)
+      go true f = whole s ∙ ap (λ (t : Bool). s && t) (no_more i h) ∙ e (leb-true n i f)
+      go false f = let k = leb-false n i f in l (omega arith) ∙ no_more n (omega (arith, h))
+
   -- from the nth on
   module _ (n : ℕ) where
     pub spaces-first : (i : ℕ) → i ≡ n → all p (drop i y) ≡ all p (drop n y)

@@ -66,6 +66,7 @@ impl Digits {
         (self.base * n + u64::from(b - self.low)).min(LIMIT)
     }
 
+    #[inline(always)]
     fn front(self, s: &[u8], start: u64) -> Front
         requires { start ≤ 288230376151711744 }
         ensures inside { result.size ≤ length s.now }
@@ -146,10 +147,15 @@ fn reserved_kind(value: u64) -> Option<Kind>
     }
 }
 
-fn are_spaces(bytes: &[u8]) -> bool
-    ensures { result ≡ all (λ b. eqb b 32) bytes.now }
+// Whether spaces fill a word from its nth byte on. It looks at every byte, so that for a name of twelve the compiler unrolls it.
+fn are_spaces(word: &[u8], n: usize) -> bool
+    ensures { result ≡ all (λ b. eqb b 32) (drop n word.now) }
 {
-    bytes.iter().all(|&b| b == b' ')
+    let mut spaces = true;
+    for i in 0..word.len() {
+        spaces &= i < n || word[i] == b' ';
+    }
+    spaces
 }
 
 // Whether n letters with this code are a name, and all that stands in front of spaces.
@@ -159,7 +165,7 @@ fn is_name(word: &[u8], n: usize, code: u64) -> bool
     requires code { code ≡ capped (code_of (run is_letter word.now)) }
     ensures { result ≡ is_name word.now }
 {
-    n != 0 && are_spaces(&word[n..]) && reserved_kind(code).is_none()
+    n != 0 && are_spaces(word, n) && reserved_kind(code).is_none()
 }
 
 // The code of the letters in front, and whether they are a name filled up with spaces.
@@ -169,6 +175,8 @@ pub struct Spelled {
     pub name: bool,
 }
 
+// Compiled into its callers, with what counts the letters: they know that a name has twelve bytes, and a list has hundreds of names.
+#[inline(always)]
 pub fn spelling(word: &[u8]) -> Spelled
     ensures code_value { result.code ≡ capped (code_of (run is_letter word.now)) }
     ensures name_value { result.name ≡ is_name word.now }
