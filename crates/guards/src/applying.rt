@@ -7,20 +7,24 @@ ghost use Rattle.permits.specs.Applying as App;
 use kinds::PermitRecord;
 use scans::Records;
 
-// How many bytes come before the next permit.
+// How many bytes come before the next permit. The length of a record is asked by the walk, and here of the last one alone, which may be cut.
 fn span(q: &[u8]) -> usize
     ensures value { result ≡ span_of q.now }
     ensures upper_bound { result ≤ length q.now + 4 }
 {
+    if q.is_empty() {
+        return 0;
+    }
     let mut at = 0;
+    let mut kind = 0;
     for record in Records::of(q) {
-        let kind = kinds::byte(record, 0);
+        at = q.len() - record.len();
+        kind = kinds::byte(record, 0);
         if kind == 64 {
             return at;
         }
-        at += kinds::record_length(kind);
     }
-    at
+    at + kinds::record_length(kind)
 }
 
 // How many bytes of a permit stand before its condition.

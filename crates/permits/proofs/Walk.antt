@@ -61,6 +61,12 @@ module _ (s t x : List ℕ) (b : ℕ) (h : parts_of s ≡ x ∷ parts_of t) (eb 
       let f = m p.0 in
       (omega (arith, p.0), λ q. omega (arith, q, ap length p.2, length-drop (record_length (get_or s 0 0)) s, en, ap record_length first))
 
+-- no bytes have no record
+pub span_none : (q : List ℕ) → length q ≡ 0 → 0 ≡ span_of q
+unfolding span_after span_of
+span_none [] e = refl
+span_none (b ∷ q) e = absurd (omega arith)
+
 pub span-end : (s : List ℕ) (at w : ℕ) → parts_of s ≡ [] → at + span_of s ≡ w → at ≡ w
 unfolding span_after span_of
 span-end [] at w h e = omega arith

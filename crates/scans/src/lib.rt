@@ -2,7 +2,7 @@
 // so that a walk from record to record meets them all, at any depth, with no recursion.
 #![tactic(auto)]
 
-ghost use Rattle.std.specs.Prelude.{◌≡◌, true, false, ◌&&◌, List, ◌∷◌, ℕ, ◌≤◌, length};
+ghost use Rattle.std.specs.Prelude.{◌≡◌, true, false, ◌&&◌, List, ◌∷◌, ℕ, ◌≤◌, length, drop};
 ghost use Rattle.std.specs.Iterator.{YieldsFirstRef, YieldsFirstBy, item_count};
 ghost use Rattle.model.specs.Lists.{unique, cons_if};
 ghost use Rattle.model.specs.Syntax.{variables};
@@ -35,7 +35,7 @@ impl<'a> Iterator for Records<'a> {
     fn next(&mut self) -> Option<&'a [u8]> {
         let record = self.rest;
         let kind = *record.first()?;
-        self.rest = kinds::tail(record, kinds::record_length(kind));
+        self.rest = &record[kinds::record_length(kind).min(record.len())..];
         Some(record)
     }
 }
@@ -65,6 +65,13 @@ impl BoundVariable {
             _ => None,
         }
     }
+}
+
+// What the record at a place binds.
+pub fn binding(q: &[u8], at: usize) -> Option<BoundVariable>
+    ensures { bound_by result ≡ binding_of (record_at (drop at q.now)) }
+{
+    BoundVariable::read(kinds::tail(q, at))
 }
 
 // What the records of a query or a condition bind, in byte order.
