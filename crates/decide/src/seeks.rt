@@ -13,7 +13,7 @@ ghost use Rattle.decide.specs.Cursor as C;
 
 use crate::chains;
 use crate::chains::{Chain, Entry, Rows};
-use crate::probes::Test;
+pub use crate::probes::Test;
 use numbers::Ratio;
 
 // The rows that a loop stops at: every one, those that pass a test, those of a chain, or those of two.
