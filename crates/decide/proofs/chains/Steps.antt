@@ -30,6 +30,29 @@ pub bucket-low : (z : ℤ) → bucket_of z < 1024
 unfolding bucket_of
 bucket-low z = omega arith
 
+-- what builds a chain: from the last row down, a row is in front of what its link leads to, or another row is
+-- past the last row there is none
+pub first-none : (P : ℕ → Type 0) (n link : ℕ) → link ≡ 0 → First P n n link
+first-none P n link e =
+    record { none = λ _ j h k _. absurd (omega arith); least = λ j _ h _. absurd (omega arith); here = λ j h. absurd (omega arith); low = λ h. absurd (omega arith); high = omega arith }
+
+-- the row itself
+pub first-here : (P : ℕ → Type 0) (i n link : ℕ) → link ≡ i + 1 → i < n → P i → First P i n link
+first-here P i n link e h p =
+    record { none = λ z j _ _ _. absurd (omega arith); least = λ j a b _. absurd (omega arith); here = λ j k. it j (omega arith); low = λ _. omega arith; high = omega arith }
+  where
+    it : (j : ℕ) → i ≡ j → P j
+    it j k = transport (ap P k) p
+
+-- another row in front
+pub first-other : (P : ℕ → Type 0) (i n link : ℕ) → (P i → ⊥) → First P (i + 1) n link → First P i n link
+first-other P i n link never f =
+    record { none = λ e j a b. go j a (λ k. f.none e j k b) (eqb i j) refl; least = λ j a b. go j a (λ k. f.least j k b) (eqb i j) refl; here = f.here; low = λ h. omega (arith, f.low h); high = f.high }
+  where
+    go : (j : ℕ) → i ≤ j → (i + 1 ≤ j → P j → ⊥) → (t : Bool) → eqb i j ≡ t → P j → ⊥
+    go j a f true e p = never (transport (ap P (sym (eqb-true i j e))) p)
+    go j a f false e p = f (omega (arith, eqb-false i j e)) p
+
 -- a walk along a chain that has met no row with the value x from `from` on: k has the values of the rows
 pub record Passed (k : ℕ → ℤ) (x : ℤ) (from n at : ℕ) : Type 0 where
   pub none : at ≡ 0 → (j : ℕ) → from ≤ j → j < n → same (k j) x ≡ true → ⊥
