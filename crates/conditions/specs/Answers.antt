@@ -1,5 +1,5 @@
 -- What the reader answers of a condition or a term: nothing where the model reads none of so many levels, else its bytes and whether it is in scope.
-use Rattle.std.specs.Prelude.{ℕ, ◌+◌, ◌-◌, Bool, ◌&&◌, List, length, drop, Option, Some, None}
+use Rattle.std.specs.Prelude.{ℕ, ◌+◌, ◌-◌, Bool, true, false, ◌&&◌, List, length, drop, Option, Some, None}
 use Rattle.model.specs.Syntax.{Binding}
 use Rattle.model.specs.Encoding.{Read, fail, ok, then, read_condition, read_term}
 use Rattle.model.specs.Catalogue.{Shape}
@@ -7,10 +7,18 @@ use Rattle.model.specs.Scope.{Scope, in_scope, in_scope_t}
 use Rattle.sizes.specs.Measured.{Measured, store, children, measured}
 use Rattle.conditions.specs.Reach.{some_in_scope, aggregate_in_scope}
 use Rattle.conditions.specs.declared.Reading.{Reading}
+use Rattle.conditions.specs.declared.Part.{Part}
+use Rattle.conditions.specs.declared.Part.TheVariants as P
 
 -- so many bytes, in scope where s says so
 abbrev pub reading : ℕ → Bool → Option Reading
 reading n s = Some (record { length = n; inside = s })
+
+-- what is handed up, as it is answered
+abbrev pub told : Part → Option Reading
+told (P.Inside n) = reading n true
+told (P.Outside n) = reading n false
+told P.Unread = None
 
 -- of what was read of q, by a test of scope
 abbrev pub answer : {A : Type 0} → List ℕ → (A → Bool) → Read A → Option Reading

@@ -7,7 +7,7 @@ pub mod scope;
 ghost use Rattle.std.specs.Prelude.{◌≡◌, true, false, ◌+◌, ◌≤◌, ◌<◌, length, drop};
 ghost use Rattle.sizes.specs.Measured.{store, leaves, condition_table, term_table};
 ghost use Rattle.conditions.specs.Reach.{scope_of, shape_in};
-ghost use Rattle.conditions.specs.Answers.{reading, grown, bytes_of, kept, condition_reading, term_reading};
+ghost use Rattle.conditions.specs.Answers.{told, reading, grown, bytes_of, kept, condition_reading, term_reading};
 ghost use Rattle.conditions.specs.Answers.{some_reading, aggregate_reading, conditions_reading, terms_reading, size_of, two_measured};
 
 use kinds::{ConditionRecord, TermRecord};
@@ -17,6 +17,45 @@ use kinds::{ConditionRecord, TermRecord};
 pub struct Reading {
     pub length: usize,
     pub inside: bool,
+}
+
+// The same as the functions here hand it up: a number of bytes in scope or out of it, which fits two registers. A struct with a flag in an Option goes
+// through memory at every record, with its padding.
+#[derive(Clone, Copy)]
+enum Part {
+    Inside(usize),
+    Outside(usize),
+    Unread,
+}
+
+impl Part {
+    ghost use Rattle.conditions.specs.Answers.{told};
+
+    fn of(length: usize, inside: bool) -> Part
+        ensures { told result ≡ reading length inside }
+    {
+        if inside {
+            Part::Inside(length)
+        } else {
+            Part::Outside(length)
+        }
+    }
+
+    fn reading(self) -> Option<Reading>
+        ensures { result ≡ told self }
+    {
+        match self {
+            Part::Inside(length) => Some(Reading {
+                length,
+                inside: true,
+            }),
+            Part::Outside(length) => Some(Reading {
+                length,
+                inside: false,
+            }),
+            Part::Unread => None,
+        }
+    }
 }
 
 // Keeps a size in the table.
@@ -29,27 +68,30 @@ fn put(z: &mut [u16], at: usize, n: usize)
 }
 
 // Keeps the size of a record with no child.
-fn leaf(z: &mut [u16], at: usize, length: usize, inside: bool) -> Option<Reading>
-    ensures value { result ≡ reading length inside }
+fn leaf(z: &mut [u16], at: usize, length: usize, inside: bool) -> Part
+    ensures value { told result ≡ reading length inside }
     ensures z_after { z.new ≡ store z.old at length }
 {
     put(z, at, length);
-    Some(Reading { length, inside })
+    Part::of(length, inside)
 }
 
 // Keeps the size of a record of so many bytes with what was read of its children.
-fn parent(z: &mut [u16], at: usize, own: usize, children: Option<Reading>) -> Option<Reading>
-    requires { own + bytes_of children < 9223372036854775808 }
-    ensures value { result ≡ grown own children }
-    ensures z_after { z.new ≡ kept at own children z.old }
+fn parent(z: &mut [u16], at: usize, own: usize, children: Part) -> Part
+    requires { own + bytes_of (told children) < 9223372036854775808 }
+    ensures value { told result ≡ grown own (told children) }
+    ensures z_after { z.new ≡ kept at own (told children) z.old }
 {
-    let r = children?;
-    leaf(z, at, own + r.length, r.inside)
+    match children {
+        Part::Inside(n) => leaf(z, at, own + n, true),
+        Part::Outside(n) => leaf(z, at, own + n, false),
+        Part::Unread => Part::Unread,
+    }
 }
 
 // The condition at a place.
 #[cycle(aggregate_condition_conditions_some_term_terms)]
-pub fn condition(
+fn condition_at(
     q: &[u8],
     z: &mut [u16],
     at: usize,
@@ -57,14 +99,14 @@ pub fn condition(
     catalogue: &[u8],
     limit: u8,
     reach: &mut [u16],
-) -> Option<Reading>
+) -> Part
     requires { (at ≤ length q.now) × (limit ≤ length reach.old) }
-    ensures value { result ≡ condition_reading (shape_in catalogue.now) limit level (scope_of reach.old) (drop at q.now) }
+    ensures value { told result ≡ condition_reading (shape_in catalogue.now) limit level (scope_of reach.old) (drop at q.now) }
     ensures z_after { z.new ≡ condition_table level q.now at z.old }
     ensures reach_unchanged { reach.new ≡ reach.old }
 {
     if level == 0 {
-        return None;
+        return Part::Unread;
     }
     let l = level - 1;
     match kinds::condition_record(kinds::tail(q, at)) {
@@ -76,7 +118,7 @@ pub fn condition(
         ),
         ConditionRecord::Not => {
             let a = kinds::record_length(18);
-            let inner = condition(q, z, at + a, l, catalogue, limit, reach);
+            let inner = condition_at(q, z, at + a, l, catalogue, limit, reach);
             parent(z, at, a, inner)
         }
         ConditionRecord::And | ConditionRecord::Or => {
@@ -86,7 +128,7 @@ pub fn condition(
         }
         ConditionRecord::Compare(o) => {
             if !kinds::is_code(false, o) {
-                return None;
+                return Part::Unread;
             }
             let a = kinds::record_length(21);
             let inner = terms(q, z, at + a, l, catalogue, limit, reach);
@@ -102,7 +144,7 @@ pub fn condition(
             let inner = some(q, z, under, catalogue, limit, reach, r);
             parent(z, at, a, inner)
         }
-        ConditionRecord::Other => None,
+        ConditionRecord::Other => Part::Unread,
     }
 }
 
@@ -116,18 +158,20 @@ fn conditions(
     catalogue: &[u8],
     limit: u8,
     reach: &mut [u16],
-) -> Option<Reading>
+) -> Part
     requires { (at ≤ length q.now) × (limit ≤ length reach.old) }
-    ensures value { result ≡ conditions_reading (shape_in catalogue.now) limit level (scope_of reach.old) (drop at q.now) }
-    ensures z_after { leaves (size_of result) z.new ≡ two_measured false level q.now at z.old }
+    ensures value { told result ≡ conditions_reading (shape_in catalogue.now) limit level (scope_of reach.old) (drop at q.now) }
+    ensures z_after { leaves (size_of (told result)) z.new ≡ two_measured false level q.now at z.old }
     ensures reach_unchanged { reach.new ≡ reach.old }
 {
-    let first = condition(q, z, at, level, catalogue, limit, reach)?;
-    let second = condition(q, z, at + first.length, level, catalogue, limit, reach)?;
-    Some(Reading {
-        length: first.length + second.length,
-        inside: first.inside & second.inside,
-    })
+    let Some(first) = condition_at(q, z, at, level, catalogue, limit, reach).reading() else {
+        return Part::Unread;
+    };
+    let n = first.length;
+    let Some(second) = condition_at(q, z, at + n, level, catalogue, limit, reach).reading() else {
+        return Part::Unread;
+    };
+    Part::of(n + second.length, first.inside & second.inside)
 }
 
 // Two terms, one after the other.
@@ -140,17 +184,19 @@ fn terms(
     catalogue: &[u8],
     limit: u8,
     reach: &[u16],
-) -> Option<Reading>
+) -> Part
     requires { at ≤ length q.now }
-    ensures value { result ≡ terms_reading (shape_in catalogue.now) limit level (scope_of reach.now) (drop at q.now) }
-    ensures z_after { leaves (size_of result) z.new ≡ two_measured true level q.now at z.old }
+    ensures value { told result ≡ terms_reading (shape_in catalogue.now) limit level (scope_of reach.now) (drop at q.now) }
+    ensures z_after { leaves (size_of (told result)) z.new ≡ two_measured true level q.now at z.old }
 {
-    let first = term(q, z, at, level, catalogue, limit, reach)?;
-    let second = term(q, z, at + first.length, level, catalogue, limit, reach)?;
-    Some(Reading {
-        length: first.length + second.length,
-        inside: first.inside & second.inside,
-    })
+    let Some(first) = term_at(q, z, at, level, catalogue, limit, reach).reading() else {
+        return Part::Unread;
+    };
+    let n = first.length;
+    let Some(second) = term_at(q, z, at + n, level, catalogue, limit, reach).reading() else {
+        return Part::Unread;
+    };
+    Part::of(n + second.length, first.inside & second.inside)
 }
 
 // The condition under a SOME or an aggregate: where it stands, the level down to which it is read, and the variable that is bound.
@@ -171,23 +217,22 @@ fn some(
     limit: u8,
     reach: &mut [u16],
     relation: u8,
-) -> Option<Reading>
+) -> Part
     requires { (under.at ≤ length q.now) × (limit ≤ length reach.old) }
-    ensures value { result ≡ some_reading (shape_in catalogue.now) limit under.level (record { variable = under.variable; relation = relation })
+    ensures value { told result ≡ some_reading (shape_in catalogue.now) limit under.level (record { variable = under.variable; relation = relation })
         (scope_of reach.old) (drop under.at q.now) }
     ensures z_after { z.new ≡ condition_table under.level q.now under.at z.old }
     ensures reach_unchanged { reach.new ≡ reach.old }
 {
     let old = scope::entry(reach, under.variable);
     scope::bind(reach, under.variable, relation);
-    let inner = condition(q, z, under.at, under.level, catalogue, limit, reach);
+    let inner = condition_at(q, z, under.at, under.level, catalogue, limit, reach);
     scope::put(reach, under.variable, old);
     let known = scope::known(catalogue, limit, under.variable, relation);
-    let r = inner?;
-    Some(Reading {
-        length: r.length,
-        inside: known & r.inside,
-    })
+    let Some(r) = inner.reading() else {
+        return Part::Unread;
+    };
+    Part::of(r.length, known & r.inside)
 }
 
 // The condition under an aggregate: of the variables in reach only its own reaches it.
@@ -200,25 +245,83 @@ fn aggregate(
     limit: u8,
     relation: u8,
     attribute: u8,
-) -> Option<Reading>
+) -> Part
     requires { (under.at ≤ length q.now) × (under.variable < 256) }
-    ensures value { result ≡ aggregate_reading (shape_in catalogue.now) limit under.level (record { variable = under.variable; relation = relation })
+    ensures value { told result ≡ aggregate_reading (shape_in catalogue.now) limit under.level (record { variable = under.variable; relation = relation })
         attribute (drop under.at q.now) }
     ensures z_after { z.new ≡ condition_table under.level q.now under.at z.old }
 {
     let mut inner = [0u16; 256];
     scope::bind(&mut inner, under.variable, relation);
-    let r = condition(q, z, under.at, under.level, catalogue, limit, &mut inner)?;
+    let read = condition_at(q, z, under.at, under.level, catalogue, limit, &mut inner);
+    let Some(r) = read.reading() else {
+        return Part::Unread;
+    };
     let has = scope::has(catalogue, usize::from(relation), attribute);
     let known = scope::known(catalogue, limit, under.variable, relation);
-    Some(Reading {
-        length: r.length,
-        inside: known & (has & r.inside),
-    })
+    Part::of(r.length, known & (has & r.inside))
 }
 
 // The term at a place.
 #[cycle(aggregate_condition_conditions_some_term_terms)]
+fn term_at(
+    q: &[u8],
+    z: &mut [u16],
+    at: usize,
+    level: usize,
+    catalogue: &[u8],
+    limit: u8,
+    reach: &[u16],
+) -> Part
+    requires { at ≤ length q.now }
+    ensures value { told result ≡ term_reading (shape_in catalogue.now) limit level (scope_of reach.now) (drop at q.now) }
+    ensures z_after { z.new ≡ term_table level q.now at z.old }
+{
+    if level == 0 {
+        return Part::Unread;
+    }
+    match kinds::term_record(kinds::tail(q, at)) {
+        TermRecord::Constant(_, _, _, _) => leaf(z, at, kinds::record_length(32), true),
+        TermRecord::Attribute(v, a) => {
+            let inside = scope::attribute(catalogue, reach, v, a);
+            leaf(z, at, kinds::record_length(33), inside)
+        }
+        TermRecord::Aggregate(f, v, r, a) => {
+            if !kinds::is_code(true, f) {
+                return Part::Unread;
+            }
+            let k = kinds::record_length(34);
+            let under = Under {
+                at: at + k,
+                level: level - 1,
+                variable: v,
+            };
+            let inner = aggregate(q, z, under, catalogue, limit, r, a);
+            parent(z, at, k, inner)
+        }
+        TermRecord::Other => Part::Unread,
+    }
+}
+
+// The condition at a place: what was read of it, and its sizes in the table.
+pub fn condition(
+    q: &[u8],
+    z: &mut [u16],
+    at: usize,
+    level: usize,
+    catalogue: &[u8],
+    limit: u8,
+    reach: &mut [u16],
+) -> Option<Reading>
+    requires { (at ≤ length q.now) × (limit ≤ length reach.old) }
+    ensures value { result ≡ condition_reading (shape_in catalogue.now) limit level (scope_of reach.old) (drop at q.now) }
+    ensures z_after { z.new ≡ condition_table level q.now at z.old }
+    ensures reach_unchanged { reach.new ≡ reach.old }
+{
+    condition_at(q, z, at, level, catalogue, limit, reach).reading()
+}
+
+// The same of a term.
 pub fn term(
     q: &[u8],
     z: &mut [u16],
@@ -232,28 +335,5 @@ pub fn term(
     ensures value { result ≡ term_reading (shape_in catalogue.now) limit level (scope_of reach.now) (drop at q.now) }
     ensures z_after { z.new ≡ term_table level q.now at z.old }
 {
-    if level == 0 {
-        return None;
-    }
-    match kinds::term_record(kinds::tail(q, at)) {
-        TermRecord::Constant(_, _, _, _) => leaf(z, at, kinds::record_length(32), true),
-        TermRecord::Attribute(v, a) => {
-            let inside = scope::attribute(catalogue, reach, v, a);
-            leaf(z, at, kinds::record_length(33), inside)
-        }
-        TermRecord::Aggregate(f, v, r, a) => {
-            if !kinds::is_code(true, f) {
-                return None;
-            }
-            let k = kinds::record_length(34);
-            let under = Under {
-                at: at + k,
-                level: level - 1,
-                variable: v,
-            };
-            let inner = aggregate(q, z, under, catalogue, limit, r, a);
-            parent(z, at, k, inner)
-        }
-        TermRecord::Other => None,
-    }
+    term_at(q, z, at, level, catalogue, limit, reach).reading()
 }

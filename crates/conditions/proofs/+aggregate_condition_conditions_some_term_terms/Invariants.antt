@@ -4,8 +4,8 @@ use Rattle.conditions.proofs.+aggregate_condition_conditions_some_term_terms.Giv
 abbrev pub decreases-aggregate : goal.decreases-aggregate
 decreases-aggregate l = 2 * l.under.level + 1
 
-abbrev pub decreases-condition : goal.decreases-condition
-decreases-condition l = 2 * l.level
+abbrev pub decreases-condition_at : goal.decreases-condition_at
+decreases-condition_at l = 2 * l.level
 
 abbrev pub decreases-conditions : goal.decreases-conditions
 decreases-conditions l = 2 * l.level + 1
@@ -13,8 +13,8 @@ decreases-conditions l = 2 * l.level + 1
 abbrev pub decreases-some : goal.decreases-some
 decreases-some l = 2 * l.under.level + 1
 
-abbrev pub decreases-term : goal.decreases-term
-decreases-term l = 2 * l.level
+abbrev pub decreases-term_at : goal.decreases-term_at
+decreases-term_at l = 2 * l.level
 
 abbrev pub decreases-terms : goal.decreases-terms
 decreases-terms l = 2 * l.level + 1
