@@ -1,5 +1,5 @@
 // A comparison of an attribute with a number, tried on the values of rows (specs/Cursor).
-ghost use Rattle.std.specs.Prelude.{◌≡◌, true, false, ◌&&◌, ℕ, ◌≤◌, ◌<◌, ℤ, nat_abs, ◌*ℤ◌};
+ghost use Rattle.std.specs.Prelude.{◌≡◌, true, false, ◌&&◌, ℕ, ◌≤◌, ◌<◌, ℤ, nat_abs, ◌*ℤ◌, pos, get_or, drop};
 ghost use Rattle.std.specs.Int.Signed.{le_z};
 ghost use Rattle.std.proofs.Math.Option.{some};
 ghost use Rattle.model.specs.Meaning as M;
@@ -58,6 +58,13 @@ fn scaled(a: i32, d: i64) -> i64
     ensures { result ≡ a *ℤ d }
 {
     i64::from(a) * d
+}
+
+// The value at a place, 0 past the end.
+fn cell(column: &[i32], at: usize) -> i32
+    ensures { result ≡ get_or column.now at (pos 0) }
+{
+    column.get(at).copied().unwrap_or(0)
 }
 
 // A comparison of an attribute with a number, so turned that no row asks for its operator: a value is between two bounds, or it is wanted that it is
@@ -167,13 +174,13 @@ impl Test {
         self.low <= scaled(x, self.lower) && scaled(x, self.upper) <= self.high
     }
 
-    // Whether row i passes.
-    fn passes(&self, rows: &Rows, i: usize) -> bool
-        requires { i ≤ 65535 }
+    // Whether row i passes, by the values from the attribute's first one on: a row's place is then the place of its value.
+    fn passes(&self, rows: &Rows, column: &[i32], i: usize) -> bool
+        requires { (i ≤ 65535) × (column.now ≡ drop self.now.attribute rows.now.values.now) }
         ensures { result ≡ C.passes self.now (tuple_at rows.now.values.now (place_at rows.now.walks.now rows.now.walk i)) }
     {
         let place = walks::place(rows.walks, rows.walk, i);
-        let between = self.inside(catalogue::value(rows.values, place, self.attribute));
+        let between = self.inside(cell(column, place));
         if self.wanted { between } else { !between }
     }
 
@@ -184,8 +191,9 @@ impl Test {
         ensures by_index { (j : ℕ) → from ≤ j → j < result → C.passes self.now (tuple_at rows.now.values.now (place_at rows.now.walks.now rows.now.walk j)) ≡ false }
         ensures stopped { result < rows.now.walk.count → C.passes self.now (tuple_at rows.now.values.now (place_at rows.now.walks.now rows.now.walk result)) ≡ true }
     {
+        let column = rows.values.get(self.attribute..).unwrap_or(&[]);
         for j in from..rows.walk.count {
-            if self.passes(rows, j) {
+            if self.passes(rows, column, j) {
                 return j;
             }
         }

@@ -2,7 +2,11 @@
 use mathlib.Core.Path.{◌≡◌, refl, sym, ap, ap₂, ◌∙◌}
 use mathlib.Core.Bool.{Bool, true, false, not, cond, ◌&&◌}
 use mathlib.Core.Option.{some}
-use Prim.Native.Nat.{ℕ}
+use mathlib.Core.List.{List}
+use Prim.Native.Nat.{ℕ, ◌+◌}
+use native.Mathlib.Omega.{arith}
+use lib.ListN.{get_or, drop}
+use lib.Seq.{get_or-drop}
 use lib.Dec.{ltb, leb}
 use lib.IntN.{ℤ, pos, negsuc, nat_abs, ◌*ℤ◌, one, *ℤ-one}
 use lib.Signed.{le_z, lt_z}
@@ -12,7 +16,9 @@ use Rattle.numbers.specs.Numbers.{ordered, value_of, Number, Small}
 use Rattle.numbers.proofs.Laws.{value-some}
 use Rattle.numbers.specs.declared.Ratio.{Ratio}
 use Rattle.decide.specs.Probe.{sided}
-use Rattle.decide.specs.Cursor.{inside, meets}
+use Rattle.model.specs.Meaning.{Tuple}
+use Rattle.catalogue.specs.Layout.{tuple_at}
+use Rattle.decide.specs.Cursor.{inside, meets, passes}
 use Rattle.decide.specs.declared.probes.Test.{Test}
 
 pub and-turn : (a b : Bool) → a && b ≡ b && a
@@ -49,3 +55,11 @@ number-meets o mirrored a n d x s k en ed =
     let left : x.numerator *ℤ pos 1 ≡ n = *ℤ-one x.numerator ∙ sym en in
     let right : a *ℤ pos (nat_abs x.denominator) ≡ a *ℤ d = ap (λ (y : ℤ). a *ℤ y) (sym (ed ∙ s.sign)) in
     sym (ap (sided o mirrored (some (M.whole a))) (value-some x k) ∙ ap₂ (placed o mirrored) right left)
+
+-- a value of a column, which begins with the attribute's first one
+pub column-at : (a p w : ℕ) (vs col : List ℤ) (v : ℤ) → v ≡ get_or col p (pos 0) → col ≡ drop a vs → p ≡ w → v ≡ tuple_at vs w a
+column-at a p w vs col v e f g = e ∙ ap (λ (xs : List ℤ). get_or xs p (pos 0)) f ∙ get_or-drop a vs p (pos 0) ∙ (let k : a + p ≡ w + a = omega (arith, g) in ap (λ (i : ℕ). get_or vs i (pos 0)) k)
+
+-- what a value that the code has found says of the row that it is of
+pub row-passes : (x : Test) (u : ℤ) (row : Tuple) (i : Bool) → u ≡ row x.attribute → i ≡ inside x u → cond x.wanted i (not i) ≡ passes x row
+row-passes x u row i e f = ap (λ (b : Bool). cond x.wanted b (not b)) (f ∙ ap (inside x) e)
