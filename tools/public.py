@@ -20,6 +20,10 @@ def source(path):
     return '\n'.join(line for line in open(path).read().split('\n') if not line.strip().startswith('//') and not line.startswith('ghost '))
 
 
+# the type that a method is of
+OWNER = re.compile(r'^impl(?:<[^>]*>)? (?:[^{;]* for )?(\w+)', re.M)
+
+
 def functions(text):
     # name, whether it is public, its parameters, its lines with signature and contract
     for found in re.finditer(r'^( *)(pub(?:\(crate\))? )?(extern "C" )?fn (\w+)(?:<[^>]*>)?\(', text, re.M):
@@ -32,7 +36,8 @@ def functions(text):
         parameters = len([p for p in signature[:end - 1].split(',') if p.strip()])
         last = text.find('\n' + found.group(1) + '}', start)
         lines = text[start:last + 2].count('\n') + 1
-        yield found.group(4), found.group(2) == 'pub ', parameters, lines
+        owner = OWNER.findall(text[:start])[-1] + '::' if found.group(1) else ''
+        yield owner + found.group(4), found.group(2) == 'pub ', parameters, lines
 
 
 def files(crate):
@@ -60,11 +65,14 @@ def public(crate):
 
 
 def callers(crate, path, crates):
-    # by its whole path, or by the short one that a `use` gives
+    # by its whole path, or by the short one that a `use` gives; a method by its name, where the crate is named
     module, _, name = path.rpartition('::')
-    calls = [(re.compile(rf'\b{crate}::{path}\('), None), (re.compile(rf'(?<![\w:]){name}\('), f'use {crate}::{path};')]
-    if module:
-        calls.append((re.compile(rf'(?<![\w:]){path}\('), f'use {crate}::{module};'))
+    if module[:1].isupper() or '::' in module:
+        calls = [(re.compile(rf'(?:\.|\b{module.split("::")[-1]}::){name}\('), crate + '::')]
+    else:
+        calls = [(re.compile(rf'\b{crate}::{path}\('), None), (re.compile(rf'(?<![\w:]){name}\('), f'use {crate}::{path};')]
+        if module:
+            calls.append((re.compile(rf'(?<![\w:]){path}\('), f'use {crate}::{module};'))
     for other in crates:
         texts = [source(f) for f in files(other)] if other != crate else []
         if any(call.search(t) and (not line or line in t) for t in texts for call, line in calls):
