@@ -17,7 +17,6 @@ use Rattle.model.specs.Lists.{update}
 use Rattle.model.specs.Syntax.{Condition, Term}
 use Rattle.model.specs.Meaning.{Rows, Assignment, Tuple, whole, signed, compare, holds_with}
 use Rattle.model.specs.Meaning as M
-use Rattle.model.proofs.Tests.{clash}
 use Rattle.kinds.specs.Tables.{record_length}
 use Rattle.kinds.specs.Places.{condition_at, term_at}
 use Rattle.kinds.specs.declared.ConditionRecord.{ConditionRecord}

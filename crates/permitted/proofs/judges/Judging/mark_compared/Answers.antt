@@ -1,6 +1,6 @@
 use lib.Dec.{eqb}
 use mathlib.Core.Path.{refl}
-use Rattle.model.proofs.Tests.{clash, not-no}
+use Rattle.model.proofs.Tests.{clash}
 use Rattle.permitted.proofs.judges.Steps.{marked-same}
 use Rattle.permitted.proofs.judges.Terms.{compared_is, not-zero, not-one, eq-zero}
 use Rattle.permitted.proofs.judges.Judging.mark_compared.Goals as goal
